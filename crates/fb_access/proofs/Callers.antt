@@ -5,20 +5,14 @@ use Rattle.std.proofs.lemmas.Bool.Decides.{nat_tests}
 use Rattle.fb_bytes.specs.Word.{word}
 use Rattle.fb_schema.specs.declared.kinds.Kind.{Kind}
 use Rattle.fb_schema.specs.declared.kinds.Kind.TheVariants.{Scalar as AScalar, Text, Struct, Table, Union, Scalars, Texts, Structs, Tables, Unions}
-use Rattle.fb_schema.specs.Rows.{Rows}
-use Rattle.fb_schema.specs.Kinds.{scalar_size, struct_size}
-use Rattle.fb_schema.specs.Live.{Live}
+use Rattle.fb_schema.specs.{Rows.Rows, Kinds.scalar_size, Kinds.struct_size, Live.Live}
 use Rattle.fb_verify.specs.Places.{target}
-use Rattle.fb_access.specs.declared.step.Step.{Step}
-use Rattle.fb_access.specs.declared.step.Step.TheVariants.{Field, Element}
-use Rattle.fb_access.specs.declared.spot.Spot.{Spot}
+use Rattle.fb_access.specs.declared.{step.Step.Step, step.Step.TheVariants.Field, step.Step.TheVariants.Element, spot.Spot.Spot}
 use Rattle.fb_access.specs.declared.spot.Spot.TheVariants.{AtTable, AtInline, AtStruct, AtText, AtScalars, AtStructs, AtScalarArray, AtStructArray, AtTexts, AtTables, AtUnions, AtUnion, AtNoElement}
-use Rattle.fb_access.specs.Fitting.{numbered, element_kind, next_kind}
-use Rattle.fb_access.specs.Spots.{kind_at, field_spot, spot_of_element}
+use Rattle.fb_access.specs.{Fitting.numbered, Fitting.element_kind, Fitting.next_kind, Spots.kind_at, Spots.field_spot, Spots.spot_of_element}
 use Rattle.fb_access.specs.Denotes.{next_spot, Leads, allows, Reaches, Shown, vector, value}
 use Rattle.fb_access.specs.Here.{IsHere, MayBeHere, sure_kind, Shows}
-use Rattle.fb_access.proofs.StepKinds.{kind_allows, field_kind}
-use Rattle.fb_access.proofs.Sure.{is_sure, sure_kind_of, table_here}
+use Rattle.fb_access.proofs.{StepKinds.kind_allows, StepKinds.field_kind, Sure.is_sure, Sure.sure_kind_of, Sure.table_here}
 
 -- what is here allows the steps of its kind
 pub here_allows : (S : Rows) (p : Spot) (s : Step) (kind onward : Kind) → IsHere p kind → next_kind S kind s ≡ Some onward → IsTrue (allows S p s)

@@ -3,11 +3,8 @@ use Rattle.std.proofs.Common.{◌≡◌, ℕ, ◌+◌, ◌*◌, ◌≤◌, List,
 use Rattle.fb_bytes.specs.Word.{word}
 use Rattle.fb_schema.specs.declared.kinds.Kind.TheVariants.{Tables}
 use Rattle.fb_schema.specs.Rows.{Rows}
-use Rattle.fb_access.specs.declared.spot.Spot.{Spot}
-use Rattle.fb_access.specs.declared.spot.Spot.TheVariants.{AtTables}
-use Rattle.fb_access.specs.Denotes.{vector, value}
-use Rattle.fb_access.specs.Held.{IsSpot, Placed, IsPlaced}
-use Rattle.fb_access.specs.Here.{IsHere}
+use Rattle.fb_access.specs.declared.{spot.Spot.Spot, spot.Spot.TheVariants.AtTables}
+use Rattle.fb_access.specs.{Denotes.vector, Denotes.value, Held.IsSpot, Held.Placed, Held.IsPlaced, Here.IsHere}
 
 pub tables_fit : (b : List ℕ) (S : Rows) (p : Spot) (k n : ℕ) → IsSpot b S p → IsHere p (Tables k) → vector n ≡ value b S p → 4 * n ≤ length b
 unfolding IsSpot value

@@ -5,8 +5,7 @@ use Rattle.fb_access.specs.declared.pieces.Piece.{Piece}
 use Rattle.fb_access.specs.declared.pieces.Piece.TheVariants.{Field, Element, Member}
 use Rattle.fb_access.specs.Grammar.{number_of, IsNumber, Part, field, element, member, spelling}
 use Rattle.fb_access.specs.Cutting.{word_length, AreLeft, IsCuttable, IsCut, IsPieceOf}
-use Rattle.fb_access.proofs.ScanAccepts.{AreDigits, Most}
-use Rattle.fb_access.proofs.Words.{number_digits, number_small}
+use Rattle.fb_access.proofs.{ScanAccepts.AreDigits, ScanAccepts.Most, Words.number_digits, Words.number_small}
 use Rattle.fb_access.proofs.Cuts.{PartLeft, after_bracket, after_at, after_dot, at_name, some_part}
 
 -- the parts that are left of a text, in terms of its first byte

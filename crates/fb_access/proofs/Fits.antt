@@ -1,28 +1,18 @@
 -- The steps that parts are, and the kinds to which they lead.
 use Rattle.std.proofs.Common.{◌≡◌, ℕ, ◌^◌, nat_lt, Bool, true, false, if◌then◌else◌, List, slice_get, Option, Some, None, Ok, Err, IsTrue, IsSome, IfSome, refl, sym, ◌∙◌, ap, subst}
 use Rattle.std.specs.Str.{bytes_eq}
-use Rattle.fb_schema.specs.declared.kinds.Kind.{Kind}
+use Rattle.fb_schema.specs.declared.{kinds.Kind.Kind, views.FieldView.FieldView, views.PartView.PartView}
 use Rattle.fb_schema.specs.declared.kinds.Kind.TheVariants.{Scalar, Struct, Table, Union, Scalars, Structs, Tables, Unions}
-use Rattle.fb_schema.specs.declared.views.FieldView.{FieldView}
-use Rattle.fb_schema.specs.Demands.{IsLegal}
-use Rattle.fb_schema.specs.Live.{Live, live_fields, live_of_view, field_named}
-use Rattle.fb_schema.specs.declared.views.PartView.{PartView}
-use Rattle.fb_schema.specs.Kinds.{struct_size}
-use Rattle.fb_schema.specs.Members.{member_of, member_named}
-use Rattle.fb_schema.specs.Parts.{PartFits, part_at, part_named}
-use Rattle.fb_schema.specs.Rows.{Rows, is_union}
+use Rattle.fb_schema.specs.{Demands.IsLegal, Kinds.struct_size, Members.member_of, Members.member_named}
+use Rattle.fb_schema.specs.{Parts.PartFits, Parts.part_at, Parts.part_named, Rows.Rows, Rows.is_union}
 use Rattle.fb_schema.specs.Served.{KindHolds, MemberHolds, IsServed}
-use Rattle.fb_access.specs.declared.step.Step.{Step}
-use Rattle.fb_access.specs.declared.step.Step.TheVariants.{Field, Element, Member}
-use Rattle.fb_access.specs.declared.misfit.Misfit.TheVariants.{NoSuchField}
-use Rattle.fb_access.specs.declared.misfit.Fitted.{Fitted}
-use Rattle.fb_access.specs.Fitting.{element_kind, next_kind}
+use Rattle.fb_schema.specs.Live.{Live, live_fields, live_of_view, field_named}
+use Rattle.fb_access.specs.declared.{step.Step.Step, step.Step.TheVariants.Field, step.Step.TheVariants.Element, step.Step.TheVariants.Member}
+use Rattle.fb_access.specs.declared.{misfit.Misfit.TheVariants.NoSuchField, misfit.Fitted.Fitted}
+use Rattle.fb_access.specs.{Fitting.element_kind, Fitting.next_kind, Kept.IsThere}
 use Rattle.fb_access.specs.Grammar.{Part, field, element, member, number_of}
-use Rattle.fb_access.specs.Kept.{IsThere}
 use Rattle.fb_access.specs.Resolving.{field_with_name, to_field, to_part, to_place, to_element, to_kind, to_member, field_step, member_step, fitting}
-use Rattle.fb_access.proofs.Found.{found_at, none_found, found_there}
-use Rattle.fb_access.proofs.MemberKinds.{member_there}
-use Rattle.fb_access.proofs.NumberedFields.{found_by_number}
+use Rattle.fb_access.proofs.{Found.found_at, Found.none_found, Found.found_there, MemberKinds.member_there, NumberedFields.found_by_number}
 
 -- a table without the field
 pub no_field : (S : Rows) (k : ℕ) (name : List ℕ) → field_named S k name ≡ None → Err NoSuchField ≡ field_step S (Table k) name

@@ -1,23 +1,14 @@
 -- How far a path has been followed.
 use Rattle.std.proofs.Common.{◌≡◌, ℕ, suc, ◌<◌, List, [], ◌∷◌, ◌++◌, length, Ok, Err, refl, sym, ◌∙◌, ap, subst, arith, inl, inr, append_assoc, append-nil}
-use Rattle.fb_schema.specs.declared.kinds.Kind.{Kind}
-use Rattle.fb_schema.specs.declared.kinds.Kind.TheVariants.{Table}
-use Rattle.fb_schema.specs.Demands.{IsLegal}
-use Rattle.fb_schema.specs.Rows.{Rows}
-use Rattle.fb_schema.specs.Served.{IsServed}
-use Rattle.fb_access.specs.declared.step.Step.{Step}
-use Rattle.fb_access.specs.declared.misfit.Misfit.{Misfit}
-use Rattle.fb_access.specs.declared.misfit.Misfit.TheVariants.{NoSuchField}
-use Rattle.fb_access.specs.declared.misfit.Fitted.{Fitted}
+use Rattle.fb_schema.specs.declared.{kinds.Kind.Kind, kinds.Kind.TheVariants.Table}
+use Rattle.fb_schema.specs.{Demands.IsLegal, Rows.Rows, Served.IsServed}
+use Rattle.fb_access.specs.declared.{step.Step.Step, misfit.Misfit.Misfit, misfit.Misfit.TheVariants.NoSuchField, misfit.Fitted.Fitted}
 use Rattle.fb_access.specs.declared.pieces.Piece.{Piece}
-use Rattle.fb_access.specs.Cutting.{IsPieceOf, AreLeft, IsCut}
-use Rattle.fb_access.specs.Fitting.{StepsFit}
+use Rattle.fb_access.specs.{Cutting.IsPieceOf, Cutting.AreLeft, Cutting.IsCut, Fitting.StepsFit, Kept.IsThere}
 use Rattle.fb_access.specs.Grammar.{Part, field, element, member, IsName, IsPart, IsPath, IsReading, spelling}
-use Rattle.fb_access.specs.Kept.{IsThere}
 use Rattle.fb_access.specs.Resolving.{fitting, fault_of, Follows, Resolves, Misfits, IsFault}
 use Rattle.std.proofs.lemmas.List.{length-append}
-use Rattle.fb_access.proofs.Cuts.{tail_is, marks_differ}
-use Rattle.fb_access.proofs.Fits.{leads}
+use Rattle.fb_access.proofs.{Cuts.tail_is, Cuts.marks_differ, Fits.leads}
 
 -- One more step.
 pub follows_more : (S : Rows) (kind last : Kind) (ps : List Part) (steps : List Step) (p : Part) (x : Fitted) → Follows S kind ps steps last → fitting S last p ≡ Ok x → Follows S kind (ps ++ p ∷ []) (steps ++ x.step ∷ []) x.kind

@@ -1,8 +1,7 @@
 -- What holds at a spot, by what is there.
 use Rattle.std.proofs.Common.{◌≡◌, ℕ, List}
 use Rattle.fb_schema.specs.Rows.{Rows}
-use Rattle.fb_access.specs.declared.spot.Spot.{Spot}
-use Rattle.fb_access.specs.declared.spot.Spot.TheVariants.{AtTable, AtStruct}
+use Rattle.fb_access.specs.declared.{spot.Spot.Spot, spot.Spot.TheVariants.AtTable, spot.Spot.TheVariants.AtStruct}
 use Rattle.fb_access.specs.Held.{IsSpot, IsTableAt, IsStructAt}
 
 module _ (b : List ℕ) (S : Rows) (q : Spot) where

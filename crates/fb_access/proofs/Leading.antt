@@ -2,13 +2,11 @@
 use Rattle.std.proofs.Common.{◌≡◌, ℕ, zero, suc, ◌+◌, ◌*◌, ◌<◌, ◌≤◌, List, [], ◌∷◌, length, refl, subst, arith, Some, IsTrue}
 use Rattle.std.specs.Prelude.{slice_get}
 use Rattle.fb_bytes.specs.Word.{word}
-use Rattle.fb_schema.specs.Rows.{Rows, is_table}
-use Rattle.fb_schema.specs.Members.{member_of}
+use Rattle.fb_schema.specs.{Rows.Rows, Rows.is_table, Members.member_of}
 use Rattle.fb_verify.specs.declared.checks.Checks.{Checks}
-use Rattle.fb_verify.specs.Places.{target}
+use Rattle.fb_verify.specs.{Places.target, Unfolds.ElementsUnfold, Unfolds.ElementUnfolds}
 use Rattle.fb_verify.specs.Fields.{Lead, to_table, to_struct, to_string, to_nothing, lead_of, Entry, entry, row, union_row}
 use Rattle.fb_verify.specs.Tree.{Elements, no_elements, element, Element, leaf, table}
-use Rattle.fb_verify.specs.Unfolds.{ElementsUnfold, ElementUnfolds}
 use Rattle.fb_access.specs.Held.{IsTableAt, IsTextAt, IsLed, AreLed}
 
 module _ (c : Checks) (b : List ℕ) (S : Rows) where

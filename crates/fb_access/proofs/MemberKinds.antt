@@ -1,23 +1,16 @@
 -- A member of a union that has a name has a kind too.
 use Rattle.std.proofs.Common.{◌≡◌, ℕ, suc, ℤ, pos, negsuc, Bool, true, false, not, ◌&&◌, List, [], slice_get, filter, Option, Some, None, option_map, unsigned_abs, IsTrue, refl, sym, ◌∙◌, ap, find, is_none, if◌then◌else◌}
 use Rattle.std.proofs.lemmas.Bool.{false≢true, not-false, false_from_ne_true, cond-true, and_parts, and_from}
-use Rattle.std.specs.Cmp.{signed_Decides}
-use Rattle.std.specs.Option.{option_and_then}
-use Rattle.std.specs.Ordering.{int_eq}
-use Rattle.std.specs.Str.{bytes_eq}
-use Rattle.fb_schema.specs.declared.kinds.Kind.{Kind}
-use Rattle.fb_schema.specs.declared.kinds.Kind.TheVariants.{Text, Struct, Table}
-use Rattle.fb_schema.specs.declared.kinds.Element.TheVariants.{Text as OfText, Object as OfObject}
-use Rattle.fb_schema.specs.declared.kinds.Shape.{Shape}
+use Rattle.std.specs.{Cmp.signed_Decides, Option.option_and_then, Ordering.int_eq, Str.bytes_eq}
+use Rattle.fb_schema.specs.declared.{kinds.Kind.Kind, kinds.Kind.TheVariants.Text, kinds.Kind.TheVariants.Struct, kinds.Kind.TheVariants.Table}
+use Rattle.fb_schema.specs.declared.{kinds.Element.TheVariants.Text as OfText, kinds.Element.TheVariants.Object as OfObject, kinds.Shape.Shape}
 use Rattle.fb_schema.specs.declared.kinds.Shape.TheVariants.{One}
 use Rattle.fb_schema.specs.Demands.{IsLegal, first_code, member_demands, members_asked, demands_of_enum, demands_of_member, is_for_member, is_object, names_no_object}
 use Rattle.fb_schema.specs.Kinds.{kind_of, shape_of, shape_kind, object_kind}
 use Rattle.fb_schema.specs.Members.{is_member_value, member_of, member_named, members_in, members_of}
 use Rattle.fb_schema.specs.Rows.{Rows, Object, Member, Enum, entry_at, is_union, is_some_union}
 use Rattle.fb_schema.specs.Served.{MemberHolds}
-use Rattle.fb_schema.proofs.DemandLaws.{clear_line}
-use Rattle.fb_schema.proofs.FindLemmas.{find_filter}
-use Rattle.fb_schema.proofs.LegalLemmas.{legal_clear}
+use Rattle.fb_schema.proofs.{DemandLaws.clear_line, FindLemmas.find_filter, LegalLemmas.legal_clear}
 use Rattle.fb_access.specs.Kept.{IsThere}
 use Rattle.fb_access.proofs.Found.{found_there, some_found}
 

@@ -1,10 +1,7 @@
 -- A live field is found by its number.
 use Rattle.std.proofs.Common.{◌≡◌, ℕ, ◌==◌, get_or, slice_get, Some, refl, ◌∙◌, ap}
-use Rattle.std.proofs.lemmas.Bool.Decides.{Decides-eqb}
-use Rattle.std.proofs.lemmas.Option.{slice_get-get_or, get_or_from_slice_get, slice_get_within}
-use Rattle.fb_schema.specs.Live.{Live, live_fields}
-use Rattle.fb_schema.specs.Rows.{Rows}
-use Rattle.fb_schema.specs.Served.{IsServed}
+use Rattle.std.proofs.lemmas.{Bool.Decides.Decides-eqb, Option.slice_get-get_or, Option.get_or_from_slice_get, Option.slice_get_within}
+use Rattle.fb_schema.specs.{Live.Live, Live.live_fields, Rows.Rows, Served.IsServed}
 use Rattle.fb_schema.proofs.FindLemmas.{found_item}
 use Rattle.fb_access.specs.Fitting.{numbered}
 

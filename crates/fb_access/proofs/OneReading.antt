@@ -2,8 +2,7 @@
 use Rattle.std.proofs.Common.{◌≡◌, ℕ, List, [], ◌∷◌, ◌++◌, refl, sym, ◌∙◌, ap}
 use Rattle.std.specs.List.{AllByRecursion}
 use Rattle.fb_access.specs.Grammar.{Part, field, element, member, IsPart, IsReading, spelling}
-use Rattle.fb_access.proofs.Cuts.{tail_is, marks_differ}
-use Rattle.fb_access.proofs.ScanAccepts.{GoOn}
+use Rattle.fb_access.proofs.{Cuts.tail_is, Cuts.marks_differ, ScanAccepts.GoOn}
 use Rattle.fb_access.proofs.Words.{Stops, parts_stop, name_word, number_word, word_is, after_word}
 
 -- one word begins a text, and one rest follows it

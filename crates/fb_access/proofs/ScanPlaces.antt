@@ -3,12 +3,9 @@ use Rattle.std.proofs.Common.{◌≡◌, ℕ, ◌+◌, ◌<◌, true, false, Lis
 use Rattle.std.proofs.lemmas.Bool.{false≢true}
 use Rattle.std.proofs.lemmas.List.{take_more, take-append-drop, take-take}
 use Rattle.std.proofs.Math.Seq.{take-length}
-use Rattle.fb_access.specs.declared.scan.Seen.{Seen}
-use Rattle.fb_access.specs.declared.scan.Seen.TheVariants.{Mark}
-use Rattle.fb_access.specs.Grammar.{IsPath, BeginsPath, IsWrongAt}
-use Rattle.fb_access.specs.Scanned.{next_seen, seen, is_end}
-use Rattle.fb_access.proofs.ScanAccepts.{scanned_ends, path_ends}
-use Rattle.fb_access.proofs.ScanReads.{path_accepted, completed}
+use Rattle.fb_access.specs.declared.{scan.Seen.Seen, scan.Seen.TheVariants.Mark}
+use Rattle.fb_access.specs.{Grammar.IsPath, Grammar.BeginsPath, Grammar.IsWrongAt, Scanned.next_seen, Scanned.seen, Scanned.is_end}
+use Rattle.fb_access.proofs.{ScanAccepts.scanned_ends, ScanAccepts.path_ends, ScanReads.path_accepted, ScanReads.completed}
 
 seen_append : (o : Option Seen) (p q : List ℕ) → seen o (p ++ q) ≡ seen (seen o p) q
 unfolding seen

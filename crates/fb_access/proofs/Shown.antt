@@ -2,15 +2,11 @@
 use Rattle.std.proofs.Common.{◌≡◌, ℕ, refl, rules, List, [], ◌∷◌, Option, Some, None, option_map, option_and_then}
 use Rattle.fb_verify.specs.declared.start.Start.TheVariants.{Bare}
 use Rattle.fb_bytes.specs.Word.{word}
-use Rattle.fb_schema.specs.Live.{live_fields}
-use Rattle.fb_schema.specs.Kinds.{shape_of, kind_of, base_types}
-use Rattle.fb_schema.specs.Members.{member_of}
-use Rattle.fb_schema.specs.Parts.{part_at}
+use Rattle.fb_schema.specs.{Live.live_fields, Kinds.shape_of, Kinds.kind_of, Kinds.base_types, Members.member_of, Parts.part_at}
 use Rattle.fb_verify.specs.Places.{has_vtable, vtable, field_place}
 use Rattle.fb_access.specs.Spots.{present_spot, default_spot, absent_spot, spot_of_part, spot_of_element, member_spot}
 use Rattle.fb_access.specs.Denotes.{next_spot, Reaches, Shown, root_spot, number, inline_value, default_value, value}
-use Rattle.fb_access.specs.declared.step.Step.{Step}
-use Rattle.fb_access.specs.declared.spot.Spot.{Spot}
+use Rattle.fb_access.specs.declared.{step.Step.Step, spot.Spot.Spot}
 use Rattle.fb_access.specs.Samples.{rows, bytes}
 use Rattle.fb_access.specs.Examples.{Holds, FieldValues, ElementValues, PartValues, MemberValues, ScalarValues, DefaultValues, StayingValues, LackingFields, PrefixedValues, InsideValues}
 

@@ -1,9 +1,7 @@
 -- The examples of where faults are, by computing.
 use Rattle.std.proofs.Common.{ℕ, rules}
 use Rattle.std.specs.Fmt.{digits}
-use Rattle.fb_schema.specs.Kinds.{base_types, shape_of, kind_of}
-use Rattle.fb_schema.specs.Live.{live_fields}
-use Rattle.fb_schema.specs.Members.{member_name}
+use Rattle.fb_schema.specs.{Kinds.base_types, Kinds.shape_of, Kinds.kind_of, Live.live_fields, Members.member_name}
 use Rattle.fb_access.specs.Location.{whole_text, location_text}
 use Rattle.fb_access.specs.LocationTests.{Told, Nameless, Masked, Ways, Long}
 

@@ -1,10 +1,8 @@
 -- The sample unfolds into its tree.
 use Rattle.std.proofs.Common.{refl}
-use Rattle.fb_verify.specs.Unfolds.{Unfolds}
-use Rattle.fb_verify.specs.Samples.{published_checks}
+use Rattle.fb_verify.specs.{Unfolds.Unfolds, Samples.published_checks}
 use Rattle.fb_verify.proofs.Shown.{computing, start, head, own, offset, string, inline}
-use Rattle.fb_access.specs.Samples.{rows, bytes}
-use Rattle.fb_access.specs.Examples.{scalars_tree, empty_tree, SampleUnfolds}
+use Rattle.fb_access.specs.{Samples.rows, Samples.bytes, Examples.scalars_tree, Examples.empty_tree, Examples.SampleUnfolds}
 
 scalars_unfold : Unfolds scalars_tree published_checks bytes rows 2 288
 unfolding computing

@@ -1,39 +1,25 @@
 -- Wherever steps lead in a buffer that unfolds, what is there lies in the buffer.
 use Rattle.std.proofs.Common.{◌≡◌, ℕ, suc, ◌+◌, ◌*◌, ◌<◌, ◌≤◌, ◌==◌, nat_lt, if◌then◌else◌, Bool, true, false, List, [], ◌∷◌, length, refl, subst, ap, ◌∙◌, arith, Option, Some, None}
-use Rattle.std.proofs.lemmas.Bool.{eqb-true}
+use Rattle.std.proofs.lemmas.{Bool.eqb-true, Bool.Decides.nat_tests}
 use Rattle.std.specs.Prelude.{option_map}
 use Rattle.std.proofs.Math.Nat.{mul-le-mul_right, suc-mul, mul_comm}
-use Rattle.std.proofs.lemmas.Bool.Decides.{nat_tests}
 use Rattle.fb_bytes.specs.Word.{word}
-use Rattle.fb_schema.specs.declared.kinds.Kind.{Kind}
+use Rattle.fb_schema.specs.declared.{kinds.Kind.Kind, views.PartView.PartView}
 use Rattle.fb_schema.specs.declared.kinds.Kind.TheVariants.{Scalar, Text, Struct, Table, Scalars, Structs}
-use Rattle.fb_schema.specs.Rows.{Rows}
-use Rattle.fb_schema.specs.Kinds.{scalar_size, struct_size, struct_align}
-use Rattle.fb_schema.specs.Live.{Live}
-use Rattle.fb_schema.specs.declared.views.PartView.{PartView}
-use Rattle.fb_schema.specs.Members.{member_of}
-use Rattle.fb_schema.specs.Parts.{PartFits, part_at}
-use Rattle.fb_schema.specs.Served.{MemberHolds, IsServed}
+use Rattle.fb_schema.specs.{Rows.Rows, Kinds.scalar_size, Kinds.struct_size, Kinds.struct_align, Live.Live, Members.member_of}
+use Rattle.fb_schema.specs.{Parts.PartFits, Parts.part_at, Served.MemberHolds, Served.IsServed}
 use Rattle.fb_verify.specs.declared.checks.Checks.{Checks}
-use Rattle.fb_verify.specs.Places.{target}
+use Rattle.fb_verify.specs.{Places.target, Tree.Element as Found, Tree.leaf, Tree.table, Unfolds.ElementUnfolds, WellFormed.base}
 use Rattle.fb_verify.specs.Fields.{Lead, to_table, to_struct, to_string, to_nothing, lead_of}
-use Rattle.fb_verify.specs.Tree.{Element as Found, leaf, table}
-use Rattle.fb_verify.specs.Unfolds.{ElementUnfolds}
-use Rattle.fb_verify.specs.WellFormed.{base}
-use Rattle.fb_access.specs.declared.step.Step.{Step}
-use Rattle.fb_access.specs.declared.step.Step.TheVariants.{Field, Element, Member}
+use Rattle.fb_access.specs.declared.{step.Step.Step, step.Step.TheVariants.Field, step.Step.TheVariants.Element, step.Step.TheVariants.Member}
 use Rattle.fb_access.specs.declared.spot.Spot.{Spot}
 use Rattle.fb_access.specs.declared.spot.Spot.TheVariants.{AtTable, AtInline, AtStruct, AtText, AtScalars, AtStructs, AtScalarArray, AtStructArray, AtTexts, AtTables, AtUnions, AtUnion, AtAbsent, AtNoElement, AtOtherMember}
-use Rattle.fb_access.specs.Fitting.{numbered}
-use Rattle.fb_access.specs.Spots.{field_spot, part_spot, spot_of_part, spot_of_field, if_element, if_of_array, spot_of_element, member_spot, spot_of_member}
-use Rattle.fb_access.specs.Denotes.{next_spot, Reaches, root_spot}
-use Rattle.fb_access.specs.Held.{IsTableAt, IsStructAt, IsLed, IsUnionAt, IsSpot}
+use Rattle.fb_access.specs.{Fitting.numbered, Denotes.next_spot, Denotes.Reaches, Denotes.root_spot}
 use Rattle.fb_access.specs.Inside.{OffsetLies, LiesInside, ValuesLieInside}
-use Rattle.fb_access.proofs.FieldSpots.{field_spot_holds}
-use Rattle.fb_access.proofs.Leading.{led_to_table, led_to_string, led_to_struct}
-use Rattle.fb_access.proofs.TableFields.{table_has_vtable}
-use Rattle.fb_access.proofs.StepLaws.{some_same}
-use Rattle.fb_access.proofs.Walks.{root_placed}
+use Rattle.fb_access.specs.Spots.{field_spot, part_spot, spot_of_part, spot_of_field, if_element, if_of_array, spot_of_element, member_spot, spot_of_member}
+use Rattle.fb_access.specs.Held.{IsTableAt, IsStructAt, IsLed, IsUnionAt, IsSpot}
+use Rattle.fb_access.proofs.{FieldSpots.field_spot_holds, Leading.led_to_table, Leading.led_to_string, Leading.led_to_struct}
+use Rattle.fb_access.proofs.{TableFields.table_has_vtable, StepLaws.some_same, Walks.root_placed}
 
 -- an element below the count ends within the elements
 element_ends : (size j n : ℕ) → j < n → size * j + size ≤ n * size

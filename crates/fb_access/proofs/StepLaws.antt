@@ -1,27 +1,18 @@
 -- Where steps lead, by the verifier's words.
 use Rattle.std.proofs.Common.{◌≡◌, ◌≢◌, ℕ, zero, suc, ◌+◌, ◌*◌, ◌<◌, ◌≤◌, ◌⊎◌, inl, inr, ◌==◌, nat_lt, if◌then◌else◌, ℤ, Bool, true, false, List, [], ◌∷◌, refl, sym, ◌∙◌, ap, subst, arith, Option, Some, None}
-use Rattle.std.specs.Prelude.{slice_get, option_map}
-use Rattle.std.specs.List.{position_or_len}
-use Rattle.std.proofs.lemmas.Bool.Decides.{nat_tests}
-use Rattle.std.proofs.lemmas.List.Folds.{find_at}
+use Rattle.std.specs.{Prelude.slice_get, Prelude.option_map, List.position_or_len}
+use Rattle.std.proofs.lemmas.{Bool.Decides.nat_tests, List.Folds.find_at}
 use Rattle.fb_bytes.specs.Word.{word}
-use Rattle.fb_schema.specs.declared.kinds.Scalar.{Scalar}
-use Rattle.fb_schema.specs.declared.kinds.Scalar.TheVariants.{UType}
-use Rattle.fb_schema.specs.declared.kinds.Kind.{Kind}
+use Rattle.fb_schema.specs.declared.{kinds.Scalar.Scalar, kinds.Scalar.TheVariants.UType, kinds.Kind.Kind}
 use Rattle.fb_schema.specs.declared.kinds.Kind.TheVariants.{Scalar as AScalar, Text, Struct, Table, Union, Scalars, Texts, Structs, Tables, Unions}
-use Rattle.fb_schema.specs.Rows.{Rows}
-use Rattle.fb_schema.specs.Kinds.{scalar_size, struct_size, kind_size}
-use Rattle.fb_schema.specs.Live.{Live, live_fields}
-use Rattle.fb_schema.specs.Members.{member_of}
+use Rattle.fb_schema.specs.{Rows.Rows, Kinds.scalar_size, Kinds.struct_size, Kinds.kind_size, Live.Live, Live.live_fields, Members.member_of}
 use Rattle.fb_schema.proofs.Kinded.{field_sized}
 use Rattle.fb_verify.specs.Places.{target, field_place}
 use Rattle.fb_verify.specs.Fields.{type_place, union_type, types_begin, Lead, to_table, to_string, lead_of, Entry, entry, row, union_row, union_entry, entries_of, entries_at, entries}
-use Rattle.fb_access.specs.declared.step.Step.TheVariants.{Field, Element}
-use Rattle.fb_access.specs.declared.spot.Spot.{Spot}
+use Rattle.fb_access.specs.declared.{step.Step.TheVariants.Field, step.Step.TheVariants.Element, spot.Spot.Spot}
 use Rattle.fb_access.specs.declared.spot.Spot.TheVariants.{AtTable, AtInline, AtStruct, AtText, AtTexts, AtTables, AtUnions, AtUnion, AtNoElement, AtOtherMember}
-use Rattle.fb_access.specs.Fitting.{numbered}
+use Rattle.fb_access.specs.{Fitting.numbered, Denotes.next_spot, Denotes.Leads, Denotes.Reaches}
 use Rattle.fb_access.specs.Spots.{kind_at, present_spot, default_spot, absent_spot, spot_at, field_spot, if_element, spot_of_element, member_spot}
-use Rattle.fb_access.specs.Denotes.{next_spot, Leads, Reaches}
 use Rattle.fb_access.specs.StepLaws.{position_of, value_place, IsFieldOf, FieldsStandInPlace, IsLedTo, IsOfEntry, steps_on, StepsFollowEntries, AreOffsets, NoOtherElements, MembersFollowLeads, AreInline, ElementsStandInRow}
 
 pub some_same : {A : Type 0} {x y : A} → Some x ≡ Some y → x ≡ y

@@ -1,28 +1,17 @@
 -- From where something is, certain steps lead to where something is.
 use Rattle.std.proofs.Common.{◌≡◌, ℕ, ◌||◌, if◌then◌else◌, ℤ, Bool, true, false, IsFalse, List, refl, ◌∙◌, ap, subst, Option, Some, None}
 use Rattle.std.specs.Prelude.{option_and_then}
-use Rattle.fb_schema.specs.declared.kinds.Scalar.{Scalar}
-use Rattle.fb_schema.specs.declared.kinds.Scalar.TheVariants.{Float, Double}
-use Rattle.fb_schema.specs.declared.kinds.Kind.{Kind}
+use Rattle.fb_schema.specs.declared.{kinds.Scalar.Scalar, kinds.Scalar.TheVariants.Float, kinds.Scalar.TheVariants.Double, kinds.Kind.Kind}
 use Rattle.fb_schema.specs.declared.kinds.Kind.TheVariants.{Scalar as AScalar, Table}
-use Rattle.fb_schema.specs.Rows.{Rows}
-use Rattle.fb_schema.specs.Live.{Live}
-use Rattle.fb_schema.specs.Served.{IsServed}
+use Rattle.fb_schema.specs.{Rows.Rows, Live.Live, Served.IsServed}
 use Rattle.fb_verify.specs.declared.checks.Checks.{Checks}
-use Rattle.fb_verify.specs.Places.{field_place}
-use Rattle.fb_verify.specs.Fields.{IsField, IsPresentOrAbsent}
-use Rattle.fb_access.specs.declared.step.Step.{Step}
-use Rattle.fb_access.specs.declared.step.Step.TheVariants.{Field, Element, Member}
-use Rattle.fb_access.specs.declared.spot.Spot.{Spot}
-use Rattle.fb_access.specs.declared.spot.Spot.TheVariants.{AtTable}
-use Rattle.fb_access.specs.Fitting.{numbered}
+use Rattle.fb_verify.specs.{Places.field_place, Fields.IsField, Fields.IsPresentOrAbsent}
+use Rattle.fb_access.specs.declared.{step.Step.Step, step.Step.TheVariants.Field, step.Step.TheVariants.Element, step.Step.TheVariants.Member}
+use Rattle.fb_access.specs.declared.{spot.Spot.Spot, spot.Spot.TheVariants.AtTable}
+use Rattle.fb_access.specs.{Fitting.numbered, Denotes.next_spot, Denotes.Leads, Held.IsSpot, Held.IsTableAt}
 use Rattle.fb_access.specs.Spots.{default_spot, absent_spot, spot_at, field_spot}
-use Rattle.fb_access.specs.Denotes.{next_spot, Leads}
-use Rattle.fb_access.specs.Held.{IsSpot, IsTableAt}
 use Rattle.fb_access.specs.Here.{IsHere, has_default, defaults, sure_field, sure_kind, HereGoesOn}
-use Rattle.fb_access.proofs.Held.{at_table}
-use Rattle.fb_access.proofs.TableFields.{field_holds}
-use Rattle.fb_access.proofs.StepKinds.{present_kind}
+use Rattle.fb_access.proofs.{Held.at_table, TableFields.field_holds, StepKinds.present_kind}
 
 -- such a step is one to a field of a table
 pub record IsSure (S : Rows) (kind : Kind) (s : Step) (onward : Kind) : Type 0 where

@@ -1,21 +1,14 @@
 -- What a table that unfolds says of each of its fields.
 use Rattle.std.proofs.Common.{◌≡◌, ℕ, zero, suc, ◌==◌, List, [], ◌∷◌, sym, ◌∙◌, subst, Some}
-use Rattle.std.specs.Prelude.{slice_get}
-use Rattle.std.specs.List.{position_or_len}
+use Rattle.std.specs.{Prelude.slice_get, List.position_or_len}
 use Rattle.std.proofs.lemmas.List.Folds.{find_at}
-use Rattle.fb_schema.specs.Rows.{Rows}
-use Rattle.fb_schema.specs.Kinds.{kind_size, kind_align}
-use Rattle.fb_schema.specs.Live.{Live, live_fields}
-use Rattle.fb_schema.specs.Served.{IsServed, KindHolds}
+use Rattle.fb_schema.specs.{Rows.Rows, Kinds.kind_size, Kinds.kind_align, Live.Live, Live.live_fields, Served.IsServed, Served.KindHolds}
 use Rattle.fb_verify.specs.declared.checks.Checks.{Checks}
-use Rattle.fb_verify.specs.Facts.{IsTable}
-use Rattle.fb_verify.specs.Fields.{IsField, entries}
-use Rattle.fb_verify.specs.Tree.{Tree, node, Kids, no_kids, kid, Elements}
-use Rattle.fb_verify.specs.Unfolds.{Unfolds, FieldsUnfold, ElementsUnfold}
+use Rattle.fb_verify.specs.{Facts.IsTable, Fields.IsField, Fields.entries, Unfolds.Unfolds, Unfolds.FieldsUnfold, Unfolds.ElementsUnfold}
 use Rattle.fb_verify.specs.OffsetRows.{IsTyped}
+use Rattle.fb_verify.specs.Tree.{Tree, node, Kids, no_kids, kid, Elements}
 use Rattle.fb_verify.proofs.Typed.{typed_by}
-use Rattle.fb_access.specs.Fitting.{numbered}
-use Rattle.fb_access.specs.Held.{IsTableAt, HasVtable}
+use Rattle.fb_access.specs.{Fitting.numbered, Held.IsTableAt, Held.HasVtable}
 
 -- a live field of a table that unfolds
 pub record HoldsField (c : Checks) (b : List ℕ) (S : Rows) (t : ℕ) (f : Live) : Type 0 where

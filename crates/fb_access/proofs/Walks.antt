@@ -3,15 +3,9 @@ use Rattle.std.proofs.Common.{◌≡◌, ℕ, ◌+◌, ◌<◌, suc, get_or, add
 use Rattle.std.proofs.Math.Seq.{drop-cons}
 use Rattle.std.proofs.lemmas.List.{take_more}
 use Rattle.fb_schema.specs.Rows.{Rows}
-use Rattle.fb_verify.specs.Places.{target}
-use Rattle.fb_verify.specs.WellFormed.{base}
-use Rattle.fb_verify.specs.Sealed.{Sealed, IsUnfolded}
-use Rattle.fb_access.specs.declared.step.Step.{Step}
-use Rattle.fb_access.specs.declared.spot.Spot.{Spot}
-use Rattle.fb_access.specs.declared.spot.Spot.TheVariants.{AtTable}
-use Rattle.fb_access.specs.Denotes.{Leads, allows, Reaches}
-use Rattle.fb_access.specs.Held.{IsSpot, IsPlaced}
-use Rattle.fb_access.specs.Underway.{IsWalked}
+use Rattle.fb_verify.specs.{Places.target, WellFormed.base, Sealed.Sealed, Sealed.IsUnfolded}
+use Rattle.fb_access.specs.declared.{step.Step.Step, spot.Spot.Spot, spot.Spot.TheVariants.AtTable}
+use Rattle.fb_access.specs.{Denotes.Leads, Denotes.allows, Denotes.Reaches, Held.IsSpot, Held.IsPlaced, Underway.IsWalked}
 use Rattle.fb_access.proofs.StepKinds.{kind_allows, kinds_go_on}
 
 -- the root table of a buffer that unfolds

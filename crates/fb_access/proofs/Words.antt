@@ -5,8 +5,7 @@ use Rattle.std.proofs.Math.Seq.{drop-cons, drop-length, take-append_seam, drop-a
 use Rattle.std.proofs.lemmas.Bool.Decides.{nat_tests}
 use Rattle.fb_access.specs.Grammar.{is_digit, begins_name, goes_on, IsName, IsNumber, number_from, Part, field, spelling}
 use Rattle.fb_access.specs.Cutting.{word_length}
-use Rattle.fb_access.proofs.ScanAccepts.{Most, GoOn, AreDigits}
-use Rattle.fb_access.proofs.ScanReads.{number_grows}
+use Rattle.fb_access.proofs.{ScanAccepts.Most, ScanAccepts.GoOn, ScanAccepts.AreDigits, ScanReads.number_grows}
 
 -- no word goes on with this text
 abbrev pub Stops : List ℕ → Type 0

@@ -2,19 +2,14 @@
 use Rattle.std.specs.Prelude.{◌≡◌, ℕ, ℤ, ◌+◌, ◌%◌, ◌^◌, ◌==◌, Bool, true, not, List, [], ◌∷◌, take, drop, Option, Some, None, is_some}
 use Rattle.std.specs.Int.{cast_signed, cast_unsigned, w8, w16, w32, w64}
 use Rattle.fb_bytes.specs.Word.{word}
-use Rattle.fb_schema.specs.declared.kinds.Scalar.{Scalar}
+use Rattle.fb_schema.specs.declared.{kinds.Scalar.Scalar, kinds.Kind.Kind}
 use Rattle.fb_schema.specs.declared.kinds.Scalar.TheVariants.{Bool as AsBool, Byte, Short, Int as AsInt, Long, Float as AsFloat, Double}
-use Rattle.fb_schema.specs.declared.kinds.Kind.{Kind}
-use Rattle.fb_schema.specs.Rows.{Rows}
-use Rattle.fb_schema.specs.Kinds.{scalar_size, struct_size}
+use Rattle.fb_schema.specs.{Rows.Rows, Kinds.scalar_size, Kinds.struct_size}
 use Rattle.fb_verify.specs.declared.start.Start.{Start}
-use Rattle.fb_verify.specs.Places.{target}
-use Rattle.fb_verify.specs.WellFormed.{base}
-use Rattle.fb_access.specs.declared.step.Step.{Step}
-use Rattle.fb_access.specs.declared.step.Step.TheVariants.{Field, Element, Member}
-use Rattle.fb_access.specs.declared.spot.Spot.{Spot}
+use Rattle.fb_verify.specs.{Places.target, WellFormed.base}
+use Rattle.fb_access.specs.declared.{step.Step.Step, step.Step.TheVariants.Field, step.Step.TheVariants.Element, step.Step.TheVariants.Member}
+use Rattle.fb_access.specs.declared.{spot.Spot.Spot, answer.Answer.Answer}
 use Rattle.fb_access.specs.declared.spot.Spot.TheVariants.{AtTable, AtInline, AtStruct, AtText, AtScalars, AtStructs, AtScalarArray, AtStructArray, AtTexts, AtTables, AtUnions, AtUnion, AtDefault, AtAbsent, AtNoElement, AtOtherMember}
-use Rattle.fb_access.specs.declared.answer.Answer.{Answer}
 use Rattle.fb_access.specs.declared.answer.Answer.TheVariants as answer
 use Rattle.fb_access.specs.Fitting.{next_kind}
 use Rattle.fb_access.specs.Spots.{kind_at, spot_of_field, spot_of_element, spot_of_member}

@@ -4,12 +4,10 @@ use Rattle.fb_verify.specs.declared.start.Start.TheVariants.{Bare, Prefixed}
 use Rattle.fb_verify.specs.Tree.{Tree, node, Kids, no_elements, element, leaf, table as a_table}
 use Rattle.fb_verify.specs.Samples.{monsters, monster, open_name}
 use Rattle.fb_verify.specs.Examples.{Counts, one_table, one_leaf, kids_of}
-use Rattle.fb_access.specs.declared.step.Step.{Step}
-use Rattle.fb_access.specs.declared.step.Step.TheVariants.{Field, Element, Member}
+use Rattle.fb_access.specs.declared.{step.Step.Step, step.Step.TheVariants.Field, step.Step.TheVariants.Element, step.Step.TheVariants.Member}
 use Rattle.fb_access.specs.declared.spot.Spot.TheVariants.{AtTable, AtStruct, AtText, AtUnion}
 use Rattle.fb_access.specs.Denotes.{next_spot, Shown, nothing, no_element, other_member, truth, signed, unsigned, float, text, structure, vector, table, union, Denotes}
-use Rattle.fb_access.specs.Inside.{LiesInside}
-use Rattle.fb_access.specs.Samples.{rows, bytes, prefixed_monster}
+use Rattle.fb_access.specs.{Inside.LiesInside, Samples.rows, Samples.bytes, Samples.prefixed_monster}
 
 -- in the sample these steps from the root table lead to this value
 pub record Holds (steps : List Step) (x : Shown) : Type 0 where

@@ -1,14 +1,9 @@
 -- Which steps a kind has, and to which kind each leads.
 use Rattle.std.specs.Prelude.{◌≡◌, ℕ, ◌==◌, List, [], ◌∷◌, find, Option, Some, None, option_map}
-use Rattle.fb_schema.specs.declared.kinds.Kind.{Kind}
+use Rattle.fb_schema.specs.declared.{kinds.Kind.Kind, views.PartView.PartView}
 use Rattle.fb_schema.specs.declared.kinds.Kind.TheVariants.{Scalar, Text, Struct, Table, Union, Scalars, Texts, Structs, Tables, Unions}
-use Rattle.fb_schema.specs.Rows.{Rows}
-use Rattle.fb_schema.specs.declared.views.PartView.{PartView}
-use Rattle.fb_schema.specs.Live.{Live, live_fields}
-use Rattle.fb_schema.specs.Members.{member_of}
-use Rattle.fb_schema.specs.Parts.{part_at}
-use Rattle.fb_access.specs.declared.step.Step.{Step}
-use Rattle.fb_access.specs.declared.step.Step.TheVariants.{Field, Element, Member}
+use Rattle.fb_schema.specs.{Rows.Rows, Live.Live, Live.live_fields, Members.member_of, Parts.part_at}
+use Rattle.fb_access.specs.declared.{step.Step.Step, step.Step.TheVariants.Field, step.Step.TheVariants.Element, step.Step.TheVariants.Member}
 
 -- the live field of table k with this number
 abbrev pub numbered : Rows → ℕ → ℕ → Option Live

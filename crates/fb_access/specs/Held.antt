@@ -4,16 +4,11 @@ use Rattle.std.specs.Prelude.{◌≡◌, ℕ, ◌+◌, ◌*◌, ◌<◌, ◌≤�
 use Rattle.fb_bytes.specs.Word.{word}
 use Rattle.fb_schema.specs.declared.kinds.Kind.{Kind}
 use Rattle.fb_schema.specs.declared.kinds.Kind.TheVariants.{Scalar, Struct, Union, Unions}
-use Rattle.fb_schema.specs.Rows.{Rows, is_table, is_union}
-use Rattle.fb_schema.specs.Kinds.{scalar_size, struct_size}
-use Rattle.fb_schema.specs.Members.{member_of}
+use Rattle.fb_schema.specs.{Rows.Rows, Rows.is_table, Rows.is_union, Kinds.scalar_size, Kinds.struct_size, Members.member_of}
 use Rattle.fb_verify.specs.declared.checks.Checks.{Checks}
-use Rattle.fb_verify.specs.Places.{has_vtable, vtable, vtable_size}
+use Rattle.fb_verify.specs.{Places.has_vtable, Places.vtable, Places.vtable_size, Tree.Tree, Tree.Element, Unfolds.Unfolds, Unfolds.ElementUnfolds}
+use Rattle.fb_verify.specs.{OffsetRows.TypeFits, OffsetRows.TypesFit, Sealed.Sealed, Sealed.IsUnfolded}
 use Rattle.fb_verify.specs.Fields.{Lead, to_table, to_string, lead_of}
-use Rattle.fb_verify.specs.Tree.{Tree, Element}
-use Rattle.fb_verify.specs.Unfolds.{Unfolds, ElementUnfolds}
-use Rattle.fb_verify.specs.OffsetRows.{TypeFits, TypesFit}
-use Rattle.fb_verify.specs.Sealed.{Sealed, IsUnfolded}
 use Rattle.fb_access.specs.declared.spot.Spot.{Spot}
 use Rattle.fb_access.specs.declared.spot.Spot.TheVariants.{AtTable, AtInline, AtStruct, AtText, AtScalars, AtStructs, AtScalarArray, AtStructArray, AtTexts, AtTables, AtUnions, AtUnion}
 

@@ -2,17 +2,11 @@
 -- the buffer.
 use Rattle.std.specs.Prelude.{ℕ, ◌+◌, ◌*◌, ◌≤◌, List, length}
 use Rattle.fb_bytes.specs.Word.{word}
-use Rattle.fb_schema.specs.Rows.{Rows}
-use Rattle.fb_schema.specs.Kinds.{scalar_size, struct_size}
-use Rattle.fb_schema.specs.Members.{member_of}
-use Rattle.fb_schema.specs.Served.{IsServed}
-use Rattle.fb_verify.specs.Fields.{Lead, to_nothing, lead_of}
-use Rattle.fb_verify.specs.Sealed.{Sealed, IsUnfolded}
-use Rattle.fb_access.specs.declared.step.Step.{Step}
-use Rattle.fb_access.specs.declared.spot.Spot.{Spot}
+use Rattle.fb_schema.specs.{Rows.Rows, Kinds.scalar_size, Kinds.struct_size, Members.member_of, Served.IsServed}
+use Rattle.fb_verify.specs.{Fields.Lead, Fields.to_nothing, Fields.lead_of, Sealed.Sealed, Sealed.IsUnfolded}
+use Rattle.fb_access.specs.declared.{step.Step.Step, spot.Spot.Spot}
 use Rattle.fb_access.specs.declared.spot.Spot.TheVariants.{AtTable, AtInline, AtStruct, AtText, AtScalars, AtStructs, AtScalarArray, AtStructArray, AtTexts, AtTables, AtUnions, AtUnion}
-use Rattle.fb_access.specs.Denotes.{Reaches, root_spot}
-use Rattle.fb_access.specs.Held.{IsCounted, IsTextAt, HasVtable}
+use Rattle.fb_access.specs.{Denotes.Reaches, Denotes.root_spot, Held.IsCounted, Held.IsTextAt, Held.HasVtable}
 
 -- the offset word of a union that leads to something
 abbrev pub OffsetLies : List ℕ → ℕ → Lead → Type 0

@@ -1,14 +1,10 @@
 -- Where a fault is, in words.
 use Rattle.std.specs.Prelude.{ℕ, ◌-◌, ◌==◌, ◌||◌, nat_lt, if◌then◌else◌, List, [], ◌∷◌, ◌++◌, length, take, map, slice_get, Option, Some, None, option_map, option_and_then, codes, decimal}
 use Rattle.std.specs.List.{flat_map}
-use Rattle.fb_schema.specs.declared.kinds.Kind.{Kind}
-use Rattle.fb_schema.specs.declared.kinds.Kind.TheVariants.{Union, Unions}
-use Rattle.fb_schema.specs.Members.{member_name}
-use Rattle.fb_schema.specs.Rows.{Rows}
-use Rattle.fb_verify.specs.declared.fault.Fault.{Fault}
-use Rattle.fb_verify.specs.declared.links.Link.{Link}
-use Rattle.fb_access.specs.Fitting.{numbered}
-use Rattle.fb_access.specs.Grammar.{goes_on}
+use Rattle.fb_schema.specs.declared.{kinds.Kind.Kind, kinds.Kind.TheVariants.Union, kinds.Kind.TheVariants.Unions}
+use Rattle.fb_schema.specs.{Members.member_name, Rows.Rows}
+use Rattle.fb_verify.specs.declared.{fault.Fault.Fault, links.Link.Link}
+use Rattle.fb_access.specs.{Fitting.numbered, Grammar.goes_on}
 
 -- a byte of a name: a letter, a digit, `_` or `.` as it is, and `?` for any other
 abbrev pub name_byte : ℕ → ℕ

@@ -1,28 +1,14 @@
 -- The laws of what is told of the way to a fault: its text is a path, and its links lead to what is under check.
 use Rattle.std.specs.Prelude.{◌≡◌, ℕ, ◌<◌, ◌^◌, List, [], ◌∷◌, ◌++◌, length, Option, Some, None, decimal}
-use Rattle.fb_schema.specs.declared.kinds.Kind.{Kind}
-use Rattle.fb_schema.specs.declared.kinds.Kind.TheVariants.{Table}
-use Rattle.fb_schema.specs.Demands.{IsLegal}
-use Rattle.fb_schema.specs.Rows.{Rows}
-use Rattle.fb_schema.specs.Served.{IsServed}
-use Rattle.fb_verify.specs.declared.checks.Checks.{Checks}
-use Rattle.fb_verify.specs.declared.fault.Fault.{Fault}
-use Rattle.fb_verify.specs.declared.links.Link.{Link}
-use Rattle.fb_verify.specs.Bounds.{Bounds}
-use Rattle.fb_verify.specs.Question.{Question}
-use Rattle.fb_verify.specs.Fields.{Lead, to_nothing}
-use Rattle.fb_verify.specs.Way.{Way}
+use Rattle.fb_schema.specs.declared.{kinds.Kind.Kind, kinds.Kind.TheVariants.Table}
+use Rattle.fb_schema.specs.{Demands.IsLegal, Rows.Rows, Served.IsServed}
+use Rattle.fb_verify.specs.declared.{checks.Checks.Checks, fault.Fault.Fault, links.Link.Link}
+use Rattle.fb_verify.specs.{Bounds.Bounds, Question.Question, Fields.Lead, Fields.to_nothing, Way.Way, Links.StopsAlong}
 use Rattle.fb_verify.specs.Stops.{Place, in_start, in_head, in_field, in_element, IsFalseAt}
-use Rattle.fb_verify.specs.Links.{StopsAlong}
-use Rattle.fb_access.specs.declared.step.Step.{Step}
-use Rattle.fb_access.specs.declared.spot.Spot.{Spot}
-use Rattle.fb_access.specs.declared.spot.Spot.TheVariants.{AtTable, AtUnion}
-use Rattle.fb_access.specs.Denotes.{Reaches, root_spot}
+use Rattle.fb_access.specs.declared.{step.Step.Step, spot.Spot.Spot, spot.Spot.TheVariants.AtTable, spot.Spot.TheVariants.AtUnion}
+use Rattle.fb_access.specs.{Denotes.Reaches, Denotes.root_spot, Resolving.Follows, Resolving.Resolves}
+use Rattle.fb_access.specs.{Location.field_name, Location.link_member, Location.path_text, Spots.field_spot, StepLaws.IsLedTo}
 use Rattle.fb_access.specs.Grammar.{Part, field, element, member, IsName}
-use Rattle.fb_access.specs.Resolving.{Follows, Resolves}
-use Rattle.fb_access.specs.Location.{field_name, link_member, path_text}
-use Rattle.fb_access.specs.Spots.{field_spot}
-use Rattle.fb_access.specs.StepLaws.{IsLedTo}
 
 -- the parts of a path that a link is: its field, its element and its member, where it has them
 abbrev pub field_parts : Option (List ℕ) → List Part

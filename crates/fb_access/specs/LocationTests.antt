@@ -7,8 +7,7 @@ use Rattle.fb_verify.specs.declared.fault.Fault.{Fault}
 use Rattle.fb_verify.specs.declared.fault.Reason.TheVariants.{OutOfBuffer, ZeroOffset, TooManyTables}
 use Rattle.fb_verify.specs.declared.links.Link.{Link}
 use Rattle.fb_verify.specs.LinkExamples.{herds, link, fault, to_third}
-use Rattle.fb_access.specs.Location.{cut_to, name_text, location_text}
-use Rattle.fb_access.specs.Samples.{rows}
+use Rattle.fb_access.specs.{Location.cut_to, Location.name_text, Location.location_text, Samples.rows}
 
 -- a fault in a table of this object, at the field with this number if there is one
 abbrev pub fault_in : ℕ → Option ℕ → Fault

@@ -1,7 +1,6 @@
 -- A schema and a buffer for examples.
 use Rattle.std.specs.Prelude.{ℕ, ℤ, pos, negsuc, true, List, [], ◌∷◌, codes}
-use Rattle.fb_schema.specs.Rows.{Field, Rows}
-use Rattle.fb_schema.specs.Builders.{struct_of, plain_member, union_of}
+use Rattle.fb_schema.specs.{Rows.Field, Rows.Rows, Builders.struct_of, Builders.plain_member, Builders.union_of}
 use Rattle.fb_verify.specs.Samples.{type_of, union_type, short, int, text, object, union, vector, field, table, monster}
 
 -- a field of each kind, and a vector of longs behind a field that isn't used any more

@@ -2,11 +2,8 @@
 use Rattle.std.specs.Prelude.{ℕ, List}
 use Rattle.fb_schema.specs.declared.kinds.Kind.{Kind}
 use Rattle.fb_schema.specs.Rows.{Rows}
-use Rattle.fb_access.specs.declared.step.Step.{Step}
-use Rattle.fb_access.specs.declared.spot.Spot.{Spot}
-use Rattle.fb_access.specs.Fitting.{StepsFit}
-use Rattle.fb_access.specs.Denotes.{Reaches}
-use Rattle.fb_access.specs.Here.{IsOfKind}
+use Rattle.fb_access.specs.declared.{step.Step.Step, spot.Spot.Spot}
+use Rattle.fb_access.specs.{Fitting.StepsFit, Denotes.Reaches, Here.IsOfKind}
 
 -- the steps taken lead from the first spot to this one, and those that are left fit from here
 pub record IsWalked (b : List ℕ) (S : Rows) (first : Spot) (taken left : List Step) (q : Spot) : Type 0 where

@@ -1,8 +1,7 @@
 // Where the bytes of a value stand.
 
 ghost use Rattle.std.specs.Prelude.{◌≡◌, ◌+◌, ◌^◌, ◌<◌, ◌≤◌, length, IfSome};
-ghost use Rattle.fb_access.specs.Extents.{elements_at, extent, scalar_extent};
-ghost use Rattle.fb_access.specs.Held.{IsCounted, IsSpot};
+ghost use Rattle.fb_access.specs.{Extents.elements_at, Extents.extent, Extents.scalar_extent, Held.IsCounted, Held.IsSpot};
 ghost use Rattle.fb_schema.specs.Kinds.{scalar_size};
 
 use crate::spot::Spot;

@@ -2,13 +2,10 @@
 
 ghost use Rattle.std.specs.Prelude.{◌≡◌, ◌+◌, ◌-◌, ◌*◌, ◌^◌, ◌<◌, ◌≤◌, length, IfSome, IsTrue, Some, None, ℕ, option_map};
 ghost use Rattle.fb_bytes.specs.Word.{word};
-ghost use Rattle.fb_schema.specs.Rows.{is_table};
-ghost use Rattle.fb_schema.specs.Live.{live_of_view};
-ghost use Rattle.fb_verify.specs.Places.{target, vtable, field_place};
-ghost use Rattle.fb_verify.specs.Fields.{type_place, union_type, types_begin};
-ghost use Rattle.fb_access.specs.Fitting.{numbered};
+ghost use Rattle.fb_schema.specs.{Rows.is_table, Live.live_of_view};
+ghost use Rattle.fb_verify.specs.{Places.target, Places.vtable, Places.field_place, Fields.type_place, Fields.union_type, Fields.types_begin};
+ghost use Rattle.fb_access.specs.{Fitting.numbered, Held.HasVtable, Held.IsReadable};
 ghost use Rattle.fb_access.specs.Spots.{present_spot, absent_spot, default_spot, field_spot};
-ghost use Rattle.fb_access.specs.Held.{HasVtable, IsReadable};
 
 use crate::spot::Spot;
 use fb_bytes::Window;

@@ -2,10 +2,7 @@
 
 ghost use Rattle.std.specs.Prelude.{◌≡◌, IsTrue};
 ghost use Rattle.fb_schema.specs.Rows.{is_table, is_union};
-ghost use Rattle.fb_access.specs.Grammar.{Part};
-ghost use Rattle.fb_access.specs.Cutting.{IsPieceOf};
-ghost use Rattle.fb_access.specs.Fitting.{element_kind};
-ghost use Rattle.fb_access.specs.Kept.{IsThere};
+ghost use Rattle.fb_access.specs.{Grammar.Part, Cutting.IsPieceOf, Fitting.element_kind, Kept.IsThere};
 ghost use Rattle.fb_access.specs.Resolving.{fitting, field_step, element_step, member_step};
 
 use crate::pieces::Piece;

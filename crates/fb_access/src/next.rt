@@ -5,8 +5,7 @@ ghost use Rattle.fb_bytes.specs.Word.{word};
 ghost use Rattle.fb_schema.specs.Served.{MemberHolds};
 ghost use Rattle.fb_verify.specs.Fields.{lead_of};
 ghost use Rattle.fb_access.specs.Spots.{spot_of_field, spot_of_part, spot_of_element, spot_of_member, member_spot};
-ghost use Rattle.fb_access.specs.Denotes.{next_spot};
-ghost use Rattle.fb_access.specs.Held.{IsSpot, IsCounted, IsLed};
+ghost use Rattle.fb_access.specs.{Denotes.next_spot, Held.IsSpot, Held.IsCounted, Held.IsLed};
 
 use crate::field::{field_numbered, spot_of, target_of};
 use crate::spot::Spot;

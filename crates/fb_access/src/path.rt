@@ -3,9 +3,7 @@
 ghost use Rattle.std.specs.Prelude.{◌≡◌, IfOk, IfErr, IfSome, IsTrue};
 ghost use Rattle.fb_schema.specs.declared.kinds.Kind.{Kind};
 ghost use Rattle.fb_schema.specs.Rows.{is_table};
-ghost use Rattle.fb_access.specs.Grammar.{IsPath};
-ghost use Rattle.fb_access.specs.Fitting.{StepsFit};
-ghost use Rattle.fb_access.specs.Kept.{IsThere};
+ghost use Rattle.fb_access.specs.{Grammar.IsPath, Fitting.StepsFit, Kept.IsThere};
 ghost use Rattle.fb_access.specs.Resolving.{IsMisfitAt, Resolves, Refuses, fault_of};
 
 use crate::misfit::{Misfit, fit};

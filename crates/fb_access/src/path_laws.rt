@@ -2,10 +2,8 @@
 
 ghost use Rattle.std.specs.Prelude.{◌≡◌, ℕ, List, Result};
 ghost use Rattle.fb_schema.specs.Rows.{Rows};
-ghost use Rattle.fb_access.specs.declared.path_fault.PathFault.{PathFault};
-ghost use Rattle.fb_access.specs.declared.step.Step.{Step};
-ghost use Rattle.fb_access.specs.Grammar.{Part, IsReading};
-ghost use Rattle.fb_access.specs.Resolving.{IsAnswer};
+ghost use Rattle.fb_access.specs.declared.{path_fault.PathFault.PathFault, step.Step.Step};
+ghost use Rattle.fb_access.specs.{Grammar.Part, Grammar.IsReading, Resolving.IsAnswer};
 
 /// A text is a name and parts in one way at most.
 pub fn text_has_one_reading()

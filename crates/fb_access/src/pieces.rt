@@ -2,8 +2,7 @@
 
 ghost use Rattle.std.specs.Prelude.{◌≡◌, ◌↔◌, ◌≤◌, [], length, take, drop, IsTrue, IsNone, IfSome};
 ghost use Rattle.std.specs.List.{AllByRecursion};
-ghost use Rattle.fb_access.specs.Grammar.{is_digit, number_of};
-ghost use Rattle.fb_access.specs.Cutting.{word_length, IsCuttable, IsCut};
+ghost use Rattle.fb_access.specs.{Grammar.is_digit, Grammar.number_of, Cutting.word_length, Cutting.IsCuttable, Cutting.IsCut};
 
 use crate::scan::goes_on;
 

@@ -4,8 +4,7 @@ ghost use Rattle.std.specs.Prelude.{◌≡◌, ◌+◌, ◌*◌, ◌^◌, ◌%�
 ghost use Rattle.fb_bytes.specs.Word.{word};
 ghost use Rattle.fb_schema.specs.Kinds.{scalar_size, struct_size};
 ghost use Rattle.fb_access.specs.Denotes.{number, inline_value, default_value, value, shown};
-ghost use Rattle.fb_access.specs.Held.{IsSpot};
-ghost use Rattle.fb_access.specs.Here.{FitsScalar, IsNarrow};
+ghost use Rattle.fb_access.specs.{Held.IsSpot, Here.FitsScalar, Here.IsNarrow};
 
 use crate::answer::Answer;
 use crate::spot::Spot;

@@ -1,10 +1,8 @@
 -- What is seen from a place is seen from the place before it, one step further on.
 use Rattle.std.proofs.Common.{◌≡◌, ℕ, zero, suc, ◌*◌, ◌≤◌, All, List, [], ◌∷◌, ◌++◌, map, length, refl, sym, Some, inl, inr}
 use Rattle.std.specs.Prelude.{slice_get}
-use Rattle.std.proofs.lemmas.List.{length-map}
-use Rattle.std.proofs.lemmas.List.Elements.{All-push}
-use Rattle.fb_access.specs.declared.step.Step.{Step}
-use Rattle.fb_access.specs.declared.step.Step.TheVariants.{Field as ToField, Element}
+use Rattle.std.proofs.lemmas.{List.length-map, List.Elements.All-push}
+use Rattle.fb_access.specs.declared.{step.Step.Step, step.Step.TheVariants.Field as ToField, step.Step.TheVariants.Element}
 use Rattle.fb_access.specs.Held.{Placed}
 use Rattle.fb_access.specs.Denotes.{Shown, vector, Leads, value}
 use Rattle.fb_bfbs.specs.Says.{Says, after, AreRows}

@@ -5,11 +5,9 @@ use Rattle.std.proofs.lemmas.List.Sums.{sum_by-cons}
 use Rattle.fb_schema.specs.Rows.{Object, Enum, Rows}
 use Rattle.fb_access.specs.declared.step.Step.TheVariants.{Field as ToField}
 use Rattle.fb_access.specs.Denotes.{vector}
-use Rattle.fb_bfbs.specs.Says.{Says, after, AreRows}
-use Rattle.fb_bfbs.specs.Describes.{IsObjectRow, IsEnumRow, Describes}
+use Rattle.fb_bfbs.specs.{Says.Says, Says.after, Says.AreRows, Describes.IsObjectRow, Describes.IsEnumRow, Describes.Describes}
 use Rattle.fb_bfbs.specs.Sums.{rows_count, object_rows, Lists, listed_rows, HasRows, IsPaid, ArePaid, most_rows}
-use Rattle.fb_bfbs.proofs.Composed.{mapped_rows}
-use Rattle.fb_bfbs.proofs.OneFile.{IsSingle, IsOnly, only_rows}
+use Rattle.fb_bfbs.proofs.{Composed.mapped_rows, OneFile.IsSingle, OneFile.IsOnly, OneFile.only_rows}
 
 abbrev fields_of : Object → ℕ
 fields_of o = length o.fields

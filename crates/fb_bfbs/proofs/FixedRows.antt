@@ -1,11 +1,8 @@
 -- The rows of the fixed table are few, and legal.
 use Rattle.std.proofs.Common.{◌≡◌, ◌<◌, ◌^◌, zero, suc, true, nat_lt, inl, inr, List, [], ◌∷◌, map, length, vec_len, All, refl, sym, ◌∙◌, ap, subst, arith}
-use Rattle.std.proofs.lemmas.List.{length-map}
-use Rattle.std.proofs.lemmas.Bool.{ltb-true, and_parts}
+use Rattle.std.proofs.lemmas.{List.length-map, Bool.ltb-true, Bool.and_parts}
 use Rattle.std.specs.List.{list_all}
-use Rattle.fb_schema.specs.declared.rows.ObjectRow.{ObjectRow}
-use Rattle.fb_schema.specs.declared.rows.EnumRow.{EnumRow}
-use Rattle.fb_schema.specs.declared.fault.Code.TheVariants.{OutOfMemory}
+use Rattle.fb_schema.specs.declared.{rows.ObjectRow.ObjectRow, rows.EnumRow.EnumRow, fault.Code.TheVariants.OutOfMemory}
 use Rattle.fb_schema.specs.declared.fault.SchemaFault.{SchemaFault}
 use Rattle.fb_schema.specs.Rows.{Rows, AreFew, field_of, object_of, enum_of, rows_of}
 use Rattle.fb_schema.specs.Kinds.{base_types, shape_of, kind_of}

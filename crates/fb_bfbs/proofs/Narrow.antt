@@ -1,7 +1,6 @@
 -- Numbers that fit a narrower scalar are themselves in its bits.
 use Rattle.std.proofs.Common.{ℤ, sym, subst, arith, to_z, of_z, w8, w16, w32, w64}
-use Rattle.std.specs.Int.{Width}
-use Rattle.std.specs.Int.RustNames.{FitsSigned}
+use Rattle.std.specs.{Int.Width, Int.RustNames.FitsSigned}
 use Rattle.std.proofs.lemmas.Int.{ints, to_z-of_z}
 use Rattle.fb_schema.specs.declared.kinds.Scalar.{Scalar}
 use Rattle.fb_schema.specs.declared.kinds.Scalar.TheVariants.{Byte, Short, Int as AsInt}

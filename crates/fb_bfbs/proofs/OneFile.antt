@@ -1,8 +1,7 @@
 -- A schema file describes one list of rows.
 use Rattle.std.proofs.Common.{◌≡◌, ℕ, zero, suc, List, [], ◌∷◌, length, refl, sym, ◌∙◌, Some, inl, inr}
 use Rattle.std.specs.Prelude.{slice_get}
-use Rattle.fb_access.specs.declared.step.Step.{Step}
-use Rattle.fb_access.specs.declared.step.Step.TheVariants.{Field as ToField, Element}
+use Rattle.fb_access.specs.declared.{step.Step.Step, step.Step.TheVariants.Field as ToField, step.Step.TheVariants.Element}
 use Rattle.fb_access.specs.Denotes.{Shown, nothing, truth, signed, unsigned, text, table, vector}
 use Rattle.fb_bfbs.specs.Says.{Says, after, AreRows}
 use Rattle.fb_bfbs.specs.Describes.{IsTypeRow, IsFieldRow, IsObjectRow, IsTypeOrNone, IsMemberRow, IsEnumRow, Describes}

@@ -1,30 +1,21 @@
 -- At most one answer applies to the bytes of a schema file.
 use Rattle.std.proofs.Common.{◌≡◌, ℕ, ◌<◌, ◌≤◌, ◌^◌, List, [], ◌∷◌, length, refl, sym, ◌∙◌, ap, subst, arith, inl, inr, Option, Some, None, Result, Ok, Err}
 use Rattle.std.specs.Borrow.{Bor}
-use Rattle.fb_schema.specs.Rows.{Rows, table_named}
+use Rattle.fb_schema.specs.{Rows.Rows, Rows.table_named, Demands.IsLegal, Demands.IsFirstIllegal}
 use Rattle.fb_schema.specs.declared.fault.SchemaFault.{SchemaFault}
-use Rattle.fb_schema.specs.Demands.{IsLegal, IsFirstIllegal}
 use Rattle.fb_schema.proofs.DemandLaws.{one_first, no_first_if_legal}
-use Rattle.fb_verify.specs.declared.fault.Fault.{Fault}
-use Rattle.fb_verify.specs.declared.start.Start.TheVariants.{Bare}
-use Rattle.fb_verify.specs.Bounds.{Bounds}
-use Rattle.fb_verify.specs.Stops.{Stops}
-use Rattle.fb_verify.proofs.OneFault.{stops_once}
-use Rattle.fb_verify.proofs.Nones.{stops_nowhere}
-use Rattle.fb_access.specs.declared.step.Step.TheVariants.{Field as ToField}
-use Rattle.fb_access.specs.declared.spot.Spot.{Spot}
-use Rattle.fb_access.specs.declared.spot.Spot.TheVariants.{AtAbsent}
+use Rattle.fb_verify.specs.declared.{fault.Fault.Fault, start.Start.TheVariants.Bare}
+use Rattle.fb_verify.specs.{Bounds.Bounds, Stops.Stops}
+use Rattle.fb_verify.proofs.{OneFault.stops_once, Nones.stops_nowhere}
+use Rattle.fb_access.specs.declared.{step.Step.TheVariants.Field as ToField, spot.Spot.Spot, spot.Spot.TheVariants.AtAbsent}
 use Rattle.fb_access.specs.Denotes.{Leads, next_spot, root_spot, text, nothing, value}
 use Rattle.fb_access.proofs.Callers.{shows_one}
-use Rattle.fb_bfbs.specs.declared.loading.Loaded.{Loaded}
-use Rattle.fb_bfbs.specs.declared.load_fault.LoadFault.{LoadFault}
+use Rattle.fb_bfbs.specs.declared.{loading.Loaded.Loaded, load_fault.LoadFault.LoadFault}
 use Rattle.fb_bfbs.specs.declared.load_fault.LoadFault.TheVariants.{NotWellFormed, BadSchema, RootNotListed, OutOfMemory, TooLong, TooMuchShared}
-use Rattle.fb_bfbs.specs.Fixed.{fixed}
-use Rattle.fb_bfbs.specs.Says.{text_or_nothing}
+use Rattle.fb_bfbs.specs.{Fixed.fixed, Says.text_or_nothing, Sums.IsOver, Sums.names_length}
 use Rattle.fb_bfbs.specs.Describes.{Describes, NamesRoot, IsRoot, HasStrayRoot}
 use Rattle.fb_bfbs.specs.Loads.{asked_within, ArePaidFor, SharesTooMuch, IsSchemaFile, IsBadSchema, IsLoaded, told, schema_number}
 use Rattle.fb_bfbs.specs.LoadLaws.{DescribesOnce, ident_bytes, IsSameLoad, IsSameAnswer, Applies}
-use Rattle.fb_bfbs.specs.Sums.{IsOver, names_length}
 use Rattle.fb_bfbs.proofs.Counts.{counted}
 use Rattle.fb_bfbs.proofs.OneFile.{IsSingle, describes_once, one_text, text_is_something}
 

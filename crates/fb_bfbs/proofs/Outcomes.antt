@@ -1,22 +1,14 @@
 -- From what was read to what is answered.
 use Rattle.std.proofs.Common.{◌≡◌, ℕ, List, length, Option, Some, None, option_map, IfSome, true, false, refl, sym, ◌∙◌, ap, subst, inl, inr}
 use Rattle.std.specs.Option.{IsSome}
-use Rattle.fb_schema.specs.declared.fault.Code.{Code}
-use Rattle.fb_schema.specs.declared.fault.Code.TheVariants.{OutOfMemory as NoMemory}
-use Rattle.fb_schema.specs.declared.fault.SchemaFault.{SchemaFault}
-use Rattle.fb_schema.specs.Rows.{Rows}
-use Rattle.fb_schema.specs.Demands.{Refuses}
+use Rattle.fb_schema.specs.declared.{fault.Code.Code, fault.Code.TheVariants.OutOfMemory as NoMemory, fault.SchemaFault.SchemaFault}
+use Rattle.fb_schema.specs.{Rows.Rows, Demands.Refuses}
 use Rattle.fb_verify.specs.declared.start.Start.TheVariants.{Bare}
-use Rattle.fb_verify.specs.Bounds.{Bounds}
-use Rattle.fb_verify.specs.Sealed.{Sealed}
+use Rattle.fb_verify.specs.{Bounds.Bounds, Sealed.Sealed}
 use Rattle.fb_access.specs.Denotes.{Denotes}
-use Rattle.fb_bfbs.specs.Fixed.{fixed}
-use Rattle.fb_bfbs.specs.Says.{Says}
-use Rattle.fb_bfbs.specs.Describes.{Describes}
+use Rattle.fb_bfbs.specs.{Fixed.fixed, Says.Says, Describes.Describes, Sums.IsPaid, Sums.ArePaid}
 use Rattle.fb_bfbs.specs.Loads.{ArePaidFor, IsSchemaFile, IsLoadFault, build_fault, schema_number, told}
-use Rattle.fb_bfbs.specs.Sums.{IsPaid, ArePaid}
-use Rattle.fb_bfbs.proofs.Counts.{paid_rows}
-use Rattle.fb_bfbs.proofs.OneLoad.{file_is_single}
+use Rattle.fb_bfbs.proofs.{Counts.paid_rows, OneLoad.file_is_single}
 
 -- rows that are refused are no schema, or memory ran out
 refused_by : (b : List ℕ) (L : Bounds) (rows : Rows) (fault : SchemaFault) (code : Code) → IsSchemaFile b L → Describes (told b) rows → ArePaidFor b L rows → Refuses rows fault → fault.code ≡ code → IsLoadFault b L (build_fault code fault)

@@ -3,24 +3,17 @@ use Rattle.std.proofs.Common.{◌≡◌, ℕ, zero, suc, List, [], ◌∷◌, re
 use Rattle.std.specs.Prelude.{slice_get}
 use Rattle.fb_bytes.specs.Word.{word}
 use Rattle.fb_schema.specs.declared.rows.TypeRow.{TypeRow}
-use Rattle.fb_schema.specs.Rows.{Field, Object, Enum}
-use Rattle.fb_schema.specs.Kinds.{shape_of, kind_of, base_types}
-use Rattle.fb_schema.specs.Live.{live_fields}
+use Rattle.fb_schema.specs.{Rows.Field, Rows.Object, Rows.Enum, Kinds.shape_of, Kinds.kind_of, Kinds.base_types, Live.live_fields}
 use Rattle.fb_verify.specs.Places.{has_vtable, vtable, field_place}
-use Rattle.fb_access.specs.declared.step.Step.{Step}
-use Rattle.fb_access.specs.declared.step.Step.TheVariants.{Field as ToField, Element}
-use Rattle.fb_access.specs.declared.spot.Spot.{Spot}
+use Rattle.fb_access.specs.declared.{step.Step.Step, step.Step.TheVariants.Field as ToField, step.Step.TheVariants.Element, spot.Spot.Spot}
 use Rattle.fb_access.specs.declared.spot.Spot.TheVariants.{AtTable, AtTables}
 use Rattle.fb_access.specs.Spots.{present_spot, default_spot, absent_spot, spot_of_element, member_spot}
 use Rattle.fb_access.specs.Denotes.{Shown, Leads, next_spot, truth, signed, unsigned, text, vector, number, inline_value, default_value, value}
 use Rattle.fb_access.specs.Here.{Shows}
 use Rattle.fb_access.proofs.StepLaws.{some_same}
-use Rattle.fb_bfbs.specs.Fixed.{fixed}
-use Rattle.fb_bfbs.specs.Says.{Says, after, AreRows}
+use Rattle.fb_bfbs.specs.{Fixed.fixed, Says.Says, Says.after, Says.AreRows, Loads.told, Examples.DetailedFile}
 use Rattle.fb_bfbs.specs.Describes.{IsTypeRow, IsFieldRow, IsObjectRow, IsMemberRow, IsEnumRow, Describes}
-use Rattle.fb_bfbs.specs.Loads.{told}
 use Rattle.fb_bfbs.specs.Samples.{plain, hp_field, name_field, monster_object, plain_rows, detailed, old_field, far_field, struct_object, no_member, one_member, a_union, an_enum, detailed_rows}
-use Rattle.fb_bfbs.specs.Examples.{DetailedFile}
 use Rattle.fb_bfbs.proofs.Composed.{Carries, type_within, field_within, object_within, member_within, enum_within, rows_within}
 
 -- all that is computed

@@ -2,26 +2,18 @@
 use Rattle.std.proofs.Common.{◌≡◌, ℕ, false, true, refl, arith, length}
 use Rattle.std.specs.Prelude.{codes}
 use Rattle.fb_bytes.specs.Word.{word}
-use Rattle.fb_schema.specs.Rows.{table_named}
-use Rattle.fb_schema.specs.Kinds.{shape_of, kind_of, base_types}
+use Rattle.fb_schema.specs.{Rows.table_named, Kinds.shape_of, Kinds.kind_of, Kinds.base_types, Live.live_fields}
 use Rattle.fb_schema.specs.Demands.{IsLegal, names_no_object, names_table, names_no_union, inline_bytes}
-use Rattle.fb_schema.specs.Live.{live_fields}
 use Rattle.fb_schema.proofs.DemandLaws.{levels_end, owners_end, places_end, object_end, enum_end}
 use Rattle.fb_schema.proofs.Judged.{first_below, or_at, in_owner, in_level, in_rows, first_fault, legal}
 use Rattle.fb_verify.specs.Places.{is_aligned, has_vtable, vtable, field_place, ends_in_table}
-use Rattle.fb_verify.specs.Fields.{entries, row, union_row}
+use Rattle.fb_verify.specs.{Fields.entries, Fields.row, Fields.union_row, Unfolds.Unfolds, Cost.own_reads, Cost.tree_cost, Samples.published_limits}
 use Rattle.fb_verify.specs.Tree.{Tree, node, no_kids, kid, no_elements, element, leaf, table, size, depth}
-use Rattle.fb_verify.specs.Unfolds.{Unfolds}
-use Rattle.fb_verify.specs.Cost.{own_reads, tree_cost}
 use Rattle.fb_verify.specs.Order.{own_failure, start_failure, prefix_failure, ident_failure, head_failure, offset_failure, string_failure, vector_failure, inline_failure, table_failure}
-use Rattle.fb_verify.specs.Samples.{published_limits}
 use Rattle.fb_verify.proofs.Shown.{start, head, own, offset, string}
 use Rattle.fb_access.specs.Spots.{present_spot, default_spot, absent_spot, spot_of_element, member_spot}
 use Rattle.fb_access.specs.Denotes.{next_spot, number, inline_value, default_value, value}
-use Rattle.fb_bfbs.specs.Fixed.{fixed}
-use Rattle.fb_bfbs.specs.Loads.{published, IsSchemaFile}
-use Rattle.fb_bfbs.specs.Samples.{plain, plain_rows}
-use Rattle.fb_bfbs.specs.Examples.{PlainFile}
+use Rattle.fb_bfbs.specs.{Fixed.fixed, Loads.published, Loads.IsSchemaFile, Samples.plain, Samples.plain_rows, Examples.PlainFile}
 use Rattle.fb_bfbs.proofs.Shown.{plain_described}
 
 -- all that is computed of the buffer

@@ -1,15 +1,11 @@
 -- The steps that a place in a schema file has, and what they lead to.
 use Rattle.std.proofs.Common.{◌≡◌, ℕ, ◌<◌, List, refl, ◌∙◌, IsTrue}
-use Rattle.fb_schema.specs.declared.kinds.Kind.{Kind}
-use Rattle.fb_schema.specs.declared.kinds.Kind.TheVariants.{Table, Tables}
+use Rattle.fb_schema.specs.declared.{kinds.Kind.Kind, kinds.Kind.TheVariants.Table, kinds.Kind.TheVariants.Tables}
 use Rattle.fb_schema.specs.Rows.{Rows}
-use Rattle.fb_access.specs.declared.step.Step.TheVariants.{Field as ToField, Element}
-use Rattle.fb_access.specs.declared.spot.Spot.{Spot}
+use Rattle.fb_access.specs.declared.{step.Step.TheVariants.Field as ToField, step.Step.TheVariants.Element, spot.Spot.Spot}
 use Rattle.fb_access.specs.declared.spot.Spot.TheVariants.{AtTable}
-use Rattle.fb_access.specs.Fitting.{next_kind}
+use Rattle.fb_access.specs.{Fitting.next_kind, Held.Placed, Here.IsHere, Here.MayBeHere, Here.HereGoesOn}
 use Rattle.fb_access.specs.Denotes.{Leads, allows, nothing, table, vector, value}
-use Rattle.fb_access.specs.Held.{Placed}
-use Rattle.fb_access.specs.Here.{IsHere, MayBeHere, HereGoesOn}
 use Rattle.fb_access.proofs.Shapes.{is_here}
 use Rattle.fb_access.proofs.Callers.{here_allows, sure_allows, field_may_be_here, element_is_here}
 use Rattle.fb_bfbs.specs.Fixed.{fixed}

@@ -3,13 +3,9 @@ use Rattle.std.specs.Prelude.{◌≡◌, ◌==◌, ℕ, List, length, Option, So
 use Rattle.std.specs.Borrow.{Bor}
 use Rattle.fb_schema.specs.Rows.{Rows}
 use Rattle.fb_verify.specs.Bounds.{Bounds}
-use Rattle.fb_verify.specs.declared.start.Ident.{Ident}
-use Rattle.fb_verify.specs.declared.start.Ident.TheVariants.{Any, Want}
-use Rattle.fb_bfbs.specs.declared.loading.Loaded.{Loaded}
-use Rattle.fb_bfbs.specs.declared.load_fault.LoadFault.{LoadFault}
-use Rattle.fb_bfbs.specs.declared.load_fault.LoadFault.TheVariants.{OutOfMemory}
-use Rattle.fb_bfbs.specs.Describes.{Describes}
-use Rattle.fb_bfbs.specs.Loads.{told, IsLoaded, IsLoadFault}
+use Rattle.fb_verify.specs.declared.{start.Ident.Ident, start.Ident.TheVariants.Any, start.Ident.TheVariants.Want}
+use Rattle.fb_bfbs.specs.declared.{loading.Loaded.Loaded, load_fault.LoadFault.LoadFault, load_fault.LoadFault.TheVariants.OutOfMemory}
+use Rattle.fb_bfbs.specs.{Describes.Describes, Loads.told, Loads.IsLoaded, Loads.IsLoadFault}
 
 -- a schema file describes at most one list of rows
 abbrev pub DescribesOnce : Type 0

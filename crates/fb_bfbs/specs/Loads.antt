@@ -1,27 +1,14 @@
 -- What is answered of a schema file.
 use Rattle.std.specs.Prelude.{ℕ, ◌<◌, ◌≤◌, ◌^◌, true, false, IfSome, IsSome, IsTrue, List, [], ◌∷◌, length}
-use Rattle.fb_schema.specs.Rows.{Rows, is_table}
-use Rattle.fb_schema.specs.declared.fault.Code.{Code}
-use Rattle.fb_schema.specs.declared.fault.Code.TheVariants.{OutOfMemory as NoMemory}
-use Rattle.fb_schema.specs.declared.fault.SchemaFault.{SchemaFault}
-use Rattle.fb_schema.specs.Demands.{IsLegal, IsFirstIllegal}
-use Rattle.fb_verify.specs.declared.checks.Checks.{Checks}
-use Rattle.fb_verify.specs.declared.start.Start.TheVariants.{Bare}
-use Rattle.fb_verify.specs.declared.start.Ident.{Ident}
-use Rattle.fb_verify.specs.declared.start.Ident.TheVariants.{Want}
-use Rattle.fb_verify.specs.Bounds.{Bounds}
-use Rattle.fb_verify.specs.Question.{Question, question}
-use Rattle.fb_verify.specs.Tree.{Tree}
-use Rattle.fb_verify.specs.WellFormed.{IsWellFormed, IsWithin}
-use Rattle.fb_verify.specs.Stops.{Stops}
+use Rattle.fb_schema.specs.{Rows.Rows, Rows.is_table, Demands.IsLegal, Demands.IsFirstIllegal}
+use Rattle.fb_schema.specs.declared.{fault.Code.Code, fault.Code.TheVariants.OutOfMemory as NoMemory, fault.SchemaFault.SchemaFault}
+use Rattle.fb_verify.specs.declared.{checks.Checks.Checks, start.Start.TheVariants.Bare, start.Ident.Ident, start.Ident.TheVariants.Want}
+use Rattle.fb_verify.specs.{Bounds.Bounds, Question.Question, Question.question, Tree.Tree, WellFormed.IsWellFormed, WellFormed.IsWithin, Stops.Stops}
 use Rattle.fb_access.specs.declared.step.Step.TheVariants.{Field as ToField}
 use Rattle.fb_access.specs.Denotes.{Denotes}
-use Rattle.fb_bfbs.specs.declared.loading.Loaded.{Loaded}
-use Rattle.fb_bfbs.specs.declared.load_fault.LoadFault.{LoadFault}
+use Rattle.fb_bfbs.specs.declared.{loading.Loaded.Loaded, load_fault.LoadFault.LoadFault}
 use Rattle.fb_bfbs.specs.declared.load_fault.LoadFault.TheVariants.{NotWellFormed, BadSchema, RootNotListed, OutOfMemory, TooLong, TooMuchShared}
-use Rattle.fb_bfbs.specs.Fixed.{fixed}
-use Rattle.fb_bfbs.specs.Says.{Says, text_or_nothing}
-use Rattle.fb_bfbs.specs.Describes.{Describes, IsRoot, HasStrayRoot}
+use Rattle.fb_bfbs.specs.{Fixed.fixed, Says.Says, Says.text_or_nothing, Describes.Describes, Describes.IsRoot, Describes.HasStrayRoot}
 use Rattle.fb_bfbs.specs.Sums.{IsPaid, IsOver}
 
 -- the number of the table Schema in the fixed table

@@ -1,8 +1,7 @@
 -- What is said of a buffer: which steps lead to which value.
 use Rattle.std.specs.Prelude.{◌≡◌, ℕ, List, [], ◌∷◌, length, slice_get, Option, Some, None}
 use Rattle.std.specs.Borrow.{Bor}
-use Rattle.fb_access.specs.declared.step.Step.{Step}
-use Rattle.fb_access.specs.declared.step.Step.TheVariants.{Element}
+use Rattle.fb_access.specs.declared.{step.Step.Step, step.Step.TheVariants.Element}
 use Rattle.fb_access.specs.Denotes.{Shown, nothing, text, vector}
 
 -- which steps lead to which value

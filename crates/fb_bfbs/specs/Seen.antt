@@ -3,14 +3,10 @@ use Rattle.std.specs.Prelude.{◌≡◌, ℕ, List, [], ◌∷◌, Some}
 use Rattle.fb_schema.specs.declared.kinds.Kind.{Kind}
 use Rattle.fb_schema.specs.declared.kinds.Kind.TheVariants.{Scalar as AScalar, Table, Tables}
 use Rattle.fb_schema.specs.declared.kinds.Scalar.{Scalar}
-use Rattle.fb_access.specs.declared.step.Step.{Step}
-use Rattle.fb_access.specs.declared.step.Step.TheVariants.{Field as ToField}
-use Rattle.fb_access.specs.Fitting.{next_kind}
-use Rattle.fb_access.specs.Denotes.{Leads, Shown}
-use Rattle.fb_access.specs.Held.{Placed}
+use Rattle.fb_access.specs.declared.{step.Step.Step, step.Step.TheVariants.Field as ToField}
+use Rattle.fb_access.specs.{Fitting.next_kind, Denotes.Leads, Denotes.Shown, Held.Placed}
 use Rattle.fb_access.specs.Here.{IsHere, sure_kind, IsSigned, Shows}
-use Rattle.fb_bfbs.specs.Fixed.{fixed}
-use Rattle.fb_bfbs.specs.Says.{Says, after, AreRows}
+use Rattle.fb_bfbs.specs.{Fixed.fixed, Says.Says, Says.after, Says.AreRows}
 
 -- which steps lead from here to which value
 abbrev pub seen : Placed → Says

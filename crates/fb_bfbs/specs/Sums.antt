@@ -3,8 +3,7 @@ use Rattle.std.specs.Prelude.{◌≡◌, ℕ, ◌+◌, ◌*◌, ◌/◌, ◌^◌
 use Rattle.fb_schema.specs.Rows.{Field, Object, Member, Enum, Rows}
 use Rattle.fb_access.specs.declared.step.Step.TheVariants.{Field as ToField}
 use Rattle.fb_access.specs.Denotes.{vector}
-use Rattle.fb_bfbs.specs.Says.{Says, after, AreRows}
-use Rattle.fb_bfbs.specs.Describes.{Describes}
+use Rattle.fb_bfbs.specs.{Says.Says, Says.after, Says.AreRows, Describes.Describes}
 
 -- an object with its fields, and an enum with its members
 abbrev pub object_rows : Object → ℕ

@@ -4,8 +4,7 @@
 ghost use Rattle.std.specs.Prelude.{vec_len};
 ghost use Rattle.fb_schema.specs.Rows.{field_of, object_of, member_of_row, enum_of};
 ghost use Rattle.fb_access.specs.declared.step.Step.TheVariants.{Field as ToField};
-ghost use Rattle.fb_bfbs.specs.Says.{after};
-ghost use Rattle.fb_bfbs.specs.Seen.{seen, IsAt};
+ghost use Rattle.fb_bfbs.specs.{Says.after, Seen.seen, Seen.IsAt};
 ghost use Rattle.fb_bfbs.specs.Describes.{IsTypeRow, IsTypeOrNone, IsFieldRow, IsObjectRow, IsMemberRow, IsEnumRow};
 
 use crate::lists::{FromTable, rows_in};

@@ -2,8 +2,7 @@
 #![tactic(auto, using(crate::proofs::FixedFields::always), unfolding(crate::proofs::FixedFields::computing))]
 
 ghost use Rattle.std.specs.Prelude.{◌≡◌, ◌-◌, ◌≤◌, SomeIff};
-ghost use Rattle.fb_bfbs.specs.Seen.{seen, IsAt};
-ghost use Rattle.fb_bfbs.specs.Sums.{Lists, listed_rows};
+ghost use Rattle.fb_bfbs.specs.{Seen.seen, Seen.IsAt, Sums.Lists, Sums.listed_rows};
 
 use crate::lists::FromTable;
 use crate::taking::Takes;

@@ -5,11 +5,7 @@ ghost use Rattle.std.specs.Prelude.{◌≡◌, ◌<◌, ◌^◌, [], ◌∷◌, 
 ghost use Rattle.fb_schema.specs.Rows.{AreFew, rows_of};
 ghost use Rattle.fb_access.specs.declared.step.Step.TheVariants.{Field as ToField};
 ghost use Rattle.fb_access.specs.Denotes.{Denotes};
-ghost use Rattle.fb_bfbs.specs.Fixed.{fixed};
-ghost use Rattle.fb_bfbs.specs.Says.{text_or_nothing};
-ghost use Rattle.fb_bfbs.specs.Seen.{seen, IsAt};
-ghost use Rattle.fb_bfbs.specs.Describes.{Describes, IsRootName};
-ghost use Rattle.fb_bfbs.specs.FileRows.{IsTold};
+ghost use Rattle.fb_bfbs.specs.{Fixed.fixed, Says.text_or_nothing, Seen.seen, Seen.IsAt, Describes.Describes, Describes.IsRootName, FileRows.IsTold};
 ghost use Rattle.fb_bfbs.specs.Sums.{ArePaid, IsOver, IsToldFew};
 
 use crate::counted::{FieldCount, MemberCount};

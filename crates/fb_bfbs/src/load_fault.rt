@@ -2,8 +2,7 @@
 
 ghost use Rattle.std.specs.Prelude.{◌≡◌};
 ghost use Rattle.fb_bfbs.specs.declared.load_fault.LoadFault.TheVariants.{NotWellFormed, OutOfMemory, TooLong as TooManyBytes};
-ghost use Rattle.fb_bfbs.specs.Codes.{code_text};
-ghost use Rattle.fb_bfbs.specs.Loads.{build_fault};
+ghost use Rattle.fb_bfbs.specs.{Codes.code_text, Loads.build_fault};
 
 use fb_bytes::TooLong;
 use fb_schema::{Code, SchemaFault};

@@ -1,10 +1,8 @@
 // A schema out of its file.
 
 ghost use Rattle.std.specs.Prelude.{◌≡◌, ◌<◌, ◌≤◌, ◌^◌, length, option_map, IfOk, OnOk, IfErr};
-ghost use Rattle.fb_bfbs.specs.Fixed.{fixed};
+ghost use Rattle.fb_bfbs.specs.{Fixed.fixed, FileRows.IsTold, LoadLaws.ident_bytes, LoadLaws.own_ident};
 ghost use Rattle.fb_schema.specs.Rows.{AreFew, rows_of};
-ghost use Rattle.fb_bfbs.specs.FileRows.{IsTold};
-ghost use Rattle.fb_bfbs.specs.LoadLaws.{ident_bytes, own_ident};
 ghost use Rattle.fb_bfbs.specs.Loads.{ArePaidFor, IsSchemaFile, HasTableForRoot, IsLoaded, IsLoadFault, told};
 
 use crate::file::{FileRows, file_rows};

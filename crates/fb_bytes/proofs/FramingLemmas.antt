@@ -2,8 +2,7 @@
 use Rattle.std.proofs.Common.{◌≡◌, ℕ, Bool, true, false, ◌+◌, ◌<◌, ◌≤◌, List, [], ◌∷◌, ◌++◌, length, take, drop, refl, sym, ap, ◌∙◌, arith, append-nil, append_assoc, length-append, length-take, take-append-drop, take_all}
 use Rattle.std.proofs.Math.Seq.{take-add}
 use Rattle.std.proofs.lemmas.List.{take-append-le, drop-take}
-use Rattle.fb_bytes.specs.Messages.{declared, IsMessage, IsOversize}
-use Rattle.fb_bytes.specs.Framing.{Framing, Feeds, held_bytes}
+use Rattle.fb_bytes.specs.{Messages.declared, Messages.IsMessage, Messages.IsOversize, Framing.Framing, Framing.Feeds, Framing.held_bytes}
 use Rattle.fb_bytes.proofs.MessageLemmas.{declared_append}
 
 pub held_bytes-some : (prefix : List ℕ) (filled : ℕ) (body : List ℕ) → 0 < length body → held_bytes prefix filled body ≡ body

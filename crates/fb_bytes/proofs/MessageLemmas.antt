@@ -1,8 +1,7 @@
 -- How a stream of messages is cut.
 use Rattle.std.proofs.Common.{◌≡◌, ℕ, zero, suc, ◌+◌, ◌<◌, ◌≤◌, ◌⊎◌, List, [], ◌∷◌, ◌++◌, length, take, drop, get_or, refl, sym, ap, ◌∙◌, arith, append_assoc, length-append, length-drop, length-take-le, take-append-drop}
 use mathlib.Core.Logic.{inl, inr}
-use Rattle.std.specs.List.{concat, All}
-use Rattle.std.specs.Int.{from_le_bytes, w32}
+use Rattle.std.specs.{List.concat, List.All, Int.from_le_bytes, Int.w32}
 use Rattle.std.proofs.lemmas.Bool.Decides.{leb_tells}
 use Rattle.std.proofs.lemmas.List.{take_at, take-append-le, get_or-take, append_cancel_left}
 use Rattle.std.proofs.lemmas.List.Elements.{All-nil, All-cons, All-head, All-tail}

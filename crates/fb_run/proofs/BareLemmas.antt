@@ -3,14 +3,10 @@ use Rattle.std.proofs.Common.{◌≡◌, ℕ, ◌+◌, ◌≤◌, List, ◌++◌
 use Rattle.std.specs.Io.KnownBytes.{Appends, Consumes}
 use Rattle.std.proofs.KnownBytes.{Appends-trans, Keeps-refl}
 use Rattle.fb_run.specs.Ends.{Ends, Reader, Takes, Writer, beside}
-use Rattle.fb_run.specs.Job.{Job, Verdict}
+use Rattle.fb_run.specs.{Job.Job, Job.Verdict, Line.IsTold, Sums.no_tally, Sums.tally_with, Bare.FailsBare, Bare.PassesBare, Bare.WritesPart}
 use Rattle.fb_run.specs.Texts.{Sizes, Texts, followed, no_bytes, silent}
-use Rattle.fb_run.specs.Line.{IsTold}
 use Rattle.fb_run.specs.Lines.{AddsTold, AddsThrough, StopsBehind, WritesFronts}
-use Rattle.fb_run.specs.Sums.{no_tally, tally_with}
-use Rattle.fb_run.specs.declared.tally.Tally.{Tally}
-use Rattle.fb_run.specs.Bare.{FailsBare, PassesBare, WritesPart}
-use Rattle.fb_run.specs.declared.fault.RunFault.{RunFault}
+use Rattle.fb_run.specs.declared.{tally.Tally.Tally, fault.RunFault.RunFault}
 use Rattle.fb_run.specs.declared.fault.RunFault.TheVariants as run
 use Rattle.fb_run.proofs.TextsLemmas.{same_texts}
 

@@ -1,13 +1,9 @@
 -- What comes behind what waits, and of which a front is written.
 use Rattle.std.proofs.Common.{◌≡◌, ℕ, ◌+◌, ◌<◌, List, [], ◌∷◌, ◌++◌, Option, length, take, drop, get_or, refl, sym, ap, subst, ◌∙◌, arith, append-nil, append_assoc, length-append, take-append-drop}
-use Rattle.std.proofs.Math.Seq.{take-append-add}
-use Rattle.std.proofs.lemmas.Grind.{flat_map-append}
-use Rattle.std.proofs.lemmas.List.{take-append-le, take_more}
-use Rattle.std.specs.List.{flat_map}
-use Rattle.std.specs.Io.KnownBytes.{Appends}
-use Rattle.std.proofs.KnownBytes.{Appends-trans}
-use Rattle.fb_run.specs.Lines.{ComesBehind, WritesFront, WritesFronts}
-use Rattle.fb_run.specs.Ends.{Outs, Writer}
+use Rattle.std.proofs.{Math.Seq.take-append-add, KnownBytes.Appends-trans}
+use Rattle.std.proofs.lemmas.{Grind.flat_map-append, List.take-append-le, List.take_more}
+use Rattle.std.specs.{List.flat_map, Io.KnownBytes.Appends}
+use Rattle.fb_run.specs.{Lines.ComesBehind, Lines.WritesFront, Lines.WritesFronts, Ends.Outs, Ends.Writer}
 use Rattle.fb_run.specs.Texts.{Sizes, Texts, followed, to_out}
 use Rattle.fb_run.specs.declared.fault.RunFault.{RunFault}
 use Rattle.fb_run.specs.declared.fault.RunFault.TheVariants as run

@@ -3,14 +3,9 @@ use Rattle.std.proofs.Common.{◌≡◌, ℕ, ◌+◌, ◌∙◌, ◌++◌, List
 use mathlib.Core.Logic.{inl}
 use Rattle.std.proofs.lemmas.List.Elements.{All-head, All-tail}
 use Rattle.fb_bytes.specs.Messages.{IsMessage, Splits}
-use Rattle.fb_run.specs.FilterLaws.{PassesAgain}
-use Rattle.fb_run.specs.Job.{Job}
-use Rattle.fb_run.specs.Line.{line_of, told_of}
-use Rattle.fb_run.specs.Lines.{AreTold}
-use Rattle.fb_run.specs.Sums.{no_tally, tally_with}
-use Rattle.fb_run.specs.declared.tally.Tally.{Tally}
+use Rattle.fb_run.specs.{FilterLaws.PassesAgain, Job.Job, Line.line_of, Line.told_of, Lines.AreTold, Sums.no_tally, Sums.tally_with}
 use Rattle.fb_run.specs.Texts.{Texts, to_out}
-use Rattle.fb_run.specs.declared.options.Mode.TheVariants.{Filter}
+use Rattle.fb_run.specs.declared.{tally.Tally.Tally, options.Mode.TheVariants.Filter}
 use Rattle.fb_run.proofs.StreamLemmas.{empty_partial, splits_one, splits_rest, splits_then}
 
 -- what was told of messages that are numbered from k, as what is told of those that were passed on, numbered from j

@@ -6,8 +6,7 @@ use Rattle.fb_access.specs.Denotes.{Denotes, Shown, shown}
 use Rattle.fb_access.specs.declared.answer.Answer.{Answer}
 use Rattle.fb_schema.specs.Rows.{Rows}
 use Rattle.fb_verify.specs.declared.start.Start.{Start}
-use Rattle.fb_run.specs.Job.{AreAnswers}
-use Rattle.fb_run.specs.Wanted.{Wanted}
+use Rattle.fb_run.specs.{Job.AreAnswers, Wanted.Wanted}
 
 -- one more on both sides
 pub both_more : {A B : Type 0} (R : A → B → Type 0) (xs : List A) (ys : List B) (x : A) (y : B) → AllZip R xs ys → R x y → AllZip R (xs ++ x ∷ []) (ys ++ y ∷ [])

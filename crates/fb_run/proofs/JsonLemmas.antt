@@ -1,26 +1,17 @@
 -- The text of JSON by its parts.
 use Rattle.std.proofs.Common.{◌≡◌, ℕ, suc, ◌+◌, ◌<◌, ◌≤◌, ◌/◌, ◌%◌, ◌^◌, Bool, true, false, cond, List, [], ◌∷◌, ◌++◌, Option}
 use Rattle.std.proofs.Common.{Some, None, codes, decimal, length, fold, get_or, drop, Fits, w8, refl, sym, ap, ◌∙◌, arith, rules, append_assoc, append-nil, inl, inr, min}
-use Rattle.std.specs.Prelude.{nat_lt}
-use Rattle.std.specs.Str.{is_utf8, IsUtf8}
-use Rattle.std.proofs.lemmas.Bool.{cases_lt, false_from_ne_true}
-use Rattle.std.proofs.lemmas.Bool.Decides.{nat_tests}
-use Rattle.std.specs.List.{All}
-use Rattle.std.proofs.lemmas.List.{drop_more, drop_all}
-use Rattle.std.proofs.lemmas.List.Elements.{All-get_or}
-use Rattle.std.proofs.lemmas.Str.{IsUtf8-from_is_utf8, is_utf8-from_IsUtf8}
-use Rattle.std.proofs.lemmas.List.Sums.{fold-append}
-use Rattle.std.proofs.lemmas.Grind.{flat_map-append}
+use Rattle.std.specs.{Prelude.nat_lt, Str.is_utf8, Str.IsUtf8, List.All}
+use Rattle.std.proofs.lemmas.{Bool.cases_lt, Bool.false_from_ne_true, Bool.Decides.nat_tests, List.drop_more, List.drop_all, List.Elements.All-get_or}
+use Rattle.std.proofs.lemmas.{Str.IsUtf8-from_is_utf8, Str.is_utf8-from_IsUtf8, List.Sums.fold-append, Grind.flat_map-append}
 use Rattle.hex.specs.Hex.{encode_lower, encode_with, lower_digits}
 use Rattle.std.proofs.Math.Facts.{Fits-lt-pow}
-use Rattle.json.specs.Token.{Token}
+use Rattle.json.specs.{Token.Token, Tree.json_tokens, Tree.items_tokens, Tree.members_tokens}
 use Rattle.json.specs.Json.{Json, null, boolean, number, string, array, object, Items, no_items, item, Members, no_members, member}
 use Rattle.json.specs.Print.{print_from, ends, escape, escape_byte, quoted}
-use Rattle.json.specs.Tree.{json_tokens, items_tokens, members_tokens}
 use Rattle.json.proofs.Printed.Tokens.{print_from-append}
 use Rattle.fb_schema.specs.Rows.{Rows}
-use Rattle.fb_verify.specs.declared.fault.Fault.{Fault}
-use Rattle.fb_verify.specs.declared.fault.Report.{Report}
+use Rattle.fb_verify.specs.declared.{fault.Fault.Fault, fault.Report.Report}
 use Rattle.fb_access.specs.Denotes.{Shown, nothing, no_element, other_member, table}
 use Rattle.fb_run.specs.Json.{json_text, text_json, value_json, labelled, digits_json, line_json, values_member, yes_members, no_members_of}
 use Rattle.fb_run.specs.Json.{place_member, values_members, members_text, member_part, following, begin_part, counts_part, reason_part, names_part, end_part, json_yes, json_no}

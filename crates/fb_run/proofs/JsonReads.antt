@@ -4,8 +4,7 @@ use Rattle.std.specs.Prelude.{if◌then◌else◌}
 use Rattle.std.specs.Str.{is_utf8}
 use Rattle.json.specs.Json.{Json, string, Members}
 use Rattle.json.specs.Tree.{depth, members_depth, HasNumbers, MembersHaveNumbers}
-use Rattle.json.proofs.Printed.Decimals.{IsNumber-decimal}
-use Rattle.json.proofs.Printed.Trees.{document-print}
+use Rattle.json.proofs.{Printed.Decimals.IsNumber-decimal, Printed.Trees.document-print}
 use Rattle.fb_run.specs.Json.{digits_json, field_of, json_text, labelled, line_json, name_json, no_members_of, object_of, place_member, text_json, yes_members}
 use Rattle.fb_run.specs.JsonLaws.{NoReadsBack, ReadsBack, YesReadsBack}
 

@@ -5,8 +5,7 @@ use Rattle.std.specs.Fmt.{digits}
 use borrow.Author.Count.{below_more, below_none}
 use Rattle.json.specs.Json.{object, Members, no_members, member}
 use Rattle.json.specs.Print.{escape_byte, quoted}
-use Rattle.fb_run.specs.Json.{count_json, following, json_text}
-use Rattle.fb_run.specs.JsonSums.{reasons_members, summary_in}
+use Rattle.fb_run.specs.{Json.count_json, Json.following, Json.json_text, JsonSums.reasons_members, JsonSums.summary_in}
 use Rattle.fb_run.specs.Sums.{count_of, counts_part, in_form, reasons_from, summary_part, verdicts_part}
 use Rattle.fb_run.specs.declared.options.Form.{Form}
 use Rattle.fb_run.specs.declared.options.Form.TheVariants as form

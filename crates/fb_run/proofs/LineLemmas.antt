@@ -2,8 +2,7 @@
 use Rattle.std.proofs.Common.{suc, ◌∷◌, get_or, subst, ◌≡◌, ℕ, ◌+◌, ◌-◌, ◌<◌, ◌≤◌, ◌^◌, List, [], ◌++◌, length, drop, drop-cons, arith, ap, append_assoc, length-append}
 use Rattle.std.specs.Prelude.{decimal, slice_index_or, slice_set}
 use Rattle.std.proofs.Math.ListN.{drop_of_length-le}
-use Rattle.std.proofs.lemmas.List.{drop-set}
-use Rattle.std.proofs.lemmas.Fmt.{decimal_digit, length-decimal-le}
+use Rattle.std.proofs.lemmas.{List.drop-set, Fmt.decimal_digit, Fmt.length-decimal-le}
 
 -- nothing stands behind the end
 pub drop_whole : (room : List ℕ) (n : ℕ) → length room ≡ n → drop n room ≡ []

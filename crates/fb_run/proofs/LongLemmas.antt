@@ -3,14 +3,9 @@ use Rattle.std.proofs.Common.{◌≡◌, ℕ, List, [], ◌∷◌, ◌++◌, Res
 use Rattle.std.specs.List.{flat_map}
 use Rattle.hex.specs.Hex.{encode_lower, encode_with}
 use Rattle.fb_access.specs.declared.answer.Answer.{Answer}
-use Rattle.fb_run.specs.AnswerText.{spaced_answer, spelled}
-use Rattle.fb_run.specs.Job.{verdict_of}
+use Rattle.fb_run.specs.{AnswerText.spaced_answer, AnswerText.spelled, Job.verdict_of, Texts.to_out}
 use Rattle.fb_run.specs.Line.{asked_text, short_line, told_of, verdict_line}
-use Rattle.fb_run.specs.Texts.{to_out}
-use Rattle.fb_run.specs.declared.checker.Found.{Found}
-use Rattle.fb_run.specs.declared.checker.Wrong.{Wrong}
-use Rattle.fb_run.specs.declared.options.Mode.{Mode}
-use Rattle.fb_run.specs.declared.options.Mode.TheVariants.{Lines}
+use Rattle.fb_run.specs.declared.{checker.Found.Found, checker.Wrong.Wrong, options.Mode.Mode, options.Mode.TheVariants.Lines}
 use Rattle.fb_run.specs.declared.value_text.Spelling.TheVariants.{Digits}
 use Rattle.fb_run.proofs.AnswerLemmas.{answers_each}
 

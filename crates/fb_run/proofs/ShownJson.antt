@@ -1,15 +1,10 @@
 -- The examples of JSON, by computing.
 use Rattle.std.proofs.Common.{ℕ, refl}
-use Rattle.std.specs.Char.{encode_utf8}
-use Rattle.std.specs.Fmt.{digits}
-use Rattle.std.specs.Str.{chars, is_utf8}
+use Rattle.std.specs.{Char.encode_utf8, Fmt.digits, Str.chars, Str.is_utf8}
 use Rattle.hex.specs.Hex.{encode_with}
 use Rattle.json.specs.Print.{escape_byte, print_from}
-use Rattle.fb_schema.specs.Kinds.{base_types, kind_of, shape_of}
-use Rattle.fb_schema.specs.Live.{live_fields}
-use Rattle.fb_run.specs.Json.{json_text}
-use Rattle.fb_run.specs.JsonSums.{Summaries}
-use Rattle.fb_run.specs.JsonTests.{JsonLines, JsonTexts, JsonValues}
+use Rattle.fb_schema.specs.{Kinds.base_types, Kinds.kind_of, Kinds.shape_of, Live.live_fields}
+use Rattle.fb_run.specs.{Json.json_text, JsonSums.Summaries, JsonTests.JsonLines, JsonTests.JsonTexts, JsonTests.JsonValues}
 
 -- all that is computed
 computing : ℕ

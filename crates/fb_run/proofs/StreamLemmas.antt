@@ -2,26 +2,18 @@
 use Rattle.std.proofs.Common.{◌≡◌, ℕ, ◌+◌, ◌-◌, ◌⊎◌, Bool, List, [], ◌∷◌, ◌++◌, length, take, drop, refl, sym, ap, subst, ◌∙◌, arith, append-nil, append_assoc, length-append, take-append-drop}
 use mathlib.Core.Logic.{inl, inr}
 use Rattle.std.specs.List.{concat}
-use Rattle.std.proofs.lemmas.List.Elements.{All-nil, All-cons, All-append}
-use Rattle.std.proofs.lemmas.List.Folds.{concat-append}
+use Rattle.std.proofs.lemmas.{List.Elements.All-nil, List.Elements.All-cons, List.Elements.All-append, List.Folds.concat-append}
 use Rattle.std.proofs.Math.Seq.{take-append_seam}
 use Rattle.fb_bytes.specs.Messages.{declared, IsMessage, IsPartial, IsOversize, Splits}
 use Rattle.fb_bytes.specs.Framing.{Framing, Feeds, FeedFails}
 use Rattle.fb_bytes.specs.declared.stream_fault.StreamFault.{StreamFault}
 use Rattle.fb_bytes.specs.declared.stream_fault.StreamFault.TheVariants as stream
 use Rattle.fb_bytes.proofs.MessageLemmas.{readings_some}
-use Rattle.fb_run.specs.Job.{Job}
-use Rattle.fb_run.specs.Lines.{AreTold, AddsTold}
+use Rattle.fb_run.specs.{Job.Job, Lines.AreTold, Lines.AddsTold, Texts.Texts, Texts.followed, Texts.silent, Sums.no_tally, Faults.feed_fault}
 use Rattle.fb_run.specs.Stream.{Gathers, Halts, IsFeedFault, Onward, Rests, Standing, Tells, TellsSome}
-use Rattle.fb_run.specs.Texts.{Texts, followed, silent}
-use Rattle.fb_run.specs.Sums.{no_tally}
-use Rattle.fb_run.specs.declared.tally.Tally.{Tally}
-use Rattle.fb_run.specs.Faults.{feed_fault}
-use Rattle.fb_run.specs.declared.fault.RunFault.{RunFault}
+use Rattle.fb_run.specs.declared.{tally.Tally.Tally, fault.RunFault.RunFault}
 use Rattle.fb_run.specs.declared.fault.RunFault.TheVariants as run
-use Rattle.fb_run.proofs.LinesLemmas.{lines_more}
-use Rattle.fb_run.proofs.Pieces.{front-more}
-use Rattle.fb_run.proofs.TextsLemmas.{followed_assoc, same_texts}
+use Rattle.fb_run.proofs.{LinesLemmas.lines_more, Pieces.front-more, TextsLemmas.followed_assoc, TextsLemmas.same_texts}
 
 -- the rest with more bytes is split further
 pub splits_then : (limit : ℕ) (bytes more held rest : List ℕ) (xs ys : List (List ℕ))

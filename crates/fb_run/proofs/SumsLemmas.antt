@@ -1,14 +1,10 @@
 -- Sums over messages, in any order.
 use Rattle.std.proofs.Common.{All, rules, zero, suc, ◌≡◌, ℕ, ◌+◌, ◌<◌, ◌≤◌, List, [], ◌∷◌, ◌++◌, Ok, Err, length, drop, get_or, refl, sym, ap, subst, ◌∙◌, arith, inl, inr, append_assoc, drop-cons, length-append}
 use Rattle.std.specs.Prelude.{decimal, slice_index}
-use Rattle.std.proofs.lemmas.Fmt.{length-decimal-le}
-use Rattle.std.proofs.lemmas.Bool.{cases_lt}
-use Rattle.std.proofs.lemmas.List.{get_or_past}
-use Rattle.std.proofs.lemmas.List.Elements.{All-set, All-weaker}
+use Rattle.std.proofs.lemmas.{Fmt.length-decimal-le, Bool.cases_lt, List.get_or_past, List.Elements.All-set, List.Elements.All-weaker}
 use Rattle.fb_run.specs.Job.{Verdict}
-use Rattle.fb_run.specs.declared.options.Form.{Form}
+use Rattle.fb_run.specs.declared.{options.Form.Form, tally.Tally.Tally}
 use Rattle.fb_run.specs.Sums.{IsBounded, no_tally, one_more, reason_part, reasons_from, sum_of_reads, tally_with}
-use Rattle.fb_run.specs.declared.tally.Tally.{Tally}
 
 abbrev numbers : ℕ → ℕ → List ℕ → ℕ → ℕ → ℕ → Tally
 numbers y n reasons bytes tables reads = record { yes = y; no = n; reasons = reasons; bytes = bytes; tables = tables; reads = reads }

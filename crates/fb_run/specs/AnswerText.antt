@@ -1,10 +1,8 @@
 -- How the values at the ends of paths are written, and the name of an input.
 use Rattle.std.specs.Prelude.{ℕ, List, [], ◌∷◌, ◌++◌, Option, Some, None, ◌==◌, ◌||◌, nat_lt, true, false, if◌then◌else◌, codes, decimal}
-use Rattle.std.specs.Fmt.{signed_decimal}
-use Rattle.std.specs.List.{flat_map}
+use Rattle.std.specs.{Fmt.signed_decimal, List.flat_map}
 use Rattle.hex.specs.Hex.{encode_lower}
-use Rattle.fb_run.specs.declared.value_text.Spelling.{Spelling}
-use Rattle.fb_run.specs.declared.value_text.Spelling.TheVariants.{Quoted, Digits}
+use Rattle.fb_run.specs.declared.{value_text.Spelling.Spelling, value_text.Spelling.TheVariants.Quoted, value_text.Spelling.TheVariants.Digits}
 use Rattle.fb_access.specs.declared.answer.Answer.{Answer}
 use Rattle.fb_access.specs.declared.answer.Answer.TheVariants.{Text, Struct, Float}
 use Rattle.fb_access.specs.Denotes.{Shown, shown, nothing, no_element, other_member, truth, signed, unsigned, float, text, structure, vector, table, union}

@@ -2,13 +2,8 @@
 use Rattle.std.specs.Prelude.{◌≡◌, ℕ, ◌<◌, ◌≤◌, List, length}
 use Rattle.std.specs.Io.KnownBytes.{Consumes}
 use Rattle.fb_run.specs.Ends.{Ends, Outs, Takes, Unwritten}
-use Rattle.fb_run.specs.Job.{Job, Verdict}
-use Rattle.fb_run.specs.Texts.{Texts, no_bytes}
-use Rattle.fb_run.specs.Line.{IsTold}
-use Rattle.fb_run.specs.Sums.{no_tally, tally_with}
-use Rattle.fb_run.specs.declared.tally.Tally.{Tally}
-use Rattle.fb_run.specs.Lines.{WritesFronts}
-use Rattle.fb_run.specs.declared.fault.RunFault.{RunFault}
+use Rattle.fb_run.specs.{Job.Job, Job.Verdict, Texts.Texts, Texts.no_bytes, Line.IsTold, Sums.no_tally, Sums.tally_with, Lines.WritesFronts}
+use Rattle.fb_run.specs.declared.{tally.Tally.Tally, fault.RunFault.RunFault}
 use Rattle.fb_run.specs.declared.fault.RunFault.TheVariants.{WriteFault, NoteFault, Stream, BareTooLong}
 
 -- the whole input was read, is within the limit, and what is told of it was written

@@ -1,11 +1,8 @@
 -- The law of a filter.
 use Rattle.std.specs.Prelude.{◌≡◌, ℕ, List, []}
 use Rattle.fb_bytes.specs.Messages.{Splits}
-use Rattle.fb_run.specs.Job.{Job}
-use Rattle.fb_run.specs.Lines.{AreTold}
-use Rattle.fb_run.specs.Texts.{Texts, to_out}
-use Rattle.fb_run.specs.declared.tally.Tally.{Tally}
-use Rattle.fb_run.specs.declared.options.Mode.TheVariants.{Filter}
+use Rattle.fb_run.specs.{Job.Job, Lines.AreTold, Texts.Texts, Texts.to_out}
+use Rattle.fb_run.specs.declared.{tally.Tally.Tally, options.Mode.TheVariants.Filter}
 
 -- what a filter passes on of a stream is itself a stream of whole messages, of which it passes all on and notes nothing
 abbrev pub PassesAgain : Type 0

@@ -1,37 +1,18 @@
 -- What the buffers of a run are checked by, and what a verdict on one of them says.
 use Rattle.std.specs.Prelude.{◌≡◌, ℕ, ◌<◌, ◌≤◌, ◌^◌, All, IsTrue, Bool, true, false, List, [], drop, length, map, Option, Some, None, Result, Ok, Err, option_map}
-use Rattle.std.specs.Borrow.{Bor}
-use Rattle.std.specs.List.{AllZip}
+use Rattle.std.specs.{Borrow.Bor, List.AllZip}
 use Rattle.fb_schema.specs.Rows.{Rows, is_table}
-use Rattle.fb_verify.specs.Bounds.{Bounds, limits_of_length}
-use Rattle.fb_verify.specs.Question.{Question, question}
-use Rattle.fb_verify.specs.Stops.{Stops}
-use Rattle.fb_verify.specs.Links.{StopsAlong}
-use Rattle.fb_verify.specs.declared.links.Link.{Link}
-use Rattle.fb_verify.specs.Verdict.{Reports}
-use Rattle.fb_verify.specs.Sealed.{Sealed}
-use Rattle.fb_verify.specs.declared.checks.Checks.{Checks}
-use Rattle.fb_verify.specs.declared.fault.Fault.{Fault}
-use Rattle.fb_verify.specs.declared.fault.Report.{Report}
-use Rattle.fb_verify.specs.declared.start.Ident.{Ident}
-use Rattle.fb_verify.specs.declared.start.Start.{Start}
-use Rattle.fb_verify.specs.declared.start.Start.TheVariants.{Bare, Prefixed}
+use Rattle.fb_verify.specs.{Bounds.Bounds, Bounds.limits_of_length, Question.Question, Question.question, Stops.Stops, Links.StopsAlong}
+use Rattle.fb_verify.specs.{Verdict.Reports, Sealed.Sealed}
+use Rattle.fb_verify.specs.declared.{links.Link.Link, checks.Checks.Checks, fault.Fault.Fault, fault.Report.Report, start.Ident.Ident}
+use Rattle.fb_verify.specs.declared.{start.Start.Start, start.Start.TheVariants.Bare, start.Start.TheVariants.Prefixed}
 use Rattle.fb_schema.specs.declared.kinds.Kind.TheVariants.{Table}
-use Rattle.fb_access.specs.Denotes.{Denotes, Shown, shown}
-use Rattle.fb_access.specs.Fitting.{StepsFit}
-use Rattle.fb_access.specs.Location.{location_text, place_text}
-use Rattle.fb_run.specs.AnswerText.{label_text}
-use Rattle.fb_run.specs.Wanted.{Wanted}
-use Rattle.fb_run.specs.declared.checker.Found.{Found}
-use Rattle.fb_run.specs.declared.checker.Wrong.{Wrong}
-use Rattle.fb_run.specs.declared.options.Form.{Form}
-use Rattle.fb_run.specs.declared.options.Form.TheVariants.{Plain, Json}
-use Rattle.fb_run.specs.declared.options.Mode.{Mode}
-use Rattle.fb_run.specs.declared.options.Places.{Places}
-use Rattle.fb_run.specs.declared.options.Places.TheVariants.{Numbers, Words}
-use Rattle.fb_run.specs.declared.options.Prefix.{Prefix}
-use Rattle.fb_run.specs.declared.options.Prefix.TheVariants.{Part, Apart}
-use Rattle.fb_run.specs.declared.options.Options.{Options}
+use Rattle.fb_access.specs.{Denotes.Denotes, Denotes.Shown, Denotes.shown, Fitting.StepsFit, Location.location_text, Location.place_text}
+use Rattle.fb_run.specs.{AnswerText.label_text, Wanted.Wanted}
+use Rattle.fb_run.specs.declared.{checker.Found.Found, checker.Wrong.Wrong, options.Form.Form}
+use Rattle.fb_run.specs.declared.{options.Form.TheVariants.Plain, options.Form.TheVariants.Json, options.Mode.Mode, options.Places.Places}
+use Rattle.fb_run.specs.declared.{options.Places.TheVariants.Numbers, options.Places.TheVariants.Words, options.Prefix.Prefix}
+use Rattle.fb_run.specs.declared.{options.Prefix.TheVariants.Part, options.Prefix.TheVariants.Apart, options.Options.Options}
 
 -- a schema with its root, whether the input is one bare buffer, how many bytes of a message stand before the buffer, how
 -- the buffer starts, the identifier, the limits, the reads that each byte of a buffer allows, the checks, the values

@@ -3,8 +3,7 @@ use Rattle.std.specs.Prelude.{◌≡◌, List, ℕ, false, [], ◌∷◌}
 use Rattle.fb_schema.specs.Rows.{Rows}
 use Rattle.fb_verify.specs.declared.start.Start.TheVariants.{Bare, Prefixed}
 use Rattle.fb_run.specs.Job.{buffer_in, job_of}
-use Rattle.fb_run.specs.declared.options.Options.{Options}
-use Rattle.fb_run.specs.declared.options.Prefix.TheVariants.{Part, Apart}
+use Rattle.fb_run.specs.declared.{options.Options.Options, options.Prefix.TheVariants.Part, options.Prefix.TheVariants.Apart}
 
 -- a length of eight, and eight bytes
 abbrev pub eight : List ℕ

@@ -1,16 +1,12 @@
 -- Lines of JSON (RFC 8259): each is one value, as the kit's definition of such reads it, and a newline.
 use Rattle.std.specs.Prelude.{ℕ, ◌+◌, nat_lt, Bool, true, false, if◌then◌else◌, List, [], ◌∷◌, ◌++◌, Option, Some, None, codes, decimal, drop, take, option_map, option_and_then, slice_get}
-use Rattle.std.specs.Fmt.{signed_decimal}
-use Rattle.std.specs.Str.{is_utf8}
+use Rattle.std.specs.{Fmt.signed_decimal, Str.is_utf8}
 use Rattle.hex.specs.Hex.{encode_lower}
 use Rattle.json.specs.Json.{Json, null, boolean, number, string, object, Members, no_members, member}
-use Rattle.json.specs.Print.{print, print_from}
-use Rattle.json.specs.Tree.{json_tokens, members_tokens}
+use Rattle.json.specs.{Print.print, Print.print_from, Tree.json_tokens, Tree.members_tokens}
 use Rattle.fb_schema.specs.Rows.{Rows}
 use Rattle.fb_verify.specs.Reasons.{reason_number, reason_text}
-use Rattle.fb_verify.specs.declared.fault.Fault.{Fault}
-use Rattle.fb_verify.specs.declared.fault.Reason.{Reason}
-use Rattle.fb_verify.specs.declared.fault.Report.{Report}
+use Rattle.fb_verify.specs.declared.{fault.Fault.Fault, fault.Reason.Reason, fault.Report.Report}
 use Rattle.fb_access.specs.Denotes.{Shown, nothing, no_element, other_member, truth, signed, unsigned, float, text, structure, vector, table, union}
 use Rattle.fb_access.specs.Location.{field_name}
 

@@ -1,8 +1,7 @@
 -- The line of JSON that tells what messages come to: an object with the names of the plain line.
 use Rattle.std.specs.Prelude.{◌≡◌, ℕ, ◌+◌, ◌==◌, if◌then◌else◌, List, [], ◌∷◌, ◌++◌, codes, decimal}
 use Rattle.json.specs.Json.{Json, object, Members, no_members, member}
-use Rattle.fb_run.specs.Json.{count_json, json_text}
-use Rattle.fb_run.specs.Sums.{count_of, no_tally, summary_line}
+use Rattle.fb_run.specs.{Json.count_json, Json.json_text, Sums.count_of, Sums.no_tally, Sums.summary_line}
 use Rattle.fb_run.specs.declared.options.Form.{Form}
 use Rattle.fb_run.specs.declared.options.Form.TheVariants as form
 use Rattle.fb_run.specs.declared.tally.Tally.{Tally}

@@ -2,8 +2,7 @@
 use Rattle.std.specs.Prelude.{◌≡◌, ℕ, List, [], ◌∷◌, map, pos, codes, Some, None}
 use Rattle.fb_schema.specs.Rows.{Rows}
 use Rattle.fb_verify.specs.Samples.{short, field, table as table_row}
-use Rattle.fb_verify.specs.declared.fault.Fault.{Fault}
-use Rattle.fb_verify.specs.declared.fault.Reason.TheVariants.{Misaligned, NoTerminator}
+use Rattle.fb_verify.specs.declared.{fault.Fault.Fault, fault.Reason.TheVariants.Misaligned, fault.Reason.TheVariants.NoTerminator}
 use Rattle.fb_verify.specs.declared.fault.Report.{Report}
 use Rattle.fb_access.specs.Denotes.{signed, text}
 use Rattle.fb_run.specs.Json.{json_no, json_text, json_yes, text_json, value_json}

@@ -1,17 +1,12 @@
 -- The lines that tell verdicts.
 use Rattle.std.specs.Prelude.{◌≡◌, ℕ, List, [], ◌++◌, map, Option, Some, None, Ok, Err, codes, decimal}
-use Rattle.fb_run.specs.AnswerText.{answers_text, label_text}
+use Rattle.fb_run.specs.{AnswerText.answers_text, AnswerText.label_text, Json.json_no, Json.json_yes, Wanted.Wanted}
 use Rattle.fb_run.specs.Job.{Job, Verdict, IsVerdict, buffer_in}
-use Rattle.fb_run.specs.Json.{json_no, json_yes}
-use Rattle.fb_run.specs.Wanted.{Wanted}
-use Rattle.fb_run.specs.declared.options.Form.{Form}
-use Rattle.fb_run.specs.declared.options.Form.TheVariants.{Plain, Json}
-use Rattle.fb_run.specs.Texts.{Texts, silent, to_notes, to_out}
-use Rattle.fb_run.specs.declared.options.Mode.{Mode}
+use Rattle.fb_run.specs.declared.{options.Form.Form, options.Form.TheVariants.Plain, options.Form.TheVariants.Json, options.Mode.Mode}
 use Rattle.fb_run.specs.declared.options.Mode.TheVariants.{Lines, BadLines, Filter}
-use Rattle.fb_verify.specs.declared.fault.Fault.{Fault}
+use Rattle.fb_run.specs.Texts.{Texts, silent, to_notes, to_out}
+use Rattle.fb_verify.specs.declared.{fault.Fault.Fault, fault.Report.Report}
 use Rattle.fb_verify.specs.Reasons.{reason_text}
-use Rattle.fb_verify.specs.declared.fault.Report.{Report}
 
 -- a field's number, where there is one
 abbrev pub field_text : Option ℕ → List ℕ

@@ -1,14 +1,9 @@
 -- What is told of many messages, and what gathers and writes it.
 use Rattle.std.specs.Prelude.{◌≡◌, ℕ, ◌+◌, ◌≤◌, List, [], ◌∷◌, ◌++◌, Option, length, take}
 use Rattle.std.specs.Io.KnownBytes.{Appends, Keeps}
-use Rattle.fb_run.specs.Job.{Job, Verdict}
-use Rattle.fb_run.specs.Ends.{Outs}
+use Rattle.fb_run.specs.{Job.Job, Job.Verdict, Ends.Outs, Line.IsTold, Line.told_of, Sums.no_tally, Sums.tally_with}
 use Rattle.fb_run.specs.Texts.{Sizes, Texts, followed, silent, to_out}
-use Rattle.fb_run.specs.Line.{IsTold, told_of}
-use Rattle.fb_run.specs.Sums.{no_tally, tally_with}
-use Rattle.fb_run.specs.declared.options.Mode.{Mode}
-use Rattle.fb_run.specs.declared.tally.Tally.{Tally}
-use Rattle.fb_run.specs.declared.fault.RunFault.{RunFault}
+use Rattle.fb_run.specs.declared.{options.Mode.Mode, tally.Tally.Tally, fault.RunFault.RunFault}
 use Rattle.fb_run.specs.declared.fault.RunFault.TheVariants.{OutOfMemory, WriteFault, NoteFault}
 
 -- the text is what is told of each message, numbered from k, and the messages come to this by their verdicts

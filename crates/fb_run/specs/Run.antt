@@ -1,12 +1,7 @@
 -- A run, over a stream or over one bare input.
 use Rattle.std.specs.Prelude.{◌≡◌, Bool, true, false, Result, Ok, Err}
-use Rattle.fb_run.specs.Ends.{Ends}
-use Rattle.fb_run.specs.Job.{Job}
-use Rattle.fb_run.specs.Bare.{PassesBare, FailsBare}
-use Rattle.fb_run.specs.Stream.{PassesStream, FailsStream}
-use Rattle.fb_run.specs.declared.fault.RunFault.{RunFault}
-use Rattle.fb_run.specs.Faults.{End}
-use Rattle.fb_run.specs.declared.tally.Tally.{Tally}
+use Rattle.fb_run.specs.{Ends.Ends, Job.Job, Bare.PassesBare, Bare.FailsBare, Stream.PassesStream, Stream.FailsStream, Faults.End}
+use Rattle.fb_run.specs.declared.{fault.RunFault.RunFault, tally.Tally.Tally}
 
 -- what was read and written by a run over one bare input that ended so, and came to these numbers by then
 abbrev pub IsBareRun : Job → Ends → Ends → Tally → End → Type 0

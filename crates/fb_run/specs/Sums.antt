@@ -3,9 +3,7 @@ use Rattle.std.specs.Prelude.{◌≡◌, ℕ, ◌+◌, ◌-◌, ◌*◌, ◌≤�
 use Rattle.fb_verify.specs.Reasons.{reason_number}
 use Rattle.fb_verify.specs.declared.fault.Reason.{Reason}
 use Rattle.fb_run.specs.Job.{Verdict}
-use Rattle.fb_run.specs.declared.options.Form.{Form}
-use Rattle.fb_run.specs.declared.options.Form.TheVariants.{Plain, Json}
-use Rattle.fb_run.specs.declared.tally.Tally.{Tally}
+use Rattle.fb_run.specs.declared.{options.Form.Form, options.Form.TheVariants.Plain, options.Form.TheVariants.Json, tally.Tally.Tally}
 
 -- the place of a reason among the counts of all reasons, that of V1 first
 abbrev pub count_place : Reason → ℕ

@@ -2,11 +2,7 @@
 
 ghost use Rattle.std.specs.Prelude.{◌≡◌, ◌+◌, ◌<◌, ◌≤◌, ◌^◌, length, true, ℕ};
 ghost use Rattle.std.specs.Io.KnownBytes.{Consumes};
-ghost use Rattle.fb_run.specs.Ends.{Reader, beside, outs_of};
-ghost use Rattle.fb_run.specs.Faults.{EndsWith, failed};
-ghost use Rattle.fb_run.specs.Job.{HasRoom};
-ghost use Rattle.fb_run.specs.Run.{IsBareRun};
-ghost use Rattle.fb_run.specs.Sums.{no_tally};
+ghost use Rattle.fb_run.specs.{Ends.Reader, Ends.beside, Ends.outs_of, Faults.EndsWith, Faults.failed, Job.HasRoom, Run.IsBareRun, Sums.no_tally};
 ghost use Rattle.fb_run.specs.Texts.{no_bytes, silent, waiting, written_by};
 
 use crate::checker::Checker;

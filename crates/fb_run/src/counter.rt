@@ -1,8 +1,7 @@
 //! Counts verdicts.
 
 ghost use Rattle.std.specs.Prelude.{Ok, ◌≡◌, ◌+◌, ◌<◌, ◌^◌, length};
-ghost use Rattle.fb_run.specs.Job.{brief_verdict, verdict_of};
-ghost use Rattle.fb_run.specs.Sums.{no_tally, tally_with};
+ghost use Rattle.fb_run.specs.{Job.brief_verdict, Job.verdict_of, Sums.no_tally, Sums.tally_with};
 
 use crate::checker::{Found, Wrong};
 use crate::tally::{Tally, count_place};

@@ -1,8 +1,7 @@
 //! Why a run comes to rest before its end, and the program's exit status.
 
 ghost use Rattle.std.specs.Prelude.{◌≡◌, ◌≤◌, ◌++◌, codes, decimal, length};
-ghost use Rattle.fb_run.specs.Faults.{feed_fault, status_of};
-ghost use Rattle.fb_run.specs.FaultText.{fault_text, stream_text};
+ghost use Rattle.fb_run.specs.{Faults.feed_fault, Faults.status_of, FaultText.fault_text, FaultText.stream_text};
 ghost use Rattle.fb_run.specs.declared.fault.RunFault.TheVariants.{OutOfMemory};
 
 use crate::line::Line;

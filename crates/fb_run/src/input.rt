@@ -1,8 +1,7 @@
 //! The input of a run, which is asked for more beside the run's outputs.
 
 ghost use Rattle.std.specs.Prelude.{◌≡◌, ◌+◌, ◌<◌, ◌^◌, ℕ, Bool, List, Option, ⊤};
-ghost use Rattle.std.specs.Io.{ReadsAtMost};
-ghost use Rattle.std.specs.Io.KnownBytes.{ReadConsumes};
+ghost use Rattle.std.specs.{Io.ReadsAtMost, Io.KnownBytes.ReadConsumes};
 ghost use Rattle.fb_bytes.specs.Ends.{failed, told_end};
 
 use fb_bytes::{Sink, Source};

@@ -2,8 +2,7 @@
 
 ghost use Rattle.std.specs.Prelude.{OnOk, Some, false, if◌then◌else◌, codes, [], ◌≡◌, ◌<◌, ◌≤◌, ◌++◌, length, map, option_map, take};
 ghost use Rattle.std.specs.Char.{digit_char};
-ghost use Rattle.json.specs.Json.{number, string};
-ghost use Rattle.json.specs.Print.{escape, escape_byte, escape_letter};
+ghost use Rattle.json.specs.{Json.number, Json.string, Print.escape, Print.escape_byte, Print.escape_letter};
 ghost use Rattle.fb_access.specs.Denotes.{shown};
 ghost use Rattle.fb_run.specs.Json.{begin_part, code_of, counts_part, digits_json, end_part, following, json_no, json_text, json_yes, labelled};
 ghost use Rattle.fb_run.specs.Json.{member_part, members_text, name_json, name_of, names_part, place_member, reason_part, text_json, value_json, values_member, values_members};

@@ -2,10 +2,7 @@
 //! theorems.
 
 ghost use Rattle.fb_schema.specs.Rows.{Rows};
-ghost use Rattle.fb_run.specs.FilterLaws.{PassesAgain};
-ghost use Rattle.fb_run.specs.JobTests.{Buffers};
-ghost use Rattle.fb_run.specs.JsonLaws.{NoReadsBack, YesReadsBack};
-ghost use Rattle.fb_run.specs.JsonSums.{Summaries};
+ghost use Rattle.fb_run.specs.{FilterLaws.PassesAgain, JobTests.Buffers, JsonLaws.NoReadsBack, JsonLaws.YesReadsBack, JsonSums.Summaries};
 ghost use Rattle.fb_run.specs.JsonTests.{JsonLines, JsonTexts, JsonValues};
 ghost use Rattle.fb_run.specs.LineTests.{Lines, Names, Values, Texts};
 ghost use Rattle.fb_run.specs.declared.options.Options.{Options};

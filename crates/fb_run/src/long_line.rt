@@ -4,10 +4,7 @@ ghost use Rattle.std.specs.Prelude.{All, IfErr, IfSome, OnOk, OnErr, true, â—Œâ‰
 ghost use Rattle.std.specs.List.{flat_map};
 ghost use Rattle.hex.specs.Hex.{encode_lower};
 ghost use Rattle.fb_run.specs.AnswerText.{lent, quoted, spaced_answer, spelled};
-ghost use Rattle.fb_run.specs.Job.{verdict_of};
-ghost use Rattle.fb_run.specs.Line.{short_line, told_of, verdict_line};
-ghost use Rattle.fb_run.specs.Lines.{ComesBehind, WritesFront};
-ghost use Rattle.fb_run.specs.Texts.{to_out};
+ghost use Rattle.fb_run.specs.{Job.verdict_of, Line.short_line, Line.told_of, Line.verdict_line, Lines.ComesBehind, Lines.WritesFront, Texts.to_out};
 
 use crate::checker::{Found, Wrong};
 use crate::options::Mode;

@@ -2,12 +2,10 @@
 
 ghost use Rattle.std.specs.Prelude.{Err, IfErr, IsTrue, Ok, OnOk, OnErr, ◌≡◌, ◌⊎◌, ◌+◌, ◌<◌, ◌≤◌, ◌^◌, ◌++◌, length, true, false};
 ghost use Rattle.fb_run.specs.Ends.{GrowsBy, IsBelow, Takes, load_of, outs_of, writer_of};
-ghost use Rattle.fb_run.specs.Faults.{IsCausedOut, IsCausedWriting, IsUnfailedOut};
+ghost use Rattle.fb_run.specs.{Faults.IsCausedOut, Faults.IsCausedWriting, Faults.IsUnfailedOut, AnswerText.label_text};
+ghost use Rattle.fb_run.specs.{Line.line_of, Line.told_of, Line.verdict_line, Sums.count_of, Sums.no_tally};
 ghost use Rattle.fb_run.specs.Job.{HasRoom, brief_verdict, is_brief, verdict_of};
-ghost use Rattle.fb_run.specs.AnswerText.{label_text};
-ghost use Rattle.fb_run.specs.Line.{line_of, told_of, verdict_line};
 ghost use Rattle.fb_run.specs.Lines.{Adds, AddsThrough, AddsTold, ComesBehind, StopsBehind, StopsIn, WritesFronts};
-ghost use Rattle.fb_run.specs.Sums.{count_of, no_tally};
 ghost use Rattle.fb_run.specs.Texts.{silent, size, waiting, written_by};
 
 use crate::checker::{Checker, Found, Wrong};

@@ -3,11 +3,7 @@
 ghost use Rattle.std.specs.Prelude.{Err, IfOk, IfErr, OnOk, OnErr, ◌≡◌, ◌+◌, ◌<◌, ◌≤◌, ◌^◌, length, take, true, false};
 ghost use Rattle.std.specs.Io.KnownBytes.{Consumes, Keeps};
 ghost use Rattle.fb_bytes.specs.Ends.{failed};
-ghost use Rattle.fb_run.specs.Bare.{FailsBare};
-ghost use Rattle.fb_run.specs.Faults.{EndsBeside};
-ghost use Rattle.fb_run.specs.Job.{Job};
-ghost use Rattle.fb_run.specs.Prompt.{IsBarePrompt};
-ghost use Rattle.fb_run.specs.Ends.{HasLeave, MayAsk, ends_of};
+ghost use Rattle.fb_run.specs.{Bare.FailsBare, Faults.EndsBeside, Job.Job, Prompt.IsBarePrompt, Ends.HasLeave, Ends.MayAsk, Ends.ends_of};
 ghost use Rattle.fb_run.specs.Sums.{no_tally};
 
 use crate::fault::RunFault;

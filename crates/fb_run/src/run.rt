@@ -1,12 +1,9 @@
 //! A run over an input, by a schema.
 
 ghost use Rattle.std.specs.Prelude.{◌≡◌, length, ◌+◌, ◌<◌, ◌≤◌, ◌^◌};
-ghost use Rattle.fb_run.specs.Faults.{EndsBeside, end_of};
-ghost use Rattle.fb_run.specs.Job.{Serves, job_of};
-ghost use Rattle.fb_run.specs.Prompt.{IsPrompt};
-ghost use Rattle.fb_run.specs.Run.{IsRun, IsRunBeside, answer_by};
-ghost use Rattle.fb_run.specs.Ends.{HasCallsLeft, HasLeave, ends_of, noteless};
+ghost use Rattle.fb_run.specs.{Faults.EndsBeside, Faults.end_of, Job.Serves, Job.job_of, Prompt.IsPrompt, Run.IsRun, Run.IsRunBeside, Run.answer_by};
 ghost use Rattle.fb_run.specs.Sums.{no_tally};
+ghost use Rattle.fb_run.specs.Ends.{HasCallsLeft, HasLeave, ends_of, noteless};
 
 use crate::checker::Checker;
 use crate::fault::RunFault;

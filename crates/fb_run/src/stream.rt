@@ -2,12 +2,9 @@
 
 ghost use Rattle.std.specs.Prelude.{IfOk, IfErr, OnOk, ◌≡◌, ◌+◌, ◌*◌, ◌<◌, ◌≤◌, ◌^◌, length, take};
 ghost use Rattle.fb_run.specs.Faults.{EndsBeside, IsCausedOut, IsCausedWriting, IsUnfailedOut};
-ghost use Rattle.fb_run.specs.Prompt.{IsPrompt};
-ghost use Rattle.fb_run.specs.Run.{IsRunBeside};
+ghost use Rattle.fb_run.specs.{Prompt.IsPrompt, Run.IsRunBeside, Sums.count_of, Texts.silent, Texts.waiting};
 ghost use Rattle.fb_run.specs.Ends.{GrowsBy, HasCallsLeft, HasLeave, IsBelow, ends_of, load_of, outs_of, writer_of};
 ghost use Rattle.fb_run.specs.Stream.{Gathers, Halts, HaltsThrough, IsFeedFault, IsReady, Onward, OnwardThrough, PassesPiece, StopsAmid, at_first, standing};
-ghost use Rattle.fb_run.specs.Sums.{count_of};
-ghost use Rattle.fb_run.specs.Texts.{silent, waiting};
 
 use crate::bare::tell_whole;
 use crate::checker::Checker;

@@ -1,12 +1,10 @@
 //! The text of a value at the end of a path, and of an input's name.
 
 ghost use Rattle.std.specs.Prelude.{OnOk, ◌≡◌, ◌≤◌, ◌++◌, ◌∷◌, [], ℕ, List, length, option_map, take};
-ghost use Rattle.std.specs.List.{flat_map};
+ghost use Rattle.std.specs.{List.flat_map, Borrow.Bor};
 ghost use Rattle.hex.specs.Hex.{encode_lower};
-ghost use Rattle.std.specs.Borrow.{Bor};
 ghost use Rattle.fb_access.specs.Denotes.{shown};
-ghost use Rattle.fb_run.specs.Job.{verdict_of};
-ghost use Rattle.fb_run.specs.Line.{asked_text, words_text};
+ghost use Rattle.fb_run.specs.{Job.verdict_of, Line.asked_text, Line.words_text};
 ghost use Rattle.fb_run.specs.AnswerText.{answer_text, byte_text, label_text, quoted, spaced_answer, spelled};
 
 use crate::checker::{Found, Wrong};

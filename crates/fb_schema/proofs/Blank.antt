@@ -1,12 +1,7 @@
 -- What goals name in place of an item that isn't there.
 use Rattle.std.proofs.Common.{[], false, pos, None}
-use Rattle.fb_schema.specs.declared.kinds.Kind.TheVariants.{Scalar}
-use Rattle.fb_schema.specs.declared.kinds.Scalar.TheVariants.{UType}
-use Rattle.fb_schema.specs.declared.flat.ObjectPart.{ObjectPart}
-use Rattle.fb_schema.specs.declared.flat.EnumPart.{EnumPart}
-use Rattle.fb_schema.specs.declared.views.FieldView.{FieldView}
-use Rattle.fb_schema.specs.declared.rows.TypeRow.{TypeRow}
-use Rattle.fb_schema.specs.declared.rows.FieldRow.{FieldRow}
+use Rattle.fb_schema.specs.declared.{kinds.Kind.TheVariants.Scalar, kinds.Scalar.TheVariants.UType, flat.ObjectPart.ObjectPart}
+use Rattle.fb_schema.specs.declared.{flat.EnumPart.EnumPart, views.FieldView.FieldView, rows.TypeRow.TypeRow, rows.FieldRow.FieldRow}
 use Rattle.fb_schema.specs.declared.rows.MemberRow.{MemberRow}
 
 abbrev pub blank_type : TypeRow

@@ -2,8 +2,7 @@
 -- broken.
 use Rattle.std.proofs.Common.{◌≡◌, ℕ, zero, suc, ◌<◌, ◌⊎◌, inl, inr, Option, Some, None, refl, sym, subst, arith, option_map}
 use Rattle.std.proofs.lemmas.Option.{same_Some}
-use Rattle.fb_schema.specs.declared.fault.Code.{Code}
-use Rattle.fb_schema.specs.declared.fault.SchemaFault.{SchemaFault}
+use Rattle.fb_schema.specs.declared.{fault.Code.Code, fault.SchemaFault.SchemaFault}
 use Rattle.fb_schema.specs.Rows.{Rows}
 use Rattle.fb_schema.specs.Demands.{IsLegal, IsFirstIllegal, demands_at, first_code, part_of}
 use Rattle.fb_schema.proofs.Numbers.{lt_or_eq, le_or_lt}

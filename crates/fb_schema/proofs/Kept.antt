@@ -1,8 +1,6 @@
 -- Lists of which a function that may answer nothing makes others.
 use Rattle.std.proofs.Common.{◌≡◌, ℕ, zero, suc, ◌+◌, ◌≤◌, List, [], ◌∷◌, ◌++◌, length, slice_get, get_or, take, map, filter_map, option_and_then, Option, Some, None, ◌<◌, refl, sym, ◌∙◌, ap, arith}
-use Rattle.std.proofs.lemmas.List.{map-append}
-use Rattle.std.proofs.lemmas.List.Elements.{filter_map-append}
-use Rattle.std.proofs.lemmas.Grind.{take_at_read}
+use Rattle.std.proofs.lemmas.{List.map-append, List.Elements.filter_map-append, Grind.take_at_read}
 use Rattle.std.specs.List.{cons_option}
 
 -- the list made is no longer

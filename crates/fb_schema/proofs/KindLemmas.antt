@@ -1,19 +1,14 @@
 -- What the kinds of legal rows name.
 use Rattle.std.proofs.Common.{◌≡◌, ℕ, ◌^◌, ◌<◌, ◌==◌, ℤ, pos, negsuc, Bool, true, false, not, ◌&&◌, ◌||◌, int_lt, List, [], ◌∷◌, map, length, slice_get, Option, Some, None, IsTrue, refl, sym, ◌∙◌, ap, subst, find, unsigned_abs, option_map, if◌then◌else◌, arith, IfSome, option_and_then, int_eq}
 use Rattle.fb_schema.proofs.KindWords.{Kind, Struct, Table, Union, Structs, Tables, Unions, Element, OfScalar, OfText, OfObject, OfUnion, Shape, One, Vector}
-use Rattle.fb_schema.proofs.Numbers.{not_false}
-use Rattle.std.proofs.lemmas.Option.{slice_get_within, MatchOption-at_some}
-use Rattle.std.proofs.lemmas.Bool.Decides.{Decides-eqb}
+use Rattle.fb_schema.proofs.{Numbers.not_false, DemandLaws.clear_line, LegalLemmas.legal_clear}
+use Rattle.std.proofs.lemmas.{Option.slice_get_within, Option.MatchOption-at_some, Bool.Decides.Decides-eqb}
 use Rattle.std.specs.List.{list_any}
 use Rattle.fb_schema.specs.declared.rows.TypeRow.{TypeRow}
 use Rattle.fb_schema.specs.Demands.{IsLegal, first_code, demands_of_object, object_demands, stands_before, same_object_name, is_alignment, is_union_shape}
 use Rattle.fb_schema.specs.Kinds.{kind_of, shape_of, shape_kind, object_kind, union_kind, struct_align, align_in}
-use Rattle.fb_schema.specs.Vectors.{vector_of}
-use Rattle.fb_schema.specs.Members.{member_of, members_of}
+use Rattle.fb_schema.specs.{Vectors.vector_of, Members.member_of, Members.members_of, Served.IsAlignment, Served.MemberHolds}
 use Rattle.fb_schema.specs.Rows.{Rows, Object, Enum, Member, entry_at, is_table, is_union, is_some_table, is_some_union}
-use Rattle.fb_schema.specs.Served.{IsAlignment, MemberHolds}
-use Rattle.fb_schema.proofs.DemandLaws.{clear_line}
-use Rattle.fb_schema.proofs.LegalLemmas.{legal_clear}
 
 -- a vector has the kind of a vector of what its element alone would have
 pub vector_kind : (rows : Rows) (index : ℤ) (e : Element) → shape_kind rows index (Some (Vector e)) ≡ option_map vector_of (shape_kind rows index (Some (One e)))

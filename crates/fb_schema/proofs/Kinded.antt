@@ -6,8 +6,7 @@ use Rattle.fb_schema.specs.Live.{Live, live_rows, live_as, live_of, live_in, liv
 use Rattle.fb_schema.specs.Rows.{Rows, Field, Object, Enum, entry_at, is_some_union}
 use Rattle.fb_schema.specs.Served.{IsSized, HaveKinds}
 use Rattle.fb_schema.proofs.KindWords.{Kind, Struct, Table, Union, Structs, Tables, Unions, OfObject, OfUnion, Shape, One, Vector, Array}
-use Rattle.fb_schema.proofs.DemandLaws.{clear_line}
-use Rattle.fb_schema.proofs.Kept.{kept_from, kept_long, kept_at}
+use Rattle.fb_schema.proofs.{DemandLaws.clear_line, Kept.kept_from, Kept.kept_long, Kept.kept_at}
 use Rattle.fb_schema.proofs.RowLemmas.{IsRowOf, row_in, asked, live_line}
 
 -- a kind of an object that is there, and of a union that is

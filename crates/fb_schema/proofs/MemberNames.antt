@@ -1,26 +1,15 @@
 -- The members of a union of legal rows are found by name.
 use Rattle.std.proofs.Common.{◌≡◌, ℕ, zero, suc, ◌<◌, ℤ, pos, negsuc, Bool, true, false, ◌&&◌, ◌||◌, int_lt, unsigned_abs, List, length, get_or, slice_get, filter, map, Some, None, refl, sym, ◌∙◌, ap, arith, find, Decides, FitsSigned, w64, Bor, option_map, bytes_eq, Equal}
-use Rattle.std.proofs.lemmas.Bool.Decides.{nat_tests}
-use Rattle.std.proofs.lemmas.Cmp.{on_total, then_total}
-use Rattle.std.proofs.lemmas.List.{length-map, get_or-map}
-use Rattle.std.proofs.lemmas.Option.{slice_get-get_or}
-use Rattle.std.specs.Cmp.{IsTotalOrder, bool_cmp_total}
-use Rattle.std.specs.Ordering.{int_eq, bool_cmp, is_eq}
-use Rattle.fb_schema.specs.declared.flat.EnumPart.{EnumPart}
-use Rattle.fb_schema.specs.declared.rows.MemberRow.{MemberRow}
+use Rattle.std.proofs.lemmas.{Bool.Decides.nat_tests, Cmp.on_total, Cmp.then_total, List.length-map, List.get_or-map, Option.slice_get-get_or}
+use Rattle.std.specs.{Cmp.IsTotalOrder, Cmp.bool_cmp_total, Ordering.int_eq, Ordering.bool_cmp, Ordering.is_eq}
+use Rattle.fb_schema.specs.declared.{flat.EnumPart.EnumPart, rows.MemberRow.MemberRow}
 use Rattle.fb_schema.specs.Demands.{first_code, members_asked, member_demands, stands_before, same_value, same_member_name}
-use Rattle.fb_schema.specs.Members.{is_member_value, member_named}
-use Rattle.fb_schema.specs.Sorting.{name_cmp, member_cmp, member_key}
-use Rattle.fb_schema.specs.Rows.{Rows, Member, member_of_row}
-use Rattle.fb_schema.specs.Flat.{part}
-use Rattle.fb_schema.specs.FlatRows.{enum_in}
-use Rattle.fb_schema.proofs.DemandLaws.{clear_line}
-use Rattle.fb_schema.proofs.FindLemmas.{find_filter, found_item, no_item}
+use Rattle.fb_schema.specs.{Members.is_member_value, Members.member_named, Sorting.name_cmp, Sorting.member_cmp, Sorting.member_key}
+use Rattle.fb_schema.specs.{Rows.Rows, Rows.Member, Rows.member_of_row, Flat.part, FlatRows.enum_in}
+use Rattle.fb_schema.proofs.{DemandLaws.clear_line, FindLemmas.find_filter, FindLemmas.found_item, FindLemmas.no_item}
 use Rattle.fb_schema.proofs.MemberLemmas.{name_not_again, clear_demands, both_equal}
-use Rattle.fb_schema.proofs.Numbers.{slice_get_some, both_true, all_true}
-use Rattle.fb_schema.proofs.PlaceLemmas.{alike_one}
-use Rattle.fb_schema.proofs.UnionLemmas.{members_read, not_none}
-use Rattle.fb_schema.proofs.WalkLemmas.{names_agree, names_total}
+use Rattle.fb_schema.proofs.{Numbers.slice_get_some, Numbers.both_true, Numbers.all_true, PlaceLemmas.alike_one}
+use Rattle.fb_schema.proofs.{UnionLemmas.members_read, UnionLemmas.not_none, WalkLemmas.names_agree, WalkLemmas.names_total}
 
 pub members_total : IsTotalOrder member_cmp
 members_total = then_total (on_total (λ (m : Bool × Bor (List ℕ)). m.0) bool_cmp_total) (on_total (λ (m : Bool × Bor (List ℕ)). m.1) names_total)

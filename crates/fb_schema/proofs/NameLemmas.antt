@@ -1,31 +1,17 @@
 -- The live fields of a legal table are found by name.
 use Rattle.std.proofs.Common.{◌≡◌, ℕ, zero, suc, ◌<◌, Bool, true, false, IsTrue, if◌then◌else◌, List, [], ◌∷◌, length, get_or, slice_get, map, filter, option_map, option_and_then, Option, Some, None, refl, sym, ◌∙◌, ap, arith, nat_cmp, Equal}
-use Rattle.fb_schema.proofs.RowLemmas.{rises_at}
-use Rattle.fb_schema.proofs.KeyLemmas.{again_at}
-use Rattle.std.proofs.lemmas.List.{length-map, get_or-map}
-use Rattle.std.proofs.lemmas.Option.{slice_get-get_or}
-use Rattle.std.proofs.lemmas.List.Elements.{Contains-get_or}
-use Rattle.std.proofs.lemmas.Cmp.{tied_itself, nat_list_cmp_total}
-use Rattle.std.proofs.lemmas.Map.Lookups.{exact_bytes}
+use Rattle.fb_schema.proofs.{RowLemmas.rises_at, KeyLemmas.again_at, IndexLemmas.legal_slots, IndexLemmas.table_list}
+use Rattle.fb_schema.proofs.{Kinded.live_long, Kinded.live_at, LegalLemmas.legal_clear, WalkLemmas.mapped_at, WalkLemmas.not_named_table}
+use Rattle.std.proofs.lemmas.{List.length-map, List.get_or-map, Option.slice_get-get_or, List.Elements.Contains-get_or}
+use Rattle.std.proofs.lemmas.{Cmp.tied_itself, Cmp.nat_list_cmp_total, Map.Lookups.exact_bytes}
 use Rattle.std.specs.Cmp.Lexicographic.{slice_cmp}
-use Rattle.fb_schema.specs.declared.kinds.Kind.{Kind}
-use Rattle.fb_schema.specs.declared.flat.ObjectPart.{ObjectPart}
-use Rattle.fb_schema.specs.declared.views.FieldView.{FieldView}
+use Rattle.fb_schema.specs.declared.{kinds.Kind.Kind, flat.ObjectPart.ObjectPart, views.FieldView.FieldView, rows.FieldRow.FieldRow}
 use Rattle.fb_schema.specs.Demands.{IsLegal, first_code, table_asked, demands_of_object, demands_of_struct_field, demands_of_table_field}
-use Rattle.fb_schema.specs.Index.{view_name}
-use Rattle.fb_schema.specs.Kinds.{kind_of}
+use Rattle.fb_schema.specs.{Index.view_name, Kinds.kind_of, Sorting.IsAgain, Sorting.name_cmp, Sorting.field_name, Flat.part, FlatRows.object_in}
 use Rattle.fb_schema.specs.Live.{Live, by_slot, is_live, live_rows, live_as, live_of, live_of_view, live_in, AreApart}
-use Rattle.fb_schema.specs.Sorting.{IsAgain, name_cmp, field_name}
 use Rattle.fb_schema.specs.Rows.{Rows, Field, field_of, is_some_table}
-use Rattle.fb_schema.specs.declared.rows.FieldRow.{FieldRow}
-use Rattle.fb_schema.specs.Flat.{part}
-use Rattle.fb_schema.specs.FlatRows.{object_in}
-use Rattle.fb_schema.proofs.IndexLemmas.{legal_slots, table_list}
-use Rattle.fb_schema.proofs.Kinded.{live_long, live_at}
-use Rattle.fb_schema.proofs.LegalLemmas.{legal_clear}
 use Rattle.fb_schema.proofs.LiveLemmas.{sorted_rises, sorted_members, filter_apart, filter_contains}
 use Rattle.fb_schema.proofs.Numbers.{get_or_default, slice_get_some, neither_below, negated}
-use Rattle.fb_schema.proofs.WalkLemmas.{mapped_at, not_named_table}
 
 -- no field of a legal table has an earlier one's name
 no_name_again : (rows : Rows) (n : ℕ) (all : List FieldRow) (row : ObjectPart) → IsLegal rows → slice_get rows.objects n ≡ Some (object_in all row) → row.is_struct ≡ false → (q : ℕ) → IsAgain name_cmp (map field_name (part all row.fields)) q → ⊥

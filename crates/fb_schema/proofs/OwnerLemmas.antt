@@ -1,15 +1,11 @@
 -- The steps of the walk over objects and enums.
 use Rattle.std.proofs.Common.{◌≡◌, ℕ, zero, suc, ◌+◌, ◌<◌, ◌≤◌, inl, inr, Bool, List, length, slice_get, map, Option, Some, None, refl, sym, ◌∙◌, ap, subst, arith, Result, Ok, Err, OnOk}
-use Rattle.fb_schema.specs.declared.fault.Code.{Code}
-use Rattle.fb_schema.specs.declared.flat.ObjectPart.{ObjectPart}
+use Rattle.fb_schema.specs.declared.{fault.Code.Code, flat.ObjectPart.ObjectPart, rows.FieldRow.FieldRow}
 use Rattle.fb_schema.specs.Sorting.{IsAgain, IsFirstAgain, name_cmp, object_name}
-use Rattle.fb_schema.specs.declared.rows.FieldRow.{FieldRow}
-use Rattle.fb_schema.specs.FlatRows.{object_in}
-use Rattle.fb_schema.specs.Rows.{Rows, Enum}
+use Rattle.fb_schema.specs.{FlatRows.object_in, Rows.Rows, Rows.Enum}
 use Rattle.fb_schema.specs.Demands.{is_at, first_code, stands_before, same_object_name, object_demands, demands_of_object, demands_of_enum, demands_of_field, demands_of_union, demands_at, IsFirstOf, IsFirstIllegal, IsLegal, AreClear}
 use Rattle.fb_schema.proofs.DemandLaws.{IsClear, AreLevelsClear, AreClearBelow, clear_line, first_illegal, is_legal, no_levels, past_objects, past_enums}
-use Rattle.fb_schema.proofs.KeyLemmas.{is_at_test, never_again}
-use Rattle.fb_schema.proofs.Numbers.{le_or_lt, lt_or_eq}
+use Rattle.fb_schema.proofs.{KeyLemmas.is_at_test, KeyLemmas.never_again, Numbers.le_or_lt, Numbers.lt_or_eq}
 use Rattle.fb_schema.proofs.WalkLemmas.{object_names_agree, mapped_at}
 
 pub level_clear : (rows : Rows) (level n : ℕ) → AreClearBelow rows level n → ((m place : ℕ) → n ≤ m → IsClear rows level m place) → AreClear rows level

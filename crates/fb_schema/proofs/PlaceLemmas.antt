@@ -1,15 +1,11 @@
 -- Keys are found by their order.
 use Rattle.std.proofs.Common.{◌≡◌, ℕ, ◌<◌, Bool, false, List, length, get_or, map, Option, Some, None, sym, ◌∙◌, ap, arith, position, Decides, HoldsAt, Ordering, Less, Equal, Greater}
-use Rattle.fb_schema.proofs.KeyLemmas.{again_at}
+use Rattle.fb_schema.proofs.{KeyLemmas.again_at, Numbers.get_or_default, Numbers.slice_get_some, Numbers.neither_below}
+use Rattle.fb_schema.proofs.{OrderLemmas.is_key, OrderLemmas.stands, PositionLemmas.found_position, PositionLemmas.no_position, Search.search_missed}
 use Rattle.std.proofs.lemmas.List.{length-map, get_or-map}
-use Rattle.std.specs.Cmp.{IsTotalOrder}
-use Rattle.std.specs.List.Sorted.{IsSortedBy, IsNonDecreasingBy, IsPartitionPoint}
+use Rattle.std.specs.{Cmp.IsTotalOrder, List.Sorted.IsSortedBy, List.Sorted.IsNonDecreasingBy, List.Sorted.IsPartitionPoint}
 use Rattle.std.specs.Ordering.{is_lt, ordering_index, ordering_then, ordering_reverse}
 use Rattle.fb_schema.specs.Sorting.{IsOrderOf, IsPlaceOf, IsAgain}
-use Rattle.fb_schema.proofs.Numbers.{get_or_default, slice_get_some, neither_below}
-use Rattle.fb_schema.proofs.OrderLemmas.{is_key, stands}
-use Rattle.fb_schema.proofs.PositionLemmas.{found_position, no_position}
-use Rattle.fb_schema.proofs.Search.{search_missed}
 
 not_less_first : (p q : Ordering) → is_lt (ordering_then p q) ≡ false → is_lt p ≡ false
 not_less_first p q h = grind arith

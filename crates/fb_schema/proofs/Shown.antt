@@ -1,11 +1,10 @@
 -- The examples, by computing.
 use Rattle.std.proofs.Common.{ℕ, rules}
-use Rattle.fb_schema.specs.Kinds.{base_types, shape_of, kind_of}
-use Rattle.fb_schema.specs.Demands.{names_no_object, names_table, names_no_union, inline_bytes}
-use Rattle.fb_schema.specs.Live.{live_fields, widest}
+use Rattle.fb_schema.specs.{Kinds.base_types, Kinds.shape_of, Kinds.kind_of, Live.live_fields, Live.widest}
 use Rattle.fb_schema.specs.Members.{member_of, member_named, member_name}
-use Rattle.fb_schema.specs.Examples.{StructHeads, ObjectNames, StructFieldNames, StructFieldTypes, StructFieldObjects, StructFieldEnds, Slots, TableFieldTypes, TableFieldObjects, TypeFields, MemberValues, MemberTypes, Firsts}
 use Rattle.fb_schema.specs.LookUps.{ScalarFields, KindFields, UnionMembers}
+use Rattle.fb_schema.specs.Demands.{names_no_object, names_table, names_no_union, inline_bytes}
+use Rattle.fb_schema.specs.Examples.{StructHeads, ObjectNames, StructFieldNames, StructFieldTypes, StructFieldObjects, StructFieldEnds, Slots, TableFieldTypes, TableFieldObjects, TypeFields, MemberValues, MemberTypes, Firsts}
 use Rattle.fb_schema.proofs.DemandLaws.{levels_end, owners_end, places_end, object_end, enum_end}
 use Rattle.fb_schema.proofs.Judged.{first_below, or_at, in_owner, in_level, in_rows, first_fault, legal, refused}
 

@@ -1,19 +1,11 @@
 -- The targets of a union are found by the values that its members have.
 use Rattle.std.proofs.Common.{◌≡◌, ℕ, zero, suc, ◌+◌, ◌<◌, ◌≤◌, ◌⊎◌, inl, inr, List, [], ◌∷◌, ◌++◌, length, get_or, take, map, true, refl, sym, subst, ◌∙◌, ap, arith, option_and_then}
-use Rattle.std.proofs.lemmas.Option.{slice_get_within}
-use Rattle.std.proofs.lemmas.List.{get_or_append_left, length_push}
+use Rattle.std.proofs.lemmas.{Option.slice_get_within, List.get_or_append_left, List.length_push, Grind.take_at_read}
 use Rattle.std.proofs.Math.Seq.{get_or-append_seam}
-use Rattle.std.proofs.lemmas.Grind.{take_at_read}
-use Rattle.fb_schema.specs.declared.flat.EnumPart.{EnumPart}
-use Rattle.fb_schema.specs.declared.views.Target.{Target}
-use Rattle.fb_schema.specs.declared.rows.MemberRow.{MemberRow}
-use Rattle.fb_schema.specs.Flat.{part}
-use Rattle.fb_schema.specs.Kinds.{kind_of}
-use Rattle.fb_schema.specs.Rows.{Rows, Member, member_of_row}
+use Rattle.fb_schema.specs.declared.{flat.EnumPart.EnumPart, views.Target.Target, rows.MemberRow.MemberRow}
+use Rattle.fb_schema.specs.{Flat.part, Kinds.kind_of, Rows.Rows, Rows.Member, Rows.member_of_row}
 use Rattle.fb_schema.specs.Targets.{nothing, target_at, target_of, kind_among, AreTargets, HaveTargets}
-use Rattle.fb_schema.proofs.IndexLemmas.{slice_get_end}
-use Rattle.fb_schema.proofs.Numbers.{lt_or_eq}
-use Rattle.fb_schema.proofs.UnionLemmas.{none_for_zero}
+use Rattle.fb_schema.proofs.{IndexLemmas.slice_get_end, Numbers.lt_or_eq, UnionLemmas.none_for_zero}
 
 -- the first item of a list that was empty
 pub only_item : {X : Type 0} (old new : List X) (x : X) → old ≡ [] → new ≡ old ++ x ∷ [] → new ≡ x ∷ []

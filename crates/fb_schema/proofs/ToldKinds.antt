@@ -2,16 +2,12 @@
 use Rattle.std.proofs.Common.{◌≡◌, ℕ, suc, ℤ, pos, negsuc, Bool, true, false, not, ◌&&◌, cond, List, [], ◌∷◌, slice_get, filter, Option, Some, None, refl, sym, ◌∙◌, ap, subst, find, if◌then◌else◌, arith, option_and_then, int_eq}
 use Rattle.std.proofs.lemmas.Option.{same_Some}
 use Rattle.fb_schema.proofs.KindWords.{Kind, Struct, Table, Shape, One, OfText, OfObject}
-use Rattle.fb_schema.proofs.Numbers.{both_true}
+use Rattle.fb_schema.proofs.{Numbers.both_true, DemandLaws.clear_line, FindLemmas.find_filter, UnionLemmas.union_list, UnionLemmas.not_none}
+use Rattle.fb_schema.proofs.LegalLemmas.{legal_clear}
 use Rattle.fb_schema.specs.Demands.{IsLegal, first_code, members_asked, member_demands, demands_of_member, demands_of_enum, is_for_member}
 use Rattle.fb_schema.specs.Kinds.{kind_of, shape_of, shape_kind, object_kind}
-use Rattle.fb_schema.specs.Members.{is_member_value, member_of, members_in}
+use Rattle.fb_schema.specs.{Members.is_member_value, Members.member_of, Members.members_in, Targets.target_of, Targets.kind_to, Targets.kind_among}
 use Rattle.fb_schema.specs.Rows.{Rows, Object, Member, Enum, entry_at}
-use Rattle.fb_schema.specs.Targets.{target_of, kind_to, kind_among}
-use Rattle.fb_schema.proofs.DemandLaws.{clear_line}
-use Rattle.fb_schema.proofs.FindLemmas.{find_filter}
-use Rattle.fb_schema.proofs.UnionLemmas.{union_list, not_none}
-use Rattle.fb_schema.proofs.LegalLemmas.{legal_clear}
 
 -- what is found passes the test and stands in the list
 found_with : {X : Type 0} (p : X → Bool) (P : X → Type 0) (xs : List X) → ((j : ℕ) (x : X) → slice_get xs j ≡ Some x → p x ≡ true → P x) → (m : X) → find p xs ≡ Some m → P m

@@ -1,18 +1,12 @@
 -- What is demanded of rows, each demand with its key, and the first that isn't met.
 use Rattle.std.specs.Prelude.{◌≡◌, ℕ, zero, suc, ◌+◌, ◌%◌, ◌<◌, ◌⊎◌, ℤ, pos, negsuc, ◌+ℤ◌, ◌*ℤ◌, int_lt, Bool, true, false, not, ◌&&◌, ◌||◌, ◌==◌, nat_lt, if◌then◌else◌, List, [], ◌∷◌, take, slice_get, Option, Some, None, is_none, bytes_eq}
-use Rattle.std.specs.List.{list_any}
-use Rattle.std.specs.Ordering.{int_eq}
-use Rattle.fb_schema.specs.declared.rows.TypeRow.{TypeRow}
-use Rattle.fb_schema.specs.declared.kinds.Scalar.TheVariants.{UType}
-use Rattle.fb_schema.specs.declared.kinds.Element.{Element}
-use Rattle.fb_schema.specs.declared.kinds.Element.TheVariants.{Scalar as OfScalar, Text as OfText, Object as OfObject, Union as OfUnion}
-use Rattle.fb_schema.specs.declared.kinds.Shape.{Shape}
+use Rattle.std.specs.{List.list_any, Ordering.int_eq}
+use Rattle.fb_schema.specs.declared.{rows.TypeRow.TypeRow, kinds.Scalar.TheVariants.UType, kinds.Element.Element, kinds.Shape.Shape}
 use Rattle.fb_schema.specs.declared.kinds.Shape.TheVariants.{One, Vector, Array}
-use Rattle.fb_schema.specs.declared.kinds.TypeField.{TypeField}
-use Rattle.fb_schema.specs.declared.kinds.TypeField.TheVariants.{ForUnion, ForUnions}
-use Rattle.fb_schema.specs.declared.fault.Code.{Code}
+use Rattle.fb_schema.specs.declared.{kinds.TypeField.TypeField, kinds.TypeField.TheVariants.ForUnion, kinds.TypeField.TheVariants.ForUnions}
+use Rattle.fb_schema.specs.declared.{fault.Code.Code, fault.SchemaFault.SchemaFault}
+use Rattle.fb_schema.specs.declared.kinds.Element.TheVariants.{Scalar as OfScalar, Text as OfText, Object as OfObject, Union as OfUnion}
 use Rattle.fb_schema.specs.declared.fault.Code.TheVariants.{NoSuchObject, NoSuchEnum, Unsupported, BadSlot, NoTypeField, BadStruct, BadMember, NameTwice, OutOfMemory}
-use Rattle.fb_schema.specs.declared.fault.SchemaFault.{SchemaFault}
 use Rattle.fb_schema.specs.Rows.{Field, Object, Member, Enum, Rows, entry_at, is_some_table, is_some_union}
 use Rattle.fb_schema.specs.Kinds.{shape_of, scalar_size}
 

@@ -1,7 +1,6 @@
 -- Examples of rows: legal ones, others with the first demand that they break, and what look-ups answer.
 use Rattle.std.specs.Prelude.{ℕ, ℤ, pos, negsuc, true, List, [], ◌∷◌, codes, Option, Some, None}
-use Rattle.fb_schema.specs.declared.rows.TypeRow.{TypeRow}
-use Rattle.fb_schema.specs.declared.fault.Code.{Code}
+use Rattle.fb_schema.specs.declared.{rows.TypeRow.TypeRow, fault.Code.Code}
 use Rattle.fb_schema.specs.declared.fault.Code.TheVariants.{NoSuchObject, NoSuchEnum, Unsupported, BadSlot, NoTypeField, BadStruct, BadMember, NameTwice}
 use Rattle.fb_schema.specs.Rows.{Field, Object, Member, Rows}
 use Rattle.fb_schema.specs.Demands.{IsLegal, IsFirstIllegal}

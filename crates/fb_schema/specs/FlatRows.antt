@@ -1,12 +1,8 @@
 -- What rows that stand flat are.
 use Rattle.std.specs.Prelude.{List, All, map, length, ◌<◌, ◌^◌, Option, option_map}
 use Rattle.std.specs.Borrow.{Bor}
-use Rattle.fb_schema.specs.declared.rows.FieldRow.{FieldRow}
-use Rattle.fb_schema.specs.declared.rows.MemberRow.{MemberRow}
-use Rattle.fb_schema.specs.declared.flat.ObjectPart.{ObjectPart}
-use Rattle.fb_schema.specs.declared.flat.EnumPart.{EnumPart}
-use Rattle.fb_schema.specs.declared.flat.FlatRows.{FlatRows}
-use Rattle.fb_schema.specs.declared.flat.RowLists.{RowLists}
+use Rattle.fb_schema.specs.declared.{rows.FieldRow.FieldRow, rows.MemberRow.MemberRow, flat.ObjectPart.ObjectPart, flat.EnumPart.EnumPart}
+use Rattle.fb_schema.specs.declared.{flat.FlatRows.FlatRows, flat.RowLists.RowLists}
 use Rattle.fb_schema.specs.Flat.{part, IsPart}
 use Rattle.fb_schema.specs.Rows.{Rows, Object, Enum, field_of, member_of_row}
 

@@ -1,20 +1,12 @@
 -- What the index of a schema has to do with its rows.
 use Rattle.std.specs.Prelude.{[], Bool, if◌then◌else◌, ◌≡◌, ◌+◌, ◌<◌, ◌≤◌, ℕ, List, map, length, drop, slice_index_or, Some}
-use Rattle.std.specs.List.{position_or_len}
-use Rattle.std.specs.Borrow.{Bor}
-use Rattle.fb_schema.specs.declared.flat.EnumPart.{EnumPart}
-use Rattle.fb_schema.specs.declared.rows.MemberRow.{MemberRow}
-use Rattle.fb_schema.specs.declared.views.FieldView.{FieldView}
-use Rattle.fb_schema.specs.declared.index.LiveIndex.{LiveIndex}
+use Rattle.std.specs.{List.position_or_len, Borrow.Bor}
+use Rattle.fb_schema.specs.declared.{flat.EnumPart.EnumPart, rows.MemberRow.MemberRow, views.FieldView.FieldView, index.LiveIndex.LiveIndex}
 use Rattle.fb_schema.specs.declared.index.MemberIndex.{MemberIndex}
-use Rattle.fb_schema.specs.Flat.{part}
-use Rattle.fb_schema.specs.FlatLists.{lists_of}
-use Rattle.fb_schema.specs.Live.{Live, live_of_view, live_in, widest_of}
-use Rattle.fb_schema.specs.Matched.{AreMatched}
-use Rattle.fb_schema.specs.Steps.{step_of, are_plain}
-use Rattle.fb_schema.specs.Sorting.{IsOrderOf, name_cmp, member_cmp, member_key}
-use Rattle.fb_schema.specs.Rows.{Rows, Object}
+use Rattle.fb_schema.specs.{Flat.part, FlatLists.lists_of, Matched.AreMatched, Steps.step_of, Steps.are_plain, Rows.Rows, Rows.Object}
 use Rattle.fb_schema.specs.Targets.{HaveTargets}
+use Rattle.fb_schema.specs.Live.{Live, live_of_view, live_in, widest_of}
+use Rattle.fb_schema.specs.Sorting.{IsOrderOf, name_cmp, member_cmp, member_key}
 
 abbrev pub view_name : FieldView → Bor (List ℕ)
 view_name f = f.name

@@ -1,12 +1,8 @@
 -- What a schema holds beside its rows.
 use Rattle.std.specs.Prelude.{List, map, ℕ}
 use Rattle.std.specs.Borrow.{Bor}
-use Rattle.fb_schema.specs.declared.flat.FlatRows.{FlatRows}
-use Rattle.fb_schema.specs.declared.index.LiveIndex.{LiveIndex}
-use Rattle.fb_schema.specs.declared.index.MemberIndex.{MemberIndex}
-use Rattle.fb_schema.specs.Demands.{IsLegal}
-use Rattle.fb_schema.specs.FlatRows.{flat_rows, AreParts}
-use Rattle.fb_schema.specs.Index.{IsLiveIndex, IsMemberIndex}
+use Rattle.fb_schema.specs.declared.{flat.FlatRows.FlatRows, index.LiveIndex.LiveIndex, index.MemberIndex.MemberIndex}
+use Rattle.fb_schema.specs.{Demands.IsLegal, FlatRows.flat_rows, FlatRows.AreParts, Index.IsLiveIndex, Index.IsMemberIndex}
 use Rattle.fb_schema.specs.Sorting.{IsOrderOf, name_cmp, object_name}
 
 -- the rows are legal, and this is their index

@@ -1,15 +1,10 @@
 -- Base types, the kinds that they give, and how large their values are.
 use Rattle.std.specs.Prelude.{ℕ, ℤ, pos, negsuc, if◌then◌else◌, List, [], ◌∷◌, slice_get, unsigned_abs, Option, Some, None, option_map}
-use Rattle.std.specs.Option.{option_flatten}
-use Rattle.std.specs.Ordering.{int_eq}
-use Rattle.fb_schema.specs.declared.rows.TypeRow.{TypeRow}
-use Rattle.fb_schema.specs.declared.kinds.Scalar.{Scalar}
+use Rattle.std.specs.{Option.option_flatten, Ordering.int_eq}
+use Rattle.fb_schema.specs.declared.{rows.TypeRow.TypeRow, kinds.Scalar.Scalar, kinds.Element.Element, kinds.Shape.Shape}
+use Rattle.fb_schema.specs.declared.{kinds.Shape.TheVariants.One, kinds.Shape.TheVariants.Vector, kinds.Shape.TheVariants.Array, kinds.Kind.Kind}
 use Rattle.fb_schema.specs.declared.kinds.Scalar.TheVariants.{UType, Bool as AsBool, Byte, UByte, Short, UShort, Int, UInt, Long, ULong, Float, Double}
-use Rattle.fb_schema.specs.declared.kinds.Element.{Element}
 use Rattle.fb_schema.specs.declared.kinds.Element.TheVariants.{Scalar as OfScalar, Text as OfText, Object as OfObject, Union as OfUnion}
-use Rattle.fb_schema.specs.declared.kinds.Shape.{Shape}
-use Rattle.fb_schema.specs.declared.kinds.Shape.TheVariants.{One, Vector, Array}
-use Rattle.fb_schema.specs.declared.kinds.Kind.{Kind}
 use Rattle.fb_schema.specs.declared.kinds.Kind.TheVariants.{Scalar as AScalar, Text, Struct, Table, Union, Scalars, Texts, Structs, Tables, Unions}
 use Rattle.fb_schema.specs.Rows.{Object, Enum, Rows, entry_at}
 

@@ -3,9 +3,8 @@ use Rattle.std.specs.Prelude.{◌≡◌, ℕ, pos, negsuc, true, false, List, []
 use Rattle.fb_schema.specs.declared.kinds.Scalar.TheVariants.{UType, Bool as AsBool, Byte, UByte, Short, UShort, Int, UInt, Long, ULong, Float, Double}
 use Rattle.fb_schema.specs.declared.kinds.Kind.{Kind}
 use Rattle.fb_schema.specs.declared.kinds.Kind.TheVariants.{Scalar, Text, Struct, Table, Union, Scalars, Texts, Structs, Tables, Unions}
-use Rattle.fb_schema.specs.Rows.{Field, Rows}
+use Rattle.fb_schema.specs.{Rows.Field, Rows.Rows, Members.member_of, Members.member_named, Members.member_name}
 use Rattle.fb_schema.specs.Live.{Live, live_fields, next_required, widest, field_named}
-use Rattle.fb_schema.specs.Members.{member_of, member_named, member_name}
 use Rattle.fb_schema.specs.Builders.{type_of_one, type_of_vector, plain_field, plain_table, struct_of, plain_member, union_of, enum_of_values}
 use Rattle.fb_schema.specs.Examples.{type_byte, type_bytes, text, object, objects, union, unions, unused, with_objects}
 

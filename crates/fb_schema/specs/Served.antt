@@ -1,14 +1,11 @@
 -- What the rows of a schema give a reader of buffers.
 use Rattle.std.specs.Prelude.{◌*◌, ◌≡◌, ℕ, ◌+◌, ◌%◌, ◌^◌, ◌<◌, ◌≤◌, List, length, slice_get, Option, Some, IsTrue}
-use Rattle.fb_schema.specs.declared.kinds.Kind.{Kind}
+use Rattle.fb_schema.specs.declared.{kinds.Kind.Kind, kinds.Scalar.TheVariants.UType, views.PartView.PartView}
 use Rattle.fb_schema.specs.declared.kinds.Kind.TheVariants.{Scalar, Text, Struct, Table, Union, Scalars, Texts, Structs, Tables, Unions}
-use Rattle.fb_schema.specs.declared.kinds.Scalar.TheVariants.{UType}
 use Rattle.fb_schema.specs.Rows.{Rows, Field, Object, is_table, is_union}
-use Rattle.fb_schema.specs.declared.views.PartView.{PartView}
 use Rattle.fb_schema.specs.Kinds.{kind_of, kind_size, kind_align, struct_align, struct_size}
 use Rattle.fb_schema.specs.Live.{Live, live_fields, live_rows, live_as}
-use Rattle.fb_schema.specs.Members.{member_of}
-use Rattle.fb_schema.specs.Parts.{PartFits, part_at}
+use Rattle.fb_schema.specs.{Members.member_of, Parts.PartFits, Parts.part_at}
 
 -- an alignment is a power of two
 abbrev pub IsAlignment : ℕ → Type 0

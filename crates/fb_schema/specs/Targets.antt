@@ -1,19 +1,11 @@
 -- What the offset words of a union lead to, found by their types.
 use Rattle.std.specs.Prelude.{◌≡◌, ℕ, ℤ, pos, ◌<◌, true, List, map, filter, find, length, slice_get, slice_index_or, Option, Some, None, option_and_then}
 use Rattle.std.specs.Ordering.{int_eq, int_cmp}
-use Rattle.fb_schema.specs.declared.kinds.Kind.{Kind}
+use Rattle.fb_schema.specs.declared.{kinds.Kind.Kind, flat.EnumPart.EnumPart, rows.MemberRow.MemberRow, views.Goal.Goal, views.Target.Target}
 use Rattle.fb_schema.specs.declared.kinds.Kind.TheVariants.{Scalar, Text, Struct, Table, Union, Scalars, Texts, Structs, Tables, Unions}
-use Rattle.fb_schema.specs.declared.flat.EnumPart.{EnumPart}
-use Rattle.fb_schema.specs.declared.rows.MemberRow.{MemberRow}
-use Rattle.fb_schema.specs.declared.views.Goal.{Goal}
 use Rattle.fb_schema.specs.declared.views.Goal.TheVariants.{Nothing, Text as AText, Table as ATable, Struct as AStruct}
-use Rattle.fb_schema.specs.declared.views.Target.{Target}
-use Rattle.fb_schema.specs.Demands.{first_code, members_asked}
-use Rattle.fb_schema.specs.Flat.{part}
-use Rattle.fb_schema.specs.Kinds.{kind_of, struct_size, struct_align}
-use Rattle.fb_schema.specs.Members.{is_member_value}
-use Rattle.fb_schema.specs.Rows.{Rows, Member, member_of_row}
-use Rattle.fb_schema.specs.Sorting.{IsOrderOf, member_value}
+use Rattle.fb_schema.specs.{Demands.first_code, Demands.members_asked, Flat.part, Kinds.kind_of, Kinds.struct_size, Kinds.struct_align}
+use Rattle.fb_schema.specs.{Members.is_member_value, Rows.Rows, Rows.Member, Rows.member_of_row, Sorting.IsOrderOf, Sorting.member_value}
 
 -- the kind of a member with this goal and object
 abbrev pub kind_by : Goal → ℕ → Option Kind

@@ -2,9 +2,7 @@
 
 ghost use Rattle.std.specs.Prelude.{◌≡◌, List};
 ghost use Rattle.fb_schema.specs.declared.rows.FieldRow.{FieldRow};
-ghost use Rattle.fb_schema.specs.FlatRows.{object_in, borrowed_rows};
-ghost use Rattle.fb_schema.specs.Rows.{field_of, member_of_row};
-ghost use Rattle.fb_schema.specs.Kinds.{shape_of};
+ghost use Rattle.fb_schema.specs.{FlatRows.object_in, FlatRows.borrowed_rows, Rows.field_of, Rows.member_of_row, Kinds.shape_of};
 ghost use Rattle.fb_schema.specs.Demands.{first_code, is_alignment, passes_end, lacks_type_field, object_demands, struct_field_demands, table_field_demands, member_demands};
 
 use crate::fault::Code;

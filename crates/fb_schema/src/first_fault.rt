@@ -2,8 +2,7 @@
 
 ghost use Rattle.std.specs.Prelude.{◌≡◌, ◌<◌, ◌^◌, pos, not, ◌&&◌, map, length, IfOk, OnOk, IfErr, All, vec_len};
 ghost use Rattle.std.specs.Ordering.{int_eq};
-ghost use Rattle.fb_schema.specs.Sorting.{IsOrderOf, name_cmp, object_name};
-ghost use Rattle.fb_schema.specs.Rows.{field_of, member_of_row};
+ghost use Rattle.fb_schema.specs.{Sorting.IsOrderOf, Sorting.name_cmp, Sorting.object_name, Rows.field_of, Rows.member_of_row};
 ghost use Rattle.fb_schema.specs.FlatRows.{borrowed_rows};
 ghost use Rattle.fb_schema.specs.Demands.{is_at, IsFirstOf, struct_asked, table_asked, members_asked, demands_of_field};
 

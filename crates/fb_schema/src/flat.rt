@@ -2,9 +2,8 @@
 
 ghost use Rattle.std.specs.Prelude.{◌≡◌, ◌<◌, ◌^◌, map, length, IfOk, All, vec_len, slice_get, Some};
 ghost use Rattle.fb_schema.specs.declared.flat.EnumPart.{EnumPart};
-ghost use Rattle.fb_schema.specs.Parts.{parts_of};
+ghost use Rattle.fb_schema.specs.{Parts.parts_of, Flat.part, Flat.IsPart};
 ghost use Rattle.fb_schema.specs.Rows.{AreFew, field_of, object_of, enum_of, rows_of};
-ghost use Rattle.fb_schema.specs.Flat.{part, IsPart};
 ghost use Rattle.fb_schema.specs.FlatRows.{object_with, object_in, enum_in, flat_rows, AreParts};
 
 use crate::rows::{EnumRow, FieldRow, MemberRow, ObjectRow};

@@ -1,14 +1,9 @@
 // How the index of legal rows is made.
 
 ghost use Rattle.std.specs.Prelude.{◌≡◌, ◌<◌, ◌^◌, ◌+◌, map, length, take, IfOk, OnOk, All};
-ghost use Rattle.fb_schema.specs.Sorting.{IsOrderOf, name_cmp};
-ghost use Rattle.fb_schema.specs.Flat.{IsPart};
-ghost use Rattle.fb_schema.specs.FlatRows.{borrowed_rows};
-ghost use Rattle.fb_schema.specs.Rows.{member_of_row};
+ghost use Rattle.fb_schema.specs.{Sorting.IsOrderOf, Sorting.name_cmp, Flat.IsPart, FlatRows.borrowed_rows, Rows.member_of_row, Kinds.kind_of};
+ghost use Rattle.fb_schema.specs.{Demands.IsLegal, Live.live_of_view};
 ghost use Rattle.fb_schema.specs.Index.{kept_members, view_name, AreNextRequired, IsLiveIndex, IsMemberIndex};
-ghost use Rattle.fb_schema.specs.Kinds.{kind_of};
-ghost use Rattle.fb_schema.specs.Demands.{IsLegal};
-ghost use Rattle.fb_schema.specs.Live.{live_of_view};
 
 use crate::flat::RowLists;
 use crate::index::{LiveIndex, MemberIndex};

@@ -1,8 +1,7 @@
 // What follows from the definitions alone. These functions have no body: their contracts are the theorems.
 
 ghost use Rattle.std.specs.Prelude.{◌≡◌, ◌↔◌};
-ghost use Rattle.fb_schema.specs.Rows.{Rows};
-ghost use Rattle.fb_schema.specs.Demands.{IsLegal, IsFirstIllegal};
+ghost use Rattle.fb_schema.specs.{Rows.Rows, Demands.IsLegal, Demands.IsFirstIllegal};
 ghost use Rattle.fb_schema.specs.declared.fault.SchemaFault.{SchemaFault};
 
 /// At most one fault is the first.

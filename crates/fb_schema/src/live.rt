@@ -1,9 +1,7 @@
 // The live fields of tables in rising slot.
 
 ghost use Rattle.std.specs.Prelude.{◌≡◌, ◌<◌, ◌^◌, ◌+◌, ◌==◌, filter, map, filter_map, position, length, IfOk, false, ◌≤◌};
-ghost use Rattle.fb_schema.specs.Rows.{field_of};
-ghost use Rattle.fb_schema.specs.Flat.{part, IsPart};
-ghost use Rattle.fb_schema.specs.FlatRows.{object_in, borrowed_rows};
+ghost use Rattle.fb_schema.specs.{Rows.field_of, Flat.part, Flat.IsPart, FlatRows.object_in, FlatRows.borrowed_rows};
 ghost use Rattle.fb_schema.specs.Live.{is_live, by_slot, companion_of, live_as, live_of, live_of_view, live_in, AreApart, AreRising, AreKinded, AreSpaced};
 
 use crate::flat::{ObjectPart, RowLists};

@@ -1,8 +1,7 @@
 // What the offset words of a union lead to, found by their types without a search.
 
 ghost use Rattle.std.specs.Prelude.{◌≡◌, ◌<◌, ◌≤◌, ◌+◌, ℕ, List, map, length, slice_index_or, IfOk, OnOk, true};
-ghost use Rattle.fb_schema.specs.FlatRows.{borrowed_rows};
-ghost use Rattle.fb_schema.specs.Rows.{Rows, member_of_row};
+ghost use Rattle.fb_schema.specs.{FlatRows.borrowed_rows, Rows.Rows, Rows.member_of_row};
 ghost use Rattle.fb_schema.specs.Targets.{nothing, kind_to, target_of, target_at, kind_among, AreTargets, AreSorted};
 ghost use Rattle.fb_schema.specs.declared.rows.MemberRow.{MemberRow};
 

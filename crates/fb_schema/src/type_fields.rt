@@ -1,12 +1,8 @@
 // The type fields of a table, by whose slots unions are found to have one.
 
 ghost use Rattle.std.specs.Prelude.{◌≡◌, ◌==◌, List, map, IfOk};
-ghost use Rattle.std.specs.List.{list_any};
-ghost use Rattle.std.specs.List.Sorted.{IsSorted};
-ghost use Rattle.std.specs.Ordering.{nat_cmp};
-ghost use Rattle.fb_schema.specs.Rows.{Field, field_of};
-ghost use Rattle.fb_schema.specs.Demands.{stands_below};
-ghost use Rattle.fb_schema.specs.Sorting.{AreTypeSlots};
+ghost use Rattle.std.specs.{List.list_any, List.Sorted.IsSorted, Ordering.nat_cmp};
+ghost use Rattle.fb_schema.specs.{Rows.Field, Rows.field_of, Demands.stands_below, Sorting.AreTypeSlots};
 ghost use Rattle.fb_schema.specs.declared.kinds.TypeField.{TypeField};
 
 use crate::kinds::TypeField;

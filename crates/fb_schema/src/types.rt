@@ -3,12 +3,10 @@
 ghost use Rattle.std.specs.Prelude.{◌≡◌, Some, map, slice_get, option_and_then, option_map, ◌^◌, pos, neg_ℤ, ◌*ℤ◌, ◌<ℤ◌};
 ghost use Rattle.fb_schema.specs.Rows.{entry_at, field_of, is_some_table, is_some_union};
 ghost use Rattle.fb_schema.specs.Parts.{part_count, part_kind, part_of};
-ghost use Rattle.fb_schema.specs.FlatRows.{borrowed_rows, found_object, found_enum};
+ghost use Rattle.fb_schema.specs.{FlatRows.borrowed_rows, FlatRows.found_object, FlatRows.found_enum, Vectors.vector_of};
 ghost use Rattle.fb_schema.specs.Kinds.{element_of, shape_of, scalar_size, kind_of, object_kind, union_kind, shape_kind, struct_size, struct_align, kind_size, kind_align};
-ghost use Rattle.fb_schema.specs.Vectors.{vector_of};
 ghost use Rattle.fb_schema.specs.Demands.{is_inline, is_supported, is_for_member, is_object, is_union_shape, is_type_field, names_no_object, names_table, names_no_union, inline_bytes, bytes_in, element_bytes};
-ghost use Rattle.fb_schema.specs.declared.kinds.Kind.{Kind};
-ghost use Rattle.fb_schema.specs.declared.kinds.Shape.{Shape};
+ghost use Rattle.fb_schema.specs.declared.{kinds.Kind.Kind, kinds.Shape.Shape};
 
 use crate::base_type;
 use crate::flat::{EnumPart, ObjectPart, RowLists};

@@ -1,26 +1,16 @@
 -- Fields behind the end of a table's vtable, of which none is required: they are passed without a read.
 use Rattle.std.proofs.Common.{◌≡◌, ℕ, zero, suc, ◌+◌, ◌-◌, ◌<◌, ◌≤◌, Bool, true, false, nat_le, nat_lt, List, [], ◌∷◌, map, length, get_or, drop, option_map, cond, length-drop, refl, sym, ◌∙◌, ap, subst, arith, Some, None}
-use Rattle.std.specs.Prelude.{slice_get}
-use Rattle.std.proofs.lemmas.Bool.Decides.{nat_tests}
-use Rattle.std.proofs.lemmas.Option.{slice_get-get_or, slice_get_within, get_or_from_slice_get}
-use Rattle.std.proofs.lemmas.List.{get_or-drop}
-use Rattle.std.proofs.lemmas.List.Sums.{passes_at_first, fails_before_first, sum_by-le}
-use Rattle.std.specs.List.{All, position_or_len}
+use Rattle.std.specs.{Prelude.slice_get, List.All, List.position_or_len}
+use Rattle.std.proofs.lemmas.{Bool.Decides.nat_tests, Option.slice_get-get_or, Option.slice_get_within, Option.get_or_from_slice_get}
+use Rattle.std.proofs.lemmas.{List.get_or-drop, List.Sums.passes_at_first, List.Sums.fails_before_first, List.Sums.sum_by-le}
 use Rattle.std.proofs.lemmas.List.Elements.{All-cons, All-nil}
 use Rattle.fb_schema.specs.declared.views.Step.{Step}
 use Rattle.fb_schema.specs.{Steps.step_of, Rows.Rows, Live.Live, Live.live_fields, Live.next_required, Live.next_required_of}
 use Rattle.fb_verify.specs.Plain.{plain_failure, plain_reads, StepsHold, steps_reads}
-use Rattle.fb_verify.proofs.Plains.{step_at}
+use Rattle.fb_verify.proofs.{Plains.step_at, Frames.no_row, Walking.field_skipped, Words.row_none}
 use Rattle.fb_verify.specs.declared.{checks.Checks.Checks, scratch.Frame.Frame}
-use Rattle.fb_verify.specs.Bounds.{Bounds}
-use Rattle.fb_verify.specs.Places.{has_slot, field_place, vtable_size}
-use Rattle.fb_verify.specs.Fields.{entries}
-use Rattle.fb_verify.specs.Cost.{own_reads}
-use Rattle.fb_verify.specs.Order.{own_failure}
+use Rattle.fb_verify.specs.{Bounds.Bounds, Places.has_slot, Places.field_place, Places.vtable_size, Fields.entries, Cost.own_reads, Order.own_failure}
 use Rattle.fb_verify.specs.Stack.{blank, Origin, IsUnderWay}
-use Rattle.fb_verify.proofs.Frames.{no_row}
-use Rattle.fb_verify.proofs.Walking.{field_skipped}
-use Rattle.fb_verify.proofs.Words.{row_none}
 
 -- What the schema tells of the next required field.
 abbrev is_required : Live → Bool

@@ -1,38 +1,23 @@
 -- What holds of a table whose fields are small holds of those below it that have its vtable and are aligned alike.
 use Rattle.std.proofs.Common.{◌≡◌, ℕ, suc, ◌+◌, ◌*◌, ◌<◌, ◌≤◌, ◌==◌, ◌%◌, ◌&&◌, ◌⊎◌, inl, inr, Bool, true, false, not, IsTrue, nat_le, List, [], ◌∷◌, map, drop, length, refl, sym, ◌∙◌, ap, subst, arith, Option, Some, None, Ok, if◌then◌else◌}
 use Rattle.std.specs.List.{All}
-use Rattle.std.proofs.lemmas.Bool.Decides.{nat_tests}
-use Rattle.std.proofs.lemmas.List.{length-map, length-drop}
-use Rattle.std.proofs.lemmas.List.Elements.{All-head, All-tail}
+use Rattle.std.proofs.lemmas.{Bool.Decides.nat_tests, List.length-map, List.length-drop, List.Elements.All-head, List.Elements.All-tail}
 use Rattle.std.proofs.lemmas.List.Sums.{sum_by-cons}
 use Rattle.fb_bytes.specs.Word.{Lent, word}
-use Rattle.fb_schema.specs.declared.views.Act.{Act}
+use Rattle.fb_schema.specs.declared.{views.Act.Act, views.Step.Step}
 use Rattle.fb_schema.specs.declared.views.Act.TheVariants.{One, Two, Four, Eight, Other}
-use Rattle.fb_schema.specs.declared.views.Step.{Step}
-use Rattle.fb_schema.specs.Live.{Live, live_fields}
-use Rattle.fb_schema.specs.Steps.{step_of}
-use Rattle.fb_verify.specs.declared.checks.Checks.{Checks}
-use Rattle.fb_verify.specs.declared.fault.Reason.TheVariants.{OutOfBuffer, Misaligned, BadVtable, MissingRequired}
-use Rattle.fb_verify.specs.declared.passed.Passed.{Passed}
-use Rattle.fb_verify.specs.declared.scratch.Frame.{Frame}
-use Rattle.fb_verify.specs.declared.stack.Walk.{Walk}
-use Rattle.fb_verify.specs.declared.table.Table.{Table}
+use Rattle.fb_schema.specs.{Live.Live, Live.live_fields, Steps.step_of}
+use Rattle.fb_verify.specs.declared.{checks.Checks.Checks, passed.Passed.Passed, scratch.Frame.Frame, stack.Walk.Walk, table.Table.Table}
 use Rattle.fb_verify.specs.declared.table.Head.{Head}
-use Rattle.fb_verify.specs.Alike.{IsSmallStep, IsLike, IsPassed}
-use Rattle.fb_verify.specs.Bounds.{AreAllowed}
-use Rattle.fb_verify.specs.Cost.{head_reads, slot_reads}
-use Rattle.fb_verify.specs.Flat.{MayOpen, PassesFlat}
+use Rattle.fb_verify.specs.declared.fault.Reason.TheVariants.{OutOfBuffer, Misaligned, BadVtable, MissingRequired}
+use Rattle.fb_verify.specs.{Alike.IsSmallStep, Alike.IsLike, Alike.IsPassed, Bounds.AreAllowed, Cost.head_reads, Cost.slot_reads}
+use Rattle.fb_verify.specs.{Flat.MayOpen, Flat.PassesFlat, Stack.opened, Stack.Waiting, Stack.IsWalking, Told.IsHead}
 use Rattle.fb_verify.specs.Order.{check, after, head_failure, table_failure, inline_failure, inline_field_failure}
 use Rattle.fb_verify.specs.Places.{fits, is_aligned, vtable, vtable_size, inline_size, has_slot, field_place, ends_in_table}
 use Rattle.fb_verify.specs.Plain.{tested_by, FindsVtable, first_word_failure, vtable_failure, step_failure, step_reads, step_failure_at, step_reads_at, plain_failure, plain_reads, StepsHold, steps_reads}
-use Rattle.fb_verify.specs.Stack.{opened, Waiting, IsWalking}
-use Rattle.fb_verify.specs.Told.{IsHead}
-use Rattle.fb_verify.proofs.BySteps.{left_from}
-use Rattle.fb_verify.proofs.Budgets.{fewer_reads}
-use Rattle.fb_verify.proofs.Chains.{after_none, both_none, head_none, table_none, inline_none}
-use Rattle.fb_verify.proofs.Heads.{head_parts, head_reads_parts}
-use Rattle.fb_verify.proofs.Passing.{AtStep, step_passed}
+use Rattle.fb_verify.proofs.{BySteps.left_from, Budgets.fewer_reads, Heads.head_parts, Heads.head_reads_parts, Passing.AtStep, Passing.step_passed}
 use Rattle.fb_verify.proofs.Walking.{table_closed}
+use Rattle.fb_verify.proofs.Chains.{after_none, both_none, head_none, table_none, inline_none}
 
 -- A vtable that holds for one table holds for another.
 quiet : (f g e w : Bool) (p t v : ℕ) → check f OutOfBuffer p 0 (check g Misaligned v 0 (check e BadVtable v 1 (check w OutOfBuffer v 1 None))) ≡ None → check f OutOfBuffer t 0 (check g Misaligned v 0 (check e BadVtable v 1 (check w OutOfBuffer v 1 None))) ≡ None

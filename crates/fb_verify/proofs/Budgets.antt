@@ -1,8 +1,7 @@
 -- What a budget of reads allows.
 use Rattle.std.proofs.Common.{◌≡◌, ℕ, ◌+◌, ◌≤◌, false, arith, Option, Some, None}
 use Rattle.std.proofs.lemmas.Bool.Decides.{nat_tests}
-use Rattle.fb_verify.specs.Bounds.{AreAllowed, allowed, AreTooMany}
-use Rattle.fb_verify.specs.Laws.{LengthAllows}
+use Rattle.fb_verify.specs.{Bounds.AreAllowed, Bounds.allowed, Bounds.AreTooMany, Laws.LengthAllows}
 
 -- fewer reads are allowed too
 pub fewer_reads : (budget : Option ℕ) (m n : ℕ) → m ≤ n → AreAllowed budget n → AreAllowed budget m

@@ -3,20 +3,13 @@ use Rattle.std.proofs.Common.{◌≡◌, ℕ, zero, suc, ◌+◌, ◌*◌, ◌�
 use Rattle.std.specs.Prelude.{slice_get}
 use Rattle.fb_bytes.specs.Word.{Lent}
 use Rattle.fb_schema.specs.declared.views.Step.{Step}
-use Rattle.fb_schema.specs.Live.{live_fields}
-use Rattle.fb_schema.specs.Steps.{step_of}
-use Rattle.fb_verify.specs.declared.fault.Reason.{Reason}
-use Rattle.fb_verify.specs.declared.plain.Came.{Came}
+use Rattle.fb_schema.specs.{Live.live_fields, Steps.step_of}
+use Rattle.fb_verify.specs.declared.{fault.Reason.Reason, plain.Came.Came, scratch.Frame.Frame, stack.Walk.Walk, table.Table.Table}
 use Rattle.fb_verify.specs.declared.plain.Came.TheVariants.{Past, ToEnd, ToField, ToFault}
-use Rattle.fb_verify.specs.declared.scratch.Frame.{Frame}
-use Rattle.fb_verify.specs.declared.stack.Walk.{Walk}
-use Rattle.fb_verify.specs.declared.table.Table.{Table}
 use Rattle.fb_verify.specs.Plain.{StepsHold, steps_reads, StepTested, StepBehind, StepLeads, Stepped}
 use Rattle.fb_verify.specs.Stack.{Waiting}
 use Rattle.fb_verify.specs.PassesOn.{StepsPass, IsBetween, HasRoom, EndsBehind, PassesOn, CameTo, fields_left}
-use Rattle.fb_verify.proofs.Budgets.{fewer_reads}
-use Rattle.fb_verify.proofs.Frames.{slot_few}
-use Rattle.fb_verify.proofs.Plains.{plain_few}
+use Rattle.fb_verify.proofs.{Budgets.fewer_reads, Frames.slot_few, Plains.plain_few}
 use Rattle.fb_verify.proofs.Passing.{AtStep, next_within, leads_open, same_slot, step_passed, step_stops, at_field, told_grows}
 
 -- The first that is left of a list stands at its place, and the others are left behind it.

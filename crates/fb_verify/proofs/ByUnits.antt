@@ -3,12 +3,9 @@ use Rattle.std.proofs.Common.{◌≡◌, ℕ, ◌+◌, List, Result, Ok, Err, sy
 use Rattle.std.specs.Result.{IsErrAnd}
 use Rattle.fb_bytes.specs.Word.{Lent}
 use Rattle.fb_verify.specs.declared.{fault.Reason.Reason, site.Site.Site, site.Stop.Stop}
-use Rattle.fb_verify.specs.Bounds.{Bounds}
+use Rattle.fb_verify.specs.{Bounds.Bounds, Plain.tested_by, Plain.IsTested, Told.told, Told.stopped, Told.IsAskedAt}
 use Rattle.fb_verify.specs.Order.{Failure, after, ◌▷◌}
-use Rattle.fb_verify.specs.Plain.{tested_by, IsTested}
-use Rattle.fb_verify.specs.Told.{told, stopped, IsAskedAt}
-use Rattle.fb_verify.proofs.Plains.{after_twice}
-use Rattle.fb_verify.proofs.Refusals.{told_after, told_first}
+use Rattle.fb_verify.proofs.{Plains.after_twice, Refusals.told_after, Refusals.told_first}
 
 -- a chain that finds nothing has no test that fails
 pub unfailed : (at k m : ℕ) (chain : Option Failure) (failed : Option Reason) → tested_by at k failed ≡ after m chain → chain ≡ None → failed ≡ None

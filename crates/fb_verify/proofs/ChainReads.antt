@@ -3,16 +3,11 @@ use Rattle.std.proofs.Common.{◌≡◌, ℕ, ◌+◌, ◌-◌, ◌≤◌, Bool,
 use Rattle.std.proofs.lemmas.Bool.Decides.{nat_tests}
 use Rattle.fb_schema.specs.declared.kinds.Kind.{Kind, TheVariants.Union}
 use Rattle.fb_schema.specs.{Rows.Rows, Live.Live}
-use Rattle.fb_verify.specs.declared.checks.Checks.{Checks}
-use Rattle.fb_verify.specs.declared.start.Start.{Start}
-use Rattle.fb_verify.specs.declared.start.Ident.{Ident}
+use Rattle.fb_verify.specs.declared.{checks.Checks.Checks, start.Start.Start, start.Ident.Ident}
 use Rattle.fb_verify.specs.declared.fault.Reason.{Reason, TheVariants.TooManyReads}
-use Rattle.fb_verify.specs.Bounds.{Bounds, allowed}
+use Rattle.fb_verify.specs.{Bounds.Bounds, Bounds.allowed, Tree.size, Cost.lead_reads}
+use Rattle.fb_verify.specs.{WellFormed.prefix_reads, WellFormed.ident_reads, WellFormed.start_reads, Stops.reads_failure, Stops.lead_reads_failure}
 use Rattle.fb_verify.specs.Fields.{type_place, Lead, to_table, Entry}
-use Rattle.fb_verify.specs.Tree.{size}
-use Rattle.fb_verify.specs.Cost.{lead_reads}
-use Rattle.fb_verify.specs.WellFormed.{prefix_reads, ident_reads, start_reads}
-use Rattle.fb_verify.specs.Stops.{reads_failure, lead_reads_failure}
 use Rattle.fb_verify.specs.Order.{Failure, check, after, ◌▷◌, prefix_failure, ident_failure, offset_failure, start_failure, head_failure, string_failure, vector_failure, inline_failure, table_failure, union_field_failure, present_failure, failure_at, own_failure, lead_failure, element_failure}
 use Rattle.fb_verify.proofs.Frames.{if_present_few, slot_few}
 

@@ -5,13 +5,10 @@ use Rattle.fb_schema.specs.{Rows.Rows, Live.Live}
 use Rattle.fb_verify.specs.declared.checks.Checks.{Checks}
 use Rattle.fb_verify.specs.declared.start.Start.{Start, TheVariants.Bare, TheVariants.Prefixed}
 use Rattle.fb_verify.specs.declared.start.Ident.{Ident, TheVariants.Any, TheVariants.Want}
-use Rattle.fb_verify.specs.Places.{ends_in_table}
+use Rattle.fb_verify.specs.{Places.ends_in_table, Tree.Element, Tree.leaf, Tree.table, Unfolds.ElementUnfolds}
+use Rattle.fb_verify.specs.{WellFormed.IsPrefixed, WellFormed.IsIdentified, WellFormed.IsStart, Laws.IsLead}
 use Rattle.fb_verify.specs.Facts.{IsTable, IsOffset, IsString, IsVector, IsInline}
 use Rattle.fb_verify.specs.Fields.{IsInlineField, IsVectorField, IsUnionsField, IsUnionField, IsPresent, IsPresentOrAbsent, IsField, Lead, to_table, Entry}
-use Rattle.fb_verify.specs.Tree.{Element, leaf, table}
-use Rattle.fb_verify.specs.Unfolds.{ElementUnfolds}
-use Rattle.fb_verify.specs.WellFormed.{IsPrefixed, IsIdentified, IsStart}
-use Rattle.fb_verify.specs.Laws.{IsLead}
 use Rattle.fb_verify.specs.Order.{Failure, after, ◌▷◌, prefix_failure, ident_failure, offset_failure, start_failure, head_failure, string_failure, vector_failure, inline_failure, table_failure, inline_field_failure, vector_field_failure, unions_field_failure, union_field_failure, present_failure, failure_at, own_failure, lead_failure, element_failure}
 
 -- two chains, and a chain after some reads

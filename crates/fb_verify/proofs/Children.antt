@@ -4,16 +4,11 @@ use Rattle.std.proofs.lemmas.List.Sums.{sum_by_push}
 use Rattle.fb_schema.specs.{Rows.Rows, Live.live_fields}
 use Rattle.fb_verify.specs.declared.{checks.Checks.Checks, table.Child.Child, fault.Fault.Fault, table.Table.Table, offset_row.Row.Row, scratch.Frame.Frame}
 use Rattle.fb_verify.specs.declared.{site.Site.Site, stack.Walk.Walk}
-use Rattle.fb_verify.specs.Bounds.{Bounds, AreAllowed}
-use Rattle.fb_verify.specs.Cost.{head_reads}
-use Rattle.fb_verify.specs.Order.{◌▷◌, head_failure}
-use Rattle.fb_verify.specs.OffsetRows.{past_first}
-use Rattle.fb_verify.specs.Stack.{frame_work, work, opened, Origin, IsUnderWay, IsAtTable, StopsIn}
-use Rattle.fb_verify.specs.Stops.{budget_failure, reads_failure}
+use Rattle.fb_verify.specs.{Bounds.Bounds, Bounds.AreAllowed, Cost.head_reads, OffsetRows.past_first, Stops.budget_failure, Stops.reads_failure}
 use Rattle.fb_verify.specs.Told.{told, way_at, IsHead}
-use Rattle.fb_verify.proofs.Frames.{first_few}
-use Rattle.fb_verify.proofs.Stopping.{table_stops}
-use Rattle.fb_verify.proofs.Walking.{table_opened, open_work}
+use Rattle.fb_verify.specs.Order.{◌▷◌, head_failure}
+use Rattle.fb_verify.specs.Stack.{frame_work, work, opened, Origin, IsUnderWay, IsAtTable, StopsIn}
+use Rattle.fb_verify.proofs.{Frames.first_few, Stopping.table_stops, Walking.table_opened, Walking.open_work}
 
 -- Offset words that were passed leave less work.
 module _ (S : Rows) (L : Bounds) (below : List Frame) (old new : Frame) (n r q : ℕ) (same : new ≡ record old { row = new.row }) (paid : q + 4 * (new.row).left ≤ r + 4 * (old.row).left) where

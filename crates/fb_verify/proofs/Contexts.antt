@@ -4,13 +4,9 @@ use Rattle.std.specs.List.{All}
 use Rattle.std.proofs.lemmas.List.Elements.{All-nil, All-cons, All-head, All-tail}
 use Rattle.fb_schema.specs.{Rows.Rows, Served.IsServed}
 use Rattle.fb_verify.specs.declared.{checks.Checks.Checks, scratch.Frame.Frame, fault.Fault.Fault, links.Link.Link}
-use Rattle.fb_verify.specs.Bounds.{Bounds}
-use Rattle.fb_verify.specs.Way.{Way}
-use Rattle.fb_verify.specs.Links.{LeadsAlong}
+use Rattle.fb_verify.specs.{Bounds.Bounds, Way.Way, Links.LeadsAlong, OffsetRows.words_of}
 use Rattle.fb_verify.specs.Stack.{Context, Goes, frame_link, AreFrames, IsFrame, IsLinked}
-use Rattle.fb_verify.specs.OffsetRows.{words_of}
-use Rattle.fb_verify.proofs.Linked.{linked_by, is_linked}
-use Rattle.fb_verify.proofs.Steps.{stops_below}
+use Rattle.fb_verify.proofs.{Linked.linked_by, Linked.is_linked, Steps.stops_below}
 
 module _ (c : Checks) (b : List ℕ) (S : Rows) where
   pub context_push : (xs : List Frame) (fr : Frame) (k t : ℕ) (w v : Way) (k' t' : ℕ) (u : Way) → Context c b S xs k t w (fr.table).object (fr.table).at v → Goes c b S fr v k' t' u → Context c b S (xs ++ fr ∷ []) k t w k' t' u

@@ -1,45 +1,22 @@
 -- A table whose fields lead to no table is passed whole.
 use Rattle.std.proofs.Common.{◌≡◌, ℕ, ◌+◌, ◌*◌, ◌^◌, ◌<◌, ◌≤◌, IsTrue, Bool, true, false, List, map, length, refl, sym, ◌∙◌, ap, arith, Option, Some, None, Result, Ok, Err}
-use Rattle.std.proofs.lemmas.Bool.{lt-ltb}
+use Rattle.std.proofs.lemmas.{Bool.lt-ltb, List.length-map}
 use Rattle.fb_bytes.specs.Word.{Lent}
-use Rattle.fb_schema.specs.Rows.{Rows, is_table}
-use Rattle.fb_schema.specs.Live.{live_fields}
-use Rattle.fb_schema.specs.Steps.{is_plain, step_of}
+use Rattle.fb_schema.specs.{Rows.Rows, Rows.is_table, Live.live_fields, Steps.is_plain, Steps.step_of}
 use Rattle.fb_schema.proofs.Numbers.{slice_get_some}
-use Rattle.fb_verify.specs.declared.checks.Checks.{Checks}
-use Rattle.fb_verify.specs.declared.fault.Reason.{Reason}
+use Rattle.fb_verify.specs.declared.{checks.Checks.Checks, fault.Reason.Reason, table.Head.Head, table.Table.Table, offset_row.Row.Row}
+use Rattle.fb_verify.specs.declared.{offset_row.Leads.TheVariants.All, offset_row.Referent.TheVariants.Table as ATable, scratch.Frame.Frame}
+use Rattle.fb_verify.specs.declared.{site.Refusal.Refusal, site.Site.Site, stack.Walk.Walk}
 use Rattle.fb_schema.specs.declared.views.Step.{Step}
-use Rattle.fb_verify.specs.declared.table.Head.{Head}
-use Rattle.fb_verify.specs.declared.table.Table.{Table}
-use Rattle.fb_verify.specs.declared.offset_row.Row.{Row}
-use Rattle.fb_verify.specs.declared.offset_row.Leads.TheVariants.{All}
-use Rattle.fb_verify.specs.declared.offset_row.Referent.TheVariants.{Table as ATable}
-use Rattle.fb_verify.specs.declared.scratch.Frame.{Frame}
-use Rattle.fb_verify.specs.declared.site.Refusal.{Refusal}
-use Rattle.fb_verify.specs.declared.site.Site.{Site}
-use Rattle.fb_verify.specs.declared.stack.Walk.{Walk}
-use Rattle.fb_verify.specs.Bounds.{Bounds}
-use Rattle.fb_verify.specs.Places.{target}
-use Rattle.fb_verify.specs.Fields.{to_table}
+use Rattle.fb_verify.specs.{Bounds.Bounds, Places.target, Fields.to_table, Cost.head_reads, Cost.lead_reads}
+use Rattle.fb_verify.specs.{OffsetRows.first_word, OffsetRows.past_first, PassesOn.HasRoom, PassesOn.IsBetween, PassesOn.PassesOn}
+use Rattle.fb_verify.specs.{Stops.budget_failure, Stops.reads_failure, Told.told, Told.stopped, Told.IsHead, Way.Way}
 use Rattle.fb_verify.specs.Flat.{in_head, Going, MayPass, PassesFlat}
-use Rattle.fb_verify.specs.Cost.{head_reads, lead_reads}
 use Rattle.fb_verify.specs.Order.{after, ◌▷◌, head_failure, lead_failure, element_failure}
-use Rattle.fb_verify.specs.OffsetRows.{first_word, past_first}
-use Rattle.fb_verify.specs.PassesOn.{HasRoom, IsBetween, PassesOn}
 use Rattle.fb_verify.specs.Plain.{tested_by, IsTested, StepsHold, steps_reads}
 use Rattle.fb_verify.specs.Stack.{opened, Waiting, Origin, IsUnderWay, IsAtTable, work}
-use Rattle.fb_verify.specs.Stops.{budget_failure, reads_failure}
-use Rattle.fb_verify.specs.Told.{told, stopped, IsHead}
-use Rattle.fb_verify.specs.Way.{Way}
-use Rattle.std.proofs.lemmas.List.{length-map}
-use Rattle.fb_verify.proofs.Budgets.{fewer_reads}
-use Rattle.fb_verify.proofs.Chains.{after_none}
-use Rattle.fb_verify.proofs.Frames.{head_few}
-use Rattle.fb_verify.proofs.LeafRows.{all_lead, all_free, all_told}
-use Rattle.fb_verify.proofs.Passing.{told_grows}
-use Rattle.fb_verify.proofs.Plains.{never_leads}
-use Rattle.fb_verify.proofs.Refusals.{told_after, told_first}
-use Rattle.fb_verify.proofs.Walking.{table_closed}
+use Rattle.fb_verify.proofs.{Budgets.fewer_reads, Chains.after_none, Frames.head_few, LeafRows.all_lead, LeafRows.all_free, LeafRows.all_told}
+use Rattle.fb_verify.proofs.{Passing.told_grows, Plains.never_leads, Refusals.told_after, Refusals.told_first, Walking.table_closed}
 
 -- a field of a table of which none leads on isn't there to lead on
 pub never_on : {w : Walk} {m new : Lent} {under : Waiting} {top past : Frame} {at : ℕ} → is_plain w.schema.now (top.table).object ≡ true → past.table ≡ top.table → PassesOn w m new under top past at (Ok true) → ⊥

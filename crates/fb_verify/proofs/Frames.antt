@@ -1,17 +1,12 @@
 -- What frames keep, and what work is left to them.
 use Rattle.std.proofs.Common.{◌≡◌, ℕ, ◌+◌, ◌*◌, ◌^◌, ◌<◌, ◌≤◌, IsTrue, List, length, map, option_map, sym, ◌∙◌, ap, subst, arith, Option, Some, Result, Ok, Err, IfErr}
-use Rattle.std.specs.Prelude.{slice_get}
-use Rattle.std.specs.Result.{IsErrAnd}
-use Rattle.std.specs.Borrow.{Bor}
-use Rattle.std.specs.Slice.{IsItemAt}
-use Rattle.std.proofs.lemmas.List.{length-map}
-use Rattle.std.proofs.lemmas.Option.{slice_get-get_or, slice_get-map, slice_get_within}
+use Rattle.std.specs.{Prelude.slice_get, Result.IsErrAnd, Borrow.Bor, Slice.IsItemAt}
+use Rattle.std.proofs.lemmas.{List.length-map, Option.slice_get-get_or, Option.slice_get-map, Option.slice_get_within}
 use Rattle.fb_schema.specs.declared.kinds.Kind.{Kind}
 use Rattle.fb_schema.specs.{Rows.Rows, Rows.is_table, Live.Live, Live.live_fields, Served.IsServed}
 use Rattle.fb_verify.specs.declared.{checks.Checks.Checks, table.Table.Table as TableOf, offset_row.Row.Row, scratch.Frame.Frame}
 use Rattle.fb_verify.specs.Cost.{head_reads, slot_reads, reads_if_present, present_reads, own_reads, lead_reads}
-use Rattle.fb_verify.specs.Fields.{Lead}
-use Rattle.fb_verify.specs.Told.{IsHead}
+use Rattle.fb_verify.specs.{Fields.Lead, Told.IsHead}
 use Rattle.fb_verify.specs.OffsetRows.{first_word, past_first, IsRow, AreTypesNear}
 use Rattle.fb_verify.specs.Stack.{blank, opened, IsFrame, frame_work}
 use Rattle.fb_verify.proofs.Words.{row_on}

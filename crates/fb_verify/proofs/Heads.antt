@@ -1,8 +1,7 @@
 -- The head of a table is tested by its first word, and then by its vtable.
 use Rattle.std.proofs.Common.{◌≡◌, ℕ, ◌+◌, List, sym, ◌∙◌, ap, arith, Option, Some, None}
 use Rattle.fb_bytes.specs.Word.{Lent}
-use Rattle.fb_verify.specs.declared.checks.Checks.{Checks}
-use Rattle.fb_verify.specs.declared.fault.Reason.{Reason}
+use Rattle.fb_verify.specs.declared.{checks.Checks.Checks, fault.Reason.Reason}
 use Rattle.fb_verify.specs.Cost.{head_reads}
 use Rattle.fb_verify.specs.Order.{Failure, after, ◌▷◌, head_failure}
 use Rattle.fb_verify.specs.Plain.{IsTested, first_word_failure, vtable_failure, vtable_reads}

@@ -2,40 +2,21 @@
 use Rattle.std.proofs.Common.{◌≡◌, ℕ, ◌+◌, ◌-◌, ◌<◌, ◌≤◌, nat_lt, List, [], refl, sym, ◌∙◌, ap, subst, arith, Option, Some, None}
 use Rattle.std.proofs.lemmas.Bool.{lt-ltb}
 use Rattle.fb_bytes.specs.Word.{Lent}
-use Rattle.fb_schema.specs.Rows.{Rows}
-use Rattle.fb_schema.specs.Live.{Live}
-use Rattle.fb_verify.specs.declared.checks.Checks.{Checks}
-use Rattle.fb_verify.specs.declared.table.Child.{Child}
-use Rattle.fb_verify.specs.declared.fault.Reason.{Reason}
-use Rattle.fb_verify.specs.declared.offset_row.Row.{Row}
-use Rattle.fb_verify.specs.declared.scratch.Frame.{Frame}
-use Rattle.fb_verify.specs.declared.site.Refusal.{Refusal}
-use Rattle.fb_verify.specs.declared.site.Site.{Site}
-use Rattle.fb_verify.specs.declared.site.Stop.{Stop}
-use Rattle.fb_verify.specs.declared.stack.Turn.{Turn}
+use Rattle.fb_schema.specs.{Rows.Rows, Live.Live}
+use Rattle.fb_verify.specs.declared.{checks.Checks.Checks, table.Child.Child, fault.Reason.Reason, offset_row.Row.Row, scratch.Frame.Frame}
+use Rattle.fb_verify.specs.declared.{site.Refusal.Refusal, site.Site.Site, site.Stop.Stop, stack.Turn.Turn, stack.Walk.Walk}
 use Rattle.fb_verify.specs.declared.stack.Turn.TheVariants.{Down, Up, Slowly, Halt as Halted}
-use Rattle.fb_verify.specs.declared.stack.Walk.{Walk}
-use Rattle.fb_verify.specs.Bounds.{Bounds, AreAllowed}
+use Rattle.fb_verify.specs.{Bounds.Bounds, Bounds.AreAllowed, Fields.entries_of, Fields.entries_at, Fields.entries, Plain.tested_by, Plain.IsTested}
+use Rattle.fb_verify.specs.{Stops.reads_failure, StopsAt.IsStopAt, Told.refused, Told.stopped}
 use Rattle.fb_verify.specs.Cost.{slot_reads, present_reads, reads_at, own_reads}
-use Rattle.fb_verify.specs.Fields.{entries_of, entries_at, entries}
 use Rattle.fb_verify.specs.OffsetRows.{words_of, IsRow, IsAskable, LeavesRow}
 use Rattle.fb_verify.specs.Order.{Failure, after, present_failure, failure_at, own_failure}
-use Rattle.fb_verify.specs.Plain.{tested_by, IsTested}
 use Rattle.fb_verify.specs.Stack.{blank, frame_work, work, Waiting, IsUnderWay, IsStopped}
-use Rattle.fb_verify.specs.Stops.{reads_failure}
-use Rattle.fb_verify.specs.StopsAt.{IsStopAt}
-use Rattle.fb_verify.specs.Told.{refused, stopped}
 use Rattle.fb_verify.specs.Turns.{IsAtOpenField, GoesOn, StaysInField, PassedField, BeginsRow, RowTurned, FieldTurned}
-use Rattle.fb_verify.proofs.Budgets.{fewer_reads}
-use Rattle.fb_verify.proofs.Chains.{after_none}
-use Rattle.fb_verify.proofs.Turning.{halts_on, goes_on, goes_down}
-use Rattle.fb_verify.proofs.Frames.{no_row, own_few, present_few}
-use Rattle.fb_verify.proofs.NextField.{AtNext, askable, next_stops}
-use Rattle.fb_verify.proofs.Passing.{slot_is_one, stop_is}
-use Rattle.fb_verify.proofs.Plains.{after_twice}
-use Rattle.fb_verify.proofs.Refusals.{told_after, told_first}
+use Rattle.fb_verify.proofs.{Budgets.fewer_reads, Chains.after_none, Turning.halts_on, Turning.goes_on, Turning.goes_down}
+use Rattle.fb_verify.proofs.{Frames.no_row, Frames.own_few, Frames.present_few, NextField.AtNext, NextField.askable, NextField.next_stops}
+use Rattle.fb_verify.proofs.{Passing.slot_is_one, Passing.stop_is, Plains.after_twice, Refusals.told_after, Refusals.told_first, Words.row_none}
 use Rattle.fb_verify.proofs.Walking.{field_passed, field_work, field_skipped, skip_work}
-use Rattle.fb_verify.proofs.Words.{row_none}
 
 module _ {w : Walk} {m : Lent} {under : Waiting} {waiting : ℕ} {top : Frame} {place : ℕ} {f : Live} (h : IsAtOpenField w m under waiting top place f) where
   abbrev b : List ℕ

@@ -1,26 +1,14 @@
 -- The offset words that are left of a field are passed one by one.
 use Rattle.std.proofs.Common.{◌≡◌, ℕ, ◌+◌, ◌<◌, List, [], ◌∷◌, ◌++◌, refl, sym, ◌∙◌, ap, subst, arith, Option, Some}
 use Rattle.fb_schema.specs.Rows.{Rows}
-use Rattle.fb_verify.specs.declared.checks.Checks.{Checks}
-use Rattle.fb_verify.specs.declared.offset_row.Leads.TheVariants.{All}
-use Rattle.fb_verify.specs.declared.offset_row.Referent.{Referent}
-use Rattle.fb_verify.specs.declared.offset_row.Row.{Row}
-use Rattle.fb_verify.specs.declared.offset_row.Referent.TheVariants.{Table as ATable}
-use Rattle.fb_verify.specs.declared.scratch.Frame.{Frame}
-use Rattle.fb_verify.specs.declared.site.Refusal.{Refusal}
-use Rattle.fb_verify.specs.declared.site.Site.{Site}
+use Rattle.fb_verify.specs.declared.{checks.Checks.Checks, offset_row.Leads.TheVariants.All, offset_row.Referent.Referent, offset_row.Row.Row}
+use Rattle.fb_verify.specs.declared.{offset_row.Referent.TheVariants.Table as ATable, scratch.Frame.Frame, site.Refusal.Refusal, site.Site.Site}
 use Rattle.fb_verify.specs.declared.site.Stop.{Stop}
-use Rattle.fb_verify.specs.Bounds.{Bounds}
-use Rattle.fb_verify.specs.Fields.{Lead, Entry}
+use Rattle.fb_verify.specs.{Bounds.Bounds, Fields.Lead, Fields.Entry, Stack.Origin, Stack.IsUnderWay, Stack.StopsIn, Stops.lead_reads_failure}
+use Rattle.fb_verify.specs.Told.{refused, stopped}
 use Rattle.fb_verify.specs.Order.{Failure, after, lead_failure, element_failure}
 use Rattle.fb_verify.specs.OffsetRows.{lead_to, first_word, word_at, past_first, IsLeafLead}
-use Rattle.fb_verify.specs.Stack.{Origin, IsUnderWay, StopsIn}
-use Rattle.fb_verify.specs.Stops.{lead_reads_failure}
-use Rattle.fb_verify.specs.Told.{refused, stopped}
-use Rattle.fb_verify.proofs.Plains.{after_twice}
-use Rattle.fb_verify.proofs.Refusals.{told_after, told_first}
-use Rattle.fb_verify.proofs.Stopping.{word_stops}
-use Rattle.fb_verify.proofs.Words.{first_place}
+use Rattle.fb_verify.proofs.{Plains.after_twice, Refusals.told_after, Refusals.told_first, Stopping.word_stops, Words.first_place}
 
 -- The first word of a row: its type is read, and then it is tested with what it leads to.
 pub word_told : (c : Checks) (b : List ℕ) (S : Rows) (row : Row) (lead : Lead) → lead ≡ (first_word b S row).lead → (m mid : ℕ) → mid ≡ m + (first_word b S row).reads → (x : Option Failure) → x ≡ after mid (lead_failure c b row.place lead)

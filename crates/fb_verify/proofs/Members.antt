@@ -1,15 +1,10 @@
 -- What the schema tells of a type of a union is what its member leads to.
 use Rattle.std.proofs.Common.{◌≡◌, refl, Option, Some, None}
-use Rattle.fb_schema.specs.declared.kinds.Kind.{Kind}
-use Rattle.fb_schema.specs.declared.kinds.Kind.TheVariants.{Scalar, Struct, Table}
+use Rattle.fb_schema.specs.declared.{kinds.Kind.Kind, kinds.Kind.TheVariants.Scalar, kinds.Kind.TheVariants.Struct, kinds.Kind.TheVariants.Table}
 use Rattle.fb_schema.specs.declared.views.Target.{Target}
-use Rattle.fb_schema.specs.Rows.{Rows}
-use Rattle.fb_schema.specs.Served.{MemberHolds}
-use Rattle.fb_schema.specs.Targets.{target_of, kind_to}
-use Rattle.fb_verify.specs.Fields.{to_nothing, lead_of}
-use Rattle.fb_verify.specs.declared.offset_row.Referent.{Referent}
-use Rattle.fb_verify.specs.declared.offset_row.Referent.TheVariants.{Nothing}
-use Rattle.fb_verify.specs.OffsetRows.{lead_to, lead_to_goal, GoalHolds}
+use Rattle.fb_schema.specs.{Rows.Rows, Served.MemberHolds, Targets.target_of, Targets.kind_to}
+use Rattle.fb_verify.specs.{Fields.to_nothing, Fields.lead_of, OffsetRows.lead_to, OffsetRows.lead_to_goal, OffsetRows.GoalHolds}
+use Rattle.fb_verify.specs.declared.{offset_row.Referent.Referent, offset_row.Referent.TheVariants.Nothing}
 
 leads : (S : Rows) (member : Option Kind) → lead_to_goal ((target_of S member).goal) (target_of S member) ≡ lead_of S member
 leads S (Some (Scalar s)) = refl

@@ -5,15 +5,12 @@ use Rattle.std.proofs.lemmas.Bool.Decides.{nat_tests}
 use Rattle.fb_schema.specs.declared.kinds.Kind.{Kind}
 use Rattle.fb_schema.specs.{Rows.Rows, Live.Live}
 use Rattle.fb_verify.specs.declared.{checks.Checks.Checks, fault.Fault.Fault}
-use Rattle.fb_verify.specs.Bounds.{Bounds}
+use Rattle.fb_verify.specs.{Bounds.Bounds, Cost.head_reads, Cost.own_reads, Cost.lead_reads, Way.Way}
 use Rattle.fb_verify.specs.Fields.{Lead, Entry, row, union_row, union_entry, entries}
-use Rattle.fb_verify.specs.Cost.{head_reads, own_reads, lead_reads}
 use Rattle.fb_verify.specs.Order.{Failure, ◌▷◌, head_failure, own_failure, element_failure}
-use Rattle.fb_verify.specs.Way.{Way}
 use Rattle.fb_verify.specs.Stops.{budget_failure, reads_failure, lead_reads_failure, in_head, fault_of, fault_at, IsFalseAt}
-use Rattle.fb_verify.proofs.Frames.{head_few, own_few}
+use Rattle.fb_verify.proofs.{Frames.head_few, Frames.own_few, Overruns.some_same}
 use Rattle.fb_verify.proofs.ChainReads.{AtMost, either, reads_most, lead_reads_most, head_most, own_most, element_most}
-use Rattle.fb_verify.proofs.Overruns.{some_same}
 
 -- the reads of a fault
 

@@ -1,24 +1,15 @@
 -- The walk comes to the next field of the top, and goes on past it or stops there.
 use Rattle.std.proofs.Common.{◌≡◌, ℕ, ◌+◌, ◌<◌, ◌≤◌, [], Result, Ok, Err, true, refl, sym, subst, ◌∙◌, arith, Some, None}
-use Rattle.std.specs.Prelude.{slice_get}
-use Rattle.std.specs.Result.{IsErrAnd}
+use Rattle.std.specs.{Prelude.slice_get, Result.IsErrAnd}
 use Rattle.fb_bytes.specs.Word.{Lent}
 use Rattle.fb_schema.specs.Live.{Live, live_fields}
 use Rattle.fb_verify.specs.declared.{fault.Fault.Fault, offset_row.Row.Row, scratch.Frame.Frame, site.Stop.Stop, stack.Walk.Walk}
-use Rattle.fb_verify.specs.Bounds.{AreAllowed}
-use Rattle.fb_verify.specs.Cost.{own_reads}
-use Rattle.fb_verify.specs.Fields.{entries}
-use Rattle.fb_verify.specs.OffsetRows.{words_of, IsRow, IsAskable}
+use Rattle.fb_verify.specs.{Bounds.AreAllowed, Cost.own_reads, Fields.entries, OffsetRows.words_of, OffsetRows.IsRow, OffsetRows.IsAskable}
+use Rattle.fb_verify.specs.{PassesOn.HasPassed, PassesOn.PassesFields, Stops.reads_failure, Told.told, Told.stopped}
 use Rattle.fb_verify.specs.Order.{◌▷◌, own_failure}
-use Rattle.fb_verify.specs.PassesOn.{HasPassed, PassesFields}
 use Rattle.fb_verify.specs.Stack.{blank, frame_work, Waiting, IsWalking, IsStopped}
-use Rattle.fb_verify.specs.Stops.{reads_failure}
-use Rattle.fb_verify.specs.Told.{told, stopped}
-use Rattle.fb_verify.proofs.Frames.{no_row}
-use Rattle.fb_verify.proofs.Standings.{next_typed}
-use Rattle.fb_verify.proofs.Stopping.{field_stops}
+use Rattle.fb_verify.proofs.{Frames.no_row, Standings.next_typed, Stopping.field_stops, Words.row_none}
 use Rattle.fb_verify.proofs.Walking.{field_passed, field_work, field_skipped, skip_work}
-use Rattle.fb_verify.proofs.Words.{row_none}
 
 -- the exit of a `?`
 pub err_exit : {A E : Type 0} (r : Result A E) (x : E) (P : Result A E → Type 0) → IsErrAnd r (λ e. e ≡ x) → P (Err x) → P r

@@ -1,16 +1,10 @@
 -- Where a tree is well formed and within the limits, no fault is the first.
 use Rattle.std.proofs.Common.{ℕ, inl, inr, List, arith}
 use Rattle.fb_verify.specs.declared.fault.Fault.{Fault}
-use Rattle.fb_verify.specs.Question.{Question}
-use Rattle.fb_verify.specs.Places.{target}
-use Rattle.fb_verify.specs.Tree.{Tree}
-use Rattle.fb_verify.specs.WellFormed.{base, start_reads, cost, IsWellFormed, IsWithin}
-use Rattle.fb_verify.specs.Order.{start_failure}
-use Rattle.fb_verify.specs.Way.{way_to_start, way_to_root}
+use Rattle.fb_verify.specs.{Question.Question, Places.target, Tree.Tree, Order.start_failure, Way.way_to_start, Way.way_to_root}
 use Rattle.fb_verify.specs.Stops.{fault_at, Stops}
-use Rattle.fb_verify.proofs.Budgets.{not_both}
-use Rattle.fb_verify.proofs.Chains.{start_none}
-use Rattle.fb_verify.proofs.Overruns.{reads_fault, not_past, overruns}
+use Rattle.fb_verify.specs.WellFormed.{base, start_reads, cost, IsWellFormed, IsWithin}
+use Rattle.fb_verify.proofs.{Budgets.not_both, Chains.start_none, Overruns.reads_fault, Overruns.not_past, Overruns.overruns}
 
 pub stops_nowhere : (q : Question) (b : List ℕ) (y : Tree) (f : Fault) → IsWellFormed q b y → IsWithin q b y → Stops q b f → ⊥
 unfolding fault_at

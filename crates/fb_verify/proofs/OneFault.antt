@@ -1,27 +1,18 @@
 -- At most one fault is the first, and one trail leads to it.
 use Rattle.std.proofs.Common.{◌≡◌, ℕ, ◌+◌, ◌<◌, inl, inr, List, take, refl, sym, ◌∙◌, ap, subst, arith, Some}
 use Rattle.std.specs.Prelude.{slice_get}
-use Rattle.std.proofs.lemmas.Bool.{cases_order}
-use Rattle.std.proofs.lemmas.List.{take-take}
+use Rattle.std.proofs.lemmas.{Bool.cases_order, List.take-take}
 use Rattle.fb_schema.specs.{Rows.Rows, Live.Live, Live.live_fields}
 use Rattle.fb_verify.specs.declared.{checks.Checks.Checks, start.Start.Start, start.Ident.Ident, fault.Fault.Fault, links.Link.Link}
-use Rattle.fb_verify.specs.Bounds.{Bounds}
-use Rattle.fb_verify.specs.Question.{Question}
-use Rattle.fb_verify.specs.Places.{target}
-use Rattle.fb_verify.specs.Facts.{IsTable}
-use Rattle.fb_verify.specs.Fields.{IsField, Entry, entries}
+use Rattle.fb_verify.specs.{Bounds.Bounds, Question.Question, Places.target, Facts.IsTable, Fields.IsField, Fields.Entry, Fields.entries}
+use Rattle.fb_verify.specs.{WellFormed.base, WellFormed.start_reads, WellFormed.IsStart, Cost.own_reads, Cost.kids_cost, Cost.elements_cost}
+use Rattle.fb_verify.specs.{Order.start_failure, Order.own_failure, Order.element_failure, Links.links_of, Links.StopsAlong}
 use Rattle.fb_verify.specs.Tree.{Kids, kids_length, Elements, elements_length}
-use Rattle.fb_verify.specs.WellFormed.{base, start_reads, IsStart}
-use Rattle.fb_verify.specs.Cost.{own_reads, kids_cost, elements_cost}
-use Rattle.fb_verify.specs.Order.{start_failure, own_failure, element_failure}
 use Rattle.fb_verify.specs.Way.{Way, way_to_start, way_to_root, way_to_field, way_to_element, way_to_table, StaysWithin}
 use Rattle.fb_verify.specs.Stops.{Place, in_start, in_head, in_field, in_element, fault_at, IsFalseAt, Trail, at_head, at_field, FieldTrail, at_own, at_element, ElementTrail, at_lead, through, IsLink, IsInField, IsTrail, IsFieldTrail, IsElementTrail, Stops}
-use Rattle.fb_verify.specs.Links.{links_of, StopsAlong}
-use Rattle.fb_verify.proofs.Chains.{start_none, own_none, through_passes}
-use Rattle.fb_verify.proofs.Unique.{one_kids, one_elements}
-use Rattle.fb_verify.proofs.Budgets.{fewer_reads, not_both}
+use Rattle.fb_verify.proofs.{Chains.start_none, Chains.own_none, Chains.through_passes, Unique.one_kids, Unique.one_elements}
+use Rattle.fb_verify.proofs.{Budgets.fewer_reads, Budgets.not_both, Typed.get_take}
 use Rattle.fb_verify.proofs.Overruns.{some_same, reads_fault, no_lead_fault, kids_at, elements_at, not_past, head_overruns, field_overruns, element_overruns, kids_cost_take, elements_cost_take}
-use Rattle.fb_verify.proofs.Typed.{get_take}
 
 -- lists
 

@@ -1,15 +1,9 @@
 -- At most one answer applies to a question.
 use Rattle.std.proofs.Common.{◌≡◌, ℕ, List, Ok, Err, ap, sym, ◌∙◌}
 use Rattle.fb_verify.specs.declared.fault.Report.{Report}
-use Rattle.fb_verify.specs.Question.{Question}
-use Rattle.fb_verify.specs.Places.{target}
-use Rattle.fb_verify.specs.Tree.{size, depth}
-use Rattle.fb_verify.specs.WellFormed.{base, cost}
-use Rattle.fb_verify.specs.Verdict.{Reports}
+use Rattle.fb_verify.specs.{Question.Question, Places.target, Tree.size, Tree.depth, WellFormed.base, WellFormed.cost, Verdict.Reports}
 use Rattle.fb_verify.specs.Answers.{HasOneVerdict}
-use Rattle.fb_verify.proofs.Unique.{one_tree}
-use Rattle.fb_verify.proofs.Nones.{stops_nowhere}
-use Rattle.fb_verify.proofs.OneFault.{stops_once}
+use Rattle.fb_verify.proofs.{Unique.one_tree, Nones.stops_nowhere, OneFault.stops_once}
 
 -- two reports count the same tree
 one_report : (q : Question) (b : List ℕ) (r s : Report) → Reports q b r → Reports q b s → r ≡ s

@@ -5,9 +5,7 @@ use Rattle.std.proofs.lemmas.Bool.Decides.{nat_tests}
 use Rattle.fb_schema.specs.{Rows.Rows, Live.Live, Live.live_fields}
 use Rattle.fb_verify.specs.declared.{checks.Checks.Checks, fault.Fault.Fault}
 use Rattle.fb_verify.specs.declared.fault.Reason.TheVariants.{TooDeep, TooManyTables, TooManyReads}
-use Rattle.fb_verify.specs.Bounds.{Bounds, AreAllowed, AreTooMany}
-use Rattle.fb_verify.specs.Places.{target}
-use Rattle.fb_verify.specs.Facts.{IsTable}
+use Rattle.fb_verify.specs.{Bounds.Bounds, Bounds.AreAllowed, Bounds.AreTooMany, Places.target, Facts.IsTable, Laws.Overruns}
 use Rattle.fb_verify.specs.Fields.{IsField, Lead, to_table, Entry, entries}
 use Rattle.fb_verify.specs.Tree.{Tree, node, Kids, no_kids, kid, Elements, no_elements, element, Element, table, size, kids_size, elements_size, element_size, depth, kids_depth, elements_depth, element_depth, kids_length, elements_length}
 use Rattle.fb_verify.specs.Unfolds.{Unfolds, FieldsUnfold, ElementsUnfold, ElementUnfolds}
@@ -15,9 +13,7 @@ use Rattle.fb_verify.specs.Cost.{head_reads, own_reads, lead_reads, tree_cost, k
 use Rattle.fb_verify.specs.Order.{Failure, ◌▷◌, head_failure, own_failure, element_failure}
 use Rattle.fb_verify.specs.Way.{Way, way_to_field, way_to_element, way_to_table}
 use Rattle.fb_verify.specs.Stops.{in_head, fault_of, budget_failure, reads_failure, lead_reads_failure, fault_at, IsFalseAt, Trail, at_head, at_field, FieldTrail, at_own, at_element, ElementTrail, at_lead, through, IsTrail, IsFieldTrail, IsElementTrail}
-use Rattle.fb_verify.specs.Laws.{Overruns}
-use Rattle.fb_verify.proofs.Budgets.{are_too_many, not_both, more_reads}
-use Rattle.fb_verify.proofs.Chains.{head_none, own_none, element_passes}
+use Rattle.fb_verify.proofs.{Budgets.are_too_many, Budgets.not_both, Budgets.more_reads, Chains.head_none, Chains.own_none, Chains.element_passes}
 use Rattle.fb_verify.proofs.Unique.{one_elements, one_element}
 
 pub some_same : {A : Type 0} {x y : A} → Some x ≡ Some y → x ≡ y

@@ -1,50 +1,27 @@
 -- A walk goes on past fields that lead to no table, or stops at one.
 use Rattle.std.proofs.Common.{◌≡◌, ℕ, ◌+◌, ◌-◌, ◌^◌, ◌<◌, ◌≤◌, inl, inr, Bool, true, false, IsTrue, IfSome, if◌then◌else◌, List, [], ◌∷◌, map, length, get_or, option_map, refl, sym, ◌∙◌, ap, subst, arith, Option, Some, None}
 use Rattle.std.specs.Prelude.{slice_get}
-use Rattle.std.proofs.lemmas.List.{length-map}
-use Rattle.std.proofs.lemmas.Option.{slice_get-get_or, slice_get-map}
+use Rattle.std.proofs.lemmas.{List.length-map, Option.slice_get-get_or, Option.slice_get-map}
 use Rattle.fb_bytes.specs.Word.{Lent}
-use Rattle.fb_schema.specs.declared.views.Act.TheVariants.{Other}
-use Rattle.fb_schema.specs.declared.views.Step.{Step}
-use Rattle.fb_schema.specs.declared.kinds.Kind.{Kind}
-use Rattle.fb_schema.specs.Rows.{Rows}
-use Rattle.fb_schema.specs.Live.{Live, live_fields, next_required}
-use Rattle.fb_schema.specs.Steps.{act_of, step_of}
-use Rattle.fb_verify.specs.declared.checks.Checks.{Checks}
-use Rattle.fb_verify.specs.declared.fault.Fault.{Fault}
-use Rattle.fb_verify.specs.declared.fault.Reason.{Reason}
-use Rattle.fb_verify.specs.declared.fault.Reason.TheVariants.{MissingRequired}
-use Rattle.fb_verify.specs.declared.links.Link.{Link}
-use Rattle.fb_verify.specs.declared.offset_row.Row.{Row}
-use Rattle.fb_verify.specs.declared.offset_row.Referent.TheVariants.{Text as AText}
-use Rattle.fb_verify.specs.declared.offset_row.Leads.TheVariants.{All}
-use Rattle.fb_verify.specs.declared.scratch.Frame.{Frame}
-use Rattle.fb_verify.specs.declared.site.Refusal.{Refusal}
-use Rattle.fb_verify.specs.declared.site.Site.{Site}
-use Rattle.fb_verify.specs.declared.site.Stop.{Stop}
+use Rattle.fb_schema.specs.declared.{views.Act.TheVariants.Other, views.Step.Step, kinds.Kind.Kind}
+use Rattle.fb_schema.specs.{Rows.Rows, Live.Live, Live.live_fields, Live.next_required, Steps.act_of, Steps.step_of}
+use Rattle.fb_verify.specs.declared.{checks.Checks.Checks, fault.Fault.Fault, fault.Reason.Reason, fault.Reason.TheVariants.MissingRequired}
+use Rattle.fb_verify.specs.declared.{links.Link.Link, offset_row.Row.Row, offset_row.Referent.TheVariants.Text as AText}
+use Rattle.fb_verify.specs.declared.{offset_row.Leads.TheVariants.All, scratch.Frame.Frame, site.Refusal.Refusal, site.Site.Site, site.Stop.Stop}
 use Rattle.fb_verify.specs.declared.stack.Walk.{Walk}
-use Rattle.fb_verify.specs.Bounds.{Bounds, AreAllowed}
-use Rattle.fb_verify.specs.Places.{vtable_size, has_slot, field_place}
-use Rattle.fb_verify.specs.Fields.{to_string, entries, row}
-use Rattle.fb_verify.specs.Cost.{slot_reads, own_reads}
-use Rattle.fb_verify.specs.Order.{Failure, after, ◌▷◌, lead_failure, own_failure, element_failure}
+use Rattle.fb_verify.specs.{Bounds.Bounds, Bounds.AreAllowed, Places.vtable_size, Places.has_slot, Places.field_place}
+use Rattle.fb_verify.specs.{Fields.to_string, Fields.entries, Fields.row, Cost.slot_reads, Cost.own_reads}
 use Rattle.fb_verify.specs.OffsetRows.{words_of, first_word, past_first}
-use Rattle.fb_verify.specs.Plain.{tested_by, plain_failure, plain_reads}
+use Rattle.fb_verify.specs.{Plain.tested_by, Plain.plain_failure, Plain.plain_reads, StopsAt.IsStopAt, Stops.reads_failure, Stops.lead_reads_failure}
+use Rattle.fb_verify.specs.{Links.element_of, Links.type_of, Links.field_link, Told.refused, Told.stopped}
+use Rattle.fb_verify.specs.Order.{Failure, after, ◌▷◌, lead_failure, own_failure, element_failure}
 use Rattle.fb_verify.specs.Stack.{blank, frame_link, link_behind, own_link, Origin, Waiting, IsUnderWay, IsWalking, IsAtField, IsStopped, Standing, StopsIn}
-use Rattle.fb_verify.specs.StopsAt.{IsStopAt}
-use Rattle.fb_verify.specs.Stops.{reads_failure, lead_reads_failure}
-use Rattle.fb_verify.specs.Links.{element_of, type_of, field_link}
-use Rattle.fb_verify.specs.Told.{refused, stopped}
 use Rattle.fb_verify.proofs.Absent.{none_required, required_next, bare_reads, no_slot_from, some_found}
-use Rattle.fb_verify.proofs.Budgets.{fewer_reads}
-use Rattle.fb_verify.proofs.Chains.{after_none, both_none}
+use Rattle.fb_verify.proofs.{Budgets.fewer_reads, Chains.after_none, Chains.both_none, Refusals.told_after, Refusals.told_first}
+use Rattle.fb_verify.proofs.{Stopping.field_stops, Stopping.stops_in_field, Walking.goes_on, Walking.field_skipped, Words.row_none}
 use Rattle.fb_verify.proofs.Frames.{field_within, frame_next, no_row, own_few}
 use Rattle.fb_verify.proofs.Plains.{LeadsTo, step_at, comes, after_twice}
-use Rattle.fb_verify.proofs.Refusals.{told_after, told_first}
 use Rattle.fb_verify.proofs.Standings.{at_rest, pass_more, pass_leaf, stop_at_element}
-use Rattle.fb_verify.proofs.Stopping.{field_stops, stops_in_field}
-use Rattle.fb_verify.proofs.Walking.{goes_on, field_skipped}
-use Rattle.fb_verify.proofs.Words.{row_none}
 
 -- a stop is its parts
 pub stop_is : (s : Stop) (e : Refusal) (object number reads : ℕ) → s.refusal ≡ e → (s.site).object ≡ object → (s.site).field ≡ Some number

@@ -5,11 +5,10 @@ use Rattle.fb_schema.specs.declared.kinds.Kind.{Kind}
 use Rattle.fb_schema.specs.{Rows.Rows, Live.Live, Live.live_fields, Members.member_of}
 use Rattle.fb_verify.specs.declared.{checks.Checks.Checks, start.Start.Start}
 use Rattle.fb_verify.specs.declared.start.Ident.{Ident}
-use Rattle.fb_verify.specs.Places.{target}
+use Rattle.fb_verify.specs.{Places.target, WellFormed.start_reads}
 use Rattle.fb_verify.specs.Fields.{IsPresent, IsField, Lead, to_table, lead_of, Entry, row, union_row, union_entry, entries_of, entries}
 use Rattle.fb_verify.specs.Tree.{Tree, node, Kids, no_kids, kid, Elements, no_elements, element, Element, leaf, table, size, kids_size, elements_size, element_size, kids_length, elements_length}
 use Rattle.fb_verify.specs.Unfolds.{Unfolds, FieldsUnfold, ElementsUnfold, ElementUnfolds}
-use Rattle.fb_verify.specs.WellFormed.{start_reads}
 use Rattle.fb_verify.specs.Cost.{present_reads, own_reads, lead_reads, tree_cost, kids_cost, elements_cost, element_cost}
 use Rattle.fb_verify.proofs.Frames.{lead_few, if_present_few, head_few, slot_few}
 

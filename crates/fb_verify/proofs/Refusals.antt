@@ -2,13 +2,9 @@
 use Rattle.std.proofs.Common.{◌≡◌, ℕ, ◌+◌, false, arith, Option, Some, None}
 use Rattle.fb_verify.specs.declared.{fault.Fault.Fault, site.Site.Site, site.Refusal.Refusal, site.Stop.Stop}
 use Rattle.fb_verify.specs.declared.fault.Reason.TheVariants.{TooManyReads}
-use Rattle.fb_verify.specs.Bounds.{Bounds, allowed}
-use Rattle.fb_verify.specs.Cost.{lead_reads}
-use Rattle.fb_verify.specs.Fields.{Lead, Entry}
+use Rattle.fb_verify.specs.{Bounds.Bounds, Bounds.allowed, Cost.lead_reads, Fields.Lead, Fields.Entry, OffsetRows.IsLeafLead}
+use Rattle.fb_verify.specs.{Stops.reads_failure, Stops.lead_reads_failure, Told.told, Told.refused, Told.stopped}
 use Rattle.fb_verify.specs.Order.{Failure, after, ◌▷◌}
-use Rattle.fb_verify.specs.OffsetRows.{IsLeafLead}
-use Rattle.fb_verify.specs.Stops.{reads_failure, lead_reads_failure}
-use Rattle.fb_verify.specs.Told.{told, refused, stopped}
 
 -- a failure that is refused so is told so
 pub told_after : (site : Site) (paid reads : ℕ) (x : Option Failure) (e : Refusal) → after paid x ≡ Some (refused e reads) → told site paid x ≡ Some (stopped (record { site = site; refusal = e }) reads)

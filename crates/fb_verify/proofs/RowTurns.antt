@@ -1,34 +1,17 @@
 -- Turns through the words of the top's row.
 use Rattle.std.proofs.Common.{◌≡◌, ℕ, ◌+◌, ◌*◌, ◌^◌, ◌<◌, ◌≤◌, true, max, List, [], ◌∷◌, ◌++◌, map, length, take, inl, inr, refl, sym, ◌∙◌, ap, arith, Some, None}
-use Rattle.std.proofs.lemmas.Bool.{cases_eq}
-use Rattle.std.proofs.lemmas.List.{length-append, take_all}
+use Rattle.std.proofs.lemmas.{Bool.cases_eq, List.length-append, List.take_all}
 use Rattle.fb_bytes.specs.Word.{Lent}
 use Rattle.fb_schema.specs.declared.views.Step.{Step}
-use Rattle.fb_schema.specs.Rows.{Rows}
-use Rattle.fb_schema.specs.Live.{live_fields}
-use Rattle.fb_schema.specs.Steps.{is_plain, step_of}
-use Rattle.fb_verify.specs.declared.checks.Checks.{Checks}
-use Rattle.fb_verify.specs.declared.table.Child.{Child}
-use Rattle.fb_verify.specs.declared.fault.Reason.{Reason}
-use Rattle.fb_verify.specs.declared.offset_row.Row.{Row}
-use Rattle.fb_verify.specs.declared.scratch.Frame.{Frame}
-use Rattle.fb_verify.specs.declared.site.LastLink.TheVariants.{Behind, InField}
-use Rattle.fb_verify.specs.declared.site.Stop.{Stop}
-use Rattle.fb_verify.specs.declared.stack.Walk.{Walk}
-use Rattle.fb_verify.specs.Bounds.{AreAllowed}
-use Rattle.fb_verify.specs.Cost.{head_reads}
+use Rattle.fb_schema.specs.{Rows.Rows, Live.live_fields, Steps.is_plain, Steps.step_of}
+use Rattle.fb_verify.specs.declared.{checks.Checks.Checks, table.Child.Child, fault.Reason.Reason, offset_row.Row.Row, scratch.Frame.Frame}
+use Rattle.fb_verify.specs.declared.{site.LastLink.TheVariants.Behind, site.LastLink.TheVariants.InField, site.Stop.Stop, stack.Walk.Walk}
+use Rattle.fb_verify.specs.{Bounds.AreAllowed, Cost.head_reads, OffsetRows.first_word, OffsetRows.past_first, Order.after, Order.element_failure}
+use Rattle.fb_verify.specs.{Plain.tested_by, StopsAt.IsStopAt}
 use Rattle.fb_verify.specs.Flat.{in_head, frame_at, MayPass, PassesFlat}
-use Rattle.fb_verify.specs.OffsetRows.{first_word, past_first}
-use Rattle.fb_verify.specs.Order.{after, element_failure}
-use Rattle.fb_verify.specs.Plain.{tested_by}
 use Rattle.fb_verify.specs.Stack.{Waiting, IsAtTable, IsWalking, HaltsIn, links_left}
-use Rattle.fb_verify.specs.StopsAt.{IsStopAt}
 use Rattle.fb_verify.specs.Turns.{IsShort, IsAtChild, GoesDown, GoesOn, Rests, Halts}
-use Rattle.fb_verify.proofs.Budgets.{fewer_reads}
-use Rattle.fb_verify.proofs.Children.{words_work}
-use Rattle.fb_verify.proofs.Flats.{flat_work}
-use Rattle.fb_verify.proofs.Frames.{first_few, head_few}
-use Rattle.fb_verify.proofs.LeafRows.{word_fails}
+use Rattle.fb_verify.proofs.{Budgets.fewer_reads, Children.words_work, Flats.flat_work, Frames.first_few, Frames.head_few, LeafRows.word_fails}
 use Rattle.fb_verify.proofs.Turns.{at_child, down_falls, halts_behind}
 
 pub two : (m : ℕ) → m + 2 ≡ m + 1 + 1

@@ -5,15 +5,13 @@ use Rattle.fb_bytes.specs.Word.{word}
 use Rattle.fb_schema.specs.{Rows.Rows, Live.Live, Live.live_fields, Kinds.shape_of, Kinds.kind_of, Kinds.base_types, Members.member_of}
 use Rattle.fb_verify.specs.declared.{checks.Checks.Checks, start.Start.Start, start.Ident.Ident}
 use Rattle.fb_verify.specs.Facts.{IsTable, IsOffset, IsString, IsInline}
-use Rattle.fb_verify.specs.WellFormed.{IsStart}
+use Rattle.fb_verify.specs.{WellFormed.IsStart, Unfolds.Unfolds, Unfolds.FieldsUnfold, Unfolds.ElementsUnfold, Cost.own_reads, Cost.tree_cost}
+use Rattle.fb_verify.specs.Samples.{published_checks, nodes, shared}
 use Rattle.fb_verify.specs.Places.{is_aligned, has_vtable, vtable, field_place, ends_in_table}
 use Rattle.fb_verify.specs.Fields.{IsField, Entry, entries, row, union_row}
 use Rattle.fb_verify.specs.Tree.{Kids, Elements, size, depth, kids_length, elements_length}
-use Rattle.fb_verify.specs.Unfolds.{Unfolds, FieldsUnfold, ElementsUnfold}
-use Rattle.fb_verify.specs.Cost.{own_reads, tree_cost}
 use Rattle.fb_verify.specs.Order.{own_failure, element_failure, start_failure, prefix_failure, ident_failure, head_failure, offset_failure, string_failure, vector_failure, inline_failure, table_failure}
 use Rattle.fb_verify.specs.Stops.{fault_at, IsLink, IsInField, IsTrail}
-use Rattle.fb_verify.specs.Samples.{published_checks, nodes, shared}
 use Rattle.fb_verify.specs.Examples.{MonsterUnfolds, OneMemberUnfolds, TwoMembersUnfold, EveryKindUnfolds, last, middle, OpenNameStops, NoNameStops, ThreeValuesStop, CrookedStructStops, SeventhTableStops, ThirdLevelStops, OddVtableStops, ShortTableStops, FirstReadStops, LastTextStops, SeventhHeadStops, LastFieldStops, BudgetsByLength}
 use Rattle.fb_verify.proofs.Chains.{start_none, head_none, own_none, offset_none, string_none, inline_none}
 

@@ -1,11 +1,9 @@
 -- The examples of links, by computing.
 use Rattle.std.proofs.Common.{ℕ, [], ◌∷◌, refl, rules, inl, inr}
 use Rattle.fb_verify.specs.Tree.{Tree, node, no_kids, no_elements, element, Elements, table}
-use Rattle.fb_verify.specs.Unfolds.{Unfolds}
-use Rattle.fb_verify.specs.Stops.{Trail, at_head, at_field, at_own, at_element, at_lead, through}
-use Rattle.fb_verify.specs.Links.{links_of, links_in_field, links_in_element}
-use Rattle.fb_verify.specs.Samples.{published_checks}
+use Rattle.fb_verify.specs.{Unfolds.Unfolds, Links.links_of, Links.links_in_field, Links.links_in_element, Samples.published_checks}
 use Rattle.fb_verify.specs.Examples.{kids_of, one_field}
+use Rattle.fb_verify.specs.Stops.{Trail, at_head, at_field, at_own, at_element, at_lead, through}
 use Rattle.fb_verify.specs.LinkExamples.{herds, crooked_third, nameless_third, LinksFound}
 use Rattle.fb_verify.proofs.Shown.{showing, shown, past, among}
 

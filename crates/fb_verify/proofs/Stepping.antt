@@ -2,17 +2,12 @@
 use Rattle.std.proofs.Common.{◌≡◌, ℕ, zero, suc, ◌+◌, ◌%◌, ◌^◌, ◌<◌, ◌≤◌, ◌==◌, Bool, true, false, bit_and, List, inl, inr, refl, sym, ◌∙◌, ap, subst, arith, Option, Some, None, if◌then◌else◌}
 use Rattle.std.proofs.lemmas.Bool.Decides.{nat_tests}
 use Rattle.fb_bytes.specs.Word.{word, Lent}
-use Rattle.fb_schema.specs.declared.views.Act.{Act}
+use Rattle.fb_schema.specs.declared.{views.Act.Act, views.Step.Step}
 use Rattle.fb_schema.specs.declared.views.Act.TheVariants.{One, Two, Four, Eight, Other}
-use Rattle.fb_schema.specs.declared.views.Step.{Step}
-use Rattle.fb_verify.specs.declared.checks.Checks.{Checks}
-use Rattle.fb_verify.specs.declared.fault.Reason.TheVariants.{MissingRequired}
-use Rattle.fb_verify.specs.declared.plain.Came.{Came}
+use Rattle.fb_verify.specs.declared.{checks.Checks.Checks, fault.Reason.TheVariants.MissingRequired, plain.Came.Came, fault.Reason.Reason}
 use Rattle.fb_verify.specs.declared.plain.Came.TheVariants.{Past, ToEnd, ToField, ToFault}
 use Rattle.fb_verify.specs.Places.{vtable, vtable_size, has_slot, field_place}
-use Rattle.fb_verify.specs.Cost.{slot_reads}
-use Rattle.fb_verify.specs.declared.fault.Reason.{Reason}
-use Rattle.fb_verify.specs.Order.{after, inline_field_failure}
+use Rattle.fb_verify.specs.{Cost.slot_reads, Order.after, Order.inline_field_failure}
 use Rattle.fb_verify.specs.Plain.{tested_by, IsTested, step_failure, step_failure_at, step_reads, IsStep, HasBit, IsCame, StepTested, Filled, Stepped}
 use Rattle.fb_verify.proofs.Plains.{plain_told, plain_counted}
 

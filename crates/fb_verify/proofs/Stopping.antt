@@ -1,24 +1,15 @@
 -- Where a walk stops that is under way, by the frames that lead there.
 use Rattle.std.proofs.Common.{◌≡◌, ℕ, ◌+◌, ◌<◌, List, [], ◌∷◌, ◌++◌, length, map, refl, sym, ◌∙◌, subst, arith, Option, Some, None}
-use Rattle.std.specs.Prelude.{slice_get}
-use Rattle.std.specs.List.{All}
-use Rattle.std.proofs.lemmas.List.{map-append, append-nil}
-use Rattle.std.proofs.lemmas.List.Elements.{All-push}
+use Rattle.std.specs.{Prelude.slice_get, List.All}
+use Rattle.std.proofs.lemmas.{List.map-append, List.append-nil, List.Elements.All-push}
 use Rattle.fb_schema.specs.{Rows.Rows, Live.Live, Live.live_fields}
 use Rattle.fb_verify.specs.declared.{checks.Checks.Checks, fault.Fault.Fault, links.Link.Link, offset_row.Row.Row, scratch.Frame.Frame, site.Site.Site}
-use Rattle.fb_verify.specs.Bounds.{Bounds}
-use Rattle.fb_verify.specs.Links.{field_link, LeadsAlong}
-use Rattle.fb_verify.specs.Cost.{own_reads, head_reads, lead_reads}
-use Rattle.fb_verify.specs.Fields.{to_table}
+use Rattle.fb_verify.specs.{Bounds.Bounds, Links.field_link, Links.LeadsAlong, Cost.own_reads, Cost.head_reads, Cost.lead_reads, Fields.to_table}
+use Rattle.fb_verify.specs.{Places.target, Stops.budget_failure, Stops.reads_failure, Stops.lead_reads_failure}
+use Rattle.fb_verify.specs.{OffsetRows.first_word, OffsetRows.past_first, Told.told, Told.way_at}
 use Rattle.fb_verify.specs.Order.{Failure, ◌▷◌, head_failure, own_failure, element_failure}
-use Rattle.fb_verify.specs.Places.{target}
-use Rattle.fb_verify.specs.Stops.{budget_failure, reads_failure, lead_reads_failure}
-use Rattle.fb_verify.specs.OffsetRows.{first_word, past_first}
-use Rattle.fb_verify.specs.Told.{told, way_at}
 use Rattle.fb_verify.specs.Stack.{frame_link, link_to_number, own_link, Origin, IsUnderWay, IsLinked, StopsIn}
-use Rattle.fb_verify.proofs.Contexts.{context_linked}
-use Rattle.fb_verify.proofs.Frames.{frame_on}
-use Rattle.fb_verify.proofs.Linked.{is_linked}
+use Rattle.fb_verify.proofs.{Contexts.context_linked, Frames.frame_on, Linked.is_linked}
 use Rattle.fb_verify.proofs.Standings.{in_middle, stop_at_field, stop_at_element, stop_at_table}
 
 -- a fault names the field of the site where it is told

@@ -5,22 +5,16 @@ use Rattle.std.proofs.lemmas.Option.{slice_get_within}
 use Rattle.fb_schema.specs.{Rows.Rows, Live.Live, Live.live_fields, Live.widest}
 use Rattle.fb_schema.proofs.LookLemmas.{within_widest}
 use Rattle.fb_verify.specs.declared.{checks.Checks.Checks, fault.Fault.Fault}
-use Rattle.fb_verify.specs.Bounds.{Bounds}
-use Rattle.fb_verify.specs.Question.{Question}
-use Rattle.fb_verify.specs.Places.{target}
-use Rattle.fb_verify.specs.Fields.{IsField, Entry, entries}
-use Rattle.fb_verify.specs.Tree.{Tree, kids_length, elements_length}
-use Rattle.fb_verify.specs.Cost.{own_reads, lead_reads}
+use Rattle.fb_verify.specs.{Bounds.Bounds, Question.Question, Places.target, Fields.IsField, Fields.Entry, Fields.entries}
+use Rattle.fb_verify.specs.{Tree.Tree, Tree.kids_length, Tree.elements_length, Cost.own_reads, Cost.lead_reads}
+use Rattle.fb_verify.specs.MostReads.{within_budget, most_reads}
 use Rattle.fb_verify.specs.WellFormed.{base, start_reads, IsWellFormed, IsWithin, cost}
 use Rattle.fb_verify.specs.Order.{◌▷◌, start_failure}
 use Rattle.fb_verify.specs.Way.{Way, way_to_start, way_to_root, way_to_field, way_to_element, way_to_table}
 use Rattle.fb_verify.specs.Stops.{reads_failure, fault_at, Trail, at_head, at_field, FieldTrail, at_own, at_element, ElementTrail, at_lead, through, IsTrail, IsFieldTrail, IsElementTrail, Stops}
-use Rattle.fb_verify.specs.MostReads.{within_budget, most_reads}
-use Rattle.fb_verify.proofs.Budgets.{no_reads, IsNear, near}
-use Rattle.fb_verify.proofs.Frames.{head_few, lead_few}
+use Rattle.fb_verify.proofs.{Budgets.no_reads, Budgets.IsNear, Budgets.near, Frames.head_few, Frames.lead_few}
+use Rattle.fb_verify.proofs.{ChainReads.either, ChainReads.reads_most, ChainReads.start_most, Overruns.kids_cost_take, Overruns.elements_cost_take}
 use Rattle.fb_verify.proofs.Price.{start_price, row_reads, field_price, kids_price, elements_price, tree_price}
-use Rattle.fb_verify.proofs.ChainReads.{either, reads_most, start_most}
-use Rattle.fb_verify.proofs.Overruns.{kids_cost_take, elements_cost_take}
 use Rattle.fb_verify.proofs.Nears.{fault_reads, short_at, short_entries, head_told, own_reads_most, entry_reads_most}
 
 -- lists

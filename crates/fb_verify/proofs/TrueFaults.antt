@@ -6,20 +6,13 @@ use Rattle.fb_schema.specs.declared.kinds.Kind.{Kind}
 use Rattle.fb_schema.specs.{Rows.Rows, Live.Live, Live.live_fields}
 use Rattle.fb_verify.specs.declared.{checks.Checks.Checks, fault.Fault.Fault}
 use Rattle.fb_verify.specs.declared.fault.Reason.{Reason, TheVariants.TooDeep, TheVariants.TooManyTables}
-use Rattle.fb_verify.specs.Bounds.{Bounds}
-use Rattle.fb_verify.specs.Question.{Question}
-use Rattle.fb_verify.specs.Places.{target, field_place}
-use Rattle.fb_verify.specs.Facts.{IsTable}
-use Rattle.fb_verify.specs.Fields.{Lead, Entry}
-use Rattle.fb_verify.specs.Tree.{kids_length, elements_length}
-use Rattle.fb_verify.specs.Cost.{head_reads, own_reads}
-use Rattle.fb_verify.specs.WellFormed.{base, start_reads}
+use Rattle.fb_verify.specs.{Bounds.Bounds, Question.Question, Places.target, Places.field_place, Facts.IsTable, Fields.Lead, Fields.Entry}
+use Rattle.fb_verify.specs.{Tree.kids_length, Tree.elements_length, Cost.head_reads, Cost.own_reads, WellFormed.base, WellFormed.start_reads}
 use Rattle.fb_verify.specs.Order.{Failure, ◌▷◌, start_failure, head_failure, own_failure, element_failure}
 use Rattle.fb_verify.specs.Way.{Way, way_to_start, way_to_root, way_to_field, way_to_element, way_to_table}
 use Rattle.fb_verify.specs.Stops.{in_start, in_head, fault_of, budget_failure, reads_failure, lead_reads_failure, fault_at, IsFalseAt, Trail, at_head, at_field, FieldTrail, at_own, at_element, ElementTrail, at_lead, through, IsTrail, IsFieldTrail, IsElementTrail}
 use Rattle.fb_verify.specs.TrueReasons.{FailsAtLimit, HeadIsFalse, PlacedIsFalse, LeadIsFalse, IsOverBudget, HasEntry, LeadsOn, IsReached, as_root, from_above, FailsAtStart, LimitIsReached, FailsInHead, FailsInField, FailsInElement, FailsAtTable, StopsTruly, PresentIsFalse, opened_on, opened_on_field, opened_on_element, TablesRunOut}
-use Rattle.fb_verify.proofs.Budgets.{are_too_many}
-use Rattle.fb_verify.proofs.Overruns.{either}
+use Rattle.fb_verify.proofs.{Budgets.are_too_many, Overruns.either}
 use Rattle.fb_verify.proofs.TrueReasons.{Tells, test, last, start_false, head_false, own_false, element_false}
 
 -- A fault at the end of a way.

@@ -4,16 +4,14 @@ use Rattle.std.proofs.lemmas.Bool.Decides.{nat_tests}
 use Rattle.fb_schema.specs.declared.kinds.Kind.{Kind, TheVariants.Union, TheVariants.Unions}
 use Rattle.fb_schema.specs.{Rows.Rows, Live.Live, Members.member_of}
 use Rattle.fb_verify.specs.declared.{checks.Checks.Checks, fault.Reason.Reason}
-use Rattle.fb_verify.specs.declared.start.Start.{Start}
-use Rattle.fb_verify.specs.declared.start.Ident.{Ident}
+use Rattle.fb_verify.specs.declared.{start.Start.Start, start.Ident.Ident}
 use Rattle.fb_verify.specs.declared.fault.Reason.TheVariants.{OutOfBuffer, Misaligned, BadVtable, MissingRequired, LengthsDiffer}
 use Rattle.fb_verify.specs.Places.{fits, is_aligned, target, has_vtable, vtable, vtable_size, inline_size, field_place, ends_in_table}
 use Rattle.fb_verify.specs.Fields.{type_place, union_type, Lead, to_table, to_struct, to_string, to_nothing, Entry}
 use Rattle.fb_verify.specs.WellFormed.{base}
 use Rattle.fb_verify.specs.Order.{Failure, check, after, ◌▷◌, prefix_failure, ident_failure, offset_failure, start_failure, head_failure, string_failure, vector_failure, inline_failure, table_failure, inline_field_failure, vector_field_failure, unions_field_failure, union_field_failure, present_failure, failure_at, own_failure, lead_failure, element_failure}
 use Rattle.fb_verify.specs.TrueReasons.{AreOut, IsMisaligned, PrefixIsFalse, IdentIsFalse, OffsetIsFalse, HeadIsFalse, StringIsFalse, VectorIsFalse, InlineIsFalse, PastIsFalse, InlineFieldIsFalse, VectorFieldIsFalse, CountIsFalse, PresentIsFalse, PlacedIsFalse, LeadIsFalse}
-use Rattle.fb_verify.proofs.Chains.{offset_none}
-use Rattle.fb_verify.proofs.Overruns.{some_same}
+use Rattle.fb_verify.proofs.{Chains.offset_none, Overruns.some_same}
 
 -- What tests tell.
 

@@ -4,16 +4,12 @@ use Rattle.std.proofs.Math.ListN.{set, length-set}
 use Rattle.std.proofs.lemmas.List.{take-take, length-take, length-append}
 use Rattle.fb_bytes.specs.Word.{Lent}
 use Rattle.fb_schema.specs.Live.{live_fields}
-use Rattle.fb_verify.specs.declared.table.Child.{Child}
-use Rattle.fb_verify.specs.declared.scratch.Frame.{Frame}
-use Rattle.fb_verify.specs.declared.stack.Turn.{Turn}
+use Rattle.fb_verify.specs.declared.{table.Child.Child, scratch.Frame.Frame, stack.Turn.Turn, stack.Walk.Walk}
 use Rattle.fb_verify.specs.declared.stack.Turn.TheVariants.{Down, Up, Slowly, Halt as Halted}
-use Rattle.fb_verify.specs.declared.stack.Walk.{Walk}
 use Rattle.fb_verify.specs.Stack.{blank, Origin, frame_work, work, Waiting, IsWalking}
 use Rattle.fb_verify.specs.Turns.{GoesOn, Ends, GoesDown, Halts, GoesOver, WentOn, WentOver, WentWrong, GoesUp, OpensChild, StopsAtChild, Opened, Turned, FramesTurned, RootTurned, PassedField, FieldTurned}
 use Rattle.fb_verify.proofs.Stacks.{last_is, sum_last, below_joined, grown_joined, top_joined, next_joined}
-use Rattle.fb_verify.proofs.Standings.{close_last}
-use Rattle.fb_verify.proofs.Walking.{table_closed}
+use Rattle.fb_verify.proofs.{Standings.close_last, Walking.table_closed}
 
 -- where the fields of its first table are passed, a walk is over
 pub went_over : {w then : Walk} {m new : Lent} (under : Waiting) (past : Frame) → then ≡ record w { tables = then.tables; deepest = then.deepest } → IsWalking then new under.start under.frames past → under.frames ≡ []

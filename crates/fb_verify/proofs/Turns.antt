@@ -1,26 +1,15 @@
 -- A walk counts the table to which the first word of the top's row leads, and is to open it.
 use Rattle.std.proofs.Common.{◌≡◌, ℕ, ◌+◌, ◌*◌, ◌<◌, max, List, [], ◌∷◌, ◌++◌, length, take, refl, sym, ◌∙◌, ap, arith, Some}
 use Rattle.std.proofs.Math.Seq.{take-append_seam}
-use Rattle.std.proofs.lemmas.List.{length-append}
-use Rattle.std.proofs.lemmas.List.Sums.{sum_by_push}
+use Rattle.std.proofs.lemmas.{List.length-append, List.Sums.sum_by_push}
 use Rattle.fb_bytes.specs.Word.{Lent}
-use Rattle.fb_verify.specs.declared.table.Child.{Child}
-use Rattle.fb_verify.specs.declared.table.Table.{Table}
-use Rattle.fb_verify.specs.declared.offset_row.Row.{Row}
-use Rattle.fb_verify.specs.declared.scratch.Frame.{Frame}
-use Rattle.fb_verify.specs.declared.site.LastLink.TheVariants.{Behind, InField}
-use Rattle.fb_verify.specs.declared.site.Site.{Site}
-use Rattle.fb_verify.specs.declared.site.Stop.{Stop}
+use Rattle.fb_verify.specs.declared.{table.Child.Child, table.Table.Table, offset_row.Row.Row, scratch.Frame.Frame}
+use Rattle.fb_verify.specs.declared.{site.LastLink.TheVariants.Behind, site.LastLink.TheVariants.InField, site.Site.Site, site.Stop.Stop}
 use Rattle.fb_verify.specs.declared.stack.Walk.{Walk}
-use Rattle.fb_verify.specs.Bounds.{AreAllowed}
-use Rattle.fb_verify.specs.Cost.{head_reads}
-use Rattle.fb_verify.specs.OffsetRows.{past_first}
-use Rattle.fb_verify.specs.Stack.{Origin, Waiting, IsAtTable, IsStopped, StopsIn, frame_work, work}
-use Rattle.fb_verify.specs.Told.{way_at, stopped}
+use Rattle.fb_verify.specs.{Bounds.AreAllowed, Cost.head_reads, OffsetRows.past_first, Told.way_at, Told.stopped}
 use Rattle.fb_verify.specs.Turns.{IsAtChild, Halts, frame_of}
-use Rattle.fb_verify.proofs.Children.{child_opened, child_stops, word_few}
-use Rattle.fb_verify.proofs.Flats.{head_fails}
-use Rattle.fb_verify.proofs.Pushes.{take_all}
+use Rattle.fb_verify.specs.Stack.{Origin, Waiting, IsAtTable, IsStopped, StopsIn, frame_work, work}
+use Rattle.fb_verify.proofs.{Children.child_opened, Children.child_stops, Children.word_few, Flats.head_fails, Pushes.take_all}
 
 -- a table is its parts
 pub table_is : (t : Table) (k p : ℕ) → t.object ≡ k → t.at ≡ p → t ≡ record { object = k; at = p; head = t.head }

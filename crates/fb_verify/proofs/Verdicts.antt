@@ -1,27 +1,14 @@
 -- From the walk of the root table to the verdict.
 use Rattle.std.proofs.Common.{◌≡◌, ℕ, ◌+◌, ◌≤◌, inl, inr, List, [], length, refl, sym, ◌∙◌, ap, arith, Some, None}
 use Rattle.fb_verify.specs.declared.{fault.Fault.Fault, fault.Report.Report, scratch.Frame.Frame, site.LastLink.LastLink, site.Site.Site, links.Link.Link}
-use Rattle.fb_verify.specs.Bounds.{AreAllowed}
-use Rattle.fb_verify.specs.Question.{Question}
-use Rattle.fb_verify.specs.Places.{target}
-use Rattle.fb_verify.specs.Tree.{size, depth}
-use Rattle.fb_verify.specs.Cost.{tree_cost}
-use Rattle.fb_verify.specs.WellFormed.{base, start_reads}
-use Rattle.fb_verify.specs.Order.{◌▷◌, start_failure}
-use Rattle.fb_verify.specs.Way.{way_to_start, way_to_root}
-use Rattle.fb_verify.specs.Stops.{in_start, reads_failure, fault_at, Stops}
-use Rattle.fb_verify.specs.Links.{LeadsAlong, StopsAlong}
-use Rattle.fb_verify.specs.Told.{told, way_at}
-use Rattle.fb_verify.specs.Walked.{TableWalked, ended}
-use Rattle.fb_verify.specs.Stack.{HaltsAlong}
-use Rattle.fb_verify.specs.MostReads.{most_reads}
+use Rattle.fb_verify.specs.{Bounds.AreAllowed, Question.Question, Places.target, Tree.size, Tree.depth, Cost.tree_cost}
+use Rattle.fb_verify.specs.{WellFormed.base, WellFormed.start_reads, Way.way_to_start, Way.way_to_root, Links.LeadsAlong, Links.StopsAlong}
+use Rattle.fb_verify.specs.{Told.told, Told.way_at, Walked.TableWalked, Walked.ended, Stack.HaltsAlong, MostReads.most_reads}
 use Rattle.fb_verify.specs.Verdict.{Reports, HasNone}
-use Rattle.fb_verify.proofs.Budgets.{fewer_reads, no_reads}
-use Rattle.fb_verify.proofs.Chains.{start_none}
-use Rattle.fb_verify.proofs.Nones.{stops_nowhere}
-use Rattle.fb_verify.proofs.TrailPrice.{cost_is_bounded, reads_are_bounded}
-use Rattle.fb_verify.proofs.Steps.{same_way}
-use Rattle.fb_verify.proofs.Standings.{told_is}
+use Rattle.fb_verify.specs.Order.{◌▷◌, start_failure}
+use Rattle.fb_verify.specs.Stops.{in_start, reads_failure, fault_at, Stops}
+use Rattle.fb_verify.proofs.{Budgets.fewer_reads, Budgets.no_reads, Chains.start_none, Nones.stops_nowhere}
+use Rattle.fb_verify.proofs.{TrailPrice.cost_is_bounded, TrailPrice.reads_are_bounded, Steps.same_way, Standings.told_is}
 
 module _ (q : Question) (b : List ℕ) where
   abbrev root_site : Site

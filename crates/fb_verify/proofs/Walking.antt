@@ -1,16 +1,11 @@
 -- The steps of a walk under way, with the work that they leave.
 use Rattle.std.proofs.Common.{◌≡◌, ℕ, ◌+◌, ◌-◌, ◌^◌, ◌<◌, ◌≤◌, max, List, [], ◌∷◌, ◌++◌, length, sym, ap, arith, IsTrue, Some, None}
 use Rattle.std.specs.Prelude.{slice_get}
-use Rattle.std.proofs.lemmas.List.Sums.{sum_by_push}
-use Rattle.std.proofs.lemmas.List.Elements.{All-push, All-pop}
-use Rattle.std.proofs.lemmas.List.{length-append}
+use Rattle.std.proofs.lemmas.{List.Sums.sum_by_push, List.Elements.All-push, List.Elements.All-pop, List.length-append}
 use Rattle.fb_schema.specs.{Rows.Rows, Rows.is_table, Live.Live, Live.live_fields}
 use Rattle.fb_verify.specs.declared.{checks.Checks.Checks, table.Table.Table, offset_row.Row.Row, scratch.Frame.Frame}
-use Rattle.fb_verify.specs.Bounds.{Bounds, AreAllowed}
-use Rattle.fb_verify.specs.Places.{target}
-use Rattle.fb_verify.specs.Fields.{to_table, entries}
-use Rattle.fb_verify.specs.Cost.{head_reads, own_reads, lead_reads}
-use Rattle.fb_verify.specs.Order.{head_failure, own_failure, element_failure}
+use Rattle.fb_verify.specs.{Bounds.Bounds, Bounds.AreAllowed, Places.target, Fields.to_table, Fields.entries}
+use Rattle.fb_verify.specs.{Cost.head_reads, Cost.own_reads, Cost.lead_reads, Order.head_failure, Order.own_failure, Order.element_failure}
 use Rattle.fb_verify.specs.Told.{IsHead}
 use Rattle.fb_verify.specs.OffsetRows.{words_of, first_word, past_first, IsLeafLead, IsRow}
 use Rattle.fb_verify.specs.Stack.{IsFrame, frame_work, work, opened, Origin, IsUnderWay, Standing}

@@ -3,11 +3,9 @@ use Rattle.std.proofs.Common.{◌≡◌, ℕ, zero, suc, ◌+◌, ◌-◌, ◌<�
 use Rattle.std.proofs.lemmas.Bool.Decides.{nat_tests}
 use Rattle.fb_bytes.specs.Word.{word}
 use Rattle.fb_schema.specs.Rows.{Rows}
-use Rattle.fb_verify.specs.declared.offset_row.Leads.{Leads}
-use Rattle.fb_verify.specs.declared.offset_row.Leads.TheVariants.{All, ByType}
+use Rattle.fb_verify.specs.declared.{offset_row.Leads.Leads, offset_row.Leads.TheVariants.All, offset_row.Leads.TheVariants.ByType}
 use Rattle.fb_verify.specs.declared.offset_row.Row.{Row}
-use Rattle.fb_verify.specs.Fields.{row, union_row}
-use Rattle.fb_verify.specs.Places.{target}
+use Rattle.fb_verify.specs.{Fields.row, Fields.union_row, Places.target}
 use Rattle.fb_verify.specs.OffsetRows.{words, words_of, word_at, first_word, leads_after, past_first, AreLeads, IsRow, LeavesRow, PutsWords}
 
 module _ (b : List ℕ) (S : Rows) where

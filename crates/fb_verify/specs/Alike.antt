@@ -3,12 +3,8 @@ use Rattle.std.specs.Prelude.{◌≡◌, ◌⊎◌, ℕ, ◌+◌, ◌*◌, ◌%�
 use Rattle.std.specs.List.{All}
 use Rattle.fb_schema.specs.declared.views.Act.TheVariants.{One, Two, Four, Eight}
 use Rattle.fb_schema.specs.declared.views.Step.{Step}
-use Rattle.fb_verify.specs.declared.checks.Checks.{Checks}
-use Rattle.fb_verify.specs.declared.passed.Passed.{Passed}
-use Rattle.fb_verify.specs.declared.passed.Sizes.TheVariants.{Small}
-use Rattle.fb_verify.specs.Order.{head_failure}
-use Rattle.fb_verify.specs.Places.{vtable}
-use Rattle.fb_verify.specs.Plain.{StepsHold, steps_reads, vtable_reads}
+use Rattle.fb_verify.specs.declared.{checks.Checks.Checks, passed.Passed.Passed, passed.Sizes.TheVariants.Small}
+use Rattle.fb_verify.specs.{Order.head_failure, Places.vtable, Plain.StepsHold, Plain.steps_reads, Plain.vtable_reads}
 
 -- the step of a scalar or struct of 1, 2, 4 or 8 bytes, aligned to as many
 abbrev pub IsSmallStep : Step → Type 0

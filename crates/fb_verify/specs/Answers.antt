@@ -1,10 +1,7 @@
 -- The answers to one question, and the law that there is one at most.
 use Rattle.std.specs.Prelude.{◌≡◌, ℕ, List, Result, Ok, Err}
-use Rattle.fb_verify.specs.declared.fault.Report.{Report}
-use Rattle.fb_verify.specs.declared.fault.Fault.{Fault}
-use Rattle.fb_verify.specs.Question.{Question}
-use Rattle.fb_verify.specs.Stops.{Stops}
-use Rattle.fb_verify.specs.Verdict.{Reports}
+use Rattle.fb_verify.specs.declared.{fault.Report.Report, fault.Fault.Fault}
+use Rattle.fb_verify.specs.{Question.Question, Stops.Stops, Verdict.Reports}
 
 -- an answer applies: a report that counts a tree, or the fault that is the first
 abbrev pub Applies : Question → List ℕ → Result Report Fault → Type 0

@@ -2,15 +2,12 @@
 use Rattle.std.specs.Prelude.{◌≡◌, ℕ, true, List, [], ◌∷◌, Some, None}
 use Rattle.fb_schema.specs.Rows.{Rows}
 use Rattle.fb_verify.specs.declared.{checks.Checks.Checks, fault.Fault.Fault}
-use Rattle.fb_verify.specs.declared.start.Start.TheVariants.{Bare}
-use Rattle.fb_verify.specs.declared.start.Ident.TheVariants.{Any}
+use Rattle.fb_verify.specs.declared.{start.Start.TheVariants.Bare, start.Ident.TheVariants.Any}
 use Rattle.fb_verify.specs.declared.fault.Reason.TheVariants.{Misaligned, ZeroOffset, TooDeep, TooManyTables, BadVtable, NoTerminator, LengthsDiffer, PastTable, TooManyReads}
 use Rattle.fb_verify.specs.Bounds.{Bounds, AreAllowed, AreTooMany, limits_of_length}
-use Rattle.fb_verify.specs.Question.{question}
-use Rattle.fb_verify.specs.Places.{target}
-use Rattle.fb_verify.specs.Tree.{Tree, node, Kids, no_kids, kid, Elements, no_elements, element, leaf, table, size, depth}
-use Rattle.fb_verify.specs.WellFormed.{IsStart, IsWellFormed, cost}
+use Rattle.fb_verify.specs.{Question.question, Places.target, WellFormed.IsStart, WellFormed.IsWellFormed, WellFormed.cost}
 use Rattle.fb_verify.specs.Way.{way_to_start, way_to_root}
+use Rattle.fb_verify.specs.Tree.{Tree, node, Kids, no_kids, kid, Elements, no_elements, element, leaf, table, size, depth}
 use Rattle.fb_verify.specs.Stops.{in_start, IsFalseAt, Trail, at_head, at_field, at_own, at_element, at_lead, through, IsTrail}
 use Rattle.fb_verify.specs.Samples.{published_checks, published_limits, fault, monsters, nodes, unions, monster, open_name, no_name, short_table, one_member, odd_vtable, crooked_struct, two_members, three_values, every_kind, shared}
 

@@ -3,13 +3,9 @@ use Rattle.std.specs.Prelude.{◌≡◌, ℕ, zero, suc, ◌+◌, ◌-◌, IsTru
 use Rattle.fb_bytes.specs.Word.{word}
 use Rattle.fb_schema.specs.declared.kinds.Kind.{Kind}
 use Rattle.fb_schema.specs.declared.kinds.Kind.TheVariants.{Scalar, Text, Struct, Table, Union, Scalars, Texts, Structs, Tables, Unions}
-use Rattle.fb_schema.specs.Rows.{Rows}
-use Rattle.fb_schema.specs.Kinds.{struct_size, struct_align}
-use Rattle.fb_schema.specs.Live.{Live}
-use Rattle.fb_schema.specs.Members.{member_of}
+use Rattle.fb_schema.specs.{Rows.Rows, Kinds.struct_size, Kinds.struct_align, Live.Live, Members.member_of}
 use Rattle.fb_verify.specs.declared.checks.Checks.{Checks}
-use Rattle.fb_verify.specs.Places.{target, field_place, ends_in_table}
-use Rattle.fb_verify.specs.Facts.{IsOffset, IsVector, IsInline}
+use Rattle.fb_verify.specs.{Places.target, Places.field_place, Places.ends_in_table, Facts.IsOffset, Facts.IsVector, Facts.IsInline}
 
 -- where the type field of the union with the slot o stands: its slot is the one before
 abbrev pub type_place : List ℕ → ℕ → ℕ → Option ℕ

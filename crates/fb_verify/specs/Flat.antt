@@ -2,22 +2,12 @@
 use Rattle.std.specs.Prelude.{◌≡◌, ℕ, ◌+◌, ◌*◌, ◌^◌, ◌<◌, ◌≤◌, true, List, [], ◌∷◌, ◌++◌, Option, None, IfSome, length, map}
 use Rattle.fb_bytes.specs.Word.{Lent}
 use Rattle.fb_schema.specs.declared.views.Step.{Step}
-use Rattle.fb_schema.specs.Rows.{Rows}
-use Rattle.fb_schema.specs.Live.{live_fields}
-use Rattle.fb_schema.specs.Steps.{is_plain, step_of}
-use Rattle.fb_verify.specs.declared.checks.Checks.{Checks}
-use Rattle.fb_verify.specs.declared.fault.Reason.{Reason}
-use Rattle.fb_verify.specs.declared.table.Table.{Table}
-use Rattle.fb_verify.specs.declared.scratch.Frame.{Frame}
-use Rattle.fb_verify.specs.declared.site.Stop.{Stop}
+use Rattle.fb_schema.specs.{Rows.Rows, Live.live_fields, Steps.is_plain, Steps.step_of}
+use Rattle.fb_verify.specs.declared.{checks.Checks.Checks, fault.Reason.Reason, table.Table.Table, scratch.Frame.Frame, site.Stop.Stop}
 use Rattle.fb_verify.specs.declared.stack.Walk.{Walk}
-use Rattle.fb_verify.specs.Bounds.{AreAllowed}
-use Rattle.fb_verify.specs.Cost.{head_reads}
-use Rattle.fb_verify.specs.Order.{after, head_failure}
-use Rattle.fb_verify.specs.Plain.{tested_by}
-use Rattle.fb_verify.specs.Stack.{blank, opened, own_link, Waiting, IsUnderWay, IsWalking, StopsIn}
-use Rattle.fb_verify.specs.StopsAt.{IsStopAt}
+use Rattle.fb_verify.specs.{Bounds.AreAllowed, Cost.head_reads, Order.after, Order.head_failure, Plain.tested_by, StopsAt.IsStopAt}
 use Rattle.fb_verify.specs.Told.{stopped, IsHead}
+use Rattle.fb_verify.specs.Stack.{blank, opened, own_link, Waiting, IsUnderWay, IsWalking, StopsIn}
 
 -- a walk under way, and what is below its top
 pub record Going : Type 0 where

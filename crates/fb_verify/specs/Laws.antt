@@ -1,27 +1,16 @@
 -- The laws of the definitions.
 use Rattle.std.specs.Prelude.{◌≡◌, ◌↔◌, ◌⊎◌, ℕ, ◌+◌, ◌*◌, ◌<◌, ◌≤◌, List, length, slice_index, None}
 use Rattle.fb_bytes.specs.Word.{word}
-use Rattle.fb_schema.specs.Rows.{Rows}
-use Rattle.fb_schema.specs.Live.{Live}
-use Rattle.fb_verify.specs.declared.checks.Checks.{Checks}
-use Rattle.fb_verify.specs.declared.start.Start.{Start}
-use Rattle.fb_verify.specs.declared.start.Ident.{Ident}
+use Rattle.fb_schema.specs.{Rows.Rows, Live.Live}
+use Rattle.fb_verify.specs.declared.{checks.Checks.Checks, start.Start.Start, start.Ident.Ident}
 use Rattle.fb_verify.specs.declared.fault.Reason.TheVariants.{TooDeep, TooManyTables, TooManyReads}
-use Rattle.fb_verify.specs.declared.fault.Fault.{Fault}
-use Rattle.fb_verify.specs.declared.links.Link.{Link}
+use Rattle.fb_verify.specs.declared.{fault.Fault.Fault, links.Link.Link}
 use Rattle.fb_verify.specs.Bounds.{Bounds, AreAllowed, AreTooMany, limits_of_length}
-use Rattle.fb_verify.specs.Question.{Question}
-use Rattle.fb_verify.specs.Places.{target}
+use Rattle.fb_verify.specs.{Question.Question, Places.target, Tree.Tree, Tree.size, Tree.depth, Unfolds.Unfolds, Cost.tree_cost, Way.Way}
+use Rattle.fb_verify.specs.{Stops.Trail, Stops.IsTrail, Stops.Stops, Links.StopsAlong, MostReads.most_reads}
 use Rattle.fb_verify.specs.Facts.{IsTable, IsOffset, IsString, IsVector, IsInline}
 use Rattle.fb_verify.specs.Fields.{IsField, Lead, to_table, to_struct, to_string, to_nothing, Entry}
-use Rattle.fb_verify.specs.Tree.{Tree, size, depth}
-use Rattle.fb_verify.specs.Unfolds.{Unfolds}
-use Rattle.fb_verify.specs.Cost.{tree_cost}
 use Rattle.fb_verify.specs.WellFormed.{IsStart, IsWellFormed, IsWithin, cost}
-use Rattle.fb_verify.specs.Way.{Way}
-use Rattle.fb_verify.specs.Stops.{Trail, IsTrail, Stops}
-use Rattle.fb_verify.specs.Links.{StopsAlong}
-use Rattle.fb_verify.specs.MostReads.{most_reads}
 use Rattle.fb_verify.specs.Order.{start_failure, head_failure, offset_failure, string_failure, vector_failure, inline_failure, own_failure, element_failure}
 
 -- a chain of tests finds nothing exactly where the facts hold

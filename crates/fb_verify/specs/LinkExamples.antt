@@ -1,13 +1,10 @@
 -- Examples of links: faults with those that lead to them.
 use Rattle.std.specs.Prelude.{ℕ, pos, true, List, [], ◌∷◌, codes, Option, Some, None}
 use Rattle.fb_schema.specs.Rows.{Rows}
-use Rattle.fb_verify.specs.declared.start.Start.TheVariants.{Bare}
-use Rattle.fb_verify.specs.declared.start.Ident.TheVariants.{Any}
-use Rattle.fb_verify.specs.declared.{fault.Fault.Fault, links.Link.Link}
+use Rattle.fb_verify.specs.declared.{start.Start.TheVariants.Bare, start.Ident.TheVariants.Any}
 use Rattle.fb_verify.specs.declared.fault.Reason.TheVariants.{OutOfBuffer, ZeroOffset, TooManyTables}
-use Rattle.fb_verify.specs.Bounds.{Bounds}
-use Rattle.fb_verify.specs.Question.{question}
-use Rattle.fb_verify.specs.Links.{StopsAlong}
+use Rattle.fb_verify.specs.declared.{fault.Fault.Fault, links.Link.Link}
+use Rattle.fb_verify.specs.{Bounds.Bounds, Question.question, Links.StopsAlong}
 pub use Rattle.fb_verify.specs.Samples.{fault}
 use Rattle.fb_verify.specs.Samples.{published_checks, published_limits, union_type, text, object, union, vector, field, table}
 

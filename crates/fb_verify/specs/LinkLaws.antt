@@ -1,9 +1,7 @@
 -- The law of the links that lead to a fault.
 use Rattle.std.specs.Prelude.{◌≡◌, ℕ, List, [], ◌∷◌, ◌++◌, Some}
-use Rattle.fb_verify.specs.declared.fault.Fault.{Fault}
-use Rattle.fb_verify.specs.declared.links.Link.{Link}
-use Rattle.fb_verify.specs.Question.{Question}
-use Rattle.fb_verify.specs.Links.{StopsAlong}
+use Rattle.fb_verify.specs.declared.{fault.Fault.Fault, links.Link.Link}
+use Rattle.fb_verify.specs.{Question.Question, Links.StopsAlong}
 
 -- the last of these links is to this field of a table of this object
 pub record EndIn (object field : ℕ) (links : List Link) : Type 0 where

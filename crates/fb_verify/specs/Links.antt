@@ -3,18 +3,11 @@ use Rattle.std.specs.Prelude.{◌≡◌, ℕ, ◌+◌, ◌⊎◌, List, [], ◌�
 use Rattle.fb_bytes.specs.Word.{word}
 use Rattle.fb_schema.specs.declared.kinds.Kind.{Kind}
 use Rattle.fb_schema.specs.declared.kinds.Kind.TheVariants.{Union, Texts, Tables, Unions}
-use Rattle.fb_schema.specs.Rows.{Rows}
-use Rattle.fb_schema.specs.Live.{Live, live_fields}
-use Rattle.fb_verify.specs.declared.checks.Checks.{Checks}
-use Rattle.fb_verify.specs.declared.fault.Fault.{Fault}
-use Rattle.fb_verify.specs.declared.links.Link.{Link}
-use Rattle.fb_verify.specs.Bounds.{Bounds}
-use Rattle.fb_verify.specs.Question.{Question}
-use Rattle.fb_verify.specs.Places.{target}
+use Rattle.fb_schema.specs.{Rows.Rows, Live.Live, Live.live_fields}
+use Rattle.fb_verify.specs.declared.{checks.Checks.Checks, fault.Fault.Fault, links.Link.Link}
+use Rattle.fb_verify.specs.{Bounds.Bounds, Question.Question, Places.target, Tree.kids_length, Tree.elements_length}
+use Rattle.fb_verify.specs.{Way.Way, Way.way_to_start, Way.way_to_root, WellFormed.base, WellFormed.IsStart}
 use Rattle.fb_verify.specs.Fields.{type_place, union_type, types_begin, Lead, to_table, Entry, entries}
-use Rattle.fb_verify.specs.Tree.{kids_length, elements_length}
-use Rattle.fb_verify.specs.Way.{Way, way_to_start, way_to_root}
-use Rattle.fb_verify.specs.WellFormed.{base, IsStart}
 use Rattle.fb_verify.specs.Stops.{in_start, IsFalseAt, Trail, at_head, at_field, FieldTrail, at_own, at_element, ElementTrail, at_lead, through, IsTrail}
 
 -- the number of an element with j others before it, where the field is a vector of what may lead on

@@ -1,7 +1,6 @@
 -- How many reads a verification makes at most.
 use Rattle.std.specs.Prelude.{ℕ, ◌+◌, ◌*◌, min, Option, Some, None}
-use Rattle.fb_schema.specs.Rows.{Rows}
-use Rattle.fb_schema.specs.Live.{widest}
+use Rattle.fb_schema.specs.{Rows.Rows, Live.widest}
 use Rattle.fb_verify.specs.Bounds.{Bounds}
 
 -- the lesser of this number and, if there is a budget, that and 7

@@ -1,27 +1,15 @@
 -- The offset words that are left of a field, as a walk keeps them.
 use Rattle.std.specs.Prelude.{◌≡◌, ℕ, ◌+◌, ◌-◌, ◌*◌, ◌<◌, ◌≤◌, ◌^◌, List, [], length, Some, Bool, true, false, IsTrue}
 use Rattle.fb_bytes.specs.Word.{Lent, word}
-use Rattle.fb_schema.specs.declared.kinds.Kind.{Kind}
-use Rattle.fb_schema.specs.declared.kinds.Kind.TheVariants.{Union, Unions}
-use Rattle.fb_schema.specs.declared.views.Goal.{Goal}
+use Rattle.fb_schema.specs.declared.{kinds.Kind.Kind, kinds.Kind.TheVariants.Union, kinds.Kind.TheVariants.Unions, views.Goal.Goal}
+use Rattle.fb_schema.specs.declared.{views.Target.Target, targets.Targets.Targets}
 use Rattle.fb_schema.specs.declared.views.Goal.TheVariants.{Nothing as NoGoal, Text as TextGoal, Table as TableGoal, Struct as StructGoal}
-use Rattle.fb_schema.specs.declared.views.Target.{Target}
-use Rattle.fb_schema.specs.declared.targets.Targets.{Targets}
-use Rattle.fb_schema.specs.Rows.{Rows, is_table, is_union}
-use Rattle.fb_schema.specs.Members.{member_of}
-use Rattle.fb_schema.specs.Live.{Live}
-use Rattle.fb_schema.specs.Targets.{target_at, target_of}
+use Rattle.fb_schema.specs.{Rows.Rows, Rows.is_table, Rows.is_union, Members.member_of, Live.Live, Targets.target_at, Targets.target_of}
 use Rattle.fb_schema.specs.Served.{IsAlignment, IsServed, KindHolds}
-use Rattle.fb_verify.specs.declared.checks.Checks.{Checks}
-use Rattle.fb_verify.specs.declared.table.Table.{Table}
-use Rattle.fb_verify.specs.declared.offset_row.Referent.{Referent}
+use Rattle.fb_verify.specs.declared.{checks.Checks.Checks, table.Table.Table, offset_row.Referent.Referent, offset_row.Leads.Leads}
+use Rattle.fb_verify.specs.declared.{offset_row.Leads.TheVariants.All, offset_row.Leads.TheVariants.ByType, offset_row.Row.Row}
 use Rattle.fb_verify.specs.declared.offset_row.Referent.TheVariants.{Text as AText, Table as ATable, Struct as AStruct, Nothing}
-use Rattle.fb_verify.specs.declared.offset_row.Leads.{Leads}
-use Rattle.fb_verify.specs.declared.offset_row.Leads.TheVariants.{All, ByType}
-use Rattle.fb_verify.specs.declared.offset_row.Row.{Row}
-use Rattle.fb_verify.specs.Told.{IsPlaced}
-use Rattle.fb_verify.specs.Places.{target}
-use Rattle.fb_verify.specs.Cost.{reads_if_present}
+use Rattle.fb_verify.specs.{Told.IsPlaced, Places.target, Cost.reads_if_present}
 use Rattle.fb_verify.specs.Fields.{type_place, union_type, Lead, to_table, to_struct, to_string, to_nothing, lead_of, Entry, entry, row, union_row}
 
 -- where an offset word leads that refers to this

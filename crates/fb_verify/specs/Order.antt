@@ -3,20 +3,13 @@ use Rattle.std.specs.Prelude.{ℕ, ◌+◌, ◌*◌, ◌%◌, Bool, not, ◌&&�
 use Rattle.fb_bytes.specs.Word.{word}
 use Rattle.fb_schema.specs.declared.kinds.Kind.{Kind}
 use Rattle.fb_schema.specs.declared.kinds.Kind.TheVariants.{Scalar, Text, Struct, Table, Union, Scalars, Texts, Structs, Tables, Unions}
-use Rattle.fb_schema.specs.Rows.{Rows}
-use Rattle.fb_schema.specs.Live.{Live}
-use Rattle.fb_schema.specs.Members.{member_of}
-use Rattle.fb_verify.specs.declared.checks.Checks.{Checks}
-use Rattle.fb_verify.specs.declared.start.Start.{Start}
-use Rattle.fb_verify.specs.declared.start.Start.TheVariants.{Bare, Prefixed}
-use Rattle.fb_verify.specs.declared.start.Ident.{Ident}
-use Rattle.fb_verify.specs.declared.start.Ident.TheVariants.{Any, Want}
-use Rattle.fb_verify.specs.declared.fault.Reason.{Reason}
+use Rattle.fb_schema.specs.{Rows.Rows, Live.Live, Members.member_of}
+use Rattle.fb_verify.specs.declared.{checks.Checks.Checks, start.Start.Start, start.Start.TheVariants.Bare, start.Start.TheVariants.Prefixed}
+use Rattle.fb_verify.specs.declared.{start.Ident.Ident, start.Ident.TheVariants.Any, start.Ident.TheVariants.Want, fault.Reason.Reason}
 use Rattle.fb_verify.specs.declared.fault.Reason.TheVariants.{WrongPrefix, OutOfBuffer, Misaligned, ZeroOffset, WrongIdentifier, BadVtable, MissingRequired, NoTerminator, LengthsDiffer, PastTable}
 use Rattle.fb_verify.specs.Places.{fits, is_aligned, target, has_vtable, vtable, vtable_size, field_place, ends_in_table}
 use Rattle.fb_verify.specs.Fields.{type_place, union_type, type_count, Lead, to_table, to_struct, to_string, to_nothing, Entry}
-use Rattle.fb_verify.specs.Cost.{slot_reads, reads_if_present}
-use Rattle.fb_verify.specs.WellFormed.{base, prefix_reads, ident_reads}
+use Rattle.fb_verify.specs.{Cost.slot_reads, Cost.reads_if_present, WellFormed.base, WellFormed.prefix_reads, WellFormed.ident_reads}
 
 -- a test that fails: why, at which position, and the reads made by then
 pub record Failure : Type 0 where

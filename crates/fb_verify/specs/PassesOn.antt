@@ -1,23 +1,12 @@
 -- What it takes to pass fields of the top of a walk, and what that leaves.
 use Rattle.std.specs.Prelude.{◌≡◌, ℕ, ◌+◌, ◌-◌, ◌*◌, ◌^◌, ◌<◌, ◌≤◌, Bool, true, false, Result, IfOk, IfErr, List, length, map, drop, slice_get, Some, Ok, Err}
-use Rattle.fb_schema.specs.Rows.{Rows}
-use Rattle.fb_schema.specs.declared.views.Act.TheVariants.{Other}
-use Rattle.fb_schema.specs.Live.{Live, live_fields}
-use Rattle.fb_schema.specs.Steps.{act_of, step_of}
-use Rattle.fb_schema.specs.declared.views.Step.{Step}
+use Rattle.fb_schema.specs.{Rows.Rows, Live.Live, Live.live_fields, Steps.act_of, Steps.step_of}
+use Rattle.fb_schema.specs.declared.{views.Act.TheVariants.Other, views.Step.Step}
 use Rattle.fb_bytes.specs.Word.{Lent}
-use Rattle.fb_verify.specs.declared.fault.Reason.{Reason}
-use Rattle.fb_verify.specs.declared.plain.Came.{Came}
+use Rattle.fb_verify.specs.declared.{fault.Reason.Reason, plain.Came.Came, scratch.Frame.Frame, site.Stop.Stop, stack.Walk.Walk}
 use Rattle.fb_verify.specs.declared.plain.Came.TheVariants.{Past, ToEnd, ToField, ToFault}
-use Rattle.fb_verify.specs.declared.scratch.Frame.{Frame}
-use Rattle.fb_verify.specs.declared.site.Stop.{Stop}
-use Rattle.fb_verify.specs.declared.stack.Walk.{Walk}
-use Rattle.fb_verify.specs.Bounds.{AreAllowed}
-use Rattle.fb_verify.specs.Places.{vtable_size}
-use Rattle.fb_verify.specs.Plain.{StepsHold, steps_reads}
-use Rattle.fb_verify.specs.Told.{stopped}
+use Rattle.fb_verify.specs.{Bounds.AreAllowed, Places.vtable_size, Plain.StepsHold, Plain.steps_reads, Told.stopped, StopsAt.IsStopAt}
 use Rattle.fb_verify.specs.Stack.{Waiting, frame_work, IsWalking, IsAtField, IsStopped}
-use Rattle.fb_verify.specs.StopsAt.{IsStopAt}
 
 -- a walk between two fields of the top
 pub record IsBetween (w : Walk) (m : Lent) (under : Waiting) (top : Frame) : Type 0 where

@@ -2,19 +2,14 @@
 use Rattle.std.specs.Prelude.{◌≡◌, ◌⊎◌, ℕ, ◌+◌, ◌^◌, ◌<◌, ◌%◌, ◌==◌, ◌&&◌, nat_le, if◌then◌else◌, IsTrue, List, not, Option, Some, None, Result, IfOk, IfErr, false}
 use Rattle.std.specs.List.{All, sum_by}
 use Rattle.fb_bytes.specs.Word.{Lent}
-use Rattle.fb_schema.specs.declared.views.Act.{Act}
+use Rattle.fb_schema.specs.declared.{views.Act.Act, views.Step.Step}
 use Rattle.fb_schema.specs.declared.views.Act.TheVariants.{One, Two, Four, Eight, Inline, Text, Vector, Other}
-use Rattle.fb_schema.specs.declared.views.Step.{Step}
-use Rattle.fb_schema.specs.Served.{IsAlignment}
-use Rattle.fb_schema.specs.Steps.{bit_of}
-use Rattle.fb_verify.specs.declared.plain.Came.{Came}
+use Rattle.fb_schema.specs.{Served.IsAlignment, Steps.bit_of}
+use Rattle.fb_verify.specs.declared.{plain.Came.Came, checks.Checks.Checks, fault.Reason.Reason}
 use Rattle.fb_verify.specs.declared.plain.Came.TheVariants.{Past, ToEnd, ToField, ToFault}
-use Rattle.fb_verify.specs.declared.checks.Checks.{Checks}
-use Rattle.fb_verify.specs.declared.fault.Reason.{Reason}
 use Rattle.fb_verify.specs.declared.fault.Reason.TheVariants.{OutOfBuffer, Misaligned, BadVtable, MissingRequired}
 use Rattle.fb_verify.specs.Places.{fits, is_aligned, has_vtable, vtable, field_place, has_slot, vtable_size}
-use Rattle.fb_verify.specs.Fields.{to_string}
-use Rattle.fb_verify.specs.Cost.{slot_reads}
+use Rattle.fb_verify.specs.{Fields.to_string, Cost.slot_reads}
 use Rattle.fb_verify.specs.Order.{Failure, check, after, ◌▷◌, table_failure, inline_field_failure, vector_field_failure, lead_failure}
 
 -- the failure that a test tells at this position, after so many reads

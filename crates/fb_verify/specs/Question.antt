@@ -1,9 +1,7 @@
 -- What is asked of a buffer.
 use Rattle.std.specs.Prelude.{ℕ}
 use Rattle.fb_schema.specs.Rows.{Rows}
-use Rattle.fb_verify.specs.declared.checks.Checks.{Checks}
-use Rattle.fb_verify.specs.declared.start.Start.{Start}
-use Rattle.fb_verify.specs.declared.start.Ident.{Ident}
+use Rattle.fb_verify.specs.declared.{checks.Checks.Checks, start.Start.Start, start.Ident.Ident}
 use Rattle.fb_verify.specs.Bounds.{Bounds}
 
 -- whether it unfolds by these rows from a root table of this object, how it begins, within which limits, and what is

@@ -3,32 +3,16 @@ use Rattle.std.specs.Prelude.{◌≡◌, ℕ, ◌+◌, ◌-◌, ◌*◌, ◌^◌
 use Rattle.std.specs.List.{All, sum_by}
 use Rattle.fb_schema.specs.declared.kinds.Kind.{Kind}
 use Rattle.fb_schema.specs.declared.kinds.Kind.TheVariants.{Union, Texts, Tables, Unions}
-use Rattle.fb_schema.specs.Rows.{Rows, is_table}
-use Rattle.fb_schema.specs.Live.{Live, live_fields}
-use Rattle.fb_schema.specs.Served.{IsServed}
+use Rattle.fb_schema.specs.{Rows.Rows, Rows.is_table, Live.Live, Live.live_fields, Served.IsServed}
 use Rattle.fb_bytes.specs.Word.{Lent, word}
-use Rattle.fb_verify.specs.declared.checks.Checks.{Checks}
-use Rattle.fb_verify.specs.declared.fault.Fault.{Fault}
-use Rattle.fb_verify.specs.declared.offset_row.Referent.TheVariants.{Nothing}
-use Rattle.fb_verify.specs.declared.offset_row.Leads.TheVariants.{All as AllTo}
-use Rattle.fb_verify.specs.declared.scratch.Frame.{Frame}
-use Rattle.fb_verify.specs.declared.site.Halt.{Halt}
-use Rattle.fb_verify.specs.declared.site.LastLink.{LastLink}
-use Rattle.fb_verify.specs.declared.site.LastLink.TheVariants.{Behind, InField}
-use Rattle.fb_verify.specs.declared.table.Child.{Child}
-use Rattle.fb_verify.specs.declared.table.Table.{Table}
-use Rattle.fb_verify.specs.declared.links.Link.{Link}
-use Rattle.fb_verify.specs.declared.stack.Walk.{Walk}
-use Rattle.fb_verify.specs.Bounds.{Bounds, AreAllowed}
-use Rattle.fb_verify.specs.Question.{Question}
-use Rattle.fb_verify.specs.Places.{target, has_slot, field_place}
+use Rattle.fb_verify.specs.declared.{checks.Checks.Checks, fault.Fault.Fault, offset_row.Referent.TheVariants.Nothing}
+use Rattle.fb_verify.specs.declared.{offset_row.Leads.TheVariants.All as AllTo, scratch.Frame.Frame, site.Halt.Halt, site.LastLink.LastLink}
+use Rattle.fb_verify.specs.declared.{site.LastLink.TheVariants.Behind, site.LastLink.TheVariants.InField, table.Child.Child, table.Table.Table}
+use Rattle.fb_verify.specs.declared.{links.Link.Link, stack.Walk.Walk}
+use Rattle.fb_verify.specs.{Bounds.Bounds, Bounds.AreAllowed, Question.Question, Places.target, Places.has_slot, Places.field_place, Cost.lead_reads}
+use Rattle.fb_verify.specs.{Order.element_failure, Way.Way, Told.IsHead, Told.stopped, Links.element_link, Links.LeadsAlong, Links.StopsAlong}
 use Rattle.fb_verify.specs.Fields.{IsField, to_table, entries, type_place, type_count}
-use Rattle.fb_verify.specs.Cost.{lead_reads}
-use Rattle.fb_verify.specs.Order.{element_failure}
-use Rattle.fb_verify.specs.Way.{Way}
-use Rattle.fb_verify.specs.Told.{IsHead, stopped}
 use Rattle.fb_verify.specs.OffsetRows.{words_of, first_word, IsRow, IsTyped, TypeFits, TypesFit}
-use Rattle.fb_verify.specs.Links.{element_link, LeadsAlong, StopsAlong}
 use Rattle.fb_verify.specs.Walked.{ended, TableWalked, IsInside, IsInField, Waits}
 
 -- what no walk has written

@@ -1,21 +1,14 @@
 -- The first place where a condition fails, and the fault that this is.
 use Rattle.std.specs.Prelude.{◌≡◌, ℕ, ◌+◌, ◌⊎◌, nat_lt, List, Option, Some, None, take, slice_get}
-use Rattle.fb_schema.specs.Rows.{Rows}
-use Rattle.fb_schema.specs.Live.{Live, live_fields}
-use Rattle.fb_verify.specs.declared.checks.Checks.{Checks}
-use Rattle.fb_verify.specs.declared.start.Start.{Start}
-use Rattle.fb_verify.specs.declared.start.Ident.{Ident}
+use Rattle.fb_schema.specs.{Rows.Rows, Live.Live, Live.live_fields}
+use Rattle.fb_verify.specs.declared.{checks.Checks.Checks, start.Start.Start, start.Ident.Ident}
 use Rattle.fb_verify.specs.declared.fault.Reason.TheVariants.{TooDeep, TooManyTables, TooManyReads}
 use Rattle.fb_verify.specs.declared.fault.Fault.{Fault}
-use Rattle.fb_verify.specs.Bounds.{Bounds, allowed}
-use Rattle.fb_verify.specs.Question.{Question}
-use Rattle.fb_verify.specs.Places.{target}
-use Rattle.fb_verify.specs.Facts.{IsTable, IsOffset}
+use Rattle.fb_verify.specs.{Bounds.Bounds, Bounds.allowed, Question.Question, Places.target, Facts.IsTable, Facts.IsOffset}
+use Rattle.fb_verify.specs.{Unfolds.FieldsUnfold, Unfolds.ElementsUnfold, Cost.head_reads, Cost.own_reads, Cost.lead_reads}
+use Rattle.fb_verify.specs.WellFormed.{base, start_reads, IsStart}
 use Rattle.fb_verify.specs.Fields.{IsField, Lead, to_table, Entry, entries}
 use Rattle.fb_verify.specs.Tree.{Kids, kids_length, Elements, elements_length}
-use Rattle.fb_verify.specs.Unfolds.{FieldsUnfold, ElementsUnfold}
-use Rattle.fb_verify.specs.Cost.{head_reads, own_reads, lead_reads}
-use Rattle.fb_verify.specs.WellFormed.{base, start_reads, IsStart}
 use Rattle.fb_verify.specs.Order.{Failure, check, ◌▷◌, start_failure, head_failure, own_failure, element_failure}
 use Rattle.fb_verify.specs.Way.{Way, way_to_start, way_to_root, way_to_field, way_to_element, way_to_table, StaysWithin}
 

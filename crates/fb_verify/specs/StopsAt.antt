@@ -1,10 +1,7 @@
 -- Where a test of a field fails that is told by its place and reason alone.
 use Rattle.std.specs.Prelude.{◌≡◌, ℕ, Some, slice_get}
-use Rattle.fb_schema.specs.Rows.{Rows}
-use Rattle.fb_schema.specs.Live.{Live, live_fields}
-use Rattle.fb_verify.specs.declared.fault.Reason.{Reason}
-use Rattle.fb_verify.specs.declared.scratch.Frame.{Frame}
-use Rattle.fb_verify.specs.declared.site.Stop.{Stop}
+use Rattle.fb_schema.specs.{Rows.Rows, Live.Live, Live.live_fields}
+use Rattle.fb_verify.specs.declared.{fault.Reason.Reason, scratch.Frame.Frame, site.Stop.Stop}
 
 -- the stop at this place, for this reason, in the next field of the frame's table
 pub record IsStopAt (S : Rows) (top : Frame) (at : ℕ) (reason : Reason) (s : Stop) : Type 0 where

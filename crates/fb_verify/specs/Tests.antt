@@ -1,19 +1,16 @@
 -- Examples of the tests of Order.antt: bytes that pass or fail each of them, most of them beside the tests around it.
 use Rattle.std.specs.Prelude.{◌≡◌, ℕ, true, false, List, [], ◌∷◌, Option, Some, None}
-use Rattle.fb_schema.specs.declared.kinds.Scalar.TheVariants.{Short, Int, Long}
-use Rattle.fb_schema.specs.declared.kinds.Kind.{Kind}
+use Rattle.fb_schema.specs.declared.{kinds.Scalar.TheVariants.Short, kinds.Scalar.TheVariants.Int, kinds.Scalar.TheVariants.Long, kinds.Kind.Kind}
 use Rattle.fb_schema.specs.declared.kinds.Kind.TheVariants.{Scalar, Text, Struct, Table, Union, Scalars, Texts, Structs, Tables, Unions}
 use Rattle.fb_schema.specs.{Live.Live, LookUps.live}
 use Rattle.fb_verify.specs.declared.{checks.Checks.Checks, fault.Reason.Reason}
 use Rattle.fb_verify.specs.declared.start.Start.TheVariants.{Bare, Prefixed}
 use Rattle.fb_verify.specs.declared.start.Ident.{Ident, TheVariants.Any, TheVariants.Want}
 use Rattle.fb_verify.specs.declared.fault.Reason.TheVariants.{WrongPrefix, OutOfBuffer, Misaligned, ZeroOffset, WrongIdentifier, TooDeep, TooManyTables, BadVtable, MissingRequired, NoTerminator, LengthsDiffer, PastTable, TooManyReads}
-use Rattle.fb_verify.specs.Bounds.{Bounds}
+use Rattle.fb_verify.specs.{Bounds.Bounds, Way.Way, Samples.published_checks, Samples.fault, Samples.unions}
 use Rattle.fb_verify.specs.Fields.{to_table, to_struct, to_string, to_nothing, entry}
 use Rattle.fb_verify.specs.Order.{Failure, prefix_failure, ident_failure, offset_failure, start_failure, head_failure, string_failure, vector_failure, inline_failure, own_failure, element_failure}
-use Rattle.fb_verify.specs.Way.{Way}
 use Rattle.fb_verify.specs.Stops.{in_start, in_head, in_field, in_element, fault_at}
-use Rattle.fb_verify.specs.Samples.{published_checks, fault, unions}
 
 -- a chain finds this
 abbrev pub found : Reason → ℕ → ℕ → Option Failure

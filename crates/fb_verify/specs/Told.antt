@@ -1,17 +1,9 @@
 -- What the parts of a walk hand on: refusals, stops and faults, and the head of a table.
 use Rattle.std.specs.Prelude.{◌%◌, ◌≡◌, ℕ, ◌+◌, ◌≤◌, ◌<◌, ◌^◌, IsTrue, List, length, Option, Some, None, Result, IfOk, IfErr}
 use Rattle.fb_bytes.specs.Word.{Lent}
-use Rattle.fb_verify.specs.declared.checks.Checks.{Checks}
-use Rattle.fb_verify.specs.declared.fault.Fault.{Fault}
-use Rattle.fb_verify.specs.declared.site.Site.{Site}
-use Rattle.fb_verify.specs.declared.site.Refusal.{Refusal}
-use Rattle.fb_verify.specs.declared.site.Stop.{Stop}
-use Rattle.fb_verify.specs.declared.table.Head.{Head}
-use Rattle.fb_verify.specs.Places.{vtable, vtable_size, inline_size}
-use Rattle.fb_verify.specs.Bounds.{Bounds, AreAllowed}
+use Rattle.fb_verify.specs.declared.{checks.Checks.Checks, fault.Fault.Fault, site.Site.Site, site.Refusal.Refusal, site.Stop.Stop, table.Head.Head}
+use Rattle.fb_verify.specs.{Places.vtable, Places.vtable_size, Places.inline_size, Bounds.Bounds, Bounds.AreAllowed, Stops.reads_failure, Way.Way}
 use Rattle.fb_verify.specs.Order.{Failure, ◌▷◌}
-use Rattle.fb_verify.specs.Stops.{reads_failure}
-use Rattle.fb_verify.specs.Way.{Way}
 
 -- the fault that a failure is, at this site and after so many reads
 abbrev pub told : Site → ℕ → Option Failure → Option Fault

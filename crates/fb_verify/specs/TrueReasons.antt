@@ -8,14 +8,10 @@ use Rattle.fb_verify.specs.declared.{checks.Checks.Checks, fault.Fault.Fault, fa
 use Rattle.fb_verify.specs.declared.start.Start.{Start, TheVariants.Prefixed}
 use Rattle.fb_verify.specs.declared.start.Ident.{Ident, TheVariants.Want}
 use Rattle.fb_verify.specs.declared.fault.Reason.TheVariants.{WrongPrefix, OutOfBuffer, Misaligned, ZeroOffset, WrongIdentifier, TooDeep, TooManyTables, BadVtable, MissingRequired, NoTerminator, LengthsDiffer, PastTable, TooManyReads}
-use Rattle.fb_verify.specs.Bounds.{Bounds, AreTooMany}
-use Rattle.fb_verify.specs.Question.{Question}
+use Rattle.fb_verify.specs.{Bounds.Bounds, Bounds.AreTooMany, Question.Question, Facts.IsTable, Facts.IsOffset, Tree.kids_size, Tree.elements_size}
+use Rattle.fb_verify.specs.{WellFormed.base, WellFormed.IsStart, Way.way_to_root}
 use Rattle.fb_verify.specs.Places.{target, has_vtable, vtable, vtable_size, inline_size, field_place}
-use Rattle.fb_verify.specs.Facts.{IsTable, IsOffset}
 use Rattle.fb_verify.specs.Fields.{IsField, type_place, type_count, Lead, to_table, to_struct, to_string, to_nothing, Entry, entries}
-use Rattle.fb_verify.specs.Tree.{kids_size, elements_size}
-use Rattle.fb_verify.specs.WellFormed.{base, IsStart}
-use Rattle.fb_verify.specs.Way.{way_to_root}
 use Rattle.fb_verify.specs.Stops.{Trail, at_head, at_field, FieldTrail, at_own, at_element, ElementTrail, at_lead, through, IsTrail, Stops}
 
 -- The parts of a buffer: what is false of each, by the reason and the position that are told.

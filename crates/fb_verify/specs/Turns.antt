@@ -1,30 +1,15 @@
 -- What a turn of a quick walk leaves: it goes on, up or down, or it stops.
 use Rattle.std.specs.Prelude.{◌≡◌, ℕ, ◌+◌, ◌-◌, ◌*◌, ◌<◌, ◌≤◌, ◌^◌, List, [], ◌∷◌, ◌++◌, take, length, slice_get, slice_index_or, IsTrue, Option, Some, None, Result, IfOk, IfErr, IfSome, MatchOption, true}
 use Rattle.fb_bytes.specs.Word.{Lent}
-use Rattle.fb_schema.specs.declared.kinds.Kind.{Kind}
+use Rattle.fb_schema.specs.declared.{kinds.Kind.Kind, views.Act.TheVariants.Other, views.Step.Step}
 use Rattle.fb_schema.specs.declared.kinds.Kind.TheVariants.{Table as ToTable, Union, Texts, Tables, Unions}
-use Rattle.fb_schema.specs.declared.views.Act.TheVariants.{Other}
-use Rattle.fb_schema.specs.declared.views.Step.{Step}
-use Rattle.fb_schema.specs.Rows.{is_table}
-use Rattle.fb_schema.specs.Live.{Live, live_fields, widest}
-use Rattle.fb_schema.specs.Steps.{act_of, is_plain, step_of}
-use Rattle.fb_verify.specs.declared.table.Child.{Child}
-use Rattle.fb_verify.specs.declared.fault.Reason.{Reason}
-use Rattle.fb_verify.specs.declared.offset_row.Row.{Row}
-use Rattle.fb_verify.specs.declared.offset_row.Leads.TheVariants.{All}
-use Rattle.fb_verify.specs.declared.offset_row.Referent.TheVariants.{Table as ATable}
-use Rattle.fb_verify.specs.declared.scratch.Frame.{Frame}
-use Rattle.fb_verify.specs.declared.site.Halt.{Halt}
-use Rattle.fb_verify.specs.declared.site.LastLink.TheVariants.{Behind}
-use Rattle.fb_verify.specs.declared.stack.Turn.{Turn}
+use Rattle.fb_schema.specs.{Rows.is_table, Live.Live, Live.live_fields, Live.widest, Steps.act_of, Steps.is_plain, Steps.step_of}
+use Rattle.fb_verify.specs.declared.{table.Child.Child, fault.Reason.Reason, offset_row.Row.Row, offset_row.Leads.TheVariants.All}
+use Rattle.fb_verify.specs.declared.{offset_row.Referent.TheVariants.Table as ATable, scratch.Frame.Frame, site.Halt.Halt}
+use Rattle.fb_verify.specs.declared.{site.LastLink.TheVariants.Behind, stack.Turn.Turn, stack.Walk.Walk}
 use Rattle.fb_verify.specs.declared.stack.Turn.TheVariants.{Down, Up, Slowly, Halt as Halted}
-use Rattle.fb_verify.specs.declared.stack.Walk.{Walk}
-use Rattle.fb_verify.specs.Bounds.{AreAllowed}
-use Rattle.fb_verify.specs.Flat.{MayOpen}
-use Rattle.fb_verify.specs.OffsetRows.{past_first}
-use Rattle.fb_verify.specs.Order.{after, head_failure}
-use Rattle.fb_verify.specs.PassesOn.{HasRoom, fields_left}
-use Rattle.fb_verify.specs.Plain.{tested_by}
+use Rattle.fb_verify.specs.{Bounds.AreAllowed, Flat.MayOpen, OffsetRows.past_first, Order.after, Order.head_failure}
+use Rattle.fb_verify.specs.{PassesOn.HasRoom, PassesOn.fields_left, Plain.tested_by}
 use Rattle.fb_verify.specs.Stack.{blank, opened, Origin, Waiting, frame_work, work, IsWalking, IsAtField, IsOver, StopsIn, HaltsIn, links_left}
 
 -- a count that 64 bits hold with room to spare

@@ -1,9 +1,7 @@
 -- What a verdict says of a buffer.
 use Rattle.std.specs.Prelude.{◌≡◌, ℕ, List}
 use Rattle.fb_verify.specs.declared.fault.Report.{Report}
-use Rattle.fb_verify.specs.Question.{Question}
-use Rattle.fb_verify.specs.Tree.{Tree, size, depth}
-use Rattle.fb_verify.specs.WellFormed.{IsWellFormed, IsWithin, cost}
+use Rattle.fb_verify.specs.{Question.Question, Tree.Tree, Tree.size, Tree.depth, WellFormed.IsWellFormed, WellFormed.IsWithin, WellFormed.cost}
 
 -- a tree is well formed and within the limits, and the report counts it
 pub record Reports (q : Question) (b : List ℕ) (r : Report) : Type 0 where

@@ -1,15 +1,10 @@
 -- The way to a place: what lies before it.
 use Rattle.std.specs.Prelude.{ℕ, ◌+◌, ◌-◌, ◌≤◌, max, List, Option, Some, None}
-use Rattle.fb_schema.specs.Rows.{Rows}
-use Rattle.fb_schema.specs.Live.{Live, live_fields}
-use Rattle.fb_verify.specs.declared.checks.Checks.{Checks}
-use Rattle.fb_verify.specs.declared.start.Start.{Start}
-use Rattle.fb_verify.specs.declared.start.Ident.{Ident}
-use Rattle.fb_verify.specs.Bounds.{Bounds, AreAllowed}
+use Rattle.fb_schema.specs.{Rows.Rows, Live.Live, Live.live_fields}
+use Rattle.fb_verify.specs.declared.{checks.Checks.Checks, start.Start.Start, start.Ident.Ident}
+use Rattle.fb_verify.specs.{Bounds.Bounds, Bounds.AreAllowed, Fields.Entry, Fields.entries, WellFormed.start_reads}
 use Rattle.fb_verify.specs.Tree.{Tree, size, depth, Kids, kids_size, kids_depth, Elements, elements_size, elements_depth}
-use Rattle.fb_verify.specs.Fields.{Entry, entries}
 use Rattle.fb_verify.specs.Cost.{head_reads, own_reads, tree_cost, kids_cost, elements_cost}
-use Rattle.fb_verify.specs.WellFormed.{start_reads}
 
 -- the open tables, the tables passed with these, the greatest number that were open at once, the reads paid, those of
 -- them that lead to a table and are asked with its head, and the object and field of the innermost open table

@@ -1,17 +1,9 @@
 -- A whole buffer: its start and its tree.
 use Rattle.std.specs.Prelude.{◌≡◌, ℕ, ◌+◌, ◌≤◌, List, length}
 use Rattle.fb_bytes.specs.Word.{word}
-use Rattle.fb_verify.specs.declared.checks.Checks.{Checks}
-use Rattle.fb_verify.specs.declared.start.Start.{Start}
-use Rattle.fb_verify.specs.declared.start.Start.TheVariants.{Bare, Prefixed}
-use Rattle.fb_verify.specs.declared.start.Ident.{Ident}
-use Rattle.fb_verify.specs.declared.start.Ident.TheVariants.{Any, Want}
-use Rattle.fb_verify.specs.Bounds.{AreAllowed}
-use Rattle.fb_verify.specs.Question.{Question}
-use Rattle.fb_verify.specs.Places.{target}
-use Rattle.fb_verify.specs.Facts.{IsOffset}
-use Rattle.fb_verify.specs.Tree.{Tree, size, depth}
-use Rattle.fb_verify.specs.Unfolds.{Unfolds}
+use Rattle.fb_verify.specs.declared.{checks.Checks.Checks, start.Start.Start, start.Start.TheVariants.Bare, start.Start.TheVariants.Prefixed}
+use Rattle.fb_verify.specs.declared.{start.Ident.Ident, start.Ident.TheVariants.Any, start.Ident.TheVariants.Want}
+use Rattle.fb_verify.specs.{Bounds.AreAllowed, Question.Question, Places.target, Facts.IsOffset, Tree.Tree, Tree.size, Tree.depth, Unfolds.Unfolds}
 use Rattle.fb_verify.specs.Cost.{tree_cost}
 
 -- where the root offset stands

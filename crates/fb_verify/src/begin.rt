@@ -2,11 +2,8 @@
 
 ghost use Rattle.std.specs.Prelude.{◌≡◌, ◌+◌, ◌^◌, ◌<◌, ◌≤◌, IfOk, None};
 ghost use Rattle.fb_bytes.specs.Word.{word};
-ghost use Rattle.fb_verify.specs.Places.{target};
+ghost use Rattle.fb_verify.specs.{Places.target, Order.prefix_failure, Order.ident_failure, Order.start_failure, Plain.IsTested, Told.IsAskedAt};
 ghost use Rattle.fb_verify.specs.WellFormed.{base, prefix_reads, ident_reads, start_reads};
-ghost use Rattle.fb_verify.specs.Order.{prefix_failure, ident_failure, start_failure};
-ghost use Rattle.fb_verify.specs.Plain.{IsTested};
-ghost use Rattle.fb_verify.specs.Told.{IsAskedAt};
 
 use crate::budget::answer;
 use crate::checks::Checks;

@@ -1,10 +1,7 @@
 // The budget of reads.
 
 ghost use Rattle.std.specs.Prelude.{◌≡◌, ℕ, ◌<◌, List, Option, Some, None, IfOk, IfErr, false};
-ghost use Rattle.fb_verify.specs.Bounds.{AreAllowed, allowed};
-ghost use Rattle.fb_verify.specs.Order.{Failure};
-ghost use Rattle.fb_verify.specs.Plain.{IsTested};
-ghost use Rattle.fb_verify.specs.Told.{IsAskedAt};
+ghost use Rattle.fb_verify.specs.{Bounds.AreAllowed, Bounds.allowed, Order.Failure, Plain.IsTested, Told.IsAskedAt};
 ghost use Rattle.fb_verify.specs.declared.fault.Reason.TheVariants.{TooManyReads};
 
 use crate::fault::Reason;

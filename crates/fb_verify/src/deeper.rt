@@ -1,9 +1,8 @@
 //! Where a walk goes on in more frames than it began in.
 
 ghost use Rattle.std.specs.Prelude.{◌≡◌, ◌+◌, ◌<◌, ◌≤◌, length, List, IfOk, IfErr};
-ghost use Rattle.fb_verify.specs.Bounds.{AreAllowed};
+ghost use Rattle.fb_verify.specs.{Bounds.AreAllowed, Turns.IsUnderWayOver, Turns.GoneOn};
 ghost use Rattle.fb_verify.specs.Stack.{Origin, IsOver, HaltsIn, links_left};
-ghost use Rattle.fb_verify.specs.Turns.{IsUnderWayOver, GoneOn};
 
 use crate::scratch::{BLANK, Frame};
 use crate::site::Halt;

@@ -2,25 +2,16 @@
 // register.
 
 ghost use Rattle.std.specs.Prelude.{◌≡◌, ◌+◌, ◌-◌, ◌*◌, ◌^◌, ◌<◌, ◌≤◌, length, map, drop, IsTrue, None, true, false};
-ghost use Rattle.fb_schema.specs.Rows.{is_table};
-ghost use Rattle.fb_schema.specs.Live.{live_fields};
-ghost use Rattle.fb_schema.specs.Steps.{is_plain, step_of};
+ghost use Rattle.fb_schema.specs.{Rows.is_table, Live.live_fields, Steps.is_plain, Steps.step_of};
 ghost use Rattle.std.specs.List.{All};
-ghost use Rattle.fb_verify.specs.Alike.{IsSmallStep, IsKept};
-ghost use Rattle.fb_verify.specs.declared.passed.Sizes.TheVariants.{Small};
-ghost use Rattle.fb_verify.specs.Cost.{head_reads};
-ghost use Rattle.fb_verify.specs.Flat.{in_head, frame_at, Going, MayPass, PassesFlat};
-ghost use Rattle.fb_verify.specs.OffsetRows.{AreTargetsOf};
-ghost use Rattle.fb_verify.specs.Order.{head_failure};
-ghost use Rattle.fb_verify.specs.PassesOn.{IsBetween, HasRoom, Passage, PassesOn, CameTo};
-ghost use Rattle.fb_verify.specs.Plain.{IsTested};
-ghost use Rattle.fb_verify.specs.Stack.{opened, Waiting};
-ghost use Rattle.fb_verify.specs.StopsAt.{IsStopAt};
-ghost use Rattle.fb_verify.specs.Turns.{IsAtMember, IsAtMembers, IsAtFlats, MemberTurned, RowTurned};
-ghost use Rattle.fb_verify.specs.declared.offset_row.Leads.TheVariants.{ByType};
+ghost use Rattle.fb_verify.specs.{Alike.IsSmallStep, Alike.IsKept, Cost.head_reads, OffsetRows.AreTargetsOf, Order.head_failure, Plain.IsTested};
+ghost use Rattle.fb_verify.specs.{Stack.opened, Stack.Waiting, StopsAt.IsStopAt, Told.IsHead};
+ghost use Rattle.fb_verify.specs.declared.{passed.Sizes.TheVariants.Small, offset_row.Leads.TheVariants.ByType};
 ghost use Rattle.fb_verify.specs.declared.stack.Turn.TheVariants.{Halt as Halted};
 ghost use Rattle.fb_verify.specs.declared.site.LastLink.TheVariants.{Behind, InField};
-ghost use Rattle.fb_verify.specs.Told.{IsHead};
+ghost use Rattle.fb_verify.specs.Flat.{in_head, frame_at, Going, MayPass, PassesFlat};
+ghost use Rattle.fb_verify.specs.PassesOn.{IsBetween, HasRoom, Passage, PassesOn, CameTo};
+ghost use Rattle.fb_verify.specs.Turns.{IsAtMember, IsAtMembers, IsAtFlats, MemberTurned, RowTurned};
 
 use crate::checks::{Checks, PUBLISHED};
 use crate::fault::Reason;

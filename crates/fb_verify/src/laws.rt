@@ -1,8 +1,7 @@
 //! Laws of the definitions: each is the contract of a function that does nothing.
 
 ghost use Rattle.fb_verify.specs.Laws.{StartLaw, HeadLaw, OffsetLaw, StringLaw, VectorLaw, InlineLaw, FieldLaw, ElementLaw, IdentifierLaw, HasOneTree, StopsOnlyAtLimits, StopsOnce, LeadsOneWay, StopsNowhereWithin, CostIsBounded, ReadsAreBounded, LengthAllows};
-ghost use Rattle.fb_verify.specs.Answers.{HasOneVerdict};
-ghost use Rattle.fb_verify.specs.TrueReasons.{StopsTruly, TablesRunOut};
+ghost use Rattle.fb_verify.specs.{Answers.HasOneVerdict, TrueReasons.StopsTruly, TrueReasons.TablesRunOut};
 
 /// The chain of an offset word's tests finds nothing exactly where the facts of one hold.
 #[tactic(auto, using(crate::proofs::Chains::offset_none))]

@@ -3,19 +3,13 @@
 ghost use Rattle.std.specs.Prelude.{◌≡◌, ◌+◌, ◌*◌, ◌^◌, ◌<◌, ◌≤◌, length, IfSome, IsTrue, None, nat_lt, true, false};
 ghost use Rattle.fb_bytes.specs.Word.{word};
 ghost use Rattle.fb_schema.specs.declared.kinds.Kind.TheVariants.{Union};
-ghost use Rattle.fb_schema.specs.Rows.{is_union};
-ghost use Rattle.fb_schema.specs.Members.{member_of};
-ghost use Rattle.fb_schema.specs.Live.{live_of_view};
-ghost use Rattle.fb_schema.specs.Served.{IsServed};
-ghost use Rattle.fb_verify.specs.Cost.{present_reads, reads_at, slot_reads};
+ghost use Rattle.fb_schema.specs.{Rows.is_union, Members.member_of, Live.live_of_view, Served.IsServed};
+ghost use Rattle.fb_verify.specs.{Cost.present_reads, Cost.reads_at, Cost.slot_reads, Places.field_place, Places.has_slot, Places.target};
+ghost use Rattle.fb_verify.specs.{Plain.tested_by, Plain.IsTested, Plain.place_from, Told.IsPlaced, Told.IsVtable, Stack.Waiting};
 ghost use Rattle.fb_verify.specs.Fields.{entries_of, entries_at, type_place, type_count, types_begin, union_entry};
 ghost use Rattle.fb_verify.specs.OffsetRows.{AreAll, MayPut, LeavesRow, PutsWords, type_of_slot, type_reads, types_reads, TypeFits, TypesFit};
 ghost use Rattle.fb_verify.specs.Order.{after, table_failure, failure_at, present_failure, union_field_failure, unions_field_failure, vector_field_failure};
-ghost use Rattle.fb_verify.specs.Places.{field_place, has_slot, target};
-ghost use Rattle.fb_verify.specs.Plain.{tested_by, IsTested, place_from};
-ghost use Rattle.fb_verify.specs.Told.{IsPlaced, IsVtable};
 ghost use Rattle.fb_verify.specs.declared.offset_row.Leads.TheVariants.{All, ByType};
-ghost use Rattle.fb_verify.specs.Stack.{Waiting};
 ghost use Rattle.fb_verify.specs.Turns.{AllowsTable, IsAtFarField, IsAtOpenField, IsFar, IsShort, WordsPut, FieldTurned};
 
 use crate::checks::{Checks, PUBLISHED};

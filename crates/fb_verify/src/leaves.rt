@@ -2,12 +2,10 @@
 
 ghost use Rattle.std.specs.Prelude.{◌≡◌, ◌+◌, ◌*◌, ◌^◌, ◌<◌, ◌≤◌, [], ◌∷◌, ◌++◌, IfOk, IfErr, Some};
 ghost use Rattle.fb_schema.specs.Served.{IsServed};
-ghost use Rattle.fb_verify.specs.Bounds.{AreAllowed};
-ghost use Rattle.fb_verify.specs.OffsetRows.{lead_to, first_word, past_first, AreOfUnion, AreTargetsOf, IsLeafLead, IsReferent, IsRow, AreTypesNear};
-ghost use Rattle.fb_verify.specs.Stack.{Waiting, IsWalking, IsStoppedBehind};
-ghost use Rattle.fb_verify.specs.declared.offset_row.Leads.TheVariants.{All};
-ghost use Rattle.fb_verify.specs.Told.{stopped};
+ghost use Rattle.fb_verify.specs.{Bounds.AreAllowed, Stack.Waiting, Stack.IsWalking, Stack.IsStoppedBehind, Told.stopped};
 ghost use Rattle.fb_verify.specs.Turns.{IsInRow, RowTurned};
+ghost use Rattle.fb_verify.specs.OffsetRows.{lead_to, first_word, past_first, AreOfUnion, AreTargetsOf, IsLeafLead, IsReferent, IsRow, AreTypesNear};
+ghost use Rattle.fb_verify.specs.declared.offset_row.Leads.TheVariants.{All};
 
 use crate::checks::Checks;
 use crate::fault::Reason;

@@ -3,10 +3,8 @@
 ghost use Rattle.std.specs.Prelude.{◌≡◌, ◌+◌, ◌-◌, ◌^◌, ◌<◌, ◌≤◌, ◌++◌, length, map, take, IfSome};
 ghost use Rattle.std.specs.List.{All};
 ghost use Rattle.fb_schema.specs.Live.{live_of_view};
-ghost use Rattle.fb_verify.specs.Links.{element_of, type_of};
-ghost use Rattle.fb_verify.specs.Places.{field_place};
+ghost use Rattle.fb_verify.specs.{Links.element_of, Links.type_of, Places.field_place, Told.IsVtable};
 ghost use Rattle.fb_verify.specs.Stack.{frame_link, word_count, CountStands, TypeStands, IsLinked, last_link, links_left};
-ghost use Rattle.fb_verify.specs.Told.{IsVtable};
 
 use crate::checks::Checks;
 use crate::fault::Fault;

@@ -1,9 +1,7 @@
 // The offset words by which a field leads on.
 
 ghost use Rattle.std.specs.Prelude.{◌≡◌, ◌+◌, ◌-◌, ◌<◌, ◌^◌, IsTrue};
-ghost use Rattle.fb_schema.specs.Rows.{Rows, is_union};
-ghost use Rattle.fb_schema.specs.Members.{member_of};
-ghost use Rattle.fb_schema.specs.Served.{IsServed};
+ghost use Rattle.fb_schema.specs.{Rows.Rows, Rows.is_union, Members.member_of, Served.IsServed};
 ghost use Rattle.fb_verify.specs.Fields.{lead_of};
 ghost use Rattle.fb_verify.specs.OffsetRows.{past_first, lead_to, lead_to_goal, AreAll, AreTypesNear, AreUnionTargets, GoalHolds, IsReferent};
 ghost use Rattle.fb_verify.specs.declared.offset_row.Leads.TheVariants.{All};

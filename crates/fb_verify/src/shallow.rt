@@ -3,10 +3,7 @@
 ghost use Rattle.std.specs.Prelude.{◌≡◌, ◌<◌, ◌≤◌, length, IfOk, IfErr, IsTrue};
 ghost use Rattle.fb_bytes.specs.Word.{while_lent};
 ghost use Rattle.fb_schema.specs.Rows.{is_table};
-ghost use Rattle.fb_verify.specs.MostReads.{most_reads};
-ghost use Rattle.fb_verify.specs.Question.{question};
-ghost use Rattle.fb_verify.specs.Stops.{Stops};
-ghost use Rattle.fb_verify.specs.Verdict.{Reports, HasNone};
+ghost use Rattle.fb_verify.specs.{MostReads.most_reads, Question.question, Stops.Stops, Verdict.Reports, Verdict.HasNone};
 
 use crate::checks::Checks;
 use crate::fault::{Fault, Report};

@@ -1,9 +1,8 @@
 // Why a test refuses a buffer, and where a walk stops.
 
 ghost use Rattle.std.specs.Prelude.{◌≡◌, ◌<◌, ◌%◌, ◌==◌};
-ghost use Rattle.fb_verify.specs.Places.{is_aligned};
+ghost use Rattle.fb_verify.specs.{Places.is_aligned, Told.stopped};
 ghost use Rattle.fb_schema.specs.Served.{IsAlignment};
-ghost use Rattle.fb_verify.specs.Told.{stopped};
 
 use crate::checks::Checks;
 use crate::fault::{Fault, Reason};

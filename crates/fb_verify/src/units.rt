@@ -2,17 +2,12 @@
 // may be met.
 
 ghost use Rattle.std.specs.Prelude.{◌≡◌, ◌+◌, ◌-◌, ◌*◌, ◌^◌, ◌<◌, ◌≤◌, max, min, length, List, take, slice_index_or, [], ◌∷◌, ◌++◌, IfOk, IfErr, IfSome, MatchOption, IsTrue, Some, None, true, false};
-ghost use Rattle.fb_schema.specs.Live.{live_of_view};
-ghost use Rattle.fb_schema.specs.Rows.{is_table};
-ghost use Rattle.fb_schema.specs.Served.{IsServed};
-ghost use Rattle.fb_verify.specs.Bounds.{AreAllowed};
-ghost use Rattle.fb_verify.specs.Cost.{head_reads, own_reads, lead_reads};
-ghost use Rattle.fb_verify.specs.Fields.{entries, to_table};
+ghost use Rattle.fb_schema.specs.{Live.live_of_view, Rows.is_table, Served.IsServed};
+ghost use Rattle.fb_verify.specs.{Bounds.AreAllowed, Cost.head_reads, Cost.own_reads, Cost.lead_reads, Fields.entries, Fields.to_table};
+ghost use Rattle.fb_verify.specs.{Stops.budget_failure, Stops.reads_failure, Stops.lead_reads_failure, Places.target};
+ghost use Rattle.fb_verify.specs.PassesOn.{IsBetween, PassesFields};
 ghost use Rattle.fb_verify.specs.Order.{◌▷◌, head_failure, own_failure, element_failure};
 ghost use Rattle.fb_verify.specs.OffsetRows.{IsAskable, LeavesRow, first_word, IsRow, IsLeafLead};
-ghost use Rattle.fb_verify.specs.Stops.{budget_failure, reads_failure, lead_reads_failure};
-ghost use Rattle.fb_verify.specs.Places.{target};
-ghost use Rattle.fb_verify.specs.PassesOn.{IsBetween, PassesFields};
 ghost use Rattle.fb_verify.specs.Told.{told, stopped, way_at, IsAskedAt, IsHead};
 ghost use Rattle.fb_verify.specs.Stack.{blank, Waiting, frame_work, work, opened, IsWalking, IsAtTable, IsOver, IsStopped, IsStoppedBehind, HaltsIn, links_left};
 

@@ -3,11 +3,7 @@
 ghost use Rattle.std.specs.Prelude.{◌≡◌, ◌+◌, ◌<◌, ◌≤◌, max, min, length, take, IfOk, IfErr, IsTrue};
 ghost use Rattle.fb_bytes.specs.Word.{while_lent};
 ghost use Rattle.fb_schema.specs.Rows.{is_table};
-ghost use Rattle.fb_verify.specs.MostReads.{most_reads};
-ghost use Rattle.fb_verify.specs.Question.{question};
-ghost use Rattle.fb_verify.specs.Stops.{Stops};
-ghost use Rattle.fb_verify.specs.Stack.{HaltsAlong, links_left};
-ghost use Rattle.fb_verify.specs.Told.{stopped};
+ghost use Rattle.fb_verify.specs.{MostReads.most_reads, Question.question, Stops.Stops, Stack.HaltsAlong, Stack.links_left, Told.stopped};
 ghost use Rattle.fb_verify.specs.Verdict.{Reports, HasNone};
 
 use crate::begin::read_start;

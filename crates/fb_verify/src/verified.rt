@@ -2,11 +2,7 @@
 
 ghost use Rattle.std.specs.Prelude.{◌≡◌, ◌<◌, ◌≤◌, length, take, IfOk, IfErr, IsTrue};
 ghost use Rattle.fb_schema.specs.Rows.{is_table};
-ghost use Rattle.fb_verify.specs.Links.{StopsAlong};
-ghost use Rattle.fb_verify.specs.MostReads.{most_reads};
-ghost use Rattle.fb_verify.specs.Question.{question};
-ghost use Rattle.fb_verify.specs.Stops.{Stops};
-ghost use Rattle.fb_verify.specs.Verdict.{Reports, HasNone};
+ghost use Rattle.fb_verify.specs.{Links.StopsAlong, MostReads.most_reads, Question.question, Stops.Stops, Verdict.Reports, Verdict.HasNone};
 ghost use Rattle.fb_verify.specs.Sealed.{IsUnfolded};
 
 use crate::checks::Checks;

@@ -7,13 +7,10 @@
 
 ghost use Rattle.std.specs.Prelude.{◌≡◌, ℕ, List, None, Option, length, take};
 ghost use Rattle.fbcheck_calls.specs.Answered.{IfSchema, IsChecked, IsPriceTold, IsRoomMade, IsTaken, levels};
-ghost use Rattle.fbcheck_calls.specs.Asked.{published};
+ghost use Rattle.fbcheck_calls.specs.{Asked.published, Placed.IsLocatedBy, Reached.IsPath, Reached.IsReadBy, Spans.AreTold, Spans.all_good};
+ghost use Rattle.fbcheck_calls.specs.Told.{told};
 ghost use Rattle.fbcheck_calls.specs.Framers.{IsFedTold, IsFinished, IsKept, IsNext};
 ghost use Rattle.fbcheck_calls.specs.Names.{IsFaultName, IsNameTold, IsReasonName, field_name, held_name, object_name, status_text, table_number};
-ghost use Rattle.fbcheck_calls.specs.Placed.{IsLocatedBy};
-ghost use Rattle.fbcheck_calls.specs.Reached.{IsPath, IsReadBy};
-ghost use Rattle.fbcheck_calls.specs.Spans.{AreTold, all_good};
-ghost use Rattle.fbcheck_calls.specs.Told.{told};
 ghost use Rattle.fbcheck_calls.specs.declared.answer.Answer.{Answer};
 
 use fb_bytes::Taken;

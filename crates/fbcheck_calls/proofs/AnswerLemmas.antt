@@ -1,17 +1,12 @@
 -- To whom a yes is due, and to whom a no.
 use Rattle.std.proofs.Common.{length, ◌≡◌, ℕ, ◌≤◌, ◌<◌, ◌^◌, List, refl, subst, arith, Option, Some, IsSomeAnd}
-use Rattle.fb_verify.specs.Tree.{Tree}
-use Rattle.fb_verify.specs.Verdict.{HasNone}
-use Rattle.fb_verify.specs.WellFormed.{IsWellFormed, IsWithin}
+use Rattle.fb_verify.specs.{Tree.Tree, Verdict.HasNone, WellFormed.IsWellFormed, WellFormed.IsWithin}
 use Rattle.fb_verify.specs.declared.start.Ident.{Ident}
 use Rattle.fb_bfbs.specs.declared.loading.Loaded.{Loaded}
-use Rattle.fbcheck_calls.specs.declared.answer.Answer.{Answer}
+use Rattle.fbcheck_calls.specs.declared.{answer.Answer.Answer, options.Options.Options}
 use Rattle.fbcheck_calls.specs.declared.answer.Answer.TheVariants.{Good, Bad, UnknownOptions, OutOfRange, NoIdent, NoRoot, TooLong}
-use Rattle.fbcheck_calls.specs.declared.options.Options.{Options}
 use Rattle.fbcheck_calls.specs.Answered.{IsBadFrom, IsChecked, IsGoodFrom, IsUnserved, Serves}
-use Rattle.fbcheck_calls.specs.AnswerLaws.{CanServe}
-use Rattle.fbcheck_calls.specs.Asked.{ident_asked, question_of, root_asked}
-use Rattle.fbcheck_calls.specs.Told.{told}
+use Rattle.fbcheck_calls.specs.{AnswerLaws.CanServe, Asked.ident_asked, Asked.question_of, Asked.root_asked, Told.told}
 
 -- what holds of the value that there is
 at_value : {X : Type 0} (o : Option X) (x : X) (P : X → Type 0) → o ≡ Some x → IsSomeAnd o P → P x

@@ -20,8 +20,7 @@ use denote.Steps.{nothing}
 use denote.Struct.Owning.{fields, shape, to}
 use denote.Struct.Struct.{within}
 use base.Fraction.{full_share}
-use Rattle.core.proofs.alloc.Calls.{Al, handle_tells}
-use Rattle.core.proofs.cell.Inside.{Good}
+use Rattle.core.proofs.{alloc.Calls.Al, alloc.Calls.handle_tells, cell.Inside.Good}
 use Rattle.core.specs.declared.alloc.Allocator.{Ghosts}
 use Rattle.std_alloc.proofs.ResultValues.{and_tt}
 use Rattle.std_alloc.specs.Box.Ownership.{box_owns}

@@ -1,19 +1,11 @@
 -- The place of a fault is written where its way was found.
 use Rattle.std.proofs.Common.{ℕ, ◌<◌, ◌^◌, List, length, sym, subst, IsSomeAnd}
-use Rattle.fb_verify.specs.Links.{StopsAlong}
-use Rattle.fb_verify.specs.Question.{Question, question}
-use Rattle.fb_verify.specs.Stops.{Stops}
-use Rattle.fb_verify.specs.Verdict.{HasNone}
-use Rattle.fb_verify.specs.declared.fault.Fault.{Fault}
-use Rattle.fb_verify.specs.declared.links.Link.{Link}
-use Rattle.fb_verify.specs.declared.start.Ident.{Ident}
+use Rattle.fb_verify.specs.{Links.StopsAlong, Question.Question, Question.question, Stops.Stops, Verdict.HasNone}
+use Rattle.fb_verify.specs.declared.{fault.Fault.Fault, links.Link.Link, start.Ident.Ident}
 use Rattle.fb_access.specs.Location.{location_text}
 use Rattle.fb_bfbs.specs.declared.loading.Loaded.{Loaded}
-use Rattle.fbcheck_calls.specs.declared.answer.Answer.TheVariants.{Bad}
-use Rattle.fbcheck_calls.specs.declared.checking.Begun.{Begun}
-use Rattle.fbcheck_calls.specs.declared.options.Options.{Options}
-use Rattle.fbcheck_calls.specs.Answered.{Begins, IsBadFrom, Serves}
-use Rattle.fbcheck_calls.specs.Asked.{checks_asked, ident_asked, start_asked}
+use Rattle.fbcheck_calls.specs.declared.{answer.Answer.TheVariants.Bad, checking.Begun.Begun, options.Options.Options}
+use Rattle.fbcheck_calls.specs.{Answered.Begins, Answered.IsBadFrom, Answered.Serves, Asked.checks_asked, Asked.ident_asked, Asked.start_asked}
 use Rattle.fbcheck_calls.specs.Placed.{IsLocated, IsPlaceTold, IsTextTold}
 
 -- what a check asks once it has begun

@@ -1,15 +1,11 @@
 -- How steps lead on from a spot, and that steps that fit are allowed.
 use Rattle.std.proofs.Common.{◌≡◌, ℕ, ◌+◌, ◌<◌, true, false, get_or, add-one, List, [], ◌∷◌, ◌++◌, length, take, drop, sym, ap, subst, ◌∙◌, arith, append_assoc, drop-cons, length-take-le, Some, None}
 use Rattle.std.proofs.Math.ListN.{set}
-use Rattle.std.proofs.lemmas.List.{set_at, take_more}
-use Rattle.std.proofs.lemmas.Slice.Zip.{AllZip-long, all_zipped_more}
+use Rattle.std.proofs.lemmas.{List.set_at, List.take_more, Slice.Zip.AllZip-long, Slice.Zip.all_zipped_more}
 use Rattle.fb_schema.specs.declared.kinds.Kind.{Kind}
 use Rattle.fb_schema.specs.Rows.{Rows}
-use Rattle.fb_access.specs.declared.step.Step.{Step}
-use Rattle.fb_access.specs.declared.spot.Spot.{Spot}
-use Rattle.fb_access.specs.Denotes.{Leads, Reaches, allows}
-use Rattle.fb_access.specs.Fitting.{StepsFit, next_kind}
-use Rattle.fb_access.specs.Here.{IsOfKind, KindsGoOn}
+use Rattle.fb_access.specs.declared.{step.Step.Step, spot.Spot.Spot}
+use Rattle.fb_access.specs.{Denotes.Leads, Denotes.Reaches, Denotes.allows, Fitting.StepsFit, Fitting.next_kind, Here.IsOfKind, Here.KindsGoOn}
 use Rattle.fb_access.proofs.StepKinds.{kind_allows}
 use Rattle.fbcheck_calls.specs.declared.steps.PlainStep.{PlainStep}
 use Rattle.fbcheck_calls.specs.Steps.{AreSteps, step_of}

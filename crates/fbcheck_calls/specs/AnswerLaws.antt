@@ -1,21 +1,15 @@
 -- The laws of what a check answers: to whom a yes is due, and to whom a no; and where a value's bytes are.
 use Rattle.std.specs.Prelude.{◌≡◌, ℕ, ◌<◌, ◌≤◌, ◌^◌, List, length, Option, Some, None}
 use Rattle.fb_schema.specs.Rows.{Rows}
-use Rattle.fb_verify.specs.Tree.{Tree}
-use Rattle.fb_verify.specs.Verdict.{HasNone}
-use Rattle.fb_verify.specs.WellFormed.{IsWellFormed, IsWithin}
+use Rattle.fb_verify.specs.{Tree.Tree, Verdict.HasNone, WellFormed.IsWellFormed, WellFormed.IsWithin}
 use Rattle.fb_verify.specs.declared.start.Ident.{Ident}
-use Rattle.fb_access.specs.declared.extent.Extent.{Extent}
-use Rattle.fb_access.specs.declared.spot.Spot.{Spot}
+use Rattle.fb_access.specs.declared.{extent.Extent.Extent, spot.Spot.Spot}
 use Rattle.fb_access.specs.Denotes as denotes
-use Rattle.fb_access.specs.Denotes.{Shown, bytes_at, value}
-use Rattle.fb_access.specs.Extents.{extent}
+use Rattle.fb_access.specs.{Denotes.Shown, Denotes.bytes_at, Denotes.value, Extents.extent}
 use Rattle.fb_bfbs.specs.declared.loading.Loaded.{Loaded}
-use Rattle.fbcheck_calls.specs.declared.answer.Answer.{Answer}
-use Rattle.fbcheck_calls.specs.declared.options.Options.{Options}
-use Rattle.fbcheck_calls.specs.Answered.{IsChecked}
+use Rattle.fbcheck_calls.specs.declared.{answer.Answer.Answer, options.Options.Options}
+use Rattle.fbcheck_calls.specs.{Answered.IsChecked, Told.told}
 use Rattle.fbcheck_calls.specs.Asked.{HasLimits, ident_asked, question_of, root_asked}
-use Rattle.fbcheck_calls.specs.Told.{told}
 
 -- the schema has the root and the identifier that the options ask, and there is room for their depth
 pub record CanServe (l : Loaded) (n : ℕ) (o : Options) (root : ℕ) (ident : Ident) : Type 0 where

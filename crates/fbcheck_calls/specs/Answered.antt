@@ -1,21 +1,13 @@
 -- Which answer a call gives.
 use Rattle.std.specs.Prelude.{◌≡◌, ℕ, ◌<◌, ◌≤◌, ◌^◌, List, length, Option, Some, None, Result, Ok, Err, IsSomeAnd, IsSome, IsTrue}
 use Rattle.fb_schema.specs.Rows.{is_table}
-use Rattle.fb_verify.specs.MostReads.{most_reads}
-use Rattle.fb_verify.specs.Stops.{Stops}
-use Rattle.fb_verify.specs.Verdict.{Reports, HasNone}
-use Rattle.fb_verify.specs.declared.fault.Fault.{Fault}
-use Rattle.fb_verify.specs.declared.fault.Report.{Report}
-use Rattle.fb_verify.specs.declared.start.Ident.{Ident}
+use Rattle.fb_verify.specs.{MostReads.most_reads, Stops.Stops, Verdict.Reports, Verdict.HasNone}
+use Rattle.fb_verify.specs.declared.{fault.Fault.Fault, fault.Report.Report, start.Ident.Ident}
 use Rattle.fb_bfbs.specs.Loads.{IsLoaded, IsLoadFault}
-use Rattle.fb_bfbs.specs.declared.loading.Loaded.{Loaded}
-use Rattle.fb_bfbs.specs.declared.load_fault.LoadFault.TheVariants.{OutOfMemory}
-use Rattle.fbcheck_calls.specs.declared.answer.Answer.{Answer}
+use Rattle.fb_bfbs.specs.declared.{loading.Loaded.Loaded, load_fault.LoadFault.TheVariants.OutOfMemory}
+use Rattle.fbcheck_calls.specs.declared.{answer.Answer.Answer, checking.Begun.Begun, held.Held.Held}
+use Rattle.fbcheck_calls.specs.declared.{held.Held.TheVariants.Schema, held.Held.TheVariants.Room, options.Options.Options}
 use Rattle.fbcheck_calls.specs.declared.answer.Answer.TheVariants.{Done, Good, Bad, OutOfRange, NoIdent, NoRoot, TooLong, NoSchema}
-use Rattle.fbcheck_calls.specs.declared.checking.Begun.{Begun}
-use Rattle.fbcheck_calls.specs.declared.held.Held.{Held}
-use Rattle.fbcheck_calls.specs.declared.held.Held.TheVariants.{Schema, Room}
-use Rattle.fbcheck_calls.specs.declared.options.Options.{Options}
 use Rattle.fbcheck_calls.specs.Asked.{HasLimits, LimitsFail, ident_asked, limits_of, question_of, root_asked}
 use Rattle.fbcheck_calls.specs.Told.{low, told}
 

@@ -5,28 +5,19 @@ use Rattle.fb_bfbs.specs.declared.load_fault.LoadFault.TheVariants as load
 use Rattle.fb_bfbs.specs.declared.loading.Loaded.{Loaded}
 use Rattle.fb_bytes.specs.declared.stream_fault.StreamFault.TheVariants as stream
 use Rattle.fb_schema.specs.declared.fault.Code.TheVariants.{NoSuchObject, NoSuchEnum, Unsupported, BadSlot, NoTypeField, BadStruct, BadMember, NameTwice}
-use Rattle.fb_verify.specs.Samples.{table}
-use Rattle.fb_verify.specs.declared.fault.Fault.{Fault}
-use Rattle.fb_verify.specs.Reasons.{reason_number}
-use Rattle.fb_verify.specs.declared.fault.Reason.TheVariants.{WrongPrefix, OutOfBuffer, Misaligned, ZeroOffset, WrongIdentifier, TooDeep, TooManyTables, BadVtable, MissingRequired, NoTerminator, LengthsDiffer, PastTable, TooManyReads}
-use Rattle.fb_verify.specs.declared.start.Ident.TheVariants.{Any, Want}
+use Rattle.fb_verify.specs.{Samples.table, Reasons.reason_number}
+use Rattle.fb_verify.specs.declared.{fault.Fault.Fault, start.Ident.TheVariants.Any, start.Ident.TheVariants.Want}
 use Rattle.fb_verify.specs.declared.start.Start.TheVariants.{Bare, Prefixed}
+use Rattle.fb_verify.specs.declared.fault.Reason.TheVariants.{WrongPrefix, OutOfBuffer, Misaligned, ZeroOffset, WrongIdentifier, TooDeep, TooManyTables, BadVtable, MissingRequired, NoTerminator, LengthsDiffer, PastTable, TooManyReads}
 use Rattle.fb_access.specs.Denotes as denotes
 use Rattle.fb_access.specs.declared.path_fault.PathFault.TheVariants as path
 use Rattle.fb_access.specs.declared.step.Step.TheVariants.{Field, Element, Member}
-use Rattle.fbcheck_calls.specs.declared.answer.Answer.{Answer}
-use Rattle.fbcheck_calls.specs.declared.answer.Answer.TheVariants.{Done, Good, Bad, UnknownOptions, OutOfRange, NoIdent, NoRoot, TooLong, NoSchema, NoSpan, BadStream, BadPath, NoRoom, Misfit}
-use Rattle.fbcheck_calls.specs.declared.answer.Verdict.{Verdict}
-use Rattle.fbcheck_calls.specs.declared.options.Options.{Options}
-use Rattle.fbcheck_calls.specs.declared.steps.PlainPath.{PlainPath}
+use Rattle.fbcheck_calls.specs.declared.{answer.Answer.Answer, answer.Verdict.Verdict, options.Options.Options, steps.PlainPath.PlainPath}
 use Rattle.fbcheck_calls.specs.declared.steps.PlainStep.{PlainStep}
+use Rattle.fbcheck_calls.specs.declared.answer.Answer.TheVariants.{Done, Good, Bad, UnknownOptions, OutOfRange, NoIdent, NoRoot, TooLong, NoSchema, NoSpan, BadStream, BadPath, NoRoom, Misfit}
 use Rattle.fbcheck_calls.specs.Asked.{checks_asked, ident_asked, limits_of, published, root_asked, start_asked}
-use Rattle.fbcheck_calls.specs.Framers.{IsRoom, fed_status, used_or}
-use Rattle.fbcheck_calls.specs.Names.{filled, number_or_none}
-use Rattle.fbcheck_calls.specs.Placed.{cut_to}
-use Rattle.fbcheck_calls.specs.Spans.{all_good, cut}
-use Rattle.fbcheck_calls.specs.Steps.{no_step, step_of, steps_in}
-use Rattle.fbcheck_calls.specs.Told.{blank, code_number, told}
+use Rattle.fbcheck_calls.specs.{Framers.IsRoom, Framers.fed_status, Framers.used_or, Names.filled, Names.number_or_none, Placed.cut_to}
+use Rattle.fbcheck_calls.specs.{Spans.all_good, Spans.cut, Steps.no_step, Steps.step_of, Steps.steps_in, Told.blank, Told.code_number, Told.told}
 use Rattle.fbcheck_calls.specs.Values.{placed, plain, value_told}
 
 -- ---- answers in numbers

@@ -2,8 +2,7 @@
 use Rattle.std.specs.Prelude.{◌≡◌, ℕ, ◌+◌, ◌-◌, ◌<◌, ◌≤◌, ◌==◌, ◌⊎◌, min, not, true, false, List, [], ◌++◌, length, take, Result, Ok, Err, if◌then◌else◌}
 use Rattle.fb_bytes.specs.Messages.{IsMessage}
 use Rattle.fb_bytes.specs.Framing.{Framing, IsHeld, Feeds, IsRefused}
-use Rattle.fb_bytes.specs.declared.framer.Taken.{Taken}
-use Rattle.fb_bytes.specs.declared.stream_fault.StreamFault.{StreamFault}
+use Rattle.fb_bytes.specs.declared.{framer.Taken.Taken, stream_fault.StreamFault.StreamFault}
 use Rattle.fb_bytes.specs.declared.stream_fault.StreamFault.TheVariants.{Oversize, Truncated, Failed}
 use Rattle.fbcheck_calls.specs.declared.answer.Answer.{Answer}
 use Rattle.fbcheck_calls.specs.declared.answer.Answer.TheVariants.{Done, OutOfRange, BadStream}

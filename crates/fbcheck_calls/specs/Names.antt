@@ -1,7 +1,6 @@
 -- Names by their numbers, and how they are copied.
 use Rattle.std.specs.Prelude.{◌≡◌, ◌≢◌, ℕ, ◌==◌, nat_le, codes, List, [], ◌∷◌, ◌++◌, drop, find, length, slice_get, IsSome, Option, Some, None, option_map, if◌then◌else◌}
-use Rattle.fb_schema.specs.Live.{live_fields}
-use Rattle.fb_schema.specs.Rows.{Rows, is_table, table_named}
+use Rattle.fb_schema.specs.{Live.live_fields, Rows.Rows, Rows.is_table, Rows.table_named}
 use Rattle.fb_verify.specs.Reasons.{reason_number, reason_text}
 use Rattle.fb_verify.specs.declared.fault.Reason.{Reason}
 use Rattle.fb_access.specs.PathCodes.{path_code}
@@ -13,8 +12,7 @@ use Rattle.fb_schema.specs.declared.fault.Code.{Code}
 use Rattle.fbcheck_calls.specs.Told.{code_number, told}
 use Rattle.fbcheck_calls.specs.declared.answer.Answer.{Answer}
 use Rattle.fbcheck_calls.specs.declared.answer.Answer.TheVariants.{Bad, BadPath, NoSchema}
-use Rattle.fbcheck_calls.specs.declared.held.Held.{Held}
-use Rattle.fbcheck_calls.specs.declared.held.Held.TheVariants.{Schema, Room}
+use Rattle.fbcheck_calls.specs.declared.{held.Held.Held, held.Held.TheVariants.Schema, held.Held.TheVariants.Room}
 
 -- no reason has this number
 abbrev pub NumbersNothing : ℕ → Type 0

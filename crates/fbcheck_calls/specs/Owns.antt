@@ -3,8 +3,7 @@ use mir.Syntax.{Ty}
 use base.Fml.{Fml, feq}
 use denote.RattleType.{RattleType}
 use denote.RawPtr.{Ptr, null_ptr}
-use Rattle.std.specs.Prelude.{Option, Some, None}
-use Rattle.std.specs.Box.Ownership.{box_owns}
+use Rattle.std.specs.{Prelude.Option, Prelude.Some, Prelude.None, Box.Ownership.box_owns}
 
 abbrev pub held : (Ty → Ptr → Fml) → (R : RattleType) → Ptr → Option R.Denot → Fml
 held token R at None = feq Ptr at null_ptr

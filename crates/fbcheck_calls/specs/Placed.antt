@@ -1,18 +1,12 @@
 -- What is written of where a fault is.
 use Rattle.std.specs.Prelude.{◌≡◌, ℕ, List, ◌++◌, drop, length, take}
 use Rattle.fb_verify.specs.Links.{StopsAlong}
-use Rattle.fb_verify.specs.declared.fault.Fault.{Fault}
-use Rattle.fb_verify.specs.declared.links.Link.{Link}
-use Rattle.fb_verify.specs.declared.start.Ident.{Ident}
+use Rattle.fb_verify.specs.declared.{fault.Fault.Fault, links.Link.Link, start.Ident.Ident}
 use Rattle.fb_access.specs.Location.{location_text}
 use Rattle.fb_bfbs.specs.declared.loading.Loaded.{Loaded}
-use Rattle.fbcheck_calls.specs.declared.answer.Answer.{Answer}
-use Rattle.fbcheck_calls.specs.declared.answer.Answer.TheVariants.{Bad, NoRoot}
-use Rattle.fbcheck_calls.specs.declared.held.Held.{Held}
-use Rattle.fbcheck_calls.specs.declared.held.Held.TheVariants.{Schema, Room}
-use Rattle.fbcheck_calls.specs.declared.options.Options.{Options}
-use Rattle.fbcheck_calls.specs.Answered.{IsChecked, Serves}
-use Rattle.fbcheck_calls.specs.Asked.{question_of}
+use Rattle.fbcheck_calls.specs.declared.{answer.Answer.Answer, answer.Answer.TheVariants.Bad, answer.Answer.TheVariants.NoRoot, held.Held.Held}
+use Rattle.fbcheck_calls.specs.declared.{held.Held.TheVariants.Schema, held.Held.TheVariants.Room, options.Options.Options}
+use Rattle.fbcheck_calls.specs.{Answered.IsChecked, Answered.Serves, Asked.question_of}
 
 -- room after as much of a text was copied to its front as there is place for
 abbrev pub cut_to : List ℕ → List ℕ → List ℕ

@@ -2,20 +2,13 @@
 use Rattle.std.specs.Prelude.{◌≡◌, ℕ, ◌<◌, List, length, None, IsSomeAnd}
 use Rattle.fb_schema.specs.declared.kinds.Kind.TheVariants.{Table}
 use Rattle.fb_access.specs.declared.step.Step.{Step}
-use Rattle.fb_access.specs.Fitting.{StepsFit}
-use Rattle.fb_access.specs.Resolving.{Resolves, Refuses}
+use Rattle.fb_access.specs.{Fitting.StepsFit, Resolving.Resolves, Resolving.Refuses}
 use Rattle.fb_bfbs.specs.declared.loading.Loaded.{Loaded}
-use Rattle.fbcheck_calls.specs.declared.answer.Answer.{Answer}
+use Rattle.fbcheck_calls.specs.declared.{answer.Answer.Answer, held.Held.Held, held.Held.TheVariants.Schema, held.Held.TheVariants.Room}
+use Rattle.fbcheck_calls.specs.declared.{options.Options.Options, steps.PlainPath.PlainPath, values.Value.Value}
 use Rattle.fbcheck_calls.specs.declared.answer.Answer.TheVariants.{Done, Good, Bad, UnknownOptions, NoRoot, NoRoom, BadPath, Misfit, TooLong}
-use Rattle.fbcheck_calls.specs.declared.held.Held.{Held}
-use Rattle.fbcheck_calls.specs.declared.held.Held.TheVariants.{Schema, Room}
-use Rattle.fbcheck_calls.specs.declared.options.Options.{Options}
-use Rattle.fbcheck_calls.specs.declared.steps.PlainPath.{PlainPath}
-use Rattle.fbcheck_calls.specs.declared.values.Value.{Value}
-use Rattle.fbcheck_calls.specs.Answered.{IsChecked, Serves}
-use Rattle.fbcheck_calls.specs.Asked.{AreKnown, root_asked, start_asked}
-use Rattle.fbcheck_calls.specs.Steps.{AllFit, IsFirstMisfit, IsPathOf}
-use Rattle.fbcheck_calls.specs.Values.{AreValues}
+use Rattle.fbcheck_calls.specs.{Answered.IsChecked, Answered.Serves, Asked.AreKnown, Asked.root_asked, Asked.start_asked}
+use Rattle.fbcheck_calls.specs.{Steps.AllFit, Steps.IsFirstMisfit, Steps.IsPathOf, Values.AreValues}
 
 -- the text resolves from the root to the steps of the path
 pub record ResolvesTo (l : Loaded) (text : List ℕ) (p : PlainPath) (root : ℕ) : Type 0 where

@@ -1,14 +1,9 @@
 -- Buffers that lie in one block of bytes, and what is answered of each.
 use Rattle.std.specs.Prelude.{◌≡◌, ℕ, ◌+◌, ◌<◌, ◌==◌, nat_le, List, length, take, drop, slice_index_or, Option, Some, None, MatchOption, if◌then◌else◌}
 use Rattle.std.specs.List.{list_all}
-use Rattle.fbcheck_calls.specs.declared.answer.Answer.{Answer}
-use Rattle.fbcheck_calls.specs.declared.answer.Answer.TheVariants.{NoSpan}
-use Rattle.fbcheck_calls.specs.declared.answer.Verdict.{Verdict}
-use Rattle.fbcheck_calls.specs.declared.options.Options.{Options}
-use Rattle.fbcheck_calls.specs.declared.held.Held.{Held}
-use Rattle.fbcheck_calls.specs.declared.spans.Span.{Span}
-use Rattle.fbcheck_calls.specs.Answered.{IfSchema, IsChecked}
-use Rattle.fbcheck_calls.specs.Told.{told}
+use Rattle.fbcheck_calls.specs.declared.{answer.Answer.Answer, answer.Answer.TheVariants.NoSpan, answer.Verdict.Verdict, options.Options.Options}
+use Rattle.fbcheck_calls.specs.declared.{held.Held.Held, spans.Span.Span}
+use Rattle.fbcheck_calls.specs.{Answered.IfSchema, Answered.IsChecked, Told.told}
 
 -- the bytes of a block that a span names, if it lies in the block
 abbrev pub cut : List ℕ → Span → Option (List ℕ)

@@ -2,14 +2,11 @@
 use Rattle.std.specs.Prelude.{◌≡◌, ℕ, ◌<◌, pos, List, length, slice_index_or, Bool, true, false, Option, Some, None, IsSomeAnd}
 use Rattle.fb_schema.specs.Rows.{Rows}
 use Rattle.fb_verify.specs.declared.start.Start.{Start}
-use Rattle.fb_access.specs.declared.extent.Extent.{Extent}
-use Rattle.fb_access.specs.declared.spot.Spot.{Spot}
+use Rattle.fb_access.specs.declared.{extent.Extent.Extent, spot.Spot.Spot}
 use Rattle.fb_access.specs.Denotes as denotes
-use Rattle.fb_access.specs.Denotes.{Shown, value}
-use Rattle.fb_access.specs.Extents.{extent}
+use Rattle.fb_access.specs.{Denotes.Shown, Denotes.value, Extents.extent}
 use Rattle.fbcheck_calls.specs.Steps.{EndAt, steps_in}
-use Rattle.fbcheck_calls.specs.declared.steps.PlainPath.{PlainPath}
-use Rattle.fbcheck_calls.specs.declared.values.Value.{Value}
+use Rattle.fbcheck_calls.specs.declared.{steps.PlainPath.PlainPath, values.Value.Value}
 
 -- a kind, and no more
 abbrev pub plain : ℕ → Value

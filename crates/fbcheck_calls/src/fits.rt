@@ -2,10 +2,8 @@
 
 ghost use Rattle.std.specs.Prelude.{◌≡◌, ◌↔◌, IsTrue, MatchOption, option_map};
 ghost use Rattle.fb_access.specs.Fitting.{element_kind, next_kind, numbered};
-ghost use Rattle.fb_schema.specs.declared.views.PartView.{PartView};
-ghost use Rattle.fb_schema.specs.Members.{member_of};
-ghost use Rattle.fb_schema.specs.Parts.{part_at};
-ghost use Rattle.fb_schema.specs.declared.kinds.Kind.TheVariants.{Table};
+ghost use Rattle.fb_schema.specs.declared.{views.PartView.PartView, kinds.Kind.TheVariants.Table};
+ghost use Rattle.fb_schema.specs.{Members.member_of, Parts.part_at};
 ghost use Rattle.fbcheck_calls.specs.Steps.{AllFit, FitFrom, FitsFrom, IsFirstMisfit};
 
 use crate::steps::{PlainPath, PlainStep};

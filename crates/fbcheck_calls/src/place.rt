@@ -2,9 +2,8 @@
 
 ghost use Rattle.std.specs.Prelude.{◌≡◌, ◌≤◌, length};
 ghost use Rattle.fb_access.specs.Location.{location_text};
-ghost use Rattle.fbcheck_calls.specs.Answered.{levels};
+ghost use Rattle.fbcheck_calls.specs.{Answered.levels, Told.told};
 ghost use Rattle.fbcheck_calls.specs.Placed.{IsLocated, IsLocatedBy, IsTextTold, cut_to};
-ghost use Rattle.fbcheck_calls.specs.Told.{told};
 ghost use Rattle.fbcheck_calls.specs.declared.answer.Answer.{Answer};
 
 use crate::answer::{Verdict, tell_bad, tell_blank, tell_good};

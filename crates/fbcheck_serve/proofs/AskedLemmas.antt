@@ -6,8 +6,7 @@ use Rattle.fb_bfbs.specs.Fixed.{fixed}
 use Rattle.fbcheck_serve.specs.Asked.{Own, PathsFail, asked_root, path_texts}
 use Rattle.fbcheck_serve.specs.Checking.{IsHint, IsPathHint, IsSchema, IsUntold, LacksJob}
 use Rattle.fbcheck_texts.specs.Hints.{hint_text}
-use Rattle.fbcheck_texts.specs.declared.fault.AskFault.{AskFault}
-use Rattle.fbcheck_texts.specs.declared.fault.AskFault.TheVariants.{OutOfMemory, Path}
+use Rattle.fbcheck_texts.specs.declared.{fault.AskFault.AskFault, fault.AskFault.TheVariants.OutOfMemory, fault.AskFault.TheVariants.Path}
 use Rattle.fbcheck_texts.specs.declared.hint.Unasked.{Unasked}
 use Rattle.fbcheck_words.specs.declared.choices.Settings.{Settings}
 

@@ -6,26 +6,18 @@ use Rattle.std.specs.Global.{Global}
 use Rattle.std.specs.Prelude.{String, Vec, map, option_map, string_bytes, vec_items}
 use Rattle.fb_schema.specs.Rows.{Rows}
 use mathlib.Core.Logic.{inl}
-use Rattle.fb_run.specs.Ends.{Writer}
-use Rattle.fb_run.specs.Faults.{End}
-use Rattle.fb_run.specs.Job.{Job, job_of}
-use Rattle.fb_run.specs.declared.options.Options.{Options}
-use Rattle.fb_run.specs.declared.fault.RunFault.{RunFault}
+use Rattle.fb_run.specs.{Ends.Writer, Faults.End, Job.Job, Job.job_of}
+use Rattle.fb_run.specs.declared.{options.Options.Options, fault.RunFault.RunFault}
 use Rattle.fb_run.specs.declared.fault.RunFault.TheVariants as run
-use Rattle.fb_run.specs.declared.run.Ran.{Ran}
-use Rattle.fb_run.specs.declared.tally.Tally.{Tally}
-use Rattle.fbcheck_texts.specs.Framing.{end_hint, run_hint}
-use Rattle.fbcheck_texts.specs.declared.framing.By.TheVariants.{Named}
-use Rattle.fbcheck_texts.specs.declared.framing.Framing.{Framing}
-use Rattle.fbcheck_texts.specs.Texts.{of_read, run_text}
+use Rattle.fb_run.specs.declared.{run.Ran.Ran, tally.Tally.Tally}
+use Rattle.fbcheck_texts.specs.{Framing.end_hint, Framing.run_hint, Texts.of_read, Texts.run_text}
+use Rattle.fbcheck_texts.specs.declared.{framing.By.TheVariants.Named, framing.Framing.Framing}
 use Rattle.std.specs.declared.io.ErrorKind.{ErrorKind}
 use Rattle.fbcheck_serve.specs.Inputs.{Folder, HaltsAmong, IsBehind, IsBehindEnd, IsBehindFault, IsBehindRun, IsNotedOf, Passes, PassesAll, Stand, Tries, course_with, fault_line, is_final, is_standard, label_of, with_label, standard_after, sum_of_counts, sums, are_named}
 use Rattle.fbcheck_texts.specs.declared.fault.FileFault.TheVariants as file
-use Rattle.fbcheck_serve.specs.declared.inputs.Course.{Course}
-use Rattle.fbcheck_serve.specs.declared.inputs.Missed.{Missed}
+use Rattle.fbcheck_serve.specs.declared.{inputs.Course.Course, inputs.Missed.Missed}
 use Rattle.fbcheck_serve.specs.declared.inputs.Missed.TheVariants as missed
-use Rattle.fbcheck_serve.specs.declared.inputs.Standard.{Standard}
-use Rattle.fbcheck_serve.specs.declared.inputs.Standard.TheVariants.{Unread, Spent}
+use Rattle.fbcheck_serve.specs.declared.{inputs.Standard.Standard, inputs.Standard.TheVariants.Unread, inputs.Standard.TheVariants.Spent}
 
 -- the counts up to a place are added; then those up to the next are
 sums_on : (some more : List ℕ) (i : ℕ) → i < length some → length some ≡ length more

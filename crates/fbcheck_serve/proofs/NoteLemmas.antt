@@ -1,18 +1,13 @@
 -- Two texts that are noted one behind the other, and the line that tells a fault.
 use Rattle.std.proofs.Common.{◌≡◌, ◌∙◌, ℕ, ◌+◌, ◌<◌, ◌≤◌, List, ◌++◌, Option, sym, ap, subst, length, take, arith}
 use mathlib.Core.Logic.{inl, inr}
-use Rattle.std.specs.Io.KnownBytes.{Appends}
-use Rattle.std.proofs.KnownBytes.{Appends-trans}
-use Rattle.std.proofs.Math.Nat.{eq-or-lt_of_le}
-use Rattle.std.proofs.Math.Seq.{take-append-add, take-length}
-use Rattle.std.proofs.lemmas.List.{length-append}
+use Rattle.std.specs.{Io.KnownBytes.Appends, Global.Global, Prelude.String}
+use Rattle.std.proofs.{KnownBytes.Appends-trans, Math.Nat.eq-or-lt_of_le, Math.Seq.take-append-add, Math.Seq.take-length}
 use Rattle.std.proofs.Common.{Err, refl, codes}
-use Rattle.std.specs.Global.{Global}
-use Rattle.std.specs.Prelude.{String}
+use Rattle.std.proofs.lemmas.List.{length-append}
 use Rattle.fbcheck_texts.specs.declared.causes.Causes.{Causes}
 use Rattle.fb_run.specs.Ends.{Writer}
-use Rattle.fbcheck_serve.specs.Inputs.{IsNoted}
-use Rattle.fbcheck_serve.specs.Serving.{Complains, behind, stop_text}
+use Rattle.fbcheck_serve.specs.{Inputs.IsNoted, Serving.Complains, Serving.behind, Serving.stop_text}
 use Rattle.fbcheck_serve.specs.declared.stop.Stop.{Stop}
 use Rattle.fbcheck_serve.specs.declared.stop.Stop.TheVariants as stop
 

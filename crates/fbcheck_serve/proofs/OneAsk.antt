@@ -1,12 +1,9 @@
 -- A schema file and the settings ask at most one thing.
 use Rattle.std.proofs.Common.{◌≡◌, ℕ, List, [], ◌∷◌, refl, sym, ◌∙◌, ap, subst, Option, Some, None, Result, Ok, Err, length}
 use mathlib.Core.Logic.{inl, inr}
-use Rattle.std.specs.Borrow.{Bor}
-use Rattle.std.specs.Global.{Global}
-use Rattle.std.specs.Prelude.{Vec}
+use Rattle.std.specs.{Borrow.Bor, Global.Global, Prelude.Vec}
 use Rattle.fb_schema.specs.Rows.{Rows}
-use Rattle.fb_access.specs.declared.step.Step.{Step}
-use Rattle.fb_access.specs.declared.path_fault.PathFault.{PathFault}
+use Rattle.fb_access.specs.declared.{step.Step.Step, path_fault.PathFault.PathFault}
 use Rattle.fb_access.specs.Resolving.{IsFault, Resolves}
 use Rattle.fb_access.proofs.OneAnswer.{one_answer}
 use Rattle.fb_verify.specs.declared.start.Ident.{Ident}

@@ -12,11 +12,9 @@ use Rattle.fb_schema.specs.Rows.{Rows}
 use Rattle.fb_run.specs.Wanted.{Wanted}
 use Rattle.fb_run.proofs.FoundLemmas.{both_more}
 use Rattle.fbcheck_serve.specs.Asked.{ArePaths, IsPath, IsPathFault, PathFails, PathsFail}
-use Rattle.fbcheck_serve.specs.Checking.{IsPathHint}
+use Rattle.fbcheck_serve.specs.{Checking.IsPathHint, Inputs.are_several, Inputs.label_of}
 use Rattle.fbcheck_texts.specs.Hints.{hint_text, path_hint, with_hint}
-use Rattle.fbcheck_serve.specs.Inputs.{are_several, label_of}
-use Rattle.fbcheck_texts.specs.declared.fault.AskFault.{AskFault}
-use Rattle.fbcheck_texts.specs.declared.fault.AskFault.TheVariants.{OutOfMemory, Path}
+use Rattle.fbcheck_texts.specs.declared.{fault.AskFault.AskFault, fault.AskFault.TheVariants.OutOfMemory, fault.AskFault.TheVariants.Path}
 use Rattle.fbcheck_texts.specs.declared.hint.Unasked.{Unasked}
 
 module _ (rows : Rows) (root : ℕ) where

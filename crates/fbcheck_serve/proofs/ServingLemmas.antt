@@ -1,38 +1,26 @@
 -- What the program comes to.
 use Rattle.std.proofs.Common.{◌≡◌, ◌≢◌, ◌==◌, ◌≤◌, ◌^◌, ◌∙◌, arith, ℕ, Bool, true, false, true≢false, List, [], ◌∷◌, Option, Some, None, Result, Ok, Err, ap, length, refl, take, sym, subst}
 use mathlib.Core.Logic.{◌⊎◌, inl, inr}
-use Rattle.std.specs.Borrow.{Bor}
+use Rattle.std.specs.{Borrow.Bor, Io.KnownBytes.Appends}
 use Rattle.std.specs.declared.io.ErrorKind.{ErrorKind}
-use Rattle.std.specs.Io.KnownBytes.{Appends}
 use Rattle.std.specs.Prelude.{String, Vec, map, option_map, string_bytes, vec_items}
-use Rattle.std.proofs.KnownBytes.{Keeps-refl}
-use Rattle.std.proofs.lemmas.Bool.{eq-eqb, eqb-true}
-use Rattle.std.proofs.lemmas.List.{length-map, nil_from_length}
-use Rattle.std.proofs.Math.Seq.{take-length}
+use Rattle.std.proofs.{KnownBytes.Keeps-refl, Math.Seq.take-length}
+use Rattle.std.proofs.lemmas.{Bool.eq-eqb, Bool.eqb-true, List.length-map, List.nil_from_length}
 use Rattle.clap.specs.Walk.{Text}
-use Rattle.fbcheck_words.specs.Refusal.{Refuses}
+use Rattle.fbcheck_words.specs.{Refusal.Refuses, Given.AreGiven}
 use Rattle.fbcheck_serve.specs.Checking.{IsPromptAmongAsked, IsPromptAsAsked, IsPromptOverAsked, RunsAsAsked, ServesAsAsked, names_in}
 use Rattle.fbcheck_serve.specs.Asked.{manner_in}
-use Rattle.fbcheck_texts.specs.Faults.{IsFile}
-use Rattle.fbcheck_texts.specs.Framing.{by_of}
-use Rattle.fbcheck_texts.specs.declared.framing.By.{By}
-use Rattle.fbcheck_texts.specs.declared.framing.Manner.{Manner}
+use Rattle.fbcheck_texts.specs.{Faults.IsFile, Framing.by_of}
+use Rattle.fbcheck_texts.specs.declared.{framing.By.By, framing.Manner.Manner}
 use Rattle.fbcheck_serve.specs.Inputs.{Folder, IsPromptAmong, IsPromptOver, Seen, with_cause}
-use Rattle.fb_run.specs.Job.{Job}
+use Rattle.fb_run.specs.{Job.Job, Faults.End, Faults.EndsBeside, JsonSums.summary_in}
 use Rattle.fb_run.specs.Ends.{Ends, Reader, Writer, beside}
-use Rattle.fb_run.specs.Faults.{End, EndsBeside}
-use Rattle.fb_run.specs.JsonSums.{summary_in}
 use Rattle.fbcheck_serve.specs.Serving.{ChecksAsGiven, ComesBy, ComesTo, HoldsAsGiven, IsPromptAsGiven, EndsSo, IsCrowded, PassesAsGiven, SumsUp, Unserved, files_ending, lent_bytes, run_ending, summed, words_of}
-use Rattle.fbcheck_words.specs.Given.{AreGiven}
-use Rattle.fbcheck_words.specs.declared.choices.Settings.{Settings}
-use Rattle.fbcheck_words.specs.declared.choices.SettingsFault.{SettingsFault}
+use Rattle.fbcheck_words.specs.declared.{choices.Settings.Settings, choices.SettingsFault.SettingsFault}
 use Rattle.fb_run.specs.declared.fault.RunFault.TheVariants as run
 use Rattle.fb_run.specs.declared.tally.Tally.{Tally}
-use Rattle.fbcheck_serve.specs.declared.stop.Ending.{Ending}
-use Rattle.fbcheck_serve.specs.declared.inputs.Course.{Course}
-use Rattle.fbcheck_serve.specs.declared.stop.Ending.TheVariants.{Checked, Passed}
-use Rattle.fbcheck_serve.specs.declared.stop.Stop.{Stop}
-use Rattle.fbcheck_serve.specs.declared.stop.Sums.{Sums}
+use Rattle.fbcheck_serve.specs.declared.{stop.Ending.Ending, inputs.Course.Course, stop.Ending.TheVariants.Checked, stop.Ending.TheVariants.Passed}
+use Rattle.fbcheck_serve.specs.declared.{stop.Stop.Stop, stop.Sums.Sums}
 use Rattle.fbcheck_serve.specs.declared.stop.Stop.TheVariants as stop
 use Rattle.fbcheck_texts.specs.declared.fault.WordsFault.{WordsFault}
 

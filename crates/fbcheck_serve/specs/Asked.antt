@@ -1,33 +1,22 @@
 -- What the settings ask, by a schema that has a root table of its own, or none.
 use Rattle.std.specs.Prelude.{◌≡◌, ℕ, Bool, true, false, List, Option, Some, None, Result, Ok, Err, Vec, option_map, map, string_bytes, [], ◌∷◌, ◌⊎◌, codes, if◌then◌else◌}
-use Rattle.std.specs.Global.{Global}
-use Rattle.std.specs.List.{AllZip}
+use Rattle.std.specs.{Global.Global, List.AllZip}
 use Rattle.fb_schema.specs.Rows.{Rows, table_named}
-use Rattle.fb_access.specs.declared.step.Step.{Step}
-use Rattle.fb_access.specs.declared.path_fault.PathFault.{PathFault}
+use Rattle.fb_access.specs.declared.{step.Step.Step, path_fault.PathFault.PathFault}
 use Rattle.fb_access.specs.Resolving.{Resolves, IsFault}
-use Rattle.fb_verify.specs.declared.start.Ident.{Ident}
-use Rattle.fb_verify.specs.declared.start.Ident.TheVariants.{Any, Want}
+use Rattle.fb_verify.specs.declared.{start.Ident.Ident, start.Ident.TheVariants.Any, start.Ident.TheVariants.Want}
 use Rattle.fb_bfbs.specs.LoadLaws.{own_ident}
-use Rattle.fb_run.specs.Job.{Job, job_of, start_of}
-use Rattle.fb_run.specs.Wanted.{Wanted}
+use Rattle.fb_run.specs.{Job.Job, Job.job_of, Job.start_of, Wanted.Wanted}
 use Rattle.fbcheck_words.specs.declared.choices.Form as asked
 use Rattle.fbcheck_words.specs.declared.choices.Form.TheVariants as words
 use Rattle.fbcheck_words.specs.declared.choices.Settings.{Settings}
-use Rattle.fb_run.specs.declared.options.Form.{Form}
-use Rattle.fb_run.specs.declared.options.Form.TheVariants.{Plain, Json}
-use Rattle.fb_run.specs.declared.options.Mode.{Mode}
+use Rattle.fb_run.specs.declared.{options.Form.Form, options.Form.TheVariants.Plain, options.Form.TheVariants.Json, options.Mode.Mode}
 use Rattle.fb_run.specs.declared.options.Mode.TheVariants.{Lines, BadLines, Filter}
-use Rattle.fb_run.specs.declared.options.Places.{Places}
-use Rattle.fb_run.specs.declared.options.Places.TheVariants.{Numbers, Words}
-use Rattle.fb_run.specs.declared.options.Prefix.{Prefix}
-use Rattle.fb_run.specs.declared.options.Prefix.TheVariants.{Part, Apart}
-use Rattle.fb_run.specs.declared.options.Options.{Options}
+use Rattle.fb_run.specs.declared.{options.Places.Places, options.Places.TheVariants.Numbers, options.Places.TheVariants.Words, options.Prefix.Prefix}
+use Rattle.fb_run.specs.declared.{options.Prefix.TheVariants.Part, options.Prefix.TheVariants.Apart, options.Options.Options}
 use Rattle.fbcheck_texts.specs.Framing.{by_of, framing_of}
-use Rattle.fbcheck_texts.specs.declared.framing.Framing.{Framing}
-use Rattle.fbcheck_texts.specs.declared.framing.Manner.{Manner}
+use Rattle.fbcheck_texts.specs.declared.{framing.Framing.Framing, framing.Manner.Manner, fault.AskFault.AskFault}
 use Rattle.fbcheck_serve.specs.Inputs.{label_of, with_label}
-use Rattle.fbcheck_texts.specs.declared.fault.AskFault.{AskFault}
 use Rattle.fbcheck_texts.specs.declared.fault.AskFault.TheVariants.{Path, NoRoot, NoIdent, OutOfMemory}
 
 -- the root table: the listed one of the name that is asked for, or else the schema's own

@@ -1,37 +1,26 @@
 -- A run by the schema of a file, or without one by the fixed table of schema files.
 use Rattle.std.specs.Prelude.{◌≡◌, ℕ, List, ◌∷◌, ◌++◌, Option, Some, None, Result, Ok, Err, min, length, codes, map, option_map, string_bytes}
-use Rattle.std.specs.Borrow.{Bor}
-use Rattle.std.specs.Io.KnownBytes.{Keeps}
+use Rattle.std.specs.{Borrow.Bor, Io.KnownBytes.Keeps}
 use Rattle.fb_schema.specs.declared.kinds.Kind.{Kind}
 use Rattle.fb_schema.specs.Rows.{Rows}
 use Rattle.fb_verify.specs.Bounds.{Bounds, limits_of_length}
 use Rattle.fb_access.specs.Resolving.{IsFault, IsMisfitAt}
 use Rattle.fb_access.specs.declared.path_fault.PathFault.{PathFault}
-use Rattle.fb_bfbs.specs.Fixed.{fixed}
-use Rattle.fb_bfbs.specs.Loads.{IsLoaded, IsLoadFault, schema_number}
-use Rattle.fb_bfbs.specs.declared.loading.Loaded.{Loaded}
-use Rattle.fb_bfbs.specs.declared.load_fault.LoadFault.{LoadFault}
+use Rattle.fb_bfbs.specs.{Fixed.fixed, Loads.IsLoaded, Loads.IsLoadFault, Loads.schema_number}
+use Rattle.fb_bfbs.specs.declared.{loading.Loaded.Loaded, load_fault.LoadFault.LoadFault}
 use Rattle.fb_bfbs.specs.declared.load_fault.LoadFault.TheVariants as load
 use Rattle.fb_bfbs.specs.LoadLaws.{ident_bytes}
 use Rattle.fbcheck_serve.specs.Asked.{ArePaths, AsksBy, Own, asked_root, path_texts}
 use Rattle.fbcheck_texts.specs.Hints.{hint_text, path_hint, root_hint, schema_hint}
 use Rattle.fbcheck_serve.specs.Inputs.{Folder, IsPromptAmong, IsPromptOver, Seen, ServesEach, are_several, at_first, label_of, stand}
-use Rattle.fb_run.specs.Ends.{Ends, Unwritten}
-use Rattle.fb_run.specs.Job.{Job}
-use Rattle.fb_run.specs.Prompt.{IsPrompt}
-use Rattle.fb_run.specs.Run.{IsRunBeside}
-use Rattle.fb_run.specs.Wanted.{Wanted}
+use Rattle.fb_run.specs.{Ends.Ends, Ends.Unwritten, Job.Job, Prompt.IsPrompt, Run.IsRunBeside, Wanted.Wanted}
 use Rattle.fbcheck_words.specs.declared.choices.Settings.{Settings}
-use Rattle.fbcheck_texts.specs.declared.fault.AskFault.{AskFault}
+use Rattle.fbcheck_texts.specs.declared.{fault.AskFault.AskFault, hint.Unasked.Unasked, fault.CheckFault.CheckFault}
 use Rattle.fbcheck_texts.specs.declared.fault.AskFault.TheVariants.{Load, NoRoot, Path, OutOfMemory}
-use Rattle.fbcheck_texts.specs.declared.hint.Unasked.{Unasked}
-use Rattle.fbcheck_serve.specs.declared.inputs.Course.{Course}
-use Rattle.fbcheck_serve.specs.declared.inputs.Passed.{Passed}
-use Rattle.fbcheck_texts.specs.declared.fault.CheckFault.{CheckFault}
+use Rattle.fbcheck_serve.specs.declared.{inputs.Course.Course, inputs.Passed.Passed}
 use Rattle.fbcheck_texts.specs.declared.fault.CheckFault.TheVariants as check
 use Rattle.fb_run.specs.Faults.{End, EndsBeside, IsUnfailed, failures_of}
-use Rattle.fb_run.specs.declared.run.Ran.{Ran}
-use Rattle.fb_run.specs.declared.tally.Tally.{Tally}
+use Rattle.fb_run.specs.declared.{run.Ran.Ran, tally.Tally.Tally}
 
 -- the limits by which a schema file of so many bytes is verified: the published ones, with a budget of 100,000,000
 -- reads, and of 64 a byte and 4,096 beside (one too long for offsets is refused by its length)

@@ -1,36 +1,23 @@
 -- Files as inputs, one behind another.
 use Rattle.std.specs.Prelude.{◌≡◌, ℕ, ◌+◌, ◌⊎◌, Bool, true, false, ◌||◌, is_some, min, max, nat_lt, length, List, [], ◌∷◌, ◌++◌, IfSome, Option, Some, None, Result, Ok, Err, bytes_eq, codes}
-use Rattle.std.specs.List.{flat_map}
-use Rattle.std.specs.Io.KnownBytes.{Appends}
-use Rattle.fb_run.specs.AnswerText.{byte_text}
+use Rattle.std.specs.{List.flat_map, Io.KnownBytes.Appends}
+use Rattle.fb_run.specs.{AnswerText.byte_text, Faults.End, Faults.EndsBeside, Faults.status_of}
 use Rattle.fb_run.specs.Ends.{Ends, Reader, Writer, beside, ends_of, with_notes}
-use Rattle.fb_run.specs.Faults.{End, EndsBeside, status_of}
 use Rattle.fb_bytes.specs.declared.ends.Sink as sink
 use Rattle.fb_bytes.specs.declared.ends.Source as source
 use Rattle.fb_run.specs.declared.input.Input as input
-use Rattle.fb_run.specs.Job.{Job}
-use Rattle.fb_run.specs.Lines.{WritesFront}
-use Rattle.fb_run.specs.Prompt.{IsPrompt}
-use Rattle.fb_run.specs.Run.{IsRunBeside, answer_by}
-use Rattle.fb_run.specs.Sums.{no_tally}
-use Rattle.fb_run.specs.declared.fault.RunFault.{RunFault}
+use Rattle.fb_run.specs.{Job.Job, Lines.WritesFront, Prompt.IsPrompt, Run.IsRunBeside, Run.answer_by, Sums.no_tally}
+use Rattle.fb_run.specs.declared.{fault.RunFault.RunFault, run.Ran.Ran, tally.Tally.Tally}
 use Rattle.fb_run.specs.declared.fault.RunFault.TheVariants.{WriteFault, NoteFault, TooManyTurns, OutOfMemory}
-use Rattle.fb_run.specs.declared.run.Ran.{Ran}
-use Rattle.fb_run.specs.declared.tally.Tally.{Tally}
 use Rattle.std.specs.declared.io.ErrorKind.{ErrorKind}
-use Rattle.fbcheck_texts.specs.Hints.{reason_text}
-use Rattle.fbcheck_texts.specs.Texts.{of_read, run_text}
-use Rattle.fbcheck_texts.specs.Framing.{end_hint, framing_of, run_hint}
-use Rattle.fbcheck_texts.specs.declared.framing.By.TheVariants.{Named}
-use Rattle.fbcheck_texts.specs.declared.framing.Framing.{Framing}
+use Rattle.fbcheck_texts.specs.{Hints.reason_text, Texts.of_read, Texts.run_text, Framing.end_hint, Framing.framing_of, Framing.run_hint}
+use Rattle.fbcheck_texts.specs.declared.{framing.By.TheVariants.Named, framing.Framing.Framing}
 use Rattle.fbcheck_serve.specs.declared.files.Files as files
 use Rattle.fbcheck_texts.specs.declared.causes.Explains as explains
 use Rattle.fbcheck_texts.specs.declared.fault.FileFault.{FileFault}
 use Rattle.fbcheck_texts.specs.declared.fault.FileFault.TheVariants as file
-use Rattle.fbcheck_serve.specs.declared.inputs.Course.{Course}
-use Rattle.fbcheck_serve.specs.declared.inputs.Standard.{Standard}
-use Rattle.fbcheck_serve.specs.declared.inputs.Standard.TheVariants.{Unread, Spent}
-use Rattle.fbcheck_serve.specs.declared.inputs.Missed.{Missed}
+use Rattle.fbcheck_serve.specs.declared.{inputs.Course.Course, inputs.Standard.Standard}
+use Rattle.fbcheck_serve.specs.declared.{inputs.Standard.TheVariants.Unread, inputs.Standard.TheVariants.Spent, inputs.Missed.Missed}
 use Rattle.fbcheck_serve.specs.declared.inputs.Missed.TheVariants as missed
 
 -- the sum of two counts of messages, or the most that is told

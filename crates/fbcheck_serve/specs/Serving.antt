@@ -1,40 +1,27 @@
 -- What the program does, from its words to its exit status.
 use Rattle.std.specs.Prelude.{◌≡◌, ◌≢◌, ℕ, ◌+◌, ◌<◌, ◌≤◌, ◌^◌, ◌⊎◌, ◌++◌, length, if◌then◌else◌, List, [], Option, Some, None, Result, Ok, Err, Vec, String, codes, map, option_map, string_bytes, string_len, vec_items}
-use Rattle.std.specs.Borrow.{Bor}
+use Rattle.std.specs.{Borrow.Bor, Io.KnownBytes.Appends, Io.KnownBytes.Keeps}
 use Rattle.std.specs.declared.io.ErrorKind.{ErrorKind}
-use Rattle.std.specs.Io.KnownBytes.{Appends, Keeps}
-use Rattle.clap.specs.Walk.{Text}
-use Rattle.clap.specs.Faults.{fault_of}
+use Rattle.clap.specs.{Walk.Text, Faults.fault_of}
 use Rattle.fbcheck_serve.specs.Asked.{form_of, manner_in}
 use Rattle.fbcheck_serve.specs.Checking.{IsIdle, IsPromptOverAsked, IsUntold, RunsAsAsked, ServesAsAsked, names_in}
-use Rattle.fbcheck_texts.specs.Hints.{file_hint, hint_text, words_hint}
+use Rattle.fbcheck_texts.specs.{Hints.file_hint, Hints.hint_text, Hints.words_hint, Faults.HasFileFault, Faults.IsFile, Faults.ask_status}
 use Rattle.fbcheck_texts.specs.Texts.{ask_text, file_text, run_text, unsummed_text, words_text}
 use Rattle.fbcheck_texts.specs.Framing.{by_hint, by_of, end_hint, run_hint}
-use Rattle.fbcheck_texts.specs.declared.framing.By.{By}
-use Rattle.fbcheck_texts.specs.declared.framing.Manner.{Manner}
-use Rattle.fbcheck_texts.specs.Faults.{HasFileFault, IsFile, ask_status}
+use Rattle.fbcheck_texts.specs.declared.{framing.By.By, framing.Manner.Manner}
 use Rattle.fbcheck_serve.specs.Inputs.{Folder, IsNoted, Seen, renoted}
-use Rattle.fbcheck_words.specs.CommandLine.{program}
-use Rattle.fb_run.specs.Ends.{Ends, Writer, with_notes}
+use Rattle.fbcheck_words.specs.{CommandLine.program, Refusal.Refuses, Refusal.refusal_status, Refusal.refusal_text, Given.AreGiven, Values.text_of}
+use Rattle.fb_run.specs.{Ends.Ends, Ends.Writer, Ends.with_notes, Lines.WritesFront, JsonSums.summary_in}
 use Rattle.fb_run.specs.Faults.{End, EndsBeside, IsUnfailed, failures_of, status_of}
-use Rattle.fb_run.specs.Lines.{WritesFront}
-use Rattle.fbcheck_words.specs.Refusal.{Refuses, refusal_status, refusal_text}
-use Rattle.fb_run.specs.JsonSums.{summary_in}
-use Rattle.fbcheck_words.specs.Given.{AreGiven}
-use Rattle.fbcheck_words.specs.Values.{text_of}
-use Rattle.fbcheck_words.specs.declared.choices.Settings.{Settings}
-use Rattle.fbcheck_words.specs.declared.choices.SettingsFault.{SettingsFault}
+use Rattle.fbcheck_words.specs.declared.{choices.Settings.Settings, choices.SettingsFault.SettingsFault}
 use Rattle.fbcheck_words.specs.declared.choices.SettingsFault.TheVariants as refusal
 use Rattle.fbcheck_texts.specs.declared.fault.FileFault.{FileFault}
 use Rattle.fbcheck_texts.specs.declared.fault.FileFault.TheVariants as file_fault
-use Rattle.fbcheck_serve.specs.declared.inputs.Course.{Course}
-use Rattle.fb_run.specs.declared.fault.RunFault.TheVariants.{TooManyTurns, WriteFault}
-use Rattle.fb_run.specs.declared.tally.Tally.{Tally}
-use Rattle.fbcheck_texts.specs.declared.causes.Causes.{Causes}
-use Rattle.fbcheck_serve.specs.declared.stop.Ending.{Ending}
+use Rattle.fbcheck_serve.specs.declared.{inputs.Course.Course, stop.Ending.Ending}
 use Rattle.fbcheck_serve.specs.declared.stop.Ending.TheVariants.{Helped, Checked, Passed}
-use Rattle.fbcheck_serve.specs.declared.stop.Stop.{Stop}
-use Rattle.fbcheck_serve.specs.declared.stop.Sums.{Sums}
+use Rattle.fbcheck_serve.specs.declared.{stop.Stop.Stop, stop.Sums.Sums}
+use Rattle.fb_run.specs.declared.{fault.RunFault.TheVariants.TooManyTurns, fault.RunFault.TheVariants.WriteFault, tally.Tally.Tally}
+use Rattle.fbcheck_texts.specs.declared.causes.Causes.{Causes}
 use Rattle.fbcheck_serve.specs.declared.stop.Stop.TheVariants as stop
 use Rattle.fbcheck_texts.specs.declared.fault.WordsFault.{WordsFault}
 use Rattle.fbcheck_texts.specs.declared.fault.WordsFault.TheVariants as words_fault

@@ -3,10 +3,9 @@
 ghost use Rattle.std.specs.Prelude.{ℕ, Option, IfOk, IfErr, IfSome, IsTrue, Ok, ◌≡◌, ◌≤◌, length, map, option_map, string_bytes};
 ghost use Rattle.fb_schema.specs.Rows.{is_table};
 ghost use Rattle.fb_bfbs.specs.LoadLaws.{ident_bytes};
-ghost use Rattle.fbcheck_texts.specs.Framing.{by_of};
+ghost use Rattle.fbcheck_texts.specs.{Framing.by_of, Hints.hint_text};
 ghost use Rattle.fbcheck_serve.specs.Asked.{ArePaths, IsPath, PathFails, PathsFail, asked_ident, form_of, framing_in, ident_of, manner_in, mode_of, options_of, places_of, prefix_of, root_of};
 ghost use Rattle.fbcheck_serve.specs.Inputs.{label_of};
-ghost use Rattle.fbcheck_texts.specs.Hints.{hint_text};
 ghost use Rattle.fbcheck_serve.specs.Checking.{Asks, IsPathHint, IsSchema, IsUntold, LacksSchema, own_of, schema_limits};
 ghost use Rattle.fbcheck_words.specs.Ranges.{AreInRange};
 ghost use Rattle.fbcheck_words.specs.declared.choices.Settings.{Settings};

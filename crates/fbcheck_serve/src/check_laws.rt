@@ -1,9 +1,7 @@
 //! What follows from the definitions of what is asked, of files one behind another and of texts alone. These functions
 //! have no body: their contracts are the theorems.
 
-ghost use Rattle.fbcheck_serve.specs.CheckLaws.{AsksOnce};
-ghost use Rattle.fbcheck_serve.specs.InputTests.{Courses, Labels};
-ghost use Rattle.fbcheck_serve.specs.StopTests.{StopTexts};
+ghost use Rattle.fbcheck_serve.specs.{CheckLaws.AsksOnce, InputTests.Courses, InputTests.Labels, StopTests.StopTexts};
 ghost use Rattle.fbcheck_texts.specs.TextTests.{AskTexts, HintTexts, LoadTexts, RunTexts};
 
 /// A schema file, or none, and the settings ask at most one thing: that the buffers are checked by one job, or that

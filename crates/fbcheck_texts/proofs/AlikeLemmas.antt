@@ -1,7 +1,6 @@
 -- Names that are nearly alike.
 use Rattle.std.proofs.Common.{◌≡◌, ◌∙◌, ◌<◌, ◌≤◌, ◌+◌, ◌-◌, ℕ, zero, suc, true, false, List, [], ◌∷◌, length, drop, drop-cons, get_or, nat_le, add-one, refl, sym, ap, arith, take, min}
-use Rattle.std.specs.Int.{abs_diff}
-use Rattle.std.specs.List.{before_first}
+use Rattle.std.specs.{Int.abs_diff, List.before_first}
 use Rattle.std.proofs.Math.Seq.{take-length}
 use Rattle.std.proofs.lemmas.List.Sums.{position_or_len_is}
 use Rattle.fbcheck_texts.specs.Alike.{from_step, is_near, is_sign}

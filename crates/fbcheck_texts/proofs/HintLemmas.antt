@@ -1,21 +1,13 @@
 -- Names in a row.
 use Rattle.std.proofs.Common.{◌≡◌, ◌∙◌, ℕ, zero, suc, ◌+◌, Bool, true, false, List, [], ◌∷◌, ◌++◌, Option, Some, None, OnOk, Result, refl, sym, ap, drop, option_map, slice_get, add-one, append_assoc, arith, codes, ◌-◌, ◌<◌, append-nil, find, length, map}
-use Rattle.std.proofs.lemmas.Option.{slice_get-map, slice_get_past, slice_get_read}
-use Rattle.std.proofs.lemmas.Result.{on_ok_weaker}
-use Rattle.std.specs.Borrow.{Bor}
+use Rattle.std.proofs.lemmas.{Option.slice_get-map, Option.slice_get_past, Option.slice_get_read, Result.on_ok_weaker}
+use Rattle.std.specs.{Borrow.Bor, List.cons_option, List.filter_map, List.range_with_len, Slice.IsItemAt}
 use Rattle.std.specs.Prelude.{Ok, Err, is_ok, if◌then◌else◌}
-use Rattle.std.specs.List.{cons_option, filter_map, range_with_len}
-use Rattle.std.specs.Slice.{IsItemAt}
-use Rattle.fb_schema.specs.Heads.{Head, head_of, head_of_view}
-use Rattle.fb_schema.specs.Live.{Live, live_fields, live_of_view}
-use Rattle.fb_schema.specs.Parts.{parts_of}
-use Rattle.fb_schema.specs.Rows.{Field, Object, Rows, field_of}
-use Rattle.fb_schema.specs.declared.kinds.Kind.{Kind}
-use Rattle.fb_schema.specs.declared.kinds.Kind.TheVariants.{Struct, Table}
-use Rattle.fb_schema.specs.declared.rows.FieldRow.{FieldRow}
-use Rattle.fb_schema.specs.declared.views.FieldView.{FieldView}
-use Rattle.fb_schema.specs.declared.views.ObjectView.{ObjectView}
+use Rattle.fb_schema.specs.{Heads.Head, Heads.head_of, Heads.head_of_view, Live.Live, Live.live_fields, Live.live_of_view, Parts.parts_of}
 use Rattle.fb_schema.specs.Members.{member_name}
+use Rattle.fb_schema.specs.Rows.{Field, Object, Rows, field_of}
+use Rattle.fb_schema.specs.declared.{kinds.Kind.Kind, kinds.Kind.TheVariants.Struct, kinds.Kind.TheVariants.Table, rows.FieldRow.FieldRow}
+use Rattle.fb_schema.specs.declared.{views.FieldView.FieldView, views.ObjectView.ObjectView}
 use Rattle.fbcheck_texts.specs.Hints.{fields_at, front_hint, listed, members_from, named, tables_in}
 
 -- what is left behind an object of this kind and name

@@ -1,8 +1,6 @@
 -- Names that are nearly alike, and the names in a path's text.
 use Rattle.std.specs.Prelude.{ℕ, zero, suc, ◌==◌, ◌||◌, ◌&&◌, Bool, if◌then◌else◌, List, [], ◌∷◌, length, map, nat_le}
-use Rattle.std.specs.Char.{to_ascii_lowercase}
-use Rattle.std.specs.List.{before_first}
-use Rattle.std.specs.Str.{bytes_eq}
+use Rattle.std.specs.{Char.to_ascii_lowercase, List.before_first, Str.bytes_eq}
 
 -- two texts are equal, or one has one byte more, or one byte of them differs
 abbrev pub is_near : List ℕ → List ℕ → Bool

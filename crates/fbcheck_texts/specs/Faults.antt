@@ -8,8 +8,7 @@ use Rattle.std.specs.declared.io.ErrorKind.{ErrorKind}
 use Rattle.std.specs.declared.io.ErrorKind.TheVariants as kind
 use Rattle.fbcheck_texts.specs.declared.fault.FileFault.{FileFault}
 use Rattle.fbcheck_texts.specs.declared.fault.FileFault.TheVariants as file
-use Rattle.fbcheck_texts.specs.declared.fault.WordsFault.{WordsFault}
-use Rattle.fbcheck_texts.specs.declared.fault.WrongWord.{WrongWord}
+use Rattle.fbcheck_texts.specs.declared.{fault.WordsFault.WordsFault, fault.WrongWord.WrongWord}
 use Rattle.std.specs.declared.alloc.AllocError.{AllocError}
 use Rattle.fbcheck_texts.specs.declared.fault.WordsFault.TheVariants as words
 use Rattle.fbcheck_texts.specs.declared.fault.AskFault.{AskFault}

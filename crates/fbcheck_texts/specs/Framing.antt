@@ -1,17 +1,13 @@
 -- How messages stand in an input, and what is told where that seems to be otherwise than was asked.
 use Rattle.std.specs.Prelude.{ℕ, ◌==◌, ◌&&◌, nat_le, Bool, true, false, not, if◌then◌else◌, List, ◌++◌, Option, Some, None, codes, slice_get}
-use Rattle.std.specs.Int.{to_le_bytes, w32}
-use Rattle.std.specs.List.{list_all, slice_index}
+use Rattle.std.specs.{Int.to_le_bytes, Int.w32, List.list_all, List.slice_index}
 use Rattle.fb_bytes.specs.declared.stream_fault.StreamFault.TheVariants.{Oversize}
 use Rattle.fb_verify.specs.declared.start.Start.{Start}
 use Rattle.fb_verify.specs.declared.start.Start.TheVariants as start
-use Rattle.fb_run.specs.declared.fault.RunFault.{RunFault}
-use Rattle.fb_run.specs.declared.fault.RunFault.TheVariants.{BareTooLong, Stream}
+use Rattle.fb_run.specs.declared.{fault.RunFault.RunFault, fault.RunFault.TheVariants.BareTooLong, fault.RunFault.TheVariants.Stream}
 use Rattle.fb_run.specs.declared.tally.Tally.{Tally}
 use Rattle.fbcheck_texts.specs.Hints.{is_plain, opens, past_blanks}
-use Rattle.fbcheck_texts.specs.declared.framing.By.{By}
-use Rattle.fbcheck_texts.specs.declared.framing.By.TheVariants.{Fixed, Named}
-use Rattle.fbcheck_texts.specs.declared.framing.Framing.{Framing}
+use Rattle.fbcheck_texts.specs.declared.{framing.By.By, framing.By.TheVariants.Fixed, framing.By.TheVariants.Named, framing.Framing.Framing}
 use Rattle.fbcheck_texts.specs.declared.framing.Framing.TheVariants.{Bare, Delimited, Prefixed}
 
 -- by whether the input is one bare buffer, and how a buffer starts

@@ -1,9 +1,7 @@
 -- What is told behind a fault, to the end of its line.
 use Rattle.std.specs.Prelude.{ℕ, zero, suc, ◌-◌, ◌==◌, ◌||◌, ◌&&◌, nat_le, Bool, false, not, if◌then◌else◌, List, [], ◌∷◌, ◌++◌, drop, find, length, take, map, Option, Some, None, Result, Ok, Err, Vec, codes}
-use Rattle.std.specs.Global.{Global}
-use Rattle.std.specs.Borrow.{Bor}
+use Rattle.std.specs.{Global.Global, Borrow.Bor, Str.bytes_eq}
 use Rattle.std.specs.List.{filter_map, flat_map, list_all, range_with_len, slice_index}
-use Rattle.std.specs.Str.{bytes_eq}
 use Rattle.std.specs.declared.io.ErrorKind.{ErrorKind}
 use Rattle.std.specs.declared.io.ErrorKind.TheVariants as kind
 use Rattle.fb_access.specs.declared.path_fault.PathFault.{PathFault}
@@ -13,15 +11,10 @@ use Rattle.fb_schema.specs.declared.kinds.Kind.{Kind}
 use Rattle.fb_schema.specs.declared.kinds.Kind.TheVariants.{Scalar, Struct, Table, Text, Union}
 use Rattle.fb_schema.specs.declared.kinds.Scalar as scalars
 use Rattle.fb_schema.specs.declared.kinds.Scalar.TheVariants as scalar
-use Rattle.fb_schema.specs.Live.{Live, live_fields}
-use Rattle.fb_schema.specs.Members.{member_name}
-use Rattle.fb_schema.specs.Parts.{parts_of}
-use Rattle.fb_schema.specs.Rows.{Field, Object, Rows}
+use Rattle.fb_schema.specs.{Live.Live, Live.live_fields, Members.member_name, Parts.parts_of, Rows.Field, Rows.Object, Rows.Rows}
 use Rattle.fbcheck_texts.specs.Alike.{is_alike, step_name}
-use Rattle.fbcheck_texts.specs.declared.fault.AskFault.{AskFault}
-use Rattle.fbcheck_texts.specs.declared.fault.AskFault.TheVariants.{OutOfMemory, Path}
-use Rattle.fbcheck_texts.specs.declared.fault.FileFault.{FileFault}
-use Rattle.fbcheck_texts.specs.declared.hint.Unasked.{Unasked}
+use Rattle.fbcheck_texts.specs.declared.{fault.AskFault.AskFault, fault.AskFault.TheVariants.OutOfMemory, fault.AskFault.TheVariants.Path}
+use Rattle.fbcheck_texts.specs.declared.{fault.FileFault.FileFault, hint.Unasked.Unasked}
 use Rattle.std.specs.declared.alloc.AllocError.{AllocError}
 use Rattle.fbcheck_texts.specs.declared.fault.FileFault.TheVariants as file
 use Rattle.fbcheck_texts.specs.declared.fault.WordsFault.{WordsFault}

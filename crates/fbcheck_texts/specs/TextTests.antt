@@ -4,15 +4,11 @@ use Rattle.std.specs.declared.io.ErrorKind.TheVariants as kind
 use Rattle.fb_access.specs.declared.path_fault.PathFault.TheVariants as path
 use Rattle.fb_bfbs.specs.declared.load_fault.LoadFault.TheVariants as load
 use Rattle.fb_bytes.specs.declared.stream_fault.StreamFault.TheVariants as stream
-use Rattle.fb_schema.specs.declared.fault.Code.TheVariants.{BadSlot}
-use Rattle.fb_schema.specs.declared.fault.SchemaFault.{SchemaFault}
-use Rattle.fb_verify.specs.declared.fault.Fault.{Fault}
-use Rattle.fb_verify.specs.declared.fault.Reason.TheVariants.{TooDeep, WrongIdentifier}
-use Rattle.fb_run.specs.FaultText.{fault_text, stream_text}
-use Rattle.fb_run.specs.Sums.{no_tally}
+use Rattle.fb_schema.specs.declared.{fault.Code.TheVariants.BadSlot, fault.SchemaFault.SchemaFault}
+use Rattle.fb_verify.specs.declared.{fault.Fault.Fault, fault.Reason.TheVariants.TooDeep, fault.Reason.TheVariants.WrongIdentifier}
+use Rattle.fb_run.specs.{FaultText.fault_text, FaultText.stream_text, Sums.no_tally}
 use Rattle.fb_run.specs.declared.fault.RunFault.TheVariants as run
-use Rattle.fbcheck_texts.specs.Hints.{front_hint}
-use Rattle.fbcheck_texts.specs.Framing.{by_hint, end_hint, run_hint}
+use Rattle.fbcheck_texts.specs.{Hints.front_hint, Framing.by_hint, Framing.end_hint, Framing.run_hint}
 use Rattle.fbcheck_texts.specs.declared.framing.By.TheVariants.{Fixed, Named}
 use Rattle.fbcheck_texts.specs.declared.framing.Framing.TheVariants.{Bare, Delimited, Prefixed}
 use Rattle.fb_run.specs.declared.tally.Tally.{Tally}

@@ -10,8 +10,7 @@ use Rattle.fb_bfbs.specs.declared.load_fault.LoadFault.TheVariants as load
 use Rattle.fb_schema.specs.declared.fault.SchemaFault.{SchemaFault}
 use Rattle.fb_verify.specs.Reasons.{reason_text}
 use Rattle.fb_verify.specs.declared.fault.Fault.{Fault}
-use Rattle.fb_run.specs.FaultText.{fault_text}
-use Rattle.fb_run.specs.Line.{field_text, numbers_text}
+use Rattle.fb_run.specs.{FaultText.fault_text, Line.field_text, Line.numbers_text}
 use Rattle.fb_run.specs.declared.fault.RunFault.{RunFault}
 use Rattle.fb_run.specs.declared.fault.RunFault.TheVariants as run
 use Rattle.fbcheck_texts.specs.Hints.{known_reason}
@@ -19,8 +18,7 @@ use Rattle.fbcheck_texts.specs.declared.fault.AskFault.{AskFault}
 use Rattle.fbcheck_texts.specs.declared.fault.AskFault.TheVariants as ask
 use Rattle.fbcheck_texts.specs.declared.fault.FileFault.{FileFault}
 use Rattle.fbcheck_texts.specs.declared.fault.FileFault.TheVariants as file
-use Rattle.fbcheck_texts.specs.declared.causes.Causes.{Causes}
-use Rattle.fbcheck_texts.specs.declared.fault.WordsFault.{WordsFault}
+use Rattle.fbcheck_texts.specs.declared.{causes.Causes.Causes, fault.WordsFault.WordsFault}
 use Rattle.fbcheck_texts.specs.declared.fault.WordsFault.TheVariants as words
 
 -- a reason behind what failed, where there is one

@@ -1,9 +1,7 @@
 //! Readers and writers that keep why a call failed.
 
 ghost use Rattle.std.specs.Prelude.{◌≡◌, ◌+◌, ◌<◌, ◌^◌, IfErr, Option, None, Some, false};
-ghost use Rattle.std.specs.Io.{ReadsAtMost, WritesAtMost};
-ghost use Rattle.std.specs.Io.KnownBytes.{ReadConsumes, WriteAppends};
-ghost use Rattle.std.specs.IoError.{error_kind};
+ghost use Rattle.std.specs.{Io.ReadsAtMost, Io.WritesAtMost, Io.KnownBytes.ReadConsumes, Io.KnownBytes.WriteAppends, IoError.error_kind};
 ghost use Rattle.fb_bytes.specs.Ends.{failed, refused, told_end};
 ghost use Rattle.fbcheck_texts.specs.Texts.{of_read};
 ghost use Rattle.std.specs.declared.io.ErrorKind.{ErrorKind};

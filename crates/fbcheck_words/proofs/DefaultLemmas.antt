@@ -1,22 +1,13 @@
 -- An option with a default has a value after each parse, and that value passed its parser.
 use Rattle.std.proofs.Common.{zero, suc, ◌≡◌, ◌∙◌, ◌<◌, ◌≤◌, ap, ℕ, Bool, true, false, List, [], ◌∷◌, length, Some, None, refl, sym, subst, inl, inr, arith}
-use Rattle.std.specs.Borrow.{Bor}
-use Rattle.std.specs.List.{All, slice_index_or}
-use Rattle.std.specs.Prelude.{find, option_map, slice_get}
-use Rattle.std.specs.Str.{bytes_eq}
-use Rattle.std.proofs.lemmas.List.Elements.{All-head, All-tail}
-use Rattle.std.proofs.lemmas.Slice.Eq.{bytes_eq-Decides}
-use Rattle.clap.specs.Built.{IsAuto, IsParsedFrom, SameRules}
-use Rattle.clap.specs.Facts.{args_of, groups_of, least_values, parser_of, parser_of_value, Entry, EntryPasses, HasIn, HasReading, PassesArg, WantsDefault}
-use Rattle.clap.specs.Matches.{found_of, matched_of, one_text}
+use Rattle.std.specs.{Borrow.Bor, List.All, List.slice_index_or, Prelude.find, Prelude.option_map, Prelude.slice_get, Str.bytes_eq}
+use Rattle.std.proofs.lemmas.{List.Elements.All-head, List.Elements.All-tail, Slice.Eq.bytes_eq-Decides}
+use Rattle.clap.specs.{Built.IsAuto, Built.IsParsedFrom, Built.SameRules, Matches.found_of, Matches.matched_of, Matches.one_text}
 use Rattle.clap.specs.Values.{Accepts, read_as, reading_of}
-use Rattle.clap.specs.declared.builder.action.ArgAction.TheVariants.{Count, Set}
-use Rattle.clap.specs.declared.builder.arg.Arg.{Arg}
-use Rattle.clap.specs.declared.builder.command.Command.{Command}
-use Rattle.clap.specs.declared.builder.command.Command.TheViews.{out-Command}
-use Rattle.clap.specs.declared.builder.value_parser.Reading.{Reading}
-use Rattle.clap.specs.declared.builder.value_parser.ValueParser.{ValueParser}
-use Rattle.clap.specs.declared.parser.matches.ArgMatches.{ArgMatches}
+use Rattle.clap.specs.Facts.{args_of, groups_of, least_values, parser_of, parser_of_value, Entry, EntryPasses, HasIn, HasReading, PassesArg, WantsDefault}
+use Rattle.clap.specs.declared.{builder.action.ArgAction.TheVariants.Count, builder.action.ArgAction.TheVariants.Set, builder.arg.Arg.Arg}
+use Rattle.clap.specs.declared.{builder.command.Command.Command, builder.command.Command.TheViews.out-Command, builder.value_parser.Reading.Reading}
+use Rattle.clap.specs.declared.{builder.value_parser.ValueParser.ValueParser, parser.matches.ArgMatches.ArgMatches}
 use Rattle.clap.proofs.CallerLemmas.{default_present, same_rules_by_id}
 
 -- argument k takes a value by the parser q, has a default, and shares its id with no other

@@ -1,28 +1,16 @@
 -- The number options of the program's command hold a number after each parse.
 use Rattle.std.proofs.Common.{zero, suc, not, ◌&&◌, ◌≡◌, ◌∙◌, ap, ℕ, Bool, true, false, List, [], ◌∷◌, ◌<◌, ◌≤◌, length, map, Option, Some, None, codes, refl, sym, subst, inl, inr, arith}
-use Rattle.std.proofs.lemmas.List.{length-map}
-use Rattle.std.proofs.lemmas.List.Folds.{list_all_at}
-use Rattle.std.proofs.lemmas.Slice.Eq.{bytes_eq-Decides}
-use Rattle.std.specs.List.{All, slice_index_or, list_all}
-use Rattle.std.specs.Prelude.{pos}
-use Rattle.std.specs.Str.{bytes_eq}
-use Rattle.clap.specs.Facts.{args_of, least_values, unwrap_or_range}
+use Rattle.std.proofs.lemmas.{List.length-map, List.Folds.list_all_at, Slice.Eq.bytes_eq-Decides}
+use Rattle.std.specs.{List.All, List.slice_index_or, List.list_all, Prelude.pos, Str.bytes_eq}
+use Rattle.clap.specs.{Facts.args_of, Facts.least_values, Facts.unwrap_or_range, Texts.items_of, Walk.Rule, Walk.Text, Walk.rule_of}
+use Rattle.clap.specs.{Words.found_of, Words.one_text, Values.Accepts, Values.read_as, Values.reading_of}
 use Rattle.clap.specs.Simple.{App, IsSimple, is_ready, is_ready_leaf}
-use Rattle.clap.specs.Texts.{items_of}
-use Rattle.clap.specs.Walk.{Rule, Text, rule_of}
-use Rattle.clap.specs.Words.{found_of, one_text}
-use Rattle.clap.specs.declared.builder.arg.Arg.{Arg}
-use Rattle.clap.specs.declared.builder.range.ValueRange.{ValueRange}
-use Rattle.clap.specs.Values.{Accepts, read_as, reading_of}
-use Rattle.clap.specs.declared.builder.value_parser.ValueParser.{ValueParser}
+use Rattle.clap.specs.declared.{builder.arg.Arg.Arg, builder.range.ValueRange.ValueRange, builder.value_parser.ValueParser.ValueParser}
 use Rattle.clap.specs.declared.builder.value_parser.ValueParser.TheVariants as parser
 use Rattle.clap.specs.declared.parser.matches.ArgMatches.{ArgMatches}
-use Rattle.clap.proofs.OnLiterals.{clap_on_literals}
-use Rattle.clap.proofs.SimpleLemmas.{ready_simple, simple_groups}
-use Rattle.clap.proofs.WalkLemmas.{both}
+use Rattle.clap.proofs.{OnLiterals.clap_on_literals, SimpleLemmas.ready_simple, SimpleLemmas.simple_groups, WalkLemmas.both}
 use Rattle.fbcheck_words.specs.CommandLine.{program, number_rule, value_rule, wide_number_rule}
-use Rattle.fbcheck_words.specs.Matched.{IsReadOf}
-use Rattle.fbcheck_words.specs.Values.{HoldsNumber, HoldsWideNumber}
+use Rattle.fbcheck_words.specs.{Matched.IsReadOf, Values.HoldsNumber, Values.HoldsWideNumber}
 use Rattle.fbcheck_words.proofs.DefaultLemmas.{IsDefaulted, default_reads}
 
 rule_at : (xs : List Arg) (k : ℕ) (d : Arg) → rule_of (slice_index_or xs k d) ≡ slice_index_or (map rule_of xs) k (rule_of d)

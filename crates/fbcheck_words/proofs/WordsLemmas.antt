@@ -2,23 +2,14 @@
 use Rattle.std.proofs.Common.{◌≡◌, ◌↔◌, ℕ, Bool, true, false, not, IsTrue, List, [], ◌∷◌, codes, Option, Some, None, refl, sym, ap, subst, ◌∙◌}
 use Rattle.std.specs.Prelude.{IsSomeAnd, if◌then◌else◌, unwrap_or}
 use Rattle.clap.specs.Walk.{Text, all_of, first_of, one_of}
-use Rattle.clap.specs.Built.{IsParsedFrom}
-use Rattle.clap.specs.Simple.{App, HasMatchesOf, app_of, is_simple, matches_of}
-use Rattle.clap.specs.Matches.{first_value, found_of, one_text}
-use Rattle.clap.specs.Kinds.{HasKind}
-use Rattle.clap.specs.declared.builder.command.Command.{Command}
-use Rattle.clap.specs.declared.error.Error.{Error}
+use Rattle.clap.specs.{Built.IsParsedFrom, Matches.first_value, Matches.found_of, Matches.one_text, Kinds.HasKind}
 use Rattle.clap.specs.Faults.{fault_of, is_simple_and_free}
-use Rattle.clap.specs.declared.parser.matches.ArgMatches.{ArgMatches}
-use Rattle.clap.proofs.OnLiterals.{clap_on_literals}
-use Rattle.clap.proofs.WalkLemmas.{first_value-rows, one_text-rows, raw_values-rows}
-use Rattle.fbcheck_words.specs.CommandLine.{program}
-use Rattle.fbcheck_words.specs.Given.{Say, contradiction}
-use Rattle.fbcheck_words.specs.Matched.{IsReadOf, all_values}
-use Rattle.fbcheck_words.specs.Refusal.{Refuses}
+use Rattle.clap.specs.Simple.{App, HasMatchesOf, app_of, is_simple, matches_of}
+use Rattle.clap.specs.declared.{builder.command.Command.Command, error.Error.Error, parser.matches.ArgMatches.ArgMatches}
+use Rattle.clap.proofs.{OnLiterals.clap_on_literals, WalkLemmas.first_value-rows, WalkLemmas.one_text-rows, WalkLemmas.raw_values-rows}
+use Rattle.fbcheck_words.specs.{CommandLine.program, Given.Say, Given.contradiction, Matched.IsReadOf, Matched.all_values, Refusal.Refuses}
 use Rattle.fbcheck_words.specs.Values.{IsGiven, IsNumberIn, IsNumberOf, text_of, texts_of}
-use Rattle.fbcheck_words.specs.declared.choices.Settings.{Settings}
-use Rattle.fbcheck_words.specs.declared.choices.SettingsFault.{SettingsFault}
+use Rattle.fbcheck_words.specs.declared.{choices.Settings.Settings, choices.SettingsFault.SettingsFault}
 use Rattle.fbcheck_words.specs.declared.choices.SettingsFault.TheVariants.{PathInFilter, TwoIdents, TooManyPaths, BareDelimited}
 
 simple : (is_simple program ≡ true) × (is_simple_and_free program ≡ true)

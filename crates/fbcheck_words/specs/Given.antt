@@ -1,12 +1,9 @@
 -- What words ask for.
 use Rattle.std.specs.Prelude.{◌≡◌, ◌↔◌, ◌&&◌, false, IsTrue, IfSome, IsSomeAnd, List, [], Option, Some, None, codes, if◌then◌else◌, is_some, length, map, nat_lt, option_map, string_bytes}
-use Rattle.clap.specs.Walk.{Text}
-use Rattle.clap.specs.Faults.{fault_of}
+use Rattle.clap.specs.{Walk.Text, Faults.fault_of}
 use Rattle.fbcheck_words.specs.CommandLine.{program}
 use Rattle.fbcheck_words.specs.Values.{IsGiven, IsNumberOf, text_of, texts_of}
-use Rattle.fbcheck_words.specs.declared.choices.Form.TheVariants.{Json}
-use Rattle.fbcheck_words.specs.declared.choices.Settings.{Settings}
-use Rattle.fbcheck_words.specs.declared.choices.SettingsFault.{SettingsFault}
+use Rattle.fbcheck_words.specs.declared.{choices.Form.TheVariants.Json, choices.Settings.Settings, choices.SettingsFault.SettingsFault}
 use Rattle.fbcheck_words.specs.declared.choices.SettingsFault.TheVariants.{PathInFilter, TwoIdents, TooManyPaths, BareDelimited}
 
 -- the words say these settings

@@ -1,13 +1,7 @@
 -- What `clap` reads of words.
 use Rattle.std.specs.Prelude.{◌≡◌, List, [], option_map, unwrap_or}
-use Rattle.clap.specs.Built.{IsParsedFrom}
-use Rattle.clap.specs.Faults.{fault_of}
-use Rattle.clap.specs.Simple.{HasMatchesOf, app_of}
-use Rattle.clap.specs.Walk.{Text}
-use Rattle.clap.specs.Words.{matched_of, raw_values}
-use Rattle.clap.specs.declared.builder.command.Command.{Command}
-use Rattle.clap.specs.declared.parser.matches.ArgMatches.{ArgMatches}
-use Rattle.clap.specs.declared.parser.matches.Found.{Found}
+use Rattle.clap.specs.{Built.IsParsedFrom, Faults.fault_of, Simple.HasMatchesOf, Simple.app_of, Walk.Text, Words.matched_of, Words.raw_values}
+use Rattle.clap.specs.declared.{builder.command.Command.Command, parser.matches.ArgMatches.ArgMatches, parser.matches.Found.Found}
 use Rattle.fbcheck_words.specs.CommandLine.{program}
 
 -- the texts that the matches hold for an option, in their order

@@ -1,8 +1,7 @@
 -- The options as the table of the code has them.
 use Rattle.clap.specs.Walk.{Rule, Text}
 use Rattle.fbcheck_words.specs.CommandLine.{flag_rule, letter_rule, text_rule, texts_rule, value_rule, words_rule}
-use Rattle.fbcheck_words.specs.declared.command.Choice.{Choice}
-use Rattle.fbcheck_words.specs.declared.command.Takes.{Takes}
+use Rattle.fbcheck_words.specs.declared.{command.Choice.Choice, command.Takes.Takes}
 use Rattle.fbcheck_words.specs.declared.command.Takes.TheVariants as takes
 
 -- an option by its name and what it takes

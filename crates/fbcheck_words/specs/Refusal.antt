@@ -1,16 +1,10 @@
 -- What the words are where they give no settings, and the exit status then.
 use Rattle.std.specs.Prelude.{◌≡◌, ◌≢◌, ℕ, List, [], Some, length, codes}
-use Rattle.clap.specs.Walk.{Text}
-use Rattle.clap.specs.Values.{kind_of}
-use Rattle.clap.specs.Kinds.{HasKind}
-use Rattle.clap.specs.Faults.{fault_of}
+use Rattle.clap.specs.{Walk.Text, Values.kind_of, Kinds.HasKind, Faults.fault_of}
 use Rattle.clap.specs.declared.error.kind.ErrorKind.{ErrorKind}
 use Rattle.clap.specs.declared.error.kind.ErrorKind.TheVariants as kind
-use Rattle.fbcheck_words.specs.CommandLine.{program}
-use Rattle.fbcheck_words.specs.Given.{Say, contradiction}
-use Rattle.fbcheck_words.specs.Values.{text_of}
-use Rattle.fbcheck_words.specs.declared.choices.Settings.{Settings}
-use Rattle.fbcheck_words.specs.declared.choices.SettingsFault.{SettingsFault}
+use Rattle.fbcheck_words.specs.{CommandLine.program, Given.Say, Given.contradiction, Values.text_of}
+use Rattle.fbcheck_words.specs.declared.{choices.Settings.Settings, choices.SettingsFault.SettingsFault}
 use Rattle.fbcheck_words.specs.declared.choices.SettingsFault.TheVariants.{Usage, BadIdent, PathInFilter, TwoIdents, TooManyPaths, BareDelimited, OutOfMemory}
 
 -- `clap` refuses the words by an error of that kind; or it reads them, and the identifier isn't four bytes long; or they

@@ -2,8 +2,7 @@
 use Rattle.std.specs.Prelude.{◌≡◌, ◌≤◌, ℕ, List, [], Option, Some, None, codes, pos, unwrap_or}
 use Rattle.std.specs.Str.Parse.{IsNumeral, digits_value, without_leading_plus}
 use Rattle.clap.specs.Walk.{Text, all_of, first_of, one_of}
-use Rattle.clap.specs.Simple.{matches_of}
-use Rattle.clap.specs.Words.{IsSignedIn, IsUnsignedIn, without_minus}
+use Rattle.clap.specs.{Simple.matches_of, Words.IsSignedIn, Words.IsUnsignedIn, Words.without_minus}
 use Rattle.fbcheck_words.specs.CommandLine.{program}
 
 -- the text that the words give to this option

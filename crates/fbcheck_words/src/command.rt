@@ -1,7 +1,6 @@
 ghost use Rattle.std.specs.Prelude.{IfOk, ◌≡◌, false};
 ghost use Rattle.clap.specs.Words.{app_of, rule_of};
-ghost use Rattle.fbcheck_words.specs.CommandLine.{named, program};
-ghost use Rattle.fbcheck_words.specs.OptionTable.{choice_rule};
+ghost use Rattle.fbcheck_words.specs.{CommandLine.named, CommandLine.program, OptionTable.choice_rule};
 
 use clap::builder::ValueParser;
 use clap::{Arg, ArgAction, Command};

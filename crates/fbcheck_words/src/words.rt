@@ -1,9 +1,7 @@
 ghost use Rattle.std.specs.Prelude.{IfOk, IfErr, IfSome, IsSomeAnd, OnErr, ℕ, ◌≢◌, length, option_map, IsTrue, ◌≡◌, ◌↔◌, List, map, string_bytes, Some, codes};
 ghost use Rattle.clap.specs.Words.{Text, first_value, found_of, one_text};
-ghost use Rattle.fbcheck_words.specs.Ranges.{AreInRange};
-ghost use Rattle.fbcheck_words.specs.Given.{AreGiven, Say, contradiction};
-ghost use Rattle.fbcheck_words.specs.Values.{HoldsNumber, HoldsWideNumber, IsNumberIn};
-ghost use Rattle.fbcheck_words.specs.Refusal.{Refuses};
+ghost use Rattle.fbcheck_words.specs.{Ranges.AreInRange, Given.AreGiven, Given.Say, Given.contradiction};
+ghost use Rattle.fbcheck_words.specs.{Values.HoldsNumber, Values.HoldsWideNumber, Values.IsNumberIn, Refusal.Refuses};
 ghost use Rattle.fbcheck_words.specs.Matched.{IsReadOf, all_values};
 ghost use Rattle.fbcheck_words.specs.declared.choices.Form.TheVariants.{Json};
 

@@ -1,7 +1,5 @@
 use Rattle.std.proofs.Common.{sym, arith}
-use Rattle.fb_access.proofs.Held.{at_table, at_struct}
-use Rattle.fb_access.proofs.Staying.{part_stays, part_begins}
-use Rattle.fb_access.proofs.TableFields.{table_has_vtable}
+use Rattle.fb_access.proofs.{Held.at_table, Held.at_struct, Staying.part_stays, Staying.part_begins, TableFields.table_has_vtable}
 use Rattle.fb_access.proofs.FieldSpots.{field_spot_holds, field_readable}
 use Rattle.fb_access.proofs.next.spot_of_field.Goals as goal
 

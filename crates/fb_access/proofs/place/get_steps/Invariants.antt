@@ -1,6 +1,5 @@
 use Rattle.std.proofs.Common.{◌≡◌, take, drop}
-use Rattle.fb_access.specs.Denotes.{root_spot}
-use Rattle.fb_access.specs.Underway.{IsWalked}
+use Rattle.fb_access.specs.{Denotes.root_spot, Underway.IsWalked}
 use Rattle.fb_access.proofs.place.get_steps.Given as goal
 
 -- the steps taken lead here, and those that are left fit

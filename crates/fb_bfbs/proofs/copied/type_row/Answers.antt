@@ -4,8 +4,7 @@ use Rattle.fb_schema.specs.declared.kinds.Scalar.TheVariants as scalar
 use Rattle.fb_access.specs.declared.step.Step.TheVariants.{Field as ToField}
 use Rattle.fb_access.specs.Denotes.{signed}
 use Rattle.fb_bfbs.specs.Seen.{seen}
-use Rattle.fb_bfbs.proofs.Narrow.{kept, narrowed}
-use Rattle.fb_bfbs.proofs.FixedFields.{type_numbers}
+use Rattle.fb_bfbs.proofs.{Narrow.kept, Narrow.narrowed, FixedFields.type_numbers}
 use Rattle.fb_bfbs.proofs.copied.type_row.Goals as goal
 
 pub int_in-requires : goal.int_in-requires

@@ -1,9 +1,7 @@
 use Rattle.std.proofs.Common.{inl, refl, sym}
 use Rattle.fb_access.specs.declared.step.Step.TheVariants.{Field as ToField}
 use Rattle.fb_access.specs.Denotes.{table}
-use Rattle.fb_bfbs.proofs.Sure.{table_is_here}
-use Rattle.fb_bfbs.proofs.Composed.{seen_in, seen_after, type_within}
-use Rattle.fb_bfbs.proofs.FixedFields.{computing, maybe}
+use Rattle.fb_bfbs.proofs.{Sure.table_is_here, Composed.seen_in, Composed.seen_after, Composed.type_within, FixedFields.computing, FixedFields.maybe}
 use Rattle.fb_bfbs.proofs.copied.union_type.Goals as goal
 
 pub table_or_none-requires : goal.table_or_none-requires

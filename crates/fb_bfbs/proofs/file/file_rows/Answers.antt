@@ -1,12 +1,8 @@
 use Rattle.std.proofs.Common.{ℕ, Option, MatchOption, IfSome, subst, sym, IfOk}
 use Rattle.std.specs.Prelude.{IfNone}
 use Rattle.fb_schema.specs.Rows.{rows_of}
-use Rattle.fb_access.specs.Denotes.{Denotes}
-use Rattle.fb_access.specs.Held.{Placed}
-use Rattle.fb_bfbs.specs.Seen.{seen}
-use Rattle.fb_bfbs.specs.FileRows.{IsTold}
-use Rattle.fb_bfbs.specs.Says.{Says}
-use Rattle.fb_bfbs.specs.Sums.{ArePaid, IsOver}
+use Rattle.fb_access.specs.{Denotes.Denotes, Held.Placed}
+use Rattle.fb_bfbs.specs.{Seen.seen, FileRows.IsTold, Says.Says, Sums.ArePaid, Sums.IsOver}
 use Rattle.fb_bfbs.proofs.file.file_rows.Goals as goal
 use Rattle.fb_bfbs.proofs.file.file_rows.Goals.{After-paid_rows}
 

@@ -1,10 +1,8 @@
 use Rattle.std.proofs.Common.{◌≡◌, ℕ, ◌+◌, ◌≤◌, ◌↔◌, IsTrue, map, refl, sym, ◌∙◌, ap, subst}
 use Rattle.std.specs.List.{sum_by}
-use Rattle.fb_bfbs.specs.declared.counted.FieldCount.{FieldCount}
-use Rattle.fb_bfbs.specs.declared.counted.MemberCount.{MemberCount}
+use Rattle.fb_bfbs.specs.declared.{counted.FieldCount.FieldCount, counted.MemberCount.MemberCount}
 use Rattle.fb_bfbs.specs.Sums.{Lists, listed_rows}
-use Rattle.fb_bfbs.proofs.Composed.{mapped_rows}
-use Rattle.fb_bfbs.proofs.Counts.{sum_mapped}
+use Rattle.fb_bfbs.proofs.{Composed.mapped_rows, Counts.sum_mapped}
 use Rattle.fb_bfbs.proofs.file.has_few_rows.Goals as goal
 
 abbrev field_count : FieldCount → ℕ

@@ -1,8 +1,7 @@
 use Rattle.std.proofs.Common.{[], ◌∷◌, refl}
 use Rattle.fb_access.specs.declared.step.Step.TheVariants.{Field as ToField}
 use Rattle.fb_access.specs.Denotes.{text}
-use Rattle.fb_bfbs.proofs.FixedFields.{computing, always, maybe}
-use Rattle.fb_bfbs.proofs.Composed.{seen_after}
+use Rattle.fb_bfbs.proofs.{FixedFields.computing, FixedFields.always, FixedFields.maybe, Composed.seen_after}
 use Rattle.fb_bfbs.proofs.file.root_name.Goals as goal
 
 pub table_or_none-requires : goal.table_or_none-requires

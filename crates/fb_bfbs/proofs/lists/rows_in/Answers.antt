@@ -1,7 +1,6 @@
 use Rattle.std.proofs.Common.{[], ◌∷◌, refl}
 use Rattle.fb_access.specs.declared.step.Step.TheVariants.{Field as ToField}
-use Rattle.fb_bfbs.proofs.Sure.{field_allowed, at_field}
-use Rattle.fb_bfbs.proofs.Composed.{seen_after}
+use Rattle.fb_bfbs.proofs.{Sure.field_allowed, Sure.at_field, Composed.seen_after}
 use Rattle.fb_bfbs.proofs.lists.rows_in.Goals as goal
 
 pub go-list-requires : goal.go-list-requires

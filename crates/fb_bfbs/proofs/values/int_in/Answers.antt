@@ -1,13 +1,10 @@
 use Rattle.std.proofs.Common.{[], ◌∷◌, w64}
 use Rattle.std.specs.Int.RustNames.{FitsSigned}
 use Rattle.fb_access.specs.declared.step.Step.TheVariants.{Field as ToField}
-use Rattle.fb_access.specs.Denotes.{signed}
-use Rattle.fb_access.specs.Here.{width_of}
+use Rattle.fb_access.specs.{Denotes.signed, Here.width_of}
 use Rattle.fb_access.proofs.Shapes.{answers_signed}
 use Rattle.fb_bfbs.specs.Seen.{seen}
-use Rattle.fb_bfbs.proofs.Sure.{field_allowed, field_here}
-use Rattle.fb_bfbs.proofs.Narrow.{fits_long, kept}
-use Rattle.fb_bfbs.proofs.Composed.{seen_in}
+use Rattle.fb_bfbs.proofs.{Sure.field_allowed, Sure.field_here, Narrow.fits_long, Narrow.kept, Composed.seen_in}
 use Rattle.fb_bfbs.proofs.values.int_in.Goals as goal
 
 pub go-field-requires : goal.go-field-requires

@@ -1,8 +1,7 @@
 use Rattle.std.proofs.Common.{sym}
 use Rattle.fb_schema.specs.declared.kinds.Kind.TheVariants.{Text}
 use Rattle.fb_access.proofs.Shapes.{answers_text, shows_nothing}
-use Rattle.fb_bfbs.proofs.Sure.{maybe_here}
-use Rattle.fb_bfbs.proofs.Composed.{seen_in}
+use Rattle.fb_bfbs.proofs.{Sure.maybe_here, Composed.seen_in}
 use Rattle.fb_bfbs.proofs.values.text_or_none.Goals as goal
 
 pub returns-in_default : goal.returns-in_default

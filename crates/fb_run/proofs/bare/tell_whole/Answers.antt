@@ -1,10 +1,7 @@
 use Rattle.std.proofs.Common.{ap, refl, subst, sym, true}
-use Rattle.fb_run.specs.Bare.{FailsBare}
-use Rattle.fb_run.specs.Ends.{beside, outs_of, writer_of}
-use Rattle.fb_run.specs.Texts.{Sizes, written_by}
+use Rattle.fb_run.specs.{Bare.FailsBare, Ends.beside, Ends.outs_of, Ends.writer_of, Texts.Sizes, Texts.written_by}
 use Rattle.fb_run.specs.declared.tally.Tally.{Tally}
-use Rattle.fb_run.proofs.BareLemmas.{fails_part, fails_through, passes_through}
-use Rattle.fb_run.proofs.BehindLemmas.{fronts_behind}
+use Rattle.fb_run.proofs.{BareLemmas.fails_part, BareLemmas.fails_through, BareLemmas.passes_through, BehindLemmas.fronts_behind}
 use Rattle.fb_run.proofs.RunLemmas.{caused_then, err_is}
 use Rattle.fb_run.proofs.bare.tell_whole.Goals as goal
 

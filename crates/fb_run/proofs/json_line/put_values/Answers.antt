@@ -3,8 +3,7 @@ use Rattle.std.proofs.lemmas.List.{length-map, get_or-map}
 use Rattle.std.specs.Prelude.{nat_lt}
 use Rattle.fb_access.specs.Denotes.{Shown, nothing, shown}
 use Rattle.fb_access.specs.declared.answer.Answer.TheVariants.{Absent}
-use Rattle.fb_run.specs.Json.{member_part, value_json}
-use Rattle.fb_run.specs.Wanted.{Wanted}
+use Rattle.fb_run.specs.{Json.member_part, Json.value_json, Wanted.Wanted}
 use Rattle.fb_run.proofs.JsonLemmas.{one_value_more, values_end}
 use Rattle.fb_run.proofs.json_line.put_values.Goals as goal
 

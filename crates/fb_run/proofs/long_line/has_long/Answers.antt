@@ -1,7 +1,6 @@
 use Rattle.std.proofs.Common.{◌<◌, ◌^◌, List, length, rules, subst}
 use Rattle.std.specs.List.{All}
-use Rattle.std.proofs.lemmas.List.{take_all}
-use Rattle.std.proofs.lemmas.List.Elements.{All-more}
+use Rattle.std.proofs.lemmas.{List.take_all, List.Elements.All-more}
 use Rattle.fb_access.specs.declared.answer.Answer.{Answer}
 use Rattle.fb_run.specs.AnswerText.{lent}
 use Rattle.fb_run.proofs.long_line.has_long.Goals as goal

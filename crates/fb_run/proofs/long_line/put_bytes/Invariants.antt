@@ -1,7 +1,6 @@
 use Rattle.std.proofs.Common.{◌≡◌, ◌+◌, ◌*◌, ◌≤◌, length, take}
 use Rattle.std.specs.List.{flat_map}
-use Rattle.fb_run.specs.AnswerText.{spelled}
-use Rattle.fb_run.specs.Lines.{ComesBehind}
+use Rattle.fb_run.specs.{AnswerText.spelled, Lines.ComesBehind}
 use Rattle.fb_run.proofs.long_line.put_bytes.Given as goal
 
 abbrev pub invariant-loop-byte : goal.invariant-loop-byte

@@ -1,7 +1,6 @@
 use Rattle.std.proofs.lemmas.Result.{IfErr-weaker, on_ok_weaker}
 use Rattle.fb_verify.proofs.Frames.{if_err_exit}
-use Rattle.fb_run.proofs.BehindLemmas.{behind_more, front_behind, front_more}
-use Rattle.fb_run.proofs.LongLemmas.{digits_each}
+use Rattle.fb_run.proofs.{BehindLemmas.behind_more, BehindLemmas.front_behind, BehindLemmas.front_more, LongLemmas.digits_each}
 use Rattle.fb_run.proofs.long_line.put_hex.Goals as goal
 
 pub returns-in_err-put-clause-err : goal.returns-in_err-put-clause-err

@@ -1,8 +1,5 @@
 use Rattle.std.proofs.Common.{subst, sym}
-use Rattle.fb_run.specs.Job.{Job, job_of}
-use Rattle.fb_run.specs.Prompt.{IsPrompt}
-use Rattle.fb_run.specs.Run.{IsRunBeside}
-use Rattle.fb_run.specs.Ends.{ends_of}
+use Rattle.fb_run.specs.{Job.Job, Job.job_of, Prompt.IsPrompt, Run.IsRunBeside, Ends.ends_of}
 use Rattle.fb_run.specs.declared.tally.Tally.{Tally}
 use Rattle.fb_run.proofs.RunLemmas.{ends_none, runs_none}
 use Rattle.fb_run.proofs.run.run_beside.Goals as goal

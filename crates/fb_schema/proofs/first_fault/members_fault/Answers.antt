@@ -1,11 +1,8 @@
 use Rattle.std.proofs.Common.{◌≡◌, map, get_or, sym, ◌∙◌, below_more, rules, int_cmp}
 use Rattle.std.proofs.lemmas.Option.{slice_get-get_or}
 use Rattle.fb_schema.specs.Sorting.{IsFirstAgain, member_cmp, member_value, member_key}
-use Rattle.fb_schema.specs.FlatRows.{borrowed_rows}
-use Rattle.fb_schema.specs.Rows.{member_of_row}
-use Rattle.fb_schema.specs.Demands.{first_code, members_asked}
-use Rattle.fb_schema.proofs.Blank.{blank_member}
-use Rattle.fb_schema.proofs.MemberLemmas.{member_code, past_members}
+use Rattle.fb_schema.specs.{FlatRows.borrowed_rows, Rows.member_of_row, Demands.first_code, Demands.members_asked}
+use Rattle.fb_schema.proofs.{Blank.blank_member, MemberLemmas.member_code, MemberLemmas.past_members}
 use Rattle.fb_schema.proofs.first_fault.members_fault.Goals as goal
 use Rattle.fb_schema.proofs.first_fault.members_fault.Goals.{After-member_fault}
 

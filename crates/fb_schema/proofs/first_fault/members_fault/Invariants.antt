@@ -1,7 +1,5 @@
 use Rattle.std.proofs.Common.{◌≡◌, ◌<◌, ℕ, map, None}
-use Rattle.fb_schema.specs.FlatRows.{borrowed_rows}
-use Rattle.fb_schema.specs.Rows.{member_of_row}
-use Rattle.fb_schema.specs.Demands.{first_code, members_asked}
+use Rattle.fb_schema.specs.{FlatRows.borrowed_rows, Rows.member_of_row, Demands.first_code, Demands.members_asked}
 use Rattle.fb_schema.proofs.first_fault.members_fault.Given as goal
 
 abbrev pub invariant-loop-p : goal.invariant-loop-p

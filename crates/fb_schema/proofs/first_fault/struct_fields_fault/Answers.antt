@@ -1,11 +1,8 @@
 use Rattle.std.proofs.Common.{◌≡◌, map, get_or, sym, ◌∙◌, below_more, rules}
 use Rattle.std.proofs.lemmas.Option.{slice_get-get_or}
-use Rattle.fb_schema.specs.Sorting.{IsFirstAgain, name_cmp, field_name}
-use Rattle.fb_schema.specs.FlatRows.{borrowed_rows}
-use Rattle.fb_schema.specs.Rows.{field_of}
+use Rattle.fb_schema.specs.{Sorting.IsFirstAgain, Sorting.name_cmp, Sorting.field_name, FlatRows.borrowed_rows, Rows.field_of}
 use Rattle.fb_schema.specs.Demands.{first_code, struct_asked}
-use Rattle.fb_schema.proofs.Blank.{blank_field}
-use Rattle.fb_schema.proofs.WalkLemmas.{struct_code}
+use Rattle.fb_schema.proofs.{Blank.blank_field, WalkLemmas.struct_code}
 use Rattle.fb_schema.proofs.first_fault.struct_fields_fault.Goals as goal
 use Rattle.fb_schema.proofs.first_fault.struct_fields_fault.Goals.{After-struct_field_fault}
 

@@ -2,11 +2,8 @@ use Rattle.std.proofs.Common.{◌≡◌, map, get_or, sym, ◌∙◌, below_more
 use Rattle.std.proofs.lemmas.Option.{slice_get-get_or}
 use Rattle.fb_schema.specs.declared.kinds.TypeField.TheVariants.{ForUnion, ForUnions}
 use Rattle.fb_schema.specs.Sorting.{IsFirstAgain, name_cmp, field_name, field_slot, AreTypeSlots}
-use Rattle.fb_schema.specs.FlatRows.{borrowed_rows}
-use Rattle.fb_schema.specs.Rows.{field_of}
-use Rattle.fb_schema.specs.Demands.{first_code, table_asked}
-use Rattle.fb_schema.proofs.Blank.{blank_field}
-use Rattle.fb_schema.proofs.WalkLemmas.{table_code}
+use Rattle.fb_schema.specs.{FlatRows.borrowed_rows, Rows.field_of, Demands.first_code, Demands.table_asked}
+use Rattle.fb_schema.proofs.{Blank.blank_field, WalkLemmas.table_code}
 use Rattle.fb_schema.proofs.first_fault.table_fields_fault.Goals as goal
 use Rattle.fb_schema.proofs.first_fault.table_fields_fault.Goals.{After-table_field_fault}
 

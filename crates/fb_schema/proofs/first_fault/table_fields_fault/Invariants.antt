@@ -1,7 +1,5 @@
 use Rattle.std.proofs.Common.{◌≡◌, ◌<◌, ℕ, map, None}
-use Rattle.fb_schema.specs.FlatRows.{borrowed_rows}
-use Rattle.fb_schema.specs.Rows.{field_of}
-use Rattle.fb_schema.specs.Demands.{first_code, table_asked}
+use Rattle.fb_schema.specs.{FlatRows.borrowed_rows, Rows.field_of, Demands.first_code, Demands.table_asked}
 use Rattle.fb_schema.proofs.first_fault.table_fields_fault.Given as goal
 
 abbrev pub invariant-loop-p : goal.invariant-loop-p

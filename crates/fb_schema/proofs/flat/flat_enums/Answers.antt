@@ -1,9 +1,7 @@
 use Rattle.std.proofs.Common.{◌<◌, ◌^◌, ◌∙◌, ◌++◌, refl, length, vec_len, ap, sym, subst, arith}
 use Rattle.fb_schema.specs.declared.rows.EnumRow.{EnumRow}
-use Rattle.fb_schema.specs.FlatRows.{enum_with}
-use Rattle.fb_schema.specs.Rows.{enum_of}
-use Rattle.fb_schema.proofs.FlatLemmas.{pushed, parts_step}
-use Rattle.fb_schema.proofs.IndexLemmas.{value_step}
+use Rattle.fb_schema.specs.{FlatRows.enum_with, Rows.enum_of}
+use Rattle.fb_schema.proofs.{FlatLemmas.pushed, FlatLemmas.parts_step, IndexLemmas.value_step}
 use Rattle.fb_schema.proofs.flat.flat_enums.Goals as goal
 
 pub loop-row-preserved : goal.loop-row-preserved

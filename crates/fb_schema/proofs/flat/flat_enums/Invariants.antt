@@ -1,7 +1,5 @@
 use Rattle.std.proofs.Common.{◌≡◌, All, map, take, length}
-use Rattle.fb_schema.specs.Flat.{IsPart}
-use Rattle.fb_schema.specs.FlatRows.{enum_in}
-use Rattle.fb_schema.specs.Rows.{enum_of}
+use Rattle.fb_schema.specs.{Flat.IsPart, FlatRows.enum_in, Rows.enum_of}
 use Rattle.fb_schema.proofs.flat.flat_enums.Given as goal
 
 abbrev pub invariant-loop-row : goal.invariant-loop-row

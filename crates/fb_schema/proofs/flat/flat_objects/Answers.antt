@@ -1,9 +1,7 @@
 use Rattle.std.proofs.Common.{◌<◌, ◌^◌, ◌∙◌, ◌++◌, length, vec_len, ap, sym, subst, arith}
 use Rattle.fb_schema.specs.declared.rows.ObjectRow.{ObjectRow}
-use Rattle.fb_schema.specs.FlatRows.{object_with}
-use Rattle.fb_schema.specs.Rows.{object_of}
-use Rattle.fb_schema.proofs.FlatLemmas.{pushed, parts_step}
-use Rattle.fb_schema.proofs.IndexLemmas.{value_step}
+use Rattle.fb_schema.specs.{FlatRows.object_with, Rows.object_of}
+use Rattle.fb_schema.proofs.{FlatLemmas.pushed, FlatLemmas.parts_step, IndexLemmas.value_step}
 use Rattle.fb_schema.proofs.flat.flat_objects.Goals as goal
 
 pub loop-object-preserved : goal.loop-object-preserved

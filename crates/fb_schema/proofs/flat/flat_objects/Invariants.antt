@@ -1,7 +1,5 @@
 use Rattle.std.proofs.Common.{◌≡◌, All, map, take, length}
-use Rattle.fb_schema.specs.Flat.{IsPart}
-use Rattle.fb_schema.specs.FlatRows.{object_in}
-use Rattle.fb_schema.specs.Rows.{object_of}
+use Rattle.fb_schema.specs.{Flat.IsPart, FlatRows.object_in, Rows.object_of}
 use Rattle.fb_schema.proofs.flat.flat_objects.Given as goal
 
 abbrev pub invariant-loop-object : goal.invariant-loop-object

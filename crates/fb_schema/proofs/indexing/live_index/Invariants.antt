@@ -1,6 +1,5 @@
 use Rattle.std.proofs.Common.{take}
-use Rattle.fb_schema.specs.FlatRows.{borrowed_rows}
-use Rattle.fb_schema.specs.Index.{IsLiveIndex}
+use Rattle.fb_schema.specs.{FlatRows.borrowed_rows, Index.IsLiveIndex}
 use Rattle.fb_schema.proofs.indexing.live_index.Given as goal
 
 abbrev pub invariant-loop-n : goal.invariant-loop-n

@@ -1,6 +1,5 @@
 use Rattle.std.proofs.Common.{take}
-use Rattle.fb_schema.specs.FlatRows.{borrowed_rows}
-use Rattle.fb_schema.specs.Index.{IsMemberIndex}
+use Rattle.fb_schema.specs.{FlatRows.borrowed_rows, Index.IsMemberIndex}
 use Rattle.fb_schema.proofs.indexing.member_index.Given as goal
 
 abbrev pub invariant-loop-n : goal.invariant-loop-n

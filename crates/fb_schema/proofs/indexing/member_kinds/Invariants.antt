@@ -1,7 +1,5 @@
 use Rattle.std.proofs.Common.{◌≡◌, map, take}
-use Rattle.fb_schema.specs.Kinds.{kind_of}
-use Rattle.fb_schema.specs.FlatRows.{borrowed_rows}
-use Rattle.fb_schema.specs.Rows.{member_of_row}
+use Rattle.fb_schema.specs.{Kinds.kind_of, FlatRows.borrowed_rows, Rows.member_of_row}
 use Rattle.fb_schema.proofs.indexing.member_kinds.Given as goal
 
 abbrev pub invariant-loop-member : goal.invariant-loop-member

@@ -1,10 +1,7 @@
 use Rattle.std.proofs.Common.{◌≡◌, Some, slice_get, get_or, inl}
-use Rattle.std.proofs.lemmas.List.{length-map}
-use Rattle.std.proofs.lemmas.Option.{slice_get-get_or}
+use Rattle.std.proofs.lemmas.{List.length-map, Option.slice_get-get_or}
 use Rattle.fb_schema.specs.FlatRows.{borrowed_rows, enum_in}
-use Rattle.fb_schema.proofs.Blank.{blank_enum}
-use Rattle.fb_schema.proofs.OwnerLemmas.{refused_member, clear_enum, all_enums}
-use Rattle.fb_schema.proofs.WalkLemmas.{mapped_at}
+use Rattle.fb_schema.proofs.{Blank.blank_enum, OwnerLemmas.refused_member, OwnerLemmas.clear_enum, OwnerLemmas.all_enums, WalkLemmas.mapped_at}
 use Rattle.fb_schema.proofs.legal.unions_legal.Goals as goal
 use Rattle.fb_schema.proofs.legal.unions_legal.Goals.{After-union_fault}
 

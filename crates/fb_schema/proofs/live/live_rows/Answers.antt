@@ -2,8 +2,7 @@ use Rattle.std.proofs.Common.{◌≡◌, filter, take, length, ap, ◌∙◌, ar
 use Rattle.std.proofs.lemmas.List.Sorted.{IsNonDecreasingBy-from_sort_by_key, length_permutation}
 use Rattle.std.proofs.Math.Seq.{take-length}
 use Rattle.std.specs.List.Sorted.{IsNonDecreasingBy}
-use Rattle.fb_schema.specs.Live.{is_live}
-use Rattle.fb_schema.specs.Rows.{field_of}
+use Rattle.fb_schema.specs.{Live.is_live, Rows.field_of}
 use Rattle.fb_schema.specs.declared.rows.FieldRow.{FieldRow}
 use Rattle.fb_schema.proofs.LiveLemmas.{live_value, live_rising, shorter}
 use Rattle.fb_schema.proofs.live.live_rows.Goals as goal

@@ -1,6 +1,5 @@
 use Rattle.std.proofs.Common.{◌≡◌, take, filter}
-use Rattle.fb_schema.specs.Live.{is_live}
-use Rattle.fb_schema.specs.Rows.{field_of}
+use Rattle.fb_schema.specs.{Live.is_live, Rows.field_of}
 use Rattle.fb_schema.proofs.live.live_rows.Given as goal
 
 abbrev pub invariant-loop-field : goal.invariant-loop-field

@@ -1,7 +1,6 @@
 use Rattle.std.proofs.Common.{rules}
 use Rattle.std.proofs.lemmas.List.Sorted.{answers_always}
-use Rattle.fb_schema.proofs.Blank.{blank_field}
-use Rattle.fb_schema.proofs.LiveLemmas.{found_below, none_two_below, missed_below}
+use Rattle.fb_schema.proofs.{Blank.blank_field, LiveLemmas.found_below, LiveLemmas.none_two_below, LiveLemmas.missed_below}
 use Rattle.fb_schema.proofs.live.place_below.Goals as goal
 
 pub returns-then-slot-lt2 : goal.returns-then-slot-lt2

@@ -1,12 +1,7 @@
 use Rattle.std.proofs.Common.{map, get_or, Some, IsSome, option_map, sym, ap, subst, ◌∙◌, rules}
 use Rattle.std.proofs.lemmas.Option.{slice_get-get_or}
-use Rattle.fb_schema.specs.Live.{live_as, live_of, live_of_view}
-use Rattle.fb_schema.specs.FlatRows.{borrowed_rows}
-use Rattle.fb_schema.specs.Rows.{field_of}
-use Rattle.fb_schema.proofs.Blank.{blank_field}
-use Rattle.fb_schema.proofs.IndexLemmas.{few_step}
-use Rattle.fb_schema.proofs.Kept.{kept_step}
-use Rattle.fb_schema.proofs.WalkLemmas.{mapped_at}
+use Rattle.fb_schema.specs.{Live.live_as, Live.live_of, Live.live_of_view, FlatRows.borrowed_rows, Rows.field_of}
+use Rattle.fb_schema.proofs.{Blank.blank_field, IndexLemmas.few_step, Kept.kept_step, WalkLemmas.mapped_at}
 use Rattle.fb_schema.proofs.live.views.Goals as goal
 
 pub unwrap-kind-requires : goal.unwrap-kind-requires

@@ -1,7 +1,5 @@
 use Rattle.std.proofs.Common.{◌≡◌, ◌≤◌, take, length, map, filter_map}
-use Rattle.fb_schema.specs.Live.{live_of, live_of_view}
-use Rattle.fb_schema.specs.FlatRows.{borrowed_rows}
-use Rattle.fb_schema.specs.Rows.{field_of}
+use Rattle.fb_schema.specs.{Live.live_of, Live.live_of_view, FlatRows.borrowed_rows, Rows.field_of}
 use Rattle.fb_schema.proofs.live.views.Given as goal
 
 abbrev pub invariant-loop-field : goal.invariant-loop-field

@@ -1,6 +1,5 @@
 use Rattle.std.proofs.Common.{◌≡◌, rules, tests, position, bytes_eq}
-use Rattle.std.proofs.lemmas.Iterator.{YieldsList-from_slice}
-use Rattle.std.proofs.lemmas.Iterator.Search.{position_from_yields_List}
+use Rattle.std.proofs.lemmas.{Iterator.YieldsList-from_slice, Iterator.Search.position_from_yields_List}
 use Rattle.fb_schema.specs.declared.rows.FieldRow.{FieldRow}
 use Rattle.fb_schema.proofs.schema.named.Goals as goal
 use Rattle.fb_schema.proofs.schema.named.Goals.{After-position}

@@ -1,8 +1,6 @@
 use Rattle.std.proofs.Common.{◌≡◌, false, true, get_or, sym, ◌∙◌, ap}
-use Rattle.fb_schema.specs.Live.{live_of_view}
-use Rattle.fb_schema.specs.Steps.{act_of, is_plain_act}
-use Rattle.fb_schema.proofs.Blank.{blank_view}
-use Rattle.fb_schema.proofs.IndexLemmas.{plain_step}
+use Rattle.fb_schema.specs.{Live.live_of_view, Steps.act_of, Steps.is_plain_act}
+use Rattle.fb_schema.proofs.{Blank.blank_view, IndexLemmas.plain_step}
 use Rattle.fb_schema.proofs.steps.are_plain.Goals as goal
 use Rattle.fb_schema.proofs.steps.are_plain.Goals.{then-not-is_plain_act, else-not-is_plain_act}
 

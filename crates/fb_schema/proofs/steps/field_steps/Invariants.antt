@@ -1,6 +1,5 @@
 use Rattle.std.proofs.Common.{◌≡◌, map, take}
-use Rattle.fb_schema.specs.Live.{live_of_view}
-use Rattle.fb_schema.specs.Steps.{step_of}
+use Rattle.fb_schema.specs.{Live.live_of_view, Steps.step_of}
 use Rattle.fb_schema.proofs.steps.field_steps.Given as goal
 
 abbrev pub invariant-loop-field : goal.invariant-loop-field

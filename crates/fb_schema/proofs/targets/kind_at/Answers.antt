@@ -1,14 +1,9 @@
 use Rattle.std.proofs.Common.{◌<◌, pos, List, Some, map, length, get_or, FitsSigned, w64, sym, ap, subst, ◌∙◌, arith, rules, option_and_then, int_cmp}
-use Rattle.std.proofs.lemmas.Int.{to_z-of_z}
-use Rattle.std.proofs.lemmas.Option.{get_or_from_slice_get}
-use Rattle.std.proofs.lemmas.List.{length-map, get_or-map}
+use Rattle.std.proofs.lemmas.{Int.to_z-of_z, Option.get_or_from_slice_get, List.length-map, List.get_or-map}
 use Rattle.fb_schema.specs.declared.rows.MemberRow.{MemberRow}
-use Rattle.fb_schema.specs.Kinds.{kind_of}
-use Rattle.fb_schema.specs.Sorting.{IsPlaceOf, member_value}
-use Rattle.fb_schema.specs.Rows.{Rows, Member, member_of_row}
+use Rattle.fb_schema.specs.{Kinds.kind_of, Sorting.IsPlaceOf, Sorting.member_value, Rows.Rows, Rows.Member, Rows.member_of_row}
 use Rattle.fb_schema.specs.Targets.{kind_among, AreSorted}
-use Rattle.fb_schema.proofs.Blank.{blank_member}
-use Rattle.fb_schema.proofs.NextRequired.{item_lent}
+use Rattle.fb_schema.proofs.{Blank.blank_member, NextRequired.item_lent}
 use Rattle.fb_schema.proofs.UnionLemmas.{none_for_zero, value_found, value_missing}
 use Rattle.fb_schema.proofs.targets.kind_at.Goals as goal
 use Rattle.fb_schema.proofs.targets.kind_at.Goals.{After-place_of}

@@ -1,6 +1,5 @@
 use Rattle.std.proofs.Common.{◌≡◌, ◌+◌, ◌≤◌, ◌<◌, ◌∷◌, [], ℕ, map, length, get_or, ap, subst, sym, ◌∙◌, arith}
-use Rattle.fb_schema.specs.FlatRows.{borrowed_rows}
-use Rattle.fb_schema.specs.Rows.{member_of_row}
+use Rattle.fb_schema.specs.{FlatRows.borrowed_rows, Rows.member_of_row}
 use Rattle.fb_schema.specs.Targets.{nothing, target_at, target_of, kind_among}
 use Rattle.fb_schema.proofs.TargetLemmas.{only_item, first_place, zero_target, long_step, within_step, behind_taken, behind_none, found_step}
 use Rattle.fb_schema.proofs.targets.union_targets.Goals as goal

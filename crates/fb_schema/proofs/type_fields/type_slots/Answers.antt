@@ -1,8 +1,7 @@
 use Rattle.std.proofs.Common.{◌≡◌, ◌==◌, ◌+◌, map, take, length, sym, ap, ◌∙◌, arith}
 use Rattle.std.proofs.lemmas.List.Sorted.{list_any-IsPermutation}
 use Rattle.std.proofs.Math.Seq.{take-length}
-use Rattle.fb_schema.specs.Rows.{field_of}
-use Rattle.fb_schema.specs.Demands.{stands_below}
+use Rattle.fb_schema.specs.{Rows.field_of, Demands.stands_below}
 use Rattle.fb_schema.proofs.type_fields.type_slots.Goals as goal
 
 pub returns : goal.returns

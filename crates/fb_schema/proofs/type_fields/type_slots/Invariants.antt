@@ -1,7 +1,6 @@
 use Rattle.std.proofs.Common.{◌≡◌, ◌==◌, ◌+◌, ℕ, map, take}
 use Rattle.std.specs.List.{list_any}
-use Rattle.fb_schema.specs.Rows.{field_of}
-use Rattle.fb_schema.specs.Demands.{stands_below}
+use Rattle.fb_schema.specs.{Rows.field_of, Demands.stands_below}
 use Rattle.fb_schema.proofs.type_fields.type_slots.Given as goal
 
 abbrev pub invariant-loop-field : goal.invariant-loop-field

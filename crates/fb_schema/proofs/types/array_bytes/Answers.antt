@@ -1,6 +1,5 @@
 use Rattle.std.proofs.Common.{ℕ, ◌*◌, ◌^◌, ◌-◌, ◌<◌, ◌≤◌, ℤ, pos, negsuc, neg_ℤ, ◌*ℤ◌, ◌<ℤ◌, unsigned_abs, arith, subst, sym, mul-le-mul}
-use Rattle.std.proofs.lemmas.Grind.{common_steps}
-use Rattle.std.proofs.lemmas.Int.{unsigned_abs-mul, ints}
+use Rattle.std.proofs.lemmas.{Grind.common_steps, Int.unsigned_abs-mul, Int.ints}
 use Rattle.fb_schema.proofs.types.array_bytes.Goals as goal
 
 -- a product of 16 bits and 32 bits with a sign has fewer than 48 bits

@@ -1,17 +1,9 @@
 use Rattle.std.proofs.Common.{◌≡◌, ◌+◌, ◌-◌, ℕ, suc, length, map, drop, List, sym, ◌∙◌, ap, subst, arith, slice_get, Option, Some, None, refl}
-use Rattle.std.proofs.lemmas.List.{length-map, length-drop}
-use Rattle.std.proofs.lemmas.List.Elements.{All-cons}
-use Rattle.std.proofs.lemmas.List.Sums.{sum_by-cons}
-use Rattle.fb_verify.specs.declared.fault.Reason.{Reason}
-use Rattle.std.proofs.lemmas.Option.{slice_get_within}
-use Rattle.fb_schema.specs.Live.{Live, live_fields}
-use Rattle.fb_schema.specs.Steps.{step_of}
-use Rattle.fb_verify.specs.declared.table.Table.{Table}
-use Rattle.fb_verify.specs.PassesOn.{StepsPass, IsBetween, fields_left}
-use Rattle.fb_verify.specs.Plain.{plain_failure, plain_reads, steps_reads}
-use Rattle.fb_verify.proofs.Chains.{after_none}
-use Rattle.fb_verify.proofs.Plains.{is_step, has_bit, is_even}
-use Rattle.fb_verify.proofs.Passing.{AtStep}
+use Rattle.std.proofs.lemmas.{List.length-map, List.length-drop, List.Elements.All-cons, List.Sums.sum_by-cons, Option.slice_get_within}
+use Rattle.fb_verify.specs.declared.{fault.Reason.Reason, table.Table.Table}
+use Rattle.fb_schema.specs.{Live.Live, Live.live_fields, Steps.step_of}
+use Rattle.fb_verify.specs.{PassesOn.StepsPass, PassesOn.IsBetween, PassesOn.fields_left, Plain.plain_failure, Plain.plain_reads, Plain.steps_reads}
+use Rattle.fb_verify.proofs.{Chains.after_none, Plains.is_step, Plains.has_bit, Plains.is_even, Passing.AtStep}
 use Rattle.fb_verify.proofs.BySteps.{steps_pass, left_from, GoesBy, step_by, came_to}
 use Rattle.fb_verify.proofs.flat.pass_by.Goals as goal
 use Rattle.fb_verify.proofs.flat.pass_by.Goals.{In-Some}

@@ -1,8 +1,6 @@
 use Rattle.std.proofs.Common.{◌≡◌, ◌+◌, ◌-◌, ◌*◌, ◌≤◌, length, map, drop}
-use Rattle.fb_schema.specs.Live.{live_fields}
-use Rattle.fb_schema.specs.Steps.{step_of}
-use Rattle.fb_verify.specs.PassesOn.{IsBetween, fields_left}
-use Rattle.fb_verify.specs.Plain.{StepsHold, steps_reads}
+use Rattle.fb_schema.specs.{Live.live_fields, Steps.step_of}
+use Rattle.fb_verify.specs.{PassesOn.IsBetween, PassesOn.fields_left, Plain.StepsHold, Plain.steps_reads}
 use Rattle.fb_verify.proofs.flat.pass_by.Given as goal
 
 -- the walk goes on in the same table, between two fields, of which so many are left

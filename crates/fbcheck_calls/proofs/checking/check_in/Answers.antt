@@ -1,7 +1,6 @@
 use Rattle.std.proofs.Common.{rules}
 use Rattle.fbcheck_calls.specs.declared.answer.Answer.TheVariants.{Good, Bad, TooLong}
-use Rattle.fbcheck_calls.proofs.AnswerLemmas.{unserved_is_checked}
-use Rattle.fbcheck_calls.proofs.checking.check_in.Goals.{in-Ok-walk, in-Err}
+use Rattle.fbcheck_calls.proofs.{AnswerLemmas.unserved_is_checked, checking.check_in.Goals.in-Ok-walk, checking.check_in.Goals.in-Err}
 use Rattle.fbcheck_calls.proofs.checking.check_in.Goals as goal
 
 pub returns-in_default-clause-told : goal.returns-in_default-clause-told

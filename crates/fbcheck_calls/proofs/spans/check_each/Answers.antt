@@ -1,7 +1,6 @@
 use Rattle.std.proofs.Common.{◌∙◌, ◌<◌, length, arith}
 use Rattle.std.proofs.lemmas.List.{get_or_default}
-use Rattle.fbcheck_calls.specs.Answered.{levels}
-use Rattle.fbcheck_calls.specs.Spans.{IsSpanTold}
+use Rattle.fbcheck_calls.specs.{Answered.levels, Spans.IsSpanTold}
 use Rattle.fbcheck_calls.proofs.SpanLemmas.{one_more}
 use Rattle.fbcheck_calls.proofs.spans.check_each.Goals as goal
 

@@ -1,6 +1,5 @@
 use Rattle.std.proofs.Common.{ℕ, ◌<◌, length, get_or}
-use Rattle.fbcheck_calls.specs.declared.steps.PlainPath.{PlainPath}
-use Rattle.fbcheck_calls.specs.declared.values.Value.{Value}
+use Rattle.fbcheck_calls.specs.declared.{steps.PlainPath.PlainPath, values.Value.Value}
 use Rattle.fbcheck_calls.specs.Values.{IsValueOf}
 use Rattle.fbcheck_calls.proofs.values.tell_values.Given as goal
 

@@ -1,12 +1,9 @@
 use Rattle.std.proofs.Common.{◌≡◌, ◌+◌, List, ap, length, map, nat_lt, rules, subst, sym, ◌∙◌}
 use Rattle.std.specs.Prelude.{string_bytes}
-use Rattle.std.proofs.lemmas.List.{length-map, length_push}
-use Rattle.std.proofs.lemmas.List.Elements.{All-push}
-use Rattle.std.proofs.lemmas.Result.{IfOk-weaker}
+use Rattle.std.proofs.lemmas.{List.length-map, List.length_push, List.Elements.All-push, Result.IfOk-weaker}
 use Rattle.fb_access.specs.Fitting.{StepsFit}
 use Rattle.fb_schema.specs.declared.kinds.Kind.TheVariants.{Table}
-use Rattle.fb_run.specs.Job.{PathsFit}
-use Rattle.fb_run.specs.Wanted.{Wanted}
+use Rattle.fb_run.specs.{Job.PathsFit, Wanted.Wanted}
 use Rattle.fbcheck_texts.specs.Hints.{path_hint}
 use Rattle.fbcheck_serve.specs.Inputs.{are_several, label_of}
 use Rattle.fbcheck_serve.proofs.PathLemmas.{hinted_fails, hinted_told, path_told, paths_fail, paths_more}

@@ -1,6 +1,5 @@
 use Rattle.std.proofs.Common.{◌∙◌, ap, refl, subst, sym}
-use Rattle.fb_run.specs.Ends.{writer_of}
-use Rattle.fb_run.specs.Job.{job_of}
+use Rattle.fb_run.specs.{Ends.writer_of, Job.job_of}
 use Rattle.fbcheck_serve.specs.declared.inputs.Course.{Course}
 use Rattle.fbcheck_serve.proofs.InputsLemmas.{after_spent, after_unread, behind_never, is_turns, standard_with, tries_of}
 use Rattle.fbcheck_serve.specs.Inputs.{IsBehind, folder_of, seen_of}

@@ -1,6 +1,5 @@
 use Rattle.std.proofs.Common.{◌∙◌, sym}
-use Rattle.fbcheck_texts.specs.Alike.{is_alike}
-use Rattle.fbcheck_texts.specs.Hints.{fields_at}
+use Rattle.fbcheck_texts.specs.{Alike.is_alike, Hints.fields_at}
 use Rattle.fbcheck_texts.proofs.HintLemmas.{find_here, find_on}
 use Rattle.fbcheck_texts.proofs.hint.alike_field.Goals as goal
 

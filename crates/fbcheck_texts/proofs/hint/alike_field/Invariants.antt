@@ -1,6 +1,5 @@
 use Rattle.std.proofs.Common.{◌≡◌, drop, find}
-use Rattle.fbcheck_texts.specs.Alike.{is_alike}
-use Rattle.fbcheck_texts.specs.Hints.{fields_at}
+use Rattle.fbcheck_texts.specs.{Alike.is_alike, Hints.fields_at}
 use Rattle.fbcheck_texts.proofs.hint.alike_field.Given as goal
 
 -- the first name that passes is among those that are left

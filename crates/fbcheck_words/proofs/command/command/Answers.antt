@@ -1,8 +1,7 @@
 use Rattle.std.proofs.Common.{◌≡◌, ◌<◌, ◌≤◌, ◌+◌, ◌∙◌, ℕ, List, ◌∷◌, add-one, ap, drop, drop-cons, fold, length, map, slice_index_or, sym}
 use Rattle.std.proofs.Math.ListN.{drop_of_length-le}
 use Rattle.clap.specs.Simple.{App, app_of, with_rule}
-use Rattle.fbcheck_words.specs.CommandLine.{program}
-use Rattle.fbcheck_words.specs.OptionTable.{choice_rule}
+use Rattle.fbcheck_words.specs.{CommandLine.program, OptionTable.choice_rule}
 use Rattle.fbcheck_words.specs.declared.command.Choice.{Choice}
 use Rattle.fbcheck_words.proofs.command.command.Goals as goal
 

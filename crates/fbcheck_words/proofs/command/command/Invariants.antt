@@ -1,7 +1,6 @@
 use Rattle.std.proofs.Common.{◌≡◌, drop, fold, map}
 use Rattle.clap.specs.Simple.{app_of, with_rule}
-use Rattle.fbcheck_words.specs.CommandLine.{program}
-use Rattle.fbcheck_words.specs.OptionTable.{choice_rule}
+use Rattle.fbcheck_words.specs.{CommandLine.program, OptionTable.choice_rule}
 use Rattle.fbcheck_words.proofs.command.command.Given as goal
 
 -- what is left makes the program of what stands

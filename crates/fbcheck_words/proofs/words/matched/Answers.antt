@@ -1,6 +1,5 @@
 use Rattle.std.proofs.Common.{rules}
-use Rattle.fbcheck_words.proofs.WordsLemmas.{is_read, refused_by}
-use Rattle.fbcheck_words.proofs.words.matched.Goals.{in-OutOfMemory, in_default-kind}
+use Rattle.fbcheck_words.proofs.{WordsLemmas.is_read, WordsLemmas.refused_by, words.matched.Goals.in-OutOfMemory, words.matched.Goals.in_default-kind}
 use Rattle.fbcheck_words.proofs.words.matched.Goals as goal
 
 pub returns-clause-matches : goal.returns-clause-matches

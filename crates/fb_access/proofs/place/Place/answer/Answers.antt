@@ -1,6 +1,5 @@
 use Rattle.std.proofs.Common.{◌≡◌, sym, subst, ◌∙◌, rules}
-use Rattle.fb_access.specs.Denotes.{shown, value}
-use Rattle.fb_access.specs.Held.{IsPlaced}
+use Rattle.fb_access.specs.{Denotes.shown, Denotes.value, Held.IsPlaced}
 use Rattle.fb_access.proofs.Counted.{tables_fit_at}
 use Rattle.fb_access.proofs.place.Place.answer.Goals as goal
 

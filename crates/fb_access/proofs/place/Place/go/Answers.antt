@@ -1,6 +1,5 @@
 use Rattle.std.proofs.Common.{sym}
-use Rattle.fb_access.proofs.StepKinds.{allowed_leads, kinds_go_on}
-use Rattle.fb_access.proofs.Sure.{here_goes_on}
+use Rattle.fb_access.proofs.{StepKinds.allowed_leads, StepKinds.kinds_go_on, Sure.here_goes_on}
 use Rattle.fb_access.proofs.place.Place.go.Goals as goal
 
 pub unreachable-requires : goal.unreachable-requires

@@ -1,13 +1,10 @@
 use Rattle.std.proofs.Common.{[], ◌∷◌, refl, rules, w64}
 use Rattle.fb_schema.specs.declared.kinds.Kind.TheVariants.{Table}
 use Rattle.fb_schema.specs.declared.kinds.Scalar.TheVariants as scalar
-use Rattle.fb_bfbs.specs.Describes.{IsFieldRow}
+use Rattle.fb_bfbs.specs.{Describes.IsFieldRow, Seen.seen}
 use Rattle.fb_access.specs.Denotes.{signed}
 use Rattle.fb_access.specs.declared.step.Step.TheVariants.{Field as ToField}
-use Rattle.fb_bfbs.specs.Seen.{seen}
-use Rattle.fb_bfbs.proofs.Narrow.{kept}
-use Rattle.fb_bfbs.proofs.Sure.{field_allowed, at_field}
-use Rattle.fb_bfbs.proofs.FixedFields.{computing, always, field_number}
+use Rattle.fb_bfbs.proofs.{Narrow.kept, Sure.field_allowed, Sure.at_field, FixedFields.computing, FixedFields.always, FixedFields.field_number}
 use Rattle.fb_bfbs.proofs.Composed.{seen_after, type_within, field_within, row_here}
 use Rattle.fb_bfbs.proofs.copied.FieldRowFromTable.from_table.Goals as goal
 

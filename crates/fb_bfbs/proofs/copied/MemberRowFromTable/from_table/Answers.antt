@@ -2,11 +2,8 @@ use Rattle.std.proofs.Common.{[], ◌∷◌, rules, w64}
 use Rattle.fb_schema.specs.declared.kinds.Scalar.TheVariants as scalar
 use Rattle.fb_access.specs.Denotes.{signed}
 use Rattle.fb_access.specs.declared.step.Step.TheVariants.{Field as ToField}
-use Rattle.fb_bfbs.specs.Seen.{seen}
-use Rattle.fb_bfbs.specs.Describes.{IsMemberRow}
-use Rattle.fb_bfbs.proofs.Narrow.{kept}
-use Rattle.fb_bfbs.proofs.FixedFields.{member_number}
-use Rattle.fb_bfbs.proofs.Composed.{member_within, row_here}
+use Rattle.fb_bfbs.specs.{Seen.seen, Describes.IsMemberRow}
+use Rattle.fb_bfbs.proofs.{Narrow.kept, FixedFields.member_number, Composed.member_within, Composed.row_here}
 use Rattle.fb_bfbs.proofs.copied.MemberRowFromTable.from_table.Goals as goal
 
 pub int_in-requires : goal.int_in-requires

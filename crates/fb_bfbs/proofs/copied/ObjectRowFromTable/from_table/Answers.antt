@@ -4,11 +4,8 @@ use Rattle.fb_schema.specs.declared.kinds.Scalar.TheVariants as scalar
 use Rattle.fb_schema.specs.Rows.{field_of}
 use Rattle.fb_access.specs.declared.step.Step.TheVariants.{Field as ToField}
 use Rattle.fb_access.specs.Denotes.{signed}
-use Rattle.fb_bfbs.specs.Seen.{seen}
-use Rattle.fb_bfbs.specs.Describes.{IsFieldRow, IsObjectRow}
-use Rattle.fb_bfbs.proofs.FixedFields.{object_numbers}
-use Rattle.fb_bfbs.proofs.Narrow.{kept, narrowed}
-use Rattle.fb_bfbs.proofs.Composed.{object_within, mapped_rows, row_here}
+use Rattle.fb_bfbs.specs.{Seen.seen, Describes.IsFieldRow, Describes.IsObjectRow}
+use Rattle.fb_bfbs.proofs.{FixedFields.object_numbers, Narrow.kept, Narrow.narrowed, Composed.object_within, Composed.mapped_rows, Composed.row_here}
 use Rattle.fb_bfbs.proofs.copied.ObjectRowFromTable.from_table.Goals as goal
 
 pub int_in-requires : goal.int_in-requires

@@ -4,9 +4,7 @@ use Rattle.fb_access.specs.declared.step.Step.TheVariants.{Field as ToField}
 use Rattle.fb_access.specs.Denotes.{vector}
 use Rattle.fb_bfbs.specs.declared.counted.FieldCount.{FieldCount}
 use Rattle.fb_bfbs.specs.Sums.{Lists}
-use Rattle.fb_bfbs.proofs.FixedFields.{computing, always}
-use Rattle.fb_bfbs.proofs.Composed.{row_here, seen_in}
-use Rattle.fb_bfbs.proofs.Sure.{field_allowed, at_field}
+use Rattle.fb_bfbs.proofs.{FixedFields.computing, FixedFields.always, Composed.row_here, Composed.seen_in, Sure.field_allowed, Sure.at_field}
 use Rattle.fb_bfbs.proofs.counted.FieldCountFromTable.from_table.Goals as goal
 
 pub go-fields-requires : goal.go-fields-requires

@@ -1,6 +1,5 @@
 use Rattle.std.proofs.Common.{rules, ◌≡◌, ◌+◌, ◌-◌, ◌<◌, ◌≤◌, true, ◌++◌, length, take, drop, sym, ap, ap₂, ◌∙◌, refl, arith, length-append, length-drop, length-take}
-use Rattle.fb_bytes.specs.Messages.{declared}
-use Rattle.fb_bytes.specs.Framing.{Framing, held_bytes}
+use Rattle.fb_bytes.specs.{Messages.declared, Framing.Framing, Framing.held_bytes}
 use Rattle.fb_bytes.proofs.MessageLemmas.{declared_front}
 use Rattle.fb_bytes.proofs.FramingLemmas.{Completes, completed-held, completed-front, completed-long, completed-stream, completed-oversize, completed-grown, completed-unfinished, fed-fits}
 use Rattle.fb_bytes.proofs.framer.Framer.feed.Goals as goal

@@ -1,11 +1,9 @@
 use Rattle.std.proofs.Common.{sym, ap, arith}
 use Rattle.std.proofs.lemmas.Grind.{common_steps}
-use Rattle.fb_verify.specs.Stops.{Stops}
-use Rattle.fb_verify.specs.Links.{StopsAlong}
+use Rattle.fb_verify.specs.{Stops.Stops, Links.StopsAlong}
 use Rattle.std.specs.Prelude.{take}
 use Rattle.fb_run.specs.Job.{asked_of}
-use Rattle.fb_run.proofs.PlaceLemmas.{has_place}
-use Rattle.fb_run.proofs.checker.Checker.verified.Goals.{in-Ok-put_place, in-Err-put_place}
+use Rattle.fb_run.proofs.{PlaceLemmas.has_place, checker.Checker.verified.Goals.in-Ok-put_place, checker.Checker.verified.Goals.in-Err-put_place}
 use Rattle.fb_run.proofs.checker.Checker.verified.Goals as goal
 
 pub returns-after-put_place-clause-refused : goal.returns-after-put_place-clause-refused

@@ -1,11 +1,8 @@
 use Rattle.std.proofs.Common.{rules, ap, subst, sym}
 use Rattle.std.specs.Io.KnownBytes.{Consumes}
-use Rattle.fb_run.specs.Prompt.{IsBarePrompt}
-use Rattle.fb_run.specs.Ends.{ends_of, outs_of, reader_of}
-use Rattle.fb_run.specs.Stream.{Standing, standing}
-use Rattle.fb_run.proofs.BareLemmas.{fails_untold}
+use Rattle.fb_run.specs.{Prompt.IsBarePrompt, Ends.ends_of, Ends.outs_of, Ends.reader_of, Stream.Standing, Stream.standing}
+use Rattle.fb_run.proofs.{BareLemmas.fails_untold, ThroughLemmas.fails_piece, ThroughLemmas.sofar_piece}
 use Rattle.fb_run.proofs.RunLemmas.{caused_then, ends_told, err_is, prompt_bare, prompt_stream, runs_bare, runs_stream, sofar_nothing}
-use Rattle.fb_run.proofs.ThroughLemmas.{fails_piece, sofar_piece}
 use Rattle.fb_run.proofs.stream.Carried.pass_all.Goals as goal
 
 pub read_whole-requires-clause-leave : goal.read_whole-requires-clause-leave

@@ -1,8 +1,6 @@
 use Rattle.std.proofs.Common.{length, ◌≡◌, ◌+◌, ◌-◌, ◌*◌, ◌^◌, ◌≤◌}
 use Rattle.fb_run.specs.Ends.{GrowsBy, IsUnended, ends_of, load_of, outs_of, reader_of}
-use Rattle.fb_run.specs.Faults.{IsUnfailedOut}
-use Rattle.fb_run.specs.Stream.{IsReady, standing}
-use Rattle.fb_run.specs.Texts.{silent, waiting}
+use Rattle.fb_run.specs.{Faults.IsUnfailedOut, Stream.IsReady, Stream.standing, Texts.silent, Texts.waiting}
 use Rattle.fb_run.proofs.RunLemmas.{Sofar}
 use Rattle.fb_run.proofs.stream.Carried.pass_all.Given as goal
 

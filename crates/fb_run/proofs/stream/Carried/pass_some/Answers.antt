@@ -1,11 +1,8 @@
 use Rattle.std.proofs.Common.{◌≡◌, ◌++◌, ◌∙◌, ℕ, List, [], arith, ap, length, refl, subst, sym, take}
-use Rattle.std.proofs.lemmas.Grind.{common_steps}
-use Rattle.std.proofs.lemmas.List.{nil_from_length}
-use Rattle.fb_bytes.specs.Framing.{Framing}
-use Rattle.fb_bytes.specs.Messages.{IsMessage}
+use Rattle.std.proofs.lemmas.{Grind.common_steps, List.nil_from_length}
+use Rattle.fb_bytes.specs.{Framing.Framing, Messages.IsMessage}
 use Rattle.fb_verify.proofs.Frames.{if_err_exit}
-use Rattle.fb_run.specs.Stream.{standing}
-use Rattle.fb_run.specs.Texts.{no_bytes}
+use Rattle.fb_run.specs.{Stream.standing, Texts.no_bytes}
 use Rattle.fb_run.proofs.StreamLemmas.{halts_feed, halts_memory, onward_line, onward_message}
 use Rattle.fb_run.proofs.stream.Carried.pass_some.Goals as goal
 

@@ -1,16 +1,10 @@
 use Rattle.std.proofs.Common.{◌<◌, slice_index_or, ◌≡◌, slice_get, [], filter, if◌then◌else◌, Some, map, length, sym, ap, subst, ◌∙◌, arith, rules}
 use Rattle.std.proofs.lemmas.List.{length-map}
-use Rattle.fb_schema.specs.Index.{view_name, AreNextRequired}
-use Rattle.fb_schema.specs.FlatLists.{lists_of}
+use Rattle.fb_schema.specs.{Index.view_name, Index.AreNextRequired, FlatLists.lists_of, Sorting.IsOrderOf, Sorting.name_cmp}
+use Rattle.fb_schema.specs.{FlatRows.borrowed_rows, FlatRows.object_in, Rows.Object, Steps.step_of, Steps.are_plain}
 use Rattle.fb_schema.specs.Live.{live_in, live_of_view, by_slot, is_live, AreKinded, AreSpaced}
-use Rattle.fb_schema.specs.Sorting.{IsOrderOf, name_cmp}
-use Rattle.fb_schema.specs.FlatRows.{borrowed_rows, object_in}
-use Rattle.fb_schema.specs.Rows.{Object}
-use Rattle.fb_schema.specs.Steps.{step_of, are_plain}
-use Rattle.fb_schema.proofs.Blank.{blank_object}
+use Rattle.fb_schema.proofs.{Blank.blank_object, Kinded.rows_kinded, Kinded.live_long, TypedLemmas.rows_spaced}
 use Rattle.fb_schema.proofs.IndexLemmas.{legal_slots, matched_pushed, matched_step, lists_step, value_step, widest_step, kept_read, mapped_read, mapped_twice}
-use Rattle.fb_schema.proofs.Kinded.{rows_kinded, live_long}
-use Rattle.fb_schema.proofs.TypedLemmas.{rows_spaced}
 use Rattle.fb_schema.proofs.index.LiveIndex.add.Goals as goal
 use Rattle.fb_schema.proofs.index.LiveIndex.add.Goals.{Start}
 

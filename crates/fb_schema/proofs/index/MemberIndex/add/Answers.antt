@@ -1,18 +1,9 @@
 use Rattle.std.proofs.Common.{◌≡◌, slice_index_or, slice_get, Some, true, map, refl, sym, subst, ◌∙◌, ap, rules, int_cmp}
-use Rattle.fb_schema.specs.Kinds.{kind_of}
-use Rattle.std.proofs.lemmas.Option.{slice_get-get_or}
-use Rattle.fb_schema.specs.Flat.{part}
-use Rattle.fb_schema.specs.FlatLists.{lists_of}
-use Rattle.fb_schema.specs.Index.{kept_members}
-use Rattle.fb_schema.specs.Sorting.{IsOrderOf, member_cmp, member_value, member_key}
-use Rattle.fb_schema.specs.FlatRows.{borrowed_rows}
-use Rattle.fb_schema.specs.Rows.{member_of_row}
+use Rattle.fb_schema.specs.{Kinds.kind_of, Flat.part, FlatLists.lists_of, Index.kept_members, FlatRows.borrowed_rows, Rows.member_of_row}
 use Rattle.fb_schema.specs.Targets.{AreTargets, AreSorted}
-use Rattle.fb_schema.proofs.Blank.{blank_enum}
-use Rattle.fb_schema.proofs.Numbers.{get_or_default}
-use Rattle.fb_schema.proofs.IndexLemmas.{matched_step}
-use Rattle.fb_schema.proofs.TargetLemmas.{have_step}
-use Rattle.fb_schema.proofs.UnionLemmas.{members_clear}
+use Rattle.std.proofs.lemmas.Option.{slice_get-get_or}
+use Rattle.fb_schema.specs.Sorting.{IsOrderOf, member_cmp, member_value, member_key}
+use Rattle.fb_schema.proofs.{Blank.blank_enum, Numbers.get_or_default, IndexLemmas.matched_step, TargetLemmas.have_step, UnionLemmas.members_clear}
 use Rattle.fb_schema.proofs.index.MemberIndex.add.Goals as goal
 
 pub returns : goal.returns

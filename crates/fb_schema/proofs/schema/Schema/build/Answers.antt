@@ -1,9 +1,7 @@
 use Rattle.std.proofs.Common.{◌≡◌, map, subst, rules}
-use Rattle.fb_schema.specs.Demands.{IsLegal}
-use Rattle.fb_schema.specs.FlatRows.{object_in, enum_in, flat_rows, borrowed_rows}
-use Rattle.fb_schema.specs.Index.{IsLiveIndex, IsMemberIndex}
-use Rattle.fb_schema.specs.Rows.{Rows}
+use Rattle.fb_schema.specs.{Demands.IsLegal, Index.IsLiveIndex, Index.IsMemberIndex, Rows.Rows}
 use Rattle.fb_schema.specs.Sorting.{IsOrderOf, name_cmp, object_name}
+use Rattle.fb_schema.specs.FlatRows.{object_in, enum_in, flat_rows, borrowed_rows}
 use Rattle.fb_schema.proofs.schema.Schema.build.Goals as goal
 
 pub legal-requires-clause-order : goal.legal-requires-clause-order

@@ -1,15 +1,8 @@
 use Rattle.std.proofs.Common.{◌≡◌, IsTrue, Some, map, position, sym, ap, subst, ◌∙◌, arith, bytes_eq}
 use Rattle.std.proofs.lemmas.Option.{slice_get_within}
-use Rattle.fb_schema.specs.FlatLists.{lists_of}
-use Rattle.fb_schema.specs.Index.{view_name}
+use Rattle.fb_schema.specs.{FlatLists.lists_of, Index.view_name, Sorting.name_cmp, FlatRows.flat_rows, FlatRows.object_in, Rows.Rows, Rows.is_table}
 use Rattle.fb_schema.specs.Live.{Live, live_in, live_fields, live_of_view}
-use Rattle.fb_schema.specs.Sorting.{name_cmp}
-use Rattle.fb_schema.specs.FlatRows.{flat_rows, object_in}
-use Rattle.fb_schema.specs.Rows.{Rows, is_table}
-use Rattle.fb_schema.proofs.LookLemmas.{live_read}
-use Rattle.fb_schema.proofs.NameLemmas.{table_at, view_not_again}
-use Rattle.fb_schema.proofs.Numbers.{slice_get_some}
-use Rattle.fb_schema.proofs.PlaceLemmas.{place_position}
+use Rattle.fb_schema.proofs.{LookLemmas.live_read, NameLemmas.table_at, NameLemmas.view_not_again, Numbers.slice_get_some, PlaceLemmas.place_position}
 use Rattle.fb_schema.proofs.WalkLemmas.{mapped_at, names_agree, names_total}
 use Rattle.fb_schema.proofs.schema.Schema.field_named.Goals as goal
 

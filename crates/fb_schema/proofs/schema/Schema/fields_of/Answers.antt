@@ -1,10 +1,7 @@
 use Rattle.std.proofs.Common.{◌≡◌, ◌≤◌, length, map, ◌∙◌, ap, arith}
 use Rattle.std.proofs.lemmas.List.{length-map}
-use Rattle.fb_schema.specs.FlatLists.{lists_of}
-use Rattle.fb_schema.specs.Live.{live_fields, live_of_view, widest}
-use Rattle.fb_schema.specs.FlatRows.{flat_rows}
-use Rattle.fb_schema.proofs.LookLemmas.{live_read, within_widest, few_read}
-use Rattle.fb_schema.proofs.WalkLemmas.{mapped_at}
+use Rattle.fb_schema.specs.{FlatLists.lists_of, Live.live_fields, Live.live_of_view, Live.widest, FlatRows.flat_rows}
+use Rattle.fb_schema.proofs.{LookLemmas.live_read, LookLemmas.within_widest, LookLemmas.few_read, WalkLemmas.mapped_at}
 use Rattle.fb_schema.proofs.schema.Schema.fields_of.Goals as goal
 use Rattle.fb_schema.proofs.schema.Schema.fields_of.Goals.{After-get}
 

@@ -1,7 +1,5 @@
 use Rattle.std.proofs.Common.{◌∙◌, IsTrue, ap, subst, sym}
-use Rattle.fb_schema.specs.Steps.{is_plain}
-use Rattle.fb_schema.specs.FlatRows.{flat_rows}
-use Rattle.fb_schema.specs.Rows.{is_table}
+use Rattle.fb_schema.specs.{Steps.is_plain, FlatRows.flat_rows, Rows.is_table}
 use Rattle.fb_schema.proofs.LookLemmas.{plain_read}
 use Rattle.fb_schema.proofs.schema.Schema.is_plain.Goals as goal
 

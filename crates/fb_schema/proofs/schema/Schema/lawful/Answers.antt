@@ -1,10 +1,6 @@
 use Rattle.std.proofs.Common.{subst, arith}
-use Rattle.fb_schema.specs.Demands.{IsLegal}
-use Rattle.fb_schema.specs.Live.{widest}
-use Rattle.fb_schema.specs.FlatRows.{flat_rows}
-use Rattle.fb_schema.specs.Served.{IsServed, HaveKinds}
-use Rattle.fb_schema.proofs.Kinded.{have_kinds}
-use Rattle.fb_schema.proofs.TypedLemmas.{served_by}
+use Rattle.fb_schema.specs.{Demands.IsLegal, Live.widest, FlatRows.flat_rows, Served.IsServed, Served.HaveKinds}
+use Rattle.fb_schema.proofs.{Kinded.have_kinds, TypedLemmas.served_by}
 use Rattle.fb_schema.proofs.schema.Schema.lawful.Goals as goal
 
 pub returns-clause-legal : goal.returns-clause-legal

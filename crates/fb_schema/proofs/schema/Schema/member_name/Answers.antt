@@ -1,12 +1,9 @@
 use Rattle.std.proofs.Common.{◌≡◌, ◌<◌, pos, List, Some, find, map, slice_get, IsTrue, true, refl, sym, ap, subst, ◌∙◌, arith, option_map, int_eq}
 use Rattle.std.proofs.lemmas.Option.{slice_get_within}
-use Rattle.fb_schema.specs.declared.flat.EnumPart.{EnumPart}
-use Rattle.fb_schema.specs.declared.rows.MemberRow.{MemberRow}
-use Rattle.fb_schema.specs.Members.{member_name}
-use Rattle.fb_schema.specs.FlatRows.{flat_rows}
+use Rattle.fb_schema.specs.declared.{flat.EnumPart.EnumPart, rows.MemberRow.MemberRow}
+use Rattle.fb_schema.specs.{Members.member_name, FlatRows.flat_rows}
 use Rattle.fb_schema.specs.Rows.{Rows, Member, is_union, member_of_row}
-use Rattle.fb_schema.proofs.NamedValues.{member_name_is, no_name_of_zero, no_name_of_other}
-use Rattle.fb_schema.proofs.UnionLemmas.{union_at}
+use Rattle.fb_schema.proofs.{NamedValues.member_name_is, NamedValues.no_name_of_zero, NamedValues.no_name_of_other, UnionLemmas.union_at}
 use Rattle.fb_schema.proofs.schema.Schema.member_name.Goals as goal
 use Rattle.fb_schema.proofs.schema.Schema.member_name.Goals.{After-self, then-value-eq0-via-then-value-eq0, then-value-eq0-via-else-value-eq0+then-not-is_union}
 

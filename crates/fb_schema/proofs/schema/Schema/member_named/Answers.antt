@@ -1,18 +1,12 @@
 use Rattle.std.proofs.Common.{◌≡◌, ◌<◌, ℕ, Some, None, List, map, length, slice_get, get_or, find, filter, IsTrue, true, false, unsigned_abs, refl, sym, ap, subst, ◌∙◌, arith, to_z, of_z, w64, option_map, bytes_eq, Equal}
-use Rattle.std.proofs.lemmas.Int.{to_z-of_z}
-use Rattle.std.proofs.lemmas.List.{length-map, get_or-map}
-use Rattle.fb_schema.specs.declared.flat.EnumPart.{EnumPart}
-use Rattle.fb_schema.specs.Demands.{first_code, members_asked}
-use Rattle.fb_schema.specs.Flat.{part}
-use Rattle.fb_schema.specs.Index.{kept_members}
-use Rattle.fb_schema.specs.Members.{member_named, is_member_value}
-use Rattle.fb_schema.specs.Sorting.{IsOrderOf, IsPlaceOf, member_cmp, member_key}
+use Rattle.std.proofs.lemmas.{Int.to_z-of_z, List.length-map, List.get_or-map}
+use Rattle.fb_schema.specs.declared.{flat.EnumPart.EnumPart, rows.MemberRow.MemberRow}
+use Rattle.fb_schema.specs.{Demands.first_code, Demands.members_asked, Flat.part, Index.kept_members, Members.member_named, Members.is_member_value}
 use Rattle.fb_schema.specs.FlatRows.{flat_rows}
+use Rattle.fb_schema.specs.Sorting.{IsOrderOf, IsPlaceOf, member_cmp, member_key}
 use Rattle.fb_schema.specs.Rows.{Rows, Member, is_union, member_of_row}
-use Rattle.fb_schema.proofs.Blank.{blank_member}
-use Rattle.fb_schema.proofs.UnionLemmas.{union_at, members_clear}
+use Rattle.fb_schema.proofs.{Blank.blank_member, UnionLemmas.union_at, UnionLemmas.members_clear}
 use Rattle.fb_schema.proofs.MemberNames.{name_found, name_missing, member_named_is, real_at, small_value, fits_small}
-use Rattle.fb_schema.specs.declared.rows.MemberRow.{MemberRow}
 use Rattle.fb_schema.proofs.schema.Schema.member_named.Goals as goal
 use Rattle.fb_schema.proofs.schema.Schema.member_named.Goals.{After-place_of}
 

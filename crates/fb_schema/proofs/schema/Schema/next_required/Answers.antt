@@ -1,9 +1,5 @@
 use Rattle.std.proofs.Common.{IsTrue, sym, subst}
-use Rattle.fb_schema.specs.FlatLists.{lists_of}
-use Rattle.fb_schema.specs.Index.{AreNextRequired}
-use Rattle.fb_schema.specs.Live.{live_fields}
-use Rattle.fb_schema.specs.FlatRows.{flat_rows}
-use Rattle.fb_schema.specs.Rows.{is_table}
+use Rattle.fb_schema.specs.{FlatLists.lists_of, Index.AreNextRequired, Live.live_fields, FlatRows.flat_rows, Rows.is_table}
 use Rattle.fb_schema.proofs.NextRequired.{item_lent, no_item_lent, next_found, next_missed, next_past, next_read}
 use Rattle.fb_schema.proofs.schema.Schema.next_required.Goals as goal
 use Rattle.fb_schema.proofs.schema.Schema.next_required.Goals.{After-get-places}

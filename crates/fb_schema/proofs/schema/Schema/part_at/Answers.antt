@@ -1,7 +1,6 @@
 use Rattle.std.proofs.Common.{◌≡◌, List, map, slice_get, ◌∙◌, ap, option_and_then}
 use Rattle.fb_schema.specs.FlatRows.{object_in, enum_in, borrowed_rows, flat_rows}
-use Rattle.fb_schema.specs.Parts.{part_at, part_of}
-use Rattle.fb_schema.specs.Rows.{Field, Rows, field_of}
+use Rattle.fb_schema.specs.{Parts.part_at, Parts.part_of, Rows.Field, Rows.Rows, Rows.field_of}
 use Rattle.fb_schema.proofs.schema.Schema.part_at.Goals as goal
 
 pub returns : goal.returns

@@ -1,6 +1,5 @@
 use Rattle.std.proofs.Common.{position, bytes_eq, sym, ◌∙◌, ap}
-use Rattle.fb_schema.specs.Parts.{part_named}
-use Rattle.fb_schema.specs.Rows.{Field, field_of}
+use Rattle.fb_schema.specs.{Parts.part_named, Rows.Field, Rows.field_of}
 use Rattle.fb_schema.proofs.PositionLemmas.{position_mapped}
 use Rattle.fb_schema.proofs.schema.Schema.part_named.Goals as goal
 

@@ -1,9 +1,6 @@
 use Rattle.std.proofs.Common.{◌≡◌, ◌≤◌, length, map, ◌∙◌, ap, arith}
 use Rattle.std.proofs.lemmas.List.{length-map}
-use Rattle.fb_schema.specs.FlatLists.{lists_of}
-use Rattle.fb_schema.specs.Live.{live_fields, widest}
-use Rattle.fb_schema.specs.FlatRows.{flat_rows}
-use Rattle.fb_schema.specs.Steps.{step_of}
+use Rattle.fb_schema.specs.{FlatLists.lists_of, Live.live_fields, Live.widest, FlatRows.flat_rows, Steps.step_of}
 use Rattle.fb_schema.proofs.LookLemmas.{steps_read, within_widest, few_read}
 use Rattle.fb_schema.proofs.schema.Schema.steps_of.Goals as goal
 use Rattle.fb_schema.proofs.schema.Schema.steps_of.Goals.{After-get}

@@ -1,8 +1,5 @@
 use Rattle.std.proofs.Common.{IsTrue, refl, sym, ap, subst, ◌∙◌}
-use Rattle.fb_schema.specs.Members.{member_of}
-use Rattle.fb_schema.specs.FlatRows.{flat_rows}
-use Rattle.fb_schema.specs.Rows.{Rows, is_union}
-use Rattle.fb_schema.specs.Targets.{target_of}
+use Rattle.fb_schema.specs.{Members.member_of, FlatRows.flat_rows, Rows.Rows, Rows.is_union, Targets.target_of}
 use Rattle.fb_schema.proofs.UnionLemmas.{union_at, member_of_row_is}
 use Rattle.fb_schema.proofs.schema.Schema.targets_of.Goals as goal
 

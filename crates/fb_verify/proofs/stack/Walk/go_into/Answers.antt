@@ -1,8 +1,6 @@
 use Rattle.std.proofs.Common.{◌≡◌, ◌∙◌, refl, sym, ap, arith}
-use Rattle.fb_schema.specs.declared.kinds.Kind.{Kind}
+use Rattle.fb_schema.specs.declared.{kinds.Kind.Kind, views.Act.TheVariants.Other, views.Step.Step}
 use Rattle.fb_schema.specs.declared.kinds.Kind.TheVariants.{Scalar, Text, Struct, Table, Scalars, Structs}
-use Rattle.fb_schema.specs.declared.views.Act.TheVariants.{Other}
-use Rattle.fb_schema.specs.declared.views.Step.{Step}
 use Rattle.fb_schema.specs.Live.{Live}
 use Rattle.fb_schema.specs.Steps.{inline_act, act_of, bits_of, size_of}
 use Rattle.std.specs.Int.Bits.{bit_and}

@@ -1,22 +1,12 @@
 use Rattle.std.proofs.Common.{◌≡◌, ◌+◌, ◌<◌, nat_lt, None, refl, ap, arith}
 use Rattle.fb_bytes.specs.Word.{Lent}
 use Rattle.fb_schema.specs.Live.{live_of_view}
-use Rattle.fb_verify.specs.declared.stack.Walk.{Walk}
-use Rattle.fb_verify.specs.declared.scratch.Frame.{Frame}
-use Rattle.fb_verify.specs.declared.table.Child.{Child}
-use Rattle.fb_verify.specs.declared.stack.Turn.{Turn}
-use Rattle.fb_verify.specs.declared.stack.Turn.TheVariants.{Down, Up, Slowly, Halt as Halted}
-use Rattle.fb_verify.specs.declared.offset_row.Leads.{Leads}
-use Rattle.fb_verify.specs.declared.offset_row.Leads.TheVariants.{All, ByType}
-use Rattle.fb_verify.specs.declared.offset_row.Referent.{Referent}
+use Rattle.fb_verify.specs.declared.{stack.Walk.Walk, scratch.Frame.Frame, table.Child.Child, stack.Turn.Turn, offset_row.Leads.Leads}
+use Rattle.fb_verify.specs.declared.{offset_row.Leads.TheVariants.All, offset_row.Leads.TheVariants.ByType, offset_row.Referent.Referent}
 use Rattle.fb_verify.specs.declared.offset_row.Row.{Row}
-use Rattle.fb_verify.specs.Cost.{present_reads}
-use Rattle.fb_verify.specs.Fields.{entries_of}
-use Rattle.fb_verify.specs.OffsetRows.{LeavesRow, AreAll}
-use Rattle.fb_verify.specs.Order.{present_failure}
-use Rattle.fb_verify.specs.Plain.{IsTested}
-use Rattle.fb_verify.specs.Stack.{blank, Waiting}
-use Rattle.fb_verify.specs.Turns.{BeginsRow, MemberTurned, RowTurned}
+use Rattle.fb_verify.specs.declared.stack.Turn.TheVariants.{Down, Up, Slowly, Halt as Halted}
+use Rattle.fb_verify.specs.{Cost.present_reads, Fields.entries_of, OffsetRows.LeavesRow, OffsetRows.AreAll, Order.present_failure, Plain.IsTested}
+use Rattle.fb_verify.specs.{Stack.blank, Stack.Waiting, Turns.BeginsRow, Turns.MemberTurned, Turns.RowTurned}
 use Rattle.fb_verify.proofs.IntoField.{into_askable, into_stops, few_spent, passed_over, row_begins, far_turned}
 use Rattle.fb_verify.proofs.Turns.{halts_in_field}
 use Rattle.fb_verify.proofs.stack.Walk.go_to_union.Goals as goal

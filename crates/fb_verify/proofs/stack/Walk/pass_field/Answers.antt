@@ -1,7 +1,5 @@
 use Rattle.std.proofs.Common.{refl}
-use Rattle.fb_verify.specs.Cost.{own_reads}
-use Rattle.fb_verify.specs.Fields.{entries}
-use Rattle.fb_verify.specs.Order.{own_failure}
+use Rattle.fb_verify.specs.{Cost.own_reads, Fields.entries, Order.own_failure}
 use Rattle.fb_verify.proofs.ByUnits.{unfailed, tested_then, asked_ok, asked_err}
 use Rattle.fb_verify.proofs.stack.Walk.pass_field.Goals as goal
 

@@ -1,20 +1,12 @@
 use Rattle.std.proofs.Common.{◌≡◌, ℕ, List, map, Some, get_or, ◌+◌, ◌-◌, ◌<◌, ◌≤◌, length, sym, ◌∙◌, ap, arith}
-use Rattle.fb_schema.specs.Live.{Live, live_fields}
+use Rattle.fb_schema.specs.{Live.Live, Live.live_fields, Steps.step_of}
 use Rattle.std.specs.Prelude.{slice_get}
 use Rattle.fb_schema.specs.declared.views.Step.{Step}
-use Rattle.fb_schema.specs.Steps.{step_of}
 use Rattle.std.proofs.lemmas.Option.{slice_get-get_or}
 use Rattle.fb_bytes.specs.Word.{Lent}
-use Rattle.fb_verify.specs.declared.scratch.Frame.{Frame}
-use Rattle.fb_verify.specs.declared.stack.Walk.{Walk}
-use Rattle.fb_verify.specs.PassesOn.{ComesToField}
-use Rattle.fb_verify.specs.Stack.{work, Waiting}
-use Rattle.fb_verify.specs.Turns.{IsAtOpenField, IsAtStep}
-use Rattle.fb_verify.proofs.Budgets.{fewer_reads}
-use Rattle.fb_verify.proofs.Frames.{length_map}
-use Rattle.fb_verify.proofs.Plains.{step_at}
-use Rattle.fb_verify.specs.declared.table.Table.{Table}
-use Rattle.fb_verify.proofs.Turning.{halts_on, field_turned, field_over}
+use Rattle.fb_verify.specs.declared.{scratch.Frame.Frame, stack.Walk.Walk, table.Table.Table}
+use Rattle.fb_verify.specs.{PassesOn.ComesToField, Stack.work, Stack.Waiting, Turns.IsAtOpenField, Turns.IsAtStep}
+use Rattle.fb_verify.proofs.{Budgets.fewer_reads, Frames.length_map, Plains.step_at, Turning.halts_on, Turning.field_turned, Turning.field_over}
 use Rattle.fb_verify.proofs.Turns.{halts_in_field}
 use Rattle.fb_verify.proofs.stack.Walk.pass_fields.Goals as goal
 use Rattle.fb_verify.proofs.stack.Walk.pass_fields.Goals.{In-Ok-true}

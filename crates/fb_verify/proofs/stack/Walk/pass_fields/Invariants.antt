@@ -1,8 +1,6 @@
 use Rattle.std.proofs.Common.{◌≡◌, ◌+◌, ◌-◌, ◌≤◌, length}
 use Rattle.fb_schema.specs.Live.{live_fields}
-use Rattle.fb_verify.specs.PassesOn.{IsBetween}
-use Rattle.fb_verify.specs.Stack.{work}
-use Rattle.fb_verify.specs.Turns.{IsShort}
+use Rattle.fb_verify.specs.{PassesOn.IsBetween, Stack.work, Turns.IsShort}
 use Rattle.fb_verify.proofs.stack.Walk.pass_fields.Given as goal
 
 -- the walk goes on in the same table, between two fields

@@ -1,17 +1,9 @@
 use Rattle.std.proofs.Common.{◌≡◌, ◌≤◌, ◌+◌, ◌*◌, max, length, refl, sym, ◌∙◌, ap, arith}
-use Rattle.fb_schema.specs.Live.{live_fields}
-use Rattle.fb_schema.specs.Steps.{step_of}
-use Rattle.fb_verify.specs.declared.offset_row.Row.{Row}
-use Rattle.fb_verify.specs.declared.offset_row.Leads.TheVariants.{All}
-use Rattle.fb_verify.specs.declared.offset_row.Referent.TheVariants.{Table as ATable}
+use Rattle.fb_schema.specs.{Live.live_fields, Steps.step_of}
+use Rattle.fb_verify.specs.declared.{offset_row.Row.Row, offset_row.Leads.TheVariants.All, offset_row.Referent.TheVariants.Table as ATable}
 use Rattle.fb_verify.specs.declared.stack.Walk.{Walk}
-use Rattle.fb_verify.specs.Fields.{to_table}
-use Rattle.fb_verify.specs.Order.{after, lead_failure}
-use Rattle.fb_verify.specs.OffsetRows.{leads_after}
-use Rattle.fb_verify.specs.Plain.{tested_by}
-use Rattle.fb_verify.proofs.Budgets.{fewer_reads}
-use Rattle.fb_verify.proofs.Flats.{at_flat, word_tells}
-use Rattle.fb_verify.proofs.Frames.{length_map}
+use Rattle.fb_verify.specs.{Fields.to_table, Order.after, Order.lead_failure, OffsetRows.leads_after, Plain.tested_by}
+use Rattle.fb_verify.proofs.{Budgets.fewer_reads, Flats.at_flat, Flats.word_tells, Frames.length_map}
 use Rattle.fb_verify.proofs.RowTurns.{two, Counts, counted_same, flat_comes, table_passed, table_halts, word_halts}
 use Rattle.fb_verify.proofs.stack.Walk.pass_flats.Goals as goal
 use Rattle.fb_verify.proofs.stack.Walk.pass_flats.Goals.{After-test_lead-failed, After-count_table}

@@ -1,8 +1,7 @@
 use Rattle.std.proofs.Common.{◌≡◌, ◌+◌, ◌*◌, ◌≤◌, refl, sym, ◌∙◌, ap, arith}
 use Rattle.fb_bytes.specs.Word.{Lent}
 use Rattle.fb_verify.specs.declared.scratch.Frame.{Frame}
-use Rattle.fb_verify.specs.Stack.{IsWalking}
-use Rattle.fb_verify.specs.Turns.{Rests}
+use Rattle.fb_verify.specs.{Stack.IsWalking, Turns.Rests}
 use Rattle.fb_verify.proofs.RowTurns.{stays, words_passed}
 use Rattle.fb_verify.proofs.stack.Walk.pass_words.Goals as goal
 use Rattle.fb_verify.proofs.stack.Walk.pass_words.Goals.{After-lend-own, in-Text, in_default}

@@ -1,15 +1,9 @@
 use Rattle.std.proofs.Common.{◌≡◌, ◌+◌, ◌*◌, refl, sym, ◌∙◌, ap, subst, arith}
 use Rattle.fb_verify.specs.declared.offset_row.Row.{Row}
-use Rattle.fb_verify.specs.Cost.{lead_reads}
-use Rattle.fb_verify.specs.Fields.{Entry}
-use Rattle.fb_verify.specs.Order.{after, element_failure}
+use Rattle.fb_verify.specs.{Cost.lead_reads, Fields.Entry, Order.after, Order.element_failure, Plain.tested_by}
 use Rattle.fb_verify.specs.OffsetRows.{lead_to, first_word, past_first, leads_after, IsLeafLead}
-use Rattle.fb_verify.specs.Plain.{tested_by}
-use Rattle.fb_verify.proofs.Budgets.{fewer_reads}
-use Rattle.fb_verify.proofs.Chains.{after_none}
-use Rattle.fb_verify.proofs.Frames.{first_few}
+use Rattle.fb_verify.proofs.{Budgets.fewer_reads, Chains.after_none, Frames.first_few, Walking.leaf_passed}
 use Rattle.fb_verify.proofs.LeafRows.{all_lead, all_free, all_told, word_fails}
-use Rattle.fb_verify.proofs.Walking.{leaf_passed}
 use Rattle.fb_verify.proofs.stack.Walk.pass_words_of.Goals as goal
 use Rattle.fb_verify.proofs.stack.Walk.pass_words_of.Goals.{After-test_lead-failed}
 

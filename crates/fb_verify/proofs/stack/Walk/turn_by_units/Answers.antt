@@ -3,10 +3,8 @@ use Rattle.std.proofs.Math.ListN.{set, length-set}
 use Rattle.std.proofs.lemmas.List.{length-take, take-set-le}
 use Rattle.fb_verify.specs.declared.scratch.Frame.{Frame}
 use Rattle.fb_verify.specs.Stack.{blank, IsWalking, work, frame_work}
-use Rattle.fb_verify.proofs.Frames.{if_err_exit}
+use Rattle.fb_verify.proofs.{Frames.if_err_exit, Standings.close_last, Walking.table_closed}
 use Rattle.fb_verify.proofs.Stacks.{last_is, sum_last, top_is, joined, below_joined, grown_joined, top_joined, next_joined}
-use Rattle.fb_verify.proofs.Standings.{close_last}
-use Rattle.fb_verify.proofs.Walking.{table_closed}
 use Rattle.fb_verify.proofs.stack.Walk.turn_by_units.Goals.{Else-waiting-eq0, Joined-top-eq0, After-pass_children, then-top-eq0+in-Ok+else-not-leads, else-top-eq0}
 use Rattle.fb_verify.proofs.stack.Walk.turn_by_units.Goals as goal
 

@@ -1,6 +1,5 @@
 use Rattle.std.proofs.Common.{true, min, ◌≡◌, ◌+◌, ◌<◌, ◌≤◌, length, take, slice_index_or}
-use Rattle.fb_verify.specs.Stack.{blank, IsWalking, work}
-use Rattle.fb_verify.specs.Turns.{IsShort}
+use Rattle.fb_verify.specs.{Stack.blank, Stack.IsWalking, Stack.work, Turns.IsShort}
 use Rattle.fb_verify.proofs.stack.Walk.walk_by.Given as goal
 
 -- the frames below the top are a walk that began where this one did

@@ -24,14 +24,10 @@ use denote.Triple.Clauses.{Lasts, lasts}
 use denote.Triple.Spec.{triple_of}
 use denote.Triple.Call.{calls_at_last}
 use denote.Triple.Walked.{Stays, stay_dropped, walk_of}
-use Rattle.core.proofs.alloc.Calls.{Goes-blank}
-use Rattle.core.proofs.alloc.Shapes.{after}
-use Rattle.core.proofs.atomic.Steps.{fm}
-use Rattle.core.proofs.cell.Inside.{Good}
+use Rattle.core.proofs.{alloc.Calls.Goes-blank, alloc.Shapes.after, atomic.Steps.fm, cell.Inside.Good}
 use Rattle.std.proofs.raw_atomic.Walks.{proved_at, leaves}
 use Rattle.std_alloc.proofs.BoxSteps.Form as box
-use Rattle.std_alloc.proofs.BoxSteps.Steps.{box_out, box_in}
-use Rattle.std_alloc.proofs.boxed.Box.from_raw.Met.{met}
+use Rattle.std_alloc.proofs.{BoxSteps.Steps.box_out, BoxSteps.Steps.box_in, boxed.Box.from_raw.Met.met}
 use Rattle.std_alloc.specs.contracts.boxed.Box.from_raw as callee
 use Rattle.fbcheck_calls.proofs.Owned.{pair, Apart, apart_good, apart_out}
 use Rattle.fbcheck_calls.proofs.detached.Detached.into_box.Code as code

@@ -26,12 +26,10 @@ use denote.Struct.Tuple.{Tuple}
 use denote.Triple.Spec.{triple_of}
 use denote.Triple.Call.{calls_at}
 use denote.Triple.Walked.{Stays, stay_dropped, walk_of}
-use Rattle.core.proofs.alloc.Calls.{Goes-blank, handle_tells}
-use Rattle.core.proofs.atomic.Steps.{fm}
+use Rattle.core.proofs.{alloc.Calls.Goes-blank, alloc.Calls.handle_tells, atomic.Steps.fm}
 use Rattle.std.proofs.raw_atomic.Walks.{proved_at, leaves}
 use Rattle.std_alloc.proofs.BoxSteps.Form as box
-use Rattle.std_alloc.proofs.BoxSteps.Steps.{box_out, box_in}
-use Rattle.std_alloc.proofs.boxed.Box.into_raw_with_allocator.Met.{met}
+use Rattle.std_alloc.proofs.{BoxSteps.Steps.box_out, BoxSteps.Steps.box_in, boxed.Box.into_raw_with_allocator.Met.met}
 use Rattle.std_alloc.specs.Box.Ownership.{box_owns}
 use Rattle.std_alloc.specs.contracts.boxed.Box.into_raw_with_allocator as callee
 use Rattle.fbcheck_calls.proofs.Owned.{pair, apart_good, apart_in}

@@ -17,8 +17,7 @@ use denote.RawPtr.{Ptr, null_ptr, ptr_val}
 use denote.Signature.{types_at, plain}
 use denote.Steps.{nothing, heard}
 use denote.Triple.Walked.{Stays, stay_dropped, walk_of, Goes-dropped}
-use Rattle.core.proofs.alloc.Calls.{handle_tells}
-use Rattle.core.proofs.atomic.Steps.{Ptr-Good}
+use Rattle.core.proofs.{alloc.Calls.handle_tells, atomic.Steps.Ptr-Good}
 use Rattle.std.proofs.raw_atomic.Walks.{proved_at, leaves}
 use Rattle.std.specs.contracts.impls.GlobalAllocator.TheImpl.{ghosts}
 use Rattle.fbcheck_calls.proofs.Owned.{pair, al, handle_good, handle_in, Z, LZ}

@@ -18,10 +18,7 @@ use denote.RawPtr.{Ptr, block_ptr, null_ptr, ptr_val, tests_null}
 use denote.Steps.{nothing}
 use denote.Param.{layout}
 use denote.Triple.Walked.{Stays, stay_dropped, walk_of, Goes-dropped}
-use Rattle.core.proofs.alloc.Shapes.{after}
-use Rattle.core.proofs.atomic.Steps.{Ptr-Good}
-use Rattle.core.proofs.cell.Inside.{Good}
-use Rattle.core.proofs.option.Made.{Some-of, none_of}
+use Rattle.core.proofs.{alloc.Shapes.after, atomic.Steps.Ptr-Good, cell.Inside.Good, option.Made.Some-of, option.Made.none_of}
 use Rattle.std.proofs.raw_atomic.Walks.{proved_at, leaves}
 use Rattle.std.specs.contracts.impls.GlobalAllocator.TheImpl.{ghosts}
 use Rattle.std_alloc.proofs.ResultValues.{and_tt}
