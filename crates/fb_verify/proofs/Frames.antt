@@ -69,9 +69,6 @@ module _ (c : Checks) (b : List ℕ) (S : Rows) where
   pub frame_passed : (fr : Frame) (number : ℕ) (row : Row) → fr.next + 1 ≤ length (live_fields S (fr.table).object) → IsRow b S row → IsFrame c b S fr → IsFrame c b S (record fr { next = fr.next + 1; number = number; row = row })
   frame_passed fr number row i r h = record { object = h.object; near = h.near; head = h.head; next = i; row = r }
 
-  pub frame_next : (fr : Frame) → fr.next + 1 ≤ length (live_fields S (fr.table).object) → IsFrame c b S fr → IsFrame c b S (record fr { next = fr.next + 1 })
-  frame_next fr i h = record { object = h.object; near = h.near; head = h.head; next = i; row = h.row }
-
   -- the row of a field that leads nowhere
   pub no_row : IsRow b S blank.row
   no_row = record { place = omega arith; left = omega arith; leads = λ m. absurd (omega arith) }

@@ -8,7 +8,7 @@ use Rattle.fb_verify.specs.{Bounds.Bounds, Fields.Lead, Fields.Entry, Stack.Orig
 use Rattle.fb_verify.specs.Told.{refused, stopped}
 use Rattle.fb_verify.specs.Order.{Failure, after, lead_failure, element_failure}
 use Rattle.fb_verify.specs.OffsetRows.{lead_to, first_word, word_at, past_first, IsLeafLead}
-use Rattle.fb_verify.proofs.{Plains.after_twice, Refusals.told_after, Refusals.told_first, Stopping.word_stops, Words.first_place}
+use Rattle.fb_verify.proofs.{Plains.after_twice, Refusals.told_after, Refusals.told_first, Walking.word_stops, Words.first_place}
 
 -- The first word of a row: its type is read, and then it is tested with what it leads to.
 pub word_told : (c : Checks) (b : List ℕ) (S : Rows) (row : Row) (lead : Lead) → lead ≡ (first_word b S row).lead → (m mid : ℕ) → mid ≡ m + (first_word b S row).reads → (x : Option Failure) → x ≡ after mid (lead_failure c b row.place lead)

@@ -20,7 +20,6 @@ pub mod Contexts
 pub mod Typed
 pub mod Frames
 pub mod Standings
-pub mod Stopping
 pub mod Verdicts
 pub mod Prices
 pub mod Shown
@@ -35,15 +34,12 @@ pub mod Absent
 pub mod Plains
 pub mod Heads
 pub mod ByUnits
-pub mod Stepping
 pub mod Passing
-pub mod BySteps
 pub mod Alike
 pub mod Alignments
 pub mod LeafRows
 pub mod Members
 pub mod Flats
-pub mod Children
 pub mod Turning
 pub mod Turns
 pub mod RowTurns

@@ -1,5 +1,5 @@
 -- A walk goes on past fields that lead to no table, or stops at one.
-use Rattle.std.proofs.Common.{◌≡◌, ℕ, ◌+◌, ◌-◌, ◌^◌, ◌<◌, ◌≤◌, inl, inr, Bool, true, false, IsTrue, IfSome, if◌then◌else◌, List, [], ◌∷◌, map, length, get_or, option_map, refl, sym, ◌∙◌, ap, subst, arith, Option, Some, None}
+use Rattle.std.proofs.Common.{◌≡◌, ℕ, ◌+◌, ◌-◌, ◌^◌, ◌<◌, ◌≤◌, inl, inr, Bool, true, false, IsTrue, IfSome, if◌then◌else◌, List, [], ◌∷◌, map, length, get_or, option_map, refl, sym, ◌∙◌, ap, subst, arith, Option, Some, None, zero, suc, ◌*◌, drop, Ok, Err}
 use Rattle.std.specs.Prelude.{slice_get}
 use Rattle.std.proofs.lemmas.{List.length-map, Option.slice_get-get_or, Option.slice_get-map}
 use Rattle.fb_bytes.specs.Word.{Lent}
@@ -8,19 +8,22 @@ use Rattle.fb_schema.specs.{Rows.Rows, Live.Live, Live.live_fields, Live.next_re
 use Rattle.fb_verify.specs.declared.{checks.Checks.Checks, fault.Fault.Fault, fault.Reason.Reason, fault.Reason.TheVariants.MissingRequired}
 use Rattle.fb_verify.specs.declared.{links.Link.Link, offset_row.Row.Row, offset_row.Referent.TheVariants.Text as AText}
 use Rattle.fb_verify.specs.declared.{offset_row.Leads.TheVariants.All, scratch.Frame.Frame, site.Refusal.Refusal, site.Site.Site, site.Stop.Stop}
-use Rattle.fb_verify.specs.declared.stack.Walk.{Walk}
+use Rattle.fb_verify.specs.declared.{stack.Walk.Walk, plain.Came.Came, table.Table.Table}
+use Rattle.fb_verify.specs.declared.plain.Came.TheVariants.{Past, ToEnd, ToField, ToFault}
 use Rattle.fb_verify.specs.{Bounds.Bounds, Bounds.AreAllowed, Places.vtable_size, Places.has_slot, Places.field_place}
-use Rattle.fb_verify.specs.{Fields.to_string, Fields.entries, Fields.row, Cost.slot_reads, Cost.own_reads}
-use Rattle.fb_verify.specs.OffsetRows.{words_of, first_word, past_first}
-use Rattle.fb_verify.specs.{Plain.tested_by, Plain.plain_failure, Plain.plain_reads, StopsAt.IsStopAt, Stops.reads_failure, Stops.lead_reads_failure}
-use Rattle.fb_verify.specs.{Links.element_of, Links.type_of, Links.field_link, Told.refused, Told.stopped}
-use Rattle.fb_verify.specs.Order.{Failure, after, ◌▷◌, lead_failure, own_failure, element_failure}
+use Rattle.fb_verify.specs.{Cost.slot_reads, Cost.own_reads, OffsetRows.words_of, OffsetRows.first_word, OffsetRows.past_first, StopsAt.IsStopAt}
+use Rattle.fb_verify.specs.{Stops.reads_failure, Stops.lead_reads_failure, Links.element_of, Links.type_of, Links.field_link}
+use Rattle.fb_verify.specs.Told.{refused, stopped}
+use Rattle.fb_verify.specs.Fields.{to_string, entry, entries, row}
+use Rattle.fb_verify.specs.Plain.{tested_by, plain_failure, plain_reads, StepsHold, steps_reads, StepTested, StepBehind, StepLeads, Stepped}
+use Rattle.fb_verify.specs.Order.{Failure, after, ◌▷◌, own_failure, element_failure}
 use Rattle.fb_verify.specs.Stack.{blank, frame_link, link_behind, own_link, Origin, Waiting, IsUnderWay, IsWalking, IsAtField, IsStopped, Standing, StopsIn}
+use Rattle.fb_verify.specs.PassesOn.{StepsPass, IsBetween, HasRoom, EndsBehind, PassesOn, CameTo, fields_left}
 use Rattle.fb_verify.proofs.Absent.{none_required, required_next, bare_reads, no_slot_from, some_found}
 use Rattle.fb_verify.proofs.{Budgets.fewer_reads, Chains.after_none, Chains.both_none, Refusals.told_after, Refusals.told_first}
-use Rattle.fb_verify.proofs.{Stopping.field_stops, Stopping.stops_in_field, Walking.goes_on, Walking.field_skipped, Words.row_none}
-use Rattle.fb_verify.proofs.Frames.{field_within, frame_next, no_row, own_few}
-use Rattle.fb_verify.proofs.Plains.{LeadsTo, step_at, comes, after_twice}
+use Rattle.fb_verify.proofs.{Walking.field_stops, Walking.stops_in_field, Walking.goes_on, Walking.field_skipped, Words.row_none}
+use Rattle.fb_verify.proofs.Frames.{field_within, frame_passed, no_row, own_few, slot_few}
+use Rattle.fb_verify.proofs.Plains.{LeadsTo, step_at, comes, after_twice, plain_few}
 use Rattle.fb_verify.proofs.Standings.{at_rest, pass_more, pass_leaf, stop_at_element}
 
 -- a stop is its parts
@@ -43,23 +46,19 @@ module _ {c : Checks} {b : List ℕ} {S : Rows} {L : Bounds} {s : Origin} {below
   at_word p = record top { next = top.next + 1; number = f.number; row = one_word p }
 
   module _ (p : ℕ) (to : LeadsTo c b S t f p) where
-    word_is : entries b S t f ≡ words_of b S (one_word p)
-    unfolding row
-    word_is = to.one
-
     -- the field holds by itself
     entered : own_failure c b S t f ≡ None → Standing c b S s below (at_word p) n d (r + own_reads b t f)
-    entered own = pass_more c b S L s below top n d r h.standing f (one_word p) f.number (r + own_reads b t f) rests here refl own word_is refl
+    unfolding row
+    entered own = pass_more c b S L s below top n d r h.standing f (one_word p) f.number (r + own_reads b t f) rests here refl own to.one refl
 
     -- the string is passed
     string_passed : (q : ℕ) → q ≡ r + plain_reads b t (step_of f) → plain_failure c b t (step_of f) ≡ None → Standing c b S s below (record top { next = top.next + 1 }) n d q
-    unfolding element_failure
     string_passed q z ok =
-        let parts = (both_none (own_failure c b S t f) (after (own_reads b t f) (lead_failure c b p to_string))).0 (sym to.chain ∙ ok) in
-        let lead = (after_none (own_reads b t f) (lead_failure c b p to_string)).0 parts.1 in
+        let parts = (both_none (own_failure c b S t f) (after (own_reads b t f) (element_failure c b (entry to_string p 0)))).0 (sym to.chain ∙ ok) in
+        let lead = (after_none (own_reads b t f) (element_failure c b (entry to_string p 0))).0 parts.1 in
         let count : q ≡ r + own_reads b t f + 0 + 3 = omega (arith, z, to.reads) in
         let none : (past_first (one_word p)).left ≡ 0 = omega arith in
-        let on = pass_leaf c b S L s below (at_word p) n d (r + own_reads b t f) (entered parts.0) (past_first (one_word p)) q refl (omega arith) (ap (after 0) lead) tt count in
+        let on = pass_leaf c b S L s below (at_word p) n d (r + own_reads b t f) (entered parts.0) (past_first (one_word p)) q refl (omega arith) lead tt count in
         let past : Frame = record top { next = top.next + 1; number = f.number; row = past_first (one_word p) } in
         record { v = on.v; root = on.root; under = on.under; at = inl (record { none = rests; inside = (at_rest c b S past on.v n d q none on.at).inside }) }
 
@@ -67,7 +66,7 @@ module _ {c : Checks} {b : List ℕ} {S : Rows} {L : Bounds} {s : Origin} {below
   pub plain_passed : (q : ℕ) → q ≡ r + plain_reads b t (step_of f) → AreAllowed L.reads q → plain_failure c b t (step_of f) ≡ None → IsUnderWay c b S L s below (record top { next = top.next + 1 }) n d q
   plain_passed q z cheap ok = elim (comes c b S t f plain) [
     | inl to ↦ field_skipped h f blank.row top.number q rests here (z ∙ ap (λ m. r + m) to.reads) (no_row c b S) cheap refl (sym to.chain ∙ ok) (to.none ∙ sym (row_none b S blank.row refl))
-    | inr x ↦ goes_on h (record top { next = top.next + 1 }) q cheap (frame_next c b S top (field_within _ _ _ here) h.frame) (string_passed x.0 x.1 q z ok)
+    | inr x ↦ goes_on h (record top { next = top.next + 1 }) q cheap (frame_passed c b S top top.number top.row (field_within _ _ _ here) (h.frame).row h.frame) (string_passed x.0 x.1 q z ok)
   ]
 
   -- Where it fails.
@@ -86,38 +85,22 @@ module _ {c : Checks} {b : List ℕ} {S : Rows} {L : Bounds} {s : Origin} {below
         let own = own_failure c b S t f in
         field_stops h fault f rests here (told_first site r own (reads_failure L r (own_reads b t f) t) fault (told_after site r q own e x))
 
-    abbrev link_of_kind : ℕ → ℕ → Kind → Link
-    link_of_kind k j kind = record { object = k; field = f.number; element = element_of j kind; member = type_of b t f j kind }
-
     -- the link through a string's word is that to its field
-    text_link : (p : ℕ) → LeadsTo c b S t f p → frame_link b S (record top { next = top.next + 1; number = f.number; row = past_first (one_word p) }) ≡ field_link (top.table).object f
-    text_link p to =
-        let k = (top.table).object in
-        let past : Frame = record top { next = top.next + 1; number = f.number; row = past_first (one_word p) } in
-        let before : top.next + 1 - 1 ≡ top.next = omega arith in
-        let j = length (entries b S t f) - (past_first (one_word p)).left - 1 in
-        ap (λ i. link_behind b S past (slice_get (live_fields S k) i)) before ∙ ap (link_behind b S past) here
-        ∙ ap (link_of_kind k j) to.kind
-
-    string_stops : (p : ℕ) → LeadsTo c b S t f p → own_failure c b S t f ≡ None → after (r + own_reads b t f) (lead_failure c b p to_string) ≡ Some (refused e q) → Stopped
-    unfolding element_failure
-    string_stops p to own x =
+    string_stops : (p : ℕ) → LeadsTo c b S t f p → (own : Option Failure) → own_failure c b S t f ≡ own → after r (own ▷ after (own_reads b t f) (element_failure c b (entry to_string p 0))) ≡ Some (refused e q) → Stopped
+    string_stops p to (Some y) is x = own_stops (ap (after r) is ∙ x)
+    string_stops p to None is x =
         let m = r + own_reads b t f in
         let word = first_word b S (one_word p) in
-        let y : after m (after 0 (lead_failure c b p to_string)) ≡ Some (refused e q) = after_twice m 0 (lead_failure c b p to_string) ∙ ap (λ k. after k (lead_failure c b p to_string)) (let w : m + 0 ≡ m = omega arith in w) ∙ x in
         let past : Frame = record top { next = top.next + 1; number = f.number; row = past_first (one_word p) } in
-        stops_in_field h fault (frame_link b S past ∷ []) (ap (λ y. y ∷ []) (text_link p to))
-        (stop_at_element c b S L s below (at_word p) n d m (entered p to own) h.tables h.deepest cheap fault (omega arith)
-        (told_first site m (element_failure c b word) (lead_reads_failure L m word word.lead) fault (told_after site m q (element_failure c b word) e y)))
-
-    text_stops : (p : ℕ) → LeadsTo c b S t f p → (own : Option Failure) → own_failure c b S t f ≡ own → after r (own ▷ after (own_reads b t f) (lead_failure c b p to_string)) ≡ Some (refused e q) → Stopped
-    text_stops p to None is x = string_stops p to is (sym (after_twice r (own_reads b t f) (lead_failure c b p to_string)) ∙ x)
-    text_stops p to (Some y) is x = own_stops (ap (after r) is ∙ x)
+        let before : top.next + 1 - 1 ≡ top.next = omega arith in
+        stops_in_field h fault (frame_link b S past ∷ []) (rw (before, here, to.kind))
+        (stop_at_element c b S L s below (at_word p) n d m (entered p to is) h.tables h.deepest cheap fault (omega arith)
+        (told_first site m (element_failure c b word) (lead_reads_failure L m word word.lead) fault (told_after site m q (element_failure c b word) e (sym (after_twice r (own_reads b t f) (element_failure c b word)) ∙ x))))
 
     pub plain_stops : after r (plain_failure c b t (step_of f)) ≡ Some (refused e q) → Stopped
     plain_stops x = elim (comes c b S t f plain) [
       | inl to ↦ own_stops (ap (after r) (sym to.chain) ∙ x)
-      | inr y ↦ text_stops y.0 y.1 (own_failure c b S t f) refl (ap (after r) (sym (y.1).chain) ∙ x)
+      | inr y ↦ string_stops y.0 y.1 (own_failure c b S t f) refl (ap (after r) (sym (y.1).chain) ∙ x)
     ]
 
 -- The slot of a field was read that stands there and may lead to a table.
@@ -148,19 +131,20 @@ module _ {w : Walk} {m : Lent} {under : Waiting} {top : Frame} {steps : List Ste
   pub next_within : top.next + 1 ≤ length fields
   next_within = field_within _ _ _ found.1
 
+  -- it is the step of the field there
+  its : (f : Live) → slice_get fields top.next ≡ Some f → step ≡ step_of f
+  its f here = let at : Some found.0 ≡ Some f = sym found.1 ∙ here in let same : found.0 ≡ f = cc in found.2 ∙ ap step_of same
+
   -- it may lead on where its field may
   pub leads_open : step.act ≡ Other → (f : Live) → slice_get fields top.next ≡ Some f → act_of f f.kind ≡ Other
-  leads_open act f here =
-      let w : Some found.0 ≡ Some f = sym found.1 ∙ here in
-      let v : found.0 ≡ f = cc in
-      ap (λ (z : Live). act_of z z.kind) (sym v) ∙ ap (λ (z : Step). z.act) (sym found.2) ∙ act
+  leads_open act f here = ap (λ (z : Step). z.act) (sym (its f here)) ∙ act
 
   pub long : length steps ≡ length fields
   long = ap length h.all ∙ length-map fields step_of
 
   -- where it stands is where its field does
   pub same_slot : (f : Live) → slice_get fields top.next ≡ Some f → step.slot ≡ f.slot
-  same_slot f here = let w : Some found.0 ≡ Some f = sym found.1 ∙ here in let v : found.0 ≡ f = cc in ap (λ (z : Step). z.slot) found.2 ∙ ap (λ (z : Live). z.slot) v
+  same_slot f here = ap (λ (z : Step). z.slot) (its f here)
 
   -- it and those after it are absent, and the schema tells that none of them is required
   pub rest_absent : vtable_size b table_at < step.slot + 2 → next_required w.schema.now (top.table).object top.next ≡ None → IsWalking w m under.start under.frames (record top { next = length steps })
@@ -194,15 +178,13 @@ module _ {w : Walk} {m : Lent} {under : Waiting} {top : Frame} {steps : List Ste
     step_stops e z room stop is = stops_paid e z (fewer_reads (w.limits).reads (m.count + own_reads b table_at found.0) (m.count + 6) (omega (arith, own_few b table_at found.0)) room) stop is
 
   -- its slot was read, and tells that its field stands there and may lead to a table
-  pub at_field : (place : Option ℕ) → place ≡ field_place b table_at step.slot → IfSome place (λ _. IsTrue (has_slot b table_at step.slot)) → IfSome place (λ p. p < 2 ^ 34)
-      → (q : ℕ) → q ≡ m.count + slot_reads b table_at step.slot → IfSome place (λ p. IsAtField w b q under.start under.frames top p)
-  at_field None here slot near q count = tt
-  at_field (Some p) here slot near q count = record {
+  pub at_field : (p : ℕ) → field_place b table_at step.slot ≡ Some p → IsTrue (has_slot b table_at step.slot) → p < 2 ^ 34 → (q : ℕ) → q ≡ m.count + slot_reads b table_at step.slot → IsAtField w b q under.start under.frames top p
+  at_field p here slot near q count = record {
     before = m.count;
     count = omega (arith, count, slot_is_one b table_at step.slot slot);
     walking = h.walking;
     within = omega (arith, next_within);
-    present = λ f found. (ap (λ o. field_place b table_at o) (sym (same_slot f found)) ∙ sym here, subst (λ o. IsTrue (has_slot b table_at o)) (same_slot f found) slot);
+    present = λ f found. rw (sym (same_slot f found)) (here, slot);
     near = near;
   }
 
@@ -217,7 +199,7 @@ bare_place b t o bare = rw bare refl
 
 pub required_within : {w : Walk} {m : Lent} {under : Waiting} {top : Frame} {steps : List Step} {step : Step} → AtStep w m under top steps step
     → (place : ℕ) → next_required w.schema.now (top.table).object top.next ≡ Some place → place < length (live_fields w.schema.now (top.table).object)
-required_within {w} {m} {under} {top} h place some = (some_found (live_fields w.schema.now (top.table).object) top.next place some (found h).0).2
+required_within {w} {m} {under} {top} h place some = (some_found (live_fields w.schema.now (top.table).object) top.next place some (found h).0).1
 
 pub required_stops : {w : Walk} {m : Lent} {under : Waiting} {top : Frame} {steps : List Step} {step : Step} → AtStep w m under top steps step → vtable_size m.bytes (top.table).at < step.slot + 2
     → (place : ℕ) → next_required w.schema.now (top.table).object top.next ≡ Some place → (stop : Stop) → IsStopAt w.schema.now (record top { next = place }) (top.table).at MissingRequired stop
@@ -228,8 +210,8 @@ required_stops {w} {m} {under} {top} {steps} {step} h past place some stop is =
     let behind : vtable_size m.bytes (top.table).at < d.slot + 2 = omega (arith, past, ap (λ (z : Step). z.slot) (found h).2) in
     let at = some_found fs top.next place some d in
     let f = get_or fs place d in
-    let got = slice_get-get_or fs place d at.2 in
-    let bare = no_slot_from h.walking h.rests d (found h).1 behind place f at.1 got in
+    let got = slice_get-get_or fs place d at.1 in
+    let bare = no_slot_from h.walking h.rests d (found h).1 behind place f at.0 got in
     let there : AtStep w m under (record top { next = place }) steps (step_of f) = record {
       walking = required_next h.walking h.rests d (found h).1 behind place some;
       rests = h.rests;
@@ -238,13 +220,95 @@ required_stops {w} {m} {under} {top} {steps} {step} h past place some stop is =
     } in
     let its : (found there).0 ≡ f = (let w : Some (found there).0 ≡ Some f = sym (found there).1 ∙ got in cc) in
     let cheap : AreAllowed (w.limits).reads (m.count + own_reads m.bytes (top.table).at (found there).0) = fewer_reads (w.limits).reads (m.count + own_reads m.bytes (top.table).at (found there).0) m.count (omega (arith, ap (own_reads m.bytes (top.table).at) its, bare_reads m.bytes (top.table).at f bare)) (h.walking).reads in
-    stops_paid there (λ e. bare_place m.bytes (top.table).at f.slot bare) (top.table).at m.count m.count (Some MissingRequired) (bare_told w.checks m.bytes (top.table).at m.count (step_of f) bare (at.3 f got)) refl refl cheap stop is
-
-abbrev reads_told : Option Failure → ℕ
-reads_told None = 0
-reads_told (Some e) = e.reads
+    stops_paid there (λ e. bare_place m.bytes (top.table).at f.slot bare) (top.table).at m.count m.count (Some MissingRequired) (bare_told w.checks m.bytes (top.table).at m.count (step_of f) bare (at.2 f got)) refl refl cheap stop is
 
 -- a test that fails tells of no fewer reads than were made before it
 pub told_grows : {at k new : ℕ} {reason : Reason} (x : Option Failure) → tested_by at new (Some reason) ≡ after k x → k ≤ new
-told_grows None h = absurd cc
-told_grows {at} {k} {new} (Some e) h = omega (arith, ap reads_told h)
+told_grows {at} {k} {new} x h = grind arith
+
+-- A walk goes from field to field of its top by their steps.
+
+-- The first that is left of a list stands at its place, and the others are left behind it.
+pub left_from : {A : Type 0} (xs : List A) (i : ℕ) (x : A) (more : List A) → x ∷ more ≡ drop i xs → (slice_get xs i ≡ Some x) × (more ≡ drop (suc i) xs)
+left_from [] zero x more e = absurd cc
+left_from [] (suc i) x more e = absurd cc
+left_from (y ∷ xs) zero x more e = (let w : x ≡ y = cc in ap Some (sym w), cc)
+left_from (y ∷ xs) (suc i) x more e = left_from xs i x more e
+
+-- What is known of the steps that are left, in a list.
+pub steps_pass : {w : Walk} {start m : Lent} {first : Frame} (table : Table) (steps rest : List Step) (next : ℕ) → table ≡ first.table → steps ≡ drop first.next (map step_of (live_fields w.schema.now table.object)) → rest ≡ drop next (map step_of (live_fields w.schema.now table.object))
+    → (StepsHold w.checks start.bytes (first.table).at rest → StepsHold w.checks start.bytes (first.table).at steps) → m.count + steps_reads start.bytes (first.table).at rest ≡ start.count + steps_reads start.bytes (first.table).at steps
+    → StepsPass w start m first (record first { next = next })
+steps_pass table steps rest next same all left hold counted = record { hold = rw (left, all, same) at hold; counted = rw (left, all, same) at counted }
+
+-- The walk came from the start and the first frame so far by steps.
+pub record GoesBy (w : Walk) (start m : Lent) (first : Frame) (next : ℕ) : Type 0 where
+  pub forth : first.next ≤ next
+  pub grows : start.count ≤ m.count
+  pub bytes : m.bytes ≡ start.bytes
+  pub paid : m.count + 6 * fields_left w.schema.now (record first { next = next }) ≤ start.count + 6 * fields_left w.schema.now first
+  pub room : HasRoom w start first
+  pub steps : StepsPass w start m first (record first { next = next })
+
+module _ {w : Walk} {start m : Lent} {under : Waiting} {first : Frame} {next : ℕ} {steps : List Step} {step : Step}
+    (g : GoesBy w start m first next) (h : AtStep w m under (record first { next = next }) steps step) (new : Lent) (at : ℕ) where
+  abbrev top : Frame
+  top = record first { next = next }
+
+  abbrev first_at : ℕ
+  first_at = (first.table).at
+
+  -- past a field that leads on nowhere
+  pub step_by : StepTested w.checks m new first_at step at None → (IsBetween w new under (record first { next = next + 1 })) × (m.count ≤ new.count) × (new.count ≤ m.count + 4) × (new.bytes ≡ m.bytes)
+  step_by e =
+      let few = plain_few m.bytes first_at step in
+      let within = next_within h in
+      let counted = (e.tested).counted refl in
+      let cheap = fewer_reads (w.limits).reads new.count (start.count + 6 * fields_left w.schema.now first) (omega (arith, counted, few, g.paid, within)) (g.room).allowed in (
+        record { walking = rw (e.tested).bytes (step_passed h e.plain at m.count new.count None (e.tested).told refl new.count counted cheap); rests = h.rests },
+        omega (arith, counted),
+        omega (arith, counted, few),
+        (e.tested).bytes,
+      )
+
+  -- to one whose test fails, that is there and may lead to a table, or whose slot lies behind the vtable
+  pub came_to : (r : Came) → (r ≡ Past → ⊥) → Stepped w.checks m new first_at step at r → CameTo w start new under first top at r
+  came_to Past n e = absurd (n refl)
+  came_to ToEnd n e =
+      let within = next_within h in
+      rw e.same (record {
+        between = record { walking = h.walking; rests = h.rests };
+        forth = g.forth;
+        within = omega (arith, within);
+        steps = g.steps;
+        behind = λ f here. rw (same_slot h f here) at e.past;
+        paid = g.paid;
+        grows = g.grows;
+        bytes = g.bytes;
+      })
+  came_to ToField n e =
+      let within = next_within h in
+      let few = slot_few m.bytes first_at step.slot in
+      let count = ap (λ (x : Lent). x.count) e.counted in
+      let bytes = ap (λ (x : Lent). x.bytes) e.counted in
+      record {
+        comes = record {
+          field = rw bytes (at_field h at e.there e.slot e.near new.count count);
+          open-field = λ f here. leads_open h e.open-step f here;
+          forth = g.forth;
+          within = omega (arith, within);
+          paid = omega (arith, g.paid, few, count);
+        };
+        same = refl;
+        grows = omega (arith, g.grows, count);
+        bytes = bytes ∙ g.bytes;
+      }
+  came_to (ToFault reason) n e =
+      let within = next_within h in
+      let room = fewer_reads (w.limits).reads (m.count + 6) (start.count + 6 * fields_left w.schema.now first) (omega (arith, g.paid, within)) (g.room).allowed in
+      record {
+        comes = record { next = omega (arith, within); err = λ stop is. rw g.bytes at (step_stops h e.plain at m.count new.count (Some reason) (e.tested).told refl refl room stop is) };
+        same = refl;
+        grows = omega (arith, told_grows _ (e.tested).told, g.grows);
+        bytes = (e.tested).bytes ∙ g.bytes;
+      }

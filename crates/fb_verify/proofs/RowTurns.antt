@@ -11,7 +11,7 @@ use Rattle.fb_verify.specs.{Plain.tested_by, StopsAt.IsStopAt}
 use Rattle.fb_verify.specs.Flat.{in_head, frame_at, MayPass, PassesFlat}
 use Rattle.fb_verify.specs.Stack.{Waiting, IsAtTable, IsWalking, HaltsIn, links_left}
 use Rattle.fb_verify.specs.Turns.{IsShort, IsAtChild, GoesDown, GoesOn, Rests, Halts}
-use Rattle.fb_verify.proofs.{Budgets.fewer_reads, Children.words_work, Flats.flat_work, Frames.first_few, Frames.head_few, LeafRows.word_fails}
+use Rattle.fb_verify.proofs.{Budgets.fewer_reads, Turns.words_work, Flats.flat_work, Frames.first_few, Frames.head_few, LeafRows.word_fails}
 use Rattle.fb_verify.proofs.Turns.{at_child, down_falls, halts_behind}
 
 pub two : (m : ℕ) → m + 2 ≡ m + 1 + 1

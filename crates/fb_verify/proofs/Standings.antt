@@ -15,7 +15,7 @@ use Rattle.fb_verify.specs.Walked.{ended, TableWalked, IsInside, IsInField, Wait
 use Rattle.fb_verify.specs.Stack.{opened as opened_frame, reached, Resting, Middle, Goes, Context, Origin, Standing, frame_link}
 use Rattle.fb_verify.proofs.{Budgets.fewer_reads, Chains.head_none, Chains.own_none, Chains.element_none}
 use Rattle.fb_verify.proofs.{Words.row_front, Words.row_none, Words.first_place, Linked.linked_by, Typed.typed_before}
-use Rattle.fb_verify.proofs.Steps.{same_way, field_deep, opened, entered, passed_on, field_done, closed, waits, resumed, stops_at_head, stops_at_field, stops_at_element, stops_below}
+use Rattle.fb_verify.proofs.Steps.{same_way, field_deep, opened, entered, passed_on, field_done, closed, resumed, stops_at_head, stops_at_field, stops_at_element, stops_below}
 use Rattle.fb_verify.proofs.Contexts.{context_push, context_pop, context_stop, context_links}
 
 -- a fault that is told at a site is the fault at a way to this site
@@ -27,9 +27,6 @@ module _ (c : Checks) (b : List ℕ) (S : Rows) where
   leaf_unfolds : (p : ℕ) (lead : Lead) → IsLeafLead lead → IsLead c b p lead → ElementUnfolds leaf c b S p lead
   unfolding ElementUnfolds
   leaf_unfolds p lead l h = grind arith
-
-  table_lead : (p : ℕ) (lead : Lead) (k : ℕ) → lead ≡ to_table k → IsLead c b p lead → IsOffset c b p
-  table_lead p lead k e h = subst (λ x. IsLead c b p x) e h
 
   -- nothing is left of the field, or something is
   pub at_rest : (fr : Frame) (w : Way) (n d r : ℕ) → (fr.row).left ≡ 0 → Resting c b S fr w n d r ⊎ Middle c b S fr w n d r → Resting c b S fr w n d r
@@ -45,7 +42,7 @@ module _ (c : Checks) (b : List ℕ) (S : Rows) where
   in_middle fr w n d r l (inr h) = rw (row_front b S fr.row l) at h
 
   -- the way to the table that a frame waits for
-  goes_way : (fr : Frame) (w : Way) (k t : ℕ) (u : Way) (n d r : ℕ) → Goes c b S fr w k t u → record u { passed = n; deepest = d; paid = r; leading = 0 } ≡ reached w (fr.table).object (Some fr.number) n d r
+  pub goes_way : (fr : Frame) (w : Way) (k t : ℕ) (u : Way) (n d r : ℕ) → Goes c b S fr w k t u → record u { passed = n; deepest = d; paid = r; leading = 0 } ≡ reached w (fr.table).object (Some fr.number) n d r
   goes_way fr w k t u n d r h =
       let f = h.in_field in
       let i = f.inside in
@@ -55,7 +52,7 @@ module _ (c : Checks) (b : List ℕ) (S : Rows) where
 
   module _ (L : Bounds) (s : Origin) where
     -- a table that was opened
-    fresh : (table : Table) (u : Way) (m n d r : ℕ) → u.links ≡ m → u.passed ≡ n → u.deepest ≡ d → u.paid ≡ r → head_failure c b table.at ≡ None
+    pub fresh : (table : Table) (u : Way) (m n d r : ℕ) → u.links ≡ m → u.passed ≡ n → u.deepest ≡ d → u.paid ≡ r → head_failure c b table.at ≡ None
         → Resting c b S (opened_frame table) u (n + 1) (max d (m + 1)) (r + head_reads c)
     fresh table u m n d r ul un ud ur h =
         let i = opened c b S table.object table.at u ((head_none c b table.at).0 h) in
@@ -85,7 +82,7 @@ module _ (c : Checks) (b : List ℕ) (S : Rows) where
       abbrev v' : Way
       v' = reached h.v (top.table).object (Some top.number) n d r
 
-      links_is : (h.v).links ≡ length below
+      pub links_is : (h.v).links ≡ length below
       links_is = omega (arith, context_links c b S below s.object s.position (top.table).object (top.table).at s.way h.v h.under, h.root)
 
       middle : 0 < (top.row).left → IsInField c b S (top.table).object (top.table).at h.v top.next top.number (first_word b S top.row ∷ words_of b S (past_first top.row)) v'
@@ -95,7 +92,7 @@ module _ (c : Checks) (b : List ℕ) (S : Rows) where
       rests e = at_rest top h.v n d r e h.at
 
       -- where the top stops the walk does
-      stop : (f : Fault) (links : List Link) → LeadsAlong c b S L (top.table).object (top.table).at h.v f links → LeadsAlong c b S L s.object s.position s.way f (map (frame_link b S) below ++ links)
+      pub stop : (f : Fault) (links : List Link) → LeadsAlong c b S L (top.table).object (top.table).at h.v f links → LeadsAlong c b S L s.object s.position s.way f (map (frame_link b S) below ++ links)
       stop f links g = context_stop c b S L f links below s.object s.position (top.table).object (top.table).at s.way h.v h.under g
 
       -- the top, past the first word that is left
@@ -112,36 +109,11 @@ module _ (c : Checks) (b : List ℕ) (S : Rows) where
             let r = stops_at_element c b S (top.table).object (top.table).at h.v L f top.next top.number x (words_of b S (past_first top.row)) v' (middle l) (record { within = record { tables = few; depth = shallow; reads = fewer_reads L.reads _ r (omega arith) cheap }; first = g }) in
             stop f (frame_link b S past_word ∷ []) (r.0, r.1, r.2 ∙ ap (λ y. y ∷ []) (linked_by c b S past_word h.v v' x (middle l)))
 
-        pub stop_at_field : (f : Fault) (field : Live) → (top.row).left ≡ 0 → slice_get (live_fields S (top.table).object) top.next ≡ Some field
-            → told (record { object = (top.table).object; field = Some field.number }) r (own_failure c b S (top.table).at field ▷ reads_failure L r (own_reads b (top.table).at field) (top.table).at) ≡ Some f
-            → LeadsAlong c b S L s.object s.position s.way f (map (frame_link b S) below ++ field_link (top.table).object field ∷ [])
-        unfolding fault_at
-        stop_at_field f field l i e =
-            let u = reached h.v (top.table).object (Some field.number) n d r in
-            let site : Site = record { object = (top.table).object; field = Some field.number } in
-            let g : fault_at c b S L (in_field (top.table).at field) u ≡ Some f = sym (told_is u site (own_failure c b S (top.table).at field ▷ reads_failure L r (own_reads b (top.table).at field) (top.table).at) refl refl) ∙ e in
-            stop f (field_link (top.table).object field ∷ []) (stops_at_field c b S (top.table).object (top.table).at h.v L f top.next (reached h.v (top.table).object None n d r) field (rests l).inside i (record { within = record { tables = few; depth = shallow; reads = fewer_reads L.reads _ r (omega arith) cheap }; first = g }))
-
-        -- the next offset word leads to a table, which can't be opened or has no head
-        pub stop_at_table : (m : ℕ) (f : Fault) (k t : ℕ) → m ≡ length below + 1 → 0 < (top.row).left → element_failure c b (first_word b S top.row) ≡ None → (first_word b S top.row).lead ≡ to_table k → t ≡ target b (top.row).place
-            → (q : ℕ) → q ≡ r + (first_word b S top.row).reads + lead_reads (first_word b S top.row).lead
-            → (told here q (budget_failure L (way_at m n d q here) t) ▷ told (record { object = k; field = None }) q (head_failure c b t ▷ reads_failure L q (head_reads c) t)) ≡ Some f
-            → LeadsAlong c b S L s.object s.position s.way f (map (frame_link b S) below ++ frame_link b S past_word ∷ [])
-        unfolding fault_at
-        stop_at_table m f k t mi l o e p q z g =
-            let x = first_word b S top.row in
-            let offset = table_lead x.place x.lead k e ((element_none c b x).0 o) in
-            let wait : Waits c b S (top.table).object (top.table).at h.v top.next top.number (words_of b S (past_first top.row)) k t (way_to_table x v') = record { x = x; v = v'; in_field = middle l; leads = e; offset = offset; place = rw (first_place b S top.row) p; after = refl } in
-            let one : lead_reads x.lead ≡ 1 = rw e refl in
-            let u = way_to_table x v' in
-            let w : Way = record (way_at m n d q here) { leading = x.reads + 1 } in
-            let u_is : u ≡ w = same_way _ _ (omega (arith, mi, links_is)) refl refl (omega (arith, z, one)) refl refl refl in
-            let i = told_is w here (budget_failure L w t) refl refl in
-            let j = told_is (record w { object = k; field = None }) (record { object = k; field = None }) (head_failure c b t ▷ reads_failure L q (head_reads c) t) refl refl in
-            let first : fault_at c b S L (in_head k t) w ≡ Some f = rw (i, j) at g in
-            let at_head = stops_at_head c b S k t w L f (record { within = record { tables = few; depth = shallow; reads = fewer_reads L.reads _ r (omega (arith, z, one)) cheap }; first = first }) in
-            let r = stops_below c b S (top.table).object (top.table).at h.v L f top.next top.number (words_of b S (past_first top.row)) k t u wait [] (rw (sym u_is) at at_head) in
-            stop f (frame_link b S past_word ∷ []) (r.0, r.1, r.2 ∙ ap (λ y. y ∷ []) (linked_by c b S past_word h.v v' x (middle l)))
+      -- the first word that is left leads to a table, which is waited for
+      pub waits_for : (k t : ℕ) → 0 < (top.row).left → element_failure c b (first_word b S top.row) ≡ None → (first_word b S top.row).lead ≡ to_table k → t ≡ target b (top.row).place
+          → Waits c b S (top.table).object (top.table).at h.v top.next top.number (words_of b S (past_first top.row)) k t (way_to_table (first_word b S top.row) v')
+      waits_for k t l o e p =
+          record { x = first_word b S top.row; v = v'; in_field = middle l; leads = e; offset = rw e at ((element_none c b (first_word b S top.row)).0 o); place = rw (first_place b S top.row) p; after = refl }
 
       -- an offset word that leads to no table is passed
       pub pass_leaf : (row : Row) (q : ℕ) → row ≡ past_first top.row → 0 < (top.row).left → element_failure c b (first_word b S top.row) ≡ None → IsLeafLead (first_word b S top.row).lead
@@ -166,49 +138,11 @@ module _ (c : Checks) (b : List ℕ) (S : Rows) where
           let enter = entered c b S (top.table).object t h.v top.next u field (rests l).inside i ((own_none c b S t field).0 o) in
           record { v = h.v; root = h.root; under = h.under; at = inr (rw (ne, z, sym e) enter) }
 
-      -- a field that leads nowhere is passed
-      pub pass_over : (field : Live) (row : Row) (q : ℕ) → (top.row).left ≡ 0 → slice_get (live_fields S (top.table).object) top.next ≡ Some field → row.left ≡ 0
-          → own_failure c b S (top.table).at field ≡ None → entries b S (top.table).at field ≡ words_of b S row → q ≡ r + own_reads b (top.table).at field
-          → Standing c b S s below (record top { next = top.next + 1 }) n d q
-      pass_over field row q l i none o e z =
-          let y : Frame = record top { next = top.next + 1; number = field.number; row = row } in
-          let on = pass_more field row field.number q l i refl o e z in
-          record { v = on.v; root = on.root; under = on.under; at = inl (record { none = l; inside = (at_rest y on.v n d q none on.at).inside }) }
-
-      -- a table is opened
-      pub open_more : (m : ℕ) (row : Row) (table : Table) (k q : ℕ) → m ≡ length below + 1 → row ≡ past_first top.row → 0 < (top.row).left → element_failure c b (first_word b S top.row) ≡ None
-          → (first_word b S top.row).lead ≡ to_table k → table.object ≡ k → table.at ≡ target b (top.row).place → q ≡ r + (first_word b S top.row).reads + lead_reads (first_word b S top.row).lead → head_failure c b table.at ≡ None
-          → Standing c b S s (below ++ record top { row = row } ∷ []) (opened_frame table) (n + 1) (max d (m + 1)) (q + head_reads c)
-      open_more m row table k q mi re l o e ko p z g =
-          let x = first_word b S top.row in
-          let offset = table_lead x.place x.lead k e ((element_none c b x).0 o) in
-          let u = way_to_table x v' in
-          let wait = waits c b S (top.table).object (top.table).at h.v top.next top.number x (words_of b S (past_first top.row)) v' k table.at (middle l) e offset (rw (first_place b S top.row) p) in
-          let one : lead_reads x.lead ≡ 1 = rw e refl in
-          let y : Frame = record top { row = row } in
-          let goes : Goes c b S y h.v k table.at u = rw re wait in
-          let push = context_push c b S below y s.object s.position s.way h.v k table.at u h.under goes in
-          record { v = u; root = h.root; under = rw ko push; at = inl (fresh table u m n d q (omega (arith, mi, links_is)) refl refl (omega (arith, z, one)) g) }
-
       -- the table of the top has no more fields
-      close : (top.row).left ≡ 0 → length (live_fields S (top.table).object) ≤ top.next → TableWalked c b S (top.table).object (top.table).at h.v (ended h.v n d r)
+      pub close : (top.row).left ≡ 0 → length (live_fields S (top.table).object) ≤ top.next → TableWalked c b S (top.table).object (top.table).at h.v (ended h.v n d r)
       close l i = closed c b S (top.table).object (top.table).at h.v top.next (reached h.v (top.table).object None n d r) (ended h.v n d r) (rests l).inside i refl
 
       pub close_last : below ≡ [] → (top.row).left ≡ 0 → length (live_fields S (top.table).object) ≤ top.next → TableWalked c b S s.object s.position s.way (ended s.way n d r)
       close_last e l i =
           let x = subst (λ ys. Context c b S ys s.object s.position s.way (top.table).object (top.table).at h.v) e h.under in
           rw (x.0, x.1, x.2) (close l i)
-
-      pub close_more : (rest : List Frame) (under : Frame) → below ≡ rest ++ under ∷ [] → (top.row).left ≡ 0 → length (live_fields S (top.table).object) ≤ top.next → Standing c b S s rest under n d r
-      close_more rest under e l i =
-          let x = subst (λ ys. Context c b S ys s.object s.position s.way (top.table).object (top.table).at h.v) e h.under in
-          let p = context_pop c b S rest under s.object s.position (top.table).object (top.table).at s.way h.v x in
-          let on = resumed c b S (under.table).object (under.table).at p.0 under.next under.number (words_of b S under.row) (top.table).object (top.table).at h.v (ended h.v n d r) p.2 (close l i) in
-          record { v = p.0; root = h.root; under = p.1; at = inr (rw (goes_way under p.0 (top.table).object (top.table).at h.v n d r p.2) at on) }
-
-      -- the types of the next field were checked
-      pub next_typed : (field : Live) → IsServed S → (top.row).left ≡ 0 → slice_get (live_fields S (top.table).object) top.next ≡ Some field → IsTyped b (top.table).at field.slot field.kind
-      next_typed field serves l i =
-          let k = (top.table).object in
-          let inside = (rests l).inside in
-          typed_before c b S (top.table).at inside.earlier (live_fields S k) top.next field.slot inside.passed field.kind (serves.typed k top.next field i)

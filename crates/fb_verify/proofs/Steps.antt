@@ -112,11 +112,6 @@ module _ (c : Checks) (b : List ℕ) (S : Rows) (k t : ℕ) (w : Way) where
     after = e ∙ rw h.after (same_way _ _ refl (omega arith) (omega arith) (omega arith) refl refl refl);
   }
 
-  -- an offset word leads to a table
-  pub waits : (next number : ℕ) (x : Entry) (xs : List Entry) (v : Way) (k' t' : ℕ) → IsInField c b S k t w next number (x ∷ xs) v → x.lead ≡ to_table k' → IsOffset c b x.place → t' ≡ target b x.place
-      → Waits c b S k t w next number xs k' t' (way_to_table x v)
-  waits next number x xs v k' t' h l o p = record { x = x; v = v; in_field = h; leads = l; offset = o; place = p; after = refl }
-
   -- the table was walked
   pub resumed : (next number : ℕ) (xs : List Entry) (k' t' : ℕ) (u v : Way) → Waits c b S k t w next number xs k' t' u → TableWalked c b S k' t' u v → IsInField c b S k t w next number xs v
   unfolding ElementUnfolds element_size element_depth element_cost

@@ -15,13 +15,12 @@ use Rattle.fb_verify.proofs.{Standings.close_last, Walking.table_closed}
 pub went_over : {w then : Walk} {m new : Lent} (under : Waiting) (past : Frame) → then ≡ record w { tables = then.tables; deepest = then.deepest } → IsWalking then new under.start under.frames past → under.frames ≡ []
     → (past.row).left ≡ 0 → length (live_fields then.schema.now (past.table).object) ≤ past.next → new.bytes ≡ m.bytes → WentOver w then m new under.start
 went_over {w} {then} {m} {new} under past same h none rests all bytes =
-    let limits = ap (λ (x : Walk). x.limits) same in
     record {
       same = same;
       over = close_last then.checks new.bytes then.schema.now then.limits under.start under.frames past then.tables then.deepest new.count h.standing none rests all;
-      within = rw (sym limits) h.tables;
-      shallow = rw (sym limits) h.deepest;
-      reads = rw (sym limits) h.reads;
+      within = rw same at h.tables;
+      shallow = rw same at h.deepest;
+      reads = rw same at h.reads;
       bytes = bytes;
     }
 
@@ -48,29 +47,13 @@ module _ (w then : Walk) (m new : Lent) (under : Waiting) (old low high : List F
   many : length under.frames ≡ waiting
   many = omega (arith, ap length below, length-take waiting old, ap length parts, length-append low high, front)
 
-  -- the links that lead to where it stops are those of its first frames
-  pub frames_halt : Halts w then m new under past → WentWrong w then m new under.start frames
-  frames_halt h =
-      let l = (then.halt).links in
-      let same : take l frames ≡ take l (under.frames ++ past ∷ []) = sym (take-take l (waiting + 1) frames (omega (arith, h.links, many))) ∙ ap (take l) grown in
-      record { deep = h.deep; err = rw same h.err; bytes = h.bytes }
-
-  frames_stay : GoesOn w then m new under top past → WentOn w then m new under.start old waiting frames waiting
-  frames_stay h = record {
-    same = h.same;
-    walking = rw (sym waits, top_is) h.walking;
-    top = omega (arith, long);
-    falls = rw (sym waits, top_is, sym below, sym stands) h.falls;
-    grows = h.grows;
-    bytes = h.bytes;
-  }
-
-  frames_close : Ends w then m new under top past → GoesUp w then m new under.start old waiting frames
+  -- the top goes on, is passed to its end, or stops, where the links are those of the first frames
+  pub frames_turned : (turn : Turn) → (turn ≡ Down → ⊥) → Turned w then m new under top past child turn → FramesTurned w then m new under.start old frames waiting turn
   unfolding work
-  frames_close e =
+  frames_turned Down un h = absurd (un refl)
+  frames_turned Up un e =
       let h = e.on.walking in
-      let schema = ap (λ (x : Walk). x.schema.now) e.on.same in
-      let all : length (live_fields then.schema.now (past.table).object) ≤ past.next = rw schema e.all in
+      let all : length (live_fields then.schema.now (past.table).object) ≤ past.next = rw e.on.same e.all in
       record {
         over = λ zero. went_over under past e.on.same h (below ∙ rw zero refl) e.rests all e.on.bytes;
         above = λ some.
@@ -84,22 +67,27 @@ module _ (w then : Walk) (m new : Lent) (under : Waiting) (old low high : List F
               short = e.on.short;
             };
       }
-
-  -- the top goes on, is passed to its end, or stops
-  pub frames_turned : (turn : Turn) → (turn ≡ Down → ⊥) → Turned w then m new under top past child turn → FramesTurned w then m new under.start old frames waiting turn
-  frames_turned Down un h = absurd (un refl)
-  frames_turned Up un h = frames_close h
-  frames_turned Slowly un h = frames_stay h
-  frames_turned Halted un h = frames_halt h
+  frames_turned Slowly un h = record {
+    same = h.same;
+    walking = rw (sym waits, top_is) h.walking;
+    top = omega (arith, long);
+    falls = rw (sym waits, top_is, sym below, sym stands) h.falls;
+    grows = h.grows;
+    bytes = h.bytes;
+  }
+  frames_turned Halted un h =
+      let l = (then.halt).links in
+      let same : take l frames ≡ take l (under.frames ++ past ∷ []) = sym (take-take l (waiting + 1) frames (omega (arith, h.links, many))) ∙ ap (take l) grown in
+      record { deep = h.deep; err = rw same h.err; bytes = h.bytes }
 
   -- a table below was opened, or its head stops the walk
   module _ (last : Walk) (then-reads : Lent) (open-frame : Frame) (first : get_or other 0 blank ≡ open-frame) (some : 0 < length other) (h : GoesDown w then m new under top past child) where
     abbrev above : Waiting
     above = record { start = under.start; frames = under.frames ++ past ∷ [] }
 
-    frames_opened : OpensChild then last new then-reads above open-frame child → GoesOver w last m then-reads under.start old waiting frames (waiting + 1)
+    pub frames_down : (turn : Turn) → Opened then last new then-reads above open-frame child turn → FramesTurned w last m then-reads under.start old frames waiting turn
     unfolding work
-    frames_opened o =
+    frames_down Down o =
         let less = ap (λ x. work w.schema.now w.limits (under.frames ++ past ∷ []) x then.tables) o.opens in
         record {
           same = rw o.same h.same;
@@ -109,44 +97,22 @@ module _ (w then : Walk) (m new : Lent) (under : Waiting) (old low high : List F
           bytes = o.bytes ∙ h.bytes;
           short = omega (arith, h.short, o.paid);
         }
-
-    frames_stop : StopsAtChild then last new then-reads above → WentWrong w last m then-reads under.start frames
-    frames_stop o =
+    frames_down Halted o =
         let links : (last.halt).links ≡ waiting + 1 = omega (arith, o.links, length-append under.frames (past ∷ []), many) in
-        let checks = ap (λ (x : Walk). x.checks) h.same in
-        let schema = ap (λ (x : Walk). x.schema) h.same in
-        let limits = ap (λ (x : Walk). x.limits) h.same in
         record {
           deep = rw o.behind (omega (arith, links, h.deep, many));
-          err = rw (links, grown) (rw (checks, schema, limits, h.bytes) at o.err);
+          err = rw (links, grown) (rw (h.same, h.bytes) at o.err);
           bytes = o.bytes ∙ h.bytes;
         }
-
-    pub frames_down : (turn : Turn) → Opened then last new then-reads above open-frame child turn → FramesTurned w last m then-reads under.start old frames waiting turn
-    frames_down Down o = frames_opened o
-    frames_down Up o = absurd o
-    frames_down Slowly o = absurd o
-    frames_down Halted o = frames_stop o
+    frames_down _ o = absurd o
 
 -- The walk goes on from where it came to before.
 module _ (w mid then : Walk) (m been new : Lent) (under : Waiting) (kept : mid ≡ record w { tables = mid.tables; deepest = mid.deepest }) (bytes : been.bytes ≡ m.bytes) where
-  checks_kept : mid.checks ≡ w.checks
-  checks_kept = ap (λ (x : Walk). x.checks) kept
-
-  schema_kept : mid.schema ≡ w.schema
-  schema_kept = ap (λ (x : Walk). x.schema) kept
-
-  limits_kept : mid.limits ≡ w.limits
-  limits_kept = ap (λ (x : Walk). x.limits) kept
-
-  pub same_on : then ≡ record mid { tables = then.tables; deepest = then.deepest } → then ≡ record w { tables = then.tables; deepest = then.deepest }
-  same_on e = rw (schema_kept, limits_kept, checks_kept, ap (λ (x : Walk). x.halt) kept) at e
-
   pub halts_on : {past : Frame} → Halts mid then been new under past → Halts w then m new under past
   halts_on h = record {
     links = h.links;
-    deep = rw limits_kept at h.deep;
-    err = rw (checks_kept, schema_kept, limits_kept, bytes) at h.err;
+    deep = rw kept at h.deep;
+    err = rw (kept, bytes) at h.err;
     bytes = h.bytes ∙ bytes;
   }
 
@@ -154,10 +120,10 @@ module _ (w mid then : Walk) (m been new : Lent) (under : Waiting) (kept : mid �
       (grows : m.count ≤ new.count) where
     pub goes_on : GoesOn mid then been new under t past → GoesOn w then m new under top past
     goes_on h = record {
-      same = same_on h.same;
+      same = rw kept at h.same;
       walking = h.walking;
       table = h.table ∙ table;
-      falls = omega (arith, (rw (schema_kept, limits_kept) at h.falls), falls);
+      falls = omega (arith, rw kept at h.falls, falls);
       grows = grows;
       bytes = h.bytes ∙ bytes;
       short = h.short;
@@ -165,10 +131,10 @@ module _ (w mid then : Walk) (m been new : Lent) (under : Waiting) (kept : mid �
 
     pub goes_down : {child : Child} → GoesDown mid then been new under t past child → GoesDown w then m new under top past child
     goes_down h = record {
-      same = same_on h.same;
+      same = rw kept at h.same;
       down = h.down;
-      deep = rw limits_kept at h.deep;
-      falls = omega (arith, (rw (schema_kept, limits_kept) at h.falls), falls);
+      deep = rw kept at h.deep;
+      falls = omega (arith, rw kept at h.falls, falls);
       grows = grows;
       bytes = h.bytes ∙ bytes;
       short = h.short;

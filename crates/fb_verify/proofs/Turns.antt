@@ -1,15 +1,146 @@
--- A walk counts the table to which the first word of the top's row leads, and is to open it.
-use Rattle.std.proofs.Common.{◌≡◌, ℕ, ◌+◌, ◌*◌, ◌<◌, max, List, [], ◌∷◌, ◌++◌, length, take, refl, sym, ◌∙◌, ap, arith, Some}
+-- The walk stands at an offset word that leads to a table, which it counts, and goes on in that table.
+use Rattle.std.proofs.Common.{◌≡◌, ℕ, ◌+◌, ◌*◌, ◌<◌, max, List, [], ◌∷◌, ◌++◌, length, take, refl, sym, ◌∙◌, ap, arith, Some, ◌≤◌, inl, None}
 use Rattle.std.proofs.Math.Seq.{take-append_seam}
-use Rattle.std.proofs.lemmas.{List.length-append, List.Sums.sum_by_push}
+use Rattle.std.proofs.lemmas.{List.length-append, List.Sums.sum_by_push, List.Elements.All-push}
 use Rattle.fb_bytes.specs.Word.{Lent}
+use Rattle.fb_schema.specs.{Rows.Rows, Live.live_fields}
 use Rattle.fb_verify.specs.declared.{table.Child.Child, table.Table.Table, offset_row.Row.Row, scratch.Frame.Frame}
 use Rattle.fb_verify.specs.declared.{site.LastLink.TheVariants.Behind, site.LastLink.TheVariants.InField, site.Site.Site, site.Stop.Stop}
-use Rattle.fb_verify.specs.declared.stack.Walk.{Walk}
-use Rattle.fb_verify.specs.{Bounds.AreAllowed, Cost.head_reads, OffsetRows.past_first, Told.way_at, Told.stopped}
-use Rattle.fb_verify.specs.Turns.{IsAtChild, Halts, frame_of}
-use Rattle.fb_verify.specs.Stack.{Origin, Waiting, IsAtTable, IsStopped, StopsIn, frame_work, work}
-use Rattle.fb_verify.proofs.{Children.child_opened, Children.child_stops, Children.word_few, Flats.head_fails, Pushes.take_all}
+use Rattle.fb_verify.specs.declared.{stack.Walk.Walk, checks.Checks.Checks, fault.Fault.Fault}
+use Rattle.fb_verify.specs.{Bounds.AreAllowed, Bounds.Bounds, Cost.head_reads, Cost.lead_reads}
+use Rattle.fb_verify.specs.{OffsetRows.past_first, OffsetRows.first_word, OffsetRows.words_of, Turns.IsAtChild, Turns.Halts, Turns.frame_of}
+use Rattle.fb_verify.specs.Way.{way_to_table, Way}
+use Rattle.fb_verify.specs.Told.{way_at, stopped, told, IsHead}
+use Rattle.fb_verify.specs.Stack.{Origin, Waiting, IsAtTable, IsStopped, StopsIn, frame_work, work, opened, IsUnderWay, IsFrame, reached, frame_link}
+use Rattle.fb_verify.specs.Stops.{budget_failure, reads_failure, in_head, fault_at}
+use Rattle.fb_verify.specs.Order.{◌▷◌, head_failure}
+use Rattle.fb_verify.proofs.{Flats.head_fails, Pushes.take_all, Budgets.fewer_reads, Contexts.context_push, Linked.linked_by}
+use Rattle.fb_verify.proofs.{Steps.same_way, Steps.stops_at_head, Steps.stops_below, Walking.stops_behind}
+use Rattle.fb_verify.proofs.Frames.{first_few, head_few, frame_on, frame_opened, work_opened}
+use Rattle.fb_verify.proofs.Standings.{told_is, fresh, links_is, waits_for, stop}
+
+-- Offset words that were passed leave less work.
+module _ (S : Rows) (L : Bounds) (below : List Frame) (old new : Frame) (n r q : ℕ) (same : new ≡ record old { row = new.row }) (paid : q + 4 * (new.row).left ≤ r + 4 * (old.row).left) where
+  width : length (live_fields S (new.table).object) ≡ length (live_fields S (old.table).object)
+  width = ap (λ (x : Frame). length (live_fields S (x.table).object)) same
+
+  next : new.next ≡ old.next
+  next = ap (λ (x : Frame). x.next) same
+
+  pub words_work : (new.row).left ≤ (old.row).left → q + work S L below new n ≤ r + work S L below old n
+  unfolding work
+  words_work less = omega (arith, paid, less, width, next)
+
+  pub words_fall : (new.row).left < (old.row).left → q + work S L below new n < r + work S L below old n
+  unfolding work
+  words_fall less = omega (arith, paid, less, width, next)
+
+-- by the same schema and limits there is the same work
+pub same_work : (S T : Rows) (L M : Bounds) → S ≡ T → L ≡ M → (below : List Frame) (top : Frame) (n : ℕ) → work S L below top n ≡ work T M below top n
+same_work S T L M s l below top n = ap (λ x. work x L below top n) s ∙ ap (λ y. work T y below top n) l
+
+module _ {w : Walk} {b : List ℕ} {q : ℕ} {s : Origin} {below : List Frame} {top : Frame} {most : ℕ} {child : Child} (o : IsAtTable w b q s below top most child) where
+  abbrev S : Rows
+  S = w.schema.now
+
+  abbrev c : Checks
+  c = w.checks
+
+  abbrev L : Bounds
+  L = w.limits
+
+  -- the reads of the word are few
+  pub word_few : q ≤ most + 4
+  word_few = omega (arith, o.count, o.paid, first_few b S top.row)
+
+  module _ (m : ℕ) (mi : m ≡ length below + 1) where
+    -- the table can't be opened, or has no head
+    pub child_stops : (row : Row) → row ≡ past_first top.row → (site : Site) → site ≡ record { object = (top.table).object; field = Some top.number } → (f : Fault)
+        → (told site q (budget_failure L (way_at m w.tables w.deepest q site) child.at) ▷ told (record { object = child.object; field = None }) q (head_failure c b child.at ▷ reads_failure L q (head_reads c) child.at)) ≡ Some f
+        → StopsIn c b S L s (below ++ record top { row = row } ∷ []) [] f
+    unfolding fault_at
+    child_stops row re site is f e =
+        let h = o.walking in
+        let g = h.standing in
+        let k = (top.table).object in
+        let x = first_word b S top.row in
+        let v = reached g.v k (Some top.number) w.tables w.deepest o.before in
+        let wait = waits_for c b S L s below top w.tables w.deepest o.before g child.object child.at o.more o.holds o.leads o.at in
+        let one : lead_reads x.lead ≡ 1 = rw o.leads refl in
+        let u : Way = record (way_at m w.tables w.deepest q (record { object = k; field = Some top.number })) { leading = x.reads + 1 } in
+        let u_is : way_to_table x v ≡ u = same_way _ _ (omega (arith, mi, links_is c b S L s below top w.tables w.deepest o.before g)) refl refl (omega (arith, o.count, one)) refl refl refl in
+        let i = told_is u (record { object = k; field = Some top.number }) (budget_failure L u child.at) refl refl in
+        let j = told_is (record u { object = child.object; field = None }) (record { object = child.object; field = None }) (head_failure c b child.at ▷ reads_failure L q (head_reads c) child.at) refl refl in
+        let first : fault_at c b S L (in_head child.object child.at) u ≡ Some f = rw (i, j) at (rw is at e) in
+        let at_head = stops_at_head c b S child.object child.at u L f (record { within = record { tables = h.tables; depth = h.deepest; reads = fewer_reads L.reads _ o.before (omega (arith, o.count, one)) h.reads }; first = first }) in
+        let below_it = stops_below c b S k (top.table).at g.v L f top.next top.number (words_of b S (past_first top.row)) child.object child.at (way_to_table x v) wait [] (rw (sym u_is) at at_head) in
+        let past : Frame = record top { row = past_first top.row } in
+        let linked = ap (λ y. y ∷ []) (linked_by c b S past g.v wait.v wait.x wait.in_field) in
+        stops_behind h f row re o.more (stop c b S L s below top w.tables w.deepest o.before g f (frame_link b S past ∷ []) (below_it.0, below_it.1, below_it.2 ∙ linked))
+
+    module _ (row : Row) (re : row ≡ past_first top.row) (table : Table) (is : table ≡ record { object = child.object; at = child.at; head = table.head }) (ok : head_failure c b child.at ≡ None)
+        (fewer : w.tables < (w.limits).tables) (shallow : m < (w.limits).depth) (low : m < 4096) where
+      -- the top, past the word
+      abbrev top_on : Frame
+      top_on = record top { row = row }
+
+      object_is : table.object ≡ child.object
+      object_is = ap (λ (x : Table). x.object) is
+
+      at_is : table.at ≡ child.at
+      at_is = ap (λ (x : Table). x.at) is
+
+      -- it is opened
+      pub child_opened : IsHead c b child.at table.head → AreAllowed (w.limits).reads (q + head_reads c) → IsUnderWay c b S L s (below ++ top_on ∷ []) (opened table) (w.tables + 1) (max w.deepest (m + 1)) (q + head_reads c)
+      child_opened head cheap =
+          let h = o.walking in
+          let g = h.standing in
+          let x = first_word b S top.row in
+          let u = way_to_table x (reached g.v (top.table).object (Some top.number) w.tables w.deepest o.before) in
+          let one : lead_reads x.lead ≡ 1 = rw o.leads refl in
+          let wait = waits_for c b S L s below top w.tables w.deepest o.before g child.object table.at o.more o.holds o.leads (at_is ∙ o.at) in
+          let push = context_push c b S below top_on s.object s.position s.way g.v child.object table.at u g.under (rw re wait) in
+          let links = links_is c b S L s below top w.tables w.deepest o.before g in
+          record {
+            served = h.served;
+            tables = omega (arith, fewer);
+            deepest = omega (arith, h.deepest, shallow);
+            reads = cheap;
+            links = omega (arith, length-append below (top_on ∷ []), mi, shallow);
+            low = omega (arith, length-append below (top_on ∷ []), mi, low);
+            frames = All-push (IsFrame c b S) below top_on h.frames (frame_on c b S top row re o.more h.frame);
+            frame = frame_opened c b S table (rw object_is o.table) (rw at_is o.near) (rw at_is head);
+            standing = record { v = u; root = g.root; under = rw object_is push; at = inl (fresh c b S L s table u m w.tables w.deepest q (omega (arith, mi, links)) refl refl (omega (arith, o.count, one)) (rw at_is ok)) };
+          }
+
+      pub child_work : q + head_reads c + work S L (below ++ top_on ∷ []) (opened table) (w.tables + 1) < o.before + work S L below top w.tables
+      unfolding work
+      child_work = omega (arith, o.more, ap (λ (x : Row). x.left) re, o.count, first_few b S top.row, head_few c, fewer, sum_by_push (frame_work S) below top_on, work_opened c b S table (o.walking).served)
+
+-- The same from where the words before it were passed.
+module _ {w : Walk} {S : Rows} {L : Bounds} (schema : w.schema.now ≡ S) (limits : w.limits ≡ L) {b : List ℕ} {q : ℕ} (r : ℕ) {s : Origin} {below : List Frame} (old : Frame) {top : Frame} {child : Child}
+    (same : top ≡ record old { row = top.row }) (fewer : (top.row).left ≤ (old.row).left) (o : IsAtTable w b q s below top (r + 4 * (old.row).left) child)
+    (m : ℕ) (mi : m ≡ length below + 1) (row : Row) (re : row ≡ past_first top.row) (table : Table) (is : table ≡ record { object = child.object; at = child.at; head = table.head }) (ok : head_failure w.checks b child.at ≡ None)
+    (tables : w.tables < (w.limits).tables) (shallow : m < (w.limits).depth) (low : m < 4096) where
+  -- the frame that waits
+  abbrev waits : Frame
+  waits = record top { row = row }
+
+  passed : o.before + work w.schema.now w.limits below top w.tables ≤ r + work S L below old w.tables
+  passed = omega (arith, words_work w.schema.now w.limits below old top w.tables r o.before same o.paid fewer, same_work w.schema.now S w.limits L schema limits below old w.tables)
+
+  pub opening_falls : q + head_reads w.checks < r + work S L below old w.tables
+  opening_falls = omega (arith, passed, child_work o m mi row re table is ok tables shallow low)
+
+  pub leading_falls : (last : Frame) (u : ℕ) → u + frame_work w.schema.now last ≤ q + head_reads w.checks + frame_work w.schema.now (opened table) → u + work S L (below ++ waits ∷ []) last (w.tables + 1) < r + work S L below old w.tables
+  unfolding work
+  leading_falls last u f =
+      omega (arith, f, passed, child_work o m mi row re table is ok tables shallow low, same_work w.schema.now S w.limits L schema limits (below ++ waits ∷ []) last (w.tables + 1))
+
+  pub closing_falls : (u : ℕ) → u ≤ q + head_reads w.checks + frame_work w.schema.now (opened table) → u + work S L below waits (w.tables + 1) < r + work S L below old w.tables
+  unfolding work
+  closing_falls u f =
+      omega (arith, f, passed, child_work o m mi row re table is ok tables shallow low, sum_by_push (frame_work w.schema.now) below waits, same_work w.schema.now S w.limits L schema limits below waits (w.tables + 1))
 
 -- a table is its parts
 pub table_is : (t : Table) (k p : ℕ) → t.object ≡ k → t.at ≡ p → t ≡ record { object = k; at = p; head = t.head }

@@ -1,22 +1,25 @@
 -- The steps of a walk under way, with the work that they leave.
-use Rattle.std.proofs.Common.{◌≡◌, ℕ, ◌+◌, ◌-◌, ◌^◌, ◌<◌, ◌≤◌, max, List, [], ◌∷◌, ◌++◌, length, sym, ap, arith, IsTrue, Some, None}
-use Rattle.std.specs.Prelude.{slice_get}
-use Rattle.std.proofs.lemmas.{List.Sums.sum_by_push, List.Elements.All-push, List.Elements.All-pop, List.length-append}
+use Rattle.std.proofs.Common.{◌≡◌, ℕ, ◌+◌, ◌-◌, ◌^◌, ◌<◌, ◌≤◌, max, inl, inr, refl, List, [], ◌∷◌, ◌++◌, length, sym, ap, arith, IsTrue, Some, None, map, ◌∙◌, subst, Option}
+use Rattle.std.specs.{Prelude.slice_get, List.All}
+use Rattle.std.proofs.lemmas.{List.Sums.sum_by_push, List.Elements.All-push, List.Elements.All-pop}
+use Rattle.std.proofs.lemmas.List.{length-append, map-append, append-nil}
 use Rattle.fb_schema.specs.{Rows.Rows, Rows.is_table, Live.Live, Live.live_fields}
-use Rattle.fb_verify.specs.declared.{checks.Checks.Checks, table.Table.Table, offset_row.Row.Row, scratch.Frame.Frame}
+use Rattle.fb_verify.specs.declared.{checks.Checks.Checks, table.Table.Table, offset_row.Row.Row, scratch.Frame.Frame, fault.Fault.Fault}
+use Rattle.fb_verify.specs.declared.{links.Link.Link, site.Site.Site}
 use Rattle.fb_verify.specs.{Bounds.Bounds, Bounds.AreAllowed, Places.target, Fields.to_table, Fields.entries}
-use Rattle.fb_verify.specs.{Cost.head_reads, Cost.own_reads, Cost.lead_reads, Order.head_failure, Order.own_failure, Order.element_failure}
-use Rattle.fb_verify.specs.Told.{IsHead}
+use Rattle.fb_verify.specs.{Cost.head_reads, Cost.own_reads, Cost.lead_reads, Told.IsHead, Told.told, Told.way_at, Walked.ended}
+use Rattle.fb_verify.specs.{Way.way_to_table, Way.Way, Links.field_link, Links.LeadsAlong}
+use Rattle.fb_verify.specs.Order.{head_failure, own_failure, element_failure, Failure, ◌▷◌}
 use Rattle.fb_verify.specs.OffsetRows.{words_of, first_word, past_first, IsLeafLead, IsRow}
-use Rattle.fb_verify.specs.Stack.{IsFrame, frame_work, work, opened, Origin, IsUnderWay, Standing}
-use Rattle.fb_verify.proofs.Frames.{first_few, head_few, own_few, field_within, frame_on, frame_passed, frame_next, frame_opened, work_opened}
-use Rattle.fb_verify.proofs.Standings.{pass_leaf, pass_more, pass_over, open_more, close_more}
+use Rattle.fb_verify.specs.Stack.{IsFrame, frame_work, work, opened, reached, Goes, Origin, IsUnderWay, Standing, frame_link, link_to_number, own_link, IsLinked, StopsIn}
+use Rattle.fb_verify.specs.Stops.{budget_failure, reads_failure, lead_reads_failure, in_head, in_field, fault_at}
+use Rattle.fb_verify.proofs.Frames.{first_few, head_few, own_few, field_within, frame_on, frame_passed, frame_opened, work_opened}
+use Rattle.fb_verify.proofs.{Contexts.context_push, Contexts.context_pop, Contexts.context_linked, Linked.is_linked, Linked.linked_by}
+use Rattle.fb_verify.proofs.Budgets.{fewer_reads}
+use Rattle.fb_verify.proofs.Steps.{resumed, same_way, stops_at_head, stops_at_field, stops_below}
+use Rattle.fb_verify.proofs.Standings.{at_rest, goes_way, fresh, links_is, waits_for, pass_leaf, pass_more, close, told_is, in_middle, stop, stop_at_element}
 
 module _ {c : Checks} {b : List ℕ} {S : Rows} {L : Bounds} {s : Origin} {below : List Frame} {top : Frame} {n d r : ℕ} (h : IsUnderWay c b S L s below top n d r) where
-  -- the top, past its first offset word
-  abbrev top_on : Row → Frame
-  top_on row = record top { row = row }
-
   -- the top, past its next field
   abbrev top_past : ℕ → Row → Frame
   top_past number row = record top { next = top.next + 1; number = number; row = row }
@@ -33,6 +36,10 @@ module _ {c : Checks} {b : List ℕ} {S : Rows} {L : Bounds} {s : Origin} {below
   pub table_closed : (rest : List Frame) (above : Frame) → below ≡ rest ++ above ∷ [] → (top.row).left ≡ 0 → length (live_fields S (top.table).object) ≤ top.next → IsUnderWay c b S L s rest above n d r
   table_closed rest above e rests all =
       let frames = All-pop (IsFrame c b S) below rest (Some above) e h.frames in
+      let g = h.standing in
+      let p = context_pop c b S rest above s.object s.position (top.table).object (top.table).at s.way g.v (rw e at g.under) in
+      let walked = close c b S L s below top n d r g rests all in
+      let on = resumed c b S (above.table).object (above.table).at p.0 above.next above.number (words_of b S above.row) (top.table).object (top.table).at g.v (ended g.v n d r) p.2 walked in
       record {
         served = h.served;
         tables = h.tables;
@@ -42,35 +49,13 @@ module _ {c : Checks} {b : List ℕ} {S : Rows} {L : Bounds} {s : Origin} {below
         low = omega (arith, h.low, ap length e, length-append rest (above ∷ []));
         frames = frames.0;
         frame = frames.1;
-        standing = close_more c b S L s below top n d r h.standing rest above e rests all;
+        standing = record { v = p.0; root = g.root; under = p.1; at = inr (rw (goes_way c b S above p.0 (top.table).object (top.table).at g.v n d r p.2) at on) };
       }
 
-  module _ (row : Row) (q : ℕ) (re : row ≡ past_first top.row) (l : 0 < (top.row).left) (o : element_failure c b (first_word b S top.row) ≡ None) (z : q ≡ r + (first_word b S top.row).reads + lead_reads (first_word b S top.row).lead) where
-    left_is : row.left ≡ (top.row).left - 1
-    left_is = ap (λ (x : Row). x.left) re
-
-    -- an offset word that leads to no table is passed
-    pub leaf_passed : IsLeafLead (first_word b S top.row).lead → AreAllowed L.reads q → IsUnderWay c b S L s below (top_on row) n d q
-    leaf_passed k cheap = goes_on (top_on row) q cheap (frame_on c b S top row re l h.frame) (pass_leaf c b S L s below top n d r h.standing row q re l o k z)
-
-    module _ (m k : ℕ) (table : Table) (mi : m ≡ length below + 1) (e : (first_word b S top.row).lead ≡ to_table k) (ko : table.object ≡ k) (p : table.at ≡ target b (top.row).place) (g : head_failure c b table.at ≡ None) (fewer : n < L.tables) (shallow : m < L.depth) (low : m < 4096) where
-      -- a table is opened
-      pub table_opened : IsTrue (is_table S k) → table.at < 2 ^ 33 → IsHead c b table.at table.head → AreAllowed L.reads (q + head_reads c) → IsUnderWay c b S L s (below ++ top_on row ∷ []) (opened table) (n + 1) (max d (m + 1)) (q + head_reads c)
-      table_opened is near head cheap = record {
-        served = h.served;
-        tables = omega (arith, fewer);
-        deepest = omega (arith, h.deepest, shallow);
-        reads = cheap;
-        links = omega (arith, length-append below (top_on row ∷ []), mi, shallow);
-        low = omega (arith, length-append below (top_on row ∷ []), mi, low);
-        frames = All-push (IsFrame c b S) below (top_on row) h.frames (frame_on c b S top row re l h.frame);
-        frame = frame_opened c b S table (rw (sym ko) at is) near head;
-        standing = open_more c b S L s below top n d r h.standing m row table k q mi re l o e ko p z g;
-      }
-
-      pub open_work : q + head_reads c + work S L (below ++ top_on row ∷ []) (opened table) (n + 1) < r + work S L below top n
-      unfolding work
-      open_work = omega (arith, l, left_is, z, first_few b S top.row, head_few c, fewer, sum_by_push (frame_work S) below (top_on row), work_opened c b S table h.served)
+  -- an offset word that leads to no table is passed
+  pub leaf_passed : (row : Row) (q : ℕ) → row ≡ past_first top.row → 0 < (top.row).left → element_failure c b (first_word b S top.row) ≡ None → q ≡ r + (first_word b S top.row).reads + lead_reads (first_word b S top.row).lead
+      → IsLeafLead (first_word b S top.row).lead → AreAllowed L.reads q → IsUnderWay c b S L s below (record top { row = row }) n d q
+  leaf_passed row q re l o z k cheap = goes_on (record top { row = row }) q cheap (frame_on c b S top row re l h.frame) (pass_leaf c b S L s below top n d r h.standing row q re l o k z)
 
   module _ (field : Live) (row : Row) (number q : ℕ) (l : (top.row).left ≡ 0) (i : slice_get (live_fields S (top.table).object) top.next ≡ Some field) (z : q ≡ r + own_reads b (top.table).at field) (good : IsRow b S row) where
     -- a field is passed
@@ -82,7 +67,59 @@ module _ {c : Checks} {b : List ℕ} {S : Rows} {L : Bounds} {s : Origin} {below
 
     -- a field that leads nowhere is passed
     pub field_skipped : AreAllowed L.reads q → row.left ≡ 0 → own_failure c b S (top.table).at field ≡ None → entries b S (top.table).at field ≡ words_of b S row → IsUnderWay c b S L s below top_over n d q
-    field_skipped cheap none o e = goes_on top_over q cheap (frame_next c b S top (field_within _ _ _ i) h.frame) (pass_over c b S L s below top n d r h.standing field row q l i none o e z)
+    field_skipped cheap none o e =
+        let on = pass_more c b S L s below top n d r h.standing field row field.number q l i refl o e z in
+        goes_on top_over q cheap (frame_passed c b S top top.number top.row (field_within _ _ _ i) (h.frame).row h.frame)
+        (record { v = on.v; root = on.root; under = on.under; at = inl (record { none = l; inside = (at_rest c b S (top_past field.number row) on.v n d q none on.at).inside }) })
 
     pub skip_work : q + frame_work S top_over ≤ r + frame_work S top
     skip_work = omega (arith, field_within (live_fields S (top.table).object) top.next field i, own_few b (top.table).at field, z)
+
+-- Where a walk stops that is under way, by the frames that lead there.
+
+-- a fault names the field of the site where it is told
+pub told_link : (site : Site) (r : ℕ) (e : Option Failure) (f : Fault) → told site r e ≡ Some f → own_link f ≡ link_to_number site.object site.field
+told_link site r e f h = grind arith
+
+module _ {c : Checks} {b : List ℕ} {S : Rows} {L : Bounds} {s : Origin} {below : List Frame} {top : Frame} {n d r : ℕ} (h : IsUnderWay c b S L s below top n d r) (f : Fault) where
+  linked : All (IsLinked c b S) below
+  linked = let g = h.standing in context_linked c b S h.served below s.object s.position (top.table).object (top.table).at s.way g.v g.under h.frames
+
+  -- in the top's field that a fault names
+  pub stops_in_field : (links : List Link) → links ≡ own_link f → LeadsAlong c b S L s.object s.position s.way f (map (frame_link b S) below ++ links) → StopsIn c b S L s below (own_link f) f
+  stops_in_field links e g = record { along = rw e at g; linked = linked }
+
+  -- behind a word of the top
+  pub stops_behind : (row : Row) → row ≡ past_first top.row → 0 < (top.row).left
+      → LeadsAlong c b S L s.object s.position s.way f (map (frame_link b S) below ++ frame_link b S (record top { row = past_first top.row }) ∷ [])
+      → StopsIn c b S L s (below ++ record top { row = row } ∷ []) [] f
+  stops_behind row re l way =
+      let past : Frame = record top { row = past_first top.row } in
+      let same : map (frame_link b S) (below ++ past ∷ []) ++ [] ≡ map (frame_link b S) below ++ frame_link b S past ∷ [] = append-nil (map (frame_link b S) (below ++ past ∷ [])) ∙ map-append (frame_link b S) below (past ∷ []) in
+      let g = h.standing in
+      let m = in_middle c b S top g.v n d r l g.at in
+      let base : StopsIn c b S L s (below ++ past ∷ []) [] f = record {
+        along = rw same way;
+        linked = All-push (IsLinked c b S) below past linked (is_linked c b S past g.v _ (first_word b S top.row) m h.served (frame_on c b S top (past_first top.row) refl l h.frame));
+      } in
+      subst (λ (x : Row). StopsIn c b S L s (below ++ record top { row = x } ∷ []) [] f) (sym re) base
+
+  -- a field of the top fails by itself
+  pub field_stops : (field : Live) → (top.row).left ≡ 0 → slice_get (live_fields S (top.table).object) top.next ≡ Some field
+      → told (record { object = (top.table).object; field = Some field.number }) r (own_failure c b S (top.table).at field ▷ reads_failure L r (own_reads b (top.table).at field) (top.table).at) ≡ Some f → StopsIn c b S L s below (own_link f) f
+  unfolding fault_at
+  field_stops field l i e =
+      let g = h.standing in
+      let k = (top.table).object in
+      let own = own_failure c b S (top.table).at field ▷ reads_failure L r (own_reads b (top.table).at field) (top.table).at in
+      let u = reached g.v k (Some field.number) n d r in
+      let first : fault_at c b S L (in_field (top.table).at field) u ≡ Some f = sym (told_is u (record { object = k; field = Some field.number }) own refl refl) ∙ e in
+      let inside = (at_rest c b S top g.v n d r l g.at).inside in
+      let leads = stops_at_field c b S k (top.table).at g.v L f top.next (reached g.v k None n d r) field inside i (record { within = record { tables = h.tables; depth = h.deepest; reads = fewer_reads L.reads _ r (omega arith) h.reads }; first = first }) in
+      stops_in_field (field_link k field ∷ []) (sym (told_link _ r _ f e)) (stop c b S L s below top n d r g f (field_link k field ∷ []) leads)
+
+  -- a word of the top fails
+  pub word_stops : (row : Row) → row ≡ past_first top.row → 0 < (top.row).left
+      → told (record { object = (top.table).object; field = Some top.number }) r (element_failure c b (first_word b S top.row) ▷ lead_reads_failure L r (first_word b S top.row) (first_word b S top.row).lead) ≡ Some f
+      → StopsIn c b S L s (below ++ record top { row = row } ∷ []) [] f
+  word_stops row re l e = stops_behind row re l (stop_at_element c b S L s below top n d r h.standing h.tables h.deepest h.reads f l e)

@@ -17,8 +17,7 @@ module _ (b : List ℕ) (S : Rows) where
 
   words-none : (leads : Leads) (p : ℕ) → words b S leads p 0 ≡ []
   unfolding row union_row
-  words-none (All referent) p = refl
-  words-none (ByType e q) p = refl
+  words-none leads p = grind arith
 
   -- the first, and the others
   pub row_front : (r : Row) → 0 < r.left → words_of b S r ≡ first_word b S r ∷ words_of b S (past_first r)
@@ -27,12 +26,8 @@ module _ (b : List ℕ) (S : Rows) where
   pub row_none : (r : Row) → r.left ≡ 0 → words_of b S r ≡ []
   row_none r h = rw h (words-none r.leads r.place)
 
-  place-of : (leads : Leads) (p : ℕ) → (word_at b S leads p).place ≡ p
-  place-of (All referent) p = refl
-  place-of (ByType e q) p = refl
-
   pub first_place : (r : Row) → (first_word b S r).place ≡ r.place
-  first_place r = place-of r.leads r.place
+  first_place r = grind arith
 
   leads_on : (leads : Leads) (n : ℕ) → AreLeads b S n leads → 0 < n → AreLeads b S (n - 1) (leads_after leads)
   leads_on (All referent) n h l = h

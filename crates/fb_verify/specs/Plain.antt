@@ -122,10 +122,7 @@ IsSmall n = (n ≡ 1) ⊎ (n ≡ 2) ⊎ (n ≡ 4) ⊎ (n ≡ 8)
 -- a table
 pub record StepTested (c : Checks) (m new : Lent) (t : ℕ) (s : Step) (at : ℕ) (result : Option Reason) : Type 0 where
   pub plain : s.act ≡ Other → field_place m.bytes t s.slot ≡ None
-  pub told : tested_by at new.count result ≡ after m.count (plain_failure c m.bytes t s)
-  pub counted : result ≡ None → new.count ≡ m.count + plain_reads m.bytes t s
-  pub bytes : new.bytes ≡ m.bytes
-  pub base : new.base ≡ m.base
+  pub tested : IsTested m new at (plain_failure c m.bytes t s) (plain_reads m.bytes t s) result
 
 -- its slot lies behind the vtable
 pub record StepBehind (m new : Lent) (t : ℕ) (s : Step) : Type 0 where

@@ -35,9 +35,6 @@ frame_work S fr = 1 + 2 ^ 33 * (length (live_fields S (fr.table).object) - fr.ne
 unfoldable pub work : Rows → Bounds → List Frame → Frame → ℕ → ℕ
 work S L below top tables = sum_by (frame_work S) below + frame_work S top + 2 ^ 49 * (L.tables - tables)
 
-abbrev pub AreFrames : Checks → List ℕ → Rows → List Frame → Type 0
-AreFrames c b S frames = All (IsFrame c b S) frames
-
 -- into a table of the object k at the end of the way w, where the walk came to n tables, the depth d and r reads
 abbrev pub reached : Way → ℕ → Option ℕ → ℕ → ℕ → ℕ → Way
 reached w k field n d r = record { links = w.links + 1; passed = n; deepest = d; paid = r; leading = 0; object = k; field = field }
@@ -87,7 +84,7 @@ pub record IsUnderWay (c : Checks) (b : List ℕ) (S : Rows) (L : Bounds) (s : O
   pub reads : AreAllowed L.reads r
   pub links : length below < L.depth
   pub low : length below < 4096
-  pub frames : AreFrames c b S below
+  pub frames : All (IsFrame c b S) below
   pub frame : IsFrame c b S top
   pub standing : Standing c b S s below top n d r
 

@@ -1,10 +1,10 @@
-use Rattle.std.proofs.Common.{◌≡◌, ◌+◌, ◌-◌, ℕ, suc, length, map, drop, List, sym, ◌∙◌, ap, subst, arith, slice_get, Option, Some, None, refl}
+use Rattle.std.proofs.Common.{◌≡◌, ◌+◌, ◌-◌, ◌%◌, ℕ, suc, length, map, drop, List, sym, ◌∙◌, ap, subst, arith, slice_get, Option, Some, None, refl}
 use Rattle.std.proofs.lemmas.{List.length-map, List.length-drop, List.Elements.All-cons, List.Sums.sum_by-cons, Option.slice_get_within}
 use Rattle.fb_verify.specs.declared.{fault.Reason.Reason, table.Table.Table}
 use Rattle.fb_schema.specs.{Live.Live, Live.live_fields, Steps.step_of}
-use Rattle.fb_verify.specs.{PassesOn.StepsPass, PassesOn.IsBetween, PassesOn.fields_left, Plain.plain_failure, Plain.plain_reads, Plain.steps_reads}
-use Rattle.fb_verify.proofs.{Chains.after_none, Plains.is_step, Plains.has_bit, Plains.is_even, Passing.AtStep}
-use Rattle.fb_verify.proofs.BySteps.{steps_pass, left_from, GoesBy, step_by, came_to}
+use Rattle.fb_verify.specs.{PassesOn.StepsPass, PassesOn.IsBetween, PassesOn.fields_left, Plain.plain_failure, Plain.plain_reads, Plain.steps_reads, Plain.HasBit, Plain.IsStep}
+use Rattle.fb_verify.proofs.{Chains.after_none, Plains.each_step, Plains.kind_step, Plains.bit_at, Passing.AtStep}
+use Rattle.fb_verify.proofs.Passing.{steps_pass, left_from, GoesBy, step_by, came_to}
 use Rattle.fb_verify.proofs.flat.pass_by.Goals as goal
 use Rattle.fb_verify.proofs.flat.pass_by.Goals.{In-Some}
 
@@ -22,17 +22,18 @@ stands g c = (left_from (map step_of (fields g c)) (place g c) c.in-Some.step.no
 pub pass_step-requires-clause-even : goal.pass_step-requires-clause-even
 pass_step-requires-clause-even g c =
     let d = (goal.at.pass_step-requires-clause-even g c).In-Some in
-    is_even (fields g d) (place g d) c.in-Some.step.now (((((c.loop-step.invariant).between).walking).served).even (c.args.table).object (place g d)) (stands g d)
+    each_step (λ s. s.slot % 2 ≡ 0) (fields g d) (place g d) _ (((((c.loop-step.invariant).between).walking).served).even (c.args.table).object (place g d)) (stands g d)
 
 pub pass_step-requires-clause-bit : goal.pass_step-requires-clause-bit
 pass_step-requires-clause-bit g c =
     let d = (goal.at.pass_step-requires-clause-bit g c).In-Some in
-    has_bit (fields g d) (place g d) c.in-Some.step.now (stands g d)
+    each_step (λ s. HasBit s s.act) (fields g d) (place g d) _ (λ f _. bit_at (step_of f) f f.kind refl) (stands g d)
 
 pub pass_step-requires-clause-step : goal.pass_step-requires-clause-step
 pass_step-requires-clause-step g c =
     let d = (goal.at.pass_step-requires-clause-step g c).In-Some in
-    is_step (g.of).walk.schema.now (fields g d) (place g d) c.in-Some.step.now (((((c.loop-step.invariant).between).walking).served).kinds (c.args.table).object (place g d)) (stands g d)
+    let kinds = ((((c.loop-step.invariant).between).walking).served).kinds (c.args.table).object (place g d) in
+    each_step (λ s. IsStep s s.act) (fields g d) (place g d) _ (λ f here. kind_step (g.of).walk.schema.now f f.kind (kinds f here)) (stands g d)
 
 here : (g : _) (c : In-Some g) → AtStep (g.of).walk c.loop-step.reads (g.of).under (record (g.of).top { next = place g c }) (map step_of (fields g c)) c.in-Some.step.now
 here g c = record {
@@ -85,18 +86,18 @@ loop-step-preserved g c =
     let rest = c.in-Some.ensures.cases in
     let b = c.args.reads.now.bytes in
     let t = ((g.of).top.table).at in
-    let ok : plain_failure (g.of).walk.checks b t c.in-Some.step.now ≡ None = (after_none c.loop-step.reads.count (plain_failure (g.of).walk.checks b t c.in-Some.step.now)).0 (rw i.bytes at (sym passed.told)) in
+    let ok : plain_failure (g.of).walk.checks b t c.in-Some.step.now ≡ None = (after_none c.loop-step.reads.count (plain_failure (g.of).walk.checks b t c.in-Some.step.now)).0 (rw i.bytes at (sym (passed.tested).told)) in
     let next : place g d + 1 ≡ length (fields g d) - length c.in-Some.more.now = omega (arith, rest.1, all_left g d, ap length (its g d), i.within) in
     let up : suc (place g d) ≡ length (fields g d) - length c.in-Some.more.now = omega (arith, next) in
     record {
       bytes = on.3 ∙ i.bytes;
-      base = passed.base ∙ i.base;
+      base = (passed.tested).base ∙ i.base;
       grows = omega (arith, on.1, i.grows);
       within = omega (arith, rest.1, i.within);
       rest = (left_from (map step_of (fields g d)) (place g d) c.in-Some.step.now c.in-Some.more.now (sym rest.0 ∙ i.rest)).1 ∙ ap (λ n. drop n (map step_of (fields g d))) up;
       between = subst (λ n. IsBetween (g.of).walk c.pass_step.new.reads (g.of).under (record (g.of).top { next = n })) next on.0;
       hold = λ more. i.hold (rw rest.0 (All-cons (λ s. plain_failure (g.of).walk.checks b t s ≡ None) c.in-Some.step.now c.in-Some.more.now ok more));
-      counted = omega (arith, rw i.bytes at (passed.counted (let none : ◌≡◌ {A = Option Reason} None None = refl in none)), ap (steps_reads b t) rest.0, sum_by-cons (plain_reads b t) c.in-Some.step.now c.in-Some.more.now, i.counted);
+      counted = omega (arith, rw i.bytes at ((passed.tested).counted (let none : ◌≡◌ {A = Option Reason} None None = refl in none)), ap (steps_reads b t) rest.0, sum_by-cons (plain_reads b t) c.in-Some.step.now c.in-Some.more.now, i.counted);
       paid = omega (arith, on.2, rest.1, i.paid);
     }
 

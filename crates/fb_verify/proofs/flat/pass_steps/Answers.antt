@@ -54,34 +54,24 @@ here g c =
 looks : (g : _) (c : After-next_required g) → c.next_required.result ≡ next_required (g.of).walk.schema.now ((g.of).top.table).object (past g c).next
 looks g c = rw (c.requires.1.1.1.0, c.requires.1.1.1.1.0, many g c) at c.next_required.ensures
 
--- where none of these is required, those of all hold, and no read was made for them
-rest_none : (g : _) (c : After-next_required g) → c.next_required.result ≡ None → (StepsHold (g.of).walk.checks c.args.reads.now.bytes ((g.of).top.table).at (steps_left (g.of).walk.schema.now (g.of).top))
-    × (c.pass_by-came.new.reads.count ≡ c.args.reads.now.count + steps_reads c.args.reads.now.bytes ((g.of).top.table).at (steps_left (g.of).walk.schema.now (g.of).top))
-rest_none g c none =
-    let e = behind g c in
-    let f = first g c in
-    let past_slot = e.behind f.0 f.1 in
-    let why = sym (looks g c) ∙ none in
-    let hold = rw e.bytes at (rest_holds (e.between).walking (e.between).rests f.0 f.1 past_slot why) in
-    let free = rw e.bytes at (rest_free (e.between).walking (e.between).rests f.0 f.1 past_slot why) in
-    ((e.steps).hold hold, omega (arith, (e.steps).counted, free))
-
 pub returns-in_default-next_required : goal.returns-in_default-next_required
 returns-in_default-next_required g c =
     let d = (goal.at.returns-in_default-next_required g c).After-next_required in
     let e = behind g d in
     let s = here g d in
+    let f = first g d in
+    let past_slot = e.behind f.0 f.1 in
+    let none = sym (looks g d) ∙ c.in_default-next_required.is in
     let all = many g d ∙ ap length (same g d) in
-    let rest = rest_none g d c.in_default-next_required.is in
     record {
       comes = record {
-        walking = rest_absent s (e.behind _ (first g d).1) (sym (looks g d) ∙ c.in_default-next_required.is);
+        walking = rest_absent s past_slot none;
         forth = omega (arith, e.forth, e.within, all);
         within = omega (arith, all);
         all = omega (arith, all);
         ends = omega (arith, e.paid, all);
-        hold = rest.0;
-        counted = rest.1;
+        hold = (e.steps).hold (rw e.bytes at (rest_holds (e.between).walking (e.between).rests f.0 f.1 past_slot none));
+        counted = omega (arith, (e.steps).counted, rw e.bytes at (rest_free (e.between).walking (e.between).rests f.0 f.1 past_slot none));
       };
       same = refl;
       grows = e.grows;

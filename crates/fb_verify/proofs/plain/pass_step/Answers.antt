@@ -1,8 +1,8 @@
-use Rattle.std.proofs.Common.{◌≡◌, ◌+◌, ◌==◌, ◌^◌, ◌<◌, true, false, ◌∙◌, ap, arith}
+use Rattle.std.proofs.Common.{◌≡◌, ◌+◌, ◌==◌, ◌^◌, ◌<◌, ◌≤◌, true, false, ◌∙◌, ap, arith}
 use Rattle.std.proofs.lemmas.Bool.Decides.{nat_tests}
 use Rattle.fb_bytes.specs.Word.{word}
-use Rattle.fb_verify.specs.Places.{vtable, has_slot}
-use Rattle.fb_verify.proofs.Stepping.{even_apart, slot_inside, absent_required, absent_passed, there_passed, small_free, small_passed}
+use Rattle.fb_verify.specs.Places.{vtable, vtable_size, has_slot}
+use Rattle.fb_verify.proofs.Plains.{absent_required, absent_passed, there_passed, small_passed}
 use Rattle.fb_verify.proofs.plain.pass_step.Goals as goal
 use Rattle.fb_verify.proofs.plain.pass_step.Goals.{After-from-distance}
 
@@ -10,7 +10,8 @@ use Rattle.fb_verify.proofs.plain.pass_step.Goals.{After-from-distance}
 inside : (c : After-from-distance) → has_slot c.args.reads.now.bytes (c.args.table).at (c.args.step.now).slot ≡ true
 inside c =
     let v = (c.requires.head).vtable in
-    slot_inside c.args.reads.now.bytes (c.args.table).at (c.args.step.now).slot (omega (arith, v.size, even_apart (c.args.step.now).slot ((c.args.table).head).size c.requires.even v.even c.if-step-table.false))
+    let room : (c.args.step.now).slot + 2 ≤ vtable_size c.args.reads.now.bytes (c.args.table).at = omega (arith, v.size, v.even, c.requires.even, c.if-step-table.false) in
+    grind (arith, nat_tests)
 
 -- and tells this distance
 tells : (c : After-from-distance) → c.from-distance.result ≡ word c.args.reads.now.bytes (vtable c.args.reads.now.bytes (c.args.table).at + (c.args.step.now).slot) 2
@@ -41,10 +42,8 @@ returns c =
 pub returns-then-is_free_small : goal.returns-then-is_free_small
 returns-then-is_free_small c =
     let d = (goal.at.returns-then-is_free_small c).After-from-distance in
-    let free = c.is_free_small.ensures in
-    let is = c.if-is_free_small.true in
     let t = (c.args.table).at in
     let near : t + c.from-distance.result < 2 ^ 34 = omega (arith, c.from-distance.ensures, c.u16_at.type_inv, c.requires.near) in
     let small = c.pass_small.ensures in
-    rw c.u16_at.ensures.counted (small_passed c.args.checks c.args.reads.now t c.args.step.now c.from-distance.result (inside d) (tells d) c.requires.bit (free.small is) (small_free c.args.step.now (c.args.step.now).act c.requires.step c.requires.bit (free.small is)) near c.pass_small.result small.absent
+    rw c.u16_at.ensures.counted (small_passed c.args.checks c.args.reads.now t c.args.step.now c.requires.step c.requires.bit (c.is_free_small.ensures.small c.if-is_free_small.true) c.from-distance.result (inside d) (tells d) near c.pass_small.result small.absent
     (λ more. rw c.u16_at.ensures.counted at (small.there more)))

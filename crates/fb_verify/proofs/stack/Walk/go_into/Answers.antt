@@ -5,12 +5,11 @@ use Rattle.fb_schema.specs.Live.{Live}
 use Rattle.fb_schema.specs.Steps.{inline_act, act_of, bits_of, size_of}
 use Rattle.std.specs.Int.Bits.{bit_and}
 use Rattle.fb_verify.specs.Turns.{IsFar}
-use Rattle.fb_verify.proofs.Plains.{inline_acts}
 use Rattle.fb_verify.proofs.stack.Walk.go_into.Goals as goal
 
 -- a scalar or struct leads to no table
 no_other : (f : Live) → inline_act f.required f.size f.align ≡ Other → ⊥
-no_other f e = inline_acts (λ act. act ≡ Other → ⊥) f.required f.size f.align (λ _ _ x. cc) (λ _ _ x. cc) (λ _ _ x. cc) (λ _ _ x. cc) (λ x. cc) e
+no_other f e = grind arith
 
 -- what a step leaves out leads by a vector or by a union, if it has no bit of a table
 is_far : (f : Live) (kind : Kind) → act_of f kind ≡ Other → (bits_of f kind ≡ 384 → ⊥) → IsFar kind
