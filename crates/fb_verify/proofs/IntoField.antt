@@ -14,7 +14,7 @@ use Rattle.fb_verify.specs.Order.{Failure, after, present_failure, failure_at, o
 use Rattle.fb_verify.specs.Stack.{blank, frame_work, work, Waiting, IsUnderWay, IsStopped}
 use Rattle.fb_verify.specs.Turns.{IsAtOpenField, GoesOn, StaysInField, PassedField, BeginsRow, RowTurned, FieldTurned}
 use Rattle.fb_verify.proofs.{Budgets.fewer_reads, Chains.after_none, Turning.halts_on, Turning.goes_on, Turning.goes_down}
-use Rattle.fb_verify.proofs.{Frames.no_row, Frames.own_few, Frames.present_few, NextField.AtNext, NextField.askable, NextField.next_stops}
+use Rattle.fb_verify.proofs.{Frames.no_row, Frames.own_few, Frames.present_few, Walking.AtNext, Walking.askable, Walking.next_stops}
 use Rattle.fb_verify.proofs.{Passing.slot_is_one, Passing.stop_is, Plains.after_twice, Refusals.told_after, Refusals.told_first, Words.row_none}
 use Rattle.fb_verify.proofs.Walking.{field_passed, field_work, field_skipped, skip_work}
 

@@ -16,7 +16,6 @@ pub mod Steps
 pub mod Stacks
 pub mod Words
 pub mod Linked
-pub mod Contexts
 pub mod Typed
 pub mod Frames
 pub mod Standings
@@ -29,8 +28,6 @@ pub mod TrueReasons
 pub mod TrueFaults
 pub mod OneVerdict
 pub mod Walking
-pub mod NextField
-pub mod Absent
 pub mod Plains
 pub mod Heads
 pub mod ByUnits

@@ -1,13 +1,17 @@
 -- A walk goes on past fields that lead to no table, or stops at one.
-use Rattle.std.proofs.Common.{◌≡◌, ℕ, ◌+◌, ◌-◌, ◌^◌, ◌<◌, ◌≤◌, inl, inr, Bool, true, false, IsTrue, IfSome, if◌then◌else◌, List, [], ◌∷◌, map, length, get_or, option_map, refl, sym, ◌∙◌, ap, subst, arith, Option, Some, None, zero, suc, ◌*◌, drop, Ok, Err}
-use Rattle.std.specs.Prelude.{slice_get}
-use Rattle.std.proofs.lemmas.{List.length-map, Option.slice_get-get_or, Option.slice_get-map}
+use Rattle.std.proofs.Common.{◌≡◌, ℕ, ◌+◌, ◌-◌, ◌^◌, ◌<◌, ◌≤◌, inl, inr, Bool, true, false, IsTrue, IfSome, if◌then◌else◌, List, [], ◌∷◌, map, length, get_or, option_map, refl, sym, ◌∙◌, ap, subst, arith, Option, Some, None, zero, suc, ◌*◌, drop, Ok, Err, nat_le, nat_lt, cond, length-drop}
+use Rattle.std.specs.{Prelude.slice_get, List.All, List.position_or_len}
+use Rattle.std.proofs.lemmas.{List.length-map, List.get_or-drop, Bool.Decides.nat_tests}
+use Rattle.std.proofs.lemmas.List.Sums.{passes_at_first, fails_before_first, sum_by-le}
+use Rattle.std.proofs.lemmas.List.Elements.{All-cons, All-nil}
+use Rattle.std.proofs.lemmas.Option.{slice_get-get_or, slice_get-map, slice_get_within, get_or_from_slice_get}
 use Rattle.fb_bytes.specs.Word.{Lent}
 use Rattle.fb_schema.specs.declared.{views.Act.TheVariants.Other, views.Step.Step, kinds.Kind.Kind}
-use Rattle.fb_schema.specs.{Rows.Rows, Live.Live, Live.live_fields, Live.next_required, Steps.act_of, Steps.step_of}
+use Rattle.fb_schema.specs.{Rows.Rows, Steps.act_of, Steps.step_of}
+use Rattle.fb_schema.specs.Live.{Live, live_fields, next_required, next_required_of}
 use Rattle.fb_verify.specs.declared.{checks.Checks.Checks, fault.Fault.Fault, fault.Reason.Reason, fault.Reason.TheVariants.MissingRequired}
 use Rattle.fb_verify.specs.declared.{links.Link.Link, offset_row.Row.Row, offset_row.Referent.TheVariants.Text as AText}
-use Rattle.fb_verify.specs.declared.{offset_row.Leads.TheVariants.All, scratch.Frame.Frame, site.Refusal.Refusal, site.Site.Site, site.Stop.Stop}
+use Rattle.fb_verify.specs.declared.{offset_row.Leads.TheVariants.All as AllTo, scratch.Frame.Frame, site.Refusal.Refusal, site.Site.Site, site.Stop.Stop}
 use Rattle.fb_verify.specs.declared.{stack.Walk.Walk, plain.Came.Came, table.Table.Table}
 use Rattle.fb_verify.specs.declared.plain.Came.TheVariants.{Past, ToEnd, ToField, ToFault}
 use Rattle.fb_verify.specs.{Bounds.Bounds, Bounds.AreAllowed, Places.vtable_size, Places.has_slot, Places.field_place}
@@ -19,12 +23,121 @@ use Rattle.fb_verify.specs.Plain.{tested_by, plain_failure, plain_reads, StepsHo
 use Rattle.fb_verify.specs.Order.{Failure, after, ◌▷◌, own_failure, element_failure}
 use Rattle.fb_verify.specs.Stack.{blank, frame_link, link_behind, own_link, Origin, Waiting, IsUnderWay, IsWalking, IsAtField, IsStopped, Standing, StopsIn}
 use Rattle.fb_verify.specs.PassesOn.{StepsPass, IsBetween, HasRoom, EndsBehind, PassesOn, CameTo, fields_left}
-use Rattle.fb_verify.proofs.Absent.{none_required, required_next, bare_reads, no_slot_from, some_found}
-use Rattle.fb_verify.proofs.{Budgets.fewer_reads, Chains.after_none, Chains.both_none, Refusals.told_after, Refusals.told_first}
-use Rattle.fb_verify.proofs.{Walking.field_stops, Walking.stops_in_field, Walking.goes_on, Walking.field_skipped, Words.row_none}
+use Rattle.fb_verify.proofs.{Budgets.fewer_reads, Chains.after_none, Chains.both_none, Refusals.told_after, Refusals.told_first, Words.row_none}
+use Rattle.fb_verify.proofs.Walking.{field_stops, stops_in_field, goes_on, field_skipped}
 use Rattle.fb_verify.proofs.Frames.{field_within, frame_passed, no_row, own_few, slot_few}
 use Rattle.fb_verify.proofs.Plains.{LeadsTo, step_at, comes, after_twice, plain_few}
 use Rattle.fb_verify.proofs.Standings.{at_rest, pass_more, pass_leaf, stop_at_element}
+
+-- Fields behind the end of a table's vtable, of which none is required: they are passed without a read.
+
+-- What the schema tells of the next required field.
+abbrev is_required : Live → Bool
+is_required f = f.required
+
+abbrev first_from : List Live → ℕ → ℕ
+first_from fs i = position_or_len is_required (drop i fs)
+
+free_until : (fs : List Live) (i j : ℕ) (f : Live) → i ≤ j → j < i + first_from fs i → slice_get fs j ≡ Some f → f.required ≡ false
+free_until fs i j f low lt at =
+    let e : i + (j - i) ≡ j = omega (arith, low) in
+    ap is_required (sym (get_or-drop i fs (j - i) f ∙ ap (λ k. get_or fs k f) e ∙ get_or_from_slice_get fs j f f at)) ∙ fails_before_first is_required (drop i fs) (j - i) f (omega (arith, lt, low))
+
+none_past : (fs : List Live) (i : ℕ) → next_required_of fs i ≡ None → length fs ≤ i + first_from fs i
+none_past fs i e = grind (arith, nat_tests, length-drop i fs)
+
+some_past : (fs : List Live) (i place : ℕ) → next_required_of fs i ≡ Some place → (place < length fs) × (place ≡ i + first_from fs i)
+some_past fs i place e = grind (arith, nat_tests, length-drop i fs)
+
+-- it is one of them, at that place or behind it, and required
+pub some_found : (fs : List Live) (i place : ℕ) → next_required_of fs i ≡ Some place → (d : Live) → (i ≤ place) × (place < length fs) × ((f : Live) → slice_get fs place ≡ Some f → f.required ≡ true)
+some_found fs i place some d =
+    let (within, same) = some_past fs i place some in (
+      omega (arith, same),
+      within,
+      λ f at. ap is_required (sym (get_or_from_slice_get fs place f f at) ∙ ap (λ k. get_or fs k f) same ∙ sym (get_or-drop i fs (first_from fs i) f))
+          ∙ passes_at_first is_required (drop i fs) f (omega (arith, within, same, length-drop i fs)),
+    )
+
+-- A field whose slot lies behind the vtable costs no read.
+pub bare_reads : (b : List ℕ) (t : ℕ) (f : Live) → has_slot b t f.slot ≡ false → own_reads b t f ≡ 0
+unfolding own_reads field_place
+bare_reads b t f past = rw past refl
+
+-- Nor does it fail, where it isn't required.
+module _ (c : Checks) (b : List ℕ) (S : Rows) (t : ℕ) (f : Live) (past : has_slot b t f.slot ≡ false) (free : f.required ≡ false) where
+  bare_field : (own_failure c b S t f ≡ None) × (entries b S t f ≡ [])
+  unfolding own_failure entries field_place
+  bare_field = rw (past, free) (refl, refl)
+
+  bare_step : (plain_failure c b t (step_of f) ≡ None) × (plain_reads b t (step_of f) ≡ 0)
+  unfolding plain_failure plain_reads field_place
+  bare_step = rw (past, free) (refl, refl)
+
+-- what holds of each item from a place on holds of those that are left
+all_from : {X : Type 0} (P : X → Type 0) (xs : List X) (i : ℕ) → ((j : ℕ) (x : X) → i ≤ j → slice_get xs j ≡ Some x → P x) → All P (drop i xs)
+all_from P xs i h = λ k d lt. subst P (sym (get_or-drop i xs k d)) (h (i + k) (get_or xs (i + k) d) (omega arith) (slice_get-get_or xs (i + k) d (omega (arith, lt, length-drop i xs))))
+
+no_slot : (size o : ℕ) → size < o + 2 → nat_le (o + 2) size ≡ false
+no_slot size o h = grind (arith, nat_tests)
+
+module _ {c : Checks} {b : List ℕ} {S : Rows} {L : Bounds} {s : Origin} {below : List Frame} {top : Frame} {n d r : ℕ} (h : IsUnderWay c b S L s below top n d r) where
+  abbrev top_fields : List Live
+  top_fields = live_fields S (top.table).object
+
+  -- the top, with this field next
+  abbrev top_at : ℕ → Frame
+  top_at i = record top { next = i }
+
+  module _ (rests : (top.row).left ≡ 0) (field : Live) (here : slice_get top_fields top.next ≡ Some field) (past : vtable_size b (top.table).at < field.slot + 2) where
+    past_from : (i : ℕ) (f : Live) → top.next ≤ i → slice_get top_fields i ≡ Some f → field.slot ≤ f.slot
+    past_from i f low there = let less = (h.served).rising (top.table).object top.next i field f here there in grind arith
+
+    -- a field behind it has no slot either
+    pub no_slot_from : (i : ℕ) (f : Live) → top.next ≤ i → slice_get top_fields i ≡ Some f → has_slot b (top.table).at f.slot ≡ false
+    no_slot_from i f low there = no_slot (vtable_size b (top.table).at) f.slot (omega (arith, past, past_from i f low there))
+
+    module _ (stop : ℕ) (within : stop ≤ length top_fields) (free : stop ≤ top.next + first_from top_fields top.next) where
+      passed_from : (m i : ℕ) → i + m ≡ stop → top.next ≤ i → IsUnderWay c b S L s below (top_at i) n d r → IsUnderWay c b S L s below (top_at stop) n d r
+      passed_from zero i e low g = let same : i ≡ stop = omega (arith, e) in subst (λ j. IsUnderWay c b S L s below (top_at j) n d r) same g
+      passed_from (suc m) i e low g =
+          let x = get_or top_fields i field in
+          let f = slice_get-get_or top_fields i field (omega (arith, e, within)) in
+          let t = (top.table).at in
+          let none = no_slot_from i x low f in
+          let bare = bare_field c b S t x none (free_until top_fields top.next i x low (omega (arith, e, free)) f) in
+          passed_from m (i + 1) (omega (arith, e)) (omega (arith, low))
+          (field_skipped g x blank.row top.number r rests f (omega (arith, bare_reads b t x none)) (no_row c b S) g.reads refl bare.0 (bare.1 ∙ sym (row_none b S blank.row refl)))
+
+      -- the table's fields before that one are passed
+      pub absent_to : top.next ≤ stop → IsUnderWay c b S L s below (top_at stop) n d r
+      absent_to low = passed_from (stop - top.next) top.next (omega (arith, low)) (omega arith) h
+
+    -- the table's other fields are passed, where none of them is required
+    pub none_required : next_required S (top.table).object top.next ≡ None → IsUnderWay c b S L s below (top_at (length top_fields)) n d r
+    none_required none = absent_to (length top_fields) (omega arith) (none_past top_fields top.next none) (h.frame).next
+
+    -- or those before the next required one
+    pub required_next : (place : ℕ) → next_required S (top.table).object top.next ≡ Some place → IsUnderWay c b S L s below (top_at place) n d r
+    required_next place some =
+        let found = some_found top_fields top.next place some field in
+        absent_to place (omega (arith, found.1)) (omega (arith, (some_past top_fields top.next place some).1)) found.0
+
+    -- so that the steps of these hold, and cost nothing
+    module _ (none : next_required S (top.table).object top.next ≡ None) where
+      abbrev rest : List Step
+      rest = drop top.next (map step_of top_fields)
+
+      bare : (P : Step → Type 0) → ((f : Live) → has_slot b (top.table).at f.slot ≡ false → f.required ≡ false → P (step_of f)) → All P rest
+      bare P h' = all_from P (map step_of top_fields) top.next (λ j s low e.
+          let x = step_at top_fields j s e in
+          subst P (sym x.2) (h' x.0 (no_slot_from j x.0 low x.1) (free_until top_fields top.next j x.0 low (omega (arith, none_past top_fields top.next none, slice_get_within top_fields j x.0 x.1)) x.1)))
+
+      pub rest_holds : StepsHold c b (top.table).at rest
+      rest_holds = bare (λ s'. plain_failure c b (top.table).at s' ≡ None) (λ f past' free. (bare_step c b S (top.table).at f past' free).0)
+
+      pub rest_free : steps_reads b (top.table).at rest ≡ 0
+      rest_free = omega (arith, sum_by-le (plain_reads b (top.table).at) 0 rest (bare (λ s'. plain_reads b (top.table).at s' ≤ 0) (λ f past' free. omega (arith, (bare_step c b S (top.table).at f past' free).1))))
 
 -- a stop is its parts
 pub stop_is : (s : Stop) (e : Refusal) (object number reads : ℕ) → s.refusal ≡ e → (s.site).object ≡ object → (s.site).field ≡ Some number
@@ -39,7 +152,7 @@ module _ {c : Checks} {b : List ℕ} {S : Rows} {L : Bounds} {s : Origin} {below
 
   -- the row of a string's offset word
   abbrev one_word : ℕ → Row
-  one_word p = record { leads = All AText; place = p; left = 1 }
+  one_word p = record { leads = AllTo AText; place = p; left = 1 }
 
   -- the field under check, with that row
   abbrev at_word : ℕ → Frame

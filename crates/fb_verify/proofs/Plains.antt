@@ -24,17 +24,6 @@ step_at [] i s e = absurd (let w : None ≡ Some s = e in cc)
 step_at (f ∷ fs) zero s e = (f, refl, (let w : step_of f ≡ s = cc in sym w))
 step_at (f ∷ fs) (suc i) s e = step_at fs i s e
 
--- A scalar or struct has one of five acts.
-inline_acts : (P : Act → Type 0) (required : Bool) (size align : ℕ) → (required ≡ false → P One) → (required ≡ false → P Two) → (required ≡ false → P Four) → (required ≡ false → P Eight) → P Inline → P (inline_act required size align)
-inline_acts P true size align one two four eight other = other
-inline_acts P false size align one two four eight other = go (size == 1 && align == 1) (size == 2 && align == 2) (size == 4 && align == 4) (size == 8 && align == 8) where
-  go : (w x y z : Bool) → P (if w then One else (if x then Two else (if y then Four else (if z then Eight else Inline))))
-  go true x y z = one refl
-  go false true y z = two refl
-  go false false true z = four refl
-  go false false false true = eight refl
-  go false false false false = other
-
 -- Where no field leads to a table, none does.
 pub never_leads : (fs : List Live) (i : ℕ) (f : Live) → are_plain fs ≡ true → slice_get fs i ≡ Some f → act_of f f.kind ≡ Other → ⊥
 never_leads [] i f p e a = absurd (let w : None ≡ Some f = e in cc)
@@ -51,13 +40,21 @@ inline_step c b t p s = grind (arith, nat_tests)
 inline_free : (required : Bool) (size align : ℕ) → step_reads (inline_act required size align) ≡ 0
 inline_free required size align = grind arith
 
-inline_is : (s : Step) (size align : ℕ) → IsAlignment s.align → IsStep s (inline_act s.required size align)
-inline_is s size align h = inline_acts (IsStep s) s.required size align (λ free. free) (λ free. free) (λ free. free) (λ free. free) h
+-- one of five acts is its own
+inline_is : (s : Step) (required : Bool) (size align : ℕ) → s.required ≡ required → IsAlignment s.align → IsStep s (inline_act required size align)
+inline_is s true size align free h = h
+inline_is s false size align free h = go (size == 1 && align == 1) (size == 2 && align == 2) (size == 4 && align == 4) (size == 8 && align == 8) where
+  go : (w x y z : Bool) → IsStep s (if w then One else (if x then Two else (if y then Four else (if z then Eight else Inline))))
+  go true x y z = free
+  go false true y z = free
+  go false false true z = free
+  go false false false true = free
+  go false false false false = h
 
 -- What is asked for its own alignment has one, and what has a bit of its size may be absent.
 pub kind_step : (S : Rows) (f : Live) (kind : Kind) → KindHolds S f kind → IsStep (step_of f) (act_of f kind)
-kind_step S f (Scalar s) h = inline_is (step_of f) f.size f.align h
-kind_step S f (Struct k) h = inline_is (step_of f) f.size f.align h
+kind_step S f (Scalar s) h = inline_is (step_of f) f.required f.size f.align refl h
+kind_step S f (Struct k) h = inline_is (step_of f) f.required f.size f.align refl h
 kind_step S f (Scalars s) h = h
 kind_step S f (Structs k) h = h
 kind_step S f _ h = tt

@@ -14,7 +14,7 @@ use Rattle.fb_verify.specs.Told.{way_at, stopped, told, IsHead}
 use Rattle.fb_verify.specs.Stack.{Origin, Waiting, IsAtTable, IsStopped, StopsIn, frame_work, work, opened, IsUnderWay, IsFrame, reached, frame_link}
 use Rattle.fb_verify.specs.Stops.{budget_failure, reads_failure, in_head, fault_at}
 use Rattle.fb_verify.specs.Order.{◌▷◌, head_failure}
-use Rattle.fb_verify.proofs.{Flats.head_fails, Pushes.take_all, Budgets.fewer_reads, Contexts.context_push, Linked.linked_by}
+use Rattle.fb_verify.proofs.{Flats.head_fails, Pushes.take_all, Budgets.fewer_reads, Standings.context_push, Linked.linked_by}
 use Rattle.fb_verify.proofs.{Steps.same_way, Steps.stops_at_head, Steps.stops_below, Walking.stops_behind}
 use Rattle.fb_verify.proofs.Frames.{first_few, head_few, frame_on, frame_opened, work_opened}
 use Rattle.fb_verify.proofs.Standings.{told_is, fresh, links_is, waits_for, stop}

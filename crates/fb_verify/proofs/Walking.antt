@@ -1,22 +1,24 @@
 -- The steps of a walk under way, with the work that they leave.
-use Rattle.std.proofs.Common.{◌≡◌, ℕ, ◌+◌, ◌-◌, ◌^◌, ◌<◌, ◌≤◌, max, inl, inr, refl, List, [], ◌∷◌, ◌++◌, length, sym, ap, arith, IsTrue, Some, None, map, ◌∙◌, subst, Option}
-use Rattle.std.specs.{Prelude.slice_get, List.All}
+use Rattle.std.proofs.Common.{◌≡◌, ℕ, ◌+◌, ◌-◌, ◌^◌, ◌<◌, ◌≤◌, max, inl, inr, refl, List, [], ◌∷◌, ◌++◌, length, sym, ap, arith, IsTrue, Some, None, map, ◌∙◌, subst, Option, Result, Ok, Err, true}
+use Rattle.std.specs.{Prelude.slice_get, List.All, Result.IsErrAnd}
 use Rattle.std.proofs.lemmas.{List.Sums.sum_by_push, List.Elements.All-push, List.Elements.All-pop}
 use Rattle.std.proofs.lemmas.List.{length-append, map-append, append-nil}
+use Rattle.fb_bytes.specs.Word.{Lent}
 use Rattle.fb_schema.specs.{Rows.Rows, Rows.is_table, Live.Live, Live.live_fields}
 use Rattle.fb_verify.specs.declared.{checks.Checks.Checks, table.Table.Table, offset_row.Row.Row, scratch.Frame.Frame, fault.Fault.Fault}
-use Rattle.fb_verify.specs.declared.{links.Link.Link, site.Site.Site}
+use Rattle.fb_verify.specs.declared.{links.Link.Link, site.Site.Site, site.Stop.Stop, stack.Walk.Walk}
 use Rattle.fb_verify.specs.{Bounds.Bounds, Bounds.AreAllowed, Places.target, Fields.to_table, Fields.entries}
-use Rattle.fb_verify.specs.{Cost.head_reads, Cost.own_reads, Cost.lead_reads, Told.IsHead, Told.told, Told.way_at, Walked.ended}
-use Rattle.fb_verify.specs.{Way.way_to_table, Way.Way, Links.field_link, Links.LeadsAlong}
+use Rattle.fb_verify.specs.{Cost.head_reads, Cost.own_reads, Cost.lead_reads, Walked.ended, Way.way_to_table, Way.Way}
+use Rattle.fb_verify.specs.{Links.field_link, Links.LeadsAlong, PassesOn.HasPassed, PassesOn.PassesFields}
+use Rattle.fb_verify.specs.Told.{IsHead, told, way_at, stopped}
 use Rattle.fb_verify.specs.Order.{head_failure, own_failure, element_failure, Failure, ◌▷◌}
-use Rattle.fb_verify.specs.OffsetRows.{words_of, first_word, past_first, IsLeafLead, IsRow}
-use Rattle.fb_verify.specs.Stack.{IsFrame, frame_work, work, opened, reached, Goes, Origin, IsUnderWay, Standing, frame_link, link_to_number, own_link, IsLinked, StopsIn}
+use Rattle.fb_verify.specs.OffsetRows.{words_of, first_word, past_first, IsLeafLead, IsRow, IsAskable}
+use Rattle.fb_verify.specs.Stack.{IsFrame, frame_work, work, opened, reached, Goes, Origin, IsUnderWay, Standing, frame_link, link_to_number, own_link, IsLinked, StopsIn, blank, Waiting, IsWalking, IsStopped}
 use Rattle.fb_verify.specs.Stops.{budget_failure, reads_failure, lead_reads_failure, in_head, in_field, fault_at}
-use Rattle.fb_verify.proofs.Frames.{first_few, head_few, own_few, field_within, frame_on, frame_passed, frame_opened, work_opened}
-use Rattle.fb_verify.proofs.{Contexts.context_push, Contexts.context_pop, Contexts.context_linked, Linked.is_linked, Linked.linked_by}
-use Rattle.fb_verify.proofs.Budgets.{fewer_reads}
-use Rattle.fb_verify.proofs.Steps.{resumed, same_way, stops_at_head, stops_at_field, stops_below}
+use Rattle.fb_verify.proofs.Frames.{first_few, head_few, own_few, field_within, frame_on, frame_passed, frame_opened, work_opened, no_row}
+use Rattle.fb_verify.proofs.{Standings.context_push, Standings.context_pop, Standings.context_linked, Linked.is_linked, Linked.linked_by}
+use Rattle.fb_verify.proofs.{Budgets.fewer_reads, Typed.typed_before, Words.row_none}
+use Rattle.fb_verify.proofs.Steps.{resumed, same_way, stops_at_head, stops_at_field as stops_at_test, stops_below}
 use Rattle.fb_verify.proofs.Standings.{at_rest, goes_way, fresh, links_is, waits_for, pass_leaf, pass_more, close, told_is, in_middle, stop, stop_at_element}
 
 module _ {c : Checks} {b : List ℕ} {S : Rows} {L : Bounds} {s : Origin} {below : List Frame} {top : Frame} {n d r : ℕ} (h : IsUnderWay c b S L s below top n d r) where
@@ -115,7 +117,7 @@ module _ {c : Checks} {b : List ℕ} {S : Rows} {L : Bounds} {s : Origin} {below
       let u = reached g.v k (Some field.number) n d r in
       let first : fault_at c b S L (in_field (top.table).at field) u ≡ Some f = sym (told_is u (record { object = k; field = Some field.number }) own refl refl) ∙ e in
       let inside = (at_rest c b S top g.v n d r l g.at).inside in
-      let leads = stops_at_field c b S k (top.table).at g.v L f top.next (reached g.v k None n d r) field inside i (record { within = record { tables = h.tables; depth = h.deepest; reads = fewer_reads L.reads _ r (omega arith) h.reads }; first = first }) in
+      let leads = stops_at_test c b S k (top.table).at g.v L f top.next (reached g.v k None n d r) field inside i (record { within = record { tables = h.tables; depth = h.deepest; reads = fewer_reads L.reads _ r (omega arith) h.reads }; first = first }) in
       stops_in_field (field_link k field ∷ []) (sym (told_link _ r _ f e)) (stop c b S L s below top n d r g f (field_link k field ∷ []) leads)
 
   -- a word of the top fails
@@ -123,3 +125,70 @@ module _ {c : Checks} {b : List ℕ} {S : Rows} {L : Bounds} {s : Origin} {below
       → told (record { object = (top.table).object; field = Some top.number }) r (element_failure c b (first_word b S top.row) ▷ lead_reads_failure L r (first_word b S top.row) (first_word b S top.row).lead) ≡ Some f
       → StopsIn c b S L s (below ++ record top { row = row } ∷ []) [] f
   word_stops row re l e = stops_behind row re l (stop_at_element c b S L s below top n d r h.standing h.tables h.deepest h.reads f l e)
+
+-- The walk comes to the next field of the top, and goes on past it or stops there.
+
+-- the exit of a `?`
+pub err_exit : {A E : Type 0} (r : Result A E) (x : E) (P : Result A E → Type 0) → IsErrAnd r (λ e. e ≡ x) → P (Err x) → P r
+err_exit (Ok a) x P h p = absurd h
+err_exit (Err e) x P h p = subst (λ y. P (Err y)) (sym h) p
+
+-- no field is under check, and this is the next
+pub record AtNext (w : Walk) (m : Lent) (under : Waiting) (top : Frame) (field : Live) : Type 0 where
+  pub walking : IsWalking w m under.start under.frames top
+  pub rests : (top.row).left ≡ 0
+  pub here : slice_get (live_fields w.schema.now (top.table).object) top.next ≡ Some field
+
+-- the walk stops at a field
+pub stops_at_field : {w : Walk} {m new : Lent} {under : Waiting} {top past : Frame} (s : Stop) → new.bytes ≡ m.bytes → IsStopped w m under.start under.frames (stopped s new.count) → PassesFields w m new under top past (Err s)
+stops_at_field s bytes err = record { walking = tt; leads = tt; rests = tt; all = tt; falls = tt; grows = tt; bytes = bytes; err = err }
+
+module _ {w : Walk} {m : Lent} {under : Waiting} {top : Frame} {field : Live} (h : AtNext w m under top field) where
+  pub askable : IsAskable m.bytes w.schema.now (top.table).at field field.kind
+  askable =
+    let k = (top.table).object in
+    let g = (h.walking).standing in
+    let inside = (at_rest w.checks m.bytes w.schema.now top g.v w.tables w.deepest m.count h.rests g.at).inside in
+    record {
+    served = (h.walking).served;
+    holds = ((h.walking).served).kinds (top.table).object top.next field h.here;
+    typed = typed_before w.checks m.bytes w.schema.now (top.table).at inside.earlier (live_fields w.schema.now k) top.next field.slot inside.passed field.kind (((h.walking).served).typed k top.next field h.here);
+  }
+
+  -- it fails by itself
+  pub next_stops : (f : Fault)
+      → told (record { object = (top.table).object; field = Some field.number }) m.count (own_failure w.checks m.bytes w.schema.now (top.table).at field ▷ reads_failure w.limits m.count (own_reads m.bytes (top.table).at field) (top.table).at) ≡ Some f
+      → IsStopped w m under.start under.frames f
+  next_stops f e = field_stops h.walking f field h.rests h.here e
+
+  -- or it holds, after these reads; the walk began before it
+  module _ (own : own_failure w.checks m.bytes w.schema.now (top.table).at field ≡ None) {q : ℕ} (count : q ≡ m.count + own_reads m.bytes (top.table).at field) (cheap : AreAllowed (w.limits).reads q)
+      {began : Lent} {first : Frame} (falls : m.count + frame_work w.schema.now top ≤ began.count + frame_work w.schema.now first) (grows : began.count ≤ q) (bytes : m.bytes ≡ began.bytes) where
+    -- it leads on
+    pub next_leads : (row : Row) → IsRow m.bytes w.schema.now row × (0 < row.left) → entries m.bytes w.schema.now (top.table).at field ≡ words_of m.bytes w.schema.now row
+        → PassesFields w began (record m { count = q }) under first (record top { next = top.next + 1; number = field.number; row = row }) (Ok true)
+    next_leads row good leads = record {
+      walking = field_passed h.walking field row field.number q h.rests h.here count good.0 cheap refl own leads;
+      leads = λ _. good.1;
+      rests = λ e. absurd cc;
+      all = λ e. absurd cc;
+      falls = omega (arith, falls, field_work h.walking field row field.number q h.rests h.here count good.0);
+      grows = grows;
+      bytes = bytes;
+      err = tt;
+    }
+
+    -- it leads on nowhere
+    pub next_over : top.table ≡ first.table → entries m.bytes w.schema.now (top.table).at field ≡ [] → HasPassed w began (record m { count = q }) under first (record top { next = top.next + 1 })
+    next_over table none = record {
+      between = record {
+        walking =
+            field_skipped h.walking field blank.row field.number q h.rests h.here count (no_row w.checks m.bytes w.schema.now) cheap refl own
+            (none ∙ sym (row_none m.bytes w.schema.now blank.row refl));
+        rests = h.rests;
+      };
+      table = table;
+      falls = omega (arith, falls, skip_work h.walking field blank.row field.number q h.rests h.here count (no_row w.checks m.bytes w.schema.now));
+      grows = grows;
+      bytes = bytes;
+    }

@@ -6,7 +6,7 @@ use Rattle.fb_schema.proofs.Numbers.{slice_get_some}
 use Rattle.fb_verify.specs.declared.{fault.Reason.Reason, plain.Came.Came, scratch.Frame.Frame, stack.Walk.Walk, table.Table.Table}
 use Rattle.fb_verify.specs.declared.plain.Came.TheVariants.{Past, ToEnd, ToField, ToFault}
 use Rattle.fb_verify.specs.{PassesOn.steps_left, PassesOn.EndsBehind, PassesOn.CameTo, Plain.StepsHold, Plain.steps_reads, Stack.Waiting}
-use Rattle.fb_verify.proofs.Absent.{rest_holds, rest_free}
+use Rattle.fb_verify.proofs.Passing.{rest_holds, rest_free}
 use Rattle.fb_verify.proofs.Passing.{AtStep, rest_absent, required_within, required_stops}
 use Rattle.fb_verify.proofs.flat.pass_steps.Goals as goal
 use Rattle.fb_verify.proofs.flat.pass_steps.Goals.{After-next_required}
