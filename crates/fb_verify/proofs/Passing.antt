@@ -9,6 +9,9 @@ use Rattle.fb_bytes.specs.Word.{Lent}
 use Rattle.fb_schema.specs.declared.{views.Act.TheVariants.Other, views.Step.Step, kinds.Kind.Kind}
 use Rattle.fb_schema.specs.{Rows.Rows, Steps.act_of, Steps.step_of}
 use Rattle.fb_schema.specs.Live.{Live, live_fields, next_required, next_required_of}
+use Rattle.std.proofs.Math.Seq.{drop-cons}
+use Rattle.std.proofs.Common.{add-one}
+use Rattle.std.proofs.lemmas.List.Sums.{sum_by-cons}
 use Rattle.fb_verify.specs.declared.{checks.Checks.Checks, fault.Fault.Fault, fault.Reason.Reason, fault.Reason.TheVariants.MissingRequired}
 use Rattle.fb_verify.specs.declared.{links.Link.Link, offset_row.Row.Row, offset_row.Referent.TheVariants.Text as AText}
 use Rattle.fb_verify.specs.declared.{offset_row.Leads.TheVariants.All as AllTo, scratch.Frame.Frame, site.Refusal.Refusal, site.Site.Site, site.Stop.Stop}
@@ -348,11 +351,8 @@ left_from [] (suc i) x more e = absurd cc
 left_from (y ∷ xs) zero x more e = (let w : x ≡ y = cc in ap Some (sym w), cc)
 left_from (y ∷ xs) (suc i) x more e = left_from xs i x more e
 
--- What is known of the steps that are left, in a list.
-pub steps_pass : {w : Walk} {start m : Lent} {first : Frame} (table : Table) (steps rest : List Step) (next : ℕ) → table ≡ first.table → steps ≡ drop first.next (map step_of (live_fields w.schema.now table.object)) → rest ≡ drop next (map step_of (live_fields w.schema.now table.object))
-    → (StepsHold w.checks start.bytes (first.table).at rest → StepsHold w.checks start.bytes (first.table).at steps) → m.count + steps_reads start.bytes (first.table).at rest ≡ start.count + steps_reads start.bytes (first.table).at steps
-    → StepsPass w start m first (record first { next = next })
-steps_pass table steps rest next same all left hold counted = record { hold = rw (left, all, same) at hold; counted = rw (left, all, same) at counted }
+drop_from : {A : Type 0} (xs : List A) (i : ℕ) (x : A) → slice_get xs i ≡ Some x → drop i xs ≡ x ∷ drop (i + 1) xs
+drop_from xs i x e = rw add-one (drop-cons xs i x (slice_get_within xs i x e) ∙ ap (λ y. y ∷ drop (suc i) xs) (get_or_from_slice_get xs i x x e))
 
 -- The walk came from the start and the first frame so far by steps.
 pub record GoesBy (w : Walk) (start m : Lent) (first : Frame) (next : ℕ) : Type 0 where
@@ -363,6 +363,14 @@ pub record GoesBy (w : Walk) (start m : Lent) (first : Frame) (next : ℕ) : Typ
   pub room : HasRoom w start first
   pub steps : StepsPass w start m first (record first { next = next })
 
+pub goes_first : {w : Walk} {m : Lent} {first : Frame} → HasRoom w m first → GoesBy w m m first first.next
+goes_first room = record { forth = omega arith; grows = omega arith; bytes = refl; paid = omega arith; room = room; steps = record { hold = λ all. all; counted = refl } }
+
+-- it came to the end of the steps, or to one whose slot lies behind the vtable
+pub ends_behind : {w : Walk} {start m : Lent} {under : Waiting} {first : Frame} {next : ℕ} → GoesBy w start m first next → IsBetween w m under (record first { next = next }) → next ≤ length (live_fields w.schema.now (first.table).object)
+    → ((f : Live) → slice_get (live_fields w.schema.now (first.table).object) next ≡ Some f → vtable_size m.bytes (first.table).at < f.slot + 2) → EndsBehind w start m under first (record first { next = next })
+ends_behind g between within behind = record { between = between; forth = g.forth; within = within; steps = g.steps; behind = behind; paid = g.paid; grows = g.grows; bytes = g.bytes }
+
 module _ {w : Walk} {start m : Lent} {under : Waiting} {first : Frame} {next : ℕ} {steps : List Step} {step : Step}
     (g : GoesBy w start m first next) (h : AtStep w m under (record first { next = next }) steps step) (new : Lent) (at : ℕ) where
   abbrev top : Frame
@@ -372,16 +380,28 @@ module _ {w : Walk} {start m : Lent} {under : Waiting} {first : Frame} {next : �
   first_at = (first.table).at
 
   -- past a field that leads on nowhere
-  pub step_by : StepTested w.checks m new first_at step at None → (IsBetween w new under (record first { next = next + 1 })) × (m.count ≤ new.count) × (new.count ≤ m.count + 4) × (new.bytes ≡ m.bytes)
+  pub step_by : StepTested w.checks m new first_at step at None → IsBetween w new under (record first { next = next + 1 }) × GoesBy w start new first (next + 1)
   step_by e =
       let few = plain_few m.bytes first_at step in
       let within = next_within h in
+      let b = start.bytes in
       let counted = (e.tested).counted refl in
-      let cheap = fewer_reads (w.limits).reads new.count (start.count + 6 * fields_left w.schema.now first) (omega (arith, counted, few, g.paid, within)) (g.room).allowed in (
+      let cheap = fewer_reads (w.limits).reads new.count (start.count + 6 * fields_left w.schema.now first) (omega (arith, counted, few, g.paid, within)) (g.room).allowed in
+      let ok : plain_failure w.checks b first_at step ≡ None = (after_none m.count (plain_failure w.checks b first_at step)).0 (rw g.bytes at (sym (e.tested).told)) in
+      let all = map step_of (live_fields w.schema.now (first.table).object) in
+      let left = drop_from all next step (ap (λ xs. slice_get xs next) (sym h.all) ∙ h.got) in (
         record { walking = rw (e.tested).bytes (step_passed h e.plain at m.count new.count None (e.tested).told refl new.count counted cheap); rests = h.rests },
-        omega (arith, counted),
-        omega (arith, counted, few),
-        (e.tested).bytes,
+        record {
+          forth = omega (arith, g.forth);
+          grows = omega (arith, counted, g.grows);
+          bytes = (e.tested).bytes ∙ g.bytes;
+          paid = omega (arith, counted, few, g.paid, within);
+          room = g.room;
+          steps = record {
+            hold = λ more. (g.steps).hold (rw left (All-cons (λ s. plain_failure w.checks b first_at s ≡ None) step (drop (next + 1) all) ok more));
+            counted = omega (arith, rw g.bytes at counted, ap (steps_reads b first_at) left, sum_by-cons (plain_reads b first_at) step (drop (next + 1) all), (g.steps).counted);
+          };
+        },
       )
 
   -- to one whose test fails, that is there and may lead to a table, or whose slot lies behind the vtable
@@ -389,16 +409,7 @@ module _ {w : Walk} {start m : Lent} {under : Waiting} {first : Frame} {next : �
   came_to Past n e = absurd (n refl)
   came_to ToEnd n e =
       let within = next_within h in
-      rw e.same (record {
-        between = record { walking = h.walking; rests = h.rests };
-        forth = g.forth;
-        within = omega (arith, within);
-        steps = g.steps;
-        behind = λ f here. rw (same_slot h f here) at e.past;
-        paid = g.paid;
-        grows = g.grows;
-        bytes = g.bytes;
-      })
+      rw e.same (ends_behind g (record { walking = h.walking; rests = h.rests }) (omega (arith, within)) (λ f here. rw (same_slot h f here) at e.past))
   came_to ToField n e =
       let within = next_within h in
       let few = slot_few m.bytes first_at step.slot in

@@ -1,7 +1,7 @@
 // Fields passed by their steps, and tables of which none leads to a table passed whole, by reads that are counted in a
 // register.
 
-ghost use Rattle.std.specs.Prelude.{◌≡◌, ◌+◌, ◌-◌, ◌*◌, ◌^◌, ◌<◌, ◌≤◌, length, map, drop, IsTrue, None, true, false};
+ghost use Rattle.std.specs.Prelude.{◌≡◌, ◌+◌, ◌-◌, ◌*◌, ◌^◌, ◌<◌, ◌≤◌, length, map, IsTrue, None, true, false};
 ghost use Rattle.fb_schema.specs.{Rows.is_table, Live.live_fields, Steps.is_plain, Steps.step_of};
 ghost use Rattle.std.specs.List.{All};
 ghost use Rattle.fb_verify.specs.{Alike.IsSmallStep, Alike.IsKept, Cost.head_reads, OffsetRows.AreTargetsOf, Order.head_failure, Plain.IsTested};
@@ -10,7 +10,7 @@ ghost use Rattle.fb_verify.specs.declared.{passed.Sizes.TheVariants.Small, offse
 ghost use Rattle.fb_verify.specs.declared.stack.Turn.TheVariants.{Halt as Halted};
 ghost use Rattle.fb_verify.specs.declared.site.LastLink.TheVariants.{Behind, InField};
 ghost use Rattle.fb_verify.specs.Flat.{in_head, frame_at, Going, MayPass, PassesFlat};
-ghost use Rattle.fb_verify.specs.PassesOn.{IsBetween, HasRoom, Passage, PassesOn, CameTo};
+ghost use Rattle.fb_verify.specs.PassesOn.{IsBetween, HasRoom, Passage, PassesOn, CameTo, steps_left};
 ghost use Rattle.fb_verify.specs.Turns.{IsAtMember, IsAtMembers, IsAtFlats, MemberTurned, RowTurned};
 
 use crate::checks::{Checks, PUBLISHED};
@@ -47,9 +47,9 @@ fn pass_by(
     requires room { HasRoom of.walk reads.old of.top }
     requires same { checks ≡ of.walk.checks }
     requires table { table ≡ of.top.table }
-    requires steps { steps.now ≡ drop of.top.next (map step_of (live_fields of.walk.schema.now table.object)) }
+    requires steps { steps.now ≡ steps_left of.walk.schema.now of.top }
     ensures left { left.new ≤ length steps.now }
-    ensures came { CameTo of.walk reads.old reads.new of.under of.top (record of.top { next = length (live_fields of.walk.schema.now table.object) - left.new }) at.new result }
+    ensures came { CameTo of.walk reads.old reads.new of.under of.top (record of.top { next = length (live_fields of.walk.schema.now (of.top.table).object) - left.new }) at.new result }
 {
     let mut rest = steps;
     while let Some((step, more)) = rest.split_first() {

@@ -25,7 +25,7 @@ use fb_schema::{FieldView, Kind, Schema};
 
 /// Reads the distance of the field with this slot from its table, 0 where it is absent.
 #[inline(always)]
-#[tactic(auto, using(crate::proofs::Plains::place_told), unfolding(crate::specs::Places::field_place))]
+#[tactic(auto, using(std::proofs::lemmas::Bool::Decides::nat_tests), unfolding(crate::specs::Places::field_place))]
 fn distance_of(reads: &mut Reads<'_>, table: Table, slot: u16) -> u64
     requires few { reads.old.count < reads.old.base + 2 ^ 60 }
     requires near { table.at < 2 ^ 33 }

@@ -229,6 +229,7 @@ pub fn test_vtable(
 
 /// Tests the head of the table at a position, and writes it. Where it fails, the position is moved to where it does.
 #[inline(always)]
+#[tactic(auto, unfolding(crate::specs::Order::head_failure, crate::specs::Plain::first_word_failure, crate::specs::Plain::vtable_failure))]
 pub fn test_head(
     reads: &mut Reads<'_>,
     checks: Checks,
@@ -249,7 +250,7 @@ pub fn test_head(
 
 /// Reads where the field with this slot stands, the table's own position where it is absent.
 #[inline(always)]
-#[tactic(auto, using(crate::proofs::Plains::place_told, crate::proofs::Plains::place_none), unfolding(crate::specs::Places::field_place))]
+#[tactic(auto, using(std::proofs::lemmas::Bool::Decides::nat_tests), unfolding(crate::specs::Places::field_place))]
 pub fn slot_at(reads: &mut Reads<'_>, at: u64, head: Head, slot: u16) -> u64
     requires few { reads.old.count < reads.old.base + 2 ^ 60 }
     requires near { at < 2 ^ 33 }
@@ -521,6 +522,7 @@ fn pass_small(
 /// Passes a field of a table by its step, unless it stands there and may lead to a table, or its slot lies behind the
 /// vtable. The position is moved to where it stands, or to where a test of it fails.
 #[inline(always)]
+#[tactic(auto, using(std::proofs::lemmas::Bool::Decides::nat_tests), unfolding(crate::specs::Plain::plain_failure, crate::specs::Plain::plain_reads, crate::specs::Places::field_place))]
 pub fn pass_step(
     reads: &mut Reads<'_>,
     checks: Checks,

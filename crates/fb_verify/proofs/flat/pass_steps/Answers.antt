@@ -18,36 +18,34 @@ ends w m new under top past at ToEnd leads fails h = h
 ends w m new under top past at ToField leads fails h = absurd (leads refl)
 ends w m new under top past at (ToFault reason) leads fails h = absurd (fails reason refl)
 
--- there are as many steps as fields
-many : (g : _) (c : After-next_required g) → length c.args.steps.now ≡ length (live_fields (g.of).walk.schema.now (c.args.table).object)
-many g c = ap length c.requires.1.1.1.1.1.1.0 ∙ length-map (live_fields (g.of).walk.schema.now (c.args.table).object) step_of
+-- the steps are those of the top's fields
+steps_are : (g : _) (c : After-next_required g) → c.args.steps.now ≡ map step_of (live_fields (g.of).walk.schema.now ((g.of).top.table).object)
+steps_are g c = rw c.requires.1.1.1.1.0 at c.requires.1.1.1.1.1.1.0
+
+many : (g : _) (c : After-next_required g) → length c.args.steps.now ≡ length (live_fields (g.of).walk.schema.now ((g.of).top.table).object)
+many g c = ap length (steps_are g c) ∙ length-map (live_fields (g.of).walk.schema.now ((g.of).top.table).object) step_of
 
 -- the frame at the first of these
 abbrev past : (g : _) (c : After-next_required g) → Frame
-past g c = record (g.of).top { next = length (live_fields (g.of).walk.schema.now (c.args.table).object) - c.pass_by-came.new.left }
+past g c = record (g.of).top { next = length (live_fields (g.of).walk.schema.now ((g.of).top.table).object) - c.pass_by-came.new.left }
 
 behind : (g : _) (c : After-next_required g) → EndsBehind (g.of).walk c.args.reads.now c.pass_by-came.new.reads (g.of).under (g.of).top (past g c)
 behind g c = ends _ _ _ _ _ _ _ c.pass_by-came.result c.in_default.not-ToField c.in_default.not-ToFault c.pass_by-came.ensures.came
-
--- the top's fields are those of the table
-same : (g : _) (c : After-next_required g) → live_fields (g.of).walk.schema.now (c.args.table).object ≡ live_fields (g.of).walk.schema.now ((g.of).top.table).object
-same g c = ap (λ (t : Table). live_fields (g.of).walk.schema.now t.object) c.requires.1.1.1.1.0
 
 -- the first of these
 first : (g : _) (c : After-next_required g) → (f : Live) × (slice_get (live_fields (g.of).walk.schema.now ((g.of).top.table).object) (past g c).next ≡ Some f)
 first g c =
     slice_get_some (live_fields (g.of).walk.schema.now ((g.of).top.table).object) (past g c).next
-    (omega (arith, many g c, ap length (same g c), c.pass_by-came.ensures.left, c.if-left-eq0.false, length-drop (g.of).top.next (map step_of (live_fields (g.of).walk.schema.now (c.args.table).object))))
+    (omega (arith, many g c, c.pass_by-came.ensures.left, c.if-left-eq0.false, ap length (steps_are g c), length-drop (g.of).top.next c.args.steps.now))
 
 here : (g : _) (c : After-next_required g) → AtStep (g.of).walk c.pass_by-came.new.reads (g.of).under (past g c) c.args.steps.now (step_of (first g c).0)
 here g c =
     let e = behind g c in
-    let all = c.requires.1.1.1.1.1.1.0 ∙ ap (map step_of) (same g c) in
     record {
       walking = (e.between).walking;
       rests = (e.between).rests;
-      all = all;
-      got = ap (λ xs. slice_get xs (past g c).next) all ∙ slice_get-map step_of (live_fields (g.of).walk.schema.now ((g.of).top.table).object) (past g c).next ∙ ap (option_map step_of) (first g c).1;
+      all = steps_are g c;
+      got = ap (λ xs. slice_get xs (past g c).next) (steps_are g c) ∙ slice_get-map step_of (live_fields (g.of).walk.schema.now ((g.of).top.table).object) (past g c).next ∙ ap (option_map step_of) (first g c).1;
     }
 
 -- the schema is the walk's
@@ -62,7 +60,7 @@ returns-in_default-next_required g c =
     let f = first g d in
     let past_slot = e.behind f.0 f.1 in
     let none = sym (looks g d) ∙ c.in_default-next_required.is in
-    let all = many g d ∙ ap length (same g d) in
+    let all = many g d in
     record {
       comes = record {
         walking = rest_absent s past_slot none;
@@ -91,6 +89,3 @@ returns-in-Some g c =
       grows = e.grows;
       bytes = e.bytes;
     })
-
-pub returns-in-ToFault : goal.returns-in-ToFault
-returns-in-ToFault g c = rw (ap length c.requires.1.1.1.1.1.1.0 ∙ length-map (live_fields (g.of).walk.schema.now (c.args.table).object) step_of) (rw c.in-ToFault.is at c.pass_by-came.ensures.came)
