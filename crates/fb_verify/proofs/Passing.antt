@@ -1,31 +1,29 @@
 -- A walk goes on past fields that lead to no table, or stops at one.
-use Rattle.std.proofs.Common.{◌≡◌, ℕ, ◌+◌, ◌-◌, ◌^◌, ◌<◌, ◌≤◌, inl, inr, Bool, true, false, IsTrue, IfSome, if◌then◌else◌, List, [], ◌∷◌, map, length, get_or, option_map, refl, sym, ◌∙◌, ap, subst, arith, Option, Some, None, zero, suc, ◌*◌, drop, Ok, Err, nat_le, nat_lt, cond, length-drop}
+use Rattle.std.proofs.Common.{◌≡◌, ℕ, ◌+◌, ◌-◌, ◌^◌, ◌<◌, ◌≤◌, inl, inr, Bool, true, false, IsTrue, if◌then◌else◌, List, [], ◌∷◌, map, length, get_or, option_map, refl, sym, ◌∙◌, ap, subst, arith, Option, Some, None, zero, suc, ◌*◌, drop, nat_le, length-drop}
 use Rattle.std.specs.{Prelude.slice_get, List.All, List.position_or_len}
 use Rattle.std.proofs.lemmas.{List.length-map, List.get_or-drop, Bool.Decides.nat_tests}
-use Rattle.std.proofs.lemmas.List.Sums.{passes_at_first, fails_before_first, sum_by-le}
-use Rattle.std.proofs.lemmas.List.Elements.{All-cons, All-nil}
+use Rattle.std.proofs.lemmas.{List.Sums.passes_at_first, List.Sums.fails_before_first, List.Sums.sum_by-le, List.Elements.All-cons}
+use Rattle.std.proofs.lemmas.List.Sums.{sum_by-cons}
 use Rattle.std.proofs.lemmas.Option.{slice_get-get_or, slice_get-map, slice_get_within, get_or_from_slice_get}
 use Rattle.fb_bytes.specs.Word.{Lent}
-use Rattle.fb_schema.specs.declared.{views.Act.TheVariants.Other, views.Step.Step, kinds.Kind.Kind}
+use Rattle.fb_schema.specs.declared.{views.Act.TheVariants.Other, views.Step.Step}
 use Rattle.fb_schema.specs.{Rows.Rows, Steps.act_of, Steps.step_of}
 use Rattle.fb_schema.specs.Live.{Live, live_fields, next_required, next_required_of}
-use Rattle.std.proofs.Math.Seq.{drop-cons}
-use Rattle.std.proofs.Common.{add-one}
-use Rattle.std.proofs.lemmas.List.Sums.{sum_by-cons}
+use Rattle.std.proofs.{Math.Seq.drop-cons, Common.add-one}
 use Rattle.fb_verify.specs.declared.{checks.Checks.Checks, fault.Fault.Fault, fault.Reason.Reason, fault.Reason.TheVariants.MissingRequired}
-use Rattle.fb_verify.specs.declared.{links.Link.Link, offset_row.Row.Row, offset_row.Referent.TheVariants.Text as AText}
+use Rattle.fb_verify.specs.declared.{offset_row.Row.Row, offset_row.Referent.TheVariants.Text as AText}
 use Rattle.fb_verify.specs.declared.{offset_row.Leads.TheVariants.All as AllTo, scratch.Frame.Frame, site.Refusal.Refusal, site.Site.Site, site.Stop.Stop}
-use Rattle.fb_verify.specs.declared.{stack.Walk.Walk, plain.Came.Came, table.Table.Table}
+use Rattle.fb_verify.specs.declared.{stack.Walk.Walk, plain.Came.Came}
 use Rattle.fb_verify.specs.declared.plain.Came.TheVariants.{Past, ToEnd, ToField, ToFault}
 use Rattle.fb_verify.specs.{Bounds.Bounds, Bounds.AreAllowed, Places.vtable_size, Places.has_slot, Places.field_place}
-use Rattle.fb_verify.specs.{Cost.slot_reads, Cost.own_reads, OffsetRows.words_of, OffsetRows.first_word, OffsetRows.past_first, StopsAt.IsStopAt}
-use Rattle.fb_verify.specs.{Stops.reads_failure, Stops.lead_reads_failure, Links.element_of, Links.type_of, Links.field_link}
+use Rattle.fb_verify.specs.{Cost.slot_reads, Cost.own_reads, OffsetRows.first_word, OffsetRows.past_first, StopsAt.IsStopAt}
+use Rattle.fb_verify.specs.{Stops.reads_failure, Stops.lead_reads_failure}
 use Rattle.fb_verify.specs.Told.{refused, stopped}
 use Rattle.fb_verify.specs.Fields.{to_string, entry, entries, row}
-use Rattle.fb_verify.specs.Plain.{tested_by, plain_failure, plain_reads, StepsHold, steps_reads, StepTested, StepBehind, StepLeads, Stepped}
+use Rattle.fb_verify.specs.Plain.{tested_by, plain_failure, plain_reads, StepsHold, steps_reads, StepTested, Stepped}
 use Rattle.fb_verify.specs.Order.{Failure, after, ◌▷◌, own_failure, element_failure}
-use Rattle.fb_verify.specs.Stack.{blank, frame_link, link_behind, own_link, Origin, Waiting, IsUnderWay, IsWalking, IsAtField, IsStopped, Standing, StopsIn}
-use Rattle.fb_verify.specs.PassesOn.{StepsPass, IsBetween, HasRoom, EndsBehind, PassesOn, CameTo, fields_left}
+use Rattle.fb_verify.specs.Stack.{blank, frame_link, own_link, Origin, Waiting, IsUnderWay, IsWalking, IsAtField, IsStopped, Standing, StopsIn}
+use Rattle.fb_verify.specs.PassesOn.{StepsPass, IsBetween, HasRoom, EndsBehind, CameTo, fields_left}
 use Rattle.fb_verify.proofs.{Budgets.fewer_reads, Chains.after_none, Chains.both_none, Refusals.told_after, Refusals.told_first, Words.row_none}
 use Rattle.fb_verify.proofs.Walking.{field_stops, stops_in_field, goes_on, field_skipped}
 use Rattle.fb_verify.proofs.Frames.{field_within, frame_passed, no_row, own_few, slot_few}
@@ -81,9 +79,6 @@ module _ (c : Checks) (b : List ℕ) (S : Rows) (t : ℕ) (f : Live) (past : has
 all_from : {X : Type 0} (P : X → Type 0) (xs : List X) (i : ℕ) → ((j : ℕ) (x : X) → i ≤ j → slice_get xs j ≡ Some x → P x) → All P (drop i xs)
 all_from P xs i h = λ k d lt. subst P (sym (get_or-drop i xs k d)) (h (i + k) (get_or xs (i + k) d) (omega arith) (slice_get-get_or xs (i + k) d (omega (arith, lt, length-drop i xs))))
 
-no_slot : (size o : ℕ) → size < o + 2 → nat_le (o + 2) size ≡ false
-no_slot size o h = grind (arith, nat_tests)
-
 module _ {c : Checks} {b : List ℕ} {S : Rows} {L : Bounds} {s : Origin} {below : List Frame} {top : Frame} {n d r : ℕ} (h : IsUnderWay c b S L s below top n d r) where
   abbrev top_fields : List Live
   top_fields = live_fields S (top.table).object
@@ -93,12 +88,9 @@ module _ {c : Checks} {b : List ℕ} {S : Rows} {L : Bounds} {s : Origin} {below
   top_at i = record top { next = i }
 
   module _ (rests : (top.row).left ≡ 0) (field : Live) (here : slice_get top_fields top.next ≡ Some field) (past : vtable_size b (top.table).at < field.slot + 2) where
-    past_from : (i : ℕ) (f : Live) → top.next ≤ i → slice_get top_fields i ≡ Some f → field.slot ≤ f.slot
-    past_from i f low there = let less = (h.served).rising (top.table).object top.next i field f here there in grind arith
-
     -- a field behind it has no slot either
     pub no_slot_from : (i : ℕ) (f : Live) → top.next ≤ i → slice_get top_fields i ≡ Some f → has_slot b (top.table).at f.slot ≡ false
-    no_slot_from i f low there = no_slot (vtable_size b (top.table).at) f.slot (omega (arith, past, past_from i f low there))
+    no_slot_from i f low there = let less = (h.served).rising (top.table).object top.next i field f here there in grind (arith, nat_tests)
 
     module _ (stop : ℕ) (within : stop ≤ length top_fields) (free : stop ≤ top.next + first_from top_fields top.next) where
       passed_from : (m i : ℕ) → i + m ≡ stop → top.next ≤ i → IsUnderWay c b S L s below (top_at i) n d r → IsUnderWay c b S L s below (top_at stop) n d r

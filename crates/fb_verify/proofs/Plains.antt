@@ -1,21 +1,17 @@
 -- Fields that lead to no table are passed by their steps.
-use Rattle.std.proofs.Common.{◌≡◌, ℕ, zero, suc, ◌+◌, ◌≤◌, ◌==◌, ◌%◌, ◌&&◌, ◌⊎◌, inl, inr, Bool, true, false, List, [], ◌∷◌, map, refl, sym, ◌∙◌, ap, subst, arith, Option, Some, None, if◌then◌else◌, ◌^◌, ◌<◌, bit_and}
+use Rattle.std.proofs.Common.{◌≡◌, ℕ, zero, suc, ◌+◌, ◌≤◌, ◌==◌, ◌&&◌, ◌⊎◌, inl, inr, Bool, true, false, List, [], ◌∷◌, map, refl, sym, ◌∙◌, ap, subst, arith, Option, Some, None, if◌then◌else◌}
 use Rattle.std.specs.Prelude.{slice_get}
-use Rattle.std.proofs.lemmas.Bool.Decides.{Decides-eqb, nat_tests}
-use Rattle.fb_bytes.specs.Word.{Lent, word}
+use Rattle.std.proofs.lemmas.Bool.Decides.{nat_tests}
 use Rattle.fb_schema.proofs.Numbers.{both_true}
 use Rattle.fb_schema.specs.declared.{kinds.Kind.Kind, views.Act.Act, views.Step.Step}
 use Rattle.fb_schema.specs.declared.kinds.Kind.TheVariants.{Scalar, Text, Struct, Table, Scalars, Structs}
-use Rattle.fb_schema.specs.declared.views.Act.TheVariants.{One, Two, Four, Eight, Inline, Text as AText, Vector, Other}
+use Rattle.fb_schema.specs.declared.views.Act.TheVariants.{One, Two, Four, Eight, Inline, Other}
 use Rattle.fb_schema.specs.{Rows.Rows, Live.Live, Served.IsAlignment, Served.KindHolds}
-use Rattle.fb_schema.specs.Steps.{inline_act, act_of, bit_of, bits_of, size_of, is_plain_act, are_plain, step_of}
-use Rattle.fb_verify.specs.declared.{checks.Checks.Checks, fault.Reason.Reason, fault.Reason.TheVariants.MissingRequired, plain.Came.Came}
-use Rattle.fb_verify.specs.declared.plain.Came.TheVariants.{Past, ToEnd, ToField, ToFault}
-use Rattle.fb_verify.specs.Places.{field_place, vtable, vtable_size, has_slot}
-use Rattle.fb_verify.specs.Fields.{to_string, entry, entries_of, entries_at, entries}
-use Rattle.fb_verify.specs.Cost.{slot_reads, present_reads, reads_at, own_reads}
-use Rattle.fb_verify.specs.Order.{Failure, after, ◌▷◌, table_failure, inline_field_failure, vector_field_failure, lead_failure, own_failure, element_failure}
-use Rattle.fb_verify.specs.Plain.{IsTested, place_from, step_failure, step_reads, IsStep, HasBit, step_failure_at, step_reads_at, plain_failure, plain_reads, tested_by, IsCame, StepTested, Filled, Stepped}
+use Rattle.fb_schema.specs.Steps.{inline_act, act_of, bit_of, bits_of, is_plain_act, are_plain, step_of}
+use Rattle.fb_verify.specs.declared.{checks.Checks.Checks}
+use Rattle.fb_verify.specs.{Places.field_place, Fields.to_string, Fields.entry, Fields.entries, Cost.slot_reads, Cost.own_reads}
+use Rattle.fb_verify.specs.Order.{Failure, after, ◌▷◌, table_failure, inline_field_failure, lead_failure, own_failure, element_failure}
+use Rattle.fb_verify.specs.Plain.{step_failure, step_reads, IsStep, HasBit, plain_failure, plain_reads}
 use Rattle.fb_verify.proofs.Frames.{slot_few}
 
 -- The step at a place is that of the field there.

@@ -3,12 +3,12 @@ use Rattle.std.proofs.Common.{◌≡◌, ℕ, suc, ◌+◌, ◌≤◌, List, [],
 use Rattle.std.specs.Prelude.{slice_get}
 use Rattle.fb_schema.specs.{Rows.Rows, Live.Live, Live.live_fields}
 use Rattle.fb_verify.specs.declared.{checks.Checks.Checks, fault.Fault.Fault, links.Link.Link}
-use Rattle.fb_verify.specs.{Bounds.Bounds, Places.target, Facts.IsTable, Facts.IsOffset}
+use Rattle.fb_verify.specs.{Bounds.Bounds, Places.target, Facts.IsTable}
 use Rattle.fb_verify.specs.Fields.{IsField, to_table, Entry, entries}
 use Rattle.fb_verify.specs.Tree.{node, no_kids, no_elements, Element, table, size, kids_size, elements_size, element_size, depth, kids_depth, elements_depth, element_depth, kids_length, elements_length}
 use Rattle.fb_verify.specs.Unfolds.{Unfolds, FieldsUnfold, ElementsUnfold, ElementUnfolds}
 use Rattle.fb_verify.specs.Cost.{own_reads, lead_reads, tree_cost, kids_cost, elements_cost, element_cost}
-use Rattle.fb_verify.specs.Way.{Way, paying, opening, passing, way_to_table}
+use Rattle.fb_verify.specs.Way.{Way, paying, opening, passing}
 use Rattle.fb_verify.specs.Stops.{in_head, in_field, in_element, IsFalseAt, at_head, at_field, at_own, at_element, at_lead, through, IsTrail, ElementTrail, IsElementTrail}
 use Rattle.fb_verify.specs.Links.{field_link, element_link, object_led_to, links_of, links_in_field, links_in_element, LeadsAlong}
 use Rattle.fb_verify.specs.Walked.{at_number, TableWalked, IsInside, IsInField, Waits}

@@ -7,7 +7,7 @@ use Rattle.fb_schema.specs.Live.{live_fields}
 use Rattle.fb_verify.specs.declared.{table.Child.Child, scratch.Frame.Frame, stack.Turn.Turn, stack.Walk.Walk}
 use Rattle.fb_verify.specs.declared.stack.Turn.TheVariants.{Down, Up, Slowly, Halt as Halted}
 use Rattle.fb_verify.specs.Stack.{blank, Origin, frame_work, work, Waiting, IsWalking}
-use Rattle.fb_verify.specs.Turns.{GoesOn, Ends, GoesDown, Halts, GoesOver, WentOn, WentOver, WentWrong, GoesUp, OpensChild, StopsAtChild, Opened, Turned, FramesTurned, RootTurned, PassedField, FieldTurned}
+use Rattle.fb_verify.specs.Turns.{GoesOn, GoesDown, Halts, WentOver, Opened, Turned, FramesTurned, RootTurned, PassedField, FieldTurned}
 use Rattle.fb_verify.proofs.Stacks.{last_is, sum_last, below_joined, grown_joined, top_joined, next_joined}
 use Rattle.fb_verify.proofs.{Standings.close_last, Walking.table_closed}
 

@@ -1,25 +1,25 @@
 -- The steps of a walk under way, with the work that they leave.
-use Rattle.std.proofs.Common.{◌≡◌, ℕ, ◌+◌, ◌-◌, ◌^◌, ◌<◌, ◌≤◌, max, inl, inr, refl, List, [], ◌∷◌, ◌++◌, length, sym, ap, arith, IsTrue, Some, None, map, ◌∙◌, subst, Option, Result, Ok, Err, true}
+use Rattle.std.proofs.Common.{◌≡◌, ℕ, ◌+◌, ◌<◌, ◌≤◌, inl, inr, refl, List, [], ◌∷◌, ◌++◌, length, sym, ap, arith, Some, None, map, ◌∙◌, subst, Option, Result, Ok, Err, true}
 use Rattle.std.specs.{Prelude.slice_get, List.All, Result.IsErrAnd}
-use Rattle.std.proofs.lemmas.{List.Sums.sum_by_push, List.Elements.All-push, List.Elements.All-pop}
+use Rattle.std.proofs.lemmas.{List.Elements.All-push, List.Elements.All-pop}
 use Rattle.std.proofs.lemmas.List.{length-append, map-append, append-nil}
 use Rattle.fb_bytes.specs.Word.{Lent}
-use Rattle.fb_schema.specs.{Rows.Rows, Rows.is_table, Live.Live, Live.live_fields}
-use Rattle.fb_verify.specs.declared.{checks.Checks.Checks, table.Table.Table, offset_row.Row.Row, scratch.Frame.Frame, fault.Fault.Fault}
+use Rattle.fb_schema.specs.{Rows.Rows, Live.Live, Live.live_fields}
+use Rattle.fb_verify.specs.declared.{checks.Checks.Checks, offset_row.Row.Row, scratch.Frame.Frame, fault.Fault.Fault}
 use Rattle.fb_verify.specs.declared.{links.Link.Link, site.Site.Site, site.Stop.Stop, stack.Walk.Walk}
-use Rattle.fb_verify.specs.{Bounds.Bounds, Bounds.AreAllowed, Places.target, Fields.to_table, Fields.entries}
-use Rattle.fb_verify.specs.{Cost.head_reads, Cost.own_reads, Cost.lead_reads, Walked.ended, Way.way_to_table, Way.Way}
+use Rattle.fb_verify.specs.{Bounds.Bounds, Bounds.AreAllowed, Fields.entries}
+use Rattle.fb_verify.specs.{Cost.own_reads, Cost.lead_reads, Walked.ended}
 use Rattle.fb_verify.specs.{Links.field_link, Links.LeadsAlong, PassesOn.HasPassed, PassesOn.PassesFields}
-use Rattle.fb_verify.specs.Told.{IsHead, told, way_at, stopped}
-use Rattle.fb_verify.specs.Order.{head_failure, own_failure, element_failure, Failure, ◌▷◌}
+use Rattle.fb_verify.specs.Told.{told, stopped}
+use Rattle.fb_verify.specs.Order.{own_failure, element_failure, Failure, ◌▷◌}
 use Rattle.fb_verify.specs.OffsetRows.{words_of, first_word, past_first, IsLeafLead, IsRow, IsAskable}
-use Rattle.fb_verify.specs.Stack.{IsFrame, frame_work, work, opened, reached, Goes, Origin, IsUnderWay, Standing, frame_link, link_to_number, own_link, IsLinked, StopsIn, blank, Waiting, IsWalking, IsStopped}
-use Rattle.fb_verify.specs.Stops.{budget_failure, reads_failure, lead_reads_failure, in_head, in_field, fault_at}
-use Rattle.fb_verify.proofs.Frames.{first_few, head_few, own_few, field_within, frame_on, frame_passed, frame_opened, work_opened, no_row}
-use Rattle.fb_verify.proofs.{Standings.context_push, Standings.context_pop, Standings.context_linked, Linked.is_linked, Linked.linked_by}
+use Rattle.fb_verify.specs.Stack.{IsFrame, frame_work, reached, Origin, IsUnderWay, Standing, frame_link, link_to_number, own_link, IsLinked, StopsIn, blank, Waiting, IsWalking, IsStopped}
+use Rattle.fb_verify.specs.Stops.{reads_failure, lead_reads_failure, in_field, fault_at}
+use Rattle.fb_verify.proofs.Frames.{own_few, field_within, frame_on, frame_passed, no_row}
+use Rattle.fb_verify.proofs.{Standings.context_pop, Standings.context_linked, Linked.is_linked}
 use Rattle.fb_verify.proofs.{Budgets.fewer_reads, Typed.typed_before, Words.row_none}
-use Rattle.fb_verify.proofs.Steps.{resumed, same_way, stops_at_head, stops_at_field as stops_at_test, stops_below}
-use Rattle.fb_verify.proofs.Standings.{at_rest, goes_way, fresh, links_is, waits_for, pass_leaf, pass_more, close, told_is, in_middle, stop, stop_at_element}
+use Rattle.fb_verify.proofs.Steps.{resumed, stops_at_field as stops_at_test}
+use Rattle.fb_verify.proofs.Standings.{at_rest, goes_way, pass_leaf, pass_more, close, told_is, in_middle, stop, stop_at_element}
 
 module _ {c : Checks} {b : List ℕ} {S : Rows} {L : Bounds} {s : Origin} {below : List Frame} {top : Frame} {n d r : ℕ} (h : IsUnderWay c b S L s below top n d r) where
   -- the top, past its next field
@@ -146,14 +146,14 @@ stops_at_field s bytes err = record { walking = tt; leads = tt; rests = tt; all 
 module _ {w : Walk} {m : Lent} {under : Waiting} {top : Frame} {field : Live} (h : AtNext w m under top field) where
   pub askable : IsAskable m.bytes w.schema.now (top.table).at field field.kind
   askable =
-    let k = (top.table).object in
-    let g = (h.walking).standing in
-    let inside = (at_rest w.checks m.bytes w.schema.now top g.v w.tables w.deepest m.count h.rests g.at).inside in
-    record {
-    served = (h.walking).served;
-    holds = ((h.walking).served).kinds (top.table).object top.next field h.here;
-    typed = typed_before w.checks m.bytes w.schema.now (top.table).at inside.earlier (live_fields w.schema.now k) top.next field.slot inside.passed field.kind (((h.walking).served).typed k top.next field h.here);
-  }
+      let k = (top.table).object in
+      let g = (h.walking).standing in
+      let inside = (at_rest w.checks m.bytes w.schema.now top g.v w.tables w.deepest m.count h.rests g.at).inside in
+      record {
+        served = (h.walking).served;
+        holds = ((h.walking).served).kinds (top.table).object top.next field h.here;
+        typed = typed_before w.checks m.bytes w.schema.now (top.table).at inside.earlier (live_fields w.schema.now k) top.next field.slot inside.passed field.kind (((h.walking).served).typed k top.next field h.here);
+      }
 
   -- it fails by itself
   pub next_stops : (f : Fault)

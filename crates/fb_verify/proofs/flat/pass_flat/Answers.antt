@@ -4,21 +4,17 @@ use Rattle.fb_verify.proofs.Flats.{flat_between, flat_room, flat_came, reason_of
 use Rattle.fb_verify.proofs.flat.pass_flat.Goals as goal
 use Rattle.fb_verify.proofs.flat.pass_flat.Goals.{In_default, After-pass_steps}
 
--- the head was tested
-tested : (g : _) (c : In_default g) → IsTested c.args.reads.now c.test_head-failed.new.reads c.test_head-failed.new.at (head_failure (g.going).walk.checks c.args.reads.now.bytes c.args.at.now) (head_reads (g.going).walk.checks) c.test_head-failed.result
-tested g c = rw c.requires.same at c.test_head-failed.ensures.tested
-
 pub pass_steps-requires : goal.pass_steps-requires
 pass_steps-requires g c =
-    let e = tested g (goal.at.pass_steps-requires g c).In_default in
-    let none = c.in_default.is in
     let r = c.requires in
+    let e = rw r.same at c.test_head-failed.ensures.tested in
+    let none = c.in_default.is in
     (flat_between r e none _ (rw r.same at (c.test_head-failed.ensures.head none)), (flat_room r e none c.test_head-failed.new.head, (r.same, (r.schema, (refl, (refl, (r.its, r.few)))))))
 
 -- its fields were passed, or one fails
 came : (g : _) (c : After-pass_steps g)
     → PassesFlat (g.going).walk c.args.reads.now c.pass_steps.new.reads (g.going).under c.args.object c.args.at.now c.pass_steps.new.next c.pass_steps.new.at (reason_of c.pass_steps.result)
-came g c = flat_came c.requires (tested g (goal.at.After-pass_steps g c).In_default) c.in_default.is c.test_head-failed.new.head c.pass_steps.result c.pass_steps.ensures
+came g c = flat_came c.requires (rw c.requires.same at c.test_head-failed.ensures.tested) c.in_default.is c.test_head-failed.new.head c.pass_steps.result c.pass_steps.ensures
 
 pub returns-in-Ok : goal.returns-in-Ok
 returns-in-Ok g c = rw c.in-Ok.is at (came g (goal.at.returns-in-Ok g c).After-pass_steps)

@@ -1,11 +1,11 @@
-use Rattle.std.proofs.Common.{◌≡◌, ℕ, ◌+◌, ◌-◌, map, length, option_map, slice_get, refl, sym, ◌∙◌, ap, arith, Some, None}
+use Rattle.std.proofs.Common.{◌≡◌, ℕ, ◌-◌, map, length, option_map, slice_get, refl, sym, ◌∙◌, ap, arith, Some}
 use Rattle.std.proofs.lemmas.{List.length-map, List.length-drop, Option.slice_get-map}
 use Rattle.fb_bytes.specs.Word.{Lent}
 use Rattle.fb_schema.specs.{Live.Live, Live.live_fields, Live.next_required, Steps.step_of}
 use Rattle.fb_schema.proofs.Numbers.{slice_get_some}
-use Rattle.fb_verify.specs.declared.{fault.Reason.Reason, plain.Came.Came, scratch.Frame.Frame, stack.Walk.Walk, table.Table.Table}
+use Rattle.fb_verify.specs.declared.{fault.Reason.Reason, plain.Came.Came, scratch.Frame.Frame, stack.Walk.Walk}
 use Rattle.fb_verify.specs.declared.plain.Came.TheVariants.{Past, ToEnd, ToField, ToFault}
-use Rattle.fb_verify.specs.{PassesOn.steps_left, PassesOn.EndsBehind, PassesOn.CameTo, Plain.StepsHold, Plain.steps_reads, Stack.Waiting}
+use Rattle.fb_verify.specs.{PassesOn.EndsBehind, PassesOn.CameTo, Stack.Waiting}
 use Rattle.fb_verify.proofs.Passing.{rest_holds, rest_free}
 use Rattle.fb_verify.proofs.Passing.{AtStep, rest_absent, required_within, required_stops}
 use Rattle.fb_verify.proofs.flat.pass_steps.Goals as goal
