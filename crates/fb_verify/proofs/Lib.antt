@@ -34,13 +34,11 @@ pub mod NextField
 pub mod Absent
 pub mod Plains
 pub mod Heads
-pub mod ByUnits
 pub mod Stepping
 pub mod Passing
 pub mod BySteps
 pub mod Alike
 pub mod Alignments
-pub mod LeafRows
 pub mod Members
 pub mod Flats
 pub mod Children

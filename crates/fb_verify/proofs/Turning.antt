@@ -7,7 +7,7 @@ use Rattle.fb_schema.specs.Live.{live_fields}
 use Rattle.fb_verify.specs.declared.{table.Child.Child, scratch.Frame.Frame, stack.Turn.Turn, stack.Walk.Walk}
 use Rattle.fb_verify.specs.declared.stack.Turn.TheVariants.{Down, Up, Slowly, Halt as Halted}
 use Rattle.fb_verify.specs.Stack.{blank, Origin, frame_work, work, Waiting, IsWalking}
-use Rattle.fb_verify.specs.Turns.{GoesOn, Ends, GoesDown, Halts, GoesOver, WentOn, WentOver, WentWrong, GoesUp, OpensChild, StopsAtChild, Opened, Turned, FramesTurned, RootTurned, PassedField, FieldTurned}
+use Rattle.fb_verify.specs.Turns.{IsShort, GoesOn, Ends, GoesDown, Halts, WentOn, WentOver, WentWrong, GoesUp, OpensChild, StopsAtChild, Opened, Turned, FramesTurned, RootTurned, PassedField, FieldTurned}
 use Rattle.fb_verify.proofs.Stacks.{last_is, sum_last, below_joined, grown_joined, top_joined, next_joined}
 use Rattle.fb_verify.proofs.{Standings.close_last, Walking.table_closed}
 
@@ -55,12 +55,12 @@ module _ (w then : Walk) (m new : Lent) (under : Waiting) (old low high : List F
       let same : take l frames ≡ take l (under.frames ++ past ∷ []) = sym (take-take l (waiting + 1) frames (omega (arith, h.links, many))) ∙ ap (take l) grown in
       record { deep = h.deep; err = rw same h.err; bytes = h.bytes }
 
-  frames_stay : GoesOn w then m new under top past → WentOn w then m new under.start old waiting frames waiting
+  frames_stay : GoesOn w then m new under top past → WentOn w then m new under.start old waiting frames waiting 0
   frames_stay h = record {
     same = h.same;
     walking = rw (sym waits, top_is) h.walking;
     top = omega (arith, long);
-    falls = rw (sym waits, top_is, sym below, sym stands) h.falls;
+    falls = rw (sym waits, top_is, sym below, sym stands) (omega (arith, h.falls));
     grows = h.grows;
     bytes = h.bytes;
   }
@@ -75,14 +75,14 @@ module _ (w then : Walk) (m new : Lent) (under : Waiting) (old low high : List F
         over = λ zero. went_over under past e.on.same h (below ∙ rw zero refl) e.rests all e.on.bytes;
         above = λ some.
             let room : waiting ≤ length frames = omega (arith, long) in
-            record {
+            (record {
               same = e.on.same;
               walking = table_closed h (take (waiting - 1) frames) (get_or frames (waiting - 1) blank) (waits ∙ last_is frames waiting blank some room) e.rests all;
+              top = omega (arith, some, room);
               falls = rw (sym below, sym stands) (omega (arith, e.on.falls, ap (λ zs. work w.schema.now w.limits zs past then.tables) waits, sum_last frames waiting blank some room (frame_work w.schema.now)));
               grows = e.on.grows;
               bytes = e.on.bytes;
-              short = e.on.short;
-            };
+            }, e.on.short);
       }
 
   -- the top goes on, is passed to its end, or stops
@@ -97,18 +97,18 @@ module _ (w then : Walk) (m new : Lent) (under : Waiting) (old low high : List F
     abbrev above : Waiting
     above = record { start = under.start; frames = under.frames ++ past ∷ [] }
 
-    frames_opened : OpensChild then last new then-reads above open-frame child → GoesOver w last m then-reads under.start old waiting frames (waiting + 1)
+    frames_opened : OpensChild then last new then-reads above open-frame child → WentOn w last m then-reads under.start old waiting frames (waiting + 1) 1 × IsShort then-reads.count
     unfolding work
     frames_opened o =
         let less = ap (λ x. work w.schema.now w.limits (under.frames ++ past ∷ []) x then.tables) o.opens in
-        record {
+        (record {
           same = rw o.same h.same;
           walking = rw (grown, next_is, first, o.same) o.walking;
+          top = omega (arith, long, some);
           falls = rw (grown, next_is, first, o.same, sym below, sym stands) (omega (arith, less, h.falls, o.paid));
           grows = omega (arith, h.grows, o.grows);
           bytes = o.bytes ∙ h.bytes;
-          short = omega (arith, h.short, o.paid);
-        }
+        }, omega (arith, h.short, o.paid))
 
     frames_stop : StopsAtChild then last new then-reads above → WentWrong w last m then-reads under.start frames
     frames_stop o =

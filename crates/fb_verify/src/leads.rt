@@ -368,6 +368,7 @@ impl<'s, 'n> Walk<'s, 'n> {
     /// Goes into that field, whatever the checks are, or where a limit may be met in a union.
     #[cold]
     #[inline(never)]
+    #[tactic(auto, using(crate::proofs::IntoField::far_turned))]
     fn go_far_by_checks(
         &mut self,
         reads: &mut Reads<'_>,
@@ -448,6 +449,7 @@ impl<'s, 'n> Walk<'s, 'n> {
     /// Goes into the top's next field, which stands there and leads on by the words of a vector or by that of a union:
     /// quickly where the checks are the published ones, which are constants then.
     #[inline(never)]
+    #[tactic(auto, using(crate::proofs::IntoField::far_turned))]
     pub fn go_far(
         &mut self,
         reads: &mut Reads<'_>,

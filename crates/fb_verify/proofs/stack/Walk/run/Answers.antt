@@ -51,10 +51,10 @@ begun g c =
     rw (c.in-Ok.ensures.opened, c.in-Ok.ensures.counted)
     (record {
       served = c.requires.1.0;
-      tables = omega (arith, c.in-Ok.ensures.fewer);
-      deepest = omega (arith, c.in-Ok.ensures.shallow, c.requires.1.1.1.1.1.1.1.0);
+      tables = omega (arith, c.in-Ok.ensures.allowed.fewer);
+      deepest = omega (arith, c.in-Ok.ensures.allowed.deep, c.requires.1.1.1.1.1.1.1.0);
       reads = rw c.in-Ok.ensures.counted at c.in-Ok.ensures.reads;
-      links = c.in-Ok.ensures.shallow;
+      links = c.in-Ok.ensures.allowed.deep;
       low = omega arith;
       frames = All-nil (IsFrame ch b S);
       frame = frame;
@@ -80,11 +80,11 @@ go_on-requires g c =
     let xs = c.args.frames.now in
     let table = c.in-Ok.table in
     let new = work_opened c.args.self.now.checks c.args.loan.now.bytes c.args.self.now.schema.now table c.requires.1.0 in
-    let some : 0 < length xs = omega (arith, c.in-Ok.ensures.shallow, c.requires.1.1.1.1.0) in
+    let some : 0 < length xs = omega (arith, c.in-Ok.ensures.allowed.deep, c.requires.1.1.1.1.0) in
     let top = get_or-set_same xs 0 c.opened.result blank some in
     rw (k.0, k.1, c.in-Ok.ensures.opened, c.in-Ok.ensures.counted)
     (record {
       walking = rw (top, c.opened.ensures) (rw (c.in-Ok.ensures.opened, c.in-Ok.ensures.counted) at (begun g d));
       top = omega (arith, length-set xs 0 c.opened.result, some);
-      few = rw (top, c.opened.ensures) (omega (arith, new, head_few c.args.self.now.checks, c.requires.1.1.1.1.1.1.1.1.1, c.in-Ok.ensures.fewer, c.in-Ok.ensures.few_tables));
+      few = rw (top, c.opened.ensures) (omega (arith, new, head_few c.args.self.now.checks, c.requires.1.1.1.1.1.1.1.1.1, c.in-Ok.ensures.allowed.fewer, c.in-Ok.ensures.allowed.small));
     })
