@@ -33,9 +33,8 @@ module _ (c : Checks) (b : List ℕ) (p t : ℕ) (same : vtable b t ≡ vtable b
 
   pub head_alike : head_failure c b p ≡ None → first_word_failure c b t ≡ None → head_failure c b t ≡ None
   head_alike h first =
-      let parts = (both_none (first_word_failure c b p) (after 1 (vtable_failure c b p))).0 (sym (head_parts c b p) ∙ h) in
-      let rest = vtable_alike ((after_none 1 (vtable_failure c b p)).0 parts.1) in
-      head_parts c b t ∙ (both_none (first_word_failure c b t) (after 1 (vtable_failure c b t))).1 (first, (after_none 1 (vtable_failure c b t)).1 rest)
+      let whole = sym (head_parts c b p) ∙ h in
+      head_parts c b t ∙ grind (arith, vtable_alike)
 
   -- slots are the same
   slot_alike : (o : ℕ) → has_slot b t o ≡ has_slot b p o
@@ -45,23 +44,9 @@ module _ (c : Checks) (b : List ℕ) (p t : ℕ) (same : vtable b t ≡ vtable b
   slot_reads_alike o = ap (λ x. if x then 1 else 0) (slot_alike o)
 
   module _ (below : t < p) (aligned : t % 8 ≡ p % 8) where
-    ends_alike : (d n : ℕ) → IsTrue (ends_in_table c b p (p + d) n) → IsTrue (ends_in_table c b t (t + d) n)
-    unfolding ends_in_table
-    ends_alike d n h = let size : inline_size b t ≡ inline_size b p = ap (λ v. word b (v + 2) 2) same in grind (arith, nat_tests)
-
-    aligned_alike : (d n : ℕ) → ((p + d) % n ≡ 0 → (t + d) % n ≡ 0) → IsTrue (is_aligned c (p + d) n) → IsTrue (is_aligned c (t + d) n)
-    unfolding is_aligned
-    aligned_alike d n mods h = grind (arith, nat_tests, mods)
-
     inline_alike : (d n : ℕ) → ((p + d) % n ≡ 0 → (t + d) % n ≡ 0) → inline_field_failure c b p (p + d) n n ≡ None → inline_field_failure c b t (t + d) n n ≡ None
-    inline_alike d n mods h =
-        let parts = (both_none (table_failure c b p (p + d) n) (inline_failure c b (p + d) n n)).0 h in
-        let ends = (table_none c b p (p + d) n).0 parts.0 in
-        let value = (inline_none c b (p + d) n n).0 parts.1 in
-        (both_none (table_failure c b t (t + d) n) (inline_failure c b (t + d) n n)).1 (
-          (table_none c b t (t + d) n).1 (ends_alike d n ends),
-          (inline_none c b (t + d) n n).1 (record { within = omega (arith, value.within, below); aligned = aligned_alike d n mods value.aligned }),
-        )
+    unfolding ends_in_table is_aligned table_failure inline_failure
+    inline_alike d n mods h = let size : inline_size b t ≡ inline_size b p = ap (λ v. word b (v + 2) 2) same in grind (arith, nat_tests, mods)
 
     act_alike : (s : Step) (d : ℕ) → IsSmallStep s → step_failure c b p s (p + d) s.act ≡ None → step_failure c b t s (t + d) s.act ≡ None
     act_alike s d (inl one) h = rw one (inline_alike d 1 (λ e. omega (arith, e, aligned)) (rw one at h))
@@ -80,9 +65,7 @@ module _ (c : Checks) (b : List ℕ) (p t : ℕ) (same : vtable b t ≡ vtable b
 
     plain_alike : (s : Step) → IsSmallStep s → plain_failure c b p s ≡ None → plain_failure c b t s ≡ None
     unfolding plain_failure
-    plain_alike s small h =
-        (after_none (slot_reads b t s.slot) (step_failure_at c b t s (field_place b t s.slot))).1
-        (place_alike s small ((after_none (slot_reads b p s.slot) (step_failure_at c b p s (field_place b p s.slot))).0 h))
+    plain_alike s small h = grind (arith, place_alike)
 
     reads_alike : (s : Step) → IsSmallStep s → plain_reads b t s ≡ plain_reads b p s
     unfolding plain_reads

@@ -1,7 +1,7 @@
 // The walk by single units, each with a question after it whether the budget allows its reads: it serves where a limit
 // may be met.
 
-ghost use Rattle.std.specs.Prelude.{◌≡◌, ◌+◌, ◌-◌, ◌*◌, ◌^◌, ◌<◌, ◌≤◌, max, min, length, List, take, slice_index_or, [], ◌∷◌, ◌++◌, IfOk, IfErr, IfSome, MatchOption, IsTrue, Some, None, true, false};
+ghost use Rattle.std.specs.Prelude.{◌≡◌, ◌+◌, ◌-◌, ◌*◌, ◌^◌, ◌<◌, ◌≤◌, max, min, length, take, slice_index_or, [], ◌∷◌, ◌++◌, IfOk, IfErr, IfSome, MatchOption, IsTrue, Some, None, true, false};
 ghost use Rattle.fb_schema.specs.{Live.live_of_view, Rows.is_table, Served.IsServed};
 ghost use Rattle.fb_verify.specs.{Bounds.AreAllowed, Cost.head_reads, Cost.own_reads, Cost.lead_reads, Fields.entries, Fields.to_table};
 ghost use Rattle.fb_verify.specs.{Stops.budget_failure, Stops.reads_failure, Stops.lead_reads_failure, Places.target};
@@ -10,7 +10,7 @@ ghost use Rattle.fb_verify.specs.Order.{◌▷◌, head_failure, own_failure, el
 ghost use Rattle.fb_verify.specs.OffsetRows.{IsAskable, LeavesRow, first_word, IsRow, IsLeafLead};
 ghost use Rattle.fb_verify.specs.Told.{told, stopped, way_at, IsAskedAt, IsHead};
 ghost use Rattle.fb_verify.specs.Turns.{AllowsTable, WentOver};
-ghost use Rattle.fb_verify.specs.Stack.{blank, Waiting, work, opened, IsWalking, IsAtTable, IsStopped, IsStoppedBehind, HaltsIn, links_left};
+ghost use Rattle.fb_verify.specs.Stack.{blank, Waiting, work, opened, IsWalking, IsAtTable, IsStoppedBehind, HaltsIn, links_left};
 
 use crate::budget::{answer, ask_reads, tell};
 use crate::fault::Reason;

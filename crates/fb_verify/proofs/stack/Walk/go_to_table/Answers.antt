@@ -26,14 +26,11 @@ table : (g : _) (c : After-one-row g) → IsTrue (is_table c.args.self.now.schem
 table g c = let a = into_askable c.requires.0.1 in rw c.requires.0.2 at a.holds
 
 -- the number of the field follows from its slot
-numbered : (s n : ℕ) → s ≡ 2 * n + 4 → n ≡ (s - 4) / 2
-numbered s n e = omega arith
-
 number : (g : _) (c : After-one-row g) → (c.requires.0.0).number ≡ (c.args.step.now.slot - 4) / 2
 number g c =
-    let f = c.requires.0.0 in
     let r = c.requires.0.1 in
-    numbered c.args.step.now.slot f.number (sym c.requires.0.3 ∙ ((r.at).walking).served.slots (c.args.top.now.table).object c.args.top.now.next f r.here)
+    let slot = sym c.requires.0.3 ∙ ((r.at).walking).served.slots (c.args.top.now.table).object c.args.top.now.next c.requires.0.0 r.here in
+    omega (arith, slot)
 
 -- it holds by itself, and its word is put into the row
 begins : (g : _) (c : After-one-row g)

@@ -7,17 +7,12 @@ use Rattle.fb_verify.proofs.Children.{words_fall, word_few, child_stops, child_o
 use Rattle.fb_verify.proofs.{Frames.row_types_near, Walking.table_closed}
 use Rattle.fb_verify.proofs.stack.Walk.pass_children.Goals as goal
 
-pub advance-requires-clause-more : goal.advance-requires-clause-more
-advance-requires-clause-more g c = let o = rw c.in-Some.is at c.in-Ok.ensures.table in o.more
-
-pub advance-requires-clause-near : goal.advance-requires-clause-near
-advance-requires-clause-near g c = let o = rw c.in-Some.is at c.in-Ok.ensures.table in omega (arith, (((o.walking).frame).row).place)
-
-pub advance-requires-clause-types : goal.advance-requires-clause-types
-advance-requires-clause-types g c =
+pub advance-requires : goal.advance-requires
+advance-requires g c =
     let w = c.loop-top.self in
     let o = rw c.in-Some.is at c.in-Ok.ensures.table in
-    row_types_near w.checks c.next_child.new.loan.bytes w.schema.now c.next_child.new.top.row o.more ((o.walking).frame).row
+    let row = ((o.walking).frame).row in
+    record { more = o.more; near = omega (arith, row.place); types = row_types_near w.checks c.next_child.new.loan.bytes w.schema.now c.next_child.new.top.row o.more row }
 
 pub open_table-requires : goal.open_table-requires
 open_table-requires g c =
