@@ -37,11 +37,8 @@ module _ (c : Checks) (b : List ℕ) (p t : ℕ) (same : vtable b t ≡ vtable b
       head_parts c b t ∙ grind (arith, vtable_alike)
 
   -- slots are the same
-  slot_alike : (o : ℕ) → has_slot b t o ≡ has_slot b p o
-  slot_alike o = ap (λ v. nat_le (o + 2) (word b v 2)) same
-
   slot_reads_alike : (o : ℕ) → slot_reads b t o ≡ slot_reads b p o
-  slot_reads_alike o = ap (λ x. if x then 1 else 0) (slot_alike o)
+  slot_reads_alike o = ap (λ v. if nat_le (o + 2) (word b v 2) then 1 else 0) same
 
   module _ (below : t < p) (aligned : t % 8 ≡ p % 8) where
     inline_alike : (d n : ℕ) → ((p + d) % n ≡ 0 → (t + d) % n ≡ 0) → inline_field_failure c b p (p + d) n n ≡ None → inline_field_failure c b t (t + d) n n ≡ None

@@ -275,6 +275,7 @@ impl Walk<'_, '_> {
 
     /// Tests a present field by itself, and puts the words by which it leads on, if there are any. Where a test fails,
     /// the position is moved to where.
+    #[tactic(auto, using(crate::proofs::IntoField::word_left))]
     fn put_present(
         &self,
         reads: &mut Reads<'_>,

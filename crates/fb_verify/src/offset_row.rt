@@ -101,6 +101,7 @@ fn referent_to(target: Target) -> Referent
 /// What an offset word of a union refers to whose type has this value, and whose targets are these. Only the contract
 /// speaks of the schema and of the union.
 #[inline(always)]
+#[tactic(auto, using(crate::proofs::Members::goal_leads, crate::proofs::Members::goal_holds))]
 pub fn referent_among(targets: Targets<'_>, schema: &Schema<'_>, union: u32, value: u8) -> Referent
     requires served { IsServed schema.now }
     requires union { IsTrue (is_union schema.now union) }

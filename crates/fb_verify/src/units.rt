@@ -178,6 +178,7 @@ impl<'s, 'n> Walk<'s, 'n> {
 
     /// Passes the first offset word that is left of the top table's field, and answers the table to which it leads, if
     /// it does. The word that leads to it is still left; one that fails is not.
+    #[tactic(auto, using(crate::proofs::Walking::leaf_passed))]
     fn next_child(&self, loan: &mut Loan<'_>, top: &mut Frame) -> Result<Option<Child>, Stop>
         ghost under: { Waiting }
         requires walking { IsWalking self.now loan.old under.start under.frames top.old }

@@ -16,8 +16,7 @@ fails_at_root g c =
     let S = c.args.self.now.schema.now in
     let s : Origin = record { object = c.args.root.object; position = c.args.root.at; way = way_at 0 c.args.self.now.tables c.args.self.now.deepest c.args.loan.now.count c.args.site } in
     let stops = stop_at_root ch b S c.args.self.now.limits s c.args.root.at c.args.site c.args.self.now.tables c.args.self.now.deepest c.args.loan.now.count _ refl refl c.requires.1.1.1.1.1.1.0 c.requires.1.1.1.1.1.1.1.0 c.requires.1.1.1.1.1.1.1.1.0 c.in-Err.ensures.err in
-    let none : StopsIn ch b S c.args.self.now.limits s [] [] (stopped c.in-Err.stop c.open_table.new.loan.count) = record { along = stops; linked = All-nil (IsLinked ch b S) } in
-    rw c.requires.0 none
+    rw c.requires.0 (record { along = stops; linked = All-nil (IsLinked ch b S) })
 
 pub returns-in-Err-clause-err : goal.returns-in-Err-clause-err
 returns-in-Err-clause-err g c = ([], rw c.halt.ensures (fails_at_root g (goal.at.returns-in-Err-clause-err g c).In-Err))
