@@ -19,71 +19,37 @@ use Rattle.fb_verify.proofs.{Passing.left_from, Budgets.fewer_reads, Heads.head_
 use Rattle.fb_verify.proofs.Walking.{table_closed}
 use Rattle.fb_verify.proofs.Chains.{after_none, both_none, head_none, table_none, inline_none}
 
--- A vtable that holds for one table holds for another.
-quiet : (f g e w : Bool) (p t v : ℕ) → check f OutOfBuffer p 0 (check g Misaligned v 0 (check e BadVtable v 1 (check w OutOfBuffer v 1 None))) ≡ None → check f OutOfBuffer t 0 (check g Misaligned v 0 (check e BadVtable v 1 (check w OutOfBuffer v 1 None))) ≡ None
-quiet true true true true p t v h = refl
-quiet f g e w p t v h = absurd cc
-
 -- A small field is of one of four acts.
-by_act : (P : Act → Type 0) → P One → P Two → P Four → P Eight → (act : Act) → (act ≡ One) ⊎ (act ≡ Two) ⊎ (act ≡ Four) ⊎ (act ≡ Eight) → P act
-by_act P one two four eight act (inl e) = subst P (sym e) one
-by_act P one two four eight act (inr (inl e)) = subst P (sym e) two
-by_act P one two four eight act (inr (inr (inl e))) = subst P (sym e) four
-by_act P one two four eight act (inr (inr (inr e))) = subst P (sym e) eight
-
 no_other : (act : Act) → (act ≡ One) ⊎ (act ≡ Two) ⊎ (act ≡ Four) ⊎ (act ≡ Eight) → act ≡ Other → ⊥
-no_other act small = by_act (λ act. act ≡ Other → ⊥) (λ e. absurd cc) (λ e. absurd cc) (λ e. absurd cc) (λ e. absurd cc) act small
+no_other act small e = grind arith
 
 reads_free : (s : Step) (place : Option ℕ) → IsSmallStep s → step_reads_at s place ≡ 0
-reads_free s None small = refl
-reads_free s (Some p) small = by_act (λ act. step_reads act ≡ 0) refl refl refl refl s.act small
+reads_free s place small = grind arith
 
 module _ (c : Checks) (b : List ℕ) (p t : ℕ) (same : vtable b t ≡ vtable b p) where
   vtable_alike : vtable_failure c b p ≡ None → vtable_failure c b t ≡ None
   unfolding vtable_failure
-  vtable_alike h =
-      let v = vtable b p in
-      rw same (quiet (fits b v 2) (is_aligned c v 2) ((word b v 2 % 2 == 0) && nat_le 4 (word b v 2)) (fits b v (word b v 2)) p t v h)
+  vtable_alike h = rw same (grind arith)
 
   pub head_alike : head_failure c b p ≡ None → first_word_failure c b t ≡ None → head_failure c b t ≡ None
   head_alike h first =
-      let parts = (both_none (first_word_failure c b p) (after 1 (vtable_failure c b p))).0 (sym (head_parts c b p) ∙ h) in
-      let rest = vtable_alike ((after_none 1 (vtable_failure c b p)).0 parts.1) in
-      head_parts c b t ∙ (both_none (first_word_failure c b t) (after 1 (vtable_failure c b t))).1 (first, (after_none 1 (vtable_failure c b t)).1 rest)
+      let whole = sym (head_parts c b p) ∙ h in
+      head_parts c b t ∙ grind (arith, vtable_alike)
 
   -- slots are the same
-  slot_alike : (o : ℕ) → has_slot b t o ≡ has_slot b p o
-  slot_alike o = ap (λ v. nat_le (o + 2) (word b v 2)) same
-
   slot_reads_alike : (o : ℕ) → slot_reads b t o ≡ slot_reads b p o
-  slot_reads_alike o = ap (λ x. if x then 1 else 0) (slot_alike o)
+  slot_reads_alike o = ap (λ v. if nat_le (o + 2) (word b v 2) then 1 else 0) same
 
   module _ (below : t < p) (aligned : t % 8 ≡ p % 8) where
-    ends_alike : (d n : ℕ) → IsTrue (ends_in_table c b p (p + d) n) → IsTrue (ends_in_table c b t (t + d) n)
-    unfolding ends_in_table
-    ends_alike d n h = let size : inline_size b t ≡ inline_size b p = ap (λ v. word b (v + 2) 2) same in grind (arith, nat_tests)
-
-    aligned_alike : (d n : ℕ) → ((p + d) % n ≡ 0 → (t + d) % n ≡ 0) → IsTrue (is_aligned c (p + d) n) → IsTrue (is_aligned c (t + d) n)
-    unfolding is_aligned
-    aligned_alike d n mods h = grind (arith, nat_tests, mods)
-
     inline_alike : (d n : ℕ) → ((p + d) % n ≡ 0 → (t + d) % n ≡ 0) → inline_field_failure c b p (p + d) n n ≡ None → inline_field_failure c b t (t + d) n n ≡ None
-    inline_alike d n mods h =
-        let parts = (both_none (table_failure c b p (p + d) n) (inline_failure c b (p + d) n n)).0 h in
-        let ends = (table_none c b p (p + d) n).0 parts.0 in
-        let value = (inline_none c b (p + d) n n).0 parts.1 in
-        (both_none (table_failure c b t (t + d) n) (inline_failure c b (t + d) n n)).1 (
-          (table_none c b t (t + d) n).1 (ends_alike d n ends),
-          (inline_none c b (t + d) n n).1 (record { within = omega (arith, value.within, below); aligned = aligned_alike d n mods value.aligned }),
-        )
+    unfolding ends_in_table is_aligned table_failure inline_failure
+    inline_alike d n mods h = let size : inline_size b t ≡ inline_size b p = ap (λ v. word b (v + 2) 2) same in grind (arith, nat_tests, mods)
 
     act_alike : (s : Step) (d : ℕ) → IsSmallStep s → step_failure c b p s (p + d) s.act ≡ None → step_failure c b t s (t + d) s.act ≡ None
-    act_alike s d small = by_act (λ act. step_failure c b p s (p + d) act ≡ None → step_failure c b t s (t + d) act ≡ None)
-        (inline_alike d 1 (λ e. omega (arith, e, aligned))) (inline_alike d 2 (λ e. omega (arith, e, aligned))) (inline_alike d 4 (λ e. omega (arith, e, aligned))) (inline_alike d 8 (λ e. omega (arith, e, aligned))) s.act small
-
-    absent_alike : (needed : Bool) → check (not needed) MissingRequired p 0 None ≡ None → check (not needed) MissingRequired t 0 None ≡ None
-    absent_alike true h = absurd cc
-    absent_alike false h = refl
+    act_alike s d (inl one) h = rw one (inline_alike d 1 (λ e. omega (arith, e, aligned)) (rw one at h))
+    act_alike s d (inr (inl two)) h = rw two (inline_alike d 2 (λ e. omega (arith, e, aligned)) (rw two at h))
+    act_alike s d (inr (inr (inl four))) h = rw four (inline_alike d 4 (λ e. omega (arith, e, aligned)) (rw four at h))
+    act_alike s d (inr (inr (inr eight))) h = rw eight (inline_alike d 8 (λ e. omega (arith, e, aligned)) (rw eight at h))
 
     place_alike : (s : Step) → IsSmallStep s → step_failure_at c b p s (field_place b p s.slot) ≡ None → step_failure_at c b t s (field_place b t s.slot) ≡ None
     unfolding field_place
@@ -91,15 +57,12 @@ module _ (c : Checks) (b : List ℕ) (p t : ℕ) (same : vtable b t ≡ vtable b
         let d = word b (vtable b p + s.slot) 2 in
         rw same (go d (has_slot b p s.slot) (d == 0) h) where
           go : (d : ℕ) (x z : Bool) → step_failure_at c b p s (if x then (if z then None else Some (p + d)) else None) ≡ None → step_failure_at c b t s (if x then (if z then None else Some (t + d)) else None) ≡ None
-          go d false z h = absent_alike s.required h
-          go d true true h = absent_alike s.required h
           go d true false h = act_alike s d small h
+          go d _ _ h = grind arith
 
     plain_alike : (s : Step) → IsSmallStep s → plain_failure c b p s ≡ None → plain_failure c b t s ≡ None
     unfolding plain_failure
-    plain_alike s small h =
-        (after_none (slot_reads b t s.slot) (step_failure_at c b t s (field_place b t s.slot))).1
-        (place_alike s small ((after_none (slot_reads b p s.slot) (step_failure_at c b p s (field_place b p s.slot))).0 h))
+    plain_alike s small h = grind (arith, place_alike)
 
     reads_alike : (s : Step) → IsSmallStep s → plain_reads b t s ≡ plain_reads b p s
     unfolding plain_reads

@@ -1,22 +1,23 @@
--- A table whose fields lead to no table is passed whole.
-use Rattle.std.proofs.Common.{◌≡◌, ℕ, ◌+◌, ◌*◌, ◌^◌, ◌<◌, ◌≤◌, IsTrue, Bool, true, false, List, map, length, refl, sym, ◌∙◌, ap, arith, Option, Some, None, Result, Ok, Err}
+-- A table whose fields lead to no table is passed whole; offset words that are left of a field are passed one by one.
+use Rattle.std.proofs.Common.{◌≡◌, ℕ, ◌+◌, ◌*◌, ◌^◌, ◌<◌, ◌≤◌, IsTrue, Bool, true, false, List, [], ◌∷◌, ◌++◌, map, length, refl, sym, ◌∙◌, ap, subst, arith, Option, Some, None, Result, Ok, Err}
 use Rattle.std.proofs.lemmas.{Bool.lt-ltb, List.length-map}
 use Rattle.fb_bytes.specs.Word.{Lent}
 use Rattle.fb_schema.specs.{Rows.Rows, Rows.is_table, Live.live_fields, Steps.is_plain, Steps.step_of}
 use Rattle.fb_schema.proofs.Numbers.{slice_get_some}
 use Rattle.fb_verify.specs.declared.{checks.Checks.Checks, fault.Reason.Reason, table.Head.Head, table.Table.Table, offset_row.Row.Row}
-use Rattle.fb_verify.specs.declared.{offset_row.Leads.TheVariants.All, offset_row.Referent.TheVariants.Table as ATable, scratch.Frame.Frame}
-use Rattle.fb_verify.specs.declared.{site.Refusal.Refusal, site.Site.Site, stack.Walk.Walk}
+use Rattle.fb_verify.specs.declared.{offset_row.Leads.TheVariants.All, offset_row.Referent.Referent, offset_row.Referent.TheVariants.Table as ATable, scratch.Frame.Frame}
+use Rattle.fb_verify.specs.declared.{site.Refusal.Refusal, site.Site.Site, site.Stop.Stop, stack.Walk.Walk}
 use Rattle.fb_schema.specs.declared.views.Step.{Step}
-use Rattle.fb_verify.specs.{Bounds.Bounds, Places.target, Fields.to_table, Cost.head_reads, Cost.lead_reads}
-use Rattle.fb_verify.specs.{OffsetRows.first_word, OffsetRows.past_first, PassesOn.HasRoom, PassesOn.IsBetween, PassesOn.PassesOn}
-use Rattle.fb_verify.specs.{Stops.budget_failure, Stops.reads_failure, Told.told, Told.stopped, Told.IsHead, Way.Way}
+use Rattle.fb_verify.specs.{Bounds.Bounds, Places.target, Fields.Lead, Fields.Entry, Fields.to_table, Cost.head_reads, Cost.lead_reads}
+use Rattle.fb_verify.specs.{PassesOn.HasRoom, PassesOn.IsBetween, PassesOn.PassesOn, Stops.budget_failure, Stops.reads_failure, Stops.lead_reads_failure}
+use Rattle.fb_verify.specs.{OffsetRows.lead_to, OffsetRows.first_word, OffsetRows.word_at, OffsetRows.past_first, OffsetRows.IsLeafLead, Way.Way}
+use Rattle.fb_verify.specs.Told.{told, refused, stopped, IsHead}
 use Rattle.fb_verify.specs.Flat.{in_head, Going, MayPass, PassesFlat}
-use Rattle.fb_verify.specs.Order.{after, ◌▷◌, head_failure, lead_failure, element_failure}
+use Rattle.fb_verify.specs.Order.{Failure, after, ◌▷◌, head_failure, lead_failure, element_failure}
 use Rattle.fb_verify.specs.Plain.{tested_by, IsTested, StepsHold, steps_reads}
-use Rattle.fb_verify.specs.Stack.{opened, Waiting, Origin, IsUnderWay, IsAtTable, work}
-use Rattle.fb_verify.proofs.{Budgets.fewer_reads, Chains.after_none, Frames.head_few, LeafRows.all_lead, LeafRows.all_free, LeafRows.all_told}
-use Rattle.fb_verify.proofs.{Passing.told_grows, Plains.never_leads, Refusals.told_after, Refusals.told_first, Walking.table_closed}
+use Rattle.fb_verify.specs.Stack.{opened, Waiting, Origin, IsUnderWay, IsAtTable, StopsIn, work}
+use Rattle.fb_verify.proofs.{Budgets.fewer_reads, Chains.after_none, Frames.head_few, Passing.told_grows, Plains.after_twice, Plains.never_leads}
+use Rattle.fb_verify.proofs.{Refusals.told_after, Refusals.told_first, Walking.word_stops, Walking.table_closed, Words.first_place}
 
 -- a field of a table of which none leads on isn't there to lead on
 pub never_on : {w : Walk} {m new : Lent} {under : Waiting} {top past : Frame} {at : ℕ} → is_plain w.schema.now (top.table).object ≡ true → past.table ≡ top.table → PassesOn w m new under top past at (Ok true) → ⊥
@@ -91,6 +92,45 @@ head_flat {w} {m} {new} {under} {k} {t} told bytes = record {
   within = λ no. absurd (no refl);
   field = λ no. absurd (no refl);
 }
+
+-- The first word of a row: its type is read, and then it is tested with what it leads to.
+pub word_told : (c : Checks) (b : List ℕ) (S : Rows) (row : Row) (lead : Lead) → lead ≡ (first_word b S row).lead → (m mid : ℕ) → mid ≡ m + (first_word b S row).reads → (x : Option Failure) → x ≡ after mid (lead_failure c b row.place lead)
+    → x ≡ after m (element_failure c b (first_word b S row))
+unfolding element_failure
+word_told c b S row lead e m mid z x told =
+    let w = first_word b S row in
+    rw (e, z) at told ∙ ap (λ p. after (m + w.reads) (lead_failure c b p w.lead)) (sym (first_place b S row)) ∙ sym (after_twice m w.reads (lead_failure c b w.place w.lead))
+
+module _ {c : Checks} {b : List ℕ} {S : Rows} {L : Bounds} {s : Origin} {below : List Frame} {top : Frame} {n d r : ℕ} (h : IsUnderWay c b S L s below top n d r) where
+  -- the first word that is left
+  abbrev word : Entry
+  word = first_word b S top.row
+
+  -- where all that are left refer to the same, none reads a type
+  module _ (referent : Referent) (leads : (top.row).leads ≡ All referent) where
+    pub all_lead : lead_to referent ≡ word.lead
+    all_lead = ap (λ l. (word_at b S l (top.row).place).lead) (sym leads)
+
+    pub all_free : word.reads ≡ 0
+    all_free = ap (λ l. (word_at b S l (top.row).place).reads) leads
+
+    pub all_told : (x : Option Failure) → x ≡ after r (lead_failure c b (top.row).place (lead_to referent)) → x ≡ after r (element_failure c b word)
+    all_told x told = word_told c b S top.row (lead_to referent) all_lead r r (omega (arith, all_free)) x told
+
+  -- where it fails
+  pub word_fails : (row : Row) → row ≡ past_first top.row → 0 < (top.row).left → (e : Refusal) → (m q : ℕ) → r ≡ m → after m (element_failure c b word) ≡ Some (refused e q) → (stop : Stop) → stop ≡ record { refusal = e; site = record { object = (top.table).object; field = Some top.number } }
+      → StopsIn c b S L s (below ++ record top { row = row } ∷ []) [] (stopped stop q)
+  word_fails row re l e m q z x stop is =
+      let site : Site = record { object = (top.table).object; field = Some top.number } in
+      let told = ap (λ w. after w (element_failure c b word)) z ∙ x in
+      let fault = stopped (record { refusal = e; site = site }) q in
+      subst (λ (y : Stop). StopsIn c b S L s (below ++ record top { row = row } ∷ []) [] (stopped y q)) (sym is)
+      (word_stops h fault row re l (told_first site r (element_failure c b word) (lead_reads_failure L r word word.lead) fault (told_after site r q (element_failure c b word) e told)))
+
+-- what is no table is a leaf
+pub is_leaf : (referent : Referent) → ((k : ℕ) → referent ≡ ATable k → ⊥) → IsLeafLead (lead_to referent)
+is_leaf (ATable k) n = n k refl
+is_leaf _ n = tt
 
 -- The first word that is left of a row of words to tables of one object.
 module _ (w : Walk) {b : List ℕ} {start : Origin} {below : List Frame} {top : Frame} {r : ℕ} (h : IsUnderWay w.checks b w.schema.now w.limits start below top w.tables w.deepest r)

@@ -30,11 +30,9 @@ pub mod OneVerdict
 pub mod Walking
 pub mod Plains
 pub mod Heads
-pub mod ByUnits
 pub mod Passing
 pub mod Alike
 pub mod Alignments
-pub mod LeafRows
 pub mod Members
 pub mod Flats
 pub mod Turning

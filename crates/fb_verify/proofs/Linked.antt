@@ -25,12 +25,9 @@ module _ (b : List ℕ) (S : Rows) where
   union_row_length e q p zero = refl
   union_row_length e q p (suc n) = ap suc (union_row_length e (q + 1) (p + 4) n)
 
-  words_length : (leads : Leads) (p n : ℕ) → length (words b S leads p n) ≡ n
-  words_length leads p n = grind (arith, row_length, union_row_length)
-
   -- a row has as many words as are left of it
   pub row_words : (r : Row) → length (words_of b S r) ≡ r.left
-  row_words r = words_length r.leads r.place r.left
+  row_words r = grind (arith, row_length, union_row_length)
 
 module _ (c : Checks) (b : List ℕ) (S : Rows) (fr : Frame) (w v : Way) (x : Entry) (h : IsInField c b S (fr.table).object (fr.table).at w fr.next fr.number (x ∷ words_of b S fr.row) v) where
   here : slice_get (live_fields S (fr.table).object) (fr.next - 1) ≡ Some h.field

@@ -3,23 +3,17 @@ use Rattle.std.proofs.Common.{◌≡◌, refl, Option, Some, None}
 use Rattle.fb_schema.specs.declared.{kinds.Kind.Kind, kinds.Kind.TheVariants.Scalar, kinds.Kind.TheVariants.Struct, kinds.Kind.TheVariants.Table}
 use Rattle.fb_schema.specs.declared.views.Target.{Target}
 use Rattle.fb_schema.specs.{Rows.Rows, Served.MemberHolds, Targets.target_of, Targets.kind_to}
-use Rattle.fb_verify.specs.{Fields.to_nothing, Fields.lead_of, OffsetRows.lead_to, OffsetRows.lead_to_goal, OffsetRows.GoalHolds}
+use Rattle.fb_verify.specs.{Fields.to_nothing, Fields.lead_of, OffsetRows.lead_to, OffsetRows.referent_of, OffsetRows.IsReferent}
 use Rattle.fb_verify.specs.declared.{offset_row.Referent.Referent, offset_row.Referent.TheVariants.Nothing}
 
-leads : (S : Rows) (member : Option Kind) → lead_to_goal ((target_of S member).goal) (target_of S member) ≡ lead_of S member
-leads S (Some (Scalar s)) = refl
-leads S _ = refl
+pub goal_leads : (S : Rows) (member : Option Kind) (t : Target) → t ≡ target_of S member → lead_to (referent_of t.goal t) ≡ lead_of S member
+goal_leads S (Some (Scalar s)) t is = rw is refl
+goal_leads S _ t is = rw is refl
 
-pub goal_leads : (S : Rows) (member : Option Kind) (t : Target) → t ≡ target_of S member → lead_to_goal t.goal t ≡ lead_of S member
-goal_leads S member t is = rw is (leads S member)
-
-holds : (S : Rows) (member : Option Kind) → MemberHolds S member → GoalHolds S ((target_of S member).goal) (target_of S member)
-holds S (Some (Struct k)) h = h.1
-holds S (Some (Table k)) h = h
-holds S _ h = tt
-
-pub goal_holds : (S : Rows) (member : Option Kind) (t : Target) → t ≡ target_of S member → MemberHolds S member → GoalHolds S t.goal t
-goal_holds S member t is h = rw is (holds S member h)
+pub goal_holds : (S : Rows) (member : Option Kind) (t : Target) → t ≡ target_of S member → MemberHolds S member → IsReferent S (referent_of t.goal t)
+goal_holds S (Some (Struct k)) t is h = rw is h.1
+goal_holds S (Some (Table k)) t is h = rw is h
+goal_holds S _ t is h = rw is tt
 
 -- a type that leads to nothing has no member, where the members of unions are what unions may hold
 pub no_member : (S : Rows) (member : Option Kind) → kind_to (target_of S member) ≡ member → to_nothing ≡ lead_of S member → member ≡ None

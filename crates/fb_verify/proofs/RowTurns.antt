@@ -10,8 +10,8 @@ use Rattle.fb_verify.specs.{Bounds.AreAllowed, Cost.head_reads, OffsetRows.first
 use Rattle.fb_verify.specs.{Plain.tested_by, StopsAt.IsStopAt}
 use Rattle.fb_verify.specs.Flat.{in_head, frame_at, MayPass, PassesFlat}
 use Rattle.fb_verify.specs.Stack.{Waiting, IsAtTable, IsWalking, HaltsIn, links_left}
-use Rattle.fb_verify.specs.Turns.{IsShort, IsAtChild, GoesDown, GoesOn, Rests, Halts}
-use Rattle.fb_verify.proofs.{Budgets.fewer_reads, Turns.words_work, Flats.flat_work, Frames.first_few, Frames.head_few, LeafRows.word_fails}
+use Rattle.fb_verify.specs.Turns.{IsShort, IsAtChild, GoesDown, GoesOn, Halts}
+use Rattle.fb_verify.proofs.{Budgets.fewer_reads, Turns.words_work, Flats.flat_work, Flats.word_fails, Frames.first_few, Frames.head_few}
 use Rattle.fb_verify.proofs.Turns.{at_child, down_falls, halts_behind}
 
 pub two : (m : ℕ) → m + 2 ≡ m + 1 + 1
@@ -34,12 +34,6 @@ module _ {w then : Walk} {m new : Lent} {under : Waiting} {top past : Frame} (on
     bytes = bytes ∙ on.bytes;
     short = short;
   }
-
-  -- or all that are left
-  pub words_passed : (last : Frame) (q : Lent) → IsWalking then q under.start under.frames last → last ≡ record past { row = last.row } → (last.row).left ≡ 0 → past.next ≡ top.next
-      → q.count ≤ new.count + 4 * (past.row).left → new.count ≤ q.count → q.bytes ≡ new.bytes → IsShort q.count → Rests w then m q under top last
-  words_passed last q h same none next paid grows bytes short =
-      record { on = word_passed last q h same (omega (arith, paid, none)) (omega (arith, none)) grows bytes short; rests = none; next = ap (λ (x : Frame). x.next) same ∙ next }
 
   -- or it fails, and the walk stops behind it
   pub word_halts : {at : ℕ} {reason : Reason} (q : Lent) (last : Frame) (stop : Stop) (halted : Walk) (links : ℕ) → links ≡ length under.frames → q.bytes ≡ new.bytes → 0 < (past.row).left

@@ -2,7 +2,7 @@
 use Rattle.std.proofs.Common.{◌≡◌, ℕ, ◌+◌, ◌-◌, ◌≤◌, ◌<◌, List, [], ◌∷◌, ◌++◌, length, take, get_or, sym, ◌∙◌, ap, arith}
 use Rattle.std.proofs.Math.ListN.{set, length-set, get_or-append}
 use Rattle.std.specs.List.{sum_by}
-use Rattle.std.proofs.lemmas.List.{take_more, take_more_set, take-set, take-append-le, set-append_left, get_or-set_same, get_or-append-add}
+use Rattle.std.proofs.lemmas.List.{take_more, take_more_set, take-set, take-append-le, get_or-set_same, get_or-append-add}
 use Rattle.std.proofs.lemmas.List.Sums.{sum_by_push}
 
 -- the last of the first m
@@ -24,9 +24,6 @@ module _ {X : Type 0} (xs low high : List X) (m : ℕ) (y : X) (parts : xs ≡ l
   -- it was the same in the whole row
   pub top_is : (d : X) → get_or low m d ≡ get_or xs m d
   top_is d = sym (get_or-append low high d m (omega (arith, front))) ∙ ap (λ zs. get_or zs m d) (sym parts)
-
-  pub joined : set low m y ++ high ≡ set xs m y
-  joined = sym (set-append_left low high m y (omega (arith, front))) ∙ ap (λ zs. set zs m y) (sym parts)
 
   -- where the second part was written, too
   module _ (other : List X) (d : X) where

@@ -58,20 +58,20 @@ module _ (w then : Walk) (m new : Lent) (under : Waiting) (old low high : List F
         over = λ zero. went_over under past e.on.same h (below ∙ rw zero refl) e.rests all e.on.bytes;
         above = λ some.
             let room : waiting ≤ length frames = omega (arith, long) in
-            record {
+            (record {
               same = e.on.same;
               walking = table_closed h (take (waiting - 1) frames) (get_or frames (waiting - 1) blank) (waits ∙ last_is frames waiting blank some room) e.rests all;
+              top = omega (arith, some, room);
               falls = rw (sym below, sym stands) (omega (arith, e.on.falls, ap (λ zs. work w.schema.now w.limits zs past then.tables) waits, sum_last frames waiting blank some room (frame_work w.schema.now)));
               grows = e.on.grows;
               bytes = e.on.bytes;
-              short = e.on.short;
-            };
+            }, e.on.short);
       }
   frames_turned Slowly un h = record {
     same = h.same;
     walking = rw (sym waits, top_is) h.walking;
     top = omega (arith, long);
-    falls = rw (sym waits, top_is, sym below, sym stands) h.falls;
+    falls = rw (sym waits, top_is, sym below, sym stands) (omega (arith, h.falls));
     grows = h.grows;
     bytes = h.bytes;
   }
@@ -89,14 +89,14 @@ module _ (w then : Walk) (m new : Lent) (under : Waiting) (old low high : List F
     unfolding work
     frames_down Down o =
         let less = ap (λ x. work w.schema.now w.limits (under.frames ++ past ∷ []) x then.tables) o.opens in
-        record {
+        (record {
           same = rw o.same h.same;
           walking = rw (grown, next_is, first, o.same) o.walking;
+          top = omega (arith, long, some);
           falls = rw (grown, next_is, first, o.same, sym below, sym stands) (omega (arith, less, h.falls, o.paid));
           grows = omega (arith, h.grows, o.grows);
           bytes = o.bytes ∙ h.bytes;
-          short = omega (arith, h.short, o.paid);
-        }
+        }, omega (arith, h.short, o.paid))
     frames_down Halted o =
         let links : (last.halt).links ≡ waiting + 1 = omega (arith, o.links, length-append under.frames (past ∷ []), many) in
         record {

@@ -19,18 +19,12 @@ lead_to (ATable k) = to_table k
 lead_to (AStruct size align) = to_struct size align
 lead_to Nothing = to_nothing
 
--- where one leads whose type has this target
-abbrev pub lead_to_goal : Goal → Target → Lead
-lead_to_goal NoGoal t = to_nothing
-lead_to_goal TextGoal t = to_string
-lead_to_goal TableGoal t = to_table t.object
-lead_to_goal StructGoal t = to_struct t.size t.align
-
--- it can be asked of the schema
-abbrev pub GoalHolds : Rows → Goal → Target → Type 0
-GoalHolds S TableGoal t = IsTrue (is_table S t.object)
-GoalHolds S StructGoal t = IsAlignment t.align
-GoalHolds S _ t = Unit {0}
+-- what one refers to whose type has this target
+abbrev pub referent_of : Goal → Target → Referent
+referent_of NoGoal t = Nothing
+referent_of TextGoal t = AText
+referent_of TableGoal t = ATable t.object
+referent_of StructGoal t = AStruct t.size t.align
 
 -- n offset words from p on
 abbrev pub words : List ℕ → Rows → Leads → ℕ → ℕ → List Entry

@@ -113,9 +113,8 @@ pub record Halts (w then : Walk) (m new : Lent) (under : Waiting) (past : Frame)
 -- the walk goes on in this row, and the limits allow its first word to be passed, and a table to which it may lead to
 -- be opened
 pub record IsAtMember (w : Walk) (m : Lent) (under : Waiting) (waiting room : ℕ) (top : Frame) (row : Row) : Type 0 where
-  pub members : IsAtMembers w m under waiting (record top { row = row })
-  pub fewer : w.tables < (w.limits).tables
-  pub small : (w.limits).tables < 2 ^ 32
+  pub in-row : IsInRow w m under waiting (record top { row = row })
+  pub limits : AllowsTable w (waiting + 1)
   pub few : m.count + 8 ≤ room
   pub allowed : AreAllowed (w.limits).reads room
   pub short : IsShort room
@@ -196,21 +195,12 @@ pub record StopsAtChild (w then : Walk) (m new : Lent) (under : Waiting) : Type 
 abbrev pub Opened : (w then : Walk) → (m new : Lent) → (under : Waiting) → (frame : Frame) → (child : Child) → Turn → Type 0
 Opened w then m new under frame child = ByTurn (OpensChild w then m new under frame child) ⊥ ⊥ (StopsAtChild w then m new under)
 
--- the walk goes on over these frames, of which so many wait now, with less work
-pub record GoesOver (w then : Walk) (m new : Lent) (s : Origin) (old : List Frame) (waiting : ℕ) (frames : List Frame) (left : ℕ) : Type 0 where
-  pub same : then ≡ record w { tables = then.tables; deepest = then.deepest }
-  pub walking : IsWalking then new s (take left frames) (slice_index_or frames left blank)
-  pub falls : new.count + work w.schema.now w.limits (take left frames) (slice_index_or frames left blank) then.tables < m.count + work w.schema.now w.limits (take waiting old) (slice_index_or old waiting blank) w.tables
-  pub grows : m.count ≤ new.count
-  pub bytes : new.bytes ≡ m.bytes
-  pub short : IsShort new.count
-
--- the walk went on over these frames, of which so many wait
-pub record WentOn (w then : Walk) (m new : Lent) (s : Origin) (old : List Frame) (waiting : ℕ) (frames : List Frame) (left : ℕ) : Type 0 where
+-- the walk went on over these frames, of which so many wait now, with at least this much less work
+pub record WentOn (w then : Walk) (m new : Lent) (s : Origin) (old : List Frame) (waiting : ℕ) (frames : List Frame) (left less : ℕ) : Type 0 where
   pub same : then ≡ record w { tables = then.tables; deepest = then.deepest }
   pub walking : IsWalking then new s (take left frames) (slice_index_or frames left blank)
   pub top : left < length frames
-  pub falls : new.count + work w.schema.now w.limits (take left frames) (slice_index_or frames left blank) then.tables ≤ m.count + work w.schema.now w.limits (take waiting old) (slice_index_or old waiting blank) w.tables
+  pub falls : less + new.count + work w.schema.now w.limits (take left frames) (slice_index_or frames left blank) then.tables ≤ m.count + work w.schema.now w.limits (take waiting old) (slice_index_or old waiting blank) w.tables
   pub grows : m.count ≤ new.count
   pub bytes : new.bytes ≡ m.bytes
 
@@ -232,11 +222,11 @@ pub record WentWrong (w then : Walk) (m new : Lent) (s : Origin) (frames : List 
 -- the top is passed to its end
 pub record GoesUp (w then : Walk) (m new : Lent) (s : Origin) (old : List Frame) (waiting : ℕ) (frames : List Frame) : Type 0 where
   pub over : waiting ≡ 0 → WentOver w then m new s
-  pub above : 0 < waiting → GoesOver w then m new s old waiting frames (waiting - 1)
+  pub above : 0 < waiting → WentOn w then m new s old waiting frames (waiting - 1) 1 × IsShort new.count
 
 -- one turn over frames
 abbrev pub FramesTurned : (w then : Walk) → (m new : Lent) → (s : Origin) → (old frames : List Frame) → (waiting : ℕ) → Turn → Type 0
-FramesTurned w then m new s old frames waiting = ByTurn (GoesOver w then m new s old waiting frames (waiting + 1)) (GoesUp w then m new s old waiting frames) (WentOn w then m new s old waiting frames waiting) (WentWrong w then m new s frames)
+FramesTurned w then m new s old frames waiting = ByTurn (WentOn w then m new s old waiting frames (waiting + 1) 1 × IsShort new.count) (GoesUp w then m new s old waiting frames) (WentOn w then m new s old waiting frames waiting 0) (WentWrong w then m new s frames)
 
 -- the root table, whose fields lead on nowhere, is passed, or it isn't begun, or the walk stops there
 abbrev pub RootTurned : (w then : Walk) → (m new : Lent) → (s : Origin) → Turn → Type 0
@@ -244,7 +234,7 @@ RootTurned w then m new s = ByTurn ⊥ (WentOver w then m new s) ((then ≡ w) �
 
 -- a quick walk over frames: it is over, stops, or can't go on quickly
 abbrev pub Walked : (w then : Walk) → (m new : Lent) → (s : Origin) → (old : List Frame) → (waiting : ℕ) → (frames : List Frame) → (left : ℕ) → Turn → Type 0
-Walked w then m new s old waiting frames left = ByTurn ⊥ (WentOver w then m new s) (WentOn w then m new s old waiting frames left) (WentWrong w then m new s frames)
+Walked w then m new s old waiting frames left = ByTurn ⊥ (WentOver w then m new s) (WentOn w then m new s old waiting frames left 0) (WentWrong w then m new s frames)
 
 -- a walk over these frames, of which so many wait below the top, whose work that is left a count holds
 pub record IsUnderWayOver (w : Walk) (m : Lent) (s : Origin) (frames : List Frame) (waiting : ℕ) : Type 0 where
@@ -254,12 +244,8 @@ pub record IsUnderWayOver (w : Walk) (m : Lent) (s : Origin) (frames : List Fram
 
 -- it went on: it is over, or used these frames up, of which so many wait then, or it stopped
 pub record GoneOn (w then : Walk) (m new : Lent) (s : Origin) (frames : List Frame) (result : Result (Option ℕ) Halt) : Type 0 where
-  pub same : IfOk result (λ _. then ≡ record w { tables = then.tables; deepest = then.deepest })
-  pub walking : IfOk result (λ o. MatchOption o (IsOver then new s) (λ after. IsUnderWayOver then new s frames after))
-  pub used : IfOk result (λ o. IfSome o (λ after. length frames < (w.limits).depth))
-  pub within : IfOk result (λ _. then.tables ≤ (w.limits).tables)
-  pub shallow : IfOk result (λ _. then.deepest ≤ (w.limits).depth)
-  pub reads : IfOk result (λ _. AreAllowed (w.limits).reads new.count)
+  pub went : IfOk result (λ o. MatchOption o (WentOver w then m new s) (λ after. IsUnderWayOver then new s frames after))
+  pub used : IfOk result (λ o. IfSome o (λ after. (length frames < (w.limits).depth) × (then ≡ record w { tables = then.tables; deepest = then.deepest })))
   pub bytes : new.bytes ≡ m.bytes
   pub deep : IfErr result (λ h. h.links + links_left h.last ≤ (w.limits).depth)
   pub err : IfErr result (λ h. HaltsIn w m s (take h.links frames) h new.count)

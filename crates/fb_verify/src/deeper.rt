@@ -1,8 +1,7 @@
 //! Where a walk goes on in more frames than it began in.
 
 ghost use Rattle.std.specs.Prelude.{◌≡◌, ◌+◌, ◌<◌, ◌≤◌, length, List, IfOk, IfErr};
-ghost use Rattle.fb_verify.specs.{Bounds.AreAllowed, Turns.IsUnderWayOver, Turns.GoneOn};
-ghost use Rattle.fb_verify.specs.Stack.{Origin, IsOver, HaltsIn, links_left};
+ghost use Rattle.fb_verify.specs.{Stack.Origin, Stack.HaltsIn, Stack.links_left, Turns.IsUnderWayOver, Turns.GoneOn, Turns.WentOver};
 
 use crate::scratch::{BLANK, Frame};
 use crate::site::Halt;
@@ -73,11 +72,7 @@ impl Walk<'_, '_> {
         requires goes { IsUnderWayOver self.old loan.old start frames.now waiting }
         requires fewer { length frames.now ≤ 64 }
         requires room { (self.old.limits).depth ≤ 64 }
-        ensures same { IfOk result (λ _. self.new ≡ record self.old { tables = self.new.tables; deepest = self.new.deepest }) }
-        ensures over { IfOk result (λ _. IsOver self.new loan.new start) }
-        ensures within { IfOk result (λ _. self.new.tables ≤ (self.old.limits).tables) }
-        ensures shallow { IfOk result (λ _. self.new.deepest ≤ (self.old.limits).depth) }
-        ensures reads { IfOk result (λ _. AreAllowed (self.old.limits).reads loan.new.count) }
+        ensures over { IfOk result (λ _. WentOver self.old self.new loan.old loan.new start) }
         ensures bytes { loan.new.bytes ≡ loan.old.bytes }
         ensures deep { IfErr result (λ h. h.links + links_left h.last ≤ (self.old.limits).depth) }
         ensures err { IfErr result (λ h. (way : List Frame) × HaltsIn self.old loan.old start way h loan.new.count) }

@@ -275,6 +275,7 @@ impl Walk<'_, '_> {
 
     /// Tests a present field by itself, and puts the words by which it leads on, if there are any. Where a test fails,
     /// the position is moved to where.
+    #[tactic(auto, using(crate::proofs::IntoField::word_left))]
     fn put_present(
         &self,
         reads: &mut Reads<'_>,
@@ -368,6 +369,7 @@ impl<'s, 'n> Walk<'s, 'n> {
     /// Goes into that field, whatever the checks are, or where a limit may be met in a union.
     #[cold]
     #[inline(never)]
+    #[tactic(auto, using(crate::proofs::IntoField::far_turned))]
     fn go_far_by_checks(
         &mut self,
         reads: &mut Reads<'_>,
@@ -448,6 +450,7 @@ impl<'s, 'n> Walk<'s, 'n> {
     /// Goes into the top's next field, which stands there and leads on by the words of a vector or by that of a union:
     /// quickly where the checks are the published ones, which are constants then.
     #[inline(never)]
+    #[tactic(auto, using(crate::proofs::IntoField::far_turned))]
     pub fn go_far(
         &mut self,
         reads: &mut Reads<'_>,

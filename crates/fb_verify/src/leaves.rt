@@ -3,7 +3,7 @@
 ghost use Rattle.std.specs.Prelude.{◌≡◌, ◌+◌, ◌*◌, ◌^◌, ◌<◌, ◌≤◌, [], ◌∷◌, ◌++◌, IfOk, IfErr, Some};
 ghost use Rattle.fb_schema.specs.Served.{IsServed};
 ghost use Rattle.fb_verify.specs.{Bounds.AreAllowed, Stack.Waiting, Stack.IsWalking, Stack.IsStoppedBehind, Told.stopped};
-ghost use Rattle.fb_verify.specs.Turns.{IsInRow, RowTurned};
+ghost use Rattle.fb_verify.specs.Turns.{IsInRow, Rests, RowTurned};
 ghost use Rattle.fb_verify.specs.OffsetRows.{lead_to, first_word, past_first, AreOfUnion, AreTargetsOf, IsLeafLead, IsReferent, IsRow, AreTypesNear};
 ghost use Rattle.fb_verify.specs.declared.offset_row.Leads.TheVariants.{All};
 
@@ -101,11 +101,7 @@ impl Walk<'_, '_> {
         requires leads { (top.old.row).leads ≡ All referent }
         requires leaf { IsLeafLead (lead_to referent) }
         requires checks { checks ≡ self.now.checks }
-        ensures walking { IfOk result (λ _. IsWalking self.now reads.new under.start under.frames top.new) }
-        ensures top { IfOk result (λ _. top.new ≡ record top.old { row = top.new.row }) }
-        ensures none { IfOk result (λ _. (top.new.row).left ≡ 0) }
-        ensures paid { IfOk result (λ _. reads.new.count ≤ reads.old.count + 4 * (top.old.row).left) }
-        ensures grows { IfOk result (λ _. reads.old.count ≤ reads.new.count) }
+        ensures rests { IfOk result (λ _. Rests self.now self.now reads.old reads.new under top.old top.new) }
         ensures bytes { reads.new.bytes ≡ reads.old.bytes }
         ensures err { IfErr result (λ s. IsStoppedBehind self.now reads.old under.start (under.frames ++ top.new ∷ []) (stopped s reads.new.count)) }
     {

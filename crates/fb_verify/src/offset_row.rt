@@ -1,9 +1,9 @@
 // The offset words by which a field leads on.
 
 ghost use Rattle.std.specs.Prelude.{◌≡◌, ◌+◌, ◌-◌, ◌<◌, ◌^◌, IsTrue};
-ghost use Rattle.fb_schema.specs.{Rows.Rows, Rows.is_union, Members.member_of, Served.IsServed};
+ghost use Rattle.fb_schema.specs.{Rows.is_union, Members.member_of, Served.IsServed};
 ghost use Rattle.fb_verify.specs.Fields.{lead_of};
-ghost use Rattle.fb_verify.specs.OffsetRows.{past_first, lead_to, lead_to_goal, AreAll, AreTypesNear, AreUnionTargets, GoalHolds, IsReferent};
+ghost use Rattle.fb_verify.specs.OffsetRows.{past_first, lead_to, referent_of, AreAll, AreTypesNear, AreUnionTargets, IsReferent};
 ghost use Rattle.fb_verify.specs.declared.offset_row.Leads.TheVariants.{All};
 
 use fb_schema::{Goal, Schema, Target, Targets};
@@ -88,8 +88,7 @@ impl Row {
 /// What an offset word of a union refers to whose type has this target.
 #[inline(always)]
 fn referent_to(target: Target) -> Referent
-    ensures lead { lead_to result ≡ lead_to_goal target.goal target }
-    ensures referent { (S : Rows) → GoalHolds S target.goal target → IsReferent S result }
+    ensures { result ≡ referent_of target.goal target }
 {
     match target.goal {
         Goal::Nothing => Referent::Nothing,
@@ -102,6 +101,7 @@ fn referent_to(target: Target) -> Referent
 /// What an offset word of a union refers to whose type has this value, and whose targets are these. Only the contract
 /// speaks of the schema and of the union.
 #[inline(always)]
+#[tactic(auto, using(crate::proofs::Members::goal_leads, crate::proofs::Members::goal_holds))]
 pub fn referent_among(targets: Targets<'_>, schema: &Schema<'_>, union: u32, value: u8) -> Referent
     requires served { IsServed schema.now }
     requires union { IsTrue (is_union schema.now union) }

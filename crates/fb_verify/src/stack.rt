@@ -142,6 +142,7 @@ impl<'s, 'n> Walk<'s, 'n> {
     /// Whether the budget allows whatever the other fields of the top table may cost by themselves, with the strings
     /// that they may lead to: six reads each, and eight for what the last of them may lead to.
     #[inline(always)]
+    #[tactic(auto, using(crate::proofs::Budgets::fewer_reads, fb_schema::proofs::LookLemmas::within_widest))]
     fn has_room(&self, reads: &Reads<'_>, brim: u64, top: &Frame) -> bool
         requires table { IsTrue (is_table self.now.schema.now (top.now.table).object) }
         requires next { top.now.next ≤ length (live_fields self.now.schema.now (top.now.table).object) }
@@ -488,6 +489,7 @@ impl<'s, 'n> Walk<'s, 'n> {
     /// One turn of the walk: goes on in the top table to a table below it, which is opened, or to its end, so that the
     /// table above it becomes the top, if there is one. So many frames wait below the top.
     #[inline(always)]
+    #[tactic(auto, using(crate::proofs::Turning::frames_turned))]
     fn turn(
         &mut self,
         checks: Checks,

@@ -1,7 +1,7 @@
 // The walk by single units, each with a question after it whether the budget allows its reads: it serves where a limit
 // may be met.
 
-ghost use Rattle.std.specs.Prelude.{◌≡◌, ◌+◌, ◌-◌, ◌*◌, ◌^◌, ◌<◌, ◌≤◌, max, min, length, List, take, slice_index_or, [], ◌∷◌, ◌++◌, IfOk, IfErr, IfSome, MatchOption, IsTrue, Some, None, true, false};
+ghost use Rattle.std.specs.Prelude.{◌≡◌, ◌+◌, ◌-◌, ◌*◌, ◌^◌, ◌<◌, ◌≤◌, max, min, length, take, slice_index_or, [], ◌∷◌, ◌++◌, IfOk, IfErr, IfSome, MatchOption, IsTrue, Some, None, true, false};
 ghost use Rattle.fb_schema.specs.{Live.live_of_view, Rows.is_table, Served.IsServed};
 ghost use Rattle.fb_verify.specs.{Bounds.AreAllowed, Cost.head_reads, Cost.own_reads, Cost.lead_reads, Fields.entries, Fields.to_table};
 ghost use Rattle.fb_verify.specs.{Stops.budget_failure, Stops.reads_failure, Stops.lead_reads_failure, Places.target};
@@ -9,7 +9,8 @@ ghost use Rattle.fb_verify.specs.PassesOn.{IsBetween, PassesFields};
 ghost use Rattle.fb_verify.specs.Order.{◌▷◌, head_failure, own_failure, element_failure};
 ghost use Rattle.fb_verify.specs.OffsetRows.{IsAskable, LeavesRow, first_word, IsRow, IsLeafLead};
 ghost use Rattle.fb_verify.specs.Told.{told, stopped, way_at, IsAskedAt, IsHead};
-ghost use Rattle.fb_verify.specs.Stack.{blank, Waiting, frame_work, work, opened, IsWalking, IsAtTable, IsOver, IsStopped, IsStoppedBehind, HaltsIn, links_left};
+ghost use Rattle.fb_verify.specs.Turns.{AllowsTable, WentOver};
+ghost use Rattle.fb_verify.specs.Stack.{blank, Waiting, work, opened, IsWalking, IsAtTable, IsStoppedBehind, HaltsIn, links_left};
 
 use crate::budget::{answer, ask_reads, tell};
 use crate::fault::Reason;
@@ -56,10 +57,7 @@ impl<'s, 'n> Walk<'s, 'n> {
     ) -> Result<Table, Stop>
         requires few { loan.old.count < 2 ^ 97 }
         requires near { child.at < 2 ^ 33 }
-        ensures shallow { IfOk result (λ _. links < (self.old.limits).depth) }
-        ensures low { IfOk result (λ _. links < 4096) }
-        ensures few_tables { IfOk result (λ _. (self.old.limits).tables < 2 ^ 32) }
-        ensures fewer { IfOk result (λ _. self.old.tables < (self.old.limits).tables) }
+        ensures allowed { IfOk result (λ _. AllowsTable self.old links) }
         ensures ok { IfOk result (λ _. head_failure self.old.checks loan.old.bytes child.at ≡ None) }
         ensures head { IfOk result (λ t. IsHead self.old.checks loan.old.bytes child.at t.head) }
         ensures table { IfOk result (λ t. t ≡ record { object = child.object; at = child.at; head = t.head }) }
@@ -180,6 +178,7 @@ impl<'s, 'n> Walk<'s, 'n> {
 
     /// Passes the first offset word that is left of the top table's field, and answers the table to which it leads, if
     /// it does. The word that leads to it is still left; one that fails is not.
+    #[tactic(auto, using(crate::proofs::Walking::leaf_passed))]
     fn next_child(&self, loan: &mut Loan<'_>, top: &mut Frame) -> Result<Option<Child>, Stop>
         ghost under: { Waiting }
         requires walking { IsWalking self.now loan.old under.start under.frames top.old }
@@ -224,13 +223,7 @@ impl<'s, 'n> Walk<'s, 'n> {
         ghost under: { Waiting }
         requires walking { IsWalking self.now loan.old under.start under.frames (opened table) }
         requires few { loan.old.count < 2 ^ 96 }
-        ensures leads { IfOk result (λ more. more ≡ true → IsWalking self.now loan.new under.start under.frames below.new) }
-        ensures ends { IfOk result (λ more. more ≡ false → (rest : List Frame) → under.frames ≡ rest ++ above.now ∷ [] → IsWalking self.now loan.new under.start rest above.now) }
-        ensures least { IfOk result (λ more. more ≡ false → loan.new.count ≤ loan.old.count + frame_work self.now.schema.now (opened table)) }
-        ensures falls { IfOk result (λ more. more ≡ true → loan.new.count + frame_work self.now.schema.now below.new ≤ loan.old.count + frame_work self.now.schema.now (opened table)) }
-        ensures grows { IfOk result (λ _. loan.old.count ≤ loan.new.count) }
-        ensures bytes { loan.new.bytes ≡ loan.old.bytes }
-        ensures err { IfErr result (λ s. IsStopped self.now loan.old under.start under.frames (stopped s loan.new.count)) }
+        ensures { PassesFields self.now loan.old loan.new under (opened table) below.new result }
     {
         // Only the contract speaks of the frame above.
         let _above = above;
@@ -306,12 +299,8 @@ impl<'s, 'n> Walk<'s, 'n> {
         requires room { min (self.old.limits).depth (waiting + 2) ≤ length frames.old }
         requires few { loan.old.count + work self.old.schema.now self.old.limits under.frames (slice_index_or frames.old waiting blank) self.old.tables ≤ 2 ^ 95 }
         ensures same { IfOk result (λ _. self.new ≡ record self.old { tables = self.new.tables; deepest = self.new.deepest }) }
-        ensures walking { IfOk result (λ o. MatchOption o
-            (IsOver self.new loan.new under.start)
-            (λ after. IsWalking self.new loan.new under.start (take after frames.new) (slice_index_or frames.new after blank))) }
-        ensures within { IfOk result (λ _. self.new.tables ≤ (self.old.limits).tables) }
-        ensures shallow { IfOk result (λ _. self.new.deepest ≤ (self.old.limits).depth) }
-        ensures reads { IfOk result (λ _. AreAllowed (self.old.limits).reads loan.new.count) }
+        ensures over { IfOk result (λ o. o ≡ None → WentOver self.old self.new loan.old loan.new under.start) }
+        ensures walking { IfOk result (λ o. IfSome o (λ after. IsWalking self.new loan.new under.start (take after frames.new) (slice_index_or frames.new after blank))) }
         ensures falls { IfOk result (λ o. IfSome o (λ after. loan.new.count + work self.old.schema.now self.old.limits (take after frames.new) (slice_index_or frames.new after blank) self.new.tables < loan.old.count + work self.old.schema.now self.old.limits under.frames (slice_index_or frames.old waiting blank) self.old.tables)) }
         ensures near { IfOk result (λ o. IfSome o (λ after. after ≤ waiting + 1)) }
         ensures grows { IfOk result (λ _. loan.old.count ≤ loan.new.count) }

@@ -3,7 +3,7 @@ use Rattle.fb_schema.specs.Members.{member_of}
 use Rattle.fb_schema.proofs.ToldKinds.{told_of}
 use Rattle.fb_verify.specs.{Fields.entry, Fields.lead_of, Fields.row, OffsetRows.lead_to, OffsetRows.type_of_slot, OffsetRows.type_reads}
 use Rattle.fb_verify.specs.Order.{table_failure}
-use Rattle.fb_verify.proofs.{Members.no_member, Members.some_member, Plains.after_twice}
+use Rattle.fb_verify.proofs.{IntoField.word_left, Members.no_member, Members.some_member, Plains.after_twice}
 use Rattle.fb_verify.proofs.leads.put_union.Goals as goal
 
 -- the type of the union has no member
@@ -24,7 +24,6 @@ returns-in-Nothing-clause-leads c =
     λ _. record { none = λ _. (rw (none c) refl, refl); entries = rw rests (λ e. absurd cc); row = rw rests (λ e. absurd cc) }
 
 pub returns : goal.returns
-unfolding row
 returns c =
     let value = c.type_of-value.ensures.value in
     let e = c.referent_at-referent.ensures in
@@ -40,5 +39,5 @@ returns c =
         base = ap (λ m. m.base) counted;
       };
       one = λ ok more. rw (c.put_word.ensures.row ok) (refl, tt);
-      leads = λ ok. rw (sym value, some.1, c.put_word.ensures.row ok) (record { none = λ x. absurd cc; entries = λ _. ap (λ l. entry l c.args.at 0 ∷ []) (sym lead); row = λ _. (record { place = omega (arith, c.requires.placed.place); left = omega arith; leads = λ _. e.referent }, omega arith) });
+      leads = λ ok. rw (sym value, some.1, c.put_word.ensures.row ok, ← lead) (word_left c.referent_at-referent.result c.args.at c.args.row.now c.requires.placed.place e.referent);
     }

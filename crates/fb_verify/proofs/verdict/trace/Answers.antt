@@ -33,13 +33,7 @@ halts c way h =
       linked = h.linked;
     }
 
--- some frames do
-halts_somehow : (c : In_err-run) → let a = c.args in
-    let halt = c.in_err-run.field-0.0 in
-    (way : List Frame) × HaltsAlong (question a.schema.now a.root a.start a.ident a.limits a.checks) a.loan.now.bytes way halt.last (stopped halt.stop c.run.new.loan.count)
-halts_somehow c = let e = c.in_err-run.ensures.err in (e.0, halts c e.0 (rw (ap (λ m. m.bytes) c.in-Ok.ensures.asked.counted) at e.1))
-
--- else the report tells what it came to
+-- where it doesn't, the report tells what it came to
 tells : (c : After-reads) → let a = c.args in
     Reports (question a.schema.now a.root a.start a.ident a.limits a.checks) a.loan.now.bytes (record { tables = c.run.new.self.tables; depth = c.run.new.self.deepest; reads = c.reads.result })
 tells c =
@@ -56,7 +50,8 @@ returns-in-Err c =
 pub returns-in_err-run : goal.returns-in_err-run
 returns-in_err-run c =
     let d = (goal.at.returns-in_err-run c).In_err-run in
-    let some = (halts_somehow d).1 in
+    let e = d.in_err-run.ensures.err in
+    let some = halts d e.0 (rw (ap (λ m. m.bytes) d.in-Ok.ensures.asked.counted) at e.1) in
     record {
       yes = search rules;
       none = if_err_exit _ _ _ c.from_residual.ensures.1 (none_along some);

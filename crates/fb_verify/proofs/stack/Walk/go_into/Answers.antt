@@ -13,23 +13,11 @@ no_other f e = grind arith
 
 -- what a step leaves out leads by a vector or by a union, if it has no bit of a table
 is_far : (f : Live) (kind : Kind) → act_of f kind ≡ Other → (bits_of f kind ≡ 384 → ⊥) → IsFar kind
-is_far f (Scalar s) e n = no_other f e
-is_far f (Struct k) e n = no_other f e
-is_far f (Table k) e n = n refl
-is_far f Text e n = absurd cc
-is_far f (Scalars s) e n = absurd cc
-is_far f (Structs k) e n = absurd cc
-is_far f _ e n = tt
+is_far f kind e n = grind (arith, no_other)
 
 -- if it has, to one table
 to_table : (f : Live) (kind : Kind) → act_of f kind ≡ Other → (bits_of f kind ≡ 128 → ⊥) → kind ≡ Table (size_of f kind)
-to_table f (Table k) e n = refl
-to_table f (Scalar s) e n = absurd (no_other f e)
-to_table f (Struct k) e n = absurd (no_other f e)
-to_table f Text e n = absurd cc
-to_table f (Scalars s) e n = absurd cc
-to_table f (Structs k) e n = absurd cc
-to_table f _ e n = absurd (n refl)
+to_table f kind e n = grind (arith, no_other)
 
 pub go_to_table-requires : goal.go_to_table-requires
 go_to_table-requires g c =

@@ -1,5 +1,5 @@
-use Rattle.std.proofs.Common.{◌≡◌, ◌+◌, ◌^◌, ◌<◌, ◌≤◌, length, take, slice_index_or}
-use Rattle.fb_verify.specs.Stack.{blank, IsWalking, work}
+use Rattle.std.proofs.Common.{◌≡◌, take, slice_index_or}
+use Rattle.fb_verify.specs.{Stack.blank, Stack.work, Turns.IsUnderWayOver}
 use Rattle.fb_verify.proofs.stack.Walk.go_slowly.Given as goal
 
 -- the frames below the top are a walk that began where this one did
@@ -14,9 +14,7 @@ abbrev pub invariant-loop-waiting : goal.invariant-loop-waiting
 invariant-loop-waiting g l = record {
   same : l.self ≡ record l.fn.self { tables = l.self.tables; deepest = l.self.deepest };
   bytes : l.loan.bytes ≡ l.fn.loan.bytes;
-  top : l.waiting < length l.frames;
-  walking : IsWalking l.self l.loan g.start (take l.waiting l.frames) (slice_index_or l.frames l.waiting blank);
-  budget : l.loan.count + work l.fn.self.schema.now l.fn.self.limits (take l.waiting l.frames) (slice_index_or l.frames l.waiting blank) l.self.tables ≤ 2 ^ 94;
+  goes : IsUnderWayOver l.self l.loan g.start l.frames l.waiting;
 }
 
 abbrev pub decreases-loop-waiting : goal.decreases-loop-waiting

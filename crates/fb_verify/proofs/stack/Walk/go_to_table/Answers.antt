@@ -1,10 +1,10 @@
 use Rattle.std.proofs.Common.{◌≡◌, ◌∙◌, ℕ, ◌+◌, ◌-◌, ◌*◌, ◌/◌, ◌^◌, ◌≤◌, Some, None, IsTrue, refl, sym, ap, arith}
 use Rattle.fb_schema.specs.Rows.{is_table}
-use Rattle.fb_verify.specs.declared.{offset_row.Row.Row, stack.Turn.TheVariants.Slowly}
+use Rattle.fb_verify.specs.declared.{offset_row.Referent.TheVariants.Table as ATable, offset_row.Row.Row, stack.Turn.TheVariants.Slowly}
 use Rattle.fb_verify.specs.{Cost.present_reads, Fields.row, Order.after, Order.present_failure, Plain.tested_by, Plain.IsTested, Stack.blank}
 use Rattle.fb_verify.specs.Turns.{BeginsRow}
 use Rattle.fb_verify.proofs.{RowTurns.stays, Budgets.fewer_reads, Turns.halts_in_field}
-use Rattle.fb_verify.proofs.IntoField.{into_askable, into_stops, row_begins, far_turned}
+use Rattle.fb_verify.proofs.IntoField.{word_left, into_askable, into_stops, row_begins, far_turned}
 use Rattle.fb_verify.proofs.stack.Walk.go_to_table.Goals as goal
 use Rattle.fb_verify.proofs.stack.Walk.go_to_table.Goals.{After-one-row}
 
@@ -26,29 +26,21 @@ table : (g : _) (c : After-one-row g) → IsTrue (is_table c.args.self.now.schem
 table g c = let a = into_askable c.requires.0.1 in rw c.requires.0.2 at a.holds
 
 -- the number of the field follows from its slot
-numbered : (s n : ℕ) → s ≡ 2 * n + 4 → n ≡ (s - 4) / 2
-numbered s n e = omega arith
-
 number : (g : _) (c : After-one-row g) → (c.requires.0.0).number ≡ (c.args.step.now.slot - 4) / 2
 number g c =
-    let f = c.requires.0.0 in
     let r = c.requires.0.1 in
-    numbered c.args.step.now.slot f.number (sym c.requires.0.3 ∙ ((r.at).walking).served.slots (c.args.top.now.table).object c.args.top.now.next f r.here)
+    let slot = sym c.requires.0.3 ∙ ((r.at).walking).served.slots (c.args.top.now.table).object c.args.top.now.next c.requires.0.0 r.here in
+    omega (arith, slot)
 
 -- it holds by itself, and its word is put into the row
 begins : (g : _) (c : After-one-row g)
     → BeginsRow c.args.self.now c.args.self.now c.args.reads.now c.args.reads.now g.under c.args.waiting c.args.top.now (record c.args.top.now { next = c.args.top.now.next + 1; number = (c.args.step.now.slot - 4) / 2; row = c.one-row.result })
-unfolding row
 begins g c =
     let r = c.requires.0.1 in
     let m = c.args.reads.now in
     let e : IsTested m m c.args.at (present_failure c.args.self.now.checks m.bytes c.args.self.now.schema.now (c.args.top.now.table).at c.requires.0.0 c.args.at (c.requires.0.0).kind) (present_reads m.bytes (c.args.top.now.table).at (c.requires.0.0).slot (c.requires.0.0).kind) None =
     rw c.requires.0.2 (record { told = rw (c.requires.1, c.in_default.is) at c.test_end-failed.ensures.told; counted = λ _. omega arith; bytes = refl; base = refl }) in
-    rw (number g c) at (row_begins r m c.args.at None e refl blank.row c.one-row.result (rw (c.requires.0.2, c.one-row.ensures) (record {
-      none = λ x. absurd cc;
-      entries = λ _. refl;
-      row = λ _. (record { place = omega (arith, (r.at).near); left = omega arith; leads = λ _. table g c }, omega arith);
-    })) (omega (arith, ap (λ (x : Row). x.left) c.one-row.ensures)))
+    rw (number g c) at (row_begins r m c.args.at None e refl blank.row c.one-row.result (rw (c.requires.0.2, c.one-row.ensures) (word_left (ATable c.args.step.now.size) c.args.at blank.row (r.at).near (table g c))) (omega (arith, ap (λ (x : Row). x.left) c.one-row.ensures)))
 
 pub returns-then-not-allows_table : goal.returns-then-not-allows_table
 returns-then-not-allows_table g c =

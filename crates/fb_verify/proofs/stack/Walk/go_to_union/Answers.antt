@@ -60,12 +60,10 @@ pass_member-turn-requires g c =
     let more : 0 < c.put_union-failed.new.row.left = omega (arith, c.if-row-eq0.false) in
     let one = c.put_union-failed.ensures.one none more in
     let limits = c.if-not-may_pass_union.false in
-    let may = c.may_pass_union.ensures.limits limits in
     let spent = few_spent c.requires.0 _ _ _ (tested g d) none in (
       record {
-        members = record { row = (begins g d none more).row; deep = may.deep; low = may.low };
-        fewer = may.fewer;
-        small = may.small;
+        in-row = (begins g d none more).row;
+        limits = c.may_pass_union.ensures.limits limits;
         few = omega (arith, spent, c.may_pass_union.ensures.room limits);
         allowed = c.short-room.ensures.allowed;
         short = c.short-room.ensures.short;
@@ -76,10 +74,7 @@ pass_member-turn-requires g c =
 -- a turn that stays before its word is one through its row
 row_left : (w then : Walk) (m new : Lent) (under : Waiting) (top past : Frame) (row left : Row) (child : Child) (turn : Turn) → (turn ≡ Up → ⊥) → MemberTurned w then m new under top past row left child turn
     → RowTurned w then m new under (record top { row = row }) past child turn
-row_left w then m new under top past row left child Down n h = h
-row_left w then m new under top past row left child Up n h = absurd (n refl)
-row_left w then m new under top past row left child Slowly n h = absurd h
-row_left w then m new under top past row left child Halted n h = h
+row_left w then m new under top past row left child turn n h = grind arith
 
 pub returns-in-Up : goal.returns-in-Up
 returns-in-Up g c =

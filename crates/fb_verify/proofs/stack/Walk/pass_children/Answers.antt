@@ -4,25 +4,19 @@ use Rattle.std.proofs.lemmas.List.{get_or-set_same}
 use Rattle.fb_verify.specs.declared.stack.Walk.{Walk}
 use Rattle.fb_verify.specs.Stack.{blank}
 use Rattle.fb_verify.proofs.Turns.{words_fall, word_few, child_stops, child_opened, opening_falls, leading_falls, closing_falls}
-use Rattle.fb_verify.proofs.Frames.{row_types_near}
+use Rattle.fb_verify.proofs.{Frames.row_types_near, Walking.table_closed}
 use Rattle.fb_verify.proofs.stack.Walk.pass_children.Goals as goal
 
-pub advance-requires-clause-more : goal.advance-requires-clause-more
-advance-requires-clause-more g c = let o = rw c.in-Some.is at c.in-Ok.ensures.table in o.more
-
-pub advance-requires-clause-near : goal.advance-requires-clause-near
-advance-requires-clause-near g c = let o = rw c.in-Some.is at c.in-Ok.ensures.table in omega (arith, (((o.walking).frame).row).place)
-
-pub advance-requires-clause-types : goal.advance-requires-clause-types
-advance-requires-clause-types g c =
+pub advance-requires : goal.advance-requires
+advance-requires g c =
     let w = c.loop-top.self in
     let o = rw c.in-Some.is at c.in-Ok.ensures.table in
-    row_types_near w.checks c.next_child.new.loan.bytes w.schema.now c.next_child.new.top.row o.more ((o.walking).frame).row
+    let row = ((o.walking).frame).row in
+    record { more = o.more; near = omega (arith, row.place); types = row_types_near w.checks c.next_child.new.loan.bytes w.schema.now c.next_child.new.top.row o.more row }
 
 pub open_table-requires : goal.open_table-requires
 open_table-requires g c =
     let i = c.loop-top.invariant in
-    let w = c.loop-top.self in
     let o = rw c.in-Some.is at c.in-Ok.ensures.table in
     let few = word_few o in
     omega (arith, few, i.budget, c.requires.1.1.1.1, (((i.walking).frame).row).left)
@@ -30,7 +24,6 @@ open_table-requires g c =
 pub returns-in-Err-open_table-clause-err : goal.returns-in-Err-open_table-clause-err
 returns-in-Err-open_table-clause-err g c =
     let i = c.loop-top.invariant in
-    let w = c.loop-top.self in
     let checks = ap (λ (x : Walk). x.checks) i.same in
     let schema = ap (λ (x : Walk). x.schema) i.same in
     let limits = ap (λ (x : Walk). x.limits) i.same in
@@ -44,14 +37,12 @@ returns-in-Err-open_table-clause-err g c =
 pub pass_below-requires : goal.pass_below-requires
 pass_below-requires g c =
     let i = c.loop-top.invariant in
-    let w = c.loop-top.self in
     let e = c.in-Ok.ensures in
     let t = c.in-Ok-open_table.ensures in
-    let m = c.next_child.new.loan in
     let less = opening_falls (ap (λ (x : Walk). x.schema.now) i.same) (ap (λ (x : Walk). x.limits) i.same) c.loop-top.loan.count c.loop-top.top e.top e.fewer (rw c.in-Some.is at e.table)
-    (c.args.waiting + 1) (omega (arith, c.requires.0)) c.advance.new.self c.advance.ensures c.in-Ok-open_table.table t.table t.ok t.fewer t.shallow t.low in (
+    (c.args.waiting + 1) (omega (arith, c.requires.0)) c.advance.new.self c.advance.ensures c.in-Ok-open_table.table t.table t.ok t.allowed.fewer t.allowed.deep t.allowed.low in (
       rw (t.opened, t.counted)
-          (child_opened (rw c.in-Some.is at e.table) (c.args.waiting + 1) (omega (arith, c.requires.0)) c.advance.new.self c.advance.ensures c.in-Ok-open_table.table t.table t.ok t.fewer t.shallow t.low
+          (child_opened (rw c.in-Some.is at e.table) (c.args.waiting + 1) (omega (arith, c.requires.0)) c.advance.new.self c.advance.ensures c.in-Ok-open_table.table t.table t.ok t.allowed.fewer t.allowed.deep t.allowed.low
           t.head (rw t.counted at t.reads)),
       rw t.counted (omega (arith, less, i.budget, c.requires.1.1.1.1)),
     )
@@ -79,32 +70,28 @@ loop-top-preserved g c =
 pub returns-in-Ok-true-clause-falls : goal.returns-in-Ok-true-clause-falls
 returns-in-Ok-true-clause-falls g c _ =
     let i = c.loop-top.invariant in
-    let w = c.loop-top.self in
     let e = c.in-Ok.ensures in
     let t = c.in-Ok-open_table.ensures in
-    let m = c.next_child.new.loan in
     let limits = ap (λ (x : Walk). x.limits.depth) i.same in
     let less = leading_falls (ap (λ (x : Walk). x.schema.now) i.same) (ap (λ (x : Walk). x.limits) i.same) c.loop-top.loan.count c.loop-top.top e.top e.fewer (rw c.in-Some.is at e.table)
-    (c.args.waiting + 1) (omega (arith, c.requires.0)) c.advance.new.self c.advance.ensures c.in-Ok-open_table.table t.table t.ok t.fewer t.shallow t.low
-    c.pass_below.new.below c.pass_below.new.loan.count (rw (t.opened, t.counted) at (c.in-Ok-true.ensures.falls c.in-Ok-true.field-0-test)) in
-    let first = get_or-set_same c.loop-top.room 0 c.pass_below.new.below blank (omega (arith, t.shallow, limits, i.room, c.requires.1.1.1.0)) in
+    (c.args.waiting + 1) (omega (arith, c.requires.0)) c.advance.new.self c.advance.ensures c.in-Ok-open_table.table t.table t.ok t.allowed.fewer t.allowed.deep t.allowed.low
+    c.pass_below.new.below c.pass_below.new.loan.count (rw (t.opened, t.counted) at c.in-Ok-true.ensures.falls) in
+    let first = get_or-set_same c.loop-top.room 0 c.pass_below.new.below blank (omega (arith, t.allowed.deep, limits, i.room, c.requires.1.1.1.0)) in
     rw (t.opened, first) (omega (arith, less, i.budget))
 
 pub loop-top-preserved-in-Ok-false : goal.loop-top-preserved-in-Ok-false
 loop-top-preserved-in-Ok-false g c =
     let i = c.loop-top.invariant in
     let none = c.in-Ok-false.field-0-test in
-    let w = c.loop-top.self in
     let e = c.in-Ok.ensures in
     let t = c.in-Ok-open_table.ensures in
-    let m = c.next_child.new.loan in
     let less = closing_falls (ap (λ (x : Walk). x.schema.now) i.same) (ap (λ (x : Walk). x.limits) i.same) c.loop-top.loan.count c.loop-top.top e.top e.fewer (rw c.in-Some.is at e.table)
-    (c.args.waiting + 1) (omega (arith, c.requires.0)) c.advance.new.self c.advance.ensures c.in-Ok-open_table.table t.table t.ok t.fewer t.shallow t.low
-    _ (rw (t.opened, t.counted) at (c.in-Ok-false.ensures.least none)) in
+    (c.args.waiting + 1) (omega (arith, c.requires.0)) c.advance.new.self c.advance.ensures c.in-Ok-open_table.table t.table t.ok t.allowed.fewer t.allowed.deep t.allowed.low
+    c.pass_below.new.loan.count (omega (arith, rw (t.opened, t.counted) at c.in-Ok-false.ensures.falls)) in
     record {
       bytes = c.in-Ok-false.ensures.bytes ∙ t.bytes ∙ e.bytes ∙ i.bytes;
       same = rw (t.opened, ap (λ (x : Walk). x.checks) i.same, ap (λ (x : Walk). x.schema) i.same, ap (λ (x : Walk). x.limits) i.same, ap (λ (x : Walk). x.halt) i.same) refl;
-      walking = c.in-Ok-false.ensures.ends none (g.under).frames refl;
+      walking = table_closed c.in-Ok-false.ensures.walking (g.under).frames _ refl (c.in-Ok-false.ensures.rests none) (c.in-Ok-false.ensures.all none);
       budget = rw t.opened (omega (arith, less, i.budget));
       began = λ _. rw t.opened (omega (arith, less, i.budget));
       grows = omega (arith, i.grows, e.grows, ap (λ x. x.count) t.counted, c.in-Ok-false.ensures.grows);

@@ -20,7 +20,7 @@ falls : (g : _) (c : In-Ok-true g) → c.pass_plain.new.reads.count - 1 + work c
     ≤ c.args.reads.now.count + work c.args.self.now.schema.now c.args.self.now.limits (g.under).frames c.args.top.now c.args.self.now.tables
 unfolding work
 falls g c =
-    let i = c.loop-steps.invariant in
+    let i = c.loop-steps.invariant.0 in
     let p = c.pass_plain.ensures in
     let S = c.args.self.now.schema.now in
     let schema = ap (λ (x : Walk). x.schema.now) i.same in
@@ -32,7 +32,7 @@ falls g c =
 pub returns-in-Ok-false : goal.returns-in-Ok-false
 unfolding work
 returns-in-Ok-false g c =
-    let i = c.loop-steps.invariant in
+    let i = c.loop-steps.invariant.0 in
     let p = c.pass_plain.ensures in
     let S = c.args.self.now.schema.now in
     let e = rw (c.in-Ok-false.is, c.in-Ok-false.field-0-test) at p.comes in
@@ -50,20 +50,20 @@ returns-in-Ok-false g c =
         bytes = p.bytes ∙ i.bytes;
         short = omega (arith, e.forth, ends, (rw schema at (c.has_room.ensures c.loop-steps-test.true).short));
       };
-      rests = left ∙ (i.between).rests;
+      rests = left ∙ c.loop-steps.invariant.1;
       all = omega (arith, rw schema at e.all, long);
     }
 
 pub returns-in-Err : goal.returns-in-Err
 returns-in-Err g c =
-    let i = c.loop-steps.invariant in
+    let i = c.loop-steps.invariant.0 in
     let p = c.pass_plain.ensures in
     let e = c.stop_in_field.ensures in
     let w = c.loop-steps.self in
     let stops = (rw c.in-Err.is at p.comes).err (c.stop_in_field.new.self.halt).stop (record { refusal = e.refusal; object = e.object; field = e.field }) in
     rw e.turn
     (halts_on c.args.self.now w c.stop_in_field.new.self c.args.reads.now c.loop-steps.reads c.pass_plain.new.reads g.under i.same i.bytes
-    (halts_in_field c.requires.0 p.bytes ((i.between).walking).links e.links e.last stops))
+    (halts_in_field c.requires.0 p.bytes (i.walking).links e.links e.last stops))
 
 -- the field of the step at the next place
 at_step : {w : Walk} {m : Lent} {under : Waiting} {waiting : ℕ} {top : Frame} {place : ℕ} (steps : List Step) (d : Step) → steps ≡ map step_of (live_fields w.schema.now (top.table).object)
@@ -78,7 +78,7 @@ at_step {w} {m} {under} {waiting} {top} {place} steps d its within field =
 pub go_into-requires : goal.go_into-requires
 go_into-requires g c =
     let d = (goal.at.go_into-requires g c).In-Ok-true in
-    let i = c.loop-steps.invariant in
+    let i = c.loop-steps.invariant.0 in
     let p = c.pass_plain.ensures in
     let e = comes g d in
     let S = c.loop-steps.self.schema.now in
@@ -92,7 +92,7 @@ go_into-requires g c =
           record {
             many = c.requires.0;
             at = e.field;
-            rests = ap (λ x. (x.row).left) p.same ∙ (i.between).rests;
+            rests = ap (λ x. (x.row).left) p.same ∙ c.loop-steps.invariant.1;
             here = here;
             act = e.open-field f (rw (ap (λ (x : Table). live_fields S x.object) table) at here);
             room = fewer_reads (c.loop-steps.self.limits).reads _ _ (omega (arith, e.paid, e.within, long)) room.more;
@@ -104,25 +104,15 @@ go_into-requires g c =
 pub loop-steps-preserved : goal.loop-steps-preserved
 loop-steps-preserved g c =
     let d = (goal.at.loop-steps-preserved g c).In-Ok-true in
-    let i = c.loop-steps.invariant in
+    let i = c.loop-steps.invariant.0 in
     let p = c.pass_plain.ensures in
-    let over = field_over c.args.self.now c.loop-steps.self c.go_into.new.self c.args.reads.now c.pass_plain.new.reads c.go_into.new.reads g.under i.same (p.bytes ∙ i.bytes) c.args.top.now c.pass_plain.new.top c.go_into.new.top c.go_into.new.child
-    (ap (λ x. x.table) p.same ∙ i.table) (omega (arith, p.grows, i.grows)) (falls g d) (rw c.in-Up.is at c.go_into.ensures) in
-    let on = over.0 in
-    record {
-      same = on.same;
-      between = record { walking = on.walking; rests = over.1 };
-      table = on.table;
-      falls = on.falls;
-      grows = on.grows;
-      bytes = on.bytes;
-      short = on.short;
-    }
+    field_over c.args.self.now c.loop-steps.self c.go_into.new.self c.args.reads.now c.pass_plain.new.reads c.go_into.new.reads g.under i.same (p.bytes ∙ i.bytes) c.args.top.now c.pass_plain.new.top c.go_into.new.top c.go_into.new.child
+    (ap (λ x. x.table) p.same ∙ i.table) (omega (arith, p.grows, i.grows)) (falls g d) (rw c.in-Up.is at c.go_into.ensures)
 
 pub returns-in_default : goal.returns-in_default
 returns-in_default g c =
     let d = (goal.at.returns-in_default g c).In-Ok-true in
-    let i = c.loop-steps.invariant in
+    let i = c.loop-steps.invariant.0 in
     let p = c.pass_plain.ensures in
     field_turned c.args.self.now c.loop-steps.self c.go_into.new.self c.args.reads.now c.pass_plain.new.reads c.go_into.new.reads g.under i.same (p.bytes ∙ i.bytes) c.args.top.now c.pass_plain.new.top c.go_into.new.top c.go_into.new.child
     (ap (λ x. x.table) p.same ∙ i.table) (omega (arith, p.grows, i.grows)) (falls g d) c.go_into.result c.in_default.not-Up c.go_into.ensures

@@ -1,19 +1,11 @@
-use Rattle.std.proofs.Common.{◌≡◌, ◌+◌, ◌-◌, ◌≤◌, length}
+use Rattle.std.proofs.Common.{◌≡◌, ◌-◌, length}
 use Rattle.fb_schema.specs.Live.{live_fields}
-use Rattle.fb_verify.specs.{PassesOn.IsBetween, Stack.work, Turns.IsShort}
+use Rattle.fb_verify.specs.Turns.{GoesOn}
 use Rattle.fb_verify.proofs.stack.Walk.pass_fields.Given as goal
 
 -- the walk goes on in the same table, between two fields
 abbrev pub invariant-loop-steps : goal.invariant-loop-steps
-invariant-loop-steps g l = record {
-  same : l.self ≡ record l.fn.self { tables = l.self.tables; deepest = l.self.deepest };
-  between : IsBetween l.self l.reads g.under l.top;
-  table : l.top.table ≡ l.fn.top.table;
-  falls : l.reads.count + work l.fn.self.schema.now l.fn.self.limits (g.under).frames l.top l.self.tables ≤ l.fn.reads.count + work l.fn.self.schema.now l.fn.self.limits (g.under).frames l.fn.top l.fn.self.tables;
-  grows : l.fn.reads.count ≤ l.reads.count;
-  bytes : l.reads.bytes ≡ l.fn.reads.bytes;
-  short : IsShort l.reads.count;
-}
+invariant-loop-steps g l = GoesOn l.fn.self l.self l.fn.reads l.reads g.under l.fn.top l.top × ((l.top.row).left ≡ 0)
 
 abbrev pub decreases-loop-steps : goal.decreases-loop-steps
 decreases-loop-steps g l = length (live_fields l.fn.self.schema.now (l.fn.top.table).object) - l.top.next

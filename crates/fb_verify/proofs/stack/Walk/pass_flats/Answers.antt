@@ -42,7 +42,6 @@ counts g c =
     let w = c.loop-schema.self in
     let e = c.test_lead-failed.ensures in
     let new = c.test_lead-failed.new in
-    let r = c.loop-schema.reads.count in
     let none = c.in_default.is in
     let table = rw (sym (ap (λ (x : Walk). x.schema.now) i.same)) at (c.requires.0).table in
     let at = at_flat w i.walking c.args.object (leads g d) (c.has_flat.ensures.more c.loop-schema-test.true) new.reads.count new.at c.test_lead-failed.result (told g d)

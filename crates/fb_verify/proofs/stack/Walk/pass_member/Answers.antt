@@ -3,7 +3,7 @@ use Rattle.fb_schema.specs.{Live.live_fields, Steps.step_of}
 use Rattle.fb_verify.specs.declared.{offset_row.Row.Row, stack.Walk.Walk}
 use Rattle.fb_verify.specs.{Cost.lead_reads, Fields.Entry, Order.after, Order.element_failure, Plain.tested_by, Turns.GoesOn}
 use Rattle.fb_verify.specs.OffsetRows.{lead_to, first_word, IsReferent, IsLeafLead}
-use Rattle.fb_verify.proofs.{Budgets.fewer_reads, Chains.after_none, Frames.first_few, Frames.length_map, LeafRows.word_told, LeafRows.is_leaf}
+use Rattle.fb_verify.proofs.{Budgets.fewer_reads, Chains.after_none, Frames.first_few, Frames.length_map, Flats.word_told, Flats.is_leaf}
 use Rattle.fb_verify.proofs.Walking.{leaf_passed}
 use Rattle.fb_verify.proofs.RowTurns.{stays, two, Counts, word_passed, flat_comes, goes_down, table_passed, table_halts, word_halts}
 use Rattle.fb_verify.proofs.stack.Walk.pass_member.Goals as goal
@@ -16,7 +16,7 @@ first g c = first_word c.args.reads.now.bytes c.args.self.now.schema.now c.args.
 -- the walk is before it
 on : (g : _) (c : After-test_lead-failed g) → GoesOn c.args.self.now c.args.self.now c.args.reads.now c.args.reads.now g.under (record c.args.top.now { row = c.args.row.now }) (record c.args.top.now { row = c.args.row.now })
 on g c =
-    let r = ((c.requires.0).members).row in
+    let r = (c.requires.0).in-row in
     stays c.args.self.now c.args.reads.now g.under _ r.walking r.short
 
 -- its type was read
@@ -31,18 +31,15 @@ told g c =
     word_told c.args.self.now.checks c.args.reads.now.bytes c.args.self.now.schema.now c.args.row.now (lead_to c.first_referent-referent.result) c.first_referent-referent.ensures.lead
     r c.first_referent-referent.new.reads.count (typed g c) _ (rw (ap (λ x. x.bytes) c.first_referent-referent.ensures.counted, c.requires.1.1) at c.test_lead-failed.ensures.told)
 
--- where it tells nothing, the word holds
-holds : (g : _) (c : After-test_lead-failed g) → c.test_lead-failed.result ≡ None → element_failure c.args.self.now.checks c.args.reads.now.bytes (first g c) ≡ None
-holds g c none =
-    (after_none c.args.reads.now.count (element_failure c.args.self.now.checks c.args.reads.now.bytes (first g c))).0 (sym (told g c) ∙ ap (tested_by c.test_lead-failed.new.at c.test_lead-failed.new.reads.count) none)
-
--- and was paid for
-paid : (g : _) (c : After-test_lead-failed g) → c.test_lead-failed.result ≡ None → c.test_lead-failed.new.reads.count ≡ c.args.reads.now.count + (first g c).reads + lead_reads (first g c).lead
-paid g c none = omega (arith, c.test_lead-failed.ensures.counted none, ap lead_reads c.first_referent-referent.ensures.lead, typed g c)
-
--- by few reads
-few : (g : _) (c : After-test_lead-failed g) → c.test_lead-failed.result ≡ None → c.test_lead-failed.new.reads.count ≤ c.args.reads.now.count + 4
-few g c none = omega (arith, paid g c none, first_few c.args.reads.now.bytes c.args.self.now.schema.now c.args.row.now)
+-- where it tells nothing, the word holds, and was paid for, by few reads
+passed : (g : _) (c : After-test_lead-failed g) → c.test_lead-failed.result ≡ None
+    → (element_failure c.args.self.now.checks c.args.reads.now.bytes (first g c) ≡ None) × (c.test_lead-failed.new.reads.count ≡ c.args.reads.now.count + (first g c).reads + lead_reads (first g c).lead)
+    × (c.test_lead-failed.new.reads.count ≤ c.args.reads.now.count + 4)
+passed g c none =
+    let r = c.args.reads.now.count in
+    let holds = (after_none r (element_failure c.args.self.now.checks c.args.reads.now.bytes (first g c))).0 (sym (told g c) ∙ ap (tested_by c.test_lead-failed.new.at c.test_lead-failed.new.reads.count) none) in
+    let paid : c.test_lead-failed.new.reads.count ≡ r + (first g c).reads + lead_reads (first g c).lead = omega (arith, c.test_lead-failed.ensures.counted none, ap lead_reads c.first_referent-referent.ensures.lead, typed g c) in
+    (holds, paid, omega (arith, paid, first_few c.args.reads.now.bytes c.args.self.now.schema.now c.args.row.now))
 
 -- the bytes stay the same
 kept : (g : _) (c : After-test_lead-failed g) → c.test_lead-failed.new.reads.bytes ≡ c.args.reads.now.bytes
@@ -52,7 +49,7 @@ pub returns-in-Some : goal.returns-in-Some
 returns-in-Some g c =
     let d = (goal.at.returns-in-Some g c).After-test_lead-failed in
     rw c.stop.ensures.turn
-    (word_halts (on g d) c.test_lead-failed.new.reads c.stop_at_word-stop.new.top c.stop_at_word-stop.result c.stop.new.self c.args.waiting (((c.requires.0).members).row).many (kept g d) ((((c.requires.0).members).row).more)
+    (word_halts (on g d) c.test_lead-failed.new.reads c.stop_at_word-stop.new.top c.stop_at_word-stop.result c.stop.new.self c.args.waiting ((c.requires.0).in-row).many (kept g d) (((c.requires.0).in-row).more)
     (rw c.in-Some.is at (told g d)) c.stop_at_word-stop.ensures.stop c.stop_at_word-stop.ensures.past (ap (λ (x : Walk). x.halt) c.stop.ensures.halt))
 
 -- a word that leads to a table is passed, and the table is counted
@@ -67,14 +64,14 @@ counts g c =
     record {
       on = on g d;
       kept = kept g d;
-      grows = omega (arith, paid g d none);
+      grows = omega (arith, (passed g d none).1);
       at = rw (kept g d)
           (record {
             before = c.args.reads.now.count;
-            count = paid g d none;
-            walking = (((c.requires.0).members).row).walking;
-            more = (((c.requires.0).members).row).more;
-            holds = holds g d none;
+            count = (passed g d none).1;
+            walking = ((c.requires.0).in-row).walking;
+            more = ((c.requires.0).in-row).more;
+            holds = (passed g d none).0;
             leads = sym found.lead ∙ ap lead_to c.in-Table.is;
             table = subst (λ x. IsReferent w.schema.now x) c.in-Table.is found.referent;
             at = rw (ap (λ x. x.bytes) found.counted) at (e.value none c.in-Table.object c.in-Table.is);
@@ -82,11 +79,11 @@ counts g c =
             paid = omega arith;
           });
       word = c.advance.ensures;
-      many = omega (arith, (((c.requires.0).members).row).many);
-      fewer = (c.requires.0).fewer;
-      deep = ((c.requires.0).members).deep;
-      low = ((c.requires.0).members).low;
-      cheap = fewer_reads (c.args.self.now.limits).reads (c.test_lead-failed.new.reads.count + 3) c.args.room (omega (arith, few g d none, (c.requires.0).few)) (c.requires.0).allowed;
+      many = omega (arith, ((c.requires.0).in-row).many);
+      fewer = ((c.requires.0).limits).fewer;
+      deep = ((c.requires.0).limits).deep;
+      low = ((c.requires.0).limits).low;
+      cheap = fewer_reads (c.args.self.now.limits).reads (c.test_lead-failed.new.reads.count + 3) c.args.room (omega (arith, (passed g d none).2, (c.requires.0).few)) (c.requires.0).allowed;
       is = c.count_table.ensures ∙ ap (λ n. record w { tables = w.tables + 1; deepest = max w.deepest n }) (two c.args.waiting);
     }
 
@@ -94,13 +91,13 @@ pub returns-then-not-is_plain : goal.returns-then-not-is_plain
 returns-then-not-is_plain g c =
     let d = (goal.at.returns-then-not-is_plain g c).After-count_table in
     let e = (goal.at.returns-then-not-is_plain g c).After-test_lead-failed in
-    goes_down (counts g d) (omega (arith, few g e c.in_default.is, (c.requires.0).few, (c.requires.0).short))
+    goes_down (counts g d) (omega (arith, (passed g e c.in_default.is).2, (c.requires.0).few, (c.requires.0).short))
 
 pub pass_flat-came-requires : goal.pass_flat-came-requires
 pass_flat-came-requires g c =
     let d = (goal.at.pass_flat-came-requires g c).After-count_table in
     let e = (goal.at.pass_flat-came-requires g c).After-test_lead-failed in
-    let count = c.count.ensures.all (omega (arith, few g e c.in_default.is, (c.requires.0).few, (c.requires.0).short)) in
+    let count = c.count.ensures.all (omega (arith, (passed g e c.in_default.is).2, (c.requires.0).few, (c.requires.0).short)) in
     let steps = c.steps_of-steps.ensures in
     flat_comes (counts g d) c.requires.1.1 refl steps.value steps.few (sym c.is_plain.ensures ∙ c.if-not-is_plain.false) (c.requires.0).allowed (omega (arith, c.if-count-steps.false, count)) (c.requires.0).short
 
@@ -115,7 +112,7 @@ pub returns-in_default-came : goal.returns-in_default-came
 returns-in_default-came g c =
     let d = (goal.at.returns-in_default-came g c).After-count_table in
     let e = (goal.at.returns-in_default-came g c).After-test_lead-failed in
-    let count = c.count.ensures.all (omega (arith, few g e c.in_default.is, (c.requires.0).few, (c.requires.0).short)) in
+    let count = c.count.ensures.all (omega (arith, (passed g e c.in_default.is).2, (c.requires.0).few, (c.requires.0).short)) in
     let p = c.pass_flat-came.ensures in
     let none = c.in_default-came.is in
     let came = c.pass_flat-came.new in
@@ -134,15 +131,15 @@ returns-in_default-referent g c =
     let w = c.args.self.now in
     let none = c.in_default.is in
     let q = c.test_lead-failed.new.reads in
-    let more = (((c.requires.0).members).row).more in
-    let cost = few g d none in
+    let more = ((c.requires.0).in-row).more in
+    let p = passed g d none in
     let room = (c.requires.0).few in
     let left = ap (λ (x : Row). x.left) c.advance.ensures in
     let leaf = subst (λ x. IsLeafLead x) c.first_referent-referent.ensures.lead (is_leaf c.first_referent-referent.result (λ k e. c.in_default-referent.not-Table k e)) in
-    let cheap = fewer_reads (w.limits).reads q.count c.args.room (omega (arith, cost, room)) (c.requires.0).allowed in
-    let passed = leaf_passed i.walking c.advance.new.self q.count c.advance.ensures more (holds g d none) (paid g d none) leaf cheap in
+    let cheap = fewer_reads (w.limits).reads q.count c.args.room (omega (arith, p.2, room)) (c.requires.0).allowed in
+    let over = leaf_passed i.walking c.advance.new.self q.count c.advance.ensures more p.0 p.1 leaf cheap in
     record {
-      on = word_passed i _ q (rw (kept g d) passed) refl (omega (arith, cost, more, left)) (omega (arith, left)) (omega (arith, paid g d none)) (kept g d) (omega (arith, cost, room, (c.requires.0).short));
+      on = word_passed i _ q (rw (kept g d) over) refl (omega (arith, p.2, more, left)) (omega (arith, left)) (omega (arith, p.1)) (kept g d) (omega (arith, p.2, room, (c.requires.0).short));
       same = refl;
       word = c.advance.ensures;
     }

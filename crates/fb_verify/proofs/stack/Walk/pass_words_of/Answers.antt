@@ -2,8 +2,8 @@ use Rattle.std.proofs.Common.{◌≡◌, ◌+◌, ◌*◌, refl, sym, ◌∙◌,
 use Rattle.fb_verify.specs.declared.offset_row.Row.{Row}
 use Rattle.fb_verify.specs.{Cost.lead_reads, Fields.Entry, Order.after, Order.element_failure, Plain.tested_by}
 use Rattle.fb_verify.specs.OffsetRows.{lead_to, first_word, past_first, leads_after, IsLeafLead}
-use Rattle.fb_verify.proofs.{Budgets.fewer_reads, Chains.after_none, Frames.first_few, Walking.leaf_passed}
-use Rattle.fb_verify.proofs.LeafRows.{all_lead, all_free, all_told, word_fails}
+use Rattle.fb_verify.proofs.{Budgets.fewer_reads, Chains.after_none, Frames.first_few, RowTurns.word_passed, Walking.leaf_passed}
+use Rattle.fb_verify.proofs.Flats.{all_lead, all_free, all_told, word_fails}
 use Rattle.fb_verify.proofs.stack.Walk.pass_words_of.Goals as goal
 use Rattle.fb_verify.proofs.stack.Walk.pass_words_of.Goals.{After-test_lead-failed}
 
@@ -13,14 +13,14 @@ first g c = first_word c.loop-row.reads.bytes c.args.self.now.schema.now c.loop-
 
 -- the word leads to what all refer to
 lead : (g : _) (c : After-test_lead-failed g) → lead_to c.args.referent ≡ (first g c).lead
-lead g c = let i = c.loop-row.invariant in all_lead i.walking c.args.referent i.leads
+lead g c = let i = c.loop-row.invariant in all_lead i.on.walking c.args.referent i.leads
 
 -- what its test tells
 told : (g : _) (c : After-test_lead-failed g)
     → tested_by c.test_lead-failed.new.at c.test_lead-failed.new.reads.count c.test_lead-failed.result ≡ after c.loop-row.reads.count (element_failure c.args.self.now.checks c.loop-row.reads.bytes (first g c))
 told g c =
     let i = c.loop-row.invariant in
-    all_told i.walking c.args.referent i.leads _ (rw c.requires.1.1.1.1.1 at c.test_lead-failed.ensures.told)
+    all_told i.on.walking c.args.referent i.leads _ (rw c.requires.1.1.1.1.1 at c.test_lead-failed.ensures.told)
 
 pub returns-in-Some-clause-err : goal.returns-in-Some-clause-err
 returns-in-Some-clause-err g c =
@@ -28,8 +28,8 @@ returns-in-Some-clause-err g c =
     let i = c.loop-row.invariant in
     let new = c.test_lead-failed.new in
     let r = c.loop-row.reads.count in
-    rw (c.stop_at_word.ensures.past, i.same) (rw i.bytes at
-    (word_fails i.walking (past_first c.loop-row.row) refl c.loop-row-test.true (record { at = new.at; reason = c.in-Some.reason }) r new.reads.count refl
+    rw (c.stop_at_word.ensures.past, i.same) (rw i.on.bytes at
+    (word_fails i.on.walking (past_first c.loop-row.row) refl c.loop-row-test.true (record { at = new.at; reason = c.in-Some.reason }) r new.reads.count refl
     (sym (told g d) ∙ ap (tested_by new.at new.reads.count) c.in-Some.is) c.stop_at_word.result (rw i.same at c.stop_at_word.ensures.stop)))
 
 pub loop-row-preserved : goal.loop-row-preserved
@@ -41,7 +41,7 @@ loop-row-preserved g c =
     let none = c.in_default.is in
     let q = c.test_lead-failed.new.reads.count in
     let r = c.loop-row.reads.count in
-    let free = all_free i.walking c.args.referent i.leads in
+    let free = all_free i.on.walking c.args.referent i.leads in
     let cost : q ≡ r + (first g d).reads + lead_reads (first g d).lead = omega (arith, c.test_lead-failed.ensures.counted none, ap lead_reads (lead g d), free) in
     let few = first_few b w.schema.now c.loop-row.row in
     let more = c.loop-row-test.true in
@@ -52,10 +52,9 @@ loop-row-preserved g c =
     let leaf = subst (λ x. IsLeafLead x) (lead g d) c.requires.1.1.1.1.0 in
     let cheap = fewer_reads (w.limits).reads q (c.args.reads.now.count + 4 * (c.args.top.now.row).left) (omega (arith, cost, few, i.paid, more)) c.requires.1.0 in
     record {
-      bytes = kept ∙ i.bytes;
+      on = word_passed i.on _ c.test_lead-failed.new.reads (rw kept (leaf_passed i.on.walking c.advance_all.new.self q row more holds cost leaf cheap)) refl
+          (omega (arith, cost, few, more, left)) (omega (arith, left)) (omega (arith, cost)) kept (omega (arith, cost, few, i.paid, more, c.requires.1.1.0));
       same = i.same;
-      grows = omega (arith, cost, i.grows);
-      walking = rw kept (leaf_passed i.walking c.advance_all.new.self q row more holds cost leaf cheap);
       leads = ap (λ (x : Row). x.leads) row ∙ ap leads_after i.leads;
       paid = omega (arith, cost, few, i.paid, more, left);
     }

@@ -1,15 +1,13 @@
 use Rattle.std.proofs.Common.{◌≡◌, ◌+◌, ◌*◌, ◌≤◌}
 use Rattle.fb_verify.specs.declared.offset_row.Leads.TheVariants.{All}
-use Rattle.fb_verify.specs.Stack.{IsWalking}
+use Rattle.fb_verify.specs.Turns.{GoesOn}
 use Rattle.fb_verify.proofs.stack.Walk.pass_words_of.Given as goal
 
 -- the walk goes on in the same field, between two offset words
 abbrev pub invariant-loop-row : goal.invariant-loop-row
 invariant-loop-row g l = record {
-  bytes : l.reads.bytes ≡ l.fn.reads.bytes;
+  on : GoesOn l.self l.self l.fn.reads l.reads g.under l.fn.top (record l.fn.top { row = l.row });
   same : l.top ≡ l.fn.top;
-  grows : l.fn.reads.count ≤ l.reads.count;
-  walking : IsWalking l.self l.reads (g.under).start (g.under).frames (record l.fn.top { row = l.row });
   leads : (l.row).leads ≡ All l.fn.referent;
   paid : l.reads.count + 4 * (l.row).left ≤ l.fn.reads.count + 4 * (l.fn.top.row).left;
 }

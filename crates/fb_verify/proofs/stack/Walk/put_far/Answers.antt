@@ -1,12 +1,9 @@
-use Rattle.std.proofs.Common.{◌≡◌, ℕ, ◌+◌, ◌-◌, nat_lt, ap, arith}
+use Rattle.std.proofs.Common.{nat_lt, ap, arith}
+use Rattle.std.proofs.Math.Nat.{add-sub_cancel}
 use Rattle.fb_schema.specs.Live.{live_of_view}
 use Rattle.fb_verify.proofs.IntoField.{into_askable, into_stops, passed_over, row_begins}
 use Rattle.fb_verify.proofs.Turns.{halts_in_field}
 use Rattle.fb_verify.proofs.stack.Walk.put_far.Goals as goal
-
--- the field before the one that was the next
-back : (n : ℕ) → n + 1 - 1 ≡ n
-back n = omega arith
 
 pub put_row_by-failed-requires : goal.put_row_by-failed-requires
 put_row_by-failed-requires g c =
@@ -34,7 +31,7 @@ returns-in-Some g c =
     rw s.turn
     (halts_in_field (c.requires.0).many e.bytes (o.walking).links s.links s.last
     (into_stops c.requires.0 new.at new.reads.count c.in-Some.reason (rw c.in-Some.is at e.told) _
-    (record { refusal = s.refusal; object = s.object; field = rw back at s.field })))
+    (record { refusal = s.refusal; object = s.object; field = rw add-sub_cancel at s.field })))
 
 pub returns-then-top-eq0 : goal.returns-then-top-eq0
 returns-then-top-eq0 g c =

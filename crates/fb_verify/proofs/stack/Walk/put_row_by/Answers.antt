@@ -1,4 +1,4 @@
-use Rattle.std.proofs.Common.{◌≡◌, ℕ, refl}
+use Rattle.std.proofs.Common.{◌≡◌, ℕ, arith}
 use Rattle.fb_schema.specs.declared.kinds.Kind.{Kind}
 use Rattle.fb_schema.specs.declared.kinds.Kind.TheVariants.{Union, Texts, Tables, Unions}
 use Rattle.fb_verify.specs.Turns.{IsFar}
@@ -18,11 +18,7 @@ returns-in-Tables-clause-leads c =
 
 -- what is none of the others is a vector of strings
 texts : (kind : Kind) → IsFar kind → ((x : ℕ) → kind ≡ Union x → ⊥) → ((x : ℕ) → kind ≡ Tables x → ⊥) → ((x : ℕ) → kind ≡ Unions x → ⊥) → kind ≡ Texts
-texts Texts far a b c = refl
-texts (Union e) far a b c = absurd (a e refl)
-texts (Tables k) far a b c = absurd (b k refl)
-texts (Unions e) far a b c = absurd (c e refl)
-texts _ far a b c = absurd far
+texts kind far a b c = grind arith
 
 pub returns-in_default : goal.returns-in_default
 returns-in_default c =

@@ -16,8 +16,7 @@ fails_at_root g c =
     let S = c.args.self.now.schema.now in
     let s : Origin = record { object = c.args.root.object; position = c.args.root.at; way = way_at 0 c.args.self.now.tables c.args.self.now.deepest c.args.loan.now.count c.args.site } in
     let stops = stop_at_root ch b S c.args.self.now.limits s c.args.root.at c.args.site c.args.self.now.tables c.args.self.now.deepest c.args.loan.now.count _ refl refl c.requires.1.1.1.1.1.1.0 c.requires.1.1.1.1.1.1.1.0 c.requires.1.1.1.1.1.1.1.1.0 c.in-Err.ensures.err in
-    let none : StopsIn ch b S c.args.self.now.limits s [] [] (stopped c.in-Err.stop c.open_table.new.loan.count) = record { along = stops; linked = All-nil (IsLinked ch b S) } in
-    rw c.requires.0 none
+    rw c.requires.0 (record { along = stops; linked = All-nil (IsLinked ch b S) })
 
 pub returns-in-Err-clause-err : goal.returns-in-Err-clause-err
 returns-in-Err-clause-err g c = ([], rw c.halt.ensures (fails_at_root g (goal.at.returns-in-Err-clause-err g c).In-Err))
@@ -51,10 +50,10 @@ begun g c =
     rw (c.in-Ok.ensures.opened, c.in-Ok.ensures.counted)
     (record {
       served = c.requires.1.0;
-      tables = omega (arith, c.in-Ok.ensures.fewer);
-      deepest = omega (arith, c.in-Ok.ensures.shallow, c.requires.1.1.1.1.1.1.1.0);
+      tables = omega (arith, c.in-Ok.ensures.allowed.fewer);
+      deepest = omega (arith, c.in-Ok.ensures.allowed.deep, c.requires.1.1.1.1.1.1.1.0);
       reads = rw c.in-Ok.ensures.counted at c.in-Ok.ensures.reads;
-      links = c.in-Ok.ensures.shallow;
+      links = c.in-Ok.ensures.allowed.deep;
       low = omega arith;
       frames = All-nil (IsFrame ch b S);
       frame = frame;
@@ -80,11 +79,11 @@ go_on-requires g c =
     let xs = c.args.frames.now in
     let table = c.in-Ok.table in
     let new = work_opened c.args.self.now.checks c.args.loan.now.bytes c.args.self.now.schema.now table c.requires.1.0 in
-    let some : 0 < length xs = omega (arith, c.in-Ok.ensures.shallow, c.requires.1.1.1.1.0) in
+    let some : 0 < length xs = omega (arith, c.in-Ok.ensures.allowed.deep, c.requires.1.1.1.1.0) in
     let top = get_or-set_same xs 0 c.opened.result blank some in
     rw (k.0, k.1, c.in-Ok.ensures.opened, c.in-Ok.ensures.counted)
     (record {
       walking = rw (top, c.opened.ensures) (rw (c.in-Ok.ensures.opened, c.in-Ok.ensures.counted) at (begun g d));
       top = omega (arith, length-set xs 0 c.opened.result, some);
-      few = rw (top, c.opened.ensures) (omega (arith, new, head_few c.args.self.now.checks, c.requires.1.1.1.1.1.1.1.1.1, c.in-Ok.ensures.fewer, c.in-Ok.ensures.few_tables));
+      few = rw (top, c.opened.ensures) (omega (arith, new, head_few c.args.self.now.checks, c.requires.1.1.1.1.1.1.1.1.1, c.in-Ok.ensures.allowed.fewer, c.in-Ok.ensures.allowed.small));
     })

@@ -16,12 +16,3 @@ returns-in-Down g c =
     frames_down c.args.self.now c.pass_top.new.self c.args.reads.now c.pass_top.new.reads g.under c.args.frames.now low high n
     (get_or low n blank) c.pass_top.new.top c.pass_top.new.child s.value s.front_len c.requires.0 (top_is c.args.frames.now low high n c.pass_top.new.top s.value s.front_len blank) (set high 0 c.open_child.new.below)
     c.open_child.new.self c.open_child.new.reads c.open_child.new.below (get_or-set_same high 0 c.open_child.new.below blank some) (omega (arith, some, length-set high 0 c.open_child.new.below)) d c.open_child.result c.open_child.ensures
-
-pub returns-in_default : goal.returns-in_default
-returns-in_default g c =
-    let s = c.split_at_mut-low.ensures in
-    let low = c.split_at_mut-low.result.0.now in
-    let high = c.split_at_mut-low.result.1.now in
-    let n = c.args.waiting in
-    frames_turned c.args.self.now c.pass_top.new.self c.args.reads.now c.pass_top.new.reads g.under c.args.frames.now low high n
-    (get_or low n blank) c.pass_top.new.top c.pass_top.new.child s.value s.front_len c.requires.0 (top_is c.args.frames.now low high n c.pass_top.new.top s.value s.front_len blank) high c.pass_top.result c.in_default.not-Down c.pass_top.ensures

@@ -1,10 +1,11 @@
 use Rattle.std.proofs.Common.{◌≡◌, ◌+◌, ◌-◌, ◌<◌, ◌≤◌, List, [], ◌∷◌, ◌++◌, take, length, get_or, refl, sym, ◌∙◌, ap, arith}
 use Rattle.std.proofs.Math.ListN.{set, length-set}
-use Rattle.std.proofs.lemmas.List.{length-take, take-set-le}
+use Rattle.std.proofs.lemmas.{List.length-append, List.length-take, List.Sums.sum_by_push}
+use Rattle.std.specs.List.{sum_by}
 use Rattle.fb_verify.specs.declared.scratch.Frame.{Frame}
 use Rattle.fb_verify.specs.Stack.{blank, IsWalking, work, frame_work}
-use Rattle.fb_verify.proofs.{Frames.if_err_exit, Standings.close_last, Walking.table_closed}
-use Rattle.fb_verify.proofs.Stacks.{last_is, sum_last, top_is, joined, below_joined, grown_joined, top_joined, next_joined}
+use Rattle.fb_verify.proofs.{Frames.if_err_exit, Turning.went_over, Walking.table_closed}
+use Rattle.fb_verify.proofs.Stacks.{last_is, top_is, below_joined, grown_joined, top_joined, next_joined}
 use Rattle.fb_verify.proofs.stack.Walk.turn_by_units.Goals.{Else-waiting-eq0, Joined-top-eq0, After-pass_children, then-top-eq0+in-Ok+else-not-leads, else-top-eq0}
 use Rattle.fb_verify.proofs.stack.Walk.turn_by_units.Goals as goal
 
@@ -12,43 +13,37 @@ use Rattle.fb_verify.proofs.stack.Walk.turn_by_units.Goals as goal
 
 -- the frames with the top that is left
 abbrev stack : (g : _) → Else-waiting-eq0 g → List Frame
-stack g c = set c.args.frames.now c.args.waiting c.pass_each.new.top
+stack g c = set c.split_at_mut-low.result.0.now c.args.waiting c.pass_each.new.top ++ c.split_at_mut-low.result.1.now
 
--- these are both parts of the row
-whole : (g : _) (c : Else-waiting-eq0 g) → set c.split_at_mut-low.result.0.now c.args.waiting c.pass_each.new.top ++ c.split_at_mut-low.result.1.now ≡ stack g c
-whole g c = joined c.args.frames.now c.split_at_mut-low.result.0.now c.split_at_mut-low.result.1.now c.args.waiting c.pass_each.new.top c.split_at_mut-low.ensures.value c.split_at_mut-low.ensures.front_len
+-- the last of those that wait is the top then
+last : (g : _) (c : Else-waiting-eq0 g) → (g.under).frames ≡ take (c.args.waiting - 1) (stack g c) ++ get_or (stack g c) (c.args.waiting - 1) blank ∷ []
+last g c =
+    let s = c.split_at_mut-low.ensures in
+    let low = c.split_at_mut-low.result.0.now in
+    let high = c.split_at_mut-low.result.1.now in
+    let top = c.pass_each.new.top in
+    let room : c.args.waiting ≤ length (stack g c) = omega (arith, length-append (set low c.args.waiting top) high, length-set low c.args.waiting top, s.front_len) in
+    c.requires.0 ∙ sym (below_joined c.args.frames.now low high c.args.waiting top s.value s.front_len high blank) ∙ last_is (stack g c) c.args.waiting blank (omega (arith, c.if-waiting-eq0.false)) room
 
--- those that wait are the first of them
-below : (g : _) (c : Else-waiting-eq0 g) → (g.under).frames ≡ take c.args.waiting (stack g c)
-below g c = c.requires.0 ∙ sym (take-set-le c.args.waiting c.args.frames.now c.args.waiting c.pass_each.new.top (omega arith))
-
-some : (g : _) (c : Else-waiting-eq0 g) → 0 < c.args.waiting
-some g c = omega (arith, c.if-waiting-eq0.false)
-
-room : (g : _) (c : Else-waiting-eq0 g) → c.args.waiting ≤ length (stack g c)
-room g c = omega (arith, (c.in-Ok.ensures.walking).links, ap length c.requires.0, length-take c.args.waiting c.args.frames.now, c.requires.1.1.0, length-set c.args.frames.now c.args.waiting c.pass_each.new.top)
-
-pub returns-then-waiting-eq0-clause-walking : goal.returns-then-waiting-eq0-clause-walking
-returns-then-waiting-eq0-clause-walking g c =
-    let h = c.in-Ok.ensures.walking in
-    let zero = c.if-waiting-eq0.true in
-    close_last c.args.self.now.checks c.pass_each.new.loan.bytes c.args.self.now.schema.now c.args.self.now.limits (g.under).start (g.under).frames c.pass_each.new.top c.args.self.now.tables c.args.self.now.deepest c.pass_each.new.loan.count h.standing
-    (c.requires.0 ∙ rw zero refl) (c.in-Ok.ensures.rests c.if-not-leads.true) (c.in-Ok.ensures.all c.if-not-leads.true)
+pub returns-then-waiting-eq0-clause-over : goal.returns-then-waiting-eq0-clause-over
+returns-then-waiting-eq0-clause-over g c _ =
+    let e = c.in-Ok.ensures in
+    went_over g.under c.pass_each.new.top refl e.walking (c.requires.0 ∙ rw c.if-waiting-eq0.true refl) (e.rests c.if-not-leads.true) (e.all c.if-not-leads.true) e.bytes
 
 pub returns-then-not-leads-clause-walking : goal.returns-then-not-leads-clause-walking
 returns-then-not-leads-clause-walking g c =
     let d = (goal.at.returns-then-not-leads-clause-walking g c).Else-waiting-eq0 in
-    let m = c.args.waiting in
-    let ys = stack g d in
-    rw (whole g d)
-    (table_closed c.in-Ok.ensures.walking (take (m - 1) ys) (get_or ys (m - 1) blank) (below g d ∙ last_is ys m blank (some g d) (room g d)) (c.in-Ok.ensures.rests c.if-not-leads.true) (c.in-Ok.ensures.all c.if-not-leads.true))
+    let e = c.in-Ok.ensures in
+    table_closed e.walking _ _ (last g d) (e.rests c.if-not-leads.true) (e.all c.if-not-leads.true)
 
 pub returns-then-not-leads-clause-falls : goal.returns-then-not-leads-clause-falls
 unfolding work
 returns-then-not-leads-clause-falls g c =
     let d = (goal.at.returns-then-not-leads-clause-falls g c).Else-waiting-eq0 in
-    let top = top_is c.args.frames.now c.split_at_mut-low.result.0.now c.split_at_mut-low.result.1.now c.args.waiting c.pass_each.new.top c.split_at_mut-low.ensures.value c.split_at_mut-low.ensures.front_len blank in
-    rw (whole g d, below g d) (omega (arith, sum_last (stack g d) c.args.waiting blank (some g d) (room g d) (frame_work c.args.self.now.schema.now), rw top at c.in-Ok.ensures.falls))
+    let S = c.args.self.now.schema.now in
+    let s = c.split_at_mut-low.ensures in
+    let top = top_is c.args.frames.now c.split_at_mut-low.result.0.now c.split_at_mut-low.result.1.now c.args.waiting c.pass_each.new.top s.value s.front_len blank in
+    omega (arith, ap (sum_by (frame_work S)) (last g d), sum_by_push (frame_work S) (take (c.args.waiting - 1) (stack g d)) (get_or (stack g d) (c.args.waiting - 1) blank), rw top at c.in-Ok.ensures.falls)
 
 -- Where the elements of a field of the top are passed.
 
