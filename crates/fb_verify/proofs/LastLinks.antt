@@ -1,14 +1,14 @@
 -- The last link to a fault is to the field that it names.
 use Rattle.std.proofs.Common.{◌≡◌, ℕ, ◌⊎◌, inl, inr, List, [], ◌∷◌, refl, sym, ◌∙◌, ap, subst, arith, Option, Some, None}
+use Rattle.std.proofs.lemmas.Bool.Decides.{nat_tests}
 use Rattle.fb_schema.specs.{Rows.Rows, Live.Live}
 use Rattle.fb_verify.specs.declared.{checks.Checks.Checks, fault.Fault.Fault, links.Link.Link}
 use Rattle.fb_verify.specs.{Bounds.Bounds, Places.target, Fields.Entry, Tree.elements_length, WellFormed.base, Cost.head_reads}
-use Rattle.fb_verify.specs.LinkLaws.{EndIn, LinksEndInField}
+use Rattle.fb_verify.specs.Laws.{EndIn, LinksEndInField}
 use Rattle.fb_verify.specs.Order.{Failure, ◌▷◌, head_failure}
 use Rattle.fb_verify.specs.Way.{Way, way_to_start, way_to_root, way_to_field, way_to_element, way_to_table}
 use Rattle.fb_verify.specs.Stops.{in_head, fault_of, budget_failure, reads_failure, fault_at, IsFalseAt, Trail, at_head, at_field, FieldTrail, at_own, at_element, ElementTrail, at_lead, through, IsTrail, IsFieldTrail, IsElementTrail}
 use Rattle.fb_verify.specs.Links.{field_link, element_link, object_led_to, links_of, links_in_field, links_in_element}
-use Rattle.fb_verify.proofs.Overruns.{either}
 
 -- a fault at the end of a way has the object and field of the way
 pub of_way : (w : Way) (x : Option Failure) (f : Fault) → fault_of w x ≡ Some f → (w.object ≡ f.object) × (w.field ≡ f.field)
@@ -23,10 +23,7 @@ module _ (c : Checks) (b : List ℕ) (S : Rows) (L : Bounds) (f : Fault) (n : �
   -- a fault in a head that names a field is a limit of tables
   in_a_head : (k t : ℕ) (w : Way) → IsFalseAt c b S L (in_head k t) w f → EndWell w f n []
   unfolding fault_at
-  in_a_head k t w h =
-      let v : Way = record w { object = k; field = None } in
-      let e = either (fault_of w (budget_failure L w t)) (fault_of v (head_failure c b t ▷ reads_failure L v.paid (head_reads c) t)) f h.first in
-      grind (arith, of_way)
+  in_a_head k t w h = grind (arith, nat_tests)
 
   -- one link more at the front
   one_more : (link : Link) (links : List Link) (w : Way) → w.object ≡ link.object → w.field ≡ Some link.field → EndWell w f n links → EndIn f.object n (link ∷ links)

@@ -15,12 +15,12 @@ use Rattle.fb_verify.specs.Stack.{word_count, CountIsIn, CountStands, TypeStands
 use Rattle.fb_verify.proofs.Typed.{present, typed_before}
 
 module _ (b : List ℕ) (S : Rows) where
-  row_length : (lead : Lead) (p n : ℕ) → length (row lead p n) ≡ n
+  pub row_length : (lead : Lead) (p n : ℕ) → length (row lead p n) ≡ n
   unfolding row
   row_length lead p zero = refl
   row_length lead p (suc n) = ap suc (row_length lead (p + 4) n)
 
-  union_row_length : (e q p n : ℕ) → length (union_row b S e q p n) ≡ n
+  pub union_row_length : (e q p n : ℕ) → length (union_row b S e q p n) ≡ n
   unfolding union_row
   union_row_length e q p zero = refl
   union_row_length e q p (suc n) = ap suc (union_row_length e (q + 1) (p + 4) n)

@@ -1,75 +1,74 @@
 -- A fault comes soon after the budget of reads is used up.
-use Rattle.std.proofs.Common.{◌≡◌, ℕ, zero, suc, ◌+◌, ◌≤◌, ◌<◌, ◌⊎◌, List, [], ◌∷◌, refl, ap, subst, arith, Option, Some, None}
-use Rattle.std.specs.Prelude.{slice_get}
+use Rattle.std.proofs.Common.{◌≡◌, ℕ, ◌+◌, ◌≤◌, ◌<◌, ◌⊎◌, List, arith, Option, Some, None}
 use Rattle.std.proofs.lemmas.Bool.Decides.{nat_tests}
 use Rattle.fb_schema.specs.declared.kinds.Kind.{Kind}
 use Rattle.fb_schema.specs.{Rows.Rows, Live.Live}
-use Rattle.fb_verify.specs.declared.{checks.Checks.Checks, fault.Fault.Fault}
-use Rattle.fb_verify.specs.{Bounds.Bounds, Cost.head_reads, Cost.own_reads, Cost.lead_reads, Way.Way}
-use Rattle.fb_verify.specs.Fields.{Lead, Entry, row, union_row, union_entry, entries}
-use Rattle.fb_verify.specs.Order.{Failure, ◌▷◌, head_failure, own_failure, element_failure}
-use Rattle.fb_verify.specs.Stops.{budget_failure, reads_failure, lead_reads_failure, in_head, fault_of, fault_at, IsFalseAt}
-use Rattle.fb_verify.proofs.{Frames.head_few, Frames.own_few, Overruns.some_same}
-use Rattle.fb_verify.proofs.ChainReads.{AtMost, either, reads_most, lead_reads_most, head_most, own_most, element_most}
+use Rattle.fb_verify.specs.declared.{checks.Checks.Checks, fault.Fault.Fault, start.Start.Start, start.Ident.Ident}
+use Rattle.fb_verify.specs.{Bounds.Bounds, Cost.lead_reads, WellFormed.start_reads, Way.Way, Fields.Entry}
+use Rattle.fb_verify.specs.Order.{Failure, prefix_failure, ident_failure, offset_failure, start_failure, head_failure, string_failure, vector_failure, inline_failure, table_failure, present_failure, own_failure, element_failure}
+use Rattle.fb_verify.specs.Stops.{in_start, in_head, in_field, in_element, fault_at, IsFalseAt}
+use Rattle.fb_verify.proofs.Frames.{head_few, own_few, if_present_few, slot_few}
 
--- the reads of a fault
+-- no failure of the chain comes after more reads
+abbrev AtMost : ℕ → Option Failure → Type 0
+AtMost n None = Unit {0}
+AtMost n (Some e) = e.reads ≤ n
 
-pub fault_reads : (n : ℕ) (w : Way) (x : Option Failure) (f : Fault) → AtMost n x → fault_of w x ≡ Some f → f.reads ≤ w.paid + n
-unfolding AtMost
-fault_reads n w None f h g = absurd (cc)
-fault_reads n w (Some e) f h g =
-    let few = h e refl in omega (arith, ap (λ x. x.reads) (some_same g))
+module _ (c : Checks) (b : List ℕ) where
+  offset_most : (p : ℕ) → AtMost 1 (offset_failure c b p)
+  unfolding offset_failure
+  offset_most p = grind (arith, nat_tests)
 
--- the reads that told a lead
+  head_most : (t : ℕ) → AtMost 2 (head_failure c b t)
+  unfolding head_failure
+  head_most t = grind (arith, nat_tests)
 
-unfoldable pub AreShort : List Entry → Type 0
-AreShort [] = Unit {0}
-AreShort (x ∷ xs) = (x.reads ≤ 1) × AreShort xs
+  string_most : (s : ℕ) → AtMost 2 (string_failure c b s)
+  unfolding string_failure
+  string_most s = grind (arith, nat_tests)
 
-pub short_at : (xs : List Entry) (n : ℕ) (x : Entry) → AreShort xs → slice_get xs n ≡ Some x → x.reads ≤ 1
-unfolding AreShort
-short_at [] n x a h = absurd (cc)
-short_at (y ∷ xs) zero x a h = let e : y ≡ x = cc in subst (λ z. z.reads ≤ 1) e a.0
-short_at (y ∷ xs) (suc n) x a h = short_at xs n x a.1 h
+  vector_most : (v size align : ℕ) → AtMost 1 (vector_failure c b v size align)
+  unfolding vector_failure
+  vector_most v size align = grind (arith, nat_tests)
 
-short_row : (lead : Lead) (p n : ℕ) → AreShort (row lead p n)
-unfolding AreShort row
-short_row lead p zero = tt
-short_row lead p (suc n) = (omega arith, short_row lead (p + 4) n)
+  inline_most : (p size align : ℕ) → AtMost 0 (inline_failure c b p size align)
+  unfolding inline_failure
+  inline_most p size align = grind (arith, nat_tests)
 
-short_union_row : (b : List ℕ) (S : Rows) (e q p n : ℕ) → AreShort (union_row b S e q p n)
-unfolding AreShort union_row
-short_union_row b S e q p zero = tt
-short_union_row b S e q p (suc n) = (omega arith, short_union_row b S e (q + 1) (p + 4) n)
+  table_most : (t p n : ℕ) → AtMost 0 (table_failure c b t p n)
+  unfolding table_failure
+  table_most t p n = grind (arith, nat_tests)
 
-short_union : (S : Rows) (p : ℕ) (member : Option Kind) → AreShort (union_entry S p member)
-unfolding AreShort
-short_union S p member = grind arith
+  present_most : (S : Rows) (t : ℕ) (f : Live) (p : ℕ) (kind : Kind) → AtMost 5 (present_failure c b S t f p kind)
+  present_most S t f p kind = grind (arith, nat_tests, if_present_few, offset_most, vector_most, inline_most, table_most)
 
-module _ (c : Checks) (b : List ℕ) (S : Rows) where
-  pub short_entries : (t : ℕ) (f : Live) → AreShort (entries b S t f)
-  unfolding entries AreShort
-  short_entries t f = grind (arith, short_row, short_union_row, short_union)
+  own_most : (S : Rows) (t : ℕ) (f : Live) → AtMost 6 (own_failure c b S t f)
+  unfolding own_failure
+  own_most S t f = grind (arith, nat_tests, slot_few, present_most)
 
-  module _ (L : Bounds) where
-    pub budget_most : (w : Way) (t : ℕ) → AtMost 0 (budget_failure L w t)
-    unfolding AtMost
-    budget_most w t e h = grind (arith, nat_tests)
+  element_most : (x : Entry) → AtMost (x.reads + lead_reads x.lead) (element_failure c b x)
+  unfolding element_failure
+  element_most x = grind (arith, offset_most, string_most, inline_most)
 
-    pub head_reads_most : (w : Way) (t : ℕ) → AtMost 3 (head_failure c b t ▷ reads_failure L w.paid (head_reads c) t)
-    head_reads_most w t = either 3 _ _ (head_most c b t 3 (omega arith)) (reads_most L w.paid (head_reads c) 3 t (head_few c))
+  start_most : (start : Start) (ident : Ident) → AtMost (start_reads start ident) (start_failure c b start ident)
+  unfolding start_failure prefix_failure ident_failure
+  start_most start ident = grind (arith, nat_tests, offset_most)
 
-    pub own_reads_most : (w : Way) (t : ℕ) (g : Live) → AtMost 6 (own_failure c b S t g ▷ reads_failure L w.paid (own_reads b t g) t)
-    own_reads_most w t g = either 6 _ _ (own_most c b S t g 6 (omega arith)) (reads_most L w.paid (own_reads b t g) 6 t (own_few b t g))
-
-    pub entry_reads_most : (w : Way) (x : Entry) → AtMost (x.reads + lead_reads x.lead) (element_failure c b x ▷ lead_reads_failure L w.paid x x.lead)
-    entry_reads_most w x = either _ _ _ (element_most c b x) (lead_reads_most L w.paid x x.lead)
-
-    -- a fault in a head comes before any read of it, or after one more table was allowed
-    pub head_told : (k t : ℕ) (w : Way) (f : Fault) → IsFalseAt c b S L (in_head k t) w f → (f.reads ≤ w.paid) ⊎ ((w.passed < L.tables) × (f.reads ≤ w.paid + 3))
+  -- the reads of a fault
+  module _ (S : Rows) (L : Bounds) (w : Way) (f : Fault) where
+    pub start_told : (start : Start) (ident : Ident) → IsFalseAt c b S L (in_start start ident) w f → f.reads ≤ w.paid + start_reads start ident
     unfolding fault_at
-    head_told k t w f h =
-        let e = h.first in
-        let limit = fault_reads 0 w (budget_failure L w t) f (budget_most w t) in
-        let head = fault_reads 3 (record w { object = k; field = None }) (head_failure c b t ▷ reads_failure L w.paid (head_reads c) t) f (head_reads_most w t) in
-        grind (arith, nat_tests)
+    start_told start ident h = grind (arith, start_most)
+
+    -- it comes before any read of a head, or after one more table was allowed
+    pub head_told : (k t : ℕ) → IsFalseAt c b S L (in_head k t) w f → (f.reads ≤ w.paid) ⊎ ((w.passed < L.tables) × (f.reads ≤ w.paid + 3))
+    unfolding fault_at
+    head_told k t h = grind (arith, nat_tests, head_most, head_few)
+
+    pub own_told : (t : ℕ) (g : Live) → IsFalseAt c b S L (in_field t g) w f → f.reads ≤ w.paid + 6
+    unfolding fault_at
+    own_told t g h = grind (arith, own_most, own_few)
+
+    pub element_told : (x : Entry) → IsFalseAt c b S L (in_element x) w f → f.reads ≤ w.paid + (x.reads + lead_reads x.lead)
+    unfolding fault_at
+    element_told x h = grind (arith, element_most)

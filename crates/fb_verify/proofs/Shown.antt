@@ -25,27 +25,27 @@ unfoldable pub showing : ℕ
 unfolding computing IsField
 showing = 0
 
+pub ruleset shown = (rules, start_none, head_none, own_none, offset_none, string_none, inline_none)
+
 -- a chain that finds nothing tells the facts
 
 pub start : {c : Checks} {b : List ℕ} {s : Start} {i : Ident} → start_failure c b s i ≡ None → IsStart c b s i
-start {c} {b} {s} {i} h = (start_none c b s i).0 h
+start h = (start_none _ _ _ _).0 h
 
 pub head : {c : Checks} {b : List ℕ} {t : ℕ} → head_failure c b t ≡ None → IsTable c b t
-head {c} {b} {t} h = (head_none c b t).0 h
+head h = (head_none _ _ _).0 h
 
 pub own : (c : Checks) (b : List ℕ) (S : Rows) (t : ℕ) (f : Live) → own_failure c b S t f ≡ None → IsField c b S t f
 own c b S t f h = (own_none c b S t f).0 h
 
 pub offset : {c : Checks} {b : List ℕ} {p : ℕ} → offset_failure c b p ≡ None → IsOffset c b p
-offset {c} {b} {p} h = (offset_none c b p).0 h
+offset h = (offset_none _ _ _).0 h
 
 pub string : {c : Checks} {b : List ℕ} {s : ℕ} → string_failure c b s ≡ None → IsString c b s
-string {c} {b} {s} h = (string_none c b s).0 h
+string h = (string_none _ _ _).0 h
 
 pub inline : {c : Checks} {b : List ℕ} {p n a : ℕ} → inline_failure c b p n a ≡ None → IsInline c b p n a
-inline {c} {b} {p} {n} {a} h = (inline_none c b p n a).0 h
-
-pub ruleset shown = (rules, start, head, own, offset, string, inline)
+inline h = (inline_none _ _ _ _ _).0 h
 
 -- a trail goes on past fields of a table, and past elements of a field
 
@@ -57,86 +57,12 @@ pub among : {c : Checks} {b : List ℕ} {S : Rows} {t : ℕ} {g : Live} {before 
     → slice_get (entries b S t g) (elements_length before) ≡ Some x → IsInField c b S t g before x
 among h passed next = record { own = (own_none _ _ _ _ _).0 h; passed = passed; next = next }
 
--- trees
+-- the subtables of `shared`
 
-pub monster_unfolds : MonsterUnfolds
-unfolding showing
-monster_unfolds = search shown
-
-pub one_member_unfolds : OneMemberUnfolds
-unfolding showing
-one_member_unfolds = search shown
-
-pub two_members_unfold : TwoMembersUnfold
-unfolding showing
-two_members_unfold = search shown
-
-last_unfolds : Unfolds last published_checks shared nodes 0 40
+pub last_unfolds : Unfolds last published_checks shared nodes 0 40
 unfolding showing
 last_unfolds = search shown
 
-middle_unfolds : Unfolds middle published_checks shared nodes 0 28
+pub middle_unfolds : Unfolds middle published_checks shared nodes 0 28
 unfolding showing
 middle_unfolds = search shown
-
-pub every_kind_unfolds : EveryKindUnfolds
-unfolding showing
-every_kind_unfolds = search shown
-
--- faults
-
-pub open_name_stops : OpenNameStops
-unfolding showing
-open_name_stops = (search shown, (_, past refl (search shown) refl, (_, among refl tt refl, search rules)))
-
-pub no_name_stops : NoNameStops
-unfolding showing
-no_name_stops = (search shown, (_, past refl (search shown) refl, (_, among refl tt refl, search rules)))
-
-pub three_values_stop : ThreeValuesStop
-unfolding showing
-three_values_stop = (search shown, (_, past refl (search shown) refl, search rules))
-
-pub crooked_struct_stops : CrookedStructStops
-unfolding showing
-crooked_struct_stops = (search shown, (_, past refl (search shown) refl, (_, among refl tt refl, search rules)))
-
-pub seventh_table_stops : SeventhTableStops
-unfolding showing
-seventh_table_stops =
-    (search shown, (_, past refl (search (shown, middle_unfolds)) refl, (_, among refl tt refl, (_, refl, search shown, (_, past refl (search (shown, last_unfolds)) refl, (_, among refl tt refl, (_, refl, search shown, search rules)))))))
-
-pub third_level_stops : ThirdLevelStops
-unfolding showing
-third_level_stops =
-    (search shown, (_, past refl tt refl, (_, among refl tt refl, (_, refl, search shown, (_, past refl tt refl, (_, among refl tt refl, (_, refl, search shown, search rules)))))))
-
-pub odd_vtable_stops : OddVtableStops
-unfolding showing
-odd_vtable_stops = (search shown, (_, past refl (search shown) refl, (_, among refl tt refl, (_, refl, search shown, search rules))))
-
-pub short_table_stops : ShortTableStops
-unfolding showing
-short_table_stops = (search shown, (_, past refl tt refl, search rules))
-
-pub first_read_stops : FirstReadStops
-unfolding showing
-first_read_stops = search rules
-
-pub last_text_stops : LastTextStops
-unfolding showing
-last_text_stops = (search shown, (_, past refl (search shown) refl, (_, among refl tt refl, search rules)))
-
-pub seventh_head_stops : SeventhHeadStops
-unfolding showing
-seventh_head_stops =
-    (search shown, (_, past refl (search (shown, middle_unfolds)) refl, (_, among refl tt refl, (_, refl, search shown, (_, past refl (search (shown, last_unfolds)) refl, (_, among refl tt refl, (_, refl, search shown, search rules)))))))
-
-pub last_field_stops : LastFieldStops
-unfolding showing
-last_field_stops =
-    (search shown, (_, past refl (search shown) refl, (_, among refl tt refl, (_, refl, search shown, (_, past refl tt refl, search rules)))))
-
-pub budgets_by_length : BudgetsByLength
-unfolding showing
-budgets_by_length = search rules

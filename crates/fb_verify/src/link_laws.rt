@@ -1,7 +1,7 @@
 //! The law of the links that lead to a fault, and examples of them. These functions have no body: their contracts are
 //! the theorems.
 
-ghost use Rattle.fb_verify.specs.{LinkLaws.LinksEndInField, LinkExamples.LinksFound};
+ghost use Rattle.fb_verify.specs.{Laws.LinksEndInField, LinkExamples.LinksFound};
 
 /// Where a fault names a field, the last of the links that lead to it is to this field of a table of the fault's
 /// object: they don't end before it, nor is there none.
