@@ -16,7 +16,7 @@ use Rattle.fb_verify.specs.{MostReads.within_budget, MostReads.most_reads, Laws.
 use Rattle.fb_verify.specs.WellFormed.{base, start_reads, IsWellFormed, IsWithin, cost}
 use Rattle.fb_verify.specs.Way.{Way, way_to_start, way_to_root, way_to_field, way_to_element, way_to_table}
 use Rattle.fb_verify.specs.Stops.{Trail, at_head, at_field, FieldTrail, at_own, at_element, ElementTrail, at_lead, through, IsTrail, IsFieldTrail, IsElementTrail, Stops}
-use Rattle.fb_verify.proofs.Budgets.{no_reads, IsNear, near}
+use Rattle.fb_verify.proofs.Budgets.{no_reads, near}
 use Rattle.fb_verify.proofs.{Frames.lead_few, Frames.if_present_few, Frames.head_few, Frames.slot_few, Linked.row_length, Linked.union_row_length}
 use Rattle.fb_verify.proofs.{Overruns.kids_cost_take, Overruns.elements_cost_take, Nears.start_told, Nears.head_told, Nears.own_told, Nears.element_told}
 
@@ -105,7 +105,7 @@ module _ (c : Checks) (b : List ℕ) (S : Rows) where
     mutual
       unfolding IsTrail IsFieldTrail IsElementTrail
 
-      trail_price : (s : Trail) (k t : ℕ) (w : Way) (f : Fault) → w.leading ≤ 2 → IsTrail s c b S L k t w f → (f.reads + most * w.passed ≤ w.paid + most * L.tables) × IsNear L.reads f.reads
+      trail_price : (s : Trail) (k t : ℕ) (w : Way) (f : Fault) → w.leading ≤ 2 → IsTrail s c b S L k t w f → (f.reads + most * w.passed ≤ w.paid + most * L.tables) × (f.reads ≤ within_budget L.reads f.reads)
       trail_price at_head k t w f l h =
           elim (head_told c b S L w f k t h) [
             | inl p ↦ (omega (arith, p, mul-le-mul_left most h.within.tables), near L.reads (w.paid - w.leading) f.reads (omega (arith, l, p)) h.within.reads)
@@ -123,7 +123,7 @@ module _ (c : Checks) (b : List ℕ) (S : Rows) where
           (omega (arith, r.0, p, kids_cost_take c b S earlier t fs, before, fields, all k, head_few c), r.1)
 
       field_trail_price : (s : FieldTrail) (t : ℕ) (g : Live) (w : Way) (f : Fault) → w.leading ≡ 0 → IsFieldTrail s c b S L t g w f
-          → (f.reads + most * w.passed ≤ w.paid + (7 + length b) + most * L.tables) × IsNear L.reads f.reads
+          → (f.reads + most * w.passed ≤ w.paid + (7 + length b) + most * L.tables) × (f.reads ≤ within_budget L.reads f.reads)
       field_trail_price at_own t g w f l h =
           let r = own_told c b S L w f t g h in
           (omega (arith, r, mul-le-mul_left most h.within.tables), near L.reads (w.paid - w.leading) f.reads (omega (arith, l, r)) h.within.reads)
@@ -135,7 +135,7 @@ module _ (c : Checks) (b : List ℕ) (S : Rows) where
           (omega (arith, r.0, p, elements_cost_take c b S before xs, n.0, field_price t g h.1.own), r.1)
 
       element_trail_price : (s : ElementTrail) (x : Entry) (w : Way) (f : Fault) → w.leading ≡ 0 → x.reads ≤ 1 → IsElementTrail s c b S L x w f
-          → (f.reads + most * w.passed ≤ w.paid + (x.reads + lead_reads x.lead) + most * L.tables) × IsNear L.reads f.reads
+          → (f.reads + most * w.passed ≤ w.paid + (x.reads + lead_reads x.lead) + most * L.tables) × (f.reads ≤ within_budget L.reads f.reads)
       element_trail_price at_lead x w f l few h =
           let r = element_told c b S L w f x h in
           (omega (arith, r, mul-le-mul_left most h.within.tables), near L.reads (w.paid - w.leading) f.reads (omega (arith, l, few, lead_few x.lead, r)) h.within.reads)
@@ -153,9 +153,8 @@ module _ (c : Checks) (b : List ℕ) (S : Rows) where
         let tables = mul-le-mul_left L.tables each in
         omega (arith, tables, mul_comm (3 + widest S * (7 + length b)) L.tables)
 
--- what is at most the one bound and at most the other is at most their lesser
-lesser : (budget : Option ℕ) (n m : ℕ) → n ≤ m → IsNear budget n → n ≤ within_budget budget m
-unfolding IsNear
+-- what is near the budget and within a bound is at most their lesser
+lesser : (budget : Option ℕ) (n m : ℕ) → n ≤ m → n ≤ within_budget budget n → n ≤ within_budget budget m
 lesser budget n m h i = grind arith
 
 pub cost_is_bounded : CostIsBounded
