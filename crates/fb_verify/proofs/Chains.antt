@@ -48,51 +48,30 @@ table_none c b t p n = search (rules, tests)
 -- what tells of chains in a row
 ruleset chains = (rules, both_none, after_none, offset_none, string_none, vector_none, inline_none, table_none)
 
--- the start
-
-prefix_none : (b : List ℕ) (start : Start) → (prefix_failure b start ≡ None) ↔ IsPrefixed b start
-unfolding prefix_failure
-prefix_none b Bare = (λ _. tt, λ _. refl)
-prefix_none b Prefixed = search (rules, tests)
-
-ident_none : (b : List ℕ) (p : ℕ) (ident : Ident) → (ident_failure b p ident ≡ None) ↔ IsIdentified b p ident
-unfolding ident_failure
-ident_none b p Any = (λ _. tt, λ _. refl)
-ident_none b p (Want name) = search (rules, tests)
-
 pub start_none : (c : Checks) (b : List ℕ) (start : Start) (ident : Ident) → (start_failure c b start ident ≡ None) ↔ IsStart c b start ident
-unfolding start_failure
-start_none c b start ident = search (chains, prefix_none, ident_none)
+unfolding start_failure prefix_failure ident_failure
+start_none c b Bare Any = search (chains, tests)
+start_none c b Bare (Want name) = search (chains, tests)
+start_none c b Prefixed Any = search (chains, tests)
+start_none c b Prefixed (Want name) = search (chains, tests)
 
 -- fields
 
-module _ (c : Checks) (b : List ℕ) where
-  inline_field_none : (t p size align : ℕ) → (inline_field_failure c b t p size align ≡ None) ↔ IsInlineField c b t p size align
-  inline_field_none t p size align = search chains
+module _ (c : Checks) (b : List ℕ) (S : Rows) (t : ℕ) (f : Live) where
+  union_field_none : (p : ℕ) (member : Option Kind) → (union_field_failure c b t p member ≡ None) ↔ IsUnionField c b t p member
+  union_field_none p member = grind (arith, table_none)
 
-  vector_field_none : (t p size align : ℕ) → (vector_field_failure c b t p size align ≡ None) ↔ IsVectorField c b t p size align
-  vector_field_none t p size align = search chains
+  present_none : (p : ℕ) (kind : Kind) → (present_failure c b S t f p kind ≡ None) ↔ IsPresent c b S t f p kind
+  present_none p (Union e) = search (chains, union_field_none)
+  present_none p kind = search (chains, tests) depth 9
 
-  unions_field_none : (t p : ℕ) (types : Option ℕ) → (unions_field_failure c b t p types ≡ None) ↔ IsUnionsField c b t p types
-  unions_field_none t p types = search (chains, tests, vector_field_none)
+  at_none : (place : Option ℕ) → (failure_at c b S t f place ≡ None) ↔ IsPresentOrAbsent c b S t f place
+  at_none None = search (rules, tests)
+  at_none (Some p) = present_none p f.kind
 
-  union_field_none : (t p : ℕ) (member : Option Kind) → (union_field_failure c b t p member ≡ None) ↔ IsUnionField c b t p member
-  union_field_none t p member = grind (arith, table_none)
-
-  ruleset fields = (chains, inline_field_none, vector_field_none, unions_field_none, union_field_none)
-
-  module _ (S : Rows) (t : ℕ) (f : Live) where
-    present_none : (p : ℕ) (kind : Kind) → (present_failure c b S t f p kind ≡ None) ↔ IsPresent c b S t f p kind
-    present_none p (Union e) = search fields
-    present_none p kind = search fields
-
-    at_none : (place : Option ℕ) → (failure_at c b S t f place ≡ None) ↔ IsPresentOrAbsent c b S t f place
-    at_none None = search (rules, tests)
-    at_none (Some p) = present_none p f.kind
-
-    pub own_none : (own_failure c b S t f ≡ None) ↔ IsField c b S t f
-    unfolding own_failure IsField
-    own_none = search (chains, at_none)
+  pub own_none : (own_failure c b S t f ≡ None) ↔ IsField c b S t f
+  unfolding own_failure IsField
+  own_none = search (chains, at_none)
 
 -- elements
 
