@@ -1,5 +1,6 @@
 -- A chain of tests finds nothing exactly where the facts hold.
 use Rattle.std.proofs.Common.{◌≡◌, ◌↔◌, ℕ, List, Option, Some, None, IsTrue, refl, sym, subst, arith, rules, tests}
+use Rattle.std.proofs.lemmas.Bool.Decides.{nat_tests}
 use Rattle.fb_schema.specs.declared.kinds.Kind.{Kind, TheVariants.Union}
 use Rattle.fb_schema.specs.{Rows.Rows, Live.Live}
 use Rattle.fb_verify.specs.declared.checks.Checks.{Checks}
@@ -50,10 +51,7 @@ ruleset chains = (rules, both_none, after_none, offset_none, string_none, vector
 
 pub start_none : (c : Checks) (b : List ℕ) (start : Start) (ident : Ident) → (start_failure c b start ident ≡ None) ↔ IsStart c b start ident
 unfolding start_failure prefix_failure ident_failure
-start_none c b Bare Any = search (chains, tests)
-start_none c b Bare (Want name) = search (chains, tests)
-start_none c b Prefixed Any = search (chains, tests)
-start_none c b Prefixed (Want name) = search (chains, tests)
+start_none c b start ident = (λ h. grind (arith, nat_tests, offset_none), λ h. grind (arith, nat_tests, offset_none))
 
 -- fields
 
@@ -75,23 +73,15 @@ module _ (c : Checks) (b : List ℕ) (S : Rows) (t : ℕ) (f : Live) where
 
 -- elements
 
-lead_none : (c : Checks) (b : List ℕ) (p : ℕ) (lead : Lead) → (lead_failure c b p lead ≡ None) ↔ IsLead c b p lead
-lead_none c b p (to_table k) = offset_none c b p
-lead_none c b p lead = search chains
-
 pub element_none : (c : Checks) (b : List ℕ) (x : Entry) → (element_failure c b x ≡ None) ↔ IsLead c b x.place x.lead
 unfolding element_failure
-element_none c b x = search (chains, lead_none)
-
--- what an element unfolds into holds of it by itself
-unfolds_lead : (c : Checks) (b : List ℕ) (S : Rows) (y : Element) (p : ℕ) (lead : Lead) → ElementUnfolds y c b S p lead → IsLead c b p lead
-unfolding ElementUnfolds
-unfolds_lead c b S leaf p lead h = grind arith
-unfolds_lead c b S (table y) p lead h = grind arith
+element_none c b x = grind (arith, offset_none, inline_none, string_none)
 
 -- an element that unfolds into anything passes its tests
 pub element_passes : (c : Checks) (b : List ℕ) (S : Rows) (x : Entry) (y : Element) → ElementUnfolds y c b S x.place x.lead → element_failure c b x ≡ None
-element_passes c b S x y h = (element_none c b x).1 (unfolds_lead c b S y x.place x.lead h)
+unfolding ElementUnfolds
+element_passes c b S x leaf h = grind (arith, element_none)
+element_passes c b S x (table y) h = grind (arith, element_none)
 
 -- so does one that leads on by an offset word
 pub through_passes : (c : Checks) (b : List ℕ) (x : Entry) (k : ℕ) → x.lead ≡ to_table k → IsOffset c b x.place → element_failure c b x ≡ None
