@@ -46,30 +46,21 @@ pub table_none : (c : Checks) (b : List ℕ) (t p n : ℕ) → (table_failure c 
 unfolding table_failure
 table_none c b t p n = search (rules, tests)
 
--- what tells of chains in a row
-ruleset chains = (rules, both_none, after_none, offset_none, string_none, vector_none, inline_none, table_none)
+-- the whole chains
 
 pub start_none : (c : Checks) (b : List ℕ) (start : Start) (ident : Ident) → (start_failure c b start ident ≡ None) ↔ IsStart c b start ident
 unfolding start_failure prefix_failure ident_failure
-start_none c b start ident = (λ h. grind (arith, nat_tests, offset_none), λ h. grind (arith, nat_tests, offset_none))
+start_none c b start ident = grind (arith, nat_tests, offset_none)
 
 -- fields
 
 module _ (c : Checks) (b : List ℕ) (S : Rows) (t : ℕ) (f : Live) where
-  union_field_none : (p : ℕ) (member : Option Kind) → (union_field_failure c b t p member ≡ None) ↔ IsUnionField c b t p member
-  union_field_none p member = grind (arith, table_none)
-
   present_none : (p : ℕ) (kind : Kind) → (present_failure c b S t f p kind ≡ None) ↔ IsPresent c b S t f p kind
-  present_none p (Union e) = search (chains, union_field_none)
-  present_none p kind = search (chains, tests) depth 9
-
-  at_none : (place : Option ℕ) → (failure_at c b S t f place ≡ None) ↔ IsPresentOrAbsent c b S t f place
-  at_none None = search (rules, tests)
-  at_none (Some p) = present_none p f.kind
+  present_none p kind = grind (arith, nat_tests, offset_none, vector_none, inline_none, table_none)
 
   pub own_none : (own_failure c b S t f ≡ None) ↔ IsField c b S t f
   unfolding own_failure IsField
-  own_none = search (chains, at_none)
+  own_none = grind (arith, nat_tests, present_none)
 
 -- elements
 
@@ -85,4 +76,4 @@ element_passes c b S x (table y) h = grind (arith, element_none)
 
 -- so does one that leads on by an offset word
 pub through_passes : (c : Checks) (b : List ℕ) (x : Entry) (k : ℕ) → x.lead ≡ to_table k → IsOffset c b x.place → element_failure c b x ≡ None
-through_passes c b x k e h = (element_none c b x).1 (subst (λ lead. IsLead c b x.place lead) (sym e) h)
+through_passes c b x k e h = grind (arith, element_none)

@@ -1,5 +1,5 @@
 -- At most one fault is the first, one trail leads to it, and one answer applies to a question.
-use Rattle.std.proofs.Common.{◌≡◌, ℕ, ◌+◌, ◌<◌, inl, inr, List, take, refl, sym, ◌∙◌, ap, subst, arith, Some, Ok, Err}
+use Rattle.std.proofs.Common.{◌≡◌, ℕ, ◌+◌, ◌-◌, ◌≤◌, ◌<◌, inl, inr, List, [], take, refl, sym, ◌∙◌, ap, subst, arith, Some, Ok, Err}
 use Rattle.std.specs.Prelude.{slice_get}
 use Rattle.std.proofs.lemmas.{Bool.cases_order, List.take-take}
 use Rattle.fb_schema.specs.{Rows.Rows, Live.Live, Live.live_fields}
@@ -24,26 +24,26 @@ module _ (c : Checks) (b : List ℕ) (S : Rows) (L : Bounds) where
   same_fault p w f g h i = some_same (sym h.first ∙ i.first)
 
   -- the way of a trail stays within the limits from the beginning
+  begins_within : (v w : Way) → StaysWithin v L → w.passed ≤ v.passed → w.deepest ≤ v.deepest → w.paid - w.leading ≤ v.paid - v.leading → StaysWithin w L
+  begins_within v w h many deep paid = grind (arith, fewer_reads)
+
   mutual
     unfolding IsTrail IsFieldTrail IsElementTrail
 
-    pub trail_within : (s : Trail) (k t : ℕ) (w : Way) (f : Fault) → IsTrail s c b S L k t w f → StaysWithin w L
+    trail_within : (s : Trail) (k t : ℕ) (w : Way) (f : Fault) → IsTrail s c b S L k t w f → StaysWithin w L
     trail_within at_head k t w f h = h.within
     trail_within (at_field earlier s) k t w f h =
-        let r = field_within s t h.0 (way_to_field c b S k t earlier h.0 w) f h.2 in
-        record { tables = omega (arith, r.tables); depth = omega (arith, r.depth); reads = fewer_reads L.reads _ _ (omega arith) r.reads }
+        let v = way_to_field c b S k t earlier h.0 w in begins_within v w (field_within s t h.0 v f h.2) (omega arith) (omega arith) (omega arith)
 
-    pub field_within : (s : FieldTrail) (t : ℕ) (g : Live) (w : Way) (f : Fault) → IsFieldTrail s c b S L t g w f → StaysWithin w L
+    field_within : (s : FieldTrail) (t : ℕ) (g : Live) (w : Way) (f : Fault) → IsFieldTrail s c b S L t g w f → StaysWithin w L
     field_within at_own t g w f h = h.within
     field_within (at_element before s) t g w f h =
-        let r = element_within s h.0 (way_to_element c b S t g before w) f h.2 in
-        record { tables = omega (arith, r.tables); depth = omega (arith, r.depth); reads = fewer_reads L.reads _ _ (omega arith) r.reads }
+        let v = way_to_element c b S t g before w in begins_within v w (element_within s h.0 v f h.2) (omega arith) (omega arith) (omega arith)
 
-    pub element_within : (s : ElementTrail) (x : Entry) (w : Way) (f : Fault) → IsElementTrail s c b S L x w f → StaysWithin w L
+    element_within : (s : ElementTrail) (x : Entry) (w : Way) (f : Fault) → IsElementTrail s c b S L x w f → StaysWithin w L
     element_within at_lead x w f h = h.within
     element_within (through s) x w f h =
-        let r = trail_within s h.0 (target b x.place) (way_to_table x w) f h.3 in
-        record { tables = omega (arith, r.tables); depth = omega (arith, r.depth); reads = fewer_reads L.reads _ _ (omega arith) r.reads }
+        let v = way_to_table x w in begins_within v w (trail_within s h.0 (target b x.place) v f h.3) (omega arith) (omega arith) (omega arith)
 
   -- a table that another trail opened isn't where a trail stops
   opened_head : (k t : ℕ) (w : Way) (earlier : Kids) (g : Live) (f : Fault) → IsTable c b t → StaysWithin (way_to_field c b S k t earlier g w) L → IsFalseAt c b S L (in_head k t) w f → ⊥
@@ -87,8 +87,8 @@ module _ (c : Checks) (b : List ℕ) (S : Rows) (L : Bounds) where
         elim (cases_order (kids_length e1) (kids_length e2)) [
           | inl same ↦
               let e : e2 ≡ e1 = one_kids c b S e2 e1 t (take (kids_length e2) (live_fields S k)) i.1.passed (rw same at h.1.passed) in
-              let x : i.0 ≡ h.0 = to_same (live_fields S k) (kids_length e2) (kids_length e1) (sym same) i.1.next h.1.next in
-              let on = one_field_fault s r t h.0 (way_to_field c b S k t e1 h.0 w) f g h.2 (subst (λ y. IsFieldTrail r c b S L t y (way_to_field c b S k t e1 y w) g) x (subst (λ y. IsFieldTrail r c b S L t i.0 (way_to_field c b S k t y i.0 w) g) e i.2)) in
+              let next = to_same (live_fields S k) (kids_length e2) (kids_length e1) (sym same) i.1.next h.1.next in
+              let on = one_field_fault s r t h.0 (way_to_field c b S k t e1 h.0 w) f g h.2 (rw (e, next) at i.2) in
               (ap (at_field e1) on.0 ∙ ap (λ y. at_field y r) (sym e), on.1)
           | inr o ↦ elim o [
             | inl lt ↦ absurd (passed_field k t w e1 e2 h.0 i.0 s f lt h.1 i.1 (field_within r t i.0 (way_to_field c b S k t e2 i.0 w) g i.2) h.2)
@@ -104,8 +104,8 @@ module _ (c : Checks) (b : List ℕ) (S : Rows) (L : Bounds) where
         elim (cases_order (elements_length z1) (elements_length z2)) [
           | inl same ↦
               let e : z2 ≡ z1 = one_elements c b S z2 z1 (take (elements_length z2) (entries b S t x)) i.1.passed (rw same at h.1.passed) in
-              let y : i.0 ≡ h.0 = to_same (entries b S t x) (elements_length z2) (elements_length z1) (sym same) i.1.next h.1.next in
-              let on = one_element_fault s r h.0 (way_to_element c b S t x z1 w) f g h.2 (subst (λ v. IsElementTrail r c b S L v (way_to_element c b S t x z1 w) g) y (subst (λ v. IsElementTrail r c b S L i.0 (way_to_element c b S t x v w) g) e i.2)) in
+              let next = to_same (entries b S t x) (elements_length z2) (elements_length z1) (sym same) i.1.next h.1.next in
+              let on = one_element_fault s r h.0 (way_to_element c b S t x z1 w) f g h.2 (rw (e, next) at i.2) in
               (ap (at_element z1) on.0 ∙ ap (λ y. at_element y r) (sym e), on.1)
           | inr o ↦ elim o [
             | inl lt ↦ absurd (passed_element t x w z1 z2 h.0 i.0 s f lt h.1 i.1 (element_within r i.0 (way_to_element c b S t x z2 w) g i.2) h.2)
@@ -128,20 +128,23 @@ module _ (c : Checks) (b : List ℕ) (S : Rows) (L : Bounds) where
       not_both L.reads ((way_to_start root).paid + start_reads start ident) _ (omega arith) (trail_within s root t (way_to_root root start ident) g i).reads (start_overruns c b S L start ident (way_to_start root) f o h)
 
 -- of a whole buffer
-pub stops_once : StopsOnce
-stops_once q b f g (inl h) (inl i) = same_fault q.checks b q.rows q.limits (in_start q.start q.ident) (way_to_start q.root) f g h i
-stops_once q b f g (inl h) (inr i) = absurd (passed_start q.checks b q.rows q.limits q.root (target b (base q.start)) q.start q.ident i.1.0 f g i.0 i.1.1 h)
-stops_once q b f g (inr h) (inl i) = absurd (passed_start q.checks b q.rows q.limits q.root (target b (base q.start)) q.start q.ident h.1.0 g f h.0 h.1.1 i)
-stops_once q b f g (inr h) (inr i) = (one_fault q.checks b q.rows q.limits h.1.0 i.1.0 q.root (target b (base q.start)) (way_to_root q.root q.start q.ident) f g h.1.1 i.1.1).1
+one_way : (q : Question) (b : List ℕ) (f g : Fault) (xs ys : List Link) → StopsAlong q b f xs → StopsAlong q b g ys → (f ≡ g) × (xs ≡ ys)
+one_way q b f g xs ys (inl h) (inl i) = (same_fault q.checks b q.rows q.limits (in_start q.start q.ident) (way_to_start q.root) f g h.0 i.0, h.1 ∙ sym i.1)
+one_way q b f g xs ys (inl h) (inr i) = absurd (passed_start q.checks b q.rows q.limits q.root (target b (base q.start)) q.start q.ident i.1.0 f g i.0 i.1.1 h.0)
+one_way q b f g xs ys (inr h) (inl i) = absurd (passed_start q.checks b q.rows q.limits q.root (target b (base q.start)) q.start q.ident h.1.0 g f h.0 h.1.1 i.0)
+one_way q b f g xs ys (inr h) (inr i) =
+    let r = one_fault q.checks b q.rows q.limits h.1.0 i.1.0 q.root (target b (base q.start)) (way_to_root q.root q.start q.ident) f g h.1.1 i.1.1 in
+    (r.1, sym h.1.2 ∙ ap (λ s. links_of s b q.rows q.root (target b (base q.start))) r.0 ∙ i.1.2)
 
--- nor has it two rows of links
+along : (q : Question) (b : List ℕ) (f : Fault) → Stops q b f → (links : List Link) × StopsAlong q b f links
+along q b f (inl h) = ([], inl (h, refl))
+along q b f (inr h) = (_, inr (h.0, (h.1.0, h.1.1, refl)))
+
+pub stops_once : StopsOnce
+stops_once q b f g h i = (one_way q b f g _ _ (along q b f h).1 (along q b g i).1).0
+
 pub leads_one_way : LeadsOneWay
-leads_one_way q b f g xs ys (inl h) (inl i) = h.1 ∙ sym i.1
-leads_one_way q b f g xs ys (inl h) (inr i) = absurd (passed_start q.checks b q.rows q.limits q.root (target b (base q.start)) q.start q.ident i.1.0 f g i.0 i.1.1 h.0)
-leads_one_way q b f g xs ys (inr h) (inl i) = absurd (passed_start q.checks b q.rows q.limits q.root (target b (base q.start)) q.start q.ident h.1.0 g f h.0 h.1.1 i.0)
-leads_one_way q b f g xs ys (inr h) (inr i) =
-    let same = (one_fault q.checks b q.rows q.limits h.1.0 i.1.0 q.root (target b (base q.start)) (way_to_root q.root q.start q.ident) f g h.1.1 i.1.1).0 in
-    sym h.1.2 ∙ ap (λ s. links_of s b q.rows q.root (target b (base q.start))) same ∙ i.1.2
+leads_one_way q b f g xs ys h i = (one_way q b f g xs ys h i).1
 
 -- two reports count the same tree
 one_report : (q : Question) (b : List ℕ) (r s : Report) → Reports q b r → Reports q b s → r ≡ s

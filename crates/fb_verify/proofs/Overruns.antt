@@ -56,16 +56,11 @@ module _ (c : Checks) (b : List ℕ) (S : Rows) where
       × (kids_cost earlier c b S t fs + (own_reads b t g + elements_cost ys c b S (entries b S t g)) ≤ kids_cost kids c b S t fs)
   unfolding FieldsUnfold kids_length kids_size kids_depth kids_cost
   kids_at no_kids (kid ys kids) t (f ∷ fs) g h e s =
-      let i : f ≡ g = cc in
-      let cheap : own_reads b t g + elements_cost ys c b S (entries b S t g) ≤ own_reads b t f + elements_cost ys c b S (entries b S t f) + kids_cost kids c b S t fs =
-      subst (λ x. own_reads b t x + elements_cost ys c b S (entries b S t x) ≤ own_reads b t f + elements_cost ys c b S (entries b S t f) + kids_cost kids c b S t fs) i (omega arith) in
-      (ys, subst (λ x. IsField c b S t x) i h.0, subst (λ x. ElementsUnfold ys c b S (entries b S t x)) i h.1, omega arith, omega arith, omega (arith, cheap))
+      let same : g ≡ f = cc in
+      rw same (ys, h.0, h.1, omega arith, omega arith, omega arith)
   kids_at (kid xs earlier) (kid ys kids) t (f ∷ fs) g h e s =
       let r = kids_at earlier kids t fs g h.2 e.2 s in
-      let same = one_elements xs ys (entries b S t f) e.1 h.1 in
-      let i : elements_size xs ≡ elements_size ys = ap elements_size same in
-      let j : elements_cost xs c b S (entries b S t f) ≡ elements_cost ys c b S (entries b S t f) = ap (λ z. elements_cost z c b S (entries b S t f)) same in
-      (r.0, r.1, r.2, omega (arith, r.3), omega (arith, r.4), omega (arith, r.5, j))
+      rw (one_elements xs ys (entries b S t f) e.1 h.1) (r.0, r.1, r.2, omega (arith, r.3), omega (arith, r.4), omega (arith, r.5))
   kids_at earlier kids t fs g h e s = absurd (grind arith)
 
   -- what the element under check has in the tree
@@ -74,15 +69,11 @@ module _ (c : Checks) (b : List ℕ) (S : Rows) where
       × (elements_cost before c b S xs + (x.reads + lead_reads x.lead + element_cost y c b S) ≤ elements_cost ys c b S xs)
   unfolding ElementsUnfold elements_length elements_size elements_depth elements_cost
   elements_at no_elements (element y ys) (z ∷ zs) x h e s =
-      let i : z ≡ x = cc in
-      let cheap : x.reads + lead_reads x.lead ≤ z.reads + lead_reads z.lead = subst (λ v. v.reads + lead_reads v.lead ≤ z.reads + lead_reads z.lead) i (omega arith) in
-      (y, subst (λ v. ElementUnfolds y c b S v.place v.lead) i h.0, omega arith, omega arith, omega (arith, cheap))
+      let same : x ≡ z = cc in
+      rw same (y, h.0, omega arith, omega arith, omega arith)
   elements_at (element v before) (element y ys) (z ∷ zs) x h e s =
       let r = elements_at before ys zs x h.1 e.1 s in
-      let same = one_element v y z.place z.lead e.0 h.0 in
-      let i : element_size v ≡ element_size y = ap element_size same in
-      let j : element_cost v c b S ≡ element_cost y c b S = ap (λ u. element_cost u c b S) same in
-      (r.0, r.1, omega (arith, r.2), omega (arith, r.3), omega (arith, r.4, j))
+      rw (one_element v y z.place z.lead e.0 h.0) (r.0, r.1, omega (arith, r.2), omega (arith, r.3), omega (arith, r.4))
   elements_at before ys xs x h e s = absurd (grind arith)
 
   -- an element that leads to a table is that table's tree

@@ -10,9 +10,8 @@ use Rattle.fb_verify.specs.OffsetRows.{TypeFits, TypesFit, IsTyped}
 use Rattle.fb_verify.specs.Fields.{IsPresent, IsPresentOrAbsent, IsField, type_place}
 
 pub get_take : {A : Type 0} (xs : List A) (m n : ℕ) → m < n → slice_get (take n xs) m ≡ slice_get xs m
-get_take [] m zero h = refl
+get_take xs m zero h = absurd (omega arith)
 get_take [] m (suc n) h = refl
-get_take (x ∷ xs) m zero h = absurd (omega arith)
 get_take (x ∷ xs) zero (suc n) h = refl
 get_take (x ∷ xs) (suc m) (suc n) h = get_take xs m n (omega arith)
 
@@ -35,23 +34,17 @@ module _ (c : Checks) (b : List ℕ) (S : Rows) (t : ℕ) where
     types_at : (kind : Kind) (h : HasTypeField fs i o kind) (q : ℕ) → type_place b t o ≡ Some q → IsPresent c b S t h.field q kind
     types_at kind h q e = let s : o - 2 ≡ (h.field).slot = omega (arith, h.below) in present h.field q kind (met kind h) (rw s at e) h.kind_is
 
-    type_fits : HasTypeField fs i o (Scalar UType) → TypeFits b t o
-    type_fits h = record {
+    pub typed_by : (kind : Kind) → IsTypedIn fs i o kind → IsTyped b t o kind
+    typed_by (Union e) h = record {
       slot = omega (arith, h.below);
       within = λ q e. omega (arith, h.size_is, (types_at (Scalar UType) h q e).value.within);
     }
-
-    types_fit : HasTypeField fs i o (Scalars UType) → TypesFit b t o
-    types_fit h = record {
+    typed_by (Unions e) h = record {
       slot = omega (arith, h.below);
       offset = λ q e. (types_at (Scalars UType) h q e).offset.within;
       count = λ q e. (types_at (Scalars UType) h q e).vector.count;
       types = λ q e. let v = (types_at (Scalars UType) h q e).vector.within in let one = h.size_is in omega (arith, rw one at v);
     }
-
-    pub typed_by : (kind : Kind) → IsTypedIn fs i o kind → IsTyped b t o kind
-    typed_by (Union e) h = type_fits h
-    typed_by (Unions e) h = types_fit h
     typed_by kind h = tt
 
   -- those of fields that are passed
