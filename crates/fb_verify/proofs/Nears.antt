@@ -19,10 +19,6 @@ module _ (c : Checks) (b : List ℕ) where
   unfolding offset_failure
   offset_most p = grind (arith, nat_tests)
 
-  head_most : (t : ℕ) → AtMost 2 (head_failure c b t)
-  unfolding head_failure
-  head_most t = grind (arith, nat_tests)
-
   string_most : (s : ℕ) → AtMost 2 (string_failure c b s)
   unfolding string_failure
   string_most s = grind (arith, nat_tests)
@@ -42,33 +38,21 @@ module _ (c : Checks) (b : List ℕ) where
   present_most : (S : Rows) (t : ℕ) (f : Live) (p : ℕ) (kind : Kind) → AtMost 5 (present_failure c b S t f p kind)
   present_most S t f p kind = grind (arith, nat_tests, if_present_few, offset_most, vector_most, inline_most, table_most)
 
-  own_most : (S : Rows) (t : ℕ) (f : Live) → AtMost 6 (own_failure c b S t f)
-  unfolding own_failure
-  own_most S t f = grind (arith, nat_tests, slot_few, present_most)
-
-  element_most : (x : Entry) → AtMost (x.reads + lead_reads x.lead) (element_failure c b x)
-  unfolding element_failure
-  element_most x = grind (arith, offset_most, string_most, inline_most)
-
-  start_most : (start : Start) (ident : Ident) → AtMost (start_reads start ident) (start_failure c b start ident)
-  unfolding start_failure prefix_failure ident_failure
-  start_most start ident = grind (arith, nat_tests, offset_most)
-
   -- the reads of a fault
   module _ (S : Rows) (L : Bounds) (w : Way) (f : Fault) where
     pub start_told : (start : Start) (ident : Ident) → IsFalseAt c b S L (in_start start ident) w f → f.reads ≤ w.paid + start_reads start ident
-    unfolding fault_at
-    start_told start ident h = grind (arith, start_most)
+    unfolding fault_at start_failure prefix_failure ident_failure
+    start_told start ident h = grind (arith, nat_tests, offset_most)
 
     -- it comes before any read of a head, or after one more table was allowed
     pub head_told : (k t : ℕ) → IsFalseAt c b S L (in_head k t) w f → (f.reads ≤ w.paid) ⊎ ((w.passed < L.tables) × (f.reads ≤ w.paid + 3))
-    unfolding fault_at
-    head_told k t h = grind (arith, nat_tests, head_most, head_few)
+    unfolding fault_at head_failure
+    head_told k t h = grind (arith, nat_tests, head_few)
 
     pub own_told : (t : ℕ) (g : Live) → IsFalseAt c b S L (in_field t g) w f → f.reads ≤ w.paid + 6
-    unfolding fault_at
-    own_told t g h = grind (arith, own_most, own_few)
+    unfolding fault_at own_failure
+    own_told t g h = grind (arith, nat_tests, slot_few, present_most, own_few)
 
     pub element_told : (x : Entry) → IsFalseAt c b S L (in_element x) w f → f.reads ≤ w.paid + (x.reads + lead_reads x.lead)
-    unfolding fault_at
-    element_told x h = grind (arith, element_most)
+    unfolding fault_at element_failure
+    element_told x h = grind (arith, offset_most, string_most, inline_most)

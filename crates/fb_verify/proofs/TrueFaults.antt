@@ -56,10 +56,6 @@ module _ (c : Checks) (b : List ℕ) where
     present_false : (p : ℕ) (kind : Kind) → Tells (PresentIsFalse c b t g p kind) (present_failure c b S t g p kind)
     present_false p kind = grind (arith, nat_tests, vector_field_false, inline_false, past_false)
 
-    own_false : Tells (PlacedIsFalse c b t g (field_place b t g.slot)) (own_failure c b S t g)
-    unfolding own_failure
-    own_false = grind (arith, nat_tests, present_false)
-
   -- elements
 
   element_false : (x : Entry) → Tells (LeadIsFalse c b x.place x.lead) (element_failure c b x)
@@ -95,8 +91,8 @@ module _ (c : Checks) (b : List ℕ) (S : Rows) (L : Bounds) (w : Way) (f : Faul
   head_fault k t h = grind (arith, nat_tests, are_too_many, head_false)
 
   own_fault : (t : ℕ) (g : Live) → IsFalseAt c b S L (in_field t g) w f → IsBy (PlacedIsFalse c b t g (field_place b t g.slot) f.reason f.at) t × (f.reason ≢ TooManyTables)
-  unfolding fault_at
-  own_fault t g h = grind (arith, are_too_many, own_false, not_placed)
+  unfolding fault_at own_failure
+  own_fault t g h = grind (arith, nat_tests, are_too_many, present_false, not_placed)
 
   element_fault : (x : Entry) → IsFalseAt c b S L (in_element x) w f → IsBy (LeadIsFalse c b x.place x.lead f.reason f.at) x.place × (f.reason ≢ TooManyTables)
   unfolding fault_at
