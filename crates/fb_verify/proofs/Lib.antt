@@ -20,7 +20,6 @@ pub mod Stopping
 pub mod Verdicts
 pub mod Prices
 pub mod Shown
-pub mod ShownLinks
 pub mod TrueFaults
 pub mod Walking
 pub mod NextField

@@ -1,29 +1,25 @@
 -- The examples, by computing the chains of tests.
-use Rattle.std.proofs.Common.{◌≡◌, ℕ, List, take, refl, rules, None, Some}
+use Rattle.std.proofs.Common.{◌≡◌, ℕ, List, [], ◌∷◌, take, refl, rules, inl, inr, None, Some}
 use Rattle.std.specs.Prelude.{slice_get}
 use Rattle.fb_bytes.specs.Word.{word}
 use Rattle.fb_schema.specs.{Rows.Rows, Live.Live, Live.live_fields, Kinds.shape_of, Kinds.kind_of, Kinds.base_types, Members.member_of}
 use Rattle.fb_verify.specs.declared.{checks.Checks.Checks, start.Start.Start, start.Ident.Ident}
 use Rattle.fb_verify.specs.Facts.{IsTable, IsOffset, IsString, IsInline}
 use Rattle.fb_verify.specs.{WellFormed.IsStart, Unfolds.Unfolds, Unfolds.FieldsUnfold, Unfolds.ElementsUnfold, Cost.own_reads, Cost.tree_cost}
-use Rattle.fb_verify.specs.Samples.{published_checks, nodes, shared}
 use Rattle.fb_verify.specs.Places.{is_aligned, has_vtable, vtable, field_place, ends_in_table}
 use Rattle.fb_verify.specs.Fields.{IsField, Entry, entries, row, union_row}
-use Rattle.fb_verify.specs.Tree.{Kids, Elements, size, depth, kids_length, elements_length}
+use Rattle.fb_verify.specs.Tree.{Tree, node, Kids, no_kids, no_elements, element, Elements, table, size, depth, kids_length, elements_length}
 use Rattle.fb_verify.specs.Order.{own_failure, element_failure, start_failure, prefix_failure, ident_failure, head_failure, offset_failure, string_failure, vector_failure, inline_failure, table_failure}
-use Rattle.fb_verify.specs.Stops.{fault_at, IsLink, IsInField, IsTrail}
-use Rattle.fb_verify.specs.Examples.{MonsterUnfolds, OneMemberUnfolds, TwoMembersUnfold, EveryKindUnfolds, last, middle, OpenNameStops, NoNameStops, ThreeValuesStop, CrookedStructStops, SeventhTableStops, ThirdLevelStops, OddVtableStops, ShortTableStops, FirstReadStops, LastTextStops, SeventhHeadStops, LastFieldStops, BudgetsByLength}
+use Rattle.fb_verify.specs.Stops.{fault_at, IsLink, IsInField, Trail, at_head, at_field, at_own, at_element, at_lead, through, IsTrail}
+use Rattle.fb_verify.specs.{Links.links_of, Links.links_in_field, Links.links_in_element, LinkExamples.LinksFound}
+use Rattle.fb_verify.specs.Samples.{published_checks, nodes, shared}
+use Rattle.fb_verify.specs.Examples.{last, middle, kids_of, one_field}
 use Rattle.fb_verify.proofs.Chains.{start_none, head_none, own_none, offset_none, string_none, inline_none}
 
--- all that is computed
+-- all that is computed, with the facts of fields
 unfoldable pub computing : ℕ
-unfolding word live_fields kind_of shape_of base_types member_of is_aligned has_vtable vtable field_place ends_in_table entries row union_row size depth Unfolds own_reads tree_cost own_failure element_failure start_failure prefix_failure ident_failure head_failure offset_failure string_failure vector_failure inline_failure table_failure IsTrail fault_at kids_length elements_length
+unfolding word IsField live_fields kind_of shape_of base_types member_of is_aligned has_vtable vtable field_place ends_in_table entries row union_row size depth Unfolds own_reads tree_cost own_failure element_failure start_failure prefix_failure ident_failure head_failure offset_failure string_failure vector_failure inline_failure table_failure IsTrail fault_at kids_length elements_length
 computing = 0
-
--- with the facts of fields
-unfoldable pub showing : ℕ
-unfolding computing IsField
-showing = 0
 
 pub ruleset shown = (rules, start_none, head_none, own_none, offset_none, string_none, inline_none)
 
@@ -60,9 +56,37 @@ among h passed next = record { own = (own_none _ _ _ _ _).0 h; passed = passed; 
 -- the subtables of `shared`
 
 pub last_unfolds : Unfolds last published_checks shared nodes 0 40
-unfolding showing
+unfolding computing
 last_unfolds = search shown
 
 pub middle_unfolds : Unfolds middle published_checks shared nodes 0 28
-unfolding showing
+unfolding computing
 middle_unfolds = search shown
+
+-- links: all that is computed
+unfoldable linking : ℕ
+unfolding computing links_of links_in_field links_in_element
+linking = 0
+
+-- the table at 60, which the list has twice
+empty : Tree
+empty = node 2 60 (kids_of (no_elements ∷ []))
+
+twice : Elements
+twice = element (table empty) (element (table empty) no_elements)
+
+-- past the type of the union and past these tables, on from the third
+to_third : Trail → Trail
+to_third s = at_field one_field (at_element no_elements (through (at_field no_kids (at_element twice (through s)))))
+
+pub links_found : LinksFound
+unfolding linking empty twice to_third
+links_found = record {
+  at_the_start = inl (search rules, refl);
+  at_the_root = inr (search shown, (at_head, search rules, refl));
+  in_a_type = inr (search shown, (at_field no_kids at_own, (_, past refl tt refl, search rules), refl));
+  in_the_head_of_a_vector = inr (search shown, (at_field no_kids at_own, (_, past refl tt refl, search rules), refl));
+  in_a_third_table = inr (search shown, (to_third at_head, (_, past refl (search shown) refl, (_, among refl tt refl, (_, refl, search shown, (_, past refl tt refl, (_, among refl (search shown) refl, (_, refl, search shown, search rules)))))), refl));
+  in_its_field = inr (search shown, (to_third (at_field no_kids (at_element no_elements at_lead)), (_, past refl (search shown) refl, (_, among refl tt refl, (_, refl, search shown, (_, past refl tt refl, (_, among refl (search shown) refl, (_, refl, search shown, (_, past refl tt refl, (_, among refl tt refl, search rules)))))))), refl));
+  one_table_too_many = inr (search shown, (to_third at_head, (_, past refl (search shown) refl, (_, among refl tt refl, (_, refl, search shown, (_, past refl tt refl, (_, among refl (search shown) refl, (_, refl, search shown, search rules)))))), refl));
+}

@@ -3,7 +3,7 @@
 ghost use Rattle.fb_verify.specs.Examples.{MonsterUnfolds, OneMemberUnfolds, TwoMembersUnfold, EveryKindUnfolds, OpenNameStops, NoNameStops, ThreeValuesStop, CrookedStructStops, SeventhTableStops, ThirdLevelStops, OddVtableStops, ShortTableStops, FirstReadStops, LastTextStops, SeventhHeadStops, LastFieldStops, BudgetsByLength};
 
 /// Buffers with their trees, and the tables, depth and reads of these.
-#[tactic(auto, using(crate::proofs::Shown::shown), unfolding(crate::proofs::Shown::showing))]
+#[tactic(auto, using(crate::proofs::Shown::shown), unfolding(crate::proofs::Shown::computing))]
 pub fn trees()
     ensures a_number_and_a_text { MonsterUnfolds }
     ensures a_union_of_a_table { OneMemberUnfolds }

@@ -1,9 +1,9 @@
 use Rattle.std.proofs.Common.{refl, rules}
-use Rattle.fb_verify.proofs.Shown.{showing, shown, past, among, last_unfolds, middle_unfolds}
+use Rattle.fb_verify.proofs.Shown.{computing, shown, past, among, last_unfolds, middle_unfolds}
 use Rattle.fb_verify.proofs.examples.faults.Goals as goal
 
 pub returns : goal.returns
-unfolding showing
+unfolding computing
 returns c = record {
   no_terminator = (search shown, (_, past refl (search shown) refl, (_, among refl tt refl, search rules)));
   a_zero_offset = (search shown, (_, past refl (search shown) refl, (_, among refl tt refl, search rules)));
