@@ -5,7 +5,6 @@ pub mod Overruns
 pub mod OneFault
 pub mod LastLinks
 pub mod Refusals
-pub mod Nears
 pub mod Price
 pub mod Pushes
 pub mod Steps

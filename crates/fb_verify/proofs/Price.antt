@@ -1,25 +1,73 @@
--- What a tree, the way to a fault, and so a whole buffer cost at most.
-use Rattle.std.proofs.Common.{◌≡◌, ℕ, zero, suc, ◌+◌, ◌-◌, ◌*◌, ◌≤◌, List, [], ◌∷◌, length, take, refl, ap, subst, arith, Option, Some, inl, inr, mul-le-mul_left, mul-le-mul_right, mul_comm, length-take}
+-- What a tree, the way to a fault, and so a whole buffer cost at most: a fault comes soon after what was asked before it.
+use Rattle.std.proofs.Common.{◌≡◌, ℕ, zero, suc, ◌+◌, ◌-◌, ◌*◌, ◌<◌, ◌≤◌, ◌⊎◌, List, [], ◌∷◌, length, take, refl, ap, arith, Option, Some, None, inl, inr, mul-le-mul_left, mul-le-mul_right, mul_comm, length-take}
 use Rattle.std.specs.Prelude.{slice_get}
-use Rattle.std.proofs.lemmas.Option.{slice_get_within}
-use Rattle.fb_bytes.specs.Word.{word}
+use Rattle.std.proofs.lemmas.{Option.slice_get_within, Bool.Decides.nat_tests}
 use Rattle.fb_schema.specs.declared.kinds.Kind.{Kind}
-use Rattle.fb_schema.specs.{Rows.Rows, Live.Live, Live.live_fields, Live.widest, Members.member_of}
+use Rattle.fb_schema.specs.{Rows.Rows, Live.Live, Live.live_fields, Live.widest}
 use Rattle.fb_schema.proofs.LookLemmas.{within_widest}
 use Rattle.fb_verify.specs.declared.{checks.Checks.Checks, fault.Fault.Fault, start.Start.Start, start.Ident.Ident}
-use Rattle.fb_verify.specs.{Bounds.Bounds, Question.Question, Places.target}
-use Rattle.fb_verify.specs.Fields.{IsPresent, IsField, Lead, to_table, lead_of, Entry, row, union_row, entries_of, entries}
+use Rattle.fb_verify.specs.{Bounds.Bounds, Places.target}
+use Rattle.fb_verify.specs.Fields.{IsPresent, IsField, Lead, to_table, Entry, row, union_row, entries_of, entries}
 use Rattle.fb_verify.specs.Tree.{Tree, node, Kids, no_kids, kid, Elements, no_elements, element, Element, leaf, table, size, kids_size, elements_size, element_size, kids_length, elements_length}
 use Rattle.fb_verify.specs.Unfolds.{Unfolds, FieldsUnfold, ElementsUnfold, ElementUnfolds}
 use Rattle.fb_verify.specs.Cost.{present_reads, own_reads, lead_reads, tree_cost, kids_cost, elements_cost, element_cost}
 use Rattle.fb_verify.specs.{MostReads.within_budget, MostReads.most_reads, Laws.CostIsBounded, Laws.ReadsAreBounded}
-use Rattle.fb_verify.specs.WellFormed.{base, start_reads, IsWellFormed, IsWithin, cost}
+use Rattle.fb_verify.specs.WellFormed.{base, start_reads, cost}
+use Rattle.fb_verify.specs.Order.{Failure, prefix_failure, ident_failure, offset_failure, start_failure, head_failure, string_failure, vector_failure, inline_failure, table_failure, present_failure, own_failure, element_failure}
 use Rattle.fb_verify.specs.Way.{Way, way_to_start, way_to_root, way_to_field, way_to_element, way_to_table}
-use Rattle.fb_verify.specs.Stops.{Trail, at_head, at_field, FieldTrail, at_own, at_element, ElementTrail, at_lead, through, IsTrail, IsFieldTrail, IsElementTrail, Stops}
-use Rattle.fb_verify.proofs.Budgets.{no_reads, near}
-use Rattle.fb_verify.proofs.{Frames.lead_few, Frames.if_present_few, Frames.head_few, Frames.slot_few, Linked.row_length, Linked.union_row_length}
-use Rattle.fb_verify.proofs.{Overruns.kids_cost_take, Overruns.elements_cost_take, Nears.start_told, Nears.head_told, Nears.own_told, Nears.element_told}
+use Rattle.fb_verify.specs.Stops.{in_start, in_head, in_field, in_element, fault_at, IsFalseAt, Trail, at_head, at_field, FieldTrail, at_own, at_element, ElementTrail, at_lead, through, IsTrail, IsFieldTrail, IsElementTrail}
+use Rattle.fb_verify.proofs.{Budgets.no_reads, Budgets.near, Overruns.kids_cost_take, Overruns.elements_cost_take, Linked.row_length, Linked.union_row_length}
+use Rattle.fb_verify.proofs.Frames.{lead_few, if_present_few, own_few, head_few, slot_few}
 
+-- no failure of the chain comes after more reads
+abbrev AtMost : ℕ → Option Failure → Type 0
+AtMost n None = Unit {0}
+AtMost n (Some e) = e.reads ≤ n
+
+module _ (c : Checks) (b : List ℕ) where
+  offset_most : (p : ℕ) → AtMost 1 (offset_failure c b p)
+  unfolding offset_failure
+  offset_most p = grind (arith, nat_tests)
+
+  string_most : (s : ℕ) → AtMost 2 (string_failure c b s)
+  unfolding string_failure
+  string_most s = grind (arith, nat_tests)
+
+  vector_most : (v size align : ℕ) → AtMost 1 (vector_failure c b v size align)
+  unfolding vector_failure
+  vector_most v size align = grind (arith, nat_tests)
+
+  inline_most : (p size align : ℕ) → AtMost 0 (inline_failure c b p size align)
+  unfolding inline_failure
+  inline_most p size align = grind (arith, nat_tests)
+
+  table_most : (t p n : ℕ) → AtMost 0 (table_failure c b t p n)
+  unfolding table_failure
+  table_most t p n = grind (arith, nat_tests)
+
+  present_most : (S : Rows) (t : ℕ) (f : Live) (p : ℕ) (kind : Kind) → AtMost 5 (present_failure c b S t f p kind)
+  present_most S t f p kind = grind (arith, nat_tests, if_present_few, offset_most, vector_most, inline_most, table_most)
+
+  -- the reads of a fault
+  module _ (S : Rows) (L : Bounds) (w : Way) (f : Fault) where
+    start_told : (start : Start) (ident : Ident) → IsFalseAt c b S L (in_start start ident) w f → f.reads ≤ w.paid + start_reads start ident
+    unfolding fault_at start_failure prefix_failure ident_failure
+    start_told start ident h = grind (arith, nat_tests, offset_most)
+
+    -- it comes before any read of a head, or after one more table was allowed
+    head_told : (k t : ℕ) → IsFalseAt c b S L (in_head k t) w f → (f.reads ≤ w.paid) ⊎ ((w.passed < L.tables) × (f.reads ≤ w.paid + 3))
+    unfolding fault_at head_failure
+    head_told k t h = grind (arith, nat_tests, head_few)
+
+    own_told : (t : ℕ) (g : Live) → IsFalseAt c b S L (in_field t g) w f → f.reads ≤ w.paid + 6
+    unfolding fault_at own_failure
+    own_told t g h = grind (arith, nat_tests, slot_few, present_most, own_few)
+
+    element_told : (x : Entry) → IsFalseAt c b S L (in_element x) w f → f.reads ≤ w.paid + (x.reads + lead_reads x.lead)
+    unfolding fault_at element_failure
+    element_told x h = grind (arith, offset_most, string_most, inline_most)
+
+-- the start
 start_price : (start : Start) (ident : Ident) → start_reads start ident ≤ 3
 start_price start ident = grind arith
 

@@ -12,8 +12,7 @@ use Rattle.fb_verify.specs.Tree.{Tree, node, Kids, no_kids, no_elements, element
 use Rattle.fb_verify.specs.Order.{own_failure, element_failure, start_failure, prefix_failure, ident_failure, head_failure, offset_failure, string_failure, vector_failure, inline_failure, table_failure}
 use Rattle.fb_verify.specs.Stops.{fault_at, IsLink, IsInField, Trail, at_head, at_field, at_own, at_element, at_lead, through, IsTrail}
 use Rattle.fb_verify.specs.{Links.links_of, Links.links_in_field, Links.links_in_element, LinkExamples.LinksFound}
-use Rattle.fb_verify.specs.Samples.{published_checks, nodes, shared}
-use Rattle.fb_verify.specs.Examples.{last, middle, kids_of, one_field}
+use Rattle.fb_verify.specs.Examples.{kids_of, one_field}
 use Rattle.fb_verify.proofs.Chains.{start_none, head_none, own_none, offset_none, string_none, inline_none}
 
 -- all that is computed, with the facts of fields
@@ -52,16 +51,6 @@ past h passed next = record { head = (head_none _ _ _).0 h; passed = passed; nex
 pub among : {c : Checks} {b : List ℕ} {S : Rows} {t : ℕ} {g : Live} {before : Elements} {x : Entry} → own_failure c b S t g ≡ None → ElementsUnfold before c b S (take (elements_length before) (entries b S t g))
     → slice_get (entries b S t g) (elements_length before) ≡ Some x → IsInField c b S t g before x
 among h passed next = record { own = (own_none _ _ _ _ _).0 h; passed = passed; next = next }
-
--- the subtables of `shared`
-
-pub last_unfolds : Unfolds last published_checks shared nodes 0 40
-unfolding computing
-last_unfolds = search shown
-
-pub middle_unfolds : Unfolds middle published_checks shared nodes 0 28
-unfolding computing
-middle_unfolds = search shown
 
 -- links: all that is computed
 unfoldable linking : ℕ
