@@ -69,22 +69,8 @@ module _ (c : Checks) (b : List ℕ) (S : Rows) (t p : ℕ) (g : Live) (left : �
     pub count : CountStands b p kind
     pub types : (j : ℕ) → j < word_count b p kind → IsTyped b t g.slot kind → TypeStands b t g.slot j kind
 
-  vector_count : IsVectorField c b t p 4 4 → CountIsIn b p
-  vector_count h = record { offset = (h.offset).within; count = (h.vector).count }
-
-  union_words : (member : Option Kind) → left < length (union_entry S p member) → length (union_entry S p member) ≡ 1
-  union_words member more = grind arith
-
   stands_by : (kind : Kind) → IsPresent c b S t g p kind → left < length (entries_of b S t g p kind) → Stands kind
-  stands_by (Union e) h more = record { words = union_words (member_of S e (union_type b (type_place b t g.slot))) more; count = tt; types = λ j l typed. typed }
-  stands_by Texts h more = record { words = row_length b S to_string (target b p + 4) (word b (target b p) 4); count = vector_count h; types = λ j l typed. tt }
-  stands_by (Tables k) h more = record { words = row_length b S (to_table k) (target b p + 4) (word b (target b p) 4); count = vector_count h; types = λ j l typed. tt }
-  stands_by (Unions e) h more = record {
-    words = union_row_length b S e (types_begin b (type_place b t g.slot)) (target b p + 4) (word b (target b p) 4);
-    count = vector_count h.field;
-    types = λ j l typed. (typed, omega (arith, l, h.counts_agree));
-  }
-  stands_by kind h more = search rules
+  stands_by kind h more = grind (arith, row_length, union_row_length)
 
 -- The same of the field of a frame that is linked.
 module _ {c : Checks} {b : List ℕ} {S : Rows} {fr : Frame} (h : IsLinked c b S fr) (g : Live) (found : slice_get (live_fields S (fr.table).object) (fr.next - 1) ≡ Some g) where
