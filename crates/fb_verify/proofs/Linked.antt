@@ -78,14 +78,12 @@ module _ {c : Checks} {b : List ℕ} {S : Rows} {fr : Frame} (h : IsLinked c b S
   t = (fr.table).at
 
   is_field : h.field ≡ g
-  is_field = let e : Some h.field ≡ Some g = sym h.found ∙ found in cc
+  is_field = cc
 
   -- it stands somewhere
   pub is_there : field_place b t g.slot ≡ None → ⊥
   unfolding entries
-  is_there none =
-      let e : entries b S t h.field ≡ [] = ap (λ x. entries b S t x) is_field ∙ ap (entries_at b S t g) none in
-      absurd (omega (arith, h.more, ap length e))
+  is_there none = let same = is_field in grind arith
 
   module _ (p : ℕ) (place : field_place b t g.slot ≡ Some p) where
     words_are : entries b S t h.field ≡ entries_of b S t g p g.kind

@@ -194,12 +194,7 @@ module _ (c : Checks) (b : List ℕ) (S : Rows) where
 
     below_bound : 3 + most * L.tables ≤ 4 + L.tables * (4 + widest S * (8 + length b))
     unfolding most
-    below_bound =
-        let fewer : 7 + length b ≤ 8 + length b = omega arith in
-        let fields = mul-le-mul_left (widest S) fewer in
-        let each : 3 + widest S * (7 + length b) ≤ 4 + widest S * (8 + length b) = omega (arith, fields) in
-        let tables = mul-le-mul_left L.tables each in
-        omega (arith, tables, mul_comm (3 + widest S * (7 + length b)) L.tables)
+    below_bound = omega arith
 
 -- what is near the budget and within a bound is at most their lesser
 lesser : (budget : Option ℕ) (n m : ℕ) → n ≤ m → n ≤ within_budget budget n → n ≤ within_budget budget m
