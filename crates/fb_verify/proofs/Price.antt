@@ -122,17 +122,14 @@ module _ (c : Checks) (b : List ℕ) (S : Rows) where
 
   all : (k : ℕ) → 3 + length (live_fields S k) * (7 + length b) ≤ most
   unfolding most
-  all k = omega (arith, mul-le-mul_right (7 + length b) (within_widest S k))
+  all k = grind (arith, within_widest)
 
   mutual
     unfolding Unfolds FieldsUnfold ElementsUnfold ElementUnfolds tree_cost kids_cost elements_cost element_cost size kids_size elements_size element_size kids_length elements_length row_reads
 
     tree_price : (y : Tree) (k t : ℕ) → Unfolds y c b S k t → tree_cost y c b S ≤ most * size y
     tree_price (node k' t' kids) k t h =
-        let k_is = h.0 in
-        let t_is = h.1 in
-        let r = kids_price kids t (live_fields S k) h.3 in
-        rw (k_is, t_is) (omega (arith, r, all k, head_few c))
+        let r = kids_price kids t (live_fields S k) h.3 in rw (h.0, h.1) (omega (arith, r, all k, head_few c))
 
     kids_price : (kids : Kids) (t : ℕ) (fs : List Live) → FieldsUnfold kids c b S t fs → kids_cost kids c b S t fs ≤ length fs * (7 + length b) + most * kids_size kids
     kids_price no_kids t fs h = omega arith

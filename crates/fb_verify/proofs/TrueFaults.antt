@@ -69,14 +69,6 @@ module _ (c : Checks) (b : List ℕ) where
   unfolding start_failure prefix_failure ident_failure
   start_false start ident = grind (arith, nat_tests, offset_false)
 
--- No test of a place by itself tells that there are too many tables.
-
-not_placed : (c : Checks) (b : List ℕ) (t : ℕ) (g : Live) (place : Option ℕ) (at : ℕ) → PlacedIsFalse c b t g place TooManyTables at → ⊥
-not_placed c b t g place at h = grind arith
-
-not_lead : (c : Checks) (b : List ℕ) (p : ℕ) (lead : Lead) (at : ℕ) → LeadIsFalse c b p lead TooManyTables at → ⊥
-not_lead c b p lead at h = grind arith
-
 -- A fault at the end of a way: it has the way's object and field, and a reason that is true, or there are too many reads.
 module _ (c : Checks) (b : List ℕ) (S : Rows) (L : Bounds) (w : Way) (f : Fault) where
   abbrev IsBy : Type 0 → ℕ → Type 0
@@ -92,11 +84,11 @@ module _ (c : Checks) (b : List ℕ) (S : Rows) (L : Bounds) (w : Way) (f : Faul
 
   own_fault : (t : ℕ) (g : Live) → IsFalseAt c b S L (in_field t g) w f → IsBy (PlacedIsFalse c b t g (field_place b t g.slot) f.reason f.at) t × (f.reason ≢ TooManyTables)
   unfolding fault_at own_failure
-  own_fault t g h = grind (arith, nat_tests, are_too_many, present_false, not_placed)
+  own_fault t g h = grind (arith, nat_tests, are_too_many, present_false)
 
   element_fault : (x : Entry) → IsFalseAt c b S L (in_element x) w f → IsBy (LeadIsFalse c b x.place x.lead f.reason f.at) x.place × (f.reason ≢ TooManyTables)
   unfolding fault_at
-  element_fault x h = grind (arith, are_too_many, element_false, not_lead)
+  element_fault x h = grind (arith, are_too_many, element_false)
 
 -- Along a trail: the fault is at a table that is reached, and where too many tables were opened, this trail opens as
 -- many as are allowed.
