@@ -11,17 +11,17 @@ use Rattle.fb_verify.specs.Tree.{size, depth, Kids, kids_length, Elements, eleme
 use Rattle.fb_verify.specs.Way.{Way, way_to_start, way_to_root, way_to_field, way_to_element, way_to_table, StaysWithin}
 use Rattle.fb_verify.specs.Stops.{Place, in_start, in_head, in_field, in_element, fault_at, IsFalseAt, Trail, at_head, at_field, FieldTrail, at_own, at_element, ElementTrail, at_lead, through, IsLink, IsInField, IsTrail, IsFieldTrail, IsElementTrail, Stops}
 use Rattle.fb_verify.proofs.{Budgets.fewer_reads, Budgets.not_both, Typed.get_take}
-use Rattle.fb_verify.proofs.Overruns.{one_tree, one_kids, one_elements, some_same, start_overruns, head_overruns, own_overruns, no_lead_fault, kids_at, elements_at, not_past, field_overruns, element_overruns, kids_cost_take, elements_cost_take, stops_nowhere}
+use Rattle.fb_verify.proofs.Overruns.{one_tree, one_kids, one_elements, start_overruns, head_overruns, own_overruns, no_lead_fault, kids_at, elements_at, not_past, field_overruns, element_overruns, kids_cost_take, elements_cost_take, stops_nowhere}
 
 -- lists
 
 to_same : {A : Type 0} {x y : A} (xs : List A) (m n : ℕ) → m ≡ n → slice_get xs m ≡ Some x → slice_get xs n ≡ Some y → x ≡ y
-to_same xs m n e h g = some_same (sym h ∙ ap (slice_get xs) e ∙ g)
+to_same xs m n e h g = cc
 
 module _ (c : Checks) (b : List ℕ) (S : Rows) (L : Bounds) where
   -- one place has one fault
   same_fault : (p : Place) (w : Way) (f g : Fault) → IsFalseAt c b S L p w f → IsFalseAt c b S L p w g → f ≡ g
-  same_fault p w f g h i = some_same (sym h.first ∙ i.first)
+  same_fault p w f g h i = cc
 
   -- the way of a trail stays within the limits from the beginning
   begins_within : (v w : Way) → StaysWithin v L → w.passed ≤ v.passed → w.deepest ≤ v.deepest → w.paid - w.leading ≤ v.paid - v.leading → StaysWithin w L
@@ -150,10 +150,7 @@ leads_one_way q b f g xs ys h i = (one_way q b f g xs ys h i).1
 one_report : (q : Question) (b : List ℕ) (r s : Report) → Reports q b r → Reports q b s → r ≡ s
 one_report q b r s g h =
     let same : g.found ≡ h.found = one_tree q.checks b q.rows g.found h.found q.root (target b (base q.start)) g.well_formed.unfolds h.well_formed.unfolds in
-    let tables : r.tables ≡ s.tables = g.tables ∙ ap size same ∙ sym h.tables in
-    let levels : r.depth ≡ s.depth = g.depth ∙ ap depth same ∙ sym h.depth in
-    let reads : r.reads ≡ s.reads = g.reads ∙ ap (cost q b) same ∙ sym h.reads in
-    λ i. record { tables = tables i; depth = levels i; reads = reads i }
+    grind arith
 
 pub one_verdict : HasOneVerdict
 one_verdict q b (Ok r) (Ok s) g h = ap Ok (one_report q b r s g h)

@@ -17,9 +17,6 @@ use Rattle.fb_verify.specs.Stops.{in_start, in_head, in_field, in_element, fault
 use Rattle.fb_verify.proofs.Budgets.{are_too_many, not_both, more_reads}
 use Rattle.fb_verify.proofs.Chains.{start_none, head_none, own_none, element_passes, through_passes}
 
-pub some_same : {A : Type 0} {x y : A} → Some x ≡ Some y → x ≡ y
-some_same h = cc
-
 module _ (c : Checks) (b : List ℕ) (S : Rows) where
   mutual
     unfolding Unfolds FieldsUnfold ElementsUnfold ElementUnfolds

@@ -39,9 +39,6 @@ offset h = (offset_none _ _ _).0 h
 pub string : {c : Checks} {b : List ℕ} {s : ℕ} → string_failure c b s ≡ None → IsString c b s
 string h = (string_none _ _ _).0 h
 
-pub inline : {c : Checks} {b : List ℕ} {p n a : ℕ} → inline_failure c b p n a ≡ None → IsInline c b p n a
-inline h = (inline_none _ _ _ _ _).0 h
-
 -- a trail goes on past fields of a table, and past elements of a field
 
 pub past : {c : Checks} {b : List ℕ} {S : Rows} {k t : ℕ} {earlier : Kids} {g : Live} → head_failure c b t ≡ None → FieldsUnfold earlier c b S t (take (kids_length earlier) (live_fields S k))
