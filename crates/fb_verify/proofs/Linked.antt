@@ -91,7 +91,7 @@ module _ {c : Checks} {b : List ℕ} {S : Rows} {fr : Frame} (h : IsLinked c b S
     words_are = ap (λ x. entries b S t x) is_field ∙ ap (entries_at b S t g) place
 
     own : IsField c b S t g
-    own = subst (λ x. IsField c b S t x) is_field h.own
+    own = rw is_field at h.own
 
     pub stands : Stands c b S t p g (fr.row).left g.kind
     stands = stands_by c b S t p g (fr.row).left g.kind (present c b S t g p g.kind own place refl) (omega (arith, h.more, ap length words_are))

@@ -15,9 +15,6 @@ use Rattle.fb_verify.proofs.Overruns.{one_tree, one_kids, one_elements, start_ov
 
 -- lists
 
-to_same : {A : Type 0} {x y : A} (xs : List A) (m n : ℕ) → m ≡ n → slice_get xs m ≡ Some x → slice_get xs n ≡ Some y → x ≡ y
-to_same xs m n e h g = cc
-
 module _ (c : Checks) (b : List ℕ) (S : Rows) (L : Bounds) where
   -- one place has one fault
   same_fault : (p : Place) (w : Way) (f g : Fault) → IsFalseAt c b S L p w f → IsFalseAt c b S L p w g → f ≡ g
@@ -87,7 +84,7 @@ module _ (c : Checks) (b : List ℕ) (S : Rows) (L : Bounds) where
         elim (cases_order (kids_length e1) (kids_length e2)) [
           | inl same ↦
               let e : e2 ≡ e1 = one_kids c b S e2 e1 t (take (kids_length e2) (live_fields S k)) i.1.passed (rw same at h.1.passed) in
-              let next = to_same (live_fields S k) (kids_length e2) (kids_length e1) (sym same) i.1.next h.1.next in
+              let next : i.0 ≡ h.0 = cc in
               let on = one_field_fault s r t h.0 (way_to_field c b S k t e1 h.0 w) f g h.2 (rw (e, next) at i.2) in
               (ap (at_field e1) on.0 ∙ ap (λ y. at_field y r) (sym e), on.1)
           | inr o ↦ elim o [
@@ -104,7 +101,7 @@ module _ (c : Checks) (b : List ℕ) (S : Rows) (L : Bounds) where
         elim (cases_order (elements_length z1) (elements_length z2)) [
           | inl same ↦
               let e : z2 ≡ z1 = one_elements c b S z2 z1 (take (elements_length z2) (entries b S t x)) i.1.passed (rw same at h.1.passed) in
-              let next = to_same (entries b S t x) (elements_length z2) (elements_length z1) (sym same) i.1.next h.1.next in
+              let next : i.0 ≡ h.0 = cc in
               let on = one_element_fault s r h.0 (way_to_element c b S t x z1 w) f g h.2 (rw (e, next) at i.2) in
               (ap (at_element z1) on.0 ∙ ap (λ y. at_element y r) (sym e), on.1)
           | inr o ↦ elim o [
@@ -118,8 +115,8 @@ module _ (c : Checks) (b : List ℕ) (S : Rows) (L : Bounds) where
     one_element_fault at_lead (through r) x w f g h i = absurd (no_lead_fault c b S L x i.0 w f i.1 i.2 h)
     one_element_fault (through s) at_lead x w f g h i = absurd (no_lead_fault c b S L x h.0 w g h.1 h.2 i)
     one_element_fault (through s) (through r) x w f g h i =
-        let e : i.0 ≡ h.0 = let both = sym i.1 ∙ h.1 in cc in
-        let on = one_fault s r h.0 (target b x.place) (way_to_table x w) f g h.3 (subst (λ k. IsTrail r c b S L k (target b x.place) (way_to_table x w) g) e i.3) in
+        let same : i.0 ≡ h.0 = cc in
+        let on = one_fault s r h.0 (target b x.place) (way_to_table x w) f g h.3 (rw same at i.3) in
         (ap through on.0, on.1)
 
   -- nor is a start that another trail passed

@@ -19,14 +19,14 @@ module _ (c : Checks) (b : List ℕ) (S : Rows) (t : ℕ) where
   -- a field that is passed holds
   field_met : (kids : Kids) (fs : List Live) (j : ℕ) (h : Live) → FieldsUnfold kids c b S t fs → slice_get fs j ≡ Some h → IsField c b S t h
   unfolding FieldsUnfold
-  field_met (kid ys kids) (f ∷ fs) zero h u e = let i : f ≡ h = cc in subst (λ x. IsField c b S t x) i u.0
+  field_met (kid ys kids) (f ∷ fs) zero h u e = let same : f ≡ h = cc in rw same at u.0
   field_met (kid ys kids) (f ∷ fs) (suc j) h u e = field_met kids fs j h u.2 e
   field_met kids fs j h u e = absurd (grind arith)
 
   -- a field that is present holds where it is
   pub present : (f : Live) (p : ℕ) (kind : Kind) → IsField c b S t f → field_place b t f.slot ≡ Some p → f.kind ≡ kind → IsPresent c b S t f p kind
   unfolding IsField
-  present f p kind h e k = subst (λ x. IsPresent c b S t f p x) k (subst (λ x. IsPresentOrAbsent c b S t f x) e h)
+  present f p kind h e k = rw k at (rw e at h)
 
   -- type fields that hold
   module _ (fs : List Live) (i o : ℕ) (met : (kind : Kind) (h : HasTypeField fs i o kind) → IsField c b S t h.field) where
