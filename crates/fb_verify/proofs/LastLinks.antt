@@ -27,14 +27,8 @@ module _ (c : Checks) (b : List ℕ) (S : Rows) (L : Bounds) (f : Fault) (n : �
 
   -- one link more at the front
   one_more : (link : Link) (links : List Link) (w : Way) → w.object ≡ link.object → w.field ≡ Some link.field → EndWell w f n links → EndIn f.object n (link ∷ links)
-  one_more link links w object field (inl h) = record {
-    before = [];
-    last = link;
-    all = ap (λ ls. link ∷ ls) h.0;
-    object_is = sym object ∙ h.1;
-    field_is = let same : Some link.field ≡ Some n = sym field ∙ h.2 in cc;
-  }
-  one_more link links w object field (inr h) = record { before = link ∷ h.before; last = h.last; all = ap (λ ls. link ∷ ls) h.all; object_is = h.object_is; field_is = h.field_is }
+  one_more link links w object field (inl h) = record { before = []; last = link; all = cc; object_is = cc; field_is = cc }
+  one_more link links w object field (inr h) = record { before = link ∷ h.before; last = h.last; all = cc; object_is = h.object_is; field_is = h.field_is }
 
   mutual
     unfolding IsTrail IsFieldTrail IsElementTrail links_of links_in_field links_in_element fault_at
@@ -61,10 +55,10 @@ module _ (c : Checks) (b : List ℕ) (S : Rows) (L : Bounds) (f : Fault) (n : �
 pub links_end_in_field : LinksEndInField
 unfolding fault_at
 links_end_in_field q b f links n (inl h) field_is =
-    let r = of_way (way_to_start q.root) _ f h.0.first in absurd (let w : None ≡ Some n = r.1 ∙ field_is in cc)
+    let r = of_way (way_to_start q.root) _ f h.0.first in absurd (cc)
 links_end_in_field q b f links n (inr h) field_is =
     let t = target b (base q.start) in
     elim (trail_ends q.checks b q.rows q.limits f n field_is h.1.0 q.root t (way_to_root q.root q.start q.ident) h.1.1) [
-      | inl e ↦ absurd (let w : None ≡ Some n = e.2 in cc)
+      | inl e ↦ absurd (cc)
       | inr e ↦ subst (EndIn f.object n) h.1.2 e
     ]
