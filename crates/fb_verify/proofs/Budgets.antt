@@ -1,5 +1,5 @@
 -- What a budget of reads allows.
-use Rattle.std.proofs.Common.{◌≡◌, ℕ, ◌+◌, ◌≤◌, false, arith, Option, Some, None}
+use Rattle.std.proofs.Common.{◌≡◌, ℕ, ◌+◌, ◌≤◌, false, arith, Option}
 use Rattle.std.proofs.lemmas.Bool.Decides.{nat_tests}
 use Rattle.fb_verify.specs.{Bounds.AreAllowed, Bounds.allowed, Bounds.AreTooMany, Laws.LengthAllows, MostReads.within_budget}
 

@@ -1,16 +1,16 @@
 -- A chain of tests finds nothing exactly where the facts hold.
-use Rattle.std.proofs.Common.{◌≡◌, ◌↔◌, ℕ, List, Option, Some, None, IsTrue, refl, sym, subst, arith, rules, tests}
+use Rattle.std.proofs.Common.{◌≡◌, ◌↔◌, ℕ, List, Option, None, IsTrue, arith, rules, tests}
 use Rattle.std.proofs.lemmas.Bool.Decides.{nat_tests}
-use Rattle.fb_schema.specs.declared.kinds.Kind.{Kind, TheVariants.Union}
+use Rattle.fb_schema.specs.declared.kinds.Kind.{Kind}
 use Rattle.fb_schema.specs.{Rows.Rows, Live.Live}
 use Rattle.fb_verify.specs.declared.checks.Checks.{Checks}
-use Rattle.fb_verify.specs.declared.start.Start.{Start, TheVariants.Bare, TheVariants.Prefixed}
-use Rattle.fb_verify.specs.declared.start.Ident.{Ident, TheVariants.Any, TheVariants.Want}
+use Rattle.fb_verify.specs.declared.start.Start.{Start}
+use Rattle.fb_verify.specs.declared.start.Ident.{Ident}
 use Rattle.fb_verify.specs.{Places.ends_in_table, Tree.Element, Tree.leaf, Tree.table, Unfolds.ElementUnfolds}
-use Rattle.fb_verify.specs.{WellFormed.IsPrefixed, WellFormed.IsIdentified, WellFormed.IsStart, Laws.IsLead}
+use Rattle.fb_verify.specs.{WellFormed.IsStart, Laws.IsLead}
 use Rattle.fb_verify.specs.Facts.{IsTable, IsOffset, IsString, IsVector, IsInline}
-use Rattle.fb_verify.specs.Fields.{IsInlineField, IsVectorField, IsUnionsField, IsUnionField, IsPresent, IsPresentOrAbsent, IsField, Lead, to_table, Entry}
-use Rattle.fb_verify.specs.Order.{Failure, after, ◌▷◌, prefix_failure, ident_failure, offset_failure, start_failure, head_failure, string_failure, vector_failure, inline_failure, table_failure, inline_field_failure, vector_field_failure, unions_field_failure, union_field_failure, present_failure, failure_at, own_failure, lead_failure, element_failure}
+use Rattle.fb_verify.specs.Fields.{IsPresent, IsField, to_table, Entry}
+use Rattle.fb_verify.specs.Order.{Failure, after, ◌▷◌, prefix_failure, ident_failure, offset_failure, start_failure, head_failure, string_failure, vector_failure, inline_failure, table_failure, present_failure, own_failure, element_failure}
 
 -- two chains, and a chain after some reads
 

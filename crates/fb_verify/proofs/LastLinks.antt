@@ -1,12 +1,11 @@
 -- The last link to a fault is to the field that it names.
-use Rattle.std.proofs.Common.{◌≡◌, ℕ, ◌⊎◌, inl, inr, List, [], ◌∷◌, refl, sym, ◌∙◌, ap, subst, arith, Option, Some, None}
+use Rattle.std.proofs.Common.{◌≡◌, ℕ, ◌⊎◌, inl, inr, List, [], ◌∷◌, refl, sym, ap, subst, arith, Some}
 use Rattle.std.proofs.lemmas.Bool.Decides.{nat_tests}
 use Rattle.fb_schema.specs.{Rows.Rows, Live.Live}
 use Rattle.fb_verify.specs.declared.{checks.Checks.Checks, fault.Fault.Fault, links.Link.Link}
-use Rattle.fb_verify.specs.{Bounds.Bounds, Places.target, Fields.Entry, Tree.elements_length, WellFormed.base, Cost.head_reads}
+use Rattle.fb_verify.specs.{Bounds.Bounds, Places.target, Fields.Entry, Tree.elements_length, WellFormed.base}
 use Rattle.fb_verify.specs.Laws.{EndIn, LinksEndInField}
-use Rattle.fb_verify.specs.Order.{Failure, ◌▷◌, head_failure}
-use Rattle.fb_verify.specs.Way.{Way, way_to_start, way_to_root, way_to_field, way_to_element, way_to_table}
+use Rattle.fb_verify.specs.Way.{Way, way_to_root, way_to_field, way_to_element, way_to_table}
 use Rattle.fb_verify.specs.Stops.{Place, in_head, in_field, in_element, fault_at, IsFalseAt, Trail, at_head, at_field, FieldTrail, at_own, at_element, ElementTrail, at_lead, through, IsTrail, IsFieldTrail, IsElementTrail}
 use Rattle.fb_verify.specs.Links.{field_link, element_link, object_led_to, links_of, links_in_field, links_in_element}
 

@@ -1,15 +1,14 @@
 -- At most one fault is the first, one trail leads to it, and one answer applies to a question.
-use Rattle.std.proofs.Common.{◌≡◌, ℕ, ◌+◌, ◌-◌, ◌≤◌, ◌<◌, inl, inr, List, [], take, refl, sym, ◌∙◌, ap, subst, arith, Some, Ok, Err}
-use Rattle.std.specs.Prelude.{slice_get}
+use Rattle.std.proofs.Common.{◌≡◌, ℕ, ◌+◌, ◌-◌, ◌≤◌, ◌<◌, inl, inr, List, [], take, refl, sym, ◌∙◌, ap, arith, Ok, Err}
 use Rattle.std.proofs.lemmas.{Bool.cases_order, List.take-take}
 use Rattle.fb_schema.specs.{Rows.Rows, Live.Live, Live.live_fields}
 use Rattle.fb_verify.specs.declared.{checks.Checks.Checks, start.Start.Start, start.Ident.Ident, fault.Fault.Fault, fault.Report.Report, links.Link.Link}
 use Rattle.fb_verify.specs.{Bounds.Bounds, Question.Question, Places.target, Facts.IsTable, Fields.IsField, Fields.Entry, Fields.entries, Laws.StopsOnce, Laws.LeadsOneWay, Laws.HasOneVerdict}
-use Rattle.fb_verify.specs.{WellFormed.base, WellFormed.start_reads, WellFormed.IsStart, WellFormed.cost, Cost.own_reads, Cost.kids_cost, Cost.elements_cost}
+use Rattle.fb_verify.specs.{WellFormed.base, WellFormed.start_reads, WellFormed.IsStart, Cost.own_reads, Cost.kids_cost, Cost.elements_cost}
 use Rattle.fb_verify.specs.{Links.links_of, Links.StopsAlong, Verdict.Reports}
-use Rattle.fb_verify.specs.Tree.{size, depth, Kids, kids_length, Elements, elements_length}
+use Rattle.fb_verify.specs.Tree.{Kids, kids_length, Elements, elements_length}
 use Rattle.fb_verify.specs.Way.{Way, way_to_start, way_to_root, way_to_field, way_to_element, way_to_table, StaysWithin}
-use Rattle.fb_verify.specs.Stops.{Place, in_start, in_head, in_field, in_element, fault_at, IsFalseAt, Trail, at_head, at_field, FieldTrail, at_own, at_element, ElementTrail, at_lead, through, IsLink, IsInField, IsTrail, IsFieldTrail, IsElementTrail, Stops}
+use Rattle.fb_verify.specs.Stops.{Place, in_start, in_head, in_field, in_element, IsFalseAt, Trail, at_head, at_field, FieldTrail, at_own, at_element, ElementTrail, at_lead, through, IsLink, IsInField, IsTrail, IsFieldTrail, IsElementTrail, Stops}
 use Rattle.fb_verify.proofs.{Budgets.fewer_reads, Budgets.not_both, Typed.get_take}
 use Rattle.fb_verify.proofs.Overruns.{one_tree, one_kids, one_elements, start_overruns, head_overruns, own_overruns, no_lead_fault, kids_at, elements_at, not_past, field_overruns, element_overruns, kids_cost_take, elements_cost_take, stops_nowhere}
 

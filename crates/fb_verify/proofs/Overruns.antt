@@ -1,19 +1,19 @@
 -- A buffer has at most one tree for an object and a position, and where it has one, a trail stops only at a limit that
 -- the tree is past.
-use Rattle.std.proofs.Common.{◌≡◌, ℕ, ◌+◌, ◌≤◌, inl, inr, List, [], ◌∷◌, take, refl, ap, subst, arith, Some}
+use Rattle.std.proofs.Common.{◌≡◌, ℕ, ◌+◌, ◌≤◌, inl, inr, List, [], ◌∷◌, take, refl, ap, arith, Some}
 use Rattle.std.specs.Prelude.{slice_get}
 use Rattle.std.proofs.lemmas.Bool.Decides.{nat_tests}
 use Rattle.fb_schema.specs.{Rows.Rows, Live.Live, Live.live_fields}
 use Rattle.fb_verify.specs.declared.{checks.Checks.Checks, start.Start.Start, start.Ident.Ident, fault.Fault.Fault}
 use Rattle.fb_verify.specs.declared.fault.Reason.TheVariants.{TooManyReads}
-use Rattle.fb_verify.specs.{Bounds.Bounds, Bounds.AreAllowed, Bounds.AreTooMany, Question.Question, Places.target, Facts.IsTable, Facts.IsOffset, Laws.Overruns, Laws.StopsNowhereWithin}
+use Rattle.fb_verify.specs.{Bounds.Bounds, Bounds.AreAllowed, Bounds.AreTooMany, Places.target, Facts.IsTable, Facts.IsOffset, Laws.Overruns, Laws.StopsNowhereWithin}
 use Rattle.fb_verify.specs.Fields.{IsField, Lead, to_table, Entry, entries}
 use Rattle.fb_verify.specs.Tree.{Tree, node, Kids, no_kids, kid, Elements, no_elements, element, Element, leaf, table, size, kids_size, elements_size, element_size, depth, kids_depth, elements_depth, element_depth, kids_length, elements_length}
 use Rattle.fb_verify.specs.Unfolds.{Unfolds, FieldsUnfold, ElementsUnfold, ElementUnfolds}
 use Rattle.fb_verify.specs.Cost.{head_reads, own_reads, lead_reads, tree_cost, kids_cost, elements_cost, element_cost}
-use Rattle.fb_verify.specs.WellFormed.{base, start_reads, IsStart, IsWellFormed, IsWithin, cost}
+use Rattle.fb_verify.specs.WellFormed.{base, start_reads, IsStart, cost}
 use Rattle.fb_verify.specs.Way.{Way, way_to_start, way_to_root, way_to_field, way_to_element, way_to_table}
-use Rattle.fb_verify.specs.Stops.{in_start, in_head, in_field, in_element, fault_at, IsFalseAt, Trail, at_head, at_field, FieldTrail, at_own, at_element, ElementTrail, at_lead, through, IsTrail, IsFieldTrail, IsElementTrail, Stops}
+use Rattle.fb_verify.specs.Stops.{in_start, in_head, in_field, in_element, fault_at, IsFalseAt, Trail, at_head, at_field, FieldTrail, at_own, at_element, ElementTrail, at_lead, through, IsTrail, IsFieldTrail, IsElementTrail}
 use Rattle.fb_verify.proofs.Budgets.{are_too_many, not_both, more_reads}
 use Rattle.fb_verify.proofs.Chains.{start_none, head_none, own_none, element_passes, through_passes}
 

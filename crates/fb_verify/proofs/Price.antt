@@ -1,5 +1,5 @@
 -- What a tree, the way to a fault, and so a whole buffer cost at most: a fault comes soon after what was asked before it.
-use Rattle.std.proofs.Common.{◌≡◌, ℕ, zero, suc, ◌+◌, ◌-◌, ◌*◌, ◌<◌, ◌≤◌, ◌⊎◌, List, [], ◌∷◌, length, take, refl, ap, arith, Option, Some, None, inl, inr, mul-le-mul_left, mul-le-mul_right, mul_comm, length-take}
+use Rattle.std.proofs.Common.{◌≡◌, ℕ, zero, suc, ◌+◌, ◌-◌, ◌*◌, ◌<◌, ◌≤◌, ◌⊎◌, List, [], ◌∷◌, length, take, refl, ap, arith, Option, Some, None, inl, inr, mul-le-mul_left, mul-le-mul_right, length-take}
 use Rattle.std.specs.Prelude.{slice_get}
 use Rattle.std.proofs.lemmas.{Option.slice_get_within, Bool.Decides.nat_tests}
 use Rattle.fb_schema.specs.declared.kinds.Kind.{Kind}

@@ -4,7 +4,7 @@ use Rattle.std.specs.Prelude.{slice_get}
 use Rattle.fb_bytes.specs.Word.{word}
 use Rattle.fb_schema.specs.{Rows.Rows, Live.Live, Live.live_fields, Kinds.shape_of, Kinds.kind_of, Kinds.base_types, Members.member_of}
 use Rattle.fb_verify.specs.declared.{checks.Checks.Checks, start.Start.Start, start.Ident.Ident}
-use Rattle.fb_verify.specs.Facts.{IsTable, IsOffset, IsString, IsInline}
+use Rattle.fb_verify.specs.Facts.{IsTable, IsOffset, IsString}
 use Rattle.fb_verify.specs.{WellFormed.IsStart, Unfolds.Unfolds, Unfolds.FieldsUnfold, Unfolds.ElementsUnfold, Cost.own_reads, Cost.tree_cost}
 use Rattle.fb_verify.specs.Places.{is_aligned, has_vtable, vtable, field_place, ends_in_table}
 use Rattle.fb_verify.specs.Fields.{IsField, Entry, entries, row, union_row}

@@ -8,7 +8,7 @@ use Rattle.fb_verify.specs.declared.{checks.Checks.Checks, start.Start.Start, st
 use Rattle.fb_verify.specs.declared.{fault.Fault.Fault, fault.Reason.Reason, fault.Reason.TheVariants.TooManyTables}
 use Rattle.fb_verify.specs.{Bounds.Bounds, Facts.IsTable, Tree.kids_length, Tree.elements_length, WellFormed.base, WellFormed.start_reads}
 use Rattle.fb_verify.specs.Places.{is_aligned, target, field_place, ends_in_table}
-use Rattle.fb_verify.specs.Fields.{Lead, Entry}
+use Rattle.fb_verify.specs.Fields.{Entry}
 use Rattle.fb_verify.specs.Order.{Failure, ◌▷◌, prefix_failure, ident_failure, offset_failure, start_failure, head_failure, string_failure, vector_failure, inline_failure, table_failure, vector_field_failure, present_failure, own_failure, element_failure}
 use Rattle.fb_verify.specs.Way.{Way, way_to_start, way_to_root, way_to_field, way_to_element, way_to_table}
 use Rattle.fb_verify.specs.Stops.{in_head, in_field, in_element, fault_of, reads_failure, fault_at, IsFalseAt, Trail, at_head, at_field, FieldTrail, at_own, at_element, ElementTrail, at_lead, through, IsTrail, IsFieldTrail, IsElementTrail}

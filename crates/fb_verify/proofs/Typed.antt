@@ -1,13 +1,13 @@
 -- The type fields of unions were checked before the unions.
-use Rattle.std.proofs.Common.{◌≡◌, ℕ, zero, suc, ◌-◌, ◌<◌, List, [], ◌∷◌, take, refl, ◌∙◌, subst, arith, Some}
+use Rattle.std.proofs.Common.{◌≡◌, ℕ, zero, suc, ◌-◌, ◌<◌, List, [], ◌∷◌, take, refl, ◌∙◌, arith, Some}
 use Rattle.std.specs.Prelude.{slice_get}
 use Rattle.fb_schema.specs.declared.kinds.Kind.{Kind, TheVariants.Scalar, TheVariants.Union, TheVariants.Scalars, TheVariants.Unions}
 use Rattle.fb_schema.specs.declared.kinds.Scalar.TheVariants.{UType}
 use Rattle.fb_schema.specs.{Rows.Rows, Live.Live, Served.HasTypeField, Served.IsTyped as IsTypedIn}
 use Rattle.fb_verify.specs.declared.checks.Checks.{Checks}
 use Rattle.fb_verify.specs.{Places.field_place, Tree.Kids, Tree.kid, Unfolds.FieldsUnfold}
-use Rattle.fb_verify.specs.OffsetRows.{TypeFits, TypesFit, IsTyped}
-use Rattle.fb_verify.specs.Fields.{IsPresent, IsPresentOrAbsent, IsField, type_place}
+use Rattle.fb_verify.specs.OffsetRows.{IsTyped}
+use Rattle.fb_verify.specs.Fields.{IsPresent, IsField, type_place}
 
 pub get_take : {A : Type 0} (xs : List A) (m n : ℕ) → m < n → slice_get (take n xs) m ≡ slice_get xs m
 get_take xs m zero h = absurd (omega arith)

@@ -6,7 +6,7 @@ use Rattle.fb_verify.specs.{WellFormed.base, WellFormed.start_reads, Way.way_to_
 use Rattle.fb_verify.specs.{Told.told, Told.way_at, Walked.TableWalked, Walked.ended, Stack.HaltsAlong, MostReads.most_reads}
 use Rattle.fb_verify.specs.Verdict.{Reports, HasNone}
 use Rattle.fb_verify.specs.Order.{◌▷◌, start_failure}
-use Rattle.fb_verify.specs.Stops.{in_start, reads_failure, fault_at, Stops}
+use Rattle.fb_verify.specs.Stops.{reads_failure, fault_at, Stops}
 use Rattle.fb_verify.proofs.{Budgets.fewer_reads, Budgets.no_reads, Chains.start_none, Overruns.stops_nowhere}
 use Rattle.fb_verify.proofs.{Price.cost_is_bounded, Price.reads_are_bounded, Steps.same_way, Standings.told_is}
 
