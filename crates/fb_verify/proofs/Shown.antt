@@ -4,7 +4,7 @@ use Rattle.std.specs.Prelude.{slice_get}
 use Rattle.fb_bytes.specs.Word.{word}
 use Rattle.fb_schema.specs.{Rows.Rows, Live.Live, Live.live_fields, Kinds.shape_of, Kinds.kind_of, Kinds.base_types, Members.member_of}
 use Rattle.fb_verify.specs.declared.{checks.Checks.Checks, start.Start.Start, start.Ident.Ident}
-use Rattle.fb_verify.specs.Facts.{IsTable, IsOffset, IsString}
+use Rattle.fb_verify.specs.{Facts.IsTable, Facts.IsOffset, Facts.IsString, Examples.kids_of, Examples.one_field}
 use Rattle.fb_verify.specs.{WellFormed.IsStart, Unfolds.Unfolds, Unfolds.FieldsUnfold, Unfolds.ElementsUnfold, Cost.own_reads, Cost.tree_cost}
 use Rattle.fb_verify.specs.Places.{is_aligned, has_vtable, vtable, field_place, ends_in_table}
 use Rattle.fb_verify.specs.Fields.{IsField, Entry, entries, row, union_row}
@@ -12,7 +12,6 @@ use Rattle.fb_verify.specs.Tree.{Tree, node, Kids, no_kids, no_elements, element
 use Rattle.fb_verify.specs.Order.{own_failure, element_failure, start_failure, prefix_failure, ident_failure, head_failure, offset_failure, string_failure, vector_failure, inline_failure, table_failure}
 use Rattle.fb_verify.specs.Stops.{fault_at, IsLink, IsInField, Trail, at_head, at_field, at_own, at_element, at_lead, through, IsTrail}
 use Rattle.fb_verify.specs.{Links.links_of, Links.links_in_field, Links.links_in_element, LinkExamples.LinksFound}
-use Rattle.fb_verify.specs.Examples.{kids_of, one_field}
 use Rattle.fb_verify.proofs.Chains.{start_none, head_none, own_none, offset_none, string_none, inline_none}
 
 -- all that is computed, with the facts of fields

@@ -6,8 +6,7 @@ use Rattle.fb_schema.specs.declared.kinds.Scalar.TheVariants.{UType}
 use Rattle.fb_schema.specs.{Rows.Rows, Live.Live, Served.HasTypeField, Served.IsTyped as IsTypedIn}
 use Rattle.fb_verify.specs.declared.checks.Checks.{Checks}
 use Rattle.fb_verify.specs.{Places.field_place, Tree.Kids, Tree.kid, Unfolds.FieldsUnfold}
-use Rattle.fb_verify.specs.OffsetRows.{IsTyped}
-use Rattle.fb_verify.specs.Fields.{IsPresent, IsField, type_place}
+use Rattle.fb_verify.specs.{OffsetRows.IsTyped, Fields.IsPresent, Fields.IsField, Fields.type_place}
 
 pub get_take : {A : Type 0} (xs : List A) (m n : ℕ) → m < n → slice_get (take n xs) m ≡ slice_get xs m
 get_take xs m zero h = absurd (omega arith)

@@ -4,9 +4,8 @@ use Rattle.fb_verify.specs.declared.{fault.Fault.Fault, fault.Report.Report, scr
 use Rattle.fb_verify.specs.{Bounds.AreAllowed, Question.Question, Places.target, Tree.size, Tree.depth, Cost.tree_cost}
 use Rattle.fb_verify.specs.{WellFormed.base, WellFormed.start_reads, Way.way_to_start, Way.way_to_root, Links.LeadsAlong, Links.StopsAlong}
 use Rattle.fb_verify.specs.{Told.told, Told.way_at, Walked.TableWalked, Walked.ended, Stack.HaltsAlong, MostReads.most_reads}
-use Rattle.fb_verify.specs.Verdict.{Reports, HasNone}
+use Rattle.fb_verify.specs.{Verdict.Reports, Verdict.HasNone, Stops.reads_failure, Stops.fault_at, Stops.Stops}
 use Rattle.fb_verify.specs.Order.{◌▷◌, start_failure}
-use Rattle.fb_verify.specs.Stops.{reads_failure, fault_at, Stops}
 use Rattle.fb_verify.proofs.{Budgets.fewer_reads, Budgets.no_reads, Chains.start_none, Overruns.stops_nowhere}
 use Rattle.fb_verify.proofs.{Price.cost_is_bounded, Price.reads_are_bounded, Steps.same_way, Standings.told_is}
 
