@@ -1,7 +1,7 @@
 -- What a budget of reads allows.
 use Rattle.std.proofs.Common.{◌≡◌, ℕ, ◌+◌, ◌≤◌, false, arith, Option}
 use Rattle.std.proofs.lemmas.Bool.Decides.{nat_tests}
-use Rattle.fb_verify.specs.{Bounds.AreAllowed, Bounds.allowed, Bounds.AreTooMany, Laws.LengthAllows, MostReads.within_budget}
+use Rattle.fb_verify.specs.{Bounds.AreAllowed, Bounds.allowed, Bounds.AreTooMany, MostReads.within_budget}
 
 -- fewer reads are allowed too
 pub fewer_reads : (budget : Option ℕ) (m n : ℕ) → m ≤ n → AreAllowed budget n → AreAllowed budget m
@@ -26,7 +26,3 @@ near budget m n h r = grind arith
 -- more reads are too many too
 pub more_reads : (budget : Option ℕ) (m n : ℕ) → m ≤ n → AreTooMany budget m → AreTooMany budget n
 more_reads budget m n l t = grind arith
-
--- the lesser of two budgets allows what both allow
-pub length_allows : LengthAllows
-length_allows L per_byte len n = grind arith

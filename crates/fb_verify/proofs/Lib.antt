@@ -1,5 +1,4 @@
 pub mod Budgets
-pub mod Identifiers
 pub mod Chains
 pub mod Overruns
 pub mod OneFault

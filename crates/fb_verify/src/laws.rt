@@ -52,7 +52,7 @@ pub fn element_is_told()
 {}
 
 /// An identifier is compared as one number, which says of bytes that all four are the same.
-#[tactic(auto, using(crate::proofs::Identifiers::same_four))]
+#[tactic(auto, unfolding(fb_bytes::specs::Word::word))]
 pub fn identifier_is_four_bytes()
     ensures { IdentifierLaw }
 {}
@@ -116,7 +116,6 @@ pub fn tables_run_out()
 {}
 
 /// The limits of a length allow what both allow, the limits and the length.
-#[tactic(auto, using(crate::proofs::Budgets::length_allows))]
 pub fn length_allows()
     ensures { LengthAllows }
 {}
