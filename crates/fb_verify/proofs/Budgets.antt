@@ -1,7 +1,7 @@
 -- What a budget of reads allows.
-use Rattle.std.proofs.Common.{◌≡◌, ℕ, ◌+◌, ◌≤◌, false, arith, Option, Some, None}
+use Rattle.std.proofs.Common.{◌≡◌, ℕ, ◌+◌, ◌≤◌, false, arith, Option}
 use Rattle.std.proofs.lemmas.Bool.Decides.{nat_tests}
-use Rattle.fb_verify.specs.{Bounds.AreAllowed, Bounds.allowed, Bounds.AreTooMany, Laws.LengthAllows}
+use Rattle.fb_verify.specs.{Bounds.AreAllowed, Bounds.allowed, Bounds.AreTooMany, MostReads.within_budget}
 
 -- fewer reads are allowed too
 pub fewer_reads : (budget : Option ℕ) (m n : ℕ) → m ≤ n → AreAllowed budget n → AreAllowed budget m
@@ -19,19 +19,10 @@ are_too_many budget n h = grind (arith, nat_tests)
 pub not_both : (budget : Option ℕ) (m n : ℕ) → m ≤ n → AreAllowed budget n → AreTooMany budget m → ⊥
 not_both budget m n l h t = grind arith
 
--- no more than 7 reads past the budget, if there is one
-unfoldable pub IsNear : Option ℕ → ℕ → Type 0
-IsNear None n = Unit {0}
-IsNear (Some most) n = n ≤ most + 7
-
-pub near : (budget : Option ℕ) (m n : ℕ) → n ≤ m + 7 → AreAllowed budget m → IsNear budget n
-unfolding IsNear
+-- no more than 7 reads past what is allowed
+pub near : (budget : Option ℕ) (m n : ℕ) → n ≤ m + 7 → AreAllowed budget m → n ≤ within_budget budget n
 near budget m n h r = grind arith
 
 -- more reads are too many too
 pub more_reads : (budget : Option ℕ) (m n : ℕ) → m ≤ n → AreTooMany budget m → AreTooMany budget n
 more_reads budget m n l t = grind arith
-
--- the lesser of two budgets allows what both allow
-pub length_allows : LengthAllows
-length_allows L per_byte len n = grind arith

@@ -1,15 +1,14 @@
 -- A chain of tests finds nothing exactly where the facts hold.
-use Rattle.std.proofs.Common.{◌≡◌, ◌↔◌, ℕ, List, Option, Some, None, IsTrue, refl, sym, subst, arith, rules, tests}
-use Rattle.fb_schema.specs.declared.kinds.Kind.{Kind, TheVariants.Union}
+use Rattle.std.proofs.Common.{◌≡◌, ◌↔◌, ℕ, List, Option, None, IsTrue, arith, rules, tests}
+use Rattle.std.proofs.lemmas.Bool.Decides.{nat_tests}
+use Rattle.fb_schema.specs.declared.kinds.Kind.{Kind}
 use Rattle.fb_schema.specs.{Rows.Rows, Live.Live}
-use Rattle.fb_verify.specs.declared.checks.Checks.{Checks}
-use Rattle.fb_verify.specs.declared.start.Start.{Start, TheVariants.Bare, TheVariants.Prefixed}
-use Rattle.fb_verify.specs.declared.start.Ident.{Ident, TheVariants.Any, TheVariants.Want}
+use Rattle.fb_verify.specs.declared.{checks.Checks.Checks, start.Start.Start, start.Ident.Ident}
 use Rattle.fb_verify.specs.{Places.ends_in_table, Tree.Element, Tree.leaf, Tree.table, Unfolds.ElementUnfolds}
-use Rattle.fb_verify.specs.{WellFormed.IsPrefixed, WellFormed.IsIdentified, WellFormed.IsStart, Laws.IsLead}
+use Rattle.fb_verify.specs.{WellFormed.IsStart, Laws.IsLead}
 use Rattle.fb_verify.specs.Facts.{IsTable, IsOffset, IsString, IsVector, IsInline}
-use Rattle.fb_verify.specs.Fields.{IsInlineField, IsVectorField, IsUnionsField, IsUnionField, IsPresent, IsPresentOrAbsent, IsField, Lead, to_table, Entry}
-use Rattle.fb_verify.specs.Order.{Failure, after, ◌▷◌, prefix_failure, ident_failure, offset_failure, start_failure, head_failure, string_failure, vector_failure, inline_failure, table_failure, inline_field_failure, vector_field_failure, unions_field_failure, union_field_failure, present_failure, failure_at, own_failure, lead_failure, element_failure}
+use Rattle.fb_verify.specs.Fields.{IsPresent, IsField, to_table, Entry}
+use Rattle.fb_verify.specs.Order.{Failure, after, ◌▷◌, prefix_failure, ident_failure, offset_failure, start_failure, head_failure, string_failure, vector_failure, inline_failure, table_failure, present_failure, own_failure, element_failure}
 
 -- two chains, and a chain after some reads
 
@@ -45,75 +44,34 @@ pub table_none : (c : Checks) (b : List ℕ) (t p n : ℕ) → (table_failure c 
 unfolding table_failure
 table_none c b t p n = search (rules, tests)
 
--- what tells of chains in a row
-ruleset chains = (rules, both_none, after_none, offset_none, string_none, vector_none, inline_none, table_none)
-
--- the start
-
-prefix_none : (b : List ℕ) (start : Start) → (prefix_failure b start ≡ None) ↔ IsPrefixed b start
-unfolding prefix_failure
-prefix_none b Bare = (λ _. tt, λ _. refl)
-prefix_none b Prefixed = search (rules, tests)
-
-ident_none : (b : List ℕ) (p : ℕ) (ident : Ident) → (ident_failure b p ident ≡ None) ↔ IsIdentified b p ident
-unfolding ident_failure
-ident_none b p Any = (λ _. tt, λ _. refl)
-ident_none b p (Want name) = search (rules, tests)
+-- the whole chains
 
 pub start_none : (c : Checks) (b : List ℕ) (start : Start) (ident : Ident) → (start_failure c b start ident ≡ None) ↔ IsStart c b start ident
-unfolding start_failure
-start_none c b start ident = search (chains, prefix_none, ident_none)
+unfolding start_failure prefix_failure ident_failure
+start_none c b start ident = grind (arith, nat_tests, offset_none)
 
 -- fields
 
-module _ (c : Checks) (b : List ℕ) where
-  inline_field_none : (t p size align : ℕ) → (inline_field_failure c b t p size align ≡ None) ↔ IsInlineField c b t p size align
-  inline_field_none t p size align = search chains
+module _ (c : Checks) (b : List ℕ) (S : Rows) (t : ℕ) (f : Live) where
+  present_none : (p : ℕ) (kind : Kind) → (present_failure c b S t f p kind ≡ None) ↔ IsPresent c b S t f p kind
+  present_none p kind = grind (arith, nat_tests, offset_none, vector_none, inline_none, table_none)
 
-  vector_field_none : (t p size align : ℕ) → (vector_field_failure c b t p size align ≡ None) ↔ IsVectorField c b t p size align
-  vector_field_none t p size align = search chains
-
-  unions_field_none : (t p : ℕ) (types : Option ℕ) → (unions_field_failure c b t p types ≡ None) ↔ IsUnionsField c b t p types
-  unions_field_none t p types = search (chains, tests, vector_field_none)
-
-  union_field_none : (t p : ℕ) (member : Option Kind) → (union_field_failure c b t p member ≡ None) ↔ IsUnionField c b t p member
-  union_field_none t p member = grind (arith, table_none)
-
-  ruleset fields = (chains, inline_field_none, vector_field_none, unions_field_none, union_field_none)
-
-  module _ (S : Rows) (t : ℕ) (f : Live) where
-    present_none : (p : ℕ) (kind : Kind) → (present_failure c b S t f p kind ≡ None) ↔ IsPresent c b S t f p kind
-    present_none p (Union e) = search fields
-    present_none p kind = search fields
-
-    at_none : (place : Option ℕ) → (failure_at c b S t f place ≡ None) ↔ IsPresentOrAbsent c b S t f place
-    at_none None = search (rules, tests)
-    at_none (Some p) = present_none p f.kind
-
-    pub own_none : (own_failure c b S t f ≡ None) ↔ IsField c b S t f
-    unfolding own_failure IsField
-    own_none = search (chains, at_none)
+  pub own_none : (own_failure c b S t f ≡ None) ↔ IsField c b S t f
+  unfolding own_failure IsField
+  own_none = grind (arith, nat_tests, present_none)
 
 -- elements
 
-lead_none : (c : Checks) (b : List ℕ) (p : ℕ) (lead : Lead) → (lead_failure c b p lead ≡ None) ↔ IsLead c b p lead
-lead_none c b p (to_table k) = offset_none c b p
-lead_none c b p lead = search chains
-
 pub element_none : (c : Checks) (b : List ℕ) (x : Entry) → (element_failure c b x ≡ None) ↔ IsLead c b x.place x.lead
 unfolding element_failure
-element_none c b x = search (chains, lead_none)
-
--- what an element unfolds into holds of it by itself
-unfolds_lead : (c : Checks) (b : List ℕ) (S : Rows) (y : Element) (p : ℕ) (lead : Lead) → ElementUnfolds y c b S p lead → IsLead c b p lead
-unfolding ElementUnfolds
-unfolds_lead c b S leaf p lead h = grind arith
-unfolds_lead c b S (table y) p lead h = grind arith
+element_none c b x = grind (arith, offset_none, inline_none, string_none)
 
 -- an element that unfolds into anything passes its tests
 pub element_passes : (c : Checks) (b : List ℕ) (S : Rows) (x : Entry) (y : Element) → ElementUnfolds y c b S x.place x.lead → element_failure c b x ≡ None
-element_passes c b S x y h = (element_none c b x).1 (unfolds_lead c b S y x.place x.lead h)
+unfolding ElementUnfolds
+element_passes c b S x leaf h = grind (arith, element_none)
+element_passes c b S x (table y) h = grind (arith, element_none)
 
 -- so does one that leads on by an offset word
 pub through_passes : (c : Checks) (b : List ℕ) (x : Entry) (k : ℕ) → x.lead ≡ to_table k → IsOffset c b x.place → element_failure c b x ≡ None
-through_passes c b x k e h = (element_none c b x).1 (subst (λ lead. IsLead c b x.place lead) (sym e) h)
+through_passes c b x k e h = grind (arith, element_none)

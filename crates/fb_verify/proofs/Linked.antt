@@ -1,26 +1,24 @@
 -- Frames whose row was left behind a word, and the links through these words.
-use Rattle.std.proofs.Common.{◌≡◌, ℕ, zero, suc, ◌+◌, ◌-◌, ◌<◌, List, [], ◌∷◌, length, refl, sym, ◌∙◌, ap, subst, arith, rules, Option, Some, None}
+use Rattle.std.proofs.Common.{◌≡◌, ℕ, zero, suc, ◌+◌, ◌-◌, ◌<◌, List, ◌∷◌, length, refl, sym, ◌∙◌, ap, subst, arith, Some, None}
 use Rattle.std.specs.Prelude.{slice_get}
 use Rattle.std.proofs.lemmas.List.{length-drop}
-use Rattle.fb_bytes.specs.Word.{word}
 use Rattle.fb_schema.specs.declared.kinds.Kind.{Kind}
-use Rattle.fb_schema.specs.declared.kinds.Kind.TheVariants.{Union, Texts, Tables, Unions}
-use Rattle.fb_schema.specs.{Rows.Rows, Members.member_of, Live.Live, Live.live_fields, Served.IsServed}
+use Rattle.fb_schema.specs.{Rows.Rows, Live.Live, Live.live_fields, Served.IsServed}
 use Rattle.fb_verify.specs.declared.{checks.Checks.Checks, offset_row.Row.Row, scratch.Frame.Frame}
 use Rattle.fb_verify.specs.declared.offset_row.Leads.{Leads}
-use Rattle.fb_verify.specs.Fields.{IsVectorField, IsPresent, IsField, type_place, union_type, types_begin, Lead, to_table, to_string, Entry, row, union_row, union_entry, entries_of, entries_at, entries}
-use Rattle.fb_verify.specs.{Places.target, Places.field_place, Tree.elements_length, Way.Way, Links.element_of, Links.type_of, Links.element_link}
+use Rattle.fb_verify.specs.Fields.{IsPresent, IsField, Lead, Entry, row, union_row, entries_of, entries_at, entries}
+use Rattle.fb_verify.specs.{Places.field_place, Tree.elements_length, Way.Way, Links.element_of, Links.type_of, Links.element_link}
 use Rattle.fb_verify.specs.{OffsetRows.words, OffsetRows.words_of, OffsetRows.IsTyped, Walked.IsInField}
-use Rattle.fb_verify.specs.Stack.{word_count, CountIsIn, CountStands, TypeStands, frame_link, link_behind, IsFrame, IsLinked}
+use Rattle.fb_verify.specs.Stack.{word_count, CountStands, TypeStands, frame_link, link_behind, IsFrame, IsLinked}
 use Rattle.fb_verify.proofs.Typed.{present, typed_before}
 
 module _ (b : List ℕ) (S : Rows) where
-  row_length : (lead : Lead) (p n : ℕ) → length (row lead p n) ≡ n
+  pub row_length : (lead : Lead) (p n : ℕ) → length (row lead p n) ≡ n
   unfolding row
   row_length lead p zero = refl
   row_length lead p (suc n) = ap suc (row_length lead (p + 4) n)
 
-  union_row_length : (e q p n : ℕ) → length (union_row b S e q p n) ≡ n
+  pub union_row_length : (e q p n : ℕ) → length (union_row b S e q p n) ≡ n
   unfolding union_row
   union_row_length e q p zero = refl
   union_row_length e q p (suc n) = ap suc (union_row_length e (q + 1) (p + 4) n)
@@ -66,22 +64,8 @@ module _ (c : Checks) (b : List ℕ) (S : Rows) (t p : ℕ) (g : Live) (left : �
     pub count : CountStands b p kind
     pub types : (j : ℕ) → j < word_count b p kind → IsTyped b t g.slot kind → TypeStands b t g.slot j kind
 
-  vector_count : IsVectorField c b t p 4 4 → CountIsIn b p
-  vector_count h = record { offset = (h.offset).within; count = (h.vector).count }
-
-  union_words : (member : Option Kind) → left < length (union_entry S p member) → length (union_entry S p member) ≡ 1
-  union_words member more = grind arith
-
   stands_by : (kind : Kind) → IsPresent c b S t g p kind → left < length (entries_of b S t g p kind) → Stands kind
-  stands_by (Union e) h more = record { words = union_words (member_of S e (union_type b (type_place b t g.slot))) more; count = tt; types = λ j l typed. typed }
-  stands_by Texts h more = record { words = row_length b S to_string (target b p + 4) (word b (target b p) 4); count = vector_count h; types = λ j l typed. tt }
-  stands_by (Tables k) h more = record { words = row_length b S (to_table k) (target b p + 4) (word b (target b p) 4); count = vector_count h; types = λ j l typed. tt }
-  stands_by (Unions e) h more = record {
-    words = union_row_length b S e (types_begin b (type_place b t g.slot)) (target b p + 4) (word b (target b p) 4);
-    count = vector_count h.field;
-    types = λ j l typed. (typed, omega (arith, l, h.counts_agree));
-  }
-  stands_by kind h more = search rules
+  stands_by kind h more = grind (arith, row_length, union_row_length)
 
 -- The same of the field of a frame that is linked.
 module _ {c : Checks} {b : List ℕ} {S : Rows} {fr : Frame} (h : IsLinked c b S fr) (g : Live) (found : slice_get (live_fields S (fr.table).object) (fr.next - 1) ≡ Some g) where
@@ -89,14 +73,12 @@ module _ {c : Checks} {b : List ℕ} {S : Rows} {fr : Frame} (h : IsLinked c b S
   t = (fr.table).at
 
   is_field : h.field ≡ g
-  is_field = let e : Some h.field ≡ Some g = sym h.found ∙ found in cc
+  is_field = cc
 
   -- it stands somewhere
   pub is_there : field_place b t g.slot ≡ None → ⊥
   unfolding entries
-  is_there none =
-      let e : entries b S t h.field ≡ [] = ap (λ x. entries b S t x) is_field ∙ ap (entries_at b S t g) none in
-      absurd (omega (arith, h.more, ap length e))
+  is_there none = let same = is_field in grind arith
 
   module _ (p : ℕ) (place : field_place b t g.slot ≡ Some p) where
     words_are : entries b S t h.field ≡ entries_of b S t g p g.kind
@@ -104,7 +86,7 @@ module _ {c : Checks} {b : List ℕ} {S : Rows} {fr : Frame} (h : IsLinked c b S
     words_are = ap (λ x. entries b S t x) is_field ∙ ap (entries_at b S t g) place
 
     own : IsField c b S t g
-    own = subst (λ x. IsField c b S t x) is_field h.own
+    own = rw is_field at h.own
 
     pub stands : Stands c b S t p g (fr.row).left g.kind
     stands = stands_by c b S t p g (fr.row).left g.kind (present c b S t g p g.kind own place refl) (omega (arith, h.more, ap length words_are))

@@ -1,62 +1,63 @@
--- Where there is a tree, a trail stops only at a limit that the tree is past.
-use Rattle.std.proofs.Common.{◌≡◌, ℕ, ◌+◌, ◌≤◌, ◌⊎◌, inr, List, [], ◌∷◌, take, refl, ap, subst, arith, Option, Some, None}
+-- A buffer has at most one tree for an object and a position, and where it has one, a trail stops only at a limit that
+-- the tree is past.
+use Rattle.std.proofs.Common.{◌≡◌, ℕ, ◌+◌, ◌≤◌, inl, inr, List, [], ◌∷◌, take, refl, ap, arith, Some}
 use Rattle.std.specs.Prelude.{slice_get}
 use Rattle.std.proofs.lemmas.Bool.Decides.{nat_tests}
 use Rattle.fb_schema.specs.{Rows.Rows, Live.Live, Live.live_fields}
-use Rattle.fb_verify.specs.declared.{checks.Checks.Checks, fault.Fault.Fault}
-use Rattle.fb_verify.specs.declared.fault.Reason.TheVariants.{TooDeep, TooManyTables, TooManyReads}
-use Rattle.fb_verify.specs.{Bounds.Bounds, Bounds.AreAllowed, Bounds.AreTooMany, Places.target, Facts.IsTable, Laws.Overruns}
+use Rattle.fb_verify.specs.declared.{checks.Checks.Checks, start.Start.Start, start.Ident.Ident, fault.Fault.Fault}
+use Rattle.fb_verify.specs.declared.fault.Reason.TheVariants.{TooManyReads}
+use Rattle.fb_verify.specs.{Bounds.Bounds, Bounds.AreAllowed, Bounds.AreTooMany, Places.target, Facts.IsTable, Facts.IsOffset, Laws.Overruns, Laws.StopsNowhereWithin}
 use Rattle.fb_verify.specs.Fields.{IsField, Lead, to_table, Entry, entries}
-use Rattle.fb_verify.specs.Tree.{Tree, node, Kids, no_kids, kid, Elements, no_elements, element, Element, table, size, kids_size, elements_size, element_size, depth, kids_depth, elements_depth, element_depth, kids_length, elements_length}
+use Rattle.fb_verify.specs.Tree.{Tree, node, Kids, no_kids, kid, Elements, no_elements, element, Element, leaf, table, size, kids_size, elements_size, element_size, depth, kids_depth, elements_depth, element_depth, kids_length, elements_length}
 use Rattle.fb_verify.specs.Unfolds.{Unfolds, FieldsUnfold, ElementsUnfold, ElementUnfolds}
 use Rattle.fb_verify.specs.Cost.{head_reads, own_reads, lead_reads, tree_cost, kids_cost, elements_cost, element_cost}
-use Rattle.fb_verify.specs.Order.{Failure, ◌▷◌, head_failure, own_failure, element_failure}
-use Rattle.fb_verify.specs.Way.{Way, way_to_field, way_to_element, way_to_table}
-use Rattle.fb_verify.specs.Stops.{in_head, fault_of, budget_failure, reads_failure, lead_reads_failure, fault_at, IsFalseAt, Trail, at_head, at_field, FieldTrail, at_own, at_element, ElementTrail, at_lead, through, IsTrail, IsFieldTrail, IsElementTrail}
-use Rattle.fb_verify.proofs.{Budgets.are_too_many, Budgets.not_both, Budgets.more_reads, Chains.head_none, Chains.own_none, Chains.element_passes}
-use Rattle.fb_verify.proofs.Unique.{one_elements, one_element}
-
-pub some_same : {A : Type 0} {x y : A} → Some x ≡ Some y → x ≡ y
-some_same h = cc
-
--- the first of two chains that finds something
-pub either : {A : Type 0} (x y : Option A) (e : A) → x ▷ y ≡ Some e → (x ≡ Some e) ⊎ (y ≡ Some e)
-either x y e h = grind arith
-
-module _ (L : Bounds) (w : Way) where
-  -- the budget of tables finds that it is used up
-  budget_fault : (t : ℕ) (f : Fault) → fault_of w (budget_failure L w t) ≡ Some f → ((f.reason ≡ TooDeep) × (L.depth ≤ w.links)) ⊎ ((f.reason ≡ TooManyTables) × (L.tables ≤ w.passed))
-  budget_fault t f h = grind (arith, nat_tests)
-
-  -- past a chain that finds nothing, the budget of reads finds too many
-  pub reads_fault : (v : Way) (n p : ℕ) (x : Option Failure) (f : Fault) → x ≡ None → fault_of v (x ▷ reads_failure L w.paid n p) ≡ Some f → (f.reason ≡ TooManyReads) × AreTooMany L.reads (w.paid + n)
-  reads_fault v n p x f e h = grind (arith, nat_tests, are_too_many)
-
-  -- the same of an element
-  pub lead_reads_fault : (x : Entry) (lead : Lead) (e : Option Failure) (f : Fault) → e ≡ None → fault_of w (e ▷ lead_reads_failure L w.paid x lead) ≡ Some f → (f.reason ≡ TooManyReads) × AreTooMany L.reads (w.paid + (x.reads + lead_reads lead))
-  lead_reads_fault x lead e f o h = grind (arith, reads_fault)
-
-  -- an element that leads to a table isn't asked by itself
-  pub no_lead_fault : (x : Entry) (k : ℕ) (lead : Lead) (e : Option Failure) (f : Fault) → lead ≡ to_table k → e ≡ None → fault_of w (e ▷ lead_reads_failure L w.paid x lead) ≡ Some f → ⊥
-  no_lead_fault x k lead e f l o h = grind arith
+use Rattle.fb_verify.specs.WellFormed.{base, start_reads, IsStart, cost}
+use Rattle.fb_verify.specs.Way.{Way, way_to_start, way_to_root, way_to_field, way_to_element, way_to_table}
+use Rattle.fb_verify.specs.Stops.{in_start, in_head, in_field, in_element, fault_at, IsFalseAt, Trail, at_head, at_field, FieldTrail, at_own, at_element, ElementTrail, at_lead, through, IsTrail, IsFieldTrail, IsElementTrail}
+use Rattle.fb_verify.proofs.Budgets.{are_too_many, not_both, more_reads}
+use Rattle.fb_verify.proofs.Chains.{start_none, head_none, own_none, element_passes, through_passes}
 
 module _ (c : Checks) (b : List ℕ) (S : Rows) where
+  mutual
+    unfolding Unfolds FieldsUnfold ElementsUnfold ElementUnfolds
+
+    pub one_tree : (y z : Tree) (k t : ℕ) → Unfolds y c b S k t → Unfolds z c b S k t → y ≡ z
+    one_tree (node k1 t1 xs) (node k2 t2 ys) k t g h =
+        let kids = one_kids xs ys t (live_fields S k) g.3 h.3 in
+        grind arith
+
+    pub one_kids : (xs ys : Kids) (t : ℕ) (fs : List Live) → FieldsUnfold xs c b S t fs → FieldsUnfold ys c b S t fs → xs ≡ ys
+    one_kids no_kids no_kids t fs g h = refl
+    one_kids (kid x xs) (kid y ys) t (f ∷ fs) g h =
+        let elements = one_elements x y (entries b S t f) g.1 h.1 in
+        let kids = one_kids xs ys t fs g.2 h.2 in
+        cc
+    one_kids xs ys t fs g h = absurd (grind arith)
+
+    pub one_elements : (xs ys : Elements) (es : List Entry) → ElementsUnfold xs c b S es → ElementsUnfold ys c b S es → xs ≡ ys
+    one_elements no_elements no_elements es g h = refl
+    one_elements (element x xs) (element y ys) (e ∷ es) g h =
+        let first = one_element x y e.place e.lead g.0 h.0 in
+        let rest = one_elements xs ys es g.1 h.1 in
+        cc
+    one_elements xs ys es g h = absurd (grind arith)
+
+    pub one_element : (x y : Element) (p : ℕ) (lead : Lead) → ElementUnfolds x c b S p lead → ElementUnfolds y c b S p lead → x ≡ y
+    one_element leaf leaf p lead g h = refl
+    one_element (table x) (table y) p (to_table k) g h = ap table (one_tree x y k (target b p) g.1 h.1)
+    one_element x y p lead g h = absurd (grind arith)
+
   -- what the field under check has in the tree
   pub kids_at : (earlier kids : Kids) (t : ℕ) (fs : List Live) (g : Live) → FieldsUnfold kids c b S t fs → FieldsUnfold earlier c b S t (take (kids_length earlier) fs) → slice_get fs (kids_length earlier) ≡ Some g
       → (ys : Elements) × IsField c b S t g × ElementsUnfold ys c b S (entries b S t g) × (kids_size earlier + elements_size ys ≤ kids_size kids) × (elements_depth ys ≤ kids_depth kids)
       × (kids_cost earlier c b S t fs + (own_reads b t g + elements_cost ys c b S (entries b S t g)) ≤ kids_cost kids c b S t fs)
   unfolding FieldsUnfold kids_length kids_size kids_depth kids_cost
   kids_at no_kids (kid ys kids) t (f ∷ fs) g h e s =
-      let i : f ≡ g = cc in
-      let cheap : own_reads b t g + elements_cost ys c b S (entries b S t g) ≤ own_reads b t f + elements_cost ys c b S (entries b S t f) + kids_cost kids c b S t fs =
-      subst (λ x. own_reads b t x + elements_cost ys c b S (entries b S t x) ≤ own_reads b t f + elements_cost ys c b S (entries b S t f) + kids_cost kids c b S t fs) i (omega arith) in
-      (ys, subst (λ x. IsField c b S t x) i h.0, subst (λ x. ElementsUnfold ys c b S (entries b S t x)) i h.1, omega arith, omega arith, omega (arith, cheap))
+      let same : g ≡ f = cc in
+      rw same (ys, h.0, h.1, omega arith, omega arith, omega arith)
   kids_at (kid xs earlier) (kid ys kids) t (f ∷ fs) g h e s =
       let r = kids_at earlier kids t fs g h.2 e.2 s in
-      let same = one_elements c b S xs ys (entries b S t f) e.1 h.1 in
-      let i : elements_size xs ≡ elements_size ys = ap elements_size same in
-      let j : elements_cost xs c b S (entries b S t f) ≡ elements_cost ys c b S (entries b S t f) = ap (λ z. elements_cost z c b S (entries b S t f)) same in
-      (r.0, r.1, r.2, omega (arith, r.3), omega (arith, r.4), omega (arith, r.5, j))
+      rw (one_elements xs ys (entries b S t f) e.1 h.1) (r.0, r.1, r.2, omega (arith, r.3), omega (arith, r.4), omega (arith, r.5))
   kids_at earlier kids t fs g h e s = absurd (grind arith)
 
   -- what the element under check has in the tree
@@ -65,15 +66,11 @@ module _ (c : Checks) (b : List ℕ) (S : Rows) where
       × (elements_cost before c b S xs + (x.reads + lead_reads x.lead + element_cost y c b S) ≤ elements_cost ys c b S xs)
   unfolding ElementsUnfold elements_length elements_size elements_depth elements_cost
   elements_at no_elements (element y ys) (z ∷ zs) x h e s =
-      let i : z ≡ x = cc in
-      let cheap : x.reads + lead_reads x.lead ≤ z.reads + lead_reads z.lead = subst (λ v. v.reads + lead_reads v.lead ≤ z.reads + lead_reads z.lead) i (omega arith) in
-      (y, subst (λ v. ElementUnfolds y c b S v.place v.lead) i h.0, omega arith, omega arith, omega (arith, cheap))
+      let same : x ≡ z = cc in
+      rw same (y, h.0, omega arith, omega arith, omega arith)
   elements_at (element v before) (element y ys) (z ∷ zs) x h e s =
       let r = elements_at before ys zs x h.1 e.1 s in
-      let same = one_element c b S v y z.place z.lead e.0 h.0 in
-      let i : element_size v ≡ element_size y = ap element_size same in
-      let j : element_cost v c b S ≡ element_cost y c b S = ap (λ u. element_cost u c b S) same in
-      (r.0, r.1, omega (arith, r.2), omega (arith, r.3), omega (arith, r.4, j))
+      rw (one_element v y z.place z.lead e.0 h.0) (r.0, r.1, omega (arith, r.2), omega (arith, r.3), omega (arith, r.4))
   elements_at before ys xs x h e s = absurd (grind arith)
 
   -- an element that leads to a table is that table's tree
@@ -106,15 +103,32 @@ module _ (c : Checks) (b : List ℕ) (S : Rows) where
     pub not_past : (w : Way) (d m r q : ℕ) (f : Fault) → Overruns L w d m r f → w.links + d ≤ L.depth → w.passed + m ≤ L.tables → w.paid + r ≤ q → AreAllowed L.reads q → ⊥
     not_past w d m r q f past deep many few reads = grind (arith, not_both)
 
+    -- where a place passes its tests, its fault is a limit
+
+    pub start_overruns : (start : Start) (ident : Ident) (w : Way) (f : Fault) → IsStart c b start ident → IsFalseAt c b S L (in_start start ident) w f → AreTooMany L.reads (w.paid + start_reads start ident)
+    unfolding fault_at
+    start_overruns start ident w f h i = grind (arith, nat_tests, are_too_many, start_none)
+
     pub head_overruns : (k t : ℕ) (w : Way) (f : Fault) → IsTable c b t → IsFalseAt c b S L (in_head k t) w f → Overruns L w 1 1 (head_reads c) f
     unfolding fault_at
-    head_overruns k t w f h i =
-        let v : Way = record w { object = k; field = None } in
-        let e = either (fault_of w (budget_failure L w t)) (fault_of v (head_failure c b t ▷ reads_failure L w.paid (head_reads c) t)) f i.first in
-        grind (arith, budget_fault, reads_fault L w v (head_reads c) t (head_failure c b t) f ((head_none c b t).1 h))
+    head_overruns k t w f h i = grind (arith, nat_tests, are_too_many, head_none)
+
+    pub own_overruns : (t : ℕ) (g : Live) (w : Way) (f : Fault) → IsField c b S t g → IsFalseAt c b S L (in_field t g) w f → (f.reason ≡ TooManyReads) × AreTooMany L.reads (w.paid + own_reads b t g)
+    unfolding fault_at
+    own_overruns t g w f h i = grind (arith, nat_tests, are_too_many, own_none)
+
+    lead_overruns : (y : Element) (x : Entry) (w : Way) (f : Fault) → ElementUnfolds y c b S x.place x.lead → IsFalseAt c b S L (in_element x) w f
+        → (f.reason ≡ TooManyReads) × AreTooMany L.reads (w.paid + (x.reads + lead_reads x.lead))
+    unfolding fault_at
+    lead_overruns y x w f h i = let passes = element_passes c b S x y h in grind (arith, nat_tests, are_too_many)
+
+    -- an element that leads to a table isn't asked by itself
+    pub no_lead_fault : (x : Entry) (k : ℕ) (w : Way) (f : Fault) → x.lead ≡ to_table k → IsOffset c b x.place → IsFalseAt c b S L (in_element x) w f → ⊥
+    unfolding fault_at
+    no_lead_fault x k w f l o i = let passes = through_passes c b x k l o in grind arith
 
     mutual
-      unfolding Unfolds IsTrail IsFieldTrail IsElementTrail depth size tree_cost fault_at
+      unfolding Unfolds IsTrail IsFieldTrail IsElementTrail depth size tree_cost
 
       pub overruns : (s : Trail) (y : Tree) (k t : ℕ) (w : Way) (f : Fault) → Unfolds y c b S k t → IsTrail s c b S L k t w f → Overruns L w (depth y) (size y) (tree_cost y c b S) f
       overruns at_head (node k' t' kids) k t w f h i = more_overruns w w 1 1 (head_reads c) _ _ _ f (head_overruns k t w f h.2 i) (omega arith) (omega arith) (omega arith)
@@ -127,7 +141,7 @@ module _ (c : Checks) (b : List ℕ) (S : Rows) where
       pub field_overruns : (s : FieldTrail) (ys : Elements) (t : ℕ) (g : Live) (w : Way) (f : Fault) → IsField c b S t g → ElementsUnfold ys c b S (entries b S t g) → IsFieldTrail s c b S L t g w f
           → Overruns L w (elements_depth ys) (elements_size ys) (own_reads b t g + elements_cost ys c b S (entries b S t g)) f
       field_overruns at_own ys t g w f o h i =
-          let r = reads_fault L w w (own_reads b t g) t (own_failure c b S t g) f ((own_none c b S t g).1 o) i.first in
+          let r = own_overruns t g w f o i in
           inr (inr (r.0, more_reads L.reads (w.paid + own_reads b t g) _ (omega arith) r.1))
       field_overruns (at_element before s) ys t g w f o h i =
           let r = elements_at before ys (entries b S t g) i.0 h i.1.passed i.1.next in
@@ -137,10 +151,17 @@ module _ (c : Checks) (b : List ℕ) (S : Rows) where
       pub element_overruns : (s : ElementTrail) (y : Element) (x : Entry) (w : Way) (f : Fault) → ElementUnfolds y c b S x.place x.lead → IsElementTrail s c b S L x w f
           → Overruns L w (element_depth y) (element_size y) (x.reads + lead_reads x.lead + element_cost y c b S) f
       element_overruns at_lead y x w f h i =
-          let r = lead_reads_fault L w x x.lead (element_failure c b x) f (element_passes c b S x y h) i.first in
+          let r = lead_overruns y x w f h i in
           inr (inr (r.0, more_reads L.reads (w.paid + (x.reads + lead_reads x.lead)) _ (omega arith) r.1))
       element_overruns (through s) y x w f h i =
           let r = table_at y x.place i.0 x.lead i.1 h in
           let v = way_to_table x w in
           let one : lead_reads x.lead ≡ 1 = ap lead_reads i.1 in
           more_overruns v w _ _ _ _ _ _ f (overruns s r.0 i.0 (target b x.place) v f r.1 i.3) (omega (arith, r.3)) (omega (arith, r.2)) (omega (arith, r.4, one))
+
+-- where a tree is well formed and within the limits, no fault is the first
+pub stops_nowhere : StopsNowhereWithin
+stops_nowhere q b y f h r (inl i) = not_both q.limits.reads _ (cost q b y) (omega arith) r.reads (start_overruns q.checks b q.rows q.limits q.start q.ident (way_to_start q.root) f h.starts i)
+stops_nowhere q b y f h r (inr i) =
+    let w = way_to_root q.root q.start q.ident in
+    not_past q.checks b q.rows q.limits w _ _ _ _ f (overruns q.checks b q.rows q.limits i.1.0 y q.root (target b (base q.start)) w f h.unfolds i.1.1) (omega (arith, r.depth)) (omega (arith, r.tables)) (omega arith) r.reads

@@ -1,51 +1,42 @@
 -- The examples, by computing the chains of tests.
-use Rattle.std.proofs.Common.{◌≡◌, ℕ, List, take, refl, rules, None, Some}
+use Rattle.std.proofs.Common.{◌≡◌, ℕ, List, [], ◌∷◌, take, refl, rules, inl, inr, None, Some}
 use Rattle.std.specs.Prelude.{slice_get}
 use Rattle.fb_bytes.specs.Word.{word}
 use Rattle.fb_schema.specs.{Rows.Rows, Live.Live, Live.live_fields, Kinds.shape_of, Kinds.kind_of, Kinds.base_types, Members.member_of}
 use Rattle.fb_verify.specs.declared.{checks.Checks.Checks, start.Start.Start, start.Ident.Ident}
-use Rattle.fb_verify.specs.Facts.{IsTable, IsOffset, IsString, IsInline}
+use Rattle.fb_verify.specs.{Facts.IsTable, Facts.IsOffset, Facts.IsString, Examples.kids_of, Examples.one_field}
 use Rattle.fb_verify.specs.{WellFormed.IsStart, Unfolds.Unfolds, Unfolds.FieldsUnfold, Unfolds.ElementsUnfold, Cost.own_reads, Cost.tree_cost}
-use Rattle.fb_verify.specs.Samples.{published_checks, nodes, shared}
 use Rattle.fb_verify.specs.Places.{is_aligned, has_vtable, vtable, field_place, ends_in_table}
 use Rattle.fb_verify.specs.Fields.{IsField, Entry, entries, row, union_row}
-use Rattle.fb_verify.specs.Tree.{Kids, Elements, size, depth, kids_length, elements_length}
+use Rattle.fb_verify.specs.Tree.{Tree, node, Kids, no_kids, no_elements, element, Elements, table, size, depth, kids_length, elements_length}
 use Rattle.fb_verify.specs.Order.{own_failure, element_failure, start_failure, prefix_failure, ident_failure, head_failure, offset_failure, string_failure, vector_failure, inline_failure, table_failure}
-use Rattle.fb_verify.specs.Stops.{fault_at, IsLink, IsInField, IsTrail}
-use Rattle.fb_verify.specs.Examples.{MonsterUnfolds, OneMemberUnfolds, TwoMembersUnfold, EveryKindUnfolds, last, middle, OpenNameStops, NoNameStops, ThreeValuesStop, CrookedStructStops, SeventhTableStops, ThirdLevelStops, OddVtableStops, ShortTableStops, FirstReadStops, LastTextStops, SeventhHeadStops, LastFieldStops, BudgetsByLength}
+use Rattle.fb_verify.specs.Stops.{fault_at, IsLink, IsInField, Trail, at_head, at_field, at_own, at_element, at_lead, through, IsTrail}
+use Rattle.fb_verify.specs.{Links.links_of, Links.links_in_field, Links.links_in_element, LinkExamples.LinksFound}
 use Rattle.fb_verify.proofs.Chains.{start_none, head_none, own_none, offset_none, string_none, inline_none}
 
--- all that is computed
+-- all that is computed, with the facts of fields
 unfoldable pub computing : ℕ
-unfolding word live_fields kind_of shape_of base_types member_of is_aligned has_vtable vtable field_place ends_in_table entries row union_row size depth Unfolds own_reads tree_cost own_failure element_failure start_failure prefix_failure ident_failure head_failure offset_failure string_failure vector_failure inline_failure table_failure IsTrail fault_at kids_length elements_length
+unfolding word IsField live_fields kind_of shape_of base_types member_of is_aligned has_vtable vtable field_place ends_in_table entries row union_row size depth Unfolds own_reads tree_cost own_failure element_failure start_failure prefix_failure ident_failure head_failure offset_failure string_failure vector_failure inline_failure table_failure IsTrail fault_at kids_length elements_length
 computing = 0
 
--- with the facts of fields
-unfoldable pub showing : ℕ
-unfolding computing IsField
-showing = 0
+pub ruleset shown = (rules, start_none, head_none, own_none, offset_none, string_none, inline_none)
 
 -- a chain that finds nothing tells the facts
 
 pub start : {c : Checks} {b : List ℕ} {s : Start} {i : Ident} → start_failure c b s i ≡ None → IsStart c b s i
-start {c} {b} {s} {i} h = (start_none c b s i).0 h
+start h = (start_none _ _ _ _).0 h
 
 pub head : {c : Checks} {b : List ℕ} {t : ℕ} → head_failure c b t ≡ None → IsTable c b t
-head {c} {b} {t} h = (head_none c b t).0 h
+head h = (head_none _ _ _).0 h
 
 pub own : (c : Checks) (b : List ℕ) (S : Rows) (t : ℕ) (f : Live) → own_failure c b S t f ≡ None → IsField c b S t f
 own c b S t f h = (own_none c b S t f).0 h
 
 pub offset : {c : Checks} {b : List ℕ} {p : ℕ} → offset_failure c b p ≡ None → IsOffset c b p
-offset {c} {b} {p} h = (offset_none c b p).0 h
+offset h = (offset_none _ _ _).0 h
 
 pub string : {c : Checks} {b : List ℕ} {s : ℕ} → string_failure c b s ≡ None → IsString c b s
-string {c} {b} {s} h = (string_none c b s).0 h
-
-pub inline : {c : Checks} {b : List ℕ} {p n a : ℕ} → inline_failure c b p n a ≡ None → IsInline c b p n a
-inline {c} {b} {p} {n} {a} h = (inline_none c b p n a).0 h
-
-pub ruleset shown = (rules, start, head, own, offset, string, inline)
+string h = (string_none _ _ _).0 h
 
 -- a trail goes on past fields of a table, and past elements of a field
 
@@ -57,86 +48,30 @@ pub among : {c : Checks} {b : List ℕ} {S : Rows} {t : ℕ} {g : Live} {before 
     → slice_get (entries b S t g) (elements_length before) ≡ Some x → IsInField c b S t g before x
 among h passed next = record { own = (own_none _ _ _ _ _).0 h; passed = passed; next = next }
 
--- trees
+-- links: all that is computed
+unfoldable linking : ℕ
+unfolding computing links_of links_in_field links_in_element
+linking = 0
 
-pub monster_unfolds : MonsterUnfolds
-unfolding showing
-monster_unfolds = search shown
+-- the table at 60, which the list has twice
+empty : Tree
+empty = node 2 60 (kids_of (no_elements ∷ []))
 
-pub one_member_unfolds : OneMemberUnfolds
-unfolding showing
-one_member_unfolds = search shown
+twice : Elements
+twice = element (table empty) (element (table empty) no_elements)
 
-pub two_members_unfold : TwoMembersUnfold
-unfolding showing
-two_members_unfold = search shown
+-- past the type of the union and past these tables, on from the third
+to_third : Trail → Trail
+to_third s = at_field one_field (at_element no_elements (through (at_field no_kids (at_element twice (through s)))))
 
-last_unfolds : Unfolds last published_checks shared nodes 0 40
-unfolding showing
-last_unfolds = search shown
-
-middle_unfolds : Unfolds middle published_checks shared nodes 0 28
-unfolding showing
-middle_unfolds = search shown
-
-pub every_kind_unfolds : EveryKindUnfolds
-unfolding showing
-every_kind_unfolds = search shown
-
--- faults
-
-pub open_name_stops : OpenNameStops
-unfolding showing
-open_name_stops = (search shown, (_, past refl (search shown) refl, (_, among refl tt refl, search rules)))
-
-pub no_name_stops : NoNameStops
-unfolding showing
-no_name_stops = (search shown, (_, past refl (search shown) refl, (_, among refl tt refl, search rules)))
-
-pub three_values_stop : ThreeValuesStop
-unfolding showing
-three_values_stop = (search shown, (_, past refl (search shown) refl, search rules))
-
-pub crooked_struct_stops : CrookedStructStops
-unfolding showing
-crooked_struct_stops = (search shown, (_, past refl (search shown) refl, (_, among refl tt refl, search rules)))
-
-pub seventh_table_stops : SeventhTableStops
-unfolding showing
-seventh_table_stops =
-    (search shown, (_, past refl (search (shown, middle_unfolds)) refl, (_, among refl tt refl, (_, refl, search shown, (_, past refl (search (shown, last_unfolds)) refl, (_, among refl tt refl, (_, refl, search shown, search rules)))))))
-
-pub third_level_stops : ThirdLevelStops
-unfolding showing
-third_level_stops =
-    (search shown, (_, past refl tt refl, (_, among refl tt refl, (_, refl, search shown, (_, past refl tt refl, (_, among refl tt refl, (_, refl, search shown, search rules)))))))
-
-pub odd_vtable_stops : OddVtableStops
-unfolding showing
-odd_vtable_stops = (search shown, (_, past refl (search shown) refl, (_, among refl tt refl, (_, refl, search shown, search rules))))
-
-pub short_table_stops : ShortTableStops
-unfolding showing
-short_table_stops = (search shown, (_, past refl tt refl, search rules))
-
-pub first_read_stops : FirstReadStops
-unfolding showing
-first_read_stops = search rules
-
-pub last_text_stops : LastTextStops
-unfolding showing
-last_text_stops = (search shown, (_, past refl (search shown) refl, (_, among refl tt refl, search rules)))
-
-pub seventh_head_stops : SeventhHeadStops
-unfolding showing
-seventh_head_stops =
-    (search shown, (_, past refl (search (shown, middle_unfolds)) refl, (_, among refl tt refl, (_, refl, search shown, (_, past refl (search (shown, last_unfolds)) refl, (_, among refl tt refl, (_, refl, search shown, search rules)))))))
-
-pub last_field_stops : LastFieldStops
-unfolding showing
-last_field_stops =
-    (search shown, (_, past refl (search shown) refl, (_, among refl tt refl, (_, refl, search shown, (_, past refl tt refl, search rules)))))
-
-pub budgets_by_length : BudgetsByLength
-unfolding showing
-budgets_by_length = search rules
+pub links_found : LinksFound
+unfolding linking empty twice to_third
+links_found = record {
+  at_the_start = inl (search rules, refl);
+  at_the_root = inr (search shown, (at_head, search rules, refl));
+  in_a_type = inr (search shown, (at_field no_kids at_own, (_, past refl tt refl, search rules), refl));
+  in_the_head_of_a_vector = inr (search shown, (at_field no_kids at_own, (_, past refl tt refl, search rules), refl));
+  in_a_third_table = inr (search shown, (to_third at_head, (_, past refl (search shown) refl, (_, among refl tt refl, (_, refl, search shown, (_, past refl tt refl, (_, among refl (search shown) refl, (_, refl, search shown, search rules)))))), refl));
+  in_its_field = inr (search shown, (to_third (at_field no_kids (at_element no_elements at_lead)), (_, past refl (search shown) refl, (_, among refl tt refl, (_, refl, search shown, (_, past refl tt refl, (_, among refl (search shown) refl, (_, refl, search shown, (_, past refl tt refl, (_, among refl tt refl, search rules)))))))), refl));
+  one_table_too_many = inr (search shown, (to_third at_head, (_, past refl (search shown) refl, (_, among refl tt refl, (_, refl, search shown, (_, past refl tt refl, (_, among refl (search shown) refl, (_, refl, search shown, search rules)))))), refl));
+}

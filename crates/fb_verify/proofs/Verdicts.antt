@@ -4,37 +4,29 @@ use Rattle.fb_verify.specs.declared.{fault.Fault.Fault, fault.Report.Report, scr
 use Rattle.fb_verify.specs.{Bounds.AreAllowed, Question.Question, Places.target, Tree.size, Tree.depth, Cost.tree_cost}
 use Rattle.fb_verify.specs.{WellFormed.base, WellFormed.start_reads, Way.way_to_start, Way.way_to_root, Links.LeadsAlong, Links.StopsAlong}
 use Rattle.fb_verify.specs.{Told.told, Told.way_at, Walked.TableWalked, Walked.ended, Stack.HaltsAlong, MostReads.most_reads}
-use Rattle.fb_verify.specs.Verdict.{Reports, HasNone}
+use Rattle.fb_verify.specs.{Verdict.Reports, Verdict.HasNone, Stops.reads_failure, Stops.fault_at, Stops.Stops}
 use Rattle.fb_verify.specs.Order.{◌▷◌, start_failure}
-use Rattle.fb_verify.specs.Stops.{in_start, reads_failure, fault_at, Stops}
-use Rattle.fb_verify.proofs.{Budgets.fewer_reads, Budgets.no_reads, Chains.start_none, Nones.stops_nowhere}
-use Rattle.fb_verify.proofs.{TrailPrice.cost_is_bounded, TrailPrice.reads_are_bounded, Steps.same_way, Standings.told_is}
+use Rattle.fb_verify.proofs.{Budgets.fewer_reads, Budgets.no_reads, Chains.start_none, Overruns.stops_nowhere}
+use Rattle.fb_verify.proofs.{Price.cost_is_bounded, Price.reads_are_bounded, Steps.same_way, Standings.told_is}
 
 module _ (q : Question) (b : List ℕ) where
   abbrev root_site : Site
   root_site = record { object = q.root; field = None }
 
   -- the root's way, as the walk has it
-  pub root_way : (r : ℕ) → r ≡ start_reads q.start q.ident → way_at 0 0 0 r root_site ≡ way_to_root q.root q.start q.ident
+  root_way : (r : ℕ) → r ≡ start_reads q.start q.ident → way_at 0 0 0 r root_site ≡ way_to_root q.root q.start q.ident
   root_way r e = same_way _ _ refl refl refl (omega (arith, e)) refl refl refl
 
   -- a fault before the root table, to which no link leads
   pub stops_at_start : (f : Fault) → told root_site 0 (start_failure q.checks b q.start q.ident ▷ reads_failure q.limits 0 (start_reads q.start q.ident) (base q.start)) ≡ Some f → StopsAlong q b f []
   unfolding fault_at
   stops_at_start f h =
-      let w = way_to_start q.root in
-      let failed = start_failure q.checks b q.start q.ident ▷ reads_failure q.limits 0 (start_reads q.start q.ident) (base q.start) in
-      let g : fault_at q.checks b q.rows q.limits (in_start q.start q.ident) w ≡ Some f = sym (told_is w root_site failed refl refl) ∙ h in
-      inl (record { within = record { tables = omega arith; depth = omega arith; reads = no_reads q.limits.reads }; first = g }, refl)
+      inl (record { within = record { tables = omega arith; depth = omega arith; reads = no_reads q.limits.reads }; first = sym (told_is (way_to_start q.root) root_site _ refl refl) ∙ h }, refl)
 
   -- a fault at the root table or below
   pub stops_below_start : (t r : ℕ) (f : Fault) (links : List Link) → start_failure q.checks b q.start q.ident ≡ None → t ≡ target b (base q.start)
       → r ≡ start_reads q.start q.ident → LeadsAlong q.checks b q.rows q.limits q.root t (way_at 0 0 0 r root_site) f links → StopsAlong q b f links
   stops_below_start t r f links o p e h = inr ((start_none q.checks b q.start q.ident).0 o, rw (p, root_way r e) at h)
-
-  -- where links lead to a fault, there is one
-  stops_along : (f : Fault) (links : List Link) → StopsAlong q b f links → Stops q b f
-  stops_along f links h = grind arith
 
   -- the root table was walked
   pub reports : (t r n d paid count : ℕ) → start_failure q.checks b q.start q.ident ≡ None → t ≡ target b (base q.start) → r ≡ start_reads q.start q.ident
@@ -57,15 +49,15 @@ module _ (q : Question) (b : List ℕ) where
 module _ {q : Question} {b : List ℕ} where
   -- where frames lead to a fault, there is one
   pub fault_along : {frames : List Frame} {last : LastLink} {f : Fault} → HaltsAlong q b frames last f → Stops q b f
-  fault_along {frames} {last} {f} h = stops_along q b f _ h.along
+  fault_along h = let along = h.along in grind arith
 
   -- and no tree
   pub none_along : {frames : List Frame} {last : LastLink} {f : Fault} → HaltsAlong q b frames last f → HasNone q b
-  none_along {frames} {last} {f} h y i j = stops_nowhere q b y f i j (fault_along h)
+  none_along h y i j = stops_nowhere q b y _ i j (fault_along h)
 
   -- the price
   pub price_of_no : {frames : List Frame} {last : LastLink} {f : Fault} → HaltsAlong q b frames last f → f.reads ≤ most_reads q.rows q.limits (length b)
-  price_of_no {frames} {last} {f} h = reads_are_bounded q b f (fault_along h)
+  price_of_no h = reads_are_bounded q b _ (fault_along h)
 
   pub price_of_yes : {r : Report} → Reports q b r → r.reads ≤ most_reads q.rows q.limits (length b)
-  price_of_yes {r} h = omega (arith, h.reads, cost_is_bounded q b h.found h.well_formed h.within)
+  price_of_yes h = omega (arith, h.reads, cost_is_bounded q b h.found h.well_formed h.within)

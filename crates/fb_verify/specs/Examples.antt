@@ -9,7 +9,7 @@ use Rattle.fb_verify.specs.{Question.question, Places.target, WellFormed.IsStart
 use Rattle.fb_verify.specs.Way.{way_to_start, way_to_root}
 use Rattle.fb_verify.specs.Tree.{Tree, node, Kids, no_kids, kid, Elements, no_elements, element, leaf, table, size, depth}
 use Rattle.fb_verify.specs.Stops.{in_start, IsFalseAt, Trail, at_head, at_field, at_own, at_element, at_lead, through, IsTrail}
-use Rattle.fb_verify.specs.Samples.{published_checks, published_limits, fault, monsters, nodes, unions, monster, open_name, no_name, short_table, one_member, odd_vtable, crooked_struct, two_members, three_values, every_kind, shared}
+use Rattle.fb_verify.specs.Samples.{published_checks, published_limits, fault, monsters, nodes, unions, orc, monster, open_name, one_member, odd_vtable, crooked_struct, two_members, three_values, every_kind, shared}
 
 -- under the published checks the buffer unfolds into this tree, with so many tables, so deep, for so many reads
 abbrev pub Counts : List ℕ → Rows → ℕ → Tree → ℕ → ℕ → ℕ → Type 0
@@ -69,7 +69,7 @@ OpenNameStops = StopsBy published_checks open_name monsters 0 published_limits (
 
 -- past the hit points, the name's offset is 0
 abbrev pub NoNameStops : Type 0
-NoNameStops = StopsBy published_checks no_name monsters 0 published_limits (at_field one_field (at_element no_elements at_lead)) (fault ZeroOffset 16 0 (Some 1) 6)
+NoNameStops = StopsBy published_checks (orc 12 0 0) monsters 0 published_limits (at_field one_field (at_element no_elements at_lead)) (fault ZeroOffset 16 0 (Some 1) 6)
 
 -- past the types, of which there are two, there are three values
 abbrev pub ThreeValuesStop : Type 0
@@ -125,9 +125,9 @@ abbrev pub OddVtableStops : Type 0
 OddVtableStops =
     StopsBy published_checks odd_vtable unions 2 published_limits (at_field one_field (at_element no_elements (through at_head))) (fault BadVtable 24 0 None 10)
 
--- where the inline size is checked: the hit points end past it
+-- where the inline size is checked, which is 9: the hit points end at 10
 abbrev pub ShortTableStops : Type 0
-ShortTableStops = StopsBy (record { alignment = true; inline_size = true }) short_table monsters 0 published_limits (at_field no_kids at_own) (fault PastTable 20 0 (Some 0) 5)
+ShortTableStops = StopsBy (record { alignment = true; inline_size = true }) (orc 9 8 0) monsters 0 published_limits (at_field no_kids at_own) (fault PastTable 20 0 (Some 0) 5)
 
 -- what buffers may read by 64 reads a byte, within 100 million: the shortest and the longest of these, and one for
 -- which 7,000 reads are too many, where a longer buffer may make them

@@ -1,13 +1,13 @@
 -- The laws of the definitions.
-use Rattle.std.specs.Prelude.{◌≡◌, ◌↔◌, ◌⊎◌, ℕ, ◌+◌, ◌*◌, ◌<◌, ◌≤◌, List, length, slice_index, None}
+use Rattle.std.specs.Prelude.{◌≡◌, ◌↔◌, ◌⊎◌, ℕ, ◌+◌, ◌*◌, ◌<◌, ◌≤◌, List, [], ◌∷◌, ◌++◌, length, slice_index, Some, None, Result, Ok, Err}
 use Rattle.fb_bytes.specs.Word.{word}
 use Rattle.fb_schema.specs.{Rows.Rows, Live.Live}
 use Rattle.fb_verify.specs.declared.{checks.Checks.Checks, start.Start.Start, start.Ident.Ident}
 use Rattle.fb_verify.specs.declared.fault.Reason.TheVariants.{TooDeep, TooManyTables, TooManyReads}
-use Rattle.fb_verify.specs.declared.{fault.Fault.Fault, links.Link.Link}
+use Rattle.fb_verify.specs.declared.{fault.Fault.Fault, fault.Report.Report, links.Link.Link}
 use Rattle.fb_verify.specs.Bounds.{Bounds, AreAllowed, AreTooMany, limits_of_length}
 use Rattle.fb_verify.specs.{Question.Question, Places.target, Tree.Tree, Tree.size, Tree.depth, Unfolds.Unfolds, Cost.tree_cost, Way.Way}
-use Rattle.fb_verify.specs.{Stops.Trail, Stops.IsTrail, Stops.Stops, Links.StopsAlong, MostReads.most_reads}
+use Rattle.fb_verify.specs.{Stops.Trail, Stops.IsTrail, Stops.Stops, Links.StopsAlong, MostReads.most_reads, Verdict.Reports}
 use Rattle.fb_verify.specs.Facts.{IsTable, IsOffset, IsString, IsVector, IsInline}
 use Rattle.fb_verify.specs.Fields.{IsField, Lead, to_table, to_struct, to_string, to_nothing, Entry}
 use Rattle.fb_verify.specs.WellFormed.{IsStart, IsWellFormed, IsWithin, cost}
@@ -74,9 +74,30 @@ StopsOnce = (q : Question) (b : List ℕ) (f g : Fault) → Stops q b f → Stop
 abbrev pub LeadsOneWay : Type 0
 LeadsOneWay = (q : Question) (b : List ℕ) (f g : Fault) (xs ys : List Link) → StopsAlong q b f xs → StopsAlong q b g ys → xs ≡ ys
 
--- none is, where a tree is well formed and within the limits
+-- the last of these links is to this field of a table of this object
+pub record EndIn (object field : ℕ) (links : List Link) : Type 0 where
+  pub before : List Link
+  pub last : Link
+  pub all : links ≡ before ++ last ∷ []
+  pub object_is : last.object ≡ object
+  pub field_is : last.field ≡ field
+
+-- where a fault names a field, the last link to it is to that field
+abbrev pub LinksEndInField : Type 0
+LinksEndInField = (q : Question) (b : List ℕ) (f : Fault) (links : List Link) (n : ℕ) → StopsAlong q b f links → f.field ≡ Some n → EndIn f.object n links
+
+-- no fault is, where a tree is well formed and within the limits
 abbrev pub StopsNowhereWithin : Type 0
 StopsNowhereWithin = (q : Question) (b : List ℕ) (y : Tree) (f : Fault) → IsWellFormed q b y → IsWithin q b y → Stops q b f → ⊥
+
+-- an answer applies: a report that counts a tree, or the fault that is the first
+abbrev pub Applies : Question → List ℕ → Result Report Fault → Type 0
+Applies q b (Ok r) = Reports q b r
+Applies q b (Err f) = Stops q b f
+
+-- at most one applies to a question
+abbrev pub HasOneVerdict : Type 0
+HasOneVerdict = (q : Question) (b : List ℕ) (x y : Result Report Fault) → Applies q b x → Applies q b y → x ≡ y
 
 -- a well formed tree within the limits costs at most that many reads
 abbrev pub CostIsBounded : Type 0

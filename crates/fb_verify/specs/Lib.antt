@@ -17,9 +17,7 @@ pub mod MostReads
 pub mod Verdict
 pub mod Sealed
 pub mod Laws
-pub mod LinkLaws
 pub mod TrueReasons
-pub mod Answers
 pub mod Samples
 pub mod Examples
 pub mod Tests

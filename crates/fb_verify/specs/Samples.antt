@@ -99,25 +99,17 @@ unions = record {
       ∷ [];
 }
 
--- a monster named Orc with 300 hit points
+-- a monster named Orc with 300 hit points: its table's inline size, its name's offset, and the byte behind its name
+abbrev pub orc : ℕ → ℕ → ℕ → List ℕ
+orc inline offset behind =
+    12 ∷ 0 ∷ 0 ∷ 0 ∷ 8 ∷ 0 ∷ inline ∷ 0 ∷ 8 ∷ 0 ∷ 4 ∷ 0 ∷ 8 ∷ 0 ∷ 0 ∷ 0 ∷ offset ∷ 0 ∷ 0 ∷ 0 ∷ 44 ∷ 1 ∷ 0 ∷ 0 ∷ 3 ∷ 0 ∷ 0 ∷ 0 ∷ 79 ∷ 114 ∷ 99 ∷ behind ∷ []
+
 abbrev pub monster : List ℕ
-monster =
-    12 ∷ 0 ∷ 0 ∷ 0 ∷ 8 ∷ 0 ∷ 12 ∷ 0 ∷ 8 ∷ 0 ∷ 4 ∷ 0 ∷ 8 ∷ 0 ∷ 0 ∷ 0 ∷ 8 ∷ 0 ∷ 0 ∷ 0 ∷ 44 ∷ 1 ∷ 0 ∷ 0 ∷ 3 ∷ 0 ∷ 0 ∷ 0 ∷ 79 ∷ 114 ∷ 99 ∷ 0 ∷ []
+monster = orc 12 8 0
 
 -- the same with 1 for the name's terminator
 abbrev pub open_name : List ℕ
-open_name =
-    12 ∷ 0 ∷ 0 ∷ 0 ∷ 8 ∷ 0 ∷ 12 ∷ 0 ∷ 8 ∷ 0 ∷ 4 ∷ 0 ∷ 8 ∷ 0 ∷ 0 ∷ 0 ∷ 8 ∷ 0 ∷ 0 ∷ 0 ∷ 44 ∷ 1 ∷ 0 ∷ 0 ∷ 3 ∷ 0 ∷ 0 ∷ 0 ∷ 79 ∷ 114 ∷ 99 ∷ 1 ∷ []
-
--- the same with 0 for the name's offset
-abbrev pub no_name : List ℕ
-no_name =
-    12 ∷ 0 ∷ 0 ∷ 0 ∷ 8 ∷ 0 ∷ 12 ∷ 0 ∷ 8 ∷ 0 ∷ 4 ∷ 0 ∷ 8 ∷ 0 ∷ 0 ∷ 0 ∷ 0 ∷ 0 ∷ 0 ∷ 0 ∷ 44 ∷ 1 ∷ 0 ∷ 0 ∷ 3 ∷ 0 ∷ 0 ∷ 0 ∷ 79 ∷ 114 ∷ 99 ∷ 0 ∷ []
-
--- the same with an inline size of 9, where the hit points end at 10
-abbrev pub short_table : List ℕ
-short_table =
-    12 ∷ 0 ∷ 0 ∷ 0 ∷ 8 ∷ 0 ∷ 9 ∷ 0 ∷ 8 ∷ 0 ∷ 4 ∷ 0 ∷ 8 ∷ 0 ∷ 0 ∷ 0 ∷ 8 ∷ 0 ∷ 0 ∷ 0 ∷ 44 ∷ 1 ∷ 0 ∷ 0 ∷ 3 ∷ 0 ∷ 0 ∷ 0 ∷ 79 ∷ 114 ∷ 99 ∷ 0 ∷ []
+open_name = orc 12 8 1
 
 -- a union whose value is a table A
 abbrev pub one_member : List ℕ

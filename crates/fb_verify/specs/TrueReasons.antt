@@ -110,14 +110,10 @@ PresentIsFalse c b t g p Texts reason at = VectorFieldIsFalse c b t p 4 4 reason
 PresentIsFalse c b t g p (Tables k) reason at = VectorFieldIsFalse c b t p 4 4 reason at
 PresentIsFalse c b t g p (Unions e) reason at = VectorFieldIsFalse c b t p 4 4 reason at ⊎ CountIsFalse b p (type_place b t g.slot) reason at
 
--- of a field that is absent from the table at t
-abbrev pub AbsentIsFalse : ℕ → Live → Reason → ℕ → Type 0
-AbsentIsFalse t g MissingRequired at = (at ≡ t) × IsTrue g.required
-AbsentIsFalse t g _ at = ⊥
-
--- of a field with this place, if it has one
+-- of a field with this place in the table at t, or of one that is absent
 abbrev pub PlacedIsFalse : Checks → List ℕ → ℕ → Live → Option ℕ → Reason → ℕ → Type 0
-PlacedIsFalse c b t g None reason at = AbsentIsFalse t g reason at
+PlacedIsFalse c b t g None MissingRequired at = (at ≡ t) × IsTrue g.required
+PlacedIsFalse c b t g None _ at = ⊥
 PlacedIsFalse c b t g (Some p) reason at = PresentIsFalse c b t g p g.kind reason at
 
 -- of an offset word at p, or of what it leads to, but for a table

@@ -3,7 +3,7 @@
 ghost use Rattle.fb_verify.specs.Examples.{MonsterUnfolds, OneMemberUnfolds, TwoMembersUnfold, EveryKindUnfolds, OpenNameStops, NoNameStops, ThreeValuesStop, CrookedStructStops, SeventhTableStops, ThirdLevelStops, OddVtableStops, ShortTableStops, FirstReadStops, LastTextStops, SeventhHeadStops, LastFieldStops, BudgetsByLength};
 
 /// Buffers with their trees, and the tables, depth and reads of these.
-#[tactic(auto, using(crate::proofs::Shown::monster_unfolds, crate::proofs::Shown::one_member_unfolds, crate::proofs::Shown::two_members_unfold, crate::proofs::Shown::every_kind_unfolds))]
+#[tactic(auto, using(crate::proofs::Shown::shown), unfolding(crate::proofs::Shown::computing))]
 pub fn trees()
     ensures a_number_and_a_text { MonsterUnfolds }
     ensures a_union_of_a_table { OneMemberUnfolds }
@@ -12,7 +12,6 @@ pub fn trees()
 {}
 
 /// Buffers with their faults, and the trails that lead to these.
-#[tactic(auto, using(crate::proofs::Shown::open_name_stops, crate::proofs::Shown::no_name_stops, crate::proofs::Shown::three_values_stop, crate::proofs::Shown::crooked_struct_stops, crate::proofs::Shown::seventh_table_stops, crate::proofs::Shown::third_level_stops, crate::proofs::Shown::odd_vtable_stops, crate::proofs::Shown::short_table_stops, crate::proofs::Shown::first_read_stops, crate::proofs::Shown::last_text_stops, crate::proofs::Shown::seventh_head_stops, crate::proofs::Shown::last_field_stops))]
 pub fn faults()
     ensures no_terminator { OpenNameStops }
     ensures a_zero_offset { NoNameStops }
@@ -29,7 +28,6 @@ pub fn faults()
 {}
 
 /// What buffers of some lengths may read.
-#[tactic(auto, using(crate::proofs::Shown::budgets_by_length))]
 pub fn budgets()
     ensures { BudgetsByLength }
 {}

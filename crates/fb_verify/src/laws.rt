@@ -1,7 +1,7 @@
 //! Laws of the definitions: each is the contract of a function that does nothing.
 
-ghost use Rattle.fb_verify.specs.Laws.{StartLaw, HeadLaw, OffsetLaw, StringLaw, VectorLaw, InlineLaw, FieldLaw, ElementLaw, IdentifierLaw, HasOneTree, StopsOnlyAtLimits, StopsOnce, LeadsOneWay, StopsNowhereWithin, CostIsBounded, ReadsAreBounded, LengthAllows};
-ghost use Rattle.fb_verify.specs.{Answers.HasOneVerdict, TrueReasons.StopsTruly, TrueReasons.TablesRunOut};
+ghost use Rattle.fb_verify.specs.Laws.{StartLaw, HeadLaw, OffsetLaw, StringLaw, VectorLaw, InlineLaw, FieldLaw, ElementLaw, IdentifierLaw, HasOneTree, StopsOnlyAtLimits, StopsOnce, LeadsOneWay, StopsNowhereWithin, CostIsBounded, ReadsAreBounded, HasOneVerdict, LengthAllows};
+ghost use Rattle.fb_verify.specs.TrueReasons.{StopsTruly, TablesRunOut};
 
 /// The chain of an offset word's tests finds nothing exactly where the facts of one hold.
 #[tactic(auto, using(crate::proofs::Chains::offset_none))]
@@ -52,13 +52,13 @@ pub fn element_is_told()
 {}
 
 /// An identifier is compared as one number, which says of bytes that all four are the same.
-#[tactic(auto, using(crate::proofs::Identifiers::same_four))]
+#[tactic(auto, unfolding(fb_bytes::specs::Word::word))]
 pub fn identifier_is_four_bytes()
     ensures { IdentifierLaw }
 {}
 
 /// A buffer has at most one tree for an object and a position.
-#[tactic(auto, using(crate::proofs::Unique::one_tree))]
+#[tactic(auto, using(crate::proofs::Overruns::one_tree))]
 pub fn one_tree()
     ensures { HasOneTree }
 {}
@@ -85,7 +85,7 @@ pub fn stops_nowhere_within()
 {}
 
 /// A tree that is well formed and within the limits costs at most `most_reads`.
-#[tactic(auto, using(crate::proofs::TrailPrice::cost_is_bounded))]
+#[tactic(auto, using(crate::proofs::Price::cost_is_bounded))]
 pub fn cost_is_bounded()
     ensures { CostIsBounded }
 {}
@@ -97,7 +97,7 @@ pub fn reads_are_bounded()
 
 /// At most one answer applies to a question: one report, or one fault, and never one of each. So `walk`, whose
 /// answers apply, gives what `verify` gives.
-#[tactic(auto, using(crate::proofs::OneVerdict::one_verdict))]
+#[tactic(auto, using(crate::proofs::OneFault::one_verdict))]
 pub fn one_answer_applies()
     ensures { HasOneVerdict }
 {}
@@ -116,7 +116,6 @@ pub fn tables_run_out()
 {}
 
 /// The limits of a length allow what both allow, the limits and the length.
-#[tactic(auto, using(crate::proofs::Budgets::length_allows))]
 pub fn length_allows()
     ensures { LengthAllows }
 {}

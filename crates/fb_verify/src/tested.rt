@@ -4,7 +4,7 @@
 ghost use Rattle.fb_verify.specs.Tests.{PrefixTests, IdentifierTests, OffsetTests, StartTests, HeadTests, StringTests, VectorTests, InlineTests, FieldTests, UnionTests, VectorFieldTests, UnionsFieldTests, ElementTests, LimitTests};
 
 /// The start of a buffer: prefix, identifier, root offset, and their order.
-#[tactic(auto, using(crate::proofs::ShownTests::prefix_tests, crate::proofs::ShownTests::identifier_tests, crate::proofs::ShownTests::start_tests))]
+#[tactic(auto, unfolding(crate::proofs::Shown::computing))]
 pub fn starts()
     ensures prefixes { PrefixTests }
     ensures identifiers { IdentifierTests }
@@ -12,7 +12,7 @@ pub fn starts()
 {}
 
 /// The parts of a buffer.
-#[tactic(auto, using(crate::proofs::ShownTests::offset_tests, crate::proofs::ShownTests::head_tests, crate::proofs::ShownTests::string_tests, crate::proofs::ShownTests::vector_tests, crate::proofs::ShownTests::inline_tests))]
+#[tactic(auto, unfolding(crate::proofs::Shown::computing))]
 pub fn parts()
     ensures offset_words { OffsetTests }
     ensures heads_of_tables { HeadTests }
@@ -22,7 +22,7 @@ pub fn parts()
 {}
 
 /// Fields by themselves, of every kind, and elements.
-#[tactic(auto, using(crate::proofs::ShownTests::field_tests, crate::proofs::ShownTests::union_tests, crate::proofs::ShownTests::vector_field_tests, crate::proofs::ShownTests::unions_field_tests, crate::proofs::ShownTests::element_tests))]
+#[tactic(auto, unfolding(crate::proofs::Shown::computing))]
 pub fn fields()
     ensures single_values { FieldTests }
     ensures unions { UnionTests }
@@ -32,7 +32,7 @@ pub fn fields()
 {}
 
 /// Limits of depth, tables and reads, beside what is asked before them and after them.
-#[tactic(auto, using(crate::proofs::ShownTests::limit_tests))]
+#[tactic(auto, unfolding(crate::proofs::Shown::computing))]
 pub fn limits()
     ensures { LimitTests }
 {}

@@ -1,4 +1,4 @@
-use Rattle.fb_verify.proofs.TrailPrice.{reads_are_bounded}
+use Rattle.fb_verify.proofs.Price.{reads_are_bounded}
 use Rattle.fb_verify.proofs.laws.reads_are_bounded.Goals as goal
 
 pub returns : goal.returns

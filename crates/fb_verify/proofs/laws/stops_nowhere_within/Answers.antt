@@ -1,4 +1,4 @@
-use Rattle.fb_verify.proofs.Nones.{stops_nowhere}
+use Rattle.fb_verify.proofs.Overruns.{stops_nowhere}
 use Rattle.fb_verify.proofs.laws.stops_nowhere_within.Goals as goal
 
 pub returns : goal.returns
