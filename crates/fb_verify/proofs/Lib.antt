@@ -16,7 +16,6 @@ pub mod Frames
 pub mod Standings
 pub mod Stopping
 pub mod Verdicts
-pub mod Prices
 pub mod Shown
 pub mod TrueFaults
 pub mod Walking
