@@ -14,7 +14,6 @@ pub mod Typed
 pub mod Frames
 pub mod Standings
 pub mod Verdicts
-pub mod Prices
 pub mod Shown
 pub mod TrueFaults
 pub mod Walking

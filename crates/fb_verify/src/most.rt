@@ -9,7 +9,7 @@ use fb_schema::Schema;
 /// How many reads a verification of so many bytes makes at most, by this schema and within these limits: 4 for the
 /// start, and for each table 4, and for each of its fields 8 and as many as there are bytes; with a budget of reads no
 /// more than that and 7.
-#[tactic(auto, using(crate::proofs::Prices::of_fields, crate::proofs::Prices::of_tables), unfolding(crate::specs::MostReads::most_reads))]
+#[tactic(auto, unfolding(crate::specs::MostReads::most_reads))]
 pub fn most_reads(schema: &Schema<'_>, limits: Limits, len: u64) -> u128
     ensures { result ≡ most_reads schema.now limits len }
 {
