@@ -40,9 +40,7 @@ abbrev first_from : List Live → ℕ → ℕ
 first_from fs i = position_or_len is_required (drop i fs)
 
 free_until : (fs : List Live) (i j : ℕ) (f : Live) → i ≤ j → j < i + first_from fs i → slice_get fs j ≡ Some f → f.required ≡ false
-free_until fs i j f low lt at =
-    let e : i + (j - i) ≡ j = omega (arith, low) in
-    ap is_required (sym (get_or-drop i fs (j - i) f ∙ ap (λ k. get_or fs k f) e ∙ get_or_from_slice_get fs j f f at)) ∙ fails_before_first is_required (drop i fs) (j - i) f (omega (arith, lt, low))
+free_until fs i j f low lt at = grind (arith, get_or-drop i fs (j - i) f, get_or_from_slice_get fs j f f at, fails_before_first is_required (drop i fs) (j - i) f)
 
 none_past : (fs : List Live) (i : ℕ) → next_required_of fs i ≡ None → length fs ≤ i + first_from fs i
 none_past fs i e = grind (arith, nat_tests, length-drop i fs)
@@ -407,24 +405,12 @@ module _ {w : Walk} {start m : Lent} {under : Waiting} {first : Frame} {next : �
       let few = slot_few m.bytes first_at step.slot in
       let count = ap (λ (x : Lent). x.count) e.counted in
       let bytes = ap (λ (x : Lent). x.bytes) e.counted in
-      record {
-        comes = record {
-          field = rw bytes (at_field h at e.there e.slot e.near new.count count);
-          open-field = λ f here. leads_open h e.open-step f here;
-          forth = g.forth;
-          within = omega (arith, within);
-          paid = omega (arith, g.paid, few, count);
-        };
-        same = refl;
-        grows = omega (arith, g.grows, count);
-        bytes = bytes ∙ g.bytes;
-      }
+      let field = rw (sym bytes) at (at_field h at e.there e.slot e.near new.count count) in
+      let leads = leads_open h e.open-step in
+      search (arith, field, leads, g, count, bytes)
   came_to (ToFault reason) n e =
       let within = next_within h in
       let room = fewer_reads (w.limits).reads (m.count + 6) (start.count + 6 * fields_left w.schema.now first) (omega (arith, g.paid, within)) (g.room).allowed in
-      record {
-        comes = record { next = omega (arith, within); err = λ stop is. rw g.bytes at (step_stops h e.plain at m.count new.count (Some reason) (e.tested).told refl refl room stop is) };
-        same = refl;
-        grows = omega (arith, told_grows _ (e.tested).told, g.grows);
-        bytes = (e.tested).bytes ∙ g.bytes;
-      }
+      let err = rw g.bytes at (step_stops h e.plain at m.count new.count (Some reason) (e.tested).told {reason = reason} refl refl room) in
+      let grows = told_grows _ (e.tested).told in
+      search (arith, within, err, grows, g, e)

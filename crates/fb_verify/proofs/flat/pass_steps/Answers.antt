@@ -61,20 +61,10 @@ returns-in_default-next_required g c =
     let past_slot = e.behind f.0 f.1 in
     let none = sym (looks g d) ∙ c.in_default-next_required.is in
     let all = many g d in
-    record {
-      comes = record {
-        walking = rest_absent s past_slot none;
-        forth = omega (arith, e.forth, e.within, all);
-        within = omega (arith, all);
-        all = omega (arith, all);
-        ends = omega (arith, e.paid, all);
-        hold = (e.steps).hold (rw e.bytes at (rest_holds (e.between).walking (e.between).rests f.0 f.1 past_slot none));
-        counted = omega (arith, (e.steps).counted, rw e.bytes at (rest_free (e.between).walking (e.between).rests f.0 f.1 past_slot none));
-      };
-      same = refl;
-      grows = e.grows;
-      bytes = e.bytes;
-    }
+    let walking = rest_absent s past_slot none in
+    let hold = (e.steps).hold (rw e.bytes at (rest_holds (e.between).walking (e.between).rests f.0 f.1 past_slot none)) in
+    let free = rw e.bytes at (rest_free (e.between).walking (e.between).rests f.0 f.1 past_slot none) in
+    search (arith, walking, hold, free, (e.steps).counted, all, e)
 
 pub returns-in-Some : goal.returns-in-Some
 returns-in-Some g c =
@@ -82,10 +72,6 @@ returns-in-Some g c =
     let e = behind g d in
     let s = here g d in
     let some = sym (looks g d) ∙ c.in-Some.is in
-    rw c.requires.1.1.1.1.0
-    (record {
-      comes = record { next = required_within s c.in-Some.needed some; err = λ stop is. rw e.bytes at (required_stops s (e.behind _ (first g d).1) c.in-Some.needed some stop is) };
-      same = refl;
-      grows = e.grows;
-      bytes = e.bytes;
-    })
+    let next = required_within s c.in-Some.needed some in
+    let err = rw e.bytes at (required_stops s (e.behind _ (first g d).1) c.in-Some.needed some) in
+    rw c.requires.1.1.1.1.0 (search (arith, next, err, e))
