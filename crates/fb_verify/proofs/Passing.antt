@@ -318,12 +318,9 @@ required_stops {w} {m} {under} {top} {steps} {step} h past place some stop is =
     let f = get_or fs place d in
     let got = slice_get-get_or fs place d at.1 in
     let bare = no_slot_from h.walking h.rests d (found h).1 behind place f at.0 got in
-    let there : AtStep w m under (record top { next = place }) steps (step_of f) = record {
-      walking = required_next h.walking h.rests d (found h).1 behind place some;
-      rests = h.rests;
-      all = h.all;
-      got = ap (λ xs. slice_get xs place) h.all ∙ slice_get-map step_of fs place ∙ ap (option_map step_of) got;
-    } in
+    let walking = required_next h.walking h.rests d (found h).1 behind place some in
+    let its_step = ap (λ xs. slice_get xs place) h.all ∙ slice_get-map step_of fs place ∙ ap (option_map step_of) got in
+    let there : AtStep w m under (record top { next = place }) steps (step_of f) = search (h, walking, its_step) in
     let its : (found there).0 ≡ f = (let w : Some (found there).0 ≡ Some f = sym (found there).1 ∙ got in cc) in
     let cheap : AreAllowed (w.limits).reads (m.count + own_reads m.bytes (top.table).at (found there).0) = fewer_reads (w.limits).reads (m.count + own_reads m.bytes (top.table).at (found there).0) m.count (omega (arith, ap (own_reads m.bytes (top.table).at) its, bare_reads m.bytes (top.table).at f bare)) (h.walking).reads in
     stops_paid there (λ e. bare_place m.bytes (top.table).at f.slot bare) (top.table).at m.count m.count (Some MissingRequired) (bare_told w.checks m.bytes (top.table).at m.count (step_of f) bare (at.2 f got)) refl refl cheap stop is

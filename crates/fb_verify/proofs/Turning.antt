@@ -75,11 +75,8 @@ module _ (w then : Walk) (m new : Lent) (under : Waiting) (old low high : List F
         search (arith, grown, next_is, first, o.same, sym below, sym stands, less)
     frames_down Halted o =
         let links : (last.halt).links ≡ waiting + 1 = omega (arith, o.links, length-append under.frames (past ∷ []), many) in
-        record {
-          deep = rw o.behind (omega (arith, links, h.deep, many));
-          err = rw (links, grown) (rw (h.same, h.bytes) at o.err);
-          bytes = o.bytes ∙ h.bytes;
-        }
+        let err = rw (h.same, h.bytes) at o.err in
+        search (arith, links, grown, o.behind, err, h, o, many)
     frames_down _ o = absurd o
 
 -- The walk goes on from where it came to before.

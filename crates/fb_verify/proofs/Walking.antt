@@ -140,11 +140,9 @@ module _ {w : Walk} {m : Lent} {under : Waiting} {top : Frame} {field : Live} (h
       let k = (top.table).object in
       let g = (h.walking).standing in
       let inside = (at_rest w.checks m.bytes w.schema.now top g.v w.tables w.deepest m.count h.rests g.at).inside in
-      record {
-        served = (h.walking).served;
-        holds = ((h.walking).served).kinds (top.table).object top.next field h.here;
-        typed = typed_before w.checks m.bytes w.schema.now (top.table).at inside.earlier (live_fields w.schema.now k) top.next field.slot inside.passed field.kind (((h.walking).served).typed k top.next field h.here);
-      }
+      let holds = ((h.walking).served).kinds (top.table).object top.next field h.here in
+      let typed = typed_before w.checks m.bytes w.schema.now (top.table).at inside.earlier (live_fields w.schema.now k) top.next field.slot inside.passed field.kind (((h.walking).served).typed k top.next field h.here) in
+      search (h.walking, holds, typed)
 
   -- it fails by itself
   pub next_stops : (f : Fault)

@@ -42,13 +42,9 @@ loop-step-init g c =
     let fs = live_fields (g.of).walk.schema.now ((g.of).top.table).object in
     let all = c.requires.1.1.1.1 in
     let next : (g.of).top.next ≡ length fs - length c.args.steps.now = omega (arith, ap length all, length-drop (g.of).top.next (map step_of fs), length-map fs step_of, (((c.requires.0).walking).frame).next) in
-    record {
-      base = refl;
-      within = omega arith;
-      rest = all ∙ ap (λ n. drop n (map step_of fs)) next;
-      between = subst (λ n. IsBetween (g.of).walk c.args.reads.now (g.of).under (record (g.of).top { next = n })) next c.requires.0;
-      goes = subst (λ n. GoesBy (g.of).walk c.args.reads.now c.args.reads.now (g.of).top n) next (goes_first c.requires.1.0);
-    }
+    let between = subst (λ n. IsBetween (g.of).walk c.args.reads.now (g.of).under (record (g.of).top { next = n })) next c.requires.0 in
+    let goes = subst (λ n. GoesBy (g.of).walk c.args.reads.now c.args.reads.now (g.of).top n) next (goes_first c.requires.1.0) in
+    search (arith, all ∙ ap (λ n. drop n (map step_of fs)) next, between, goes)
 
 pub returns-in_default-pass_step : goal.returns-in_default-pass_step
 returns-in_default-pass_step g c =

@@ -41,12 +41,8 @@ first g c =
 here : (g : _) (c : After-next_required g) → AtStep (g.of).walk c.pass_by-came.new.reads (g.of).under (past g c) c.args.steps.now (step_of (first g c).0)
 here g c =
     let e = behind g c in
-    record {
-      walking = (e.between).walking;
-      rests = (e.between).rests;
-      all = steps_are g c;
-      got = ap (λ xs. slice_get xs (past g c).next) (steps_are g c) ∙ slice_get-map step_of (live_fields (g.of).walk.schema.now ((g.of).top.table).object) (past g c).next ∙ ap (option_map step_of) (first g c).1;
-    }
+    let got = ap (λ xs. slice_get xs (past g c).next) (steps_are g c) ∙ slice_get-map step_of (live_fields (g.of).walk.schema.now ((g.of).top.table).object) (past g c).next ∙ ap (option_map step_of) (first g c).1 in
+    search (e, got, steps_are g c)
 
 -- the schema is the walk's
 looks : (g : _) (c : After-next_required g) → c.next_required.result ≡ next_required (g.of).walk.schema.now ((g.of).top.table).object (past g c).next
