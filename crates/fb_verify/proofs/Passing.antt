@@ -1,5 +1,5 @@
 -- A walk goes on past fields that lead to no table, or stops at one.
-use Rattle.std.proofs.Common.{◌≡◌, ℕ, ◌+◌, ◌-◌, ◌^◌, ◌<◌, ◌≤◌, inl, inr, Bool, true, false, IsTrue, if◌then◌else◌, List, [], ◌∷◌, map, length, get_or, option_map, refl, sym, ◌∙◌, ap, subst, arith, Option, Some, None, zero, suc, ◌*◌, drop, nat_le, length-drop}
+use Rattle.std.proofs.Common.{◌≡◌, ℕ, ◌+◌, ◌-◌, ◌^◌, ◌<◌, ◌≤◌, inl, inr, Bool, true, false, IsTrue, if◌then◌else◌, List, [], ◌∷◌, map, length, get_or, option_map, refl, sym, ◌∙◌, ap, subst, arith, Option, Some, None, zero, suc, ◌*◌, drop, length-drop}
 use Rattle.std.specs.{Prelude.slice_get, List.All, List.position_or_len}
 use Rattle.std.proofs.lemmas.{List.length-map, List.get_or-drop, Bool.Decides.nat_tests}
 use Rattle.std.proofs.lemmas.{List.Sums.passes_at_first, List.Sums.fails_before_first, List.Sums.sum_by-le, List.Elements.All-cons}
