@@ -1,5 +1,5 @@
 -- A walk goes on past fields that lead to no table, or stops at one.
-use Rattle.std.proofs.Common.{◌≡◌, ℕ, ◌+◌, ◌-◌, ◌^◌, ◌<◌, ◌≤◌, inl, inr, Bool, true, false, IsTrue, if◌then◌else◌, List, [], ◌∷◌, map, length, get_or, option_map, refl, sym, ◌∙◌, ap, subst, arith, Option, Some, None, zero, suc, ◌*◌, drop, nat_le, length-drop}
+use Rattle.std.proofs.Common.{◌≡◌, ℕ, ◌+◌, ◌-◌, ◌^◌, ◌<◌, ◌≤◌, inl, inr, Bool, true, false, IsTrue, if◌then◌else◌, List, [], ◌∷◌, map, length, get_or, option_map, refl, sym, ◌∙◌, ap, subst, arith, Option, Some, None, zero, suc, ◌*◌, drop, length-drop}
 use Rattle.std.specs.{Prelude.slice_get, List.All, List.position_or_len}
 use Rattle.std.proofs.lemmas.{List.length-map, List.get_or-drop, Bool.Decides.nat_tests}
 use Rattle.std.proofs.lemmas.{List.Sums.passes_at_first, List.Sums.fails_before_first, List.Sums.sum_by-le, List.Elements.All-cons}
@@ -40,9 +40,7 @@ abbrev first_from : List Live → ℕ → ℕ
 first_from fs i = position_or_len is_required (drop i fs)
 
 free_until : (fs : List Live) (i j : ℕ) (f : Live) → i ≤ j → j < i + first_from fs i → slice_get fs j ≡ Some f → f.required ≡ false
-free_until fs i j f low lt at =
-    let e : i + (j - i) ≡ j = omega (arith, low) in
-    ap is_required (sym (get_or-drop i fs (j - i) f ∙ ap (λ k. get_or fs k f) e ∙ get_or_from_slice_get fs j f f at)) ∙ fails_before_first is_required (drop i fs) (j - i) f (omega (arith, lt, low))
+free_until fs i j f low lt at = grind (arith, get_or-drop i fs (j - i) f, get_or_from_slice_get fs j f f at, fails_before_first is_required (drop i fs) (j - i) f)
 
 none_past : (fs : List Live) (i : ℕ) → next_required_of fs i ≡ None → length fs ≤ i + first_from fs i
 none_past fs i e = grind (arith, nat_tests, length-drop i fs)
@@ -320,12 +318,9 @@ required_stops {w} {m} {under} {top} {steps} {step} h past place some stop is =
     let f = get_or fs place d in
     let got = slice_get-get_or fs place d at.1 in
     let bare = no_slot_from h.walking h.rests d (found h).1 behind place f at.0 got in
-    let there : AtStep w m under (record top { next = place }) steps (step_of f) = record {
-      walking = required_next h.walking h.rests d (found h).1 behind place some;
-      rests = h.rests;
-      all = h.all;
-      got = ap (λ xs. slice_get xs place) h.all ∙ slice_get-map step_of fs place ∙ ap (option_map step_of) got;
-    } in
+    let walking = required_next h.walking h.rests d (found h).1 behind place some in
+    let its_step = ap (λ xs. slice_get xs place) h.all ∙ slice_get-map step_of fs place ∙ ap (option_map step_of) got in
+    let there : AtStep w m under (record top { next = place }) steps (step_of f) = search (h, walking, its_step) in
     let its : (found there).0 ≡ f = (let w : Some (found there).0 ≡ Some f = sym (found there).1 ∙ got in cc) in
     let cheap : AreAllowed (w.limits).reads (m.count + own_reads m.bytes (top.table).at (found there).0) = fewer_reads (w.limits).reads (m.count + own_reads m.bytes (top.table).at (found there).0) m.count (omega (arith, ap (own_reads m.bytes (top.table).at) its, bare_reads m.bytes (top.table).at f bare)) (h.walking).reads in
     stops_paid there (λ e. bare_place m.bytes (top.table).at f.slot bare) (top.table).at m.count m.count (Some MissingRequired) (bare_told w.checks m.bytes (top.table).at m.count (step_of f) bare (at.2 f got)) refl refl cheap stop is
@@ -407,24 +402,12 @@ module _ {w : Walk} {start m : Lent} {under : Waiting} {first : Frame} {next : �
       let few = slot_few m.bytes first_at step.slot in
       let count = ap (λ (x : Lent). x.count) e.counted in
       let bytes = ap (λ (x : Lent). x.bytes) e.counted in
-      record {
-        comes = record {
-          field = rw bytes (at_field h at e.there e.slot e.near new.count count);
-          open-field = λ f here. leads_open h e.open-step f here;
-          forth = g.forth;
-          within = omega (arith, within);
-          paid = omega (arith, g.paid, few, count);
-        };
-        same = refl;
-        grows = omega (arith, g.grows, count);
-        bytes = bytes ∙ g.bytes;
-      }
+      let field = rw (sym bytes) at (at_field h at e.there e.slot e.near new.count count) in
+      let leads = leads_open h e.open-step in
+      search (arith, field, leads, g, count, bytes)
   came_to (ToFault reason) n e =
       let within = next_within h in
       let room = fewer_reads (w.limits).reads (m.count + 6) (start.count + 6 * fields_left w.schema.now first) (omega (arith, g.paid, within)) (g.room).allowed in
-      record {
-        comes = record { next = omega (arith, within); err = λ stop is. rw g.bytes at (step_stops h e.plain at m.count new.count (Some reason) (e.tested).told refl refl room stop is) };
-        same = refl;
-        grows = omega (arith, told_grows _ (e.tested).told, g.grows);
-        bytes = (e.tested).bytes ∙ g.bytes;
-      }
+      let err = rw g.bytes at (step_stops h e.plain at m.count new.count (Some reason) (e.tested).told {reason = reason} refl refl room) in
+      let grows = told_grows _ (e.tested).told in
+      search (arith, within, err, grows, g, e)

@@ -55,9 +55,7 @@ module _ (c : Checks) (b : List ℕ) (S : Rows) where
 
   -- one more table is open in the table to which a frame leads
   goes_links : (fr : Frame) (w : Way) (k t : ℕ) (u : Way) → Goes c b S fr w k t u → u.links ≡ w.links + 1
-  goes_links fr w k t u h =
-      let f = h.in_field in
-      ap (λ x. x.links) h.after ∙ ap (λ x. x.links) f.after ∙ ap (λ x. x.links) (f.inside).after
+  goes_links fr w k t u h = let f = h.in_field in grind (arith, h.after, f.after, (f.inside).after)
 
   -- the links of the way are the frames passed
   pub context_links : (xs : List Frame) (k t k' t' : ℕ) (w v : Way) → Context c b S xs k t w k' t' v → v.links ≡ w.links + length xs
@@ -91,12 +89,7 @@ module _ (c : Checks) (b : List ℕ) (S : Rows) where
 
   -- the way to the table that a frame waits for
   pub goes_way : (fr : Frame) (w : Way) (k t : ℕ) (u : Way) (n d r : ℕ) → Goes c b S fr w k t u → record u { passed = n; deepest = d; paid = r; leading = 0 } ≡ reached w (fr.table).object (Some fr.number) n d r
-  goes_way fr w k t u n d r h =
-      let f = h.in_field in
-      let i = f.inside in
-      let v = rw (f.after, i.after) at h.after in
-      let number = ap Some f.number_is in
-      rw v (same_way _ _ refl refl refl refl refl refl (sym number))
+  goes_way fr w k t u n d r h = let f = h.in_field in grind (arith, h.after, f.after, (f.inside).after, f.number_is)
 
   module _ (L : Bounds) (s : Origin) where
     -- a table that was opened

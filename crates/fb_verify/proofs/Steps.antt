@@ -16,8 +16,7 @@ use Rattle.fb_verify.proofs.Pushes.{elements_push, kids_push, elements_pushed, k
 
 -- two ways are one where their parts are
 pub same_way : (v w : Way) → v.links ≡ w.links → v.passed ≡ w.passed → v.deepest ≡ w.deepest → v.paid ≡ w.paid → v.leading ≡ w.leading → v.object ≡ w.object → v.field ≡ w.field → v ≡ w
-same_way v w a b c d e f g =
-    let parts : record v { links = v.links; passed = v.passed; deepest = v.deepest; paid = v.paid; leading = v.leading; object = v.object; field = v.field } ≡ w = rw (a, b, c, d, e, f, g) refl in parts
+same_way v w a b c d e f g = grind arith
 
 module _ (c : Checks) (b : List ℕ) (S : Rows) (k t : ℕ) (w : Way) where
   -- the depth reached counts the open tables

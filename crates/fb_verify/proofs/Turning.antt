@@ -15,14 +15,8 @@ use Rattle.fb_verify.proofs.{Standings.close_last, Walking.table_closed}
 pub went_over : {w then : Walk} {m new : Lent} (under : Waiting) (past : Frame) → then ≡ record w { tables = then.tables; deepest = then.deepest } → IsWalking then new under.start under.frames past → under.frames ≡ []
     → (past.row).left ≡ 0 → length (live_fields then.schema.now (past.table).object) ≤ past.next → new.bytes ≡ m.bytes → WentOver w then m new under.start
 went_over {w} {then} {m} {new} under past same h none rests all bytes =
-    record {
-      same = same;
-      over = close_last then.checks new.bytes then.schema.now then.limits under.start under.frames past then.tables then.deepest new.count h.standing none rests all;
-      within = rw same at h.tables;
-      shallow = rw same at h.deepest;
-      reads = rw same at h.reads;
-      bytes = bytes;
-    }
+    let over = close_last then.checks new.bytes then.schema.now then.limits under.start under.frames past then.tables then.deepest new.count h.standing none rests all in
+    search (arith, same, bytes, over)
 
 module _ (w then : Walk) (m new : Lent) (under : Waiting) (old low high : List Frame) (waiting : ℕ) (top past : Frame) (child : Child) (parts : old ≡ low ++ high) (front : length low ≡ waiting + 1)
     (below : under.frames ≡ take waiting old) (stands : top ≡ get_or old waiting blank) (other : List Frame) where
@@ -58,23 +52,12 @@ module _ (w then : Walk) (m new : Lent) (under : Waiting) (old low high : List F
         over = λ zero. went_over under past e.on.same h (below ∙ rw zero refl) e.rests all e.on.bytes;
         above = λ some.
             let room : waiting ≤ length frames = omega (arith, long) in
-            (record {
-              same = e.on.same;
-              walking = table_closed h (take (waiting - 1) frames) (get_or frames (waiting - 1) blank) (waits ∙ last_is frames waiting blank some room) e.rests all;
-              top = omega (arith, some, room);
-              falls = rw (sym below, sym stands) (omega (arith, e.on.falls, ap (λ zs. work w.schema.now w.limits zs past then.tables) waits, sum_last frames waiting blank some room (frame_work w.schema.now)));
-              grows = e.on.grows;
-              bytes = e.on.bytes;
-            }, e.on.short);
+            let walking = table_closed h (take (waiting - 1) frames) (get_or frames (waiting - 1) blank) (waits ∙ last_is frames waiting blank some room) e.rests all in
+            let same = ap (λ zs. work w.schema.now w.limits zs past then.tables) waits in
+            let sum = sum_last frames waiting blank some room (frame_work w.schema.now) in
+            search (arith, walking, same, sum, sym below, sym stands, some, room);
       }
-  frames_turned Slowly un h = record {
-    same = h.same;
-    walking = rw (sym waits, top_is) h.walking;
-    top = omega (arith, long);
-    falls = rw (sym waits, top_is, sym below, sym stands) (omega (arith, h.falls));
-    grows = h.grows;
-    bytes = h.bytes;
-  }
+  frames_turned Slowly un h = search (arith, sym waits, top_is, sym below, sym stands, long)
   frames_turned Halted un h =
       let l = (then.halt).links in
       let same : take l frames ≡ take l (under.frames ++ past ∷ []) = sym (take-take l (waiting + 1) frames (omega (arith, h.links, many))) ∙ ap (take l) grown in
@@ -89,56 +72,25 @@ module _ (w then : Walk) (m new : Lent) (under : Waiting) (old low high : List F
     unfolding work
     frames_down Down o =
         let less = ap (λ x. work w.schema.now w.limits (under.frames ++ past ∷ []) x then.tables) o.opens in
-        (record {
-          same = rw o.same h.same;
-          walking = rw (grown, next_is, first, o.same) o.walking;
-          top = omega (arith, long, some);
-          falls = rw (grown, next_is, first, o.same, sym below, sym stands) (omega (arith, less, h.falls, o.paid));
-          grows = omega (arith, h.grows, o.grows);
-          bytes = o.bytes ∙ h.bytes;
-        }, omega (arith, h.short, o.paid))
+        search (arith, grown, next_is, first, o.same, sym below, sym stands, less, long, some)
     frames_down Halted o =
         let links : (last.halt).links ≡ waiting + 1 = omega (arith, o.links, length-append under.frames (past ∷ []), many) in
-        record {
-          deep = rw o.behind (omega (arith, links, h.deep, many));
-          err = rw (links, grown) (rw (h.same, h.bytes) at o.err);
-          bytes = o.bytes ∙ h.bytes;
-        }
+        let err = rw (h.same, h.bytes) at o.err in
+        search (arith, links, grown, o.behind, err, h, o, many)
     frames_down _ o = absurd o
 
 -- The walk goes on from where it came to before.
 module _ (w mid then : Walk) (m been new : Lent) (under : Waiting) (kept : mid ≡ record w { tables = mid.tables; deepest = mid.deepest }) (bytes : been.bytes ≡ m.bytes) where
   pub halts_on : {past : Frame} → Halts mid then been new under past → Halts w then m new under past
-  halts_on h = record {
-    links = h.links;
-    deep = rw kept at h.deep;
-    err = rw (kept, bytes) at h.err;
-    bytes = h.bytes ∙ bytes;
-  }
+  halts_on h = search (arith, kept, bytes)
 
   module _ {top t past : Frame} (table : t.table ≡ top.table) (falls : been.count + work w.schema.now w.limits under.frames t mid.tables ≤ m.count + work w.schema.now w.limits under.frames top w.tables)
       (grows : m.count ≤ new.count) where
     pub goes_on : GoesOn mid then been new under t past → GoesOn w then m new under top past
-    goes_on h = record {
-      same = rw kept at h.same;
-      walking = h.walking;
-      table = h.table ∙ table;
-      falls = omega (arith, rw kept at h.falls, falls);
-      grows = grows;
-      bytes = h.bytes ∙ bytes;
-      short = h.short;
-    }
+    goes_on h = search (arith, kept, bytes, table, falls)
 
     pub goes_down : {child : Child} → GoesDown mid then been new under t past child → GoesDown w then m new under top past child
-    goes_down h = record {
-      same = rw kept at h.same;
-      down = h.down;
-      deep = rw kept at h.deep;
-      falls = omega (arith, rw kept at h.falls, falls);
-      grows = grows;
-      bytes = h.bytes ∙ bytes;
-      short = h.short;
-    }
+    goes_down h = search (arith, kept, bytes, falls)
 
 -- Past a field that leads on.
 module _ (w mid then : Walk) (m been new : Lent) (under : Waiting) (kept : mid ≡ record w { tables = mid.tables; deepest = mid.deepest }) (bytes : been.bytes ≡ m.bytes) (top t past : Frame) (child : Child) (table : t.table ≡ top.table)

@@ -11,7 +11,7 @@ use Rattle.fb_verify.specs.{Bounds.AreAllowed, Bounds.Bounds, Cost.head_reads, C
 use Rattle.fb_verify.specs.{OffsetRows.past_first, OffsetRows.first_word, OffsetRows.words_of, Turns.IsAtChild, Turns.Halts, Turns.frame_of}
 use Rattle.fb_verify.specs.Way.{way_to_table, Way}
 use Rattle.fb_verify.specs.Told.{way_at, stopped, told, IsHead}
-use Rattle.fb_verify.specs.Stack.{Origin, Waiting, IsAtTable, IsStopped, StopsIn, frame_work, work, opened, IsUnderWay, IsFrame, reached, frame_link}
+use Rattle.fb_verify.specs.Stack.{Standing, Origin, Waiting, IsAtTable, IsStopped, StopsIn, frame_work, work, opened, IsUnderWay, IsFrame, reached, frame_link}
 use Rattle.fb_verify.specs.Stops.{budget_failure, reads_failure, in_head, fault_at}
 use Rattle.fb_verify.specs.Order.{◌▷◌, head_failure}
 use Rattle.fb_verify.proofs.{Flats.head_fails, Pushes.take_all, Budgets.fewer_reads, Standings.context_push, Linked.linked_by}
@@ -101,17 +101,11 @@ module _ {w : Walk} {b : List ℕ} {q : ℕ} {s : Origin} {below : List Frame} {
           let wait = waits_for c b S L s below top w.tables w.deepest o.before g child.object table.at o.more o.holds o.leads (at_is ∙ o.at) in
           let push = context_push c b S below top_on s.object s.position s.way g.v child.object table.at u g.under (rw re wait) in
           let links = links_is c b S L s below top w.tables w.deepest o.before g in
-          record {
-            served = h.served;
-            tables = omega (arith, fewer);
-            deepest = omega (arith, h.deepest, shallow);
-            reads = cheap;
-            links = omega (arith, length-append below (top_on ∷ []), mi, shallow);
-            low = omega (arith, length-append below (top_on ∷ []), mi, low);
-            frames = All-push (IsFrame c b S) below top_on h.frames (frame_on c b S top row re o.more h.frame);
-            frame = frame_opened c b S table (rw object_is o.table) (rw at_is o.near) (rw at_is head);
-            standing = record { v = u; root = g.root; under = rw object_is push; at = inl (fresh c b S L s table u m w.tables w.deepest q (omega (arith, mi, links)) refl refl (omega (arith, o.count, one)) (rw at_is ok)) };
-          }
+          let standing : Standing c b S s (below ++ top_on ∷ []) (opened table) (w.tables + 1) (max w.deepest (m + 1)) (q + head_reads c) =
+          record { v = u; root = g.root; under = rw object_is push; at = inl (fresh c b S L s table u m w.tables w.deepest q (omega (arith, mi, links)) refl refl (omega (arith, o.count, one)) (rw at_is ok)) } in
+          let frames = All-push (IsFrame c b S) below top_on h.frames (frame_on c b S top row re o.more h.frame) in
+          let frame = frame_opened c b S table (rw object_is o.table) (rw at_is o.near) (rw at_is head) in
+          search (arith, h, cheap, frames, frame, standing, length-append below (top_on ∷ []))
 
       pub child_work : q + head_reads c + work S L (below ++ top_on ∷ []) (opened table) (w.tables + 1) < o.before + work S L below top w.tables
       unfolding work

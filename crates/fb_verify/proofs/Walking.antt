@@ -42,17 +42,8 @@ module _ {c : Checks} {b : List ℕ} {S : Rows} {L : Bounds} {s : Origin} {below
       let p = context_pop c b S rest above s.object s.position (top.table).object (top.table).at s.way g.v (rw e at g.under) in
       let walked = close c b S L s below top n d r g rests all in
       let on = resumed c b S (above.table).object (above.table).at p.0 above.next above.number (words_of b S above.row) (top.table).object (top.table).at g.v (ended g.v n d r) p.2 walked in
-      record {
-        served = h.served;
-        tables = h.tables;
-        deepest = h.deepest;
-        reads = h.reads;
-        links = omega (arith, h.links, ap length e, length-append rest (above ∷ []));
-        low = omega (arith, h.low, ap length e, length-append rest (above ∷ []));
-        frames = frames.0;
-        frame = frames.1;
-        standing = record { v = p.0; root = g.root; under = p.1; at = inr (rw (goes_way c b S above p.0 (top.table).object (top.table).at g.v n d r p.2) at on) };
-      }
+      let standing : Standing c b S s rest above n d r = record { v = p.0; root = g.root; under = p.1; at = inr (rw (goes_way c b S above p.0 (top.table).object (top.table).at g.v n d r p.2) at on) } in
+      search (arith, h, frames, standing, ap length e, length-append rest (above ∷ []))
 
   -- an offset word that leads to no table is passed
   pub leaf_passed : (row : Row) (q : ℕ) → row ≡ past_first top.row → 0 < (top.row).left → element_failure c b (first_word b S top.row) ≡ None → q ≡ r + (first_word b S top.row).reads + lead_reads (first_word b S top.row).lead
@@ -149,11 +140,9 @@ module _ {w : Walk} {m : Lent} {under : Waiting} {top : Frame} {field : Live} (h
       let k = (top.table).object in
       let g = (h.walking).standing in
       let inside = (at_rest w.checks m.bytes w.schema.now top g.v w.tables w.deepest m.count h.rests g.at).inside in
-      record {
-        served = (h.walking).served;
-        holds = ((h.walking).served).kinds (top.table).object top.next field h.here;
-        typed = typed_before w.checks m.bytes w.schema.now (top.table).at inside.earlier (live_fields w.schema.now k) top.next field.slot inside.passed field.kind (((h.walking).served).typed k top.next field h.here);
-      }
+      let holds = ((h.walking).served).kinds (top.table).object top.next field h.here in
+      let typed = typed_before w.checks m.bytes w.schema.now (top.table).at inside.earlier (live_fields w.schema.now k) top.next field.slot inside.passed field.kind (((h.walking).served).typed k top.next field h.here) in
+      search (h.walking, holds, typed)
 
   -- it fails by itself
   pub next_stops : (f : Fault)
@@ -167,28 +156,15 @@ module _ {w : Walk} {m : Lent} {under : Waiting} {top : Frame} {field : Live} (h
     -- it leads on
     pub next_leads : (row : Row) → IsRow m.bytes w.schema.now row × (0 < row.left) → entries m.bytes w.schema.now (top.table).at field ≡ words_of m.bytes w.schema.now row
         → PassesFields w began (record m { count = q }) under first (record top { next = top.next + 1; number = field.number; row = row }) (Ok true)
-    next_leads row good leads = record {
-      walking = field_passed h.walking field row field.number q h.rests h.here count good.0 cheap refl own leads;
-      leads = λ _. good.1;
-      rests = λ e. absurd cc;
-      all = λ e. absurd cc;
-      falls = omega (arith, falls, field_work h.walking field row field.number q h.rests h.here count good.0);
-      grows = grows;
-      bytes = bytes;
-      err = tt;
-    }
+    next_leads row good leads =
+        let walking = field_passed h.walking field row field.number q h.rests h.here count good.0 cheap refl own leads in
+        let work = field_work h.walking field row field.number q h.rests h.here count good.0 in
+        search (arith, walking, work, falls, grows, bytes)
 
     -- it leads on nowhere
     pub next_over : top.table ≡ first.table → entries m.bytes w.schema.now (top.table).at field ≡ [] → HasPassed w began (record m { count = q }) under first (record top { next = top.next + 1 })
-    next_over table none = record {
-      between = record {
-        walking =
-            field_skipped h.walking field blank.row field.number q h.rests h.here count (no_row w.checks m.bytes w.schema.now) cheap refl own
-            (none ∙ sym (row_none m.bytes w.schema.now blank.row refl));
-        rests = h.rests;
-      };
-      table = table;
-      falls = omega (arith, falls, skip_work h.walking field blank.row field.number q h.rests h.here count (no_row w.checks m.bytes w.schema.now));
-      grows = grows;
-      bytes = bytes;
-    }
+    next_over table none =
+        let row = no_row w.checks m.bytes w.schema.now in
+        let walking = field_skipped h.walking field blank.row field.number q h.rests h.here count row cheap refl own (none ∙ sym (row_none m.bytes w.schema.now blank.row refl)) in
+        let work = skip_work h.walking field blank.row field.number q h.rests h.here count row in
+        search (arith, walking, work, falls, grows, bytes, table)

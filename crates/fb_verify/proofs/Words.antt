@@ -12,8 +12,7 @@ module _ (b : List ℕ) (S : Rows) where
   words-front : (leads : Leads) (p n : ℕ) → 0 < n → words b S leads p n ≡ word_at b S leads p ∷ words b S (leads_after leads) (p + 4) (n - 1)
   unfolding row union_row
   words-front leads p zero h = absurd (omega arith)
-  words-front (All referent) p (suc n) h = let i : suc n - 1 ≡ n = omega arith in rw i refl
-  words-front (ByType e q) p (suc n) h = let i : suc n - 1 ≡ n = omega arith in rw i refl
+  words-front leads p (suc n) h = grind arith
 
   words-none : (leads : Leads) (p : ℕ) → words b S leads p 0 ≡ []
   unfolding row union_row

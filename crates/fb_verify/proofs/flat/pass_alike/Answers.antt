@@ -61,13 +61,7 @@ returns-in-Ok-pass_steps-clause-kept g c none =
     let begun : c.count-begun.result ≡ c.test_first_word.new.reads.count = c.count-begun.ensures.all (omega (arith, first.counted, r.short)) in
     record {
       small = (c.requires.1).small;
-      holds = λ some. rw (r.same, r.its) (record {
-        head = flat_holds r e c.in_default.is head;
-        vtable = first.value;
-        hold = kept.0;
-        reads = omega (arith, end, begun, kept.1, counted, first.counted, head_reads_parts (g.going).walk.checks);
-        few = omega (arith, end, begun, kept.2, counted, first.counted, few, many, ap length r.its);
-      });
+      holds = λ some. rw (r.same, r.its) (search (arith, flat_holds r e c.in_default.is head, first.value, kept, end, begun, counted, first.counted, few, many, ap length r.its, head_reads_parts (g.going).walk.checks));
     }
 
 pub returns-in-Err-pass_steps-clause-passes : goal.returns-in-Err-pass_steps-clause-passes

@@ -42,13 +42,9 @@ loop-step-init g c =
     let fs = live_fields (g.of).walk.schema.now ((g.of).top.table).object in
     let all = c.requires.1.1.1.1 in
     let next : (g.of).top.next ≡ length fs - length c.args.steps.now = omega (arith, ap length all, length-drop (g.of).top.next (map step_of fs), length-map fs step_of, (((c.requires.0).walking).frame).next) in
-    record {
-      base = refl;
-      within = omega arith;
-      rest = all ∙ ap (λ n. drop n (map step_of fs)) next;
-      between = subst (λ n. IsBetween (g.of).walk c.args.reads.now (g.of).under (record (g.of).top { next = n })) next c.requires.0;
-      goes = subst (λ n. GoesBy (g.of).walk c.args.reads.now c.args.reads.now (g.of).top n) next (goes_first c.requires.1.0);
-    }
+    let between = subst (λ n. IsBetween (g.of).walk c.args.reads.now (g.of).under (record (g.of).top { next = n })) next c.requires.0 in
+    let goes = subst (λ n. GoesBy (g.of).walk c.args.reads.now c.args.reads.now (g.of).top n) next (goes_first c.requires.1.0) in
+    search (arith, all ∙ ap (λ n. drop n (map step_of fs)) next, between, goes)
 
 pub returns-in_default-pass_step : goal.returns-in_default-pass_step
 returns-in_default-pass_step g c =
@@ -68,13 +64,10 @@ loop-step-preserved g c =
     let steps = map step_of (fields g d) in
     let next : place g d + 1 ≡ length (fields g d) - length c.in-Some.more.now = omega (arith, rest.1, ap length i.rest, length-drop (place g d) steps, length-map (fields g d) step_of) in
     let up : suc (place g d) ≡ length (fields g d) - length c.in-Some.more.now = omega (arith, next) in
-    record {
-      base = (passed.tested).base ∙ i.base;
-      within = omega (arith, rest.1, i.within);
-      rest = (left_from steps (place g d) c.in-Some.step.now c.in-Some.more.now (sym rest.0 ∙ i.rest)).1 ∙ ap (λ n. drop n steps) up;
-      between = subst (λ n. IsBetween (g.of).walk c.pass_step.new.reads (g.of).under (record (g.of).top { next = n })) next on.0;
-      goes = subst (λ n. GoesBy (g.of).walk c.args.reads.now c.pass_step.new.reads (g.of).top n) next on.1;
-    }
+    let left = (left_from steps (place g d) c.in-Some.step.now c.in-Some.more.now (sym rest.0 ∙ i.rest)).1 ∙ ap (λ n. drop n steps) up in
+    let between = subst (λ n. IsBetween (g.of).walk c.pass_step.new.reads (g.of).under (record (g.of).top { next = n })) next on.0 in
+    let goes = subst (λ n. GoesBy (g.of).walk c.args.reads.now c.pass_step.new.reads (g.of).top n) next on.1 in
+    search (arith, (passed.tested).base ∙ i.base, rest.1, left, between, goes)
 
 pub returns-clause-came : goal.returns-clause-came
 returns-clause-came g c =

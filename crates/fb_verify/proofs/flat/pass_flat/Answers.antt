@@ -1,5 +1,5 @@
 use Rattle.std.proofs.Common.{refl}
-use Rattle.fb_verify.specs.{Cost.head_reads, Flat.PassesFlat, Order.head_failure, Plain.IsTested}
+use Rattle.fb_verify.specs.Flat.{PassesFlat}
 use Rattle.fb_verify.proofs.Flats.{flat_between, flat_room, flat_came, reason_of}
 use Rattle.fb_verify.proofs.flat.pass_flat.Goals as goal
 use Rattle.fb_verify.proofs.flat.pass_flat.Goals.{In_default, After-pass_steps}

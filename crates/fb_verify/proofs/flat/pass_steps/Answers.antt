@@ -41,12 +41,8 @@ first g c =
 here : (g : _) (c : After-next_required g) → AtStep (g.of).walk c.pass_by-came.new.reads (g.of).under (past g c) c.args.steps.now (step_of (first g c).0)
 here g c =
     let e = behind g c in
-    record {
-      walking = (e.between).walking;
-      rests = (e.between).rests;
-      all = steps_are g c;
-      got = ap (λ xs. slice_get xs (past g c).next) (steps_are g c) ∙ slice_get-map step_of (live_fields (g.of).walk.schema.now ((g.of).top.table).object) (past g c).next ∙ ap (option_map step_of) (first g c).1;
-    }
+    let got = ap (λ xs. slice_get xs (past g c).next) (steps_are g c) ∙ slice_get-map step_of (live_fields (g.of).walk.schema.now ((g.of).top.table).object) (past g c).next ∙ ap (option_map step_of) (first g c).1 in
+    search (e, got, steps_are g c)
 
 -- the schema is the walk's
 looks : (g : _) (c : After-next_required g) → c.next_required.result ≡ next_required (g.of).walk.schema.now ((g.of).top.table).object (past g c).next
@@ -61,20 +57,10 @@ returns-in_default-next_required g c =
     let past_slot = e.behind f.0 f.1 in
     let none = sym (looks g d) ∙ c.in_default-next_required.is in
     let all = many g d in
-    record {
-      comes = record {
-        walking = rest_absent s past_slot none;
-        forth = omega (arith, e.forth, e.within, all);
-        within = omega (arith, all);
-        all = omega (arith, all);
-        ends = omega (arith, e.paid, all);
-        hold = (e.steps).hold (rw e.bytes at (rest_holds (e.between).walking (e.between).rests f.0 f.1 past_slot none));
-        counted = omega (arith, (e.steps).counted, rw e.bytes at (rest_free (e.between).walking (e.between).rests f.0 f.1 past_slot none));
-      };
-      same = refl;
-      grows = e.grows;
-      bytes = e.bytes;
-    }
+    let walking = rest_absent s past_slot none in
+    let hold = (e.steps).hold (rw e.bytes at (rest_holds (e.between).walking (e.between).rests f.0 f.1 past_slot none)) in
+    let free = rw e.bytes at (rest_free (e.between).walking (e.between).rests f.0 f.1 past_slot none) in
+    search (arith, walking, hold, free, (e.steps).counted, all, e)
 
 pub returns-in-Some : goal.returns-in-Some
 returns-in-Some g c =
@@ -82,10 +68,6 @@ returns-in-Some g c =
     let e = behind g d in
     let s = here g d in
     let some = sym (looks g d) ∙ c.in-Some.is in
-    rw c.requires.1.1.1.1.0
-    (record {
-      comes = record { next = required_within s c.in-Some.needed some; err = λ stop is. rw e.bytes at (required_stops s (e.behind _ (first g d).1) c.in-Some.needed some stop is) };
-      same = refl;
-      grows = e.grows;
-      bytes = e.bytes;
-    })
+    let next = required_within s c.in-Some.needed some in
+    let err = rw e.bytes at (required_stops s (e.behind _ (first g d).1) c.in-Some.needed some) in
+    rw c.requires.1.1.1.1.0 (search (arith, next, err, e))
