@@ -287,6 +287,7 @@ impl<'s, 'n> Walk<'s, 'n> {
     /// none where the first table is closed.
     #[cold]
     #[inline(never)]
+    #[tactic(auto, using(crate::proofs::Turning::went_over))]
     pub fn turn_by_units(
         &mut self,
         loan: &mut Loan<'_>,

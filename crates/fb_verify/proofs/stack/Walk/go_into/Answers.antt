@@ -27,11 +27,3 @@ go_to_table-requires g c =
     let bit : c.args.step.now.bit ≡ bits_of f f.kind = ap (λ (s : Step). s.bit) found.2 in
     let none : bits_of f f.kind ≡ 128 → ⊥ = λ e. c.if-step-ne0.true (ap (λ b. bit_and b 256) (bit ∙ e)) in
     ((f, found.1, to_table f f.kind found.1.act none ∙ ap Table (sym (ap (λ (s : Step). s.size) found.2)), sym (ap (λ (s : Step). s.slot) found.2)), c.requires.1)
-
-pub go_far-requires : goal.go_far-requires
-go_far-requires g c =
-    let found = c.requires.0 in
-    let f = found.0 in
-    let bit : c.args.step.now.bit ≡ bits_of f f.kind = ap (λ (s : Step). s.bit) found.2 in
-    let none : bits_of f f.kind ≡ 384 → ⊥ = λ e. (let clash : 256 ≡ 0 = sym (ap (λ b. bit_and b 256) (bit ∙ e)) ∙ c.if-step-ne0.false in omega (arith, clash)) in
-    (f, found.1, is_far f f.kind found.1.act none)

@@ -25,11 +25,6 @@ last g c =
     let room : c.args.waiting ≤ length (stack g c) = omega (arith, length-append (set low c.args.waiting top) high, length-set low c.args.waiting top, s.front_len) in
     c.requires.0 ∙ sym (below_joined c.args.frames.now low high c.args.waiting top s.value s.front_len high blank) ∙ last_is (stack g c) c.args.waiting blank (omega (arith, c.if-waiting-eq0.false)) room
 
-pub returns-then-waiting-eq0-clause-over : goal.returns-then-waiting-eq0-clause-over
-returns-then-waiting-eq0-clause-over g c _ =
-    let e = c.in-Ok.ensures in
-    went_over g.under c.pass_each.new.top refl e.walking (c.requires.0 ∙ rw c.if-waiting-eq0.true refl) (e.rests c.if-not-leads.true) (e.all c.if-not-leads.true) e.bytes
-
 pub returns-then-not-leads-clause-walking : goal.returns-then-not-leads-clause-walking
 returns-then-not-leads-clause-walking g c =
     let d = (goal.at.returns-then-not-leads-clause-walking g c).Else-waiting-eq0 in
