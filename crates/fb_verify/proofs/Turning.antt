@@ -74,15 +74,17 @@ module _ (w then : Walk) (m new : Lent) (under : Waiting) (old low high : List F
       record {
         over = λ zero. went_over under past e.on.same h (below ∙ rw zero refl) e.rests all e.on.bytes;
         above = λ some.
-            let room : waiting ≤ length frames = omega (arith, long) in
-            (record {
-              same = e.on.same;
-              walking = table_closed h (take (waiting - 1) frames) (get_or frames (waiting - 1) blank) (waits ∙ last_is frames waiting blank some room) e.rests all;
-              top = omega (arith, some, room);
-              falls = rw (sym below, sym stands) (omega (arith, e.on.falls, ap (λ zs. work w.schema.now w.limits zs past then.tables) waits, sum_last frames waiting blank some room (frame_work w.schema.now)));
-              grows = e.on.grows;
-              bytes = e.on.bytes;
-            }, e.on.short);
+            let room : waiting ≤ length frames = omega (arith, long) in (
+              record {
+                same = e.on.same;
+                walking = table_closed h (take (waiting - 1) frames) (get_or frames (waiting - 1) blank) (waits ∙ last_is frames waiting blank some room) e.rests all;
+                top = omega (arith, some, room);
+                falls = rw (sym below, sym stands) (omega (arith, e.on.falls, ap (λ zs. work w.schema.now w.limits zs past then.tables) waits, sum_last frames waiting blank some room (frame_work w.schema.now)));
+                grows = e.on.grows;
+                bytes = e.on.bytes;
+              },
+              e.on.short,
+            );
       }
 
   -- the top goes on, is passed to its end, or stops
@@ -100,15 +102,17 @@ module _ (w then : Walk) (m new : Lent) (under : Waiting) (old low high : List F
     frames_opened : OpensChild then last new then-reads above open-frame child → WentOn w last m then-reads under.start old waiting frames (waiting + 1) 1 × IsShort then-reads.count
     unfolding work
     frames_opened o =
-        let less = ap (λ x. work w.schema.now w.limits (under.frames ++ past ∷ []) x then.tables) o.opens in
-        (record {
-          same = rw o.same h.same;
-          walking = rw (grown, next_is, first, o.same) o.walking;
-          top = omega (arith, long, some);
-          falls = rw (grown, next_is, first, o.same, sym below, sym stands) (omega (arith, less, h.falls, o.paid));
-          grows = omega (arith, h.grows, o.grows);
-          bytes = o.bytes ∙ h.bytes;
-        }, omega (arith, h.short, o.paid))
+        let less = ap (λ x. work w.schema.now w.limits (under.frames ++ past ∷ []) x then.tables) o.opens in (
+          record {
+            same = rw o.same h.same;
+            walking = rw (grown, next_is, first, o.same) o.walking;
+            top = omega (arith, long, some);
+            falls = rw (grown, next_is, first, o.same, sym below, sym stands) (omega (arith, less, h.falls, o.paid));
+            grows = omega (arith, h.grows, o.grows);
+            bytes = o.bytes ∙ h.bytes;
+          },
+          omega (arith, h.short, o.paid),
+        )
 
     frames_stop : StopsAtChild then last new then-reads above → WentWrong w last m then-reads under.start frames
     frames_stop o =

@@ -4,7 +4,7 @@ use Rattle.std.proofs.lemmas.{List.length-append, List.length-take, List.Sums.su
 use Rattle.std.specs.List.{sum_by}
 use Rattle.fb_verify.specs.declared.scratch.Frame.{Frame}
 use Rattle.fb_verify.specs.Stack.{blank, IsWalking, work, frame_work}
-use Rattle.fb_verify.proofs.{Frames.if_err_exit, Turning.went_over, Walking.table_closed}
+use Rattle.fb_verify.proofs.{Frames.if_err_exit, Walking.table_closed}
 use Rattle.fb_verify.proofs.Stacks.{last_is, top_is, below_joined, grown_joined, top_joined, next_joined}
 use Rattle.fb_verify.proofs.stack.Walk.turn_by_units.Goals.{Else-waiting-eq0, Joined-top-eq0, After-pass_children, then-top-eq0+in-Ok+else-not-leads, else-top-eq0}
 use Rattle.fb_verify.proofs.stack.Walk.turn_by_units.Goals as goal
