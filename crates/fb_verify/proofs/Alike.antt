@@ -1,5 +1,5 @@
 -- What holds of a table whose fields are small holds of those below it that have its vtable and are aligned alike.
-use Rattle.std.proofs.Common.{◌≡◌, ℕ, suc, ◌+◌, ◌*◌, ◌<◌, ◌≤◌, ◌==◌, ◌%◌, ◌&&◌, ◌⊎◌, inl, inr, Bool, true, false, not, IsTrue, nat_le, List, [], ◌∷◌, map, drop, length, refl, sym, ◌∙◌, ap, subst, arith, Option, Some, None, Ok, if◌then◌else◌}
+use Rattle.std.proofs.Common.{◌≡◌, ℕ, suc, ◌+◌, ◌*◌, ◌<◌, ◌≤◌, ◌==◌, ◌%◌, ◌⊎◌, inl, inr, Bool, true, false, nat_le, List, [], ◌∷◌, map, drop, length, refl, sym, ◌∙◌, ap, subst, arith, Option, Some, None, Ok, if◌then◌else◌}
 use Rattle.std.specs.List.{All}
 use Rattle.std.proofs.lemmas.{Bool.Decides.nat_tests, List.length-map, List.length-drop, List.Elements.All-head, List.Elements.All-tail}
 use Rattle.std.proofs.lemmas.List.Sums.{sum_by-cons}
@@ -9,7 +9,6 @@ use Rattle.fb_schema.specs.declared.views.Act.TheVariants.{One, Two, Four, Eight
 use Rattle.fb_schema.specs.{Live.Live, Live.live_fields, Steps.step_of}
 use Rattle.fb_verify.specs.declared.{checks.Checks.Checks, passed.Passed.Passed, scratch.Frame.Frame, stack.Walk.Walk, table.Table.Table}
 use Rattle.fb_verify.specs.declared.table.Head.{Head}
-use Rattle.fb_verify.specs.declared.fault.Reason.TheVariants.{OutOfBuffer, Misaligned, BadVtable, MissingRequired}
 use Rattle.fb_verify.specs.{Alike.IsSmallStep, Alike.IsLike, Alike.IsPassed, Bounds.AreAllowed, Cost.head_reads, Cost.slot_reads}
 use Rattle.fb_verify.specs.{Flat.MayOpen, Flat.PassesFlat, Stack.opened, Stack.Waiting, Stack.IsWalking, Told.IsHead}
 use Rattle.fb_verify.specs.Order.{check, after, head_failure, table_failure, inline_failure, inline_field_failure}

@@ -5,11 +5,10 @@ ghost use Rattle.std.specs.Prelude.{◌≡◌, ◌+◌, ◌-◌, ◌*◌, ◌^�
 ghost use Rattle.fb_schema.specs.{Live.live_of_view, Rows.is_table, Served.IsServed};
 ghost use Rattle.fb_verify.specs.{Bounds.AreAllowed, Cost.head_reads, Cost.own_reads, Cost.lead_reads, Fields.entries, Fields.to_table};
 ghost use Rattle.fb_verify.specs.{Stops.budget_failure, Stops.reads_failure, Stops.lead_reads_failure, Places.target};
-ghost use Rattle.fb_verify.specs.PassesOn.{IsBetween, PassesFields};
+ghost use Rattle.fb_verify.specs.{PassesOn.IsBetween, PassesOn.PassesFields, Turns.AllowsTable, Turns.WentOver};
 ghost use Rattle.fb_verify.specs.Order.{◌▷◌, head_failure, own_failure, element_failure};
 ghost use Rattle.fb_verify.specs.OffsetRows.{IsAskable, LeavesRow, first_word, IsRow, IsLeafLead};
 ghost use Rattle.fb_verify.specs.Told.{told, stopped, way_at, IsAskedAt, IsHead};
-ghost use Rattle.fb_verify.specs.Turns.{AllowsTable, WentOver};
 ghost use Rattle.fb_verify.specs.Stack.{blank, Waiting, work, opened, IsWalking, IsAtTable, IsStoppedBehind, HaltsIn, links_left};
 
 use crate::budget::{answer, ask_reads, tell};
@@ -287,6 +286,7 @@ impl<'s, 'n> Walk<'s, 'n> {
     /// none where the first table is closed.
     #[cold]
     #[inline(never)]
+    #[tactic(auto, using(crate::proofs::Turning::went_over))]
     pub fn turn_by_units(
         &mut self,
         loan: &mut Loan<'_>,

@@ -1,7 +1,7 @@
-use Rattle.std.proofs.Common.{◌≡◌, [], ◌∷◌, refl, sym, ◌∙◌, ap, arith, None, Some}
+use Rattle.std.proofs.Common.{◌≡◌, refl, sym, ◌∙◌, ap, None, Some}
 use Rattle.fb_schema.specs.Members.{member_of}
 use Rattle.fb_schema.proofs.ToldKinds.{told_of}
-use Rattle.fb_verify.specs.{Fields.entry, Fields.lead_of, Fields.row, OffsetRows.lead_to, OffsetRows.type_of_slot, OffsetRows.type_reads}
+use Rattle.fb_verify.specs.{Fields.lead_of, OffsetRows.lead_to, OffsetRows.type_of_slot, OffsetRows.type_reads}
 use Rattle.fb_verify.specs.Order.{table_failure}
 use Rattle.fb_verify.proofs.{IntoField.word_left, Members.no_member, Members.some_member, Plains.after_twice}
 use Rattle.fb_verify.proofs.leads.put_union.Goals as goal

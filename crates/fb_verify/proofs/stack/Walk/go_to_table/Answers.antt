@@ -1,7 +1,7 @@
-use Rattle.std.proofs.Common.{◌≡◌, ◌∙◌, ℕ, ◌+◌, ◌-◌, ◌*◌, ◌/◌, ◌^◌, ◌≤◌, Some, None, IsTrue, refl, sym, ap, arith}
+use Rattle.std.proofs.Common.{◌≡◌, ◌∙◌, ◌+◌, ◌-◌, ◌/◌, ◌^◌, ◌≤◌, Some, None, IsTrue, refl, sym, ap, arith}
 use Rattle.fb_schema.specs.Rows.{is_table}
 use Rattle.fb_verify.specs.declared.{offset_row.Referent.TheVariants.Table as ATable, offset_row.Row.Row, stack.Turn.TheVariants.Slowly}
-use Rattle.fb_verify.specs.{Cost.present_reads, Fields.row, Order.after, Order.present_failure, Plain.tested_by, Plain.IsTested, Stack.blank}
+use Rattle.fb_verify.specs.{Cost.present_reads, Order.after, Order.present_failure, Plain.tested_by, Plain.IsTested, Stack.blank}
 use Rattle.fb_verify.specs.Turns.{BeginsRow}
 use Rattle.fb_verify.proofs.{RowTurns.stays, Budgets.fewer_reads, Turns.halts_in_field}
 use Rattle.fb_verify.proofs.IntoField.{word_left, into_askable, into_stops, row_begins, far_turned}

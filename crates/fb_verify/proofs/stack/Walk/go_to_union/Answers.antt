@@ -3,8 +3,7 @@ use Rattle.fb_bytes.specs.Word.{Lent}
 use Rattle.fb_schema.specs.Live.{live_of_view}
 use Rattle.fb_verify.specs.declared.{stack.Walk.Walk, scratch.Frame.Frame, table.Child.Child, stack.Turn.Turn, offset_row.Leads.Leads}
 use Rattle.fb_verify.specs.declared.{offset_row.Leads.TheVariants.All, offset_row.Leads.TheVariants.ByType, offset_row.Referent.Referent}
-use Rattle.fb_verify.specs.declared.offset_row.Row.{Row}
-use Rattle.fb_verify.specs.declared.stack.Turn.TheVariants.{Down, Up, Slowly, Halt as Halted}
+use Rattle.fb_verify.specs.declared.{offset_row.Row.Row, stack.Turn.TheVariants.Up}
 use Rattle.fb_verify.specs.{Cost.present_reads, Fields.entries_of, OffsetRows.LeavesRow, OffsetRows.AreAll, Order.present_failure, Plain.IsTested}
 use Rattle.fb_verify.specs.{Stack.blank, Stack.Waiting, Turns.BeginsRow, Turns.MemberTurned, Turns.RowTurned}
 use Rattle.fb_verify.proofs.IntoField.{into_askable, into_stops, few_spent, passed_over, row_begins, far_turned}

@@ -7,20 +7,6 @@ use Rattle.fb_verify.proofs.Turns.{words_fall, word_few, child_stops, child_open
 use Rattle.fb_verify.proofs.{Frames.row_types_near, Walking.table_closed}
 use Rattle.fb_verify.proofs.stack.Walk.pass_children.Goals as goal
 
-pub advance-requires : goal.advance-requires
-advance-requires g c =
-    let w = c.loop-top.self in
-    let o = rw c.in-Some.is at c.in-Ok.ensures.table in
-    let row = ((o.walking).frame).row in
-    record { more = o.more; near = omega (arith, row.place); types = row_types_near w.checks c.next_child.new.loan.bytes w.schema.now c.next_child.new.top.row o.more row }
-
-pub open_table-requires : goal.open_table-requires
-open_table-requires g c =
-    let i = c.loop-top.invariant in
-    let o = rw c.in-Some.is at c.in-Ok.ensures.table in
-    let few = word_few o in
-    omega (arith, few, i.budget, c.requires.1.1.1.1, (((i.walking).frame).row).left)
-
 pub returns-in-Err-open_table-clause-err : goal.returns-in-Err-open_table-clause-err
 returns-in-Err-open_table-clause-err g c =
     let i = c.loop-top.invariant in

@@ -67,11 +67,6 @@ returns-then-ends_before g c =
     let some = sym c.next_required.ensures ∙ c.in-Some-next_required.is in
     stops_at_field c.stop_at.result i.bytes (rw i.bytes at (required_stops s past c.in-Some-next_required.needed some c.stop_at.result (record { refusal = e.refusal; object = e.object; field = e.field })))
 
-pub stop_at-requires-clause-next : goal.stop_at-requires-clause-next
-stop_at-requires-clause-next g c =
-    let s = stepped g (goal.at.stop_at-requires-clause-next g c).In-Some in
-    required_within s c.in-Some-next_required.needed (sym c.next_required.ensures ∙ c.in-Some-next_required.is)
-
 pub returns-then-branch : goal.returns-then-branch
 returns-then-branch g c =
     let h = here g (goal.at.returns-then-branch g c).In-Some in

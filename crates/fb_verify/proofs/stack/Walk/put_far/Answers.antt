@@ -1,5 +1,4 @@
-use Rattle.std.proofs.Common.{nat_lt, ap, arith}
-use Rattle.std.proofs.Math.Nat.{add-sub_cancel}
+use Rattle.std.proofs.{Common.nat_lt, Common.ap, Common.arith, Math.Nat.add-sub_cancel}
 use Rattle.fb_schema.specs.Live.{live_of_view}
 use Rattle.fb_verify.proofs.IntoField.{into_askable, into_stops, passed_over, row_begins}
 use Rattle.fb_verify.proofs.Turns.{halts_in_field}

@@ -66,11 +66,6 @@ pass_root-requires g c =
     let object = ap (λ (x : Table). x.object) c.in-Ok.ensures.table in
     (refl, (rw (c.in-Ok.ensures.opened, c.in-Ok.ensures.counted) (rw (c.in-Ok.ensures.opened, c.in-Ok.ensures.counted) at (begun g d)), (refl, rw object (sym c.is_plain.ensures ∙ c.if-is_plain.true))))
 
-pub returns-in-Halt-clause-along : goal.returns-in-Halt-clause-along
-returns-in-Halt-clause-along g c _ =
-    let p = rw c.in-Halt.is at c.pass_root.ensures in
-    rw p.1 (rw (p.1, c.in-Ok.ensures.opened, c.in-Ok.ensures.counted) at (p.0).err)
-
 pub go_on-requires : goal.go_on-requires
 unfolding work
 go_on-requires g c =

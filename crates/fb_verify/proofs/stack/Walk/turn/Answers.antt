@@ -2,7 +2,7 @@ use Rattle.std.proofs.Common.{◌<◌, length, ap, get_or, arith}
 use Rattle.std.proofs.Math.ListN.{set, length-set}
 use Rattle.std.proofs.lemmas.List.{get_or-set_same, length-take}
 use Rattle.fb_verify.specs.Stack.{blank}
-use Rattle.fb_verify.proofs.{Stacks.top_is, Turning.frames_turned, Turning.frames_down}
+use Rattle.fb_verify.proofs.{Stacks.top_is, Turning.frames_down}
 use Rattle.fb_verify.proofs.stack.Walk.turn.Goals as goal
 
 pub returns-in-Down : goal.returns-in-Down

@@ -4,7 +4,7 @@ use Rattle.std.proofs.lemmas.{List.length-append, List.length-take, List.Sums.su
 use Rattle.std.specs.List.{sum_by}
 use Rattle.fb_verify.specs.declared.scratch.Frame.{Frame}
 use Rattle.fb_verify.specs.Stack.{blank, IsWalking, work, frame_work}
-use Rattle.fb_verify.proofs.{Frames.if_err_exit, Turning.went_over, Walking.table_closed}
+use Rattle.fb_verify.proofs.{Frames.if_err_exit, Walking.table_closed}
 use Rattle.fb_verify.proofs.Stacks.{last_is, top_is, below_joined, grown_joined, top_joined, next_joined}
 use Rattle.fb_verify.proofs.stack.Walk.turn_by_units.Goals.{Else-waiting-eq0, Joined-top-eq0, After-pass_children, then-top-eq0+in-Ok+else-not-leads, else-top-eq0}
 use Rattle.fb_verify.proofs.stack.Walk.turn_by_units.Goals as goal
@@ -24,11 +24,6 @@ last g c =
     let top = c.pass_each.new.top in
     let room : c.args.waiting ≤ length (stack g c) = omega (arith, length-append (set low c.args.waiting top) high, length-set low c.args.waiting top, s.front_len) in
     c.requires.0 ∙ sym (below_joined c.args.frames.now low high c.args.waiting top s.value s.front_len high blank) ∙ last_is (stack g c) c.args.waiting blank (omega (arith, c.if-waiting-eq0.false)) room
-
-pub returns-then-waiting-eq0-clause-over : goal.returns-then-waiting-eq0-clause-over
-returns-then-waiting-eq0-clause-over g c _ =
-    let e = c.in-Ok.ensures in
-    went_over g.under c.pass_each.new.top refl e.walking (c.requires.0 ∙ rw c.if-waiting-eq0.true refl) (e.rests c.if-not-leads.true) (e.all c.if-not-leads.true) e.bytes
 
 pub returns-then-not-leads-clause-walking : goal.returns-then-not-leads-clause-walking
 returns-then-not-leads-clause-walking g c =
