@@ -5,11 +5,10 @@ use Rattle.std.proofs.lemmas.List.{length-drop}
 use Rattle.fb_schema.specs.declared.kinds.Kind.{Kind}
 use Rattle.fb_schema.specs.{Rows.Rows, Live.Live, Live.live_fields, Served.IsServed}
 use Rattle.fb_verify.specs.declared.{checks.Checks.Checks, offset_row.Row.Row, scratch.Frame.Frame}
-use Rattle.fb_verify.specs.declared.offset_row.Leads.{Leads}
-use Rattle.fb_verify.specs.Fields.{IsVectorField, IsPresent, IsField, type_place, union_type, types_begin, Lead, to_table, to_string, Entry, row, union_row, union_entry, entries_of, entries_at, entries}
-use Rattle.fb_verify.specs.{Places.target, Places.field_place, Tree.elements_length, Way.Way, Links.element_of, Links.type_of, Links.element_link}
-use Rattle.fb_verify.specs.{OffsetRows.words, OffsetRows.words_of, OffsetRows.IsTyped, Walked.IsInField}
-use Rattle.fb_verify.specs.Stack.{word_count, CountIsIn, CountStands, TypeStands, frame_link, link_behind, IsFrame, IsLinked}
+use Rattle.fb_verify.specs.Fields.{IsPresent, IsField, Lead, Entry, row, union_row, entries_of, entries_at, entries}
+use Rattle.fb_verify.specs.{Places.field_place, Tree.elements_length, Way.Way, Links.element_of, Links.type_of, Links.element_link}
+use Rattle.fb_verify.specs.{OffsetRows.words_of, OffsetRows.IsTyped, Walked.IsInField}
+use Rattle.fb_verify.specs.Stack.{word_count, CountStands, TypeStands, frame_link, link_behind, IsFrame, IsLinked}
 use Rattle.fb_verify.proofs.Typed.{present, typed_before}
 
 module _ (b : List ℕ) (S : Rows) where

@@ -1,5 +1,4 @@
-use Rattle.std.proofs.Common.{ap, arith}
-use Rattle.fb_verify.proofs.{Frames.row_types_near, Walking.word_stops, Walking.leaf_passed}
+use Rattle.fb_verify.proofs.{Frames.row_types_near, Walking.word_stops}
 use Rattle.fb_verify.proofs.stack.Walk.next_child.Goals as goal
 
 pub returns-in-Err-clause-err : goal.returns-in-Err-clause-err

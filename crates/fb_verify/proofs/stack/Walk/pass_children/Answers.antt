@@ -3,8 +3,8 @@ use Rattle.std.proofs.Math.ListN.{length-set}
 use Rattle.std.proofs.lemmas.List.{get_or-set_same}
 use Rattle.fb_verify.specs.declared.stack.Walk.{Walk}
 use Rattle.fb_verify.specs.Stack.{blank}
-use Rattle.fb_verify.proofs.Turns.{words_fall, word_few, child_stops, child_opened, opening_falls, leading_falls, closing_falls}
-use Rattle.fb_verify.proofs.{Frames.row_types_near, Walking.table_closed}
+use Rattle.fb_verify.proofs.Turns.{words_fall, child_stops, child_opened, opening_falls, leading_falls, closing_falls}
+use Rattle.fb_verify.proofs.{Walking.table_closed}
 use Rattle.fb_verify.proofs.stack.Walk.pass_children.Goals as goal
 
 pub returns-in-Err-open_table-clause-err : goal.returns-in-Err-open_table-clause-err

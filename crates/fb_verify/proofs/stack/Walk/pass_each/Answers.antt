@@ -4,7 +4,7 @@ use Rattle.fb_schema.specs.{Live.live_fields, Live.live_of_view, Steps.step_of}
 use Rattle.fb_verify.specs.{Places.vtable_size, PassesOn.PassesFields}
 use Rattle.fb_verify.proofs.Frames.{item_some, field_at, length_map}
 use Rattle.fb_verify.proofs.Walking.{err_exit, AtNext, askable, next_stops, stops_at_field, next_leads, next_over}
-use Rattle.fb_verify.proofs.Passing.{AtStep, long, rest_absent, required_within, required_stops}
+use Rattle.fb_verify.proofs.Passing.{AtStep, long, rest_absent, required_stops}
 use Rattle.fb_verify.proofs.stack.Walk.pass_each.Goals as goal
 use Rattle.fb_verify.proofs.stack.Walk.pass_each.Goals.{In-Some}
 
