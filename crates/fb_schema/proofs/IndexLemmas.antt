@@ -10,31 +10,6 @@ use Rattle.fb_schema.specs.{Matched.AreMatched, Steps.act_of, Steps.is_plain_act
 use Rattle.fb_schema.specs.Rows.{Rows, Field, Object, field_of}
 use Rattle.fb_schema.proofs.{Numbers.get_or_default, Numbers.neither_below, WalkLemmas.mapped_at}
 
--- In a legal table no slot stands twice.
-or_true : (a b c : Bool) → c ≡ true → (a || b || c) ≡ true
-or_true a b c e = grind arith
-
-pub table_list : (b : Bool) (some other : List Demand) → b ≡ false → (if b then some else other) ≡ other
-table_list b some other e = grind arith
-
-no_slot_again : (rows : Rows) (n : ℕ) (o : Object) → IsLegal rows → slice_get rows.objects n ≡ Some o → o.is_struct ≡ false → (i j : ℕ) (d : Field) → i < j → j < length o.fields → (get_or o.fields i d).slot ≡ (get_or o.fields j d).slot → ⊥
-no_slot_again rows n o legal at table i j d lt within e =
-    let f = get_or o.fields j d in
-    let g = get_or o.fields i d in
-    let short = length-take-le j o.fields (omega arith) in
-    let taken : stands_before same_slot o.fields j f ≡ true =
-    list_any-from_Any (λ x. same_slot x f) (take j o.fields) (i, g, omega arith, get_or-take j o.fields i g lt ∙ get_or_default o.fields i g d (omega arith), (Decides-eqb g.slot f.slot).1 e) in
-    legal.none (record { level = 0; number = n; place = suc j; line = 1 }) BadSlot
-    (ap (λ x. slice_get (demands_of_object rows n (suc j) x) 1) at
-    ∙ ap (λ ds. slice_get ds 1) (table_list o.is_struct (demands_of_struct_field rows o.bytesize o.fields j (slice_get o.fields j)) (demands_of_table_field rows o.fields j (slice_get o.fields j)) table)
-    ∙ ap (λ x. slice_get (demands_of_table_field rows o.fields j x) 1) (slice_get-get_or o.fields j d within)
-    ∙ ap (λ b. Some (record { code = BadSlot; broken = b })) (or_true (not (f.slot % 2 == 0)) (nat_lt f.slot 4) (stands_before same_slot o.fields j f) taken))
-
-pub legal_slots : (rows : Rows) (n : ℕ) (o : Object) → IsLegal rows → slice_get rows.objects n ≡ Some o → o.is_struct ≡ false → AreApart o.fields
-legal_slots rows n o legal at table = record {
-  at = λ i j d a b e. neither_below i j (λ lt. no_slot_again rows n o legal at table i j d lt b e) (λ lt. no_slot_again rows n o legal at table j i d lt a (sym e));
-}
-
 -- Matched lists grow together.
 pub slice_get_end : {X : Type 0} (xs : List X) (x y : X) (n : ℕ) → slice_get (xs ++ x ∷ []) n ≡ Some y → (slice_get xs n ≡ Some y) ⊎ ((n ≡ length xs) × (x ≡ y))
 slice_get_end [] x y zero e = inr (refl, (let w : x ≡ y = cc in w))

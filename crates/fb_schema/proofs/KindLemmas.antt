@@ -59,9 +59,7 @@ asked_of_struct a b c h e = grind arith
 
 struct_there : (rows : Rows) → IsLegal rows → (k : ℕ) (o : Object) → slice_get rows.objects k ≡ Some o → o.is_struct ≡ true → IsStruct rows k
 struct_there rows legal k o at struct =
-    let named = stands_before same_object_name rows.objects k o in
-    let clear : first_code (object_demands o named) ≡ None = sym (ap (λ x. first_code (demands_of_object rows k 0 x)) at) ∙ legal_clear rows legal 0 k 0 in
-    let line = clear_line (object_demands o named) clear 1 _ refl in
+    let line = clear_line (object_demands o _) (rw at at (legal_clear rows legal 0 k 0)) 1 _ refl in
     (slice_get_within rows.objects k o at, subst (λ x. IsAlignment (align_in x)) (sym at) (aligned o.minalign (asked_of_struct o.is_struct (int_lt o.bytesize (pos 1)) (is_alignment o.minalign) line struct)))
 
 -- what holds of the kind that an object gives, where it holds of a struct and of a table that is there

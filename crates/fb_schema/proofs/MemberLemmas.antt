@@ -9,7 +9,7 @@ use Rattle.fb_schema.specs.declared.rows.MemberRow.{MemberRow}
 use Rattle.fb_schema.specs.Sorting.{IsAgain, IsFirstAgain, name_cmp, member_cmp, member_value, member_key}
 use Rattle.fb_schema.specs.Rows.{Rows, Member, member_of_row}
 use Rattle.fb_schema.specs.Demands.{is_at, first_code, stands_before, same_value, same_member_name, Demand, member_demands, members_asked, demands_of_member}
-use Rattle.fb_schema.proofs.WalkLemmas.{names_agree, mapped_at, values_agree, or_false, past_list}
+use Rattle.fb_schema.proofs.WalkLemmas.{names_agree, mapped_at, values_agree, past_list}
 
 -- both rows stand for the union without a value, or neither does, and they have one name
 abbrev same_key : Member → Member → Bool
@@ -65,8 +65,7 @@ module _ (rows : Rows) (members : List MemberRow) where
 
   not_taken_member : (q : ℕ) → first_code (members_asked rows (map member_of_row members) q) ≡ None → (row : MemberRow) → slice_get members q ≡ Some row → stands_before same_value (map member_of_row members) q (member_of_row row) ≡ true → ⊥
   not_taken_member q clear row at old =
-      let new = or_false (int_lt row.value (pos 0)) (int_lt (pos 255) row.value) (stands_before same_value (map member_of_row members) q (member_of_row row)) (clear_line (asked_at q row) (clear_demands q row at clear) 0 _ refl) in
-      let w : true ≡ false = sym old ∙ new in cc
+      let line = clear_line (asked_at q row) (clear_demands q row at clear) 0 _ refl in grind (arith, line, old)
 
   not_named_member : (q : ℕ) → first_code (members_asked rows (map member_of_row members) q) ≡ None → (row : MemberRow) → slice_get members q ≡ Some row → stands_before same_member_name (map member_of_row members) q (member_of_row row) ≡ true → ⊥
   not_named_member q clear row at old =

@@ -14,17 +14,11 @@ use Rattle.fb_schema.proofs.{UnionLemmas.members_read, UnionLemmas.not_none, Wal
 pub members_total : IsTotalOrder member_cmp
 members_total = then_total (on_total (λ (m : Bool × Bor (List ℕ)). m.0) bool_cmp_total) (on_total (λ (m : Bool × Bor (List ℕ)). m.1) names_total)
 
-or_first : (a b c : Bool) → (a || b || c) ≡ false → a ≡ false
-or_first a b c e = grind arith
-
-or_second : (a b c : Bool) → (a || b || c) ≡ false → b ≡ false
-or_second a b c e = grind arith
-
 -- a value of legal rows that isn't 0 is a member's
-real_is : (z : ℤ) → int_lt z (pos 0) ≡ false → int_lt (pos 255) z ≡ false → int_eq z (pos 0) ≡ false → is_member_value z ≡ true
-real_is (pos zero) a b c = absurd (let w : true ≡ false = c in cc)
-real_is (pos (suc n)) a b c = grind (arith, nat_tests, b)
-real_is (negsuc n) a b c = absurd (let w : true ≡ false = a in cc)
+real_is : (z : ℤ) (taken : Bool) → (int_lt z (pos 0) || int_lt (pos 255) z || taken) ≡ false → int_eq z (pos 0) ≡ false → is_member_value z ≡ true
+real_is (pos zero) taken line c = absurd (let w : true ≡ false = c in cc)
+real_is (pos (suc n)) taken line c = grind (arith, nat_tests, line)
+real_is (negsuc n) taken line c = absurd (let w : true ≡ false = line in cc)
 
 eq_false : (a : Bool) → a ≡ false → is_eq (bool_cmp a false) ≡ true
 eq_false a e = grind arith
@@ -49,11 +43,7 @@ module _ (rows : Rows) (members : List MemberRow) (clear : (q : ℕ) → first_c
   real_at k x lt e =
       let m = get_or members k x in
       let c = clear_demands rows members k m (slice_get-get_or members k x lt) (clear k) in
-      let stood = stands_before same_value (map member_of_row members) k (member_of_row m) in
-      let ds = member_demands rows (member_of_row m) stood (stands_before same_member_name (map member_of_row members) k (member_of_row m)) in
-      let range = clear_line ds c 0 _ refl in
-      real_is m.value (or_first (int_lt m.value (pos 0)) (int_lt (pos 255) m.value) stood range) (or_second (int_lt m.value (pos 0)) (int_lt (pos 255) m.value) stood range)
-      (false_eq (int_eq m.value (pos 0)) (both_true (is_eq (bool_cmp (int_eq m.value (pos 0)) false)) (bytes_eq m.name.now name.now) ((agrees m).1 e)).0)
+      real_is m.value _ (clear_line (member_demands rows (member_of_row m) _ _) c 0 _ refl) (false_eq (int_eq m.value (pos 0)) (both_true (is_eq (bool_cmp (int_eq m.value (pos 0)) false)) (bytes_eq m.name.now name.now) ((agrees m).1 e)).0)
 
   tested : (k : ℕ) (x : MemberRow) → k < length members → member_cmp (member_key (get_or members k x)) (false, name) ≡ Equal → test (member_of_row (get_or members k x)) ≡ true
   tested k x lt e =

@@ -23,19 +23,12 @@ row_of rows k i f (Some o) at e = go o.is_struct refl e where
   go true is e = record { object = o; at = at; struct = is; here = e }
   go false is e = absurd (let w : None ≡ Some f = e in cc)
 
-struct_list : {X : Type 0} (b : Bool) (xs ys : List X) → b ≡ true → (if b then xs else ys) ≡ xs
-struct_list b xs ys e = grind arith
-
 -- what is demanded of it, in an order that begins with its name
 abbrev IsAskedOf : Rows → Object → Field → ℕ → Type 0
 IsAskedOf rows o f i = first_code (struct_field_demands rows o.bytesize f (stands_before same_field_name o.fields i f)) ≡ None
 
 asked : (rows : Rows) → IsLegal rows → (k i : ℕ) (f : Field) (r : IsPartRow rows k i f) → IsAskedOf rows r.object f i
-asked rows legal k i f r =
-    let o = r.object in
-    let fields : demands_of_object rows k (suc i) (slice_get rows.objects k) ≡ demands_of_struct_field rows o.bytesize o.fields i (slice_get o.fields i) =
-    ap (demands_of_object rows k (suc i)) r.at ∙ struct_list o.is_struct (demands_of_struct_field rows o.bytesize o.fields i (slice_get o.fields i)) (demands_of_table_field rows o.fields i (slice_get o.fields i)) r.struct in
-    sym (ap first_code (fields ∙ ap (demands_of_struct_field rows o.bytesize o.fields i) r.here)) ∙ legal_clear rows legal 0 k (suc i)
+asked rows legal k i f r = rw (r.at, r.struct, r.here) at (legal_clear rows legal 0 k (suc i))
 
 -- a struct of legal rows has a size
 sized : (a b c : Bool) → (a && (b || c)) ≡ false → a ≡ true → b ≡ false
@@ -47,9 +40,8 @@ positive (negsuc m) h = absurd (let w : true ≡ false = h in cc)
 
 struct_bytes : (rows : Rows) → IsLegal rows → (k : ℕ) (o : Object) → slice_get rows.objects k ≡ Some o → o.is_struct ≡ true → (m : ℕ) × (o.bytesize ≡ pos m)
 struct_bytes rows legal k o at struct =
-    let named = stands_before same_object_name rows.objects k o in
-    let clear : first_code (object_demands o named) ≡ None = sym (ap (λ x. first_code (demands_of_object rows k 0 x)) at) ∙ legal_clear rows legal 0 k 0 in
-    positive o.bytesize (sized o.is_struct (int_lt o.bytesize (pos 1)) (not (is_alignment o.minalign)) (clear_line (object_demands o named) clear 1 _ refl) struct)
+    let line = clear_line (object_demands o _) (rw at at (legal_clear rows legal 0 k 0)) 1 _ refl in
+    positive o.bytesize (sized o.is_struct (int_lt o.bytesize (pos 1)) (not (is_alignment o.minalign)) line struct)
 
 not_past : (bytes : ℤ) (n : ℕ) → int_lt bytes (pos n) ≡ false → n ≤ unsigned_abs bytes
 not_past (pos b) n h = grind (arith, nat_tests, h)

@@ -67,7 +67,7 @@ told_in rows legal n value (Some e) at = go e.is_union refl where
   kind b = option_and_then (λ m. kind_of rows m.ty) (find (λ m. int_eq m.value (pos value)) (members b))
 
   go : (b : Bool) → e.is_union ≡ b → kind_to (target_of rows (kind b)) ≡ kind b
-  go true union = told_again rows e.members (λ q. sym (ap first_code (ap (demands_of_enum rows (suc q)) at ∙ union_list e.is_union (members_asked rows e.members q) union)) ∙ legal_clear rows legal 1 n (suc q)) value
+  go true union = told_again rows e.members (λ q. rw (at, union) at (legal_clear rows legal 1 n (suc q))) value
   go false union = refl
 
 -- the same of legal rows

@@ -17,9 +17,6 @@ union_at all [] n h = absurd (let w : false ≡ true = h in cc)
 union_at all (e ∷ es) zero h = (e, refl, h)
 union_at all (e ∷ es) (suc n) h = union_at all es n h
 
-pub union_list : {X : Type 0} (b : Bool) (xs : List X) → b ≡ true → (if b then xs else []) ≡ xs
-union_list b xs e = grind arith
-
 -- a member's value is from 1 to 255
 pub real_value : (v : ℕ) → 0 < v → v < 256 → is_member_value (pos v) ≡ true
 real_value v a b = grind (arith, nat_tests)
@@ -31,14 +28,13 @@ not_none z h = not_true (int_eq z (pos 0)) (λ e. let w : true ≡ false = sym h
 pub members_clear : (rows : Rows) (all : List MemberRow) (enums : List EnumPart) → rows.enums ≡ map (enum_in all) enums → IsLegal rows → (n : ℕ) (row : EnumPart) → slice_get enums n ≡ Some row → row.is_union ≡ true → (q : ℕ) → first_code (members_asked rows (map member_of_row (part all row.members)) q) ≡ None
 members_clear rows all enums same legal n row at union q =
     let here : slice_get rows.enums n ≡ Some (enum_in all row) = ap (λ es. slice_get es n) same ∙ mapped_at (enum_in all) enums n row at in
-    sym (ap first_code (ap (demands_of_enum rows (suc q)) here ∙ union_list row.is_union (members_asked rows (map member_of_row (part all row.members)) q) union))
-    ∙ legal_clear rows legal 1 n (suc q)
+    rw (here, union) at (legal_clear rows legal 1 n (suc q))
 
 -- the members of a union are those of its row
 pub members_read : (rows : Rows) (all : List MemberRow) (enums : List EnumPart) → rows.enums ≡ map (enum_in all) enums → (n : ℕ) (row : EnumPart) → slice_get enums n ≡ Some row → row.is_union ≡ true → members_in (slice_get rows.enums n) ≡ filter (λ m. is_member_value m.value) (map member_of_row (part all row.members))
 members_read rows all enums same n row at union =
     ap members_in (ap (λ es. slice_get es n) same ∙ mapped_at (enum_in all) enums n row at)
-    ∙ union_list row.is_union (filter (λ m. is_member_value m.value) (map member_of_row (part all row.members))) union
+    ∙ ap (λ b. if b then filter (λ (m : Member). is_member_value m.value) (map member_of_row (part all row.members)) else []) union
 
 module _ (rows : Rows) (members : List MemberRow) (clear : (q : ℕ) → first_code (members_asked rows (map member_of_row members) q) ≡ None) where
   abbrev test : ℕ → Member → Bool

@@ -69,9 +69,6 @@ module _ (rows : Rows) (bytesize : ℤ) (fields : List FieldRow) where
   past_struct n le h q = past_list (map field_of fields) (demands_of_struct_field rows bytesize (map field_of fields)) (λ q. refl) n (rw length-map le) h q
 
 -- Tables.
-pub or_false : (a b c : Bool) → (a || b || c) ≡ false → c ≡ false
-or_false a b c e = grind arith
-
 module _ (rows : Rows) (fields : List FieldRow) where
   abbrev table_asked_at : ℕ → FieldRow → List Demand
   table_asked_at p row = table_field_demands rows (field_of row) (stands_before same_field_name (map field_of fields) p (field_of row)) (stands_before same_slot (map field_of fields) p (field_of row))
@@ -85,7 +82,7 @@ module _ (rows : Rows) (fields : List FieldRow) where
 
   not_taken_table : (q : ℕ) → first_code (table_asked rows (map field_of fields) q) ≡ None → IsAgain nat_cmp (map field_slot fields) q → ⊥
   not_taken_table q clear a = never_again nat_cmp field_slot field_of same_slot slots_agree fields q a
-      (λ row at. or_false (not (row.slot % 2 == 0)) (nat_lt row.slot 4) (stands_before same_slot (map field_of fields) q (field_of row)) (clear_line (table_asked_at q row) (ap first_code (sym (table_at q row at)) ∙ clear) 1 _ refl))
+      (λ row at. let line = clear_line (table_asked_at q row) (ap first_code (sym (table_at q row at)) ∙ clear) 1 _ refl in grind (arith, line))
 
   -- what the walk computes at p is what is demanded there
   pub table_code : (p : ℕ) (row : FieldRow) (name_again slot_again : Option ℕ) (named taken byte vector : Bool) → slice_get fields p ≡ Some row

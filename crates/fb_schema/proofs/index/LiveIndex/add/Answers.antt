@@ -18,7 +18,7 @@ object_there g c = kept_read (object_in c.args.rows.now.fields.now) c.args.rows.
 pub table_views-requires-clause-apart : goal.table_views-requires-clause-apart
 table_views-requires-clause-apart g c = λ table.
     let d = (goal.at.table_views-requires-clause-apart g c).Start in
-    legal_slots (borrowed_rows c.args.rows.now) c.args.n (object_read g d) c.requires.legal (object_there g d) table
+    legal_slots (borrowed_rows c.args.rows.now) c.requires.legal c.args.n (object_read g d) (object_there g d) table
 
 pub table_views-requires-clause-spaced : goal.table_views-requires-clause-spaced
 table_views-requires-clause-spaced g c = λ table.
