@@ -27,13 +27,8 @@ list_any-map p f [] = refl
 list_any-map p f (x ∷ xs) = ap (λ b. p (f x) || b) (list_any-map p f xs)
 
 -- a key of a list stands again behind one that is like it
-pub again_at : {X K : Type 0} (R : K → K → Ordering) (key : X → K) (xs : List X) (i j : ℕ) (x : X) → i < j → j < length xs → R (key (get_or xs i x)) (key (get_or xs j x)) ≡ Equal → IsAgain R (map key xs) j
-again_at R key xs i j x lt within e = record {
-  earlier = i;
-  before = lt;
-  within = rw length-map within;
-  alike = λ d. ap (λ z. R z (get_or (map key xs) j d)) (get_or-map key xs i x d (omega arith)) ∙ ap (R (key (get_or xs i x))) (get_or-map key xs j x d within) ∙ e;
-}
+pub again_at : {K : Type 0} (R : K → K → Ordering) (keys : List K) (i j : ℕ) (d : K) → i < j → j < length keys → R (get_or keys i d) (get_or keys j d) ≡ Equal → IsAgain R keys j
+again_at R keys i j d lt within e = record { earlier = i; before = lt; within = within; alike = λ x. rw (get_or_default keys i x d (omega arith), get_or_default keys j x d within) e }
 
 -- rows in memory with their keys, and how the definitions see them: two are the same where their keys are alike
 module _ {X Y K : Type 0} (R : K → K → Ordering) (key : X → K) (f : X → Y) (same : Y → Y → Bool) (agrees : (a b : X) → Decides (same (f a) (f b)) (R (key a) (key b) ≡ Equal)) (xs : List X) (p : ℕ) (x : X) (at : slice_get xs p ≡ Some x) where
