@@ -5,7 +5,7 @@ use Rattle.fb_schema.proofs.{Numbers.not_false, DemandLaws.clear_line, LegalLemm
 use Rattle.std.proofs.lemmas.{Option.slice_get_within, Option.MatchOption-at_some, Bool.Decides.Decides-eqb}
 use Rattle.std.specs.List.{list_any}
 use Rattle.fb_schema.specs.declared.rows.TypeRow.{TypeRow}
-use Rattle.fb_schema.specs.Demands.{IsLegal, first_code, demands_of_object, object_demands, stands_before, same_object_name, is_alignment, is_union_shape}
+use Rattle.fb_schema.specs.Demands.{IsLegal, first_code, demands_of_object, object_demands, stands_before, same_object_name, is_alignment, is_union_shape, lacks_type_field}
 use Rattle.fb_schema.specs.Kinds.{kind_of, shape_of, shape_kind, object_kind, union_kind, struct_align, align_in}
 use Rattle.fb_schema.specs.{Vectors.vector_of, Members.member_of, Members.members_of, Served.IsAlignment, Served.MemberHolds}
 use Rattle.fb_schema.specs.Rows.{Rows, Object, Enum, Member, entry_at, is_table, is_union, is_some_table, is_some_union}
@@ -82,34 +82,42 @@ union_kinds rows P union (pos k) of = go (slice_get rows.enums k) refl where
   go None at = tt
   go (Some e) at = of k e at at
 
-object_of_shape : (rows : Rows) → IsLegal rows → (index : ℤ) (s : Option Shape) → IfSome (shape_kind rows index s) (NamesObject rows)
-object_of_shape rows legal index (Some (One OfObject)) = object_kinds rows (NamesObject rows) Struct Table index (λ k o _ at is. struct_there rows legal k o at is) (λ k o _ at is. ap is_some_table at ∙ ap not is)
-object_of_shape rows legal index (Some (One OfUnion)) = union_kinds rows (NamesObject rows) Union index (λ _ _ _ _. tt)
-object_of_shape rows legal index (Some (Vector OfObject)) = object_kinds rows (NamesObject rows) Structs Tables index (λ k o _ at is. struct_there rows legal k o at is) (λ k o _ at is. ap is_some_table at ∙ ap not is)
-object_of_shape rows legal index (Some (Vector OfUnion)) = union_kinds rows (NamesObject rows) Unions index (λ _ _ _ _. tt)
-object_of_shape rows legal index s = tt
+-- the type field that a kind asks for is there
+abbrev pub HasAsked : Bool → Bool → Kind → Type 0
+HasAsked byte vector (Union e) = byte ≡ true
+HasAsked byte vector (Unions e) = vector ≡ true
+HasAsked byte vector _ = Unit {0}
 
--- the object that a kind names is there
-pub names_object : (rows : Rows) → IsLegal rows → (ty : TypeRow) (kind : Kind) → kind_of rows ty ≡ Some kind → NamesObject rows kind
+-- the object that a kind names is there; so is its union, and its type field, where no demand says otherwise
+abbrev pub IsNamed : Rows → ℤ → Option Shape → Bool → Bool → Kind → Type 0
+IsNamed rows index s byte vector kind = NamesObject rows kind × ((is_union_shape s && not (is_some_union (entry_at rows.enums index))) ≡ false → NamesUnion rows kind) × (lacks_type_field s byte vector ≡ false → HasAsked byte vector kind)
+
+named_of_shape : (rows : Rows) → IsLegal rows → (index : ℤ) (byte vector : Bool) (s : Option Shape) → IfSome (shape_kind rows index s) (IsNamed rows index s byte vector)
+named_of_shape rows legal index byte vector (Some (One OfObject)) = object_kinds rows (IsNamed rows index (Some (One OfObject)) byte vector) Struct Table index
+    (λ k o _ at is. (struct_there rows legal k o at is, λ _. tt, λ _. tt)) (λ k o _ at is. (ap is_some_table at ∙ ap not is, λ _. tt, λ _. tt))
+named_of_shape rows legal index byte vector (Some (Vector OfObject)) = object_kinds rows (IsNamed rows index (Some (Vector OfObject)) byte vector) Structs Tables index
+    (λ k o _ at is. (struct_there rows legal k o at is, λ _. tt, λ _. tt)) (λ k o _ at is. (ap is_some_table at ∙ ap not is, λ _. tt, λ _. tt))
+named_of_shape rows legal index byte vector (Some (One OfUnion)) =
+    union_kinds rows (IsNamed rows index (Some (One OfUnion)) byte vector) Union index (λ k e here at. (tt, λ h. ap is_some_union (at ∙ sym here) ∙ not_false _ h, not_false byte))
+named_of_shape rows legal index byte vector (Some (Vector OfUnion)) =
+    union_kinds rows (IsNamed rows index (Some (Vector OfUnion)) byte vector) Unions index (λ k e here at. (tt, λ h. ap is_some_union (at ∙ sym here) ∙ not_false _ h, not_false vector))
+named_of_shape rows legal index byte vector (Some (One e)) = (tt, λ _. tt, λ _. tt)
+named_of_shape rows legal index byte vector (Some (Vector e)) = (tt, λ _. tt, λ _. tt)
+named_of_shape rows legal index byte vector s = tt
+
+-- of legal rows each kind of a type is named so
+pub is_named : (rows : Rows) → IsLegal rows → (ty : TypeRow) (byte vector : Bool) (kind : Kind) → kind_of rows ty ≡ Some kind → IsNamed rows ty.index (shape_of ty) byte vector kind
 unfolding kind_of
-names_object rows legal ty kind e = MatchOption-at_some _ (NamesObject rows) kind e (object_of_shape rows legal ty.index (shape_of ty))
-
--- so is its union, where the type names no union that isn't there
-pub union_of_shape : (rows : Rows) (index : ℤ) (s : Option Shape) → (is_union_shape s && not (is_some_union (entry_at rows.enums index))) ≡ false → IfSome (shape_kind rows index s) (NamesUnion rows)
-union_of_shape rows index (Some (One OfObject)) h = object_kinds rows (NamesUnion rows) Struct Table index (λ _ _ _ _ _. tt) (λ _ _ _ _ _. tt)
-union_of_shape rows index (Some (One OfUnion)) h = union_kinds rows (NamesUnion rows) Union index (λ k e here at. ap is_some_union (at ∙ sym here) ∙ not_false _ h)
-union_of_shape rows index (Some (Vector OfObject)) h = object_kinds rows (NamesUnion rows) Structs Tables index (λ _ _ _ _ _. tt) (λ _ _ _ _ _. tt)
-union_of_shape rows index (Some (Vector OfUnion)) h = union_kinds rows (NamesUnion rows) Unions index (λ k e here at. ap is_some_union (at ∙ sym here) ∙ not_false _ h)
-union_of_shape rows index s h = tt
+is_named rows legal ty byte vector kind e = MatchOption-at_some _ (IsNamed rows ty.index (shape_of ty) byte vector) kind e (named_of_shape rows legal ty.index byte vector (shape_of ty))
 
 pub member_holds : (rows : Rows) → IsLegal rows → (e value : ℕ) → MemberHolds rows (member_of rows e value)
 unfolding member_of kind_of
 member_holds rows legal e value = found (find (λ m. int_eq m.value (pos value)) (members_of rows e)) where
-  of_kind : (kind : Option Kind) → IfSome kind (NamesObject rows) → MemberHolds rows kind
-  of_kind (Some (Struct k)) h = h
-  of_kind (Some (Table k)) h = h
-  of_kind kind h = tt
+  of_kind : (index : ℤ) (s : Option Shape) (kind : Option Kind) → IfSome kind (IsNamed rows index s false false) → MemberHolds rows kind
+  of_kind index s (Some (Struct k)) h = h.0
+  of_kind index s (Some (Table k)) h = h.0
+  of_kind index s kind h = tt
 
   found : (m : Option Member) → MemberHolds rows (option_and_then (λ (m : Member). kind_of rows m.ty) m)
   found None = tt
-  found (Some m) = of_kind (kind_of rows m.ty) (object_of_shape rows legal m.ty.index (shape_of m.ty))
+  found (Some m) = of_kind m.ty.index (shape_of m.ty) (kind_of rows m.ty) (named_of_shape rows legal m.ty.index false false (shape_of m.ty))

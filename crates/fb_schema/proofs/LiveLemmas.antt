@@ -1,8 +1,8 @@
 -- Fields in rising slot are those that an insertion sort gives.
-use Rattle.std.proofs.Common.{◌≡◌, ◌≢◌, ℕ, zero, suc, ◌+◌, ◌-◌, ◌<◌, ◌≤◌, ◌==◌, ◌⊎◌, inl, inr, Bool, true, false, List, [], ◌∷◌, length, get_or, map, filter, position, Some, None, refl, sym, ◌∙◌, ap, subst, arith, IsPermutation, nat_le, if◌then◌else◌, cond, Contains, swap, Less, Equal, Greater}
+use Rattle.std.proofs.Common.{◌≡◌, ◌≢◌, ℕ, zero, suc, ◌+◌, ◌-◌, ◌<◌, ◌≤◌, ◌==◌, ◌⊎◌, inl, inr, Bool, true, false, List, [], ◌∷◌, length, get_or, map, filter, position, Some, None, refl, sym, ◌∙◌, ap, subst, arith, IsPermutation, nat_le, if◌then◌else◌, cond, Contains, swap, Less, Equal, Greater, ◌++◌, length-append, not}
 use Rattle.std.proofs.lemmas.{Cmp.nat_cmp_total, Cmp.tied_itself, List.length-map, List.get_or-map}
 use Rattle.std.proofs.lemmas.{List.Edits.swapped_from_swap, List.Edits.length-swap, Bool.Decides.Decides-eqb}
-use Rattle.std.proofs.lemmas.List.Sorted.{IsPermutation-keeps, IsPermutation-map, Contains-permutation, IsPermutation-sym, IsPermutation-refl, IsPermutation-trans, IsPermutation-swap, IsPermutation-cons}
+use Rattle.std.proofs.lemmas.List.Sorted.{IsPermutation-keeps, IsPermutation-map, Contains-permutation, IsPermutation-sym, IsPermutation-refl, IsPermutation-trans, IsPermutation-swap, IsPermutation-cons, IsPermutation-filter_both}
 use Rattle.std.proofs.lemmas.List.Elements.{Contains-get_or, All-contains, All-filter, All-contains_itself}
 use borrow.Author.Tests.{leb-true, le-leb}
 use Rattle.std.specs.List.Sorted.{IsSortedBy, IsNonDecreasingBy, IsPartitionPoint}
@@ -12,6 +12,7 @@ use Rattle.fb_schema.specs.Rows.{Field, field_of}
 use Rattle.fb_schema.specs.Live.{insert_by_slot, by_slot, is_live, AreApart, AreRising}
 use Rattle.fb_schema.proofs.Numbers.{lt_or_eq, le_or_lt, slice_get_some, neither_below}
 use Rattle.fb_schema.proofs.{PositionLemmas.found_position, PositionLemmas.no_position, Search.nat_tied, Search.search_missed, Search.not_true}
+use Rattle.std.proofs.lemmas.List.{get_or_append_left}
 
 contains_cases : {X : Type 0} (y z : X) (ys : List X) → Contains (y ∷ ys) z → (y ≡ z) ⊎ Contains ys z
 contains_cases y z ys (zero, lt, e) = inl e
@@ -131,21 +132,15 @@ shorter p (x ∷ xs) = grind (arith, shorter p xs)
 pub filter_contains : (p : Field → Bool) (fs : List Field) (z : Field) → Contains (filter p fs) z → Contains fs z
 filter_contains p fs z h = All-contains (Contains fs) (filter p fs) z (All-filter p (Contains fs) fs (All-contains_itself fs)) h
 
-apart_cons : (f : Field) (gs : List Field) → ((g : Field) → Contains gs g → f.slot ≢ g.slot) → AreApart gs → AreApart (f ∷ gs)
-apart_cons f gs head tail = record { at = go } where
-  go : (i j : ℕ) (d : Field) → i < length (f ∷ gs) → j < length (f ∷ gs) → (get_or (f ∷ gs) i d).slot ≡ (get_or (f ∷ gs) j d).slot → i ≡ j
-  go zero zero d a b e = refl
-  go zero (suc j) d a b e = absurd (head (get_or gs j d) (Contains-get_or gs j d (omega arith)) e)
-  go (suc i) zero d a b e = absurd (head (get_or gs i d) (Contains-get_or gs i d (omega arith)) (sym e))
-  go (suc i) (suc j) d a b e = ap suc (tail.at i j d (omega arith) (omega arith) e)
-
-apart_cond : (b : Bool) (f : Field) (gs : List Field) → ((g : Field) → Contains gs g → f.slot ≢ g.slot) → AreApart gs → AreApart (cond b (f ∷ gs) gs)
-apart_cond true f gs head tail = apart_cons f gs head tail
-apart_cond false f gs head tail = tail
+apart_front : (xs ys : List Field) → AreApart (xs ++ ys) → AreApart xs
+apart_front xs ys h = record {
+  at = λ i j d a b e.
+      let long = length-append xs ys in
+      h.at i j d (omega arith) (omega arith) (rw (get_or_append_left xs ys d i a, get_or_append_left xs ys d j b) e);
+}
 
 pub filter_apart : (p : Field → Bool) (fs : List Field) → AreApart fs → AreApart (filter p fs)
-filter_apart p [] h = h
-filter_apart p (f ∷ fs) h = apart_cond (p f) f (filter p fs) (λ g c. apart_head f fs h g (filter_contains p fs g c)) (filter_apart p fs (apart_tail f fs h))
+filter_apart p fs h = apart_front (filter p fs) _ (apart_permutation fs _ (IsPermutation-filter_both p (λ f. not (p f)) (λ f. refl) fs) h)
 
 mapped_up : (rows : List FieldRow) → IsNonDecreasingBy (λ (r : FieldRow). r.slot) rows → IsNonDecreasingBy (λ (f : Field). f.slot) (map field_of rows)
 mapped_up [] up = λ i j d le lt. absurd (omega arith)

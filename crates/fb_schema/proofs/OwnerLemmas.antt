@@ -4,18 +4,12 @@ use Rattle.fb_schema.specs.declared.{fault.Code.Code, flat.ObjectPart.ObjectPart
 use Rattle.fb_schema.specs.Sorting.{IsAgain, IsFirstAgain, name_cmp, object_name}
 use Rattle.fb_schema.specs.{FlatRows.object_in, Rows.Rows, Rows.Enum}
 use Rattle.fb_schema.specs.Demands.{is_at, first_code, stands_before, same_object_name, object_demands, demands_of_object, demands_of_enum, demands_of_field, demands_of_union, demands_at, IsFirstOf, IsFirstIllegal, IsLegal, AreClear}
-use Rattle.fb_schema.proofs.DemandLaws.{IsClear, AreLevelsClear, AreClearBelow, clear_line, first_illegal, is_legal, no_levels, past_objects, past_enums}
+use Rattle.fb_schema.proofs.DemandLaws.{IsClear, AreLevelsClear, AreClearBelow, clear_line, first_illegal, is_legal, no_levels, past_owners, owners_end}
 use Rattle.fb_schema.proofs.{KeyLemmas.is_at_test, KeyLemmas.never_again, Numbers.le_or_lt, Numbers.lt_or_eq}
 use Rattle.fb_schema.proofs.WalkLemmas.{object_names_agree, mapped_at}
 
-pub level_clear : (rows : Rows) (level n : ℕ) → AreClearBelow rows level n → ((m place : ℕ) → n ≤ m → IsClear rows level m place) → AreClear rows level
-level_clear rows level n clear past = record { at = λ m place. elim (le_or_lt n m) [ inl le ↦ past m place le | inr lt ↦ clear.at m place lt ] }
-
-pub all_objects : (rows : Rows) (n : ℕ) → length rows.objects ≤ n → AreClearBelow rows 0 n → AreClear rows 0
-all_objects rows n le clear = level_clear rows 0 n clear (λ m place lt. past_objects rows m place (omega arith))
-
-pub all_enums : (rows : Rows) (n : ℕ) → length rows.enums ≤ n → AreClearBelow rows 1 n → AreClear rows 1
-all_enums rows n le clear = level_clear rows 1 n clear (λ m place lt. past_enums rows m place (omega arith))
+pub all_owners : (rows : Rows) (level n : ℕ) → owners_end rows level ≤ n → AreClearBelow rows level n → AreClear rows level
+all_owners rows level n le clear = record { at = λ m place. elim (le_or_lt n m) [ inl past ↦ past_owners rows level m place (omega arith) | inr lt ↦ clear.at m place lt ] }
 
 pub both_levels : (rows : Rows) → AreClear rows 0 → AreClear rows 1 → IsLegal rows
 both_levels rows objects enums = is_legal rows clear where

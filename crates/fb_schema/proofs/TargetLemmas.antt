@@ -49,28 +49,21 @@ module _ (places : List ℕ) (place n : ℕ) (long : length places ≡ n) where
         (ap (λ p. get_or new p nothing) (get_or-append_seam places place [] 0) ∙ here ∙ ap wanted (sym long))
   ]
 
+put_last : {X : Type 0} (xs : List X) (x d : X) (n : ℕ) → n ≡ length xs → get_or (xs ++ x ∷ []) n d ≡ x
+put_last xs x d n e = ap (λ k. get_or (xs ++ x ∷ []) k d) e ∙ get_or-append_seam xs x [] d
+
 -- one enum more, with its places and targets
 have_more : (rows : Rows) (all : List MemberRow) (enums : List EnumPart) (places : List (List ℕ)) (targets : List (List Target)) (row : EnumPart) (ps : List ℕ) (ts : List Target) → HaveTargets rows all enums places targets
     → (row.is_union ≡ true → AreTargets rows (map member_of_row (part all row.members)) ps ts) → HaveTargets rows all (enums ++ row ∷ []) (places ++ ps ∷ []) (targets ++ ts ∷ [])
 have_more rows all enums places targets row ps ts h r = record {
   long_places = omega (arith, length_push places ps, length_push enums row, h.long_places);
   long_targets = omega (arith, length_push targets ts, length_push enums row, h.long_targets);
-  at = λ n a b d e f k. elim (slice_get_end enums row a n e) [
+  at = λ n a e. elim (slice_get_end enums row a n e) [
     | inl old ↦ (
         let low = slice_get_within enums n a old in
-        elim (slice_get_end places ps b n f) [
-          | inr here ↦ absurd (let m = here.0 in let l = h.long_places in omega arith)
-          | inl there ↦ elim (slice_get_end targets ts d n k) [ inr here ↦ absurd (let m = here.0 in let l = h.long_targets in omega arith) | inl too ↦ h.at n a b d old there too ]
-        ])
-    | inr new ↦ elim (slice_get_end places ps b n f) [
-      | inl there ↦ absurd (let lt = slice_get_within places n b there in let m = new.0 in let l = h.long_places in omega arith)
-      | inr here ↦ elim (slice_get_end targets ts d n k) [
-        | inl there ↦ absurd (let lt = slice_get_within targets n d there in let m = new.0 in let l = h.long_targets in omega arith)
-        | inr last ↦ subst (λ x. x.is_union ≡ true → AreTargets rows (map member_of_row (part all x.members)) b d) new.1
-            (subst (λ y. row.is_union ≡ true → AreTargets rows (map member_of_row (part all row.members)) y d) here.1
-            (subst (λ z. row.is_union ≡ true → AreTargets rows (map member_of_row (part all row.members)) ps z) last.1 r))
-      ]
-    ]
+        rw (get_or_append_left places (ps ∷ []) [] n (omega (arith, h.long_places)), get_or_append_left targets (ts ∷ []) [] n (omega (arith, h.long_targets))) (h.at n a old))
+    | inr new ↦ subst (λ x. x.is_union ≡ true → AreTargets rows (map member_of_row (part all x.members)) (get_or (places ++ ps ∷ []) n []) (get_or (targets ++ ts ∷ []) n [])) new.1
+        (rw (put_last places ps [] n (new.0 ∙ sym h.long_places), put_last targets ts [] n (new.0 ∙ sym h.long_targets)) r)
   ];
 }
 

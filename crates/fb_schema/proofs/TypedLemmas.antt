@@ -12,7 +12,7 @@ use Rattle.fb_schema.specs.Served.{IsAlignment, KindHolds, HasTypeField, IsTyped
 use Rattle.fb_schema.proofs.KindWords.{Kind, Scalar, Struct, Table, Union, Scalars, Structs, Tables, Unions, OfScalar, OfObject, OfUnion, Shape, One, Vector}
 use Rattle.fb_schema.proofs.{DemandLaws.clear_line, Kinded.listed, Kinded.row_of, Kinded.field_sized, LiveLemmas.Rises, LiveLemmas.sorted_members}
 use Rattle.fb_schema.proofs.{LookLemmas.within_widest, PartLemmas.parts_fit}
-use Rattle.fb_schema.proofs.KindLemmas.{NamesObject, NamesUnion, names_object, union_of_shape, object_kinds, union_kinds, member_holds, power_of}
+use Rattle.fb_schema.proofs.KindLemmas.{NamesObject, NamesUnion, object_kinds, union_kinds, member_holds, power_of, HasAsked, is_named}
 use Rattle.fb_schema.proofs.Numbers.{le_or_lt, lt_or_eq, not_false, neither_below}
 use Rattle.fb_schema.proofs.RowLemmas.{contains_at, place_in, rises_at, IsRowOf, row_in, asked, live_line, rows_rise}
 
@@ -56,17 +56,16 @@ kind_holds rows f kind e h u = h
 
 -- the union of a live field is there
 union_named : (rows : Rows) → IsLegal rows → (k i : ℕ) (o : Object) (g : Field) → IsRowOf rows k i o g → (kind : Kind) → kind_of rows g.ty ≡ Some kind → NamesUnion rows kind
-unfolding kind_of names_no_union
+unfolding names_no_union
 union_named rows legal k i o g r kind e =
-    let line = clear_line (table_field_demands rows g _ _ _ _) (asked rows legal k i o g r) 4 _ refl in
-    MatchOption-at_some _ (NamesUnion rows) kind e (union_of_shape rows g.ty.index (shape_of g.ty) (live_line g.deprecated (is_union_shape (shape_of g.ty) && not (is_some_union (entry_at rows.enums g.ty.index))) line r.live))
+    (is_named rows legal g.ty false false kind e).1 (live_line g.deprecated _ (clear_line (table_field_demands rows g _ _ _ _) (asked rows legal k i o g r) 4 _ refl) r.live)
 
 -- what a live field's kind names is there
 pub field_holds : (rows : Rows) → IsLegal rows → (k i : ℕ) (f : Live) → slice_get (live_fields rows k) i ≡ Some f → KindHolds rows f f.kind
 field_holds rows legal k i f e =
     let r = row_of rows legal k i f e in
     subst (λ (f : Live). KindHolds rows f f.kind) (sym r.same)
-    (kind_holds rows (live_as rows (live_rows r.object) r.field r.kind) r.kind refl (names_object rows legal r.field.ty r.kind r.kind_is) (union_named rows legal k i r.object r.field r.row r.kind r.kind_is))
+    (kind_holds rows (live_as rows (live_rows r.object) r.field r.kind) r.kind refl (is_named rows legal r.field.ty false false r.kind r.kind_is).0 (union_named rows legal k i r.object r.field r.row r.kind r.kind_is))
 
 -- the kind of a type field
 abbrev type_kind : TypeField → Kind
@@ -113,31 +112,17 @@ type_before rows legal k i o g r wanted stands =
       size_is = size_of_type rows wanted;
     }
 
--- the type field that a kind asks for is there
-abbrev HasAsked : Bool → Bool → Kind → Type 0
-HasAsked byte vector (Union e) = byte ≡ true
-HasAsked byte vector (Unions e) = vector ≡ true
-HasAsked byte vector _ = Unit {0}
-
-has_asked : (rows : Rows) (byte vector : Bool) (index : ℤ) (s : Option Shape) → lacks_type_field s byte vector ≡ false → IfSome (shape_kind rows index s) (HasAsked byte vector)
-has_asked rows byte vector index (Some (One OfObject)) h = object_kinds rows (HasAsked byte vector) Struct Table index (λ _ _ _ _ _. tt) (λ _ _ _ _ _. tt)
-has_asked rows byte vector index (Some (One OfUnion)) h = union_kinds rows (HasAsked byte vector) Union index (λ _ _ _ _. not_false byte h)
-has_asked rows byte vector index (Some (Vector OfObject)) h = object_kinds rows (HasAsked byte vector) Structs Tables index (λ _ _ _ _ _. tt) (λ _ _ _ _ _. tt)
-has_asked rows byte vector index (Some (Vector OfUnion)) h = union_kinds rows (HasAsked byte vector) Unions index (λ _ _ _ _. not_false vector h)
-has_asked rows byte vector index s h = tt
-
 kind_typed : (fs : List Live) (i slot : ℕ) (byte vector : Bool) (kind : Kind) → HasAsked byte vector kind → (byte ≡ true → HasTypeField fs i slot (Scalar UType)) → (vector ≡ true → HasTypeField fs i slot (Scalars UType)) → IsTyped fs i slot kind
 kind_typed fs i slot byte vector (Union e) h one many = one h
 kind_typed fs i slot byte vector (Unions e) h one many = many h
 kind_typed fs i slot byte vector kind h one many = tt
 
 row_typed : (rows : Rows) → IsLegal rows → (k i : ℕ) (o : Object) (g : Field) → IsRowOf rows k i o g → (kind : Kind) → kind_of rows g.ty ≡ Some kind → IsTyped (live_fields rows k) i g.slot kind
-unfolding kind_of
 row_typed rows legal k i o g r kind e =
     let byte = stands_below ForUnion o.fields g.slot in
     let vector = stands_below ForUnions o.fields g.slot in
     let line = live_line g.deprecated (lacks_type_field (shape_of g.ty) byte vector) (clear_line (table_field_demands rows g _ _ _ _) (asked rows legal k i o g r) 5 _ refl) r.live in
-    kind_typed (live_fields rows k) i g.slot byte vector kind (MatchOption-at_some _ (HasAsked byte vector) kind e (has_asked rows byte vector g.ty.index (shape_of g.ty) line)) (type_before rows legal k i o g r ForUnion) (type_before rows legal k i o g r ForUnions)
+    kind_typed (live_fields rows k) i g.slot byte vector kind ((is_named rows legal g.ty byte vector kind e).2 line) (type_before rows legal k i o g r ForUnion) (type_before rows legal k i o g r ForUnions)
 
 -- a live union has its type field before it
 pub field_typed : (rows : Rows) → IsLegal rows → (k i : ℕ) (f : Live) → slice_get (live_fields rows k) i ≡ Some f → IsTyped (live_fields rows k) i f.slot f.kind
