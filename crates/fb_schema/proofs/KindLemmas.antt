@@ -14,16 +14,8 @@ use Rattle.fb_schema.specs.Rows.{Rows, Object, Enum, Member, entry_at, is_table,
 pub vector_kind : (rows : Rows) (index : ℤ) (e : Element) → shape_kind rows index (Some (Vector e)) ≡ option_map vector_of (shape_kind rows index (Some (One e)))
 vector_kind rows index (OfScalar s) = refl
 vector_kind rows index OfText = refl
-vector_kind rows index OfObject = go index (entry_at rows.objects index) where
-  go : (i : ℤ) (o : Option Object) → object_kind i Structs Tables o ≡ option_map vector_of (object_kind i Struct Table o)
-  go i None = refl
-  go (negsuc k) (Some o) = refl
-  go (pos k) (Some o) = grind arith
-vector_kind rows index OfUnion = go index (entry_at rows.enums index) where
-  go : (i : ℤ) (e : Option Enum) → union_kind i Unions e ≡ option_map vector_of (union_kind i Union e)
-  go i None = refl
-  go (negsuc k) (Some e) = refl
-  go (pos k) (Some e) = refl
+vector_kind rows (negsuc k) e = refl
+vector_kind rows (pos k) e = grind arith
 
 -- a struct that is there, with an alignment
 abbrev pub IsStruct : Rows → ℕ → Type 0

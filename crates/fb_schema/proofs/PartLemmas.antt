@@ -8,6 +8,7 @@ use Rattle.fb_schema.specs.Demands.{IsLegal, first_code, demands_of_object, dema
 use Rattle.fb_schema.specs.Kinds.{scalar_size, struct_size, size_in, shape_of, shape_kind, object_kind}
 use Rattle.fb_schema.specs.Parts.{PartFits, part_at, part_count, part_kind, part_of, parts_in, parts_of}
 use Rattle.fb_schema.specs.Rows.{Field, Object, Rows, entry_at, is_some_table}
+use Rattle.std.proofs.lemmas.Option.{same_Some}
 
 -- the field at place i of struct k, with its object
 record IsPartRow (rows : Rows) (k i : ℕ) (f : Field) : Type 0 where
@@ -94,26 +95,21 @@ module _ (rows : Rows) (legal : IsLegal rows) (index bytes : ℤ) (place length 
   of_shape (Some (Array x)) inline no_table h = of_array x inline no_table h
   of_shape shape inline no_table h = absurd (let w : false ≡ true = inline in cc)
 
--- what a part is of
-part_is : (rows : Rows) (f : Field) (kind : Option Kind) (part : PartView) → part_kind rows f.ty.index (shape_of f.ty) ≡ kind
-    → option_map (λ kind. record { place = f.slot; kind = kind; count = part_count f.ty.fixed_length (shape_of f.ty) }) kind ≡ Some part
-    → (part_kind rows f.ty.index (shape_of f.ty) ≡ Some part.kind) × (part ≡ record { place = f.slot; kind = part.kind; count = part_count f.ty.fixed_length (shape_of f.ty) })
-part_is rows f None part k e = absurd (let w : None ≡ Some part = e in cc)
-part_is rows f (Some kind) part k e =
-    let same : record { place = f.slot; kind = kind; count = part_count f.ty.fixed_length (shape_of f.ty) } ≡ part = cc in
-    (k ∙ ap (λ (p : PartView). Some p.kind) same, sym same ∙ ap (λ (p : PartView). record { place = f.slot; kind = p.kind; count = part_count f.ty.fixed_length (shape_of f.ty) }) same)
-
 part_fits : (rows : Rows) → IsLegal rows → (k i : ℕ) (f : Field) (r : IsPartRow rows k i f) (part : PartView) → part_of rows f ≡ Some part → PartFits rows (struct_size rows k) part part.kind
 unfolding inline_bytes names_table
 part_fits rows legal k i f r part e =
     let o = r.object in
     let ds = struct_field_demands rows o.bytesize f (stands_before same_field_name o.fields i f) in
     let clear = asked rows legal k i f r in
-    let is = part_is rows f (part_kind rows f.ty.index (shape_of f.ty)) part refl e in
-    let fits = MatchOption-at_some _ (Fits rows legal o.bytesize f.slot (part_count f.ty.fixed_length (shape_of f.ty))) part.kind is.0 (of_shape rows legal f.ty.index o.bytesize f.slot f.ty.fixed_length (shape_of f.ty)
-    (not_false (is_inline (shape_of f.ty)) (clear_line ds clear 1 _ refl)) (clear_line ds clear 3 _ refl) (clear_line ds clear 4 _ refl)) in
+    let kinds = of_shape rows legal f.ty.index o.bytesize f.slot f.ty.fixed_length (shape_of f.ty) (not_false (is_inline (shape_of f.ty)) (clear_line ds clear 1 _ refl)) (clear_line ds clear 3 _ refl) (clear_line ds clear 4 _ refl) in
     let size : struct_size rows k ≡ unsigned_abs o.bytesize = ap size_in r.at in
-    subst (λ (n : ℕ). PartFits rows n part part.kind) (sym size) (subst (λ (p : PartView). PartFits rows (unsigned_abs o.bytesize) p part.kind) (sym is.1) fits)
+    subst (λ (n : ℕ). PartFits rows n part part.kind) (sym size) (go (part_kind rows f.ty.index (shape_of f.ty)) kinds e) where
+      count : ℕ
+      count = part_count f.ty.fixed_length (shape_of f.ty)
+
+      go : (kind : Option Kind) → IfSome kind (Fits rows legal (r.object).bytesize f.slot count) → option_map (λ kind. record { place = f.slot; kind = kind; count = count }) kind ≡ Some part → PartFits rows (unsigned_abs (r.object).bytesize) part part.kind
+      go None h e = absurd (let w : None ≡ Some part = e in cc)
+      go (Some kind) h e = subst (λ (p : PartView). PartFits rows (unsigned_abs (r.object).bytesize) p p.kind) (same_Some _ part e) h
 
 part_at_is : (rows : Rows) → IsLegal rows → (k i : ℕ) (f : Option Field) (part : PartView) → slice_get (parts_of rows k) i ≡ f → option_and_then (part_of rows) f ≡ Some part → PartFits rows (struct_size rows k) part part.kind
 part_at_is rows legal k i None part at e = absurd (let w : None ≡ Some part = e in cc)

@@ -7,10 +7,6 @@ use Rattle.fb_schema.specs.{Flat.part, Kinds.kind_of, Rows.Rows, Rows.Member, Ro
 use Rattle.fb_schema.specs.Targets.{nothing, target_at, target_of, kind_among, AreTargets, HaveTargets}
 use Rattle.fb_schema.proofs.{IndexLemmas.slice_get_end, Numbers.lt_or_eq, UnionLemmas.none_for_zero}
 
--- the first item of a list that was empty
-pub only_item : {X : Type 0} (old new : List X) (x : X) → old ≡ [] → new ≡ old ++ x ∷ [] → new ≡ x ∷ []
-only_item old new x e f = f ∙ ap (λ xs. xs ++ x ∷ []) e
-
 pub first_place : (places : List ℕ) → places ≡ 0 ∷ [] → (k : ℕ) → get_or places k 0 ≡ 0
 first_place places e zero = ap (λ ps. get_or ps 0 0) e
 first_place places e (suc k) = ap (λ ps. get_or ps (suc k) 0) e

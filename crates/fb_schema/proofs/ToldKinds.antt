@@ -2,7 +2,7 @@
 use Rattle.std.proofs.Common.{◌≡◌, ℕ, suc, ℤ, pos, negsuc, Bool, true, false, not, ◌&&◌, cond, List, [], ◌∷◌, slice_get, filter, Option, Some, None, refl, sym, ◌∙◌, ap, subst, find, if◌then◌else◌, arith, option_and_then, int_eq}
 use Rattle.std.proofs.lemmas.Option.{same_Some}
 use Rattle.fb_schema.proofs.KindWords.{Kind, Struct, Table, Shape, One, OfText, OfObject}
-use Rattle.fb_schema.proofs.{Numbers.both_true, DemandLaws.clear_line, FindLemmas.find_filter, UnionLemmas.union_list, UnionLemmas.not_none}
+use Rattle.fb_schema.proofs.{Numbers.both_true, DemandLaws.clear_line, FindLemmas.find_filter, UnionLemmas.not_none}
 use Rattle.fb_schema.proofs.LegalLemmas.{legal_clear}
 use Rattle.fb_schema.specs.Demands.{IsLegal, first_code, members_asked, member_demands, demands_of_member, demands_of_enum, is_for_member}
 use Rattle.fb_schema.specs.Kinds.{kind_of, shape_of, shape_kind, object_kind}
@@ -17,15 +17,11 @@ found_with p P (x ∷ xs) h m e = go (found_with p P xs (λ j y a t. h (suc j) y
   go later true t e = subst P (same_Some x m e) (h 0 x refl t)
   go later false t e = later e
 
-object_told : (rows : Rows) (index : ℤ) (o : Option Object) → kind_to (target_of rows (object_kind index Struct Table o)) ≡ object_kind index Struct Table o
-object_told rows index None = refl
-object_told rows (negsuc k) (Some o) = refl
-object_told rows (pos k) (Some o) = grind arith
-
 shape_told : (rows : Rows) (index : ℤ) (s : Option Shape) → is_for_member s ≡ true → kind_to (target_of rows (shape_kind rows index s)) ≡ shape_kind rows index s
 shape_told rows index None h = refl
 shape_told rows index (Some (One OfText)) h = refl
-shape_told rows index (Some (One OfObject)) h = object_told rows index (entry_at rows.objects index)
+shape_told rows (negsuc k) (Some (One OfObject)) h = refl
+shape_told rows (pos k) (Some (One OfObject)) h = grind arith
 shape_told rows index s h = absurd (let w : false ≡ true = h in cc)
 
 type_told : (rows : Rows) (m : Member) → is_for_member (shape_of m.ty) ≡ true → kind_to (target_of rows (kind_of rows m.ty)) ≡ kind_of rows m.ty

@@ -77,10 +77,6 @@ type_shape rows index ForUnion (Some (One (OfScalar UType))) h = refl
 type_shape rows index ForUnions (Some (Vector (OfScalar UType))) h = refl
 type_shape rows index wanted s h = absurd (let w : false ≡ true = h in cc)
 
-kind_of_type : (rows : Rows) (wanted : TypeField) (h : Field) → is_type_field wanted (shape_of h.ty) ≡ true → kind_of rows h.ty ≡ Some (type_kind wanted)
-unfolding kind_of
-kind_of_type rows wanted h e = type_shape rows h.ty.index wanted (shape_of h.ty) e
-
 size_of_type : (rows : Rows) (wanted : TypeField) → kind_size rows (type_kind wanted) ≡ 1
 size_of_type rows ForUnion = refl
 size_of_type rows ForUnions = refl
@@ -96,6 +92,7 @@ live_place o h table c live =
     (q.0, ap (λ b. slice_get (if b then [] else by_slot (filter is_live o.fields)) q.0) table ∙ q.1)
 
 type_before : (rows : Rows) → IsLegal rows → (k i : ℕ) (o : Object) (g : Field) → IsRowOf rows k i o g → (wanted : TypeField) → stands_below wanted o.fields g.slot ≡ true → HasTypeField (live_fields rows k) i g.slot (type_kind wanted)
+unfolding kind_of
 type_before rows legal k i o g r wanted stands =
     let found = any_found (λ h. not h.deprecated && (h.slot + 2 == g.slot) && is_type_field wanted (shape_of h.ty)) o.fields stands in
     let h = found.0 in
@@ -106,7 +103,7 @@ type_before rows legal k i o g r wanted stands =
       place = p.0;
       lower = place_below (live_rows o) (rows_rise rows legal k o r.at) i p.0 g h r.here p.1 (omega (arith, below));
       field = live_as rows (live_rows o) h (type_kind wanted);
-      found = listed rows legal k o r.at p.0 h (type_kind wanted) p.1 (kind_of_type rows wanted h is.2);
+      found = listed rows legal k o r.at p.0 h (type_kind wanted) p.1 (type_shape rows h.ty.index wanted (shape_of h.ty) is.2);
       below = below;
       kind_is = refl;
       size_is = size_of_type rows wanted;
@@ -131,19 +128,8 @@ field_typed rows legal k i f e =
     subst (λ (f : Live). IsTyped (live_fields rows k) i f.slot f.kind) (sym r.same) (row_typed rows legal k i r.object r.field r.row r.kind r.kind_is)
 
 -- Slots.
-asked_of_slot : (a b c : Bool) → (not a || b || c) ≡ false → (a ≡ true) × (b ≡ false)
-asked_of_slot a b c h = grind arith
-
-abbrev IsSlot : Field → Type 0
-IsSlot f = (f.slot % 2 ≡ 0) × (4 ≤ f.slot)
-
-row_slot : (rows : Rows) → IsLegal rows → (k i : ℕ) (o : Object) (f : Field) → IsRowOf rows k i o f → IsSlot f
-row_slot rows legal k i o f r =
-    let line = clear_line (table_field_demands rows f _ _ _ _) (asked rows legal k i o f r) 1 _ refl in
-    let is = asked_of_slot (f.slot % 2 == 0) (nat_lt f.slot 4) (stands_before same_slot o.fields r.place f) line in
-    ((Decides-eqb (f.slot % 2) 0).0 is.0, at_least f.slot is.1) where
-      at_least : (n : ℕ) → nat_lt n 4 ≡ false → 4 ≤ n
-      at_least n h = grind (arith, nat_tests, h)
+row_slot : (rows : Rows) → IsLegal rows → (k i : ℕ) (o : Object) (f : Field) → IsRowOf rows k i o f → (f.slot % 2 ≡ 0) × (4 ≤ f.slot)
+row_slot rows legal k i o f r = let line = clear_line (table_field_demands rows f _ _ _ _) (asked rows legal k i o f r) 1 _ refl in (grind (arith, nat_tests, line), grind (arith, nat_tests, line))
 
 spaced_from : (low : ℕ) (fs : List Field) → low % 2 ≡ 0 → Rises fs → ((f : Field) → Contains fs f → (f.slot % 2 ≡ 0) × (low ≤ f.slot)) → (i : ℕ) (f : Field) → slice_get fs i ≡ Some f → low + 2 * i ≤ f.slot
 spaced_from low [] even r all i f e = absurd (let w : None ≡ Some f = e in cc)
@@ -171,34 +157,18 @@ fields_rise rows legal k i j f g a b lt =
     let less = rises_at (live_rows p.object) (rows_rise rows legal k p.object (p.row).at) i j p.field q.field (p.row).here there lt in
     omega (arith, less, ap (λ (x : Live). x.slot) p.same, ap (λ (x : Live). x.slot) q.same)
 
-slots_even : (rows : Rows) → IsLegal rows → (k i : ℕ) (f : Live) → slice_get (live_fields rows k) i ≡ Some f → f.slot % 2 ≡ 0
-slots_even rows legal k i f e =
-    let p = row_of rows legal k i f e in
-    subst (λ s. s % 2 ≡ 0) (sym (ap (λ (x : Live). x.slot) p.same)) (row_slot rows legal k i p.object p.field p.row).0
-
 -- the slot of a field follows from its number
-numbered : (s n : ℕ) → s % 2 ≡ 0 → 4 ≤ s → n ≡ (s - 4) / 2 → s ≡ 2 * n + 4
-numbered s n e l h = omega arith
-
 slot_numbered : (rows : Rows) → IsLegal rows → (k i : ℕ) (f : Live) → slice_get (live_fields rows k) i ≡ Some f → f.slot ≡ 2 * f.number + 4
 slot_numbered rows legal k i f e =
     let p = row_of rows legal k i f e in
     let s = row_slot rows legal k i p.object p.field p.row in
-    ap (λ (x : Live). x.slot) p.same ∙ numbered (p.field).slot f.number s.0 s.1 (ap (λ (x : Live). x.number) p.same)
-
-same_number : (a b : ℕ) → a % 2 ≡ 0 → 4 ≤ a → b % 2 ≡ 0 → 4 ≤ b → (a - 4) / 2 ≡ (b - 4) / 2 → a ≡ b
-same_number a b e l f m h = omega arith
+    omega (arith, s.0, s.1, ap (λ (x : Live). x.slot) p.same, ap (λ (x : Live). x.number) p.same)
 
 -- two live fields of one number stand in one place
 numbers_apart : (rows : Rows) → IsLegal rows → (k i j : ℕ) (f g : Live) → slice_get (live_fields rows k) i ≡ Some f → slice_get (live_fields rows k) j ≡ Some g → f.number ≡ g.number → i ≡ j
 numbers_apart rows legal k i j f g a b e =
-    let p = row_of rows legal k i f a in
-    let q = row_of rows legal k j g b in
-    let s = row_slot rows legal k i p.object p.field p.row in
-    let t = row_slot rows legal k j q.object q.field q.row in
-    let n : ((p.field).slot - 4) / 2 ≡ ((q.field).slot - 4) / 2 = sym (ap (λ (f : Live). f.number) p.same) ∙ e ∙ ap (λ (f : Live). f.number) q.same in
-    let one = same_number (p.field).slot (q.field).slot s.0 s.1 t.0 t.1 n in
-    let here : f.slot ≡ g.slot = ap (λ (f : Live). f.slot) p.same ∙ one ∙ sym (ap (λ (f : Live). f.slot) q.same) in
+    let s = slot_numbered rows legal k i f a in
+    let t = slot_numbered rows legal k j g b in
     neither_below i j (λ lt. let w = fields_rise rows legal k i j f g a b lt in omega arith) (λ lt. let w = fields_rise rows legal k j i g f b a lt in omega arith)
 
 -- What legal rows give, where no table has more live fields than slots.
@@ -209,7 +179,7 @@ served_by rows legal few = record {
   typed = field_typed rows legal;
   sized = field_sized rows;
   rising = fields_rise rows legal;
-  even = slots_even rows legal;
+  even = λ k i f e. (let s = slot_numbered rows legal k i f e in omega arith);
   slots = slot_numbered rows legal;
   numbers = numbers_apart rows legal;
   members = member_holds rows legal;

@@ -4,7 +4,7 @@ use Rattle.fb_schema.specs.{Index.view_name, Index.AreNextRequired, FlatLists.li
 use Rattle.fb_schema.specs.{FlatRows.borrowed_rows, FlatRows.object_in, Rows.Object, Steps.step_of, Steps.are_plain}
 use Rattle.fb_schema.specs.Live.{live_in, live_of_view, by_slot, is_live, AreKinded, AreSpaced}
 use Rattle.fb_schema.proofs.{Blank.blank_object, Kinded.rows_kinded, Kinded.live_long, TypedLemmas.rows_spaced}
-use Rattle.fb_schema.proofs.IndexLemmas.{legal_slots, matched_pushed, matched_step, lists_step, value_step, widest_step, kept_read, mapped_read, mapped_twice}
+use Rattle.fb_schema.proofs.IndexLemmas.{matched_pushed, matched_step, lists_step, value_step, widest_step, kept_read, mapped_read, mapped_twice}
 use Rattle.fb_schema.proofs.index.LiveIndex.add.Goals as goal
 use Rattle.fb_schema.proofs.index.LiveIndex.add.Goals.{Start}
 
