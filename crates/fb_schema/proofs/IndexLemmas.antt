@@ -74,12 +74,8 @@ few_step live i d spaced lt range = let least = spaced.at i (field_of (get_or li
 
 -- one field more, behind the others
 plain_more : (fs : List Live) (f : Live) (b : Bool) → is_plain_act (act_of f f.kind) ≡ b → are_plain (fs ++ f ∷ []) ≡ if b then are_plain fs else false
-plain_more [] f true e = ap (λ b. b && true) e
-plain_more [] f false e = ap (λ b. b && true) e
-plain_more (g ∷ gs) f true e = ap (λ x. is_plain_act (act_of g g.kind) && x) (plain_more gs f true e)
-plain_more (g ∷ gs) f false e = ap (λ x. is_plain_act (act_of g g.kind) && x) (plain_more gs f false e) ∙ both_false (is_plain_act (act_of g g.kind)) where
-  both_false : (b : Bool) → (b && false) ≡ false
-  both_false b = grind arith
+plain_more [] f b e = grind (arith, e)
+plain_more (g ∷ gs) f b e = grind (arith, plain_more gs f b e)
 
 pub plain_step : {X : Type 0} (v : X → Live) (xs : List X) (i : ℕ) (d : X) (b : Bool) → i < length xs → is_plain_act (act_of (v (get_or xs i d)) (v (get_or xs i d)).kind) ≡ b
     → are_plain (map v (take (i + 1) xs)) ≡ if b then are_plain (map v (take i xs)) else false

@@ -1,5 +1,5 @@
 -- The live fields of legal rows have a kind.
-use Rattle.std.proofs.Common.{◌≡◌, ℕ, ℤ, pos, negsuc, Bool, true, false, not, ◌&&◌, ◌||◌, List, slice_get, Option, Some, None, is_none, length, option_map, option_and_then, is_some, refl, sym, ◌∙◌, ap, subst, arith}
+use Rattle.std.proofs.Common.{◌≡◌, ℕ, ℤ, pos, negsuc, Bool, true, false, not, ◌&&◌, ◌||◌, List, slice_get, Option, Some, None, is_none, length, option_map, option_and_then, is_some, refl, sym, ◌∙◌, ap, subst, arith, IsSome}
 use Rattle.fb_schema.specs.Demands.{IsLegal, table_field_demands, is_supported, is_object, is_union_shape, names_no_object, names_no_union}
 use Rattle.fb_schema.specs.Kinds.{kind_of, shape_of, shape_kind, object_kind, union_kind}
 use Rattle.fb_schema.specs.Live.{Live, live_rows, live_as, live_of, live_in, live_fields, AreKinded}
@@ -11,28 +11,26 @@ use Rattle.fb_schema.proofs.RowLemmas.{IsRowOf, row_in, asked, live_line}
 
 -- a kind of an object that is there, and of a union that is
 
-object_has_kind : (rows : Rows) (index : ℤ) (struct table : ℕ → Kind) → is_none (entry_at rows.objects index) ≡ false → (k : Kind) × (object_kind index struct table (entry_at rows.objects index) ≡ Some k)
+object_has_kind : (rows : Rows) (index : ℤ) (struct table : ℕ → Kind) → is_none (entry_at rows.objects index) ≡ false → IsSome (object_kind index struct table (entry_at rows.objects index))
 object_has_kind rows (negsuc n) struct table h = absurd (let w : true ≡ false = h in cc)
-object_has_kind rows (pos n) struct table h = go (slice_get rows.objects n) h where
-  go : (o : Option Object) → is_none o ≡ false → (k : Kind) × (object_kind (pos n) struct table o ≡ Some k)
-  go None e = absurd (let w : true ≡ false = e in cc)
-  go (Some o) e = (_, refl)
+object_has_kind rows (pos n) struct table h = grind (arith, h)
 
-union_has_kind : (rows : Rows) (index : ℤ) (union : ℕ → Kind) → not (is_some_union (entry_at rows.enums index)) ≡ false → (k : Kind) × (union_kind index union (entry_at rows.enums index) ≡ Some k)
+union_has_kind : (rows : Rows) (index : ℤ) (union : ℕ → Kind) → not (is_some_union (entry_at rows.enums index)) ≡ false → IsSome (union_kind index union (entry_at rows.enums index))
 union_has_kind rows (negsuc n) union h = absurd (let w : true ≡ false = h in cc)
-union_has_kind rows (pos n) union h = go (slice_get rows.enums n) h where
-  go : (e : Option Enum) → not (is_some_union e) ≡ false → (k : Kind) × (union_kind (pos n) union e ≡ Some k)
-  go None h = absurd (let w : true ≡ false = h in cc)
-  go (Some e) h = (_, refl)
+union_has_kind rows (pos n) union h = grind (arith, h)
 
-shape_has_kind : (rows : Rows) (index : ℤ) (s : Option Shape) → is_supported s ≡ true → (is_object s && is_none (entry_at rows.objects index)) ≡ false → (is_union_shape s && not (is_some_union (entry_at rows.enums index))) ≡ false → (k : Kind) × (shape_kind rows index s ≡ Some k)
-shape_has_kind rows index None h o u = absurd (let w : false ≡ true = h in cc)
-shape_has_kind rows index (Some (Array e)) h o u = absurd (let w : false ≡ true = h in cc)
+shape_has_kind : (rows : Rows) (index : ℤ) (s : Option Shape) → is_supported s ≡ true → (is_object s && is_none (entry_at rows.objects index)) ≡ false → (is_union_shape s && not (is_some_union (entry_at rows.enums index))) ≡ false → IsSome (shape_kind rows index s)
 shape_has_kind rows index (Some (One OfObject)) h o u = object_has_kind rows index Struct Table o
 shape_has_kind rows index (Some (One OfUnion)) h o u = union_has_kind rows index Union u
 shape_has_kind rows index (Some (Vector OfObject)) h o u = object_has_kind rows index Structs Tables o
 shape_has_kind rows index (Some (Vector OfUnion)) h o u = union_has_kind rows index Unions u
-shape_has_kind rows index s h o u = (_, refl)
+shape_has_kind rows index (Some (One e)) h o u = refl
+shape_has_kind rows index (Some (Vector e)) h o u = refl
+shape_has_kind rows index s h o u = absurd (let w : false ≡ true = h in cc)
+
+some_in : {A : Type 0} (x : Option A) → IsSome x → (a : A) × (x ≡ Some a)
+some_in None h = absurd (let w : false ≡ true = h in cc)
+some_in (Some a) h = (a, refl)
 
 neither : (a b : Bool) → (a || not b) ≡ false → b ≡ true
 neither a b h = grind arith
@@ -48,7 +46,7 @@ field_has_kind rows legal k i o g r =
     let fits = neither g.offset64 (is_supported s) (live_line g.deprecated (g.offset64 || not (is_supported s)) type_line r.live) in
     let there = live_line g.deprecated (is_object s && is_none (entry_at rows.objects g.ty.index)) object_line r.live in
     let joined = live_line g.deprecated (is_union_shape s && not (is_some_union (entry_at rows.enums g.ty.index))) union_line r.live in
-    shape_has_kind rows g.ty.index s fits there joined
+    some_in _ (shape_has_kind rows g.ty.index s fits there joined)
 
 -- A legal table's live fields are its live rows, one by one.
 module _ (rows : Rows) (legal : IsLegal rows) (k : ℕ) (o : Object) (at : slice_get rows.objects k ≡ Some o) where

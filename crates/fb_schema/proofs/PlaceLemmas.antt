@@ -9,12 +9,9 @@ use Rattle.fb_schema.specs.Sorting.{IsOrderOf, IsPlaceOf, IsAgain}
 use Rattle.std.proofs.lemmas.Option.{slice_get-get_or}
 use Rattle.fb_schema.proofs.FindLemmas.{find_by_position}
 
-not_less_first : (p q : Ordering) → is_lt (ordering_then p q) ≡ false → is_lt p ≡ false
-not_less_first p q h = grind arith
-
 module _ {K : Type 0} (R : K → K → Ordering) (o : IsTotalOrder R) (keys : List K) (order : List (K × ℕ)) (h : IsOrderOf R keys order) (key : K) where
   keys_rise : IsSortedBy (λ (a b : K × ℕ). is_lt (R a.0 b.0)) order
-  keys_rise k d le lt = not_less_first _ _ (h.rises k d le lt)
+  keys_rise k d le lt = let r = h.rises k d le lt in grind (arith, r)
 
   pub place_found : (at : ℕ) → at < length order → (d : K × ℕ) → HoldsAt (λ (e : K × ℕ). R e.0 key ≡ Equal) order at → IsPlaceOf R keys key (Some (get_or order at d).1)
   place_found at lt d holds =

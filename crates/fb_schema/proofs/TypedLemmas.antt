@@ -16,9 +16,6 @@ use Rattle.fb_schema.proofs.KindLemmas.{NamesObject, NamesUnion, object_kinds, u
 use Rattle.fb_schema.proofs.Numbers.{le_or_lt, lt_or_eq, not_false, neither_below}
 use Rattle.fb_schema.proofs.RowLemmas.{contains_at, place_in, rises_at, IsRowOf, row_in, asked, live_line, rows_rise}
 
-any_found : {X : Type 0} (p : X → Bool) (xs : List X) → list_any p xs ≡ true → (x : X) × Contains xs x × (p x ≡ true)
-any_found p xs h = let a = Any-from_list_any p xs h in (a.1, (a.0, a.2, a.3), a.4)
-
 filter_keeps : {X : Type 0} (p : X → Bool) (xs : List X) (k : ℕ) (z : X) → slice_get xs k ≡ Some z → p z ≡ true → Contains (filter p xs) z
 filter_keeps p [] k z e q = absurd (let w : None ≡ Some z = e in cc)
 filter_keeps p (x ∷ xs) zero z e q = go (p x) (ap p (let w : x ≡ z = cc in w) ∙ q) (let w : x ≡ z = cc in w) where
@@ -94,11 +91,11 @@ live_place o h table c live =
 type_before : (rows : Rows) → IsLegal rows → (k i : ℕ) (o : Object) (g : Field) → IsRowOf rows k i o g → (wanted : TypeField) → stands_below wanted o.fields g.slot ≡ true → HasTypeField (live_fields rows k) i g.slot (type_kind wanted)
 unfolding kind_of
 type_before rows legal k i o g r wanted stands =
-    let found = any_found (λ h. not h.deprecated && (h.slot + 2 == g.slot) && is_type_field wanted (shape_of h.ty)) o.fields stands in
-    let h = found.0 in
-    let is = three (not h.deprecated) (h.slot + 2 == g.slot) (is_type_field wanted (shape_of h.ty)) found.2 in
+    let found = Any-from_list_any (λ h. not h.deprecated && (h.slot + 2 == g.slot) && is_type_field wanted (shape_of h.ty)) o.fields stands in
+    let h = found.1 in
+    let is = three (not h.deprecated) (h.slot + 2 == g.slot) (is_type_field wanted (shape_of h.ty)) found.4 in
     let below : h.slot + 2 ≡ g.slot = (Decides-eqb (h.slot + 2) g.slot).0 is.1 in
-    let p = live_place o h r.table found.1 is.0 in
+    let p = live_place o h r.table (found.0, found.2, found.3) is.0 in
     record {
       place = p.0;
       lower = place_below (live_rows o) (rows_rise rows legal k o r.at) i p.0 g h r.here p.1 (omega (arith, below));

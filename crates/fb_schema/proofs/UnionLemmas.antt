@@ -66,9 +66,6 @@ zero_test z h = let both = both_true (is_member_value z) (int_eq z (pos 0)) h in
 pub none_for_zero : (ms : List Member) → find (λ m. int_eq m.value (pos 0)) (filter (λ m. is_member_value m.value) ms) ≡ None
 none_for_zero ms = find_filter (λ m. int_eq m.value (pos 0)) (λ m. is_member_value m.value) ms ∙ no_item (λ m. is_member_value m.value && int_eq m.value (pos 0)) ms (λ j d lt e. zero_test (get_or ms j d).value e)
 
-none_in : (b : Bool) (ms : List Member) → find (λ m. int_eq m.value (pos 0)) (if b then filter (λ m. is_member_value m.value) ms else []) ≡ None
-none_in b ms = grind (arith, none_for_zero ms)
-
 pub none_of : (e : Option Enum) → find (λ m. int_eq m.value (pos 0)) (members_in e) ≡ None
 none_of None = refl
-none_of (Some e) = none_in e.is_union e.members
+none_of (Some e) = grind (arith, none_for_zero e.members)
