@@ -8,6 +8,7 @@ use Rattle.fb_schema.specs.Served.{IsSized, HaveKinds}
 use Rattle.fb_schema.proofs.KindWords.{Kind, Struct, Table, Union, Structs, Tables, Unions, OfObject, OfUnion, Shape, One, Vector, Array}
 use Rattle.fb_schema.proofs.{DemandLaws.clear_line, Kept.kept_from, Kept.kept_long, Kept.kept_at}
 use Rattle.fb_schema.proofs.RowLemmas.{IsRowOf, row_in, asked, live_line}
+use Rattle.std.proofs.lemmas.Option.{option_and_then_some}
 
 -- a kind of an object that is there, and of a union that is
 
@@ -95,13 +96,9 @@ row_of rows legal k i f e = go (slice_get rows.objects k) refl e where
       let w : Some (live_as rows (live_rows o) g h.0) ≡ Some f = sym (ap (option_map (live_as rows (live_rows o) g)) h.1) ∙ e in
       record { object = o; field = g; kind = h.0; row = r; kind_is = h.1; same = cc }
 
-  in_list : (o : Object) (g : Option Field) → slice_get rows.objects k ≡ Some o → slice_get (live_rows o) i ≡ g → option_and_then (live_of rows (live_rows o)) g ≡ Some f → IsLiveOf rows k i f
-  in_list o None at here e = absurd (let w : None ≡ Some f = e in cc)
-  in_list o (Some g) at here e = kinded o g (row_in rows k i o g at here) e
-
   go : (o : Option Object) → slice_get rows.objects k ≡ o → slice_get (live_in rows o) i ≡ Some f → IsLiveOf rows k i f
   go None at e = absurd (let w : None ≡ Some f = e in cc)
-  go (Some o) at e = in_list o (slice_get (live_rows o) i) at refl (sym (live_at rows legal k o at i) ∙ e)
+  go (Some o) at e = option_and_then_some (live_of rows (live_rows o)) (slice_get (live_rows o) i) f (sym (live_at rows legal k o at i) ∙ e) (λ g here. kinded o g (row_in rows k i o g at here))
 
 kind_sized : (rows : Rows) (live : List Field) (g : Field) (f : Live) (kind : Option Kind) → option_map (live_as rows live g) kind ≡ Some f → IsSized rows f
 kind_sized rows live g f None e = absurd (let w : None ≡ Some f = e in cc)

@@ -2,7 +2,7 @@
 use Rattle.std.proofs.Common.{◌≡◌, ◌≢◌, ℕ, zero, suc, ◌+◌, ◌-◌, ◌<◌, ◌≤◌, ◌==◌, ◌⊎◌, inl, inr, Bool, true, false, List, [], ◌∷◌, length, get_or, map, filter, position, Some, None, refl, sym, ◌∙◌, ap, subst, arith, IsPermutation, nat_le, if◌then◌else◌, cond, Contains, swap, Less, Equal, Greater, ◌++◌, length-append, not}
 use Rattle.std.proofs.lemmas.{Cmp.nat_cmp_total, Cmp.tied_itself, List.length-map, List.get_or-map}
 use Rattle.std.proofs.lemmas.{List.Edits.swapped_from_swap, List.Edits.length-swap, Bool.Decides.Decides-eqb}
-use Rattle.std.proofs.lemmas.List.Sorted.{IsPermutation-keeps, IsPermutation-map, Contains-permutation, IsPermutation-sym, IsPermutation-refl, IsPermutation-trans, IsPermutation-swap, IsPermutation-cons, IsPermutation-filter_both}
+use Rattle.std.proofs.lemmas.List.Sorted.{IsPermutation-keeps, IsPermutation-map, Contains-permutation, IsPermutation-sym, IsPermutation-refl, IsPermutation-trans, IsPermutation-swap, IsPermutation-cons, IsPermutation-filter_both, IsNonDecreasingBy-from_default}
 use Rattle.std.proofs.lemmas.List.Elements.{Contains-get_or, All-contains, All-filter, All-contains_itself}
 use borrow.Author.Tests.{leb-true, le-leb}
 use Rattle.std.specs.List.Sorted.{IsSortedBy, IsNonDecreasingBy, IsPartitionPoint}
@@ -13,6 +13,7 @@ use Rattle.fb_schema.specs.Live.{insert_by_slot, by_slot, is_live, AreApart, Are
 use Rattle.fb_schema.proofs.Numbers.{lt_or_eq, le_or_lt, slice_get_some, neither_below}
 use Rattle.fb_schema.proofs.{PositionLemmas.found_position, PositionLemmas.no_position, Search.nat_tied, Search.search_missed, Search.not_true}
 use Rattle.std.proofs.lemmas.List.{get_or_append_left}
+use Rattle.fb_schema.proofs.Blank.{blank_field}
 
 contains_cases : {X : Type 0} (y z : X) (ys : List X) → Contains (y ∷ ys) z → (y ≡ z) ⊎ Contains ys z
 contains_cases y z ys (zero, lt, e) = inl e
@@ -143,12 +144,10 @@ pub filter_apart : (p : Field → Bool) (fs : List Field) → AreApart fs → Ar
 filter_apart p fs h = apart_front (filter p fs) _ (apart_permutation fs _ (IsPermutation-filter_both p (λ f. not (p f)) (λ f. refl) fs) h)
 
 mapped_up : (rows : List FieldRow) → IsNonDecreasingBy (λ (r : FieldRow). r.slot) rows → IsNonDecreasingBy (λ (f : Field). f.slot) (map field_of rows)
-mapped_up [] up = λ i j d le lt. absurd (omega arith)
-mapped_up (r ∷ rs) up = λ i j d le lt.
-    let rows = r ∷ rs in
+mapped_up rows up = IsNonDecreasingBy-from_default (λ (f : Field). f.slot) (map field_of rows) (field_of blank_field) (λ i j le lt.
     let low : j < length rows = rw length-map at lt in
-    let here : i < length rows = omega arith in
-    rw (get_or-map field_of rows i r d here, get_or-map field_of rows j r d low) (up i j r le low)
+    let at = λ (k : ℕ) (below : k < length rows). get_or-map field_of rows k blank_field (field_of blank_field) below in
+    rw (at i (omega arith), at j low) (up i j blank_field le low))
 
 module _ (fields old new : List FieldRow) (apart : AreApart (map field_of fields)) (all : old ≡ filter (λ r. is_live (field_of r)) fields) (moved : IsPermutation old new) (up : IsNonDecreasingBy (λ (r : FieldRow). r.slot) new) where
   same : map field_of old ≡ filter is_live (map field_of fields)

@@ -97,7 +97,3 @@ module _ (rows : Rows) (members : List MemberRow) where
       let same_named = n ∙ name_test p row name_again at k clear in
       let all : member_demands rows (member_of_row row) taken named ≡ asked_at p row = λ i. member_demands rows (member_of_row row) (same_taken i) (same_named i) in
       ap first_code all ∙ ap first_code (sym (member_at p row at))
-
-  -- past the last member nothing is demanded
-  pub past_members : (n : ℕ) → length members ≤ n → ((q : ℕ) → q < n → first_code (members_asked rows (map member_of_row members) q) ≡ None) → (q : ℕ) → first_code (members_asked rows (map member_of_row members) q) ≡ None
-  past_members n le h q = past_list (map member_of_row members) (demands_of_member rows (map member_of_row members)) (λ q. refl) n (rw length-map le) h q

@@ -8,7 +8,7 @@ use Rattle.fb_schema.specs.Demands.{IsLegal, first_code, demands_of_object, dema
 use Rattle.fb_schema.specs.Kinds.{scalar_size, struct_size, size_in, shape_of, shape_kind, object_kind}
 use Rattle.fb_schema.specs.Parts.{PartFits, part_at, part_count, part_kind, part_of, parts_in, parts_of}
 use Rattle.fb_schema.specs.Rows.{Field, Object, Rows, entry_at, is_some_table}
-use Rattle.std.proofs.lemmas.Option.{same_Some}
+use Rattle.std.proofs.lemmas.Option.{same_Some, option_and_then_some}
 
 -- the field at place i of struct k, with its object
 record IsPartRow (rows : Rows) (k i : ℕ) (f : Field) : Type 0 where
@@ -19,10 +19,7 @@ record IsPartRow (rows : Rows) (k i : ℕ) (f : Field) : Type 0 where
 
 row_of : (rows : Rows) (k i : ℕ) (f : Field) (o : Option Object) → slice_get rows.objects k ≡ o → slice_get (parts_in o) i ≡ Some f → IsPartRow rows k i f
 row_of rows k i f None at e = absurd (let w : None ≡ Some f = e in cc)
-row_of rows k i f (Some o) at e = go o.is_struct refl e where
-  go : (b : Bool) → o.is_struct ≡ b → slice_get (if b then o.fields else []) i ≡ Some f → IsPartRow rows k i f
-  go true is e = record { object = o; at = at; struct = is; here = e }
-  go false is e = absurd (let w : None ≡ Some f = e in cc)
+row_of rows k i f (Some o) at e = record { object = o; at = at; struct = grind (arith, e); here = grind (arith, e) }
 
 -- what is demanded of it, in an order that begins with its name
 abbrev IsAskedOf : Rows → Object → Field → ℕ → Type 0
@@ -111,11 +108,7 @@ part_fits rows legal k i f r part e =
       go None h e = absurd (let w : None ≡ Some part = e in cc)
       go (Some kind) h e = subst (λ (p : PartView). PartFits rows (unsigned_abs (r.object).bytesize) p p.kind) (same_Some _ part e) h
 
-part_at_is : (rows : Rows) → IsLegal rows → (k i : ℕ) (f : Option Field) (part : PartView) → slice_get (parts_of rows k) i ≡ f → option_and_then (part_of rows) f ≡ Some part → PartFits rows (struct_size rows k) part part.kind
-part_at_is rows legal k i None part at e = absurd (let w : None ≡ Some part = e in cc)
-part_at_is rows legal k i (Some f) part at e = part_fits rows legal k i f (row_of rows k i f (slice_get rows.objects k) refl at) part e
-
 -- the fields of structs of legal rows lie in them
 pub parts_fit : (rows : Rows) → IsLegal rows → (k i : ℕ) (part : PartView) → part_at rows k i ≡ Some part → PartFits rows (struct_size rows k) part part.kind
 unfolding part_at
-parts_fit rows legal k i part e = part_at_is rows legal k i (slice_get (parts_of rows k) i) part refl e
+parts_fit rows legal k i part e = option_and_then_some (part_of rows) (slice_get (parts_of rows k) i) part e (λ f here. part_fits rows legal k i f (row_of rows k i f (slice_get rows.objects k) refl here) part)

@@ -32,16 +32,12 @@ pub record IsRowOf (rows : Rows) (k i : ℕ) (o : Object) (f : Field) : Type 0 w
   pub place : ℕ
   pub there : slice_get o.fields place ≡ Some f
 
-table_rows : (o : Object) (b : Bool) → o.is_struct ≡ b → (i : ℕ) (f : Field) → slice_get (live_rows o) i ≡ Some f → (o.is_struct ≡ false) × Contains (by_slot (filter is_live o.fields)) f
-table_rows o true is i f e = absurd (let w : None ≡ Some f = sym (ap (λ b. slice_get (if b then [] else by_slot (filter is_live o.fields)) i) is) ∙ e in cc)
-table_rows o false is i f e = (is, contains_at (by_slot (filter is_live o.fields)) i f (sym (ap (λ b. slice_get (if b then [] else by_slot (filter is_live o.fields)) i) is) ∙ e))
-
 pub row_in : (rows : Rows) (k i : ℕ) (o : Object) (f : Field) → slice_get rows.objects k ≡ Some o → slice_get (live_rows o) i ≡ Some f → IsRowOf rows k i o f
 row_in rows k i o f at here =
-    let t = table_rows o o.is_struct refl i f here in
-    let c = (sorted_members f (filter is_live o.fields)).0 t.1 in
+    let table : o.is_struct ≡ false = grind (arith, here) in
+    let c = (sorted_members f (filter is_live o.fields)).0 (contains_at (by_slot (filter is_live o.fields)) i f (rw table at here)) in
     let p = place_in o.fields f (filter_contains is_live o.fields f c) in
-    record { at = at; table = t.0; here = here; live = negated f.deprecated (All-contains (λ f. is_live f ≡ true) (filter is_live o.fields) f (filter_passes is_live o.fields) c); place = p.0; there = p.1 }
+    record { at = at; table = table; here = here; live = negated f.deprecated (All-contains (λ f. is_live f ≡ true) (filter is_live o.fields) f (filter_passes is_live o.fields) c); place = p.0; there = p.1 }
 
 -- its demands are met
 pub asked : (rows : Rows) → IsLegal rows → (k i : ℕ) (o : Object) (f : Field) (r : IsRowOf rows k i o f) → IsAsked rows o f r.place
