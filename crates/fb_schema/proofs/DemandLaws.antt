@@ -10,17 +10,14 @@ use Rattle.std.proofs.lemmas.Option.{same_Some}
 abbrev pub IsBrokenIn : List Demand → ℕ → Code → Type 0
 IsBrokenIn ds line code = slice_get ds line ≡ Some (record { code = code; broken = true })
 
-pub passed_over : (b : Bool) (c : Code) (rest : Option Code) → (if b then Some c else rest) ≡ None → (b ≡ false) × (rest ≡ None)
-passed_over b c rest e = grind arith
-
 found_here : (b : Bool) (c code : Code) (rest : Option Code) → (if b then Some c else rest) ≡ Some code → ((b ≡ true) × (c ≡ code)) ⊎ ((b ≡ false) × (rest ≡ Some code))
 found_here b c code rest e = grind arith
 
 -- where no demand of a list is broken, the one at this line isn't
 pub clear_line : (ds : List Demand) → first_code ds ≡ None → (line : ℕ) (d : Demand) → slice_get ds line ≡ Some d → d.broken ≡ false
 clear_line [] h line d e = absurd (cc)
-clear_line (x ∷ ds) h zero d e = let same : x ≡ d = cc in ap (λ (d : Demand). d.broken) (sym same) ∙ (passed_over x.broken x.code (first_code ds) h).0
-clear_line (x ∷ ds) h (suc line) d e = clear_line ds (passed_over x.broken x.code (first_code ds) h).1 line d e
+clear_line (x ∷ ds) h zero d e = grind (arith, h, e)
+clear_line (x ∷ ds) h (suc line) d e = clear_line ds (grind (arith, h)) line d e
 
 pub none_broken : (ds : List Demand) → first_code ds ≡ None → (line : ℕ) (code : Code) → IsBrokenIn ds line code → ⊥
 none_broken ds h line code b = let w : true ≡ false = clear_line ds h line (record { code = code; broken = true }) b in cc

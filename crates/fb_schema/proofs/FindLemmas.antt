@@ -20,6 +20,3 @@ find_by_position p xs = find_at p xs ∙ go (position_or_len p xs) (slice_get_pa
 
 pub found_item : {X : Type 0} (p : X → Bool) (xs : List X) (k : ℕ) (d : X) → k < length xs → p (get_or xs k d) ≡ true → ((j : ℕ) → j < length xs → p (get_or xs j d) ≡ true → j ≡ k) → find p xs ≡ Some (get_or xs k d)
 found_item p xs k d lt e only = find_by_position p xs ∙ ap (option_and_then (slice_get xs)) (found_position p xs k d lt e only) ∙ slice_get-get_or xs k d lt
-
-pub no_item : {X : Type 0} (p : X → Bool) (xs : List X) → ((j : ℕ) (d : X) → j < length xs → p (get_or xs j d) ≡ true → ⊥) → find p xs ≡ None
-no_item p xs never = find_by_position p xs ∙ ap (option_and_then (slice_get xs)) (no_position p xs never)

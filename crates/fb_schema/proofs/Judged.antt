@@ -100,9 +100,6 @@ module _ (rows : Rows) where
       (record { at = λ p lt. place.1 p lt })
       place.0
 
-  no_fault : (x : Option (((Code × ℕ) × ℕ) × ℕ)) → option_map fault_of x ≡ None → x ≡ None
-  no_fault x h = grind (arith, h)
-
   one_fault : (x : Option (((Code × ℕ) × ℕ) × ℕ)) (f : SchemaFault) → in_rows rows ≡ x → option_map fault_of x ≡ Some f → IsFirstIllegal rows f
   one_fault None f e h = absurd (cc)
   one_fault (Some x) f e h = subst (IsFirstIllegal rows) (same_Some _ _ h) (first_in x e)
@@ -110,7 +107,7 @@ module _ (rows : Rows) where
 -- rows without a fault are legal, and a fault is the first
 pub legal : {rows : Rows} → first_fault rows ≡ None → IsLegal rows
 unfolding first_fault
-legal {rows} h = is_legal rows (all_clear rows (no_fault rows (in_rows rows) h))
+legal {rows} h = is_legal rows (all_clear rows (grind (arith, h)))
 
 pub refused : {rows : Rows} {f : SchemaFault} → first_fault rows ≡ Some f → IsFirstIllegal rows f
 unfolding first_fault

@@ -46,33 +46,21 @@ aligned : (z : ℤ) → is_alignment z ≡ true → IsAlignment (unsigned_abs z)
 aligned (pos n) h = power_of n (0 ∷ 1 ∷ 2 ∷ 3 ∷ 4 ∷ 5 ∷ 6 ∷ 7 ∷ 8 ∷ []) h
 aligned (negsuc n) h = absurd (let w : false ≡ true = h in cc)
 
-asked_of_struct : (a b c : Bool) → (a && (b || not c)) ≡ false → a ≡ true → c ≡ true
-asked_of_struct a b c h e = grind arith
-
 struct_there : (rows : Rows) → IsLegal rows → (k : ℕ) (o : Object) → slice_get rows.objects k ≡ Some o → o.is_struct ≡ true → IsStruct rows k
 struct_there rows legal k o at struct =
     let line = clear_line (object_demands o _) (rw at at (legal_clear rows legal 0 k 0)) 1 _ refl in
-    (slice_get_within rows.objects k o at, subst (λ x. IsAlignment (align_in x)) (sym at) (aligned o.minalign (asked_of_struct o.is_struct (int_lt o.bytesize (pos 1)) (is_alignment o.minalign) line struct)))
+    (slice_get_within rows.objects k o at, subst (λ x. IsAlignment (align_in x)) (sym at) (aligned o.minalign (grind (arith, line, struct))))
 
 -- what holds of the kind that an object gives, where it holds of a struct and of a table that is there
 pub object_kinds : (rows : Rows) (P : Kind → Type 0) (struct table : ℕ → Kind) (index : ℤ) → ((k : ℕ) (o : Object) → entry_at rows.objects index ≡ Some o → slice_get rows.objects k ≡ Some o → o.is_struct ≡ true → P (struct k))
     → ((k : ℕ) (o : Object) → entry_at rows.objects index ≡ Some o → slice_get rows.objects k ≡ Some o → o.is_struct ≡ false → P (table k)) → IfSome (object_kind index struct table (entry_at rows.objects index)) P
 object_kinds rows P struct table (negsuc k) a b = tt
-object_kinds rows P struct table (pos k) a b = go (slice_get rows.objects k) refl where
-  go : (o : Option Object) → slice_get rows.objects k ≡ o → IfSome (object_kind (pos k) struct table o) P
-  go None at = tt
-  go (Some o) at = chosen o.is_struct refl where
-    chosen : (c : Bool) → o.is_struct ≡ c → P (if c then struct k else table k)
-    chosen true is = a k o at at is
-    chosen false is = b k o at at is
+object_kinds rows P struct table (pos k) a b = grind (arith, a k, b k)
 
 -- and of the kind that a union gives
 pub union_kinds : (rows : Rows) (P : Kind → Type 0) (union : ℕ → Kind) (index : ℤ) → ((k : ℕ) (e : Enum) → entry_at rows.enums index ≡ Some e → slice_get rows.enums k ≡ Some e → P (union k)) → IfSome (union_kind index union (entry_at rows.enums index)) P
 union_kinds rows P union (negsuc k) of = tt
-union_kinds rows P union (pos k) of = go (slice_get rows.enums k) refl where
-  go : (e : Option Enum) → slice_get rows.enums k ≡ e → IfSome (union_kind (pos k) union e) P
-  go None at = tt
-  go (Some e) at = of k e at at
+union_kinds rows P union (pos k) of = grind (arith, of k)
 
 -- the type field that a kind asks for is there
 abbrev pub HasAsked : Bool → Bool → Kind → Type 0

@@ -33,9 +33,6 @@ some_in : {A : Type 0} (x : Option A) → IsSome x → (a : A) × (x ≡ Some a)
 some_in None h = absurd (let w : false ≡ true = h in cc)
 some_in (Some a) h = (a, refl)
 
-neither : (a b : Bool) → (a || not b) ≡ false → b ≡ true
-neither a b h = grind arith
-
 pub field_has_kind : (rows : Rows) → IsLegal rows → (k i : ℕ) (o : Object) (g : Field) → IsRowOf rows k i o g → (kind : Kind) × (kind_of rows g.ty ≡ Some kind)
 unfolding kind_of names_no_object names_no_union
 field_has_kind rows legal k i o g r =
@@ -44,7 +41,8 @@ field_has_kind rows legal k i o g r =
     let object_line = clear_line (table_field_demands rows g _ _ _ _) clear 3 _ refl in
     let union_line = clear_line (table_field_demands rows g _ _ _ _) clear 4 _ refl in
     let s = shape_of g.ty in
-    let fits = neither g.offset64 (is_supported s) (live_line g.deprecated (g.offset64 || not (is_supported s)) type_line r.live) in
+    let live = r.live in
+    let fits : is_supported s ≡ true = grind (arith, type_line, live) in
     let there = live_line g.deprecated (is_object s && is_none (entry_at rows.objects g.ty.index)) object_line r.live in
     let joined = live_line g.deprecated (is_union_shape s && not (is_some_union (entry_at rows.enums g.ty.index))) union_line r.live in
     some_in _ (shape_has_kind rows g.ty.index s fits there joined)

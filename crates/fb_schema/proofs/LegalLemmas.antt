@@ -15,10 +15,7 @@ use Rattle.std.proofs.lemmas.Bool.Decides.{Decides-eqb}
 
 all_clear : (ds : List Demand) → ((line : ℕ) (code : Code) → IsBrokenIn ds line code → ⊥) → first_code ds ≡ None
 all_clear [] none = refl
-all_clear (d ∷ ds) none = go d.broken refl (all_clear ds (λ line. none (suc line))) where
-  go : (b : Bool) → d.broken ≡ b → first_code ds ≡ None → (if b then Some d.code else first_code ds) ≡ None
-  go true e later = absurd (none 0 d.code (λ i. Some (record { code = d.code; broken = e i })))
-  go false e later = later
+all_clear (d ∷ ds) none = grind (arith, none 0 d.code, all_clear ds (λ line. none (suc line)))
 
 -- no place of legal rows has a broken demand
 pub legal_clear : (rows : Rows) → IsLegal rows → (level n place : ℕ) → IsClear rows level n place

@@ -27,13 +27,8 @@ by_pair zero_a zero_b named some other h = grind (arith, h)
 
 -- of a member the test by keys is the one by names, and of the union without a value none is asked
 by_key : (m : Member) (ys : List Member) → (not (int_eq m.value (pos 0)) && list_any (λ y. same_key y m) ys) ≡ list_any (λ y. same_member_name y m) ys
-by_key m [] = and_false (not (int_eq m.value (pos 0))) where
-  and_false : (b : Bool) → (b && false) ≡ false
-  and_false b = grind arith
+by_key m [] = grind arith
 by_key m (y ∷ ys) = by_pair (int_eq y.value (pos 0)) (int_eq m.value (pos 0)) (bytes_eq y.name m.name) _ _ (by_key m ys)
-
-both_none : (zero_a zero_b named : Bool) → zero_b ≡ true → (is_eq (bool_cmp zero_a zero_b) && named) ≡ true → zero_a ≡ true
-both_none zero_a zero_b named e h = grind arith
 
 -- two rows without a value have one value
 none_value : (members : List Member) (p : ℕ) (m : Member) → int_eq m.value (pos 0) ≡ true → stands_before same_key members p m ≡ true → stands_before same_value members p m ≡ true
@@ -41,7 +36,7 @@ none_value members p m e h =
     let a = Any-from_list_any (λ y. same_key y m) (take p members) h in
     let y = a.1 in
     let here = (signed_Decides m.value (pos 0)).0 e in
-    let there = (signed_Decides y.value (pos 0)).0 (both_none (int_eq y.value (pos 0)) (int_eq m.value (pos 0)) (bytes_eq y.name m.name) e a.4) in
+    let there = (signed_Decides y.value (pos 0)).0 (grind (arith, e, a.4)) in
     list_any-from_Any (λ y. same_value y m) (take p members) (a.0, y, a.2, a.3, (signed_Decides y.value m.value).1 (there ∙ sym here))
 
 pub is_true_or_false : (b : Bool) → (b ≡ true) ⊎ (b ≡ false)

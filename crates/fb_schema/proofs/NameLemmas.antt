@@ -32,8 +32,7 @@ live_names fields apart one i j d lt within e =
     omega arith
 
 named_alike : (rows : Rows) (live : List Field) (g : Field) (f : Live) (kind : Option Kind) → option_map (live_as rows live g) kind ≡ Some f → f.name ≡ g.name
-named_alike rows live g f None e = absurd (let w : None ≡ Some f = e in cc)
-named_alike rows live g f (Some kind) e = let w : live_as rows live g kind ≡ f = cc in sym (ap (λ (l : Live). l.name) w)
+named_alike rows live g f kind e = grind (arith, e)
 
 -- the views of a table's live fields have names of their own
 pub view_not_again : (rows : Rows) (n : ℕ) (all : List FieldRow) (row : ObjectPart) → IsLegal rows → slice_get rows.objects n ≡ Some (object_in all row) → row.is_struct ≡ false → (views : List FieldView) → map live_of_view views ≡ live_in rows (Some (object_in all row))

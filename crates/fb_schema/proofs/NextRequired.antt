@@ -54,9 +54,7 @@ pub no_item_lent : {A : Type 0} (xs : List A) (i : ℕ) (r : Option (Bor A)) →
 no_item_lent xs i r h e = let g = subst (λ o. IsItemAt xs i o) e h in g.3
 
 next_is : (fs : List Live) (i : ℕ) → i < length fs → next_required_of fs i ≡ cond (nat_lt (first_from fs i) (length fs)) (Some (first_from fs i)) None
-next_is fs i lt = go (position_or_len is_required (drop i fs)) (length (drop i fs)) (length fs) (length-drop i fs) where
-  go : (p left all : ℕ) → left ≡ all - i → option_map (λ j. i + j) (cond (nat_lt p left) (Some p) None) ≡ cond (nat_lt (i + p) all) (Some (i + p)) None
-  go p left all e = grind (arith, nat_tests, e)
+next_is fs i lt = grind (arith, nat_tests, length-drop i fs)
 
 module _ (fs : List Live) (places : List ℕ) (i : ℕ) (all : AreNextRequired fs places) (place : ℕ) (at : slice_get places i ≡ Some place) where
   place_is : (i < length fs) × (place ≡ first_from fs i)

@@ -36,9 +36,6 @@ tied_between p q x y e a b = grind (arith, e, a, b)
 not_less : (x y : ℕ) → is_lt (nat_cmp x y) ≡ false → y ≤ x
 not_less x y h = grind (arith, h)
 
-less_is : (x y : ℕ) → x < y → is_lt (nat_cmp x y) ≡ true
-less_is x y h = grind (arith, h)
-
 -- two neighbours whose keys are alike
 abbrev pub Alike : {K : Type 0} → (K → K → Ordering) → List (K × ℕ) → K × ℕ → ℕ → Type 0
 Alike R ps d t = R (get_or ps t d).0 (get_or ps (t + 1) d).0 ≡ Equal
@@ -116,7 +113,7 @@ module _ {K : Type 0} (R : K → K → Ordering) (o : IsTotalOrder R) where
         (turned c.0 b.0 h.0, not_less b.1 a.1 h.1, not_less c.1 b.1 h.2)
 
     less_place : (a b : K × ℕ) → R a.0 b.0 ≡ Equal → a.1 < b.1 → is_lt (entry_cmp R a b) ≡ true
-    less_place a b same lt = ap (λ r. is_lt (ordering_then r (nat_cmp a.1 b.1))) same ∙ less_is a.1 b.1 lt
+    less_place a b same lt = grind (arith, same, lt)
 
     apart : AreApart order
     apart = IsPermutation-keeps _ AreApart (apart_numbered keys) (λ l i j p q old a b d la lb e.

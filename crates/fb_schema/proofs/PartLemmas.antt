@@ -29,17 +29,13 @@ asked : (rows : Rows) → IsLegal rows → (k i : ℕ) (f : Field) (r : IsPartRo
 asked rows legal k i f r = rw (r.at, r.struct, r.here) at (legal_clear rows legal 0 k (suc i))
 
 -- a struct of legal rows has a size
-sized : (a b c : Bool) → (a && (b || c)) ≡ false → a ≡ true → b ≡ false
-sized a b c h e = grind arith
-
-positive : (z : ℤ) → int_lt z (pos 1) ≡ false → (m : ℕ) × (z ≡ pos m)
-positive (pos m) h = (m, refl)
-positive (negsuc m) h = absurd (let w : true ≡ false = h in cc)
+positive : (z : ℤ) (unaligned : Bool) → (int_lt z (pos 1) || unaligned) ≡ false → (m : ℕ) × (z ≡ pos m)
+positive (pos m) unaligned h = (m, refl)
+positive (negsuc m) unaligned h = absurd (let w : true ≡ false = h in cc)
 
 struct_bytes : (rows : Rows) → IsLegal rows → (k : ℕ) (o : Object) → slice_get rows.objects k ≡ Some o → o.is_struct ≡ true → (m : ℕ) × (o.bytesize ≡ pos m)
 struct_bytes rows legal k o at struct =
-    let line = clear_line (object_demands o _) (rw at at (legal_clear rows legal 0 k 0)) 1 _ refl in
-    positive o.bytesize (sized o.is_struct (int_lt o.bytesize (pos 1)) (not (is_alignment o.minalign)) line struct)
+    positive o.bytesize (not (is_alignment o.minalign)) (rw struct at (clear_line (object_demands o _) (rw at at (legal_clear rows legal 0 k 0)) 1 _ refl))
 
 not_past : (bytes : ℤ) (n : ℕ) → int_lt bytes (pos n) ≡ false → n ≤ unsigned_abs bytes
 not_past (pos b) n h = grind (arith, nat_tests, h)

@@ -28,9 +28,6 @@ type_told : (rows : Rows) (m : Member) → is_for_member (shape_of m.ty) ≡ tru
 unfolding kind_of
 type_told rows m h = shape_told rows (m.ty).index (shape_of m.ty) h
 
-both_asked : (zero for : Bool) → zero ≡ false → (not zero && not for) ≡ false → for ≡ true
-both_asked zero for z h = grind arith
-
 -- of members that break no demand, the kind of the one with a value is told by its target
 pub told_again : (rows : Rows) (members : List Member) → ((q : ℕ) → first_code (members_asked rows members q) ≡ None) → (value : ℕ) → kind_to (target_of rows (kind_among rows members value)) ≡ kind_among rows members value
 told_again rows members clear value =
@@ -44,7 +41,9 @@ told_again rows members clear value =
       holds : (j : ℕ) (m : Member) → slice_get members j ≡ Some m → test m ≡ true → is_for_member (shape_of m.ty) ≡ true
       holds j m at t =
           let c = ap first_code (sym (ap (demands_of_member rows members j) at)) ∙ clear j in
-          both_asked (int_eq m.value (pos 0)) (is_for_member (shape_of m.ty)) (not_none m.value (both_true (is_member_value m.value) (int_eq m.value (pos value)) t).0) (clear_line (member_demands rows m _ _) c 2 _ refl)
+          let real = not_none m.value (both_true (is_member_value m.value) (int_eq m.value (pos value)) t).0 in
+          let line = clear_line (member_demands rows m _ _) c 2 _ refl in
+          grind (arith, real, line)
 
       go : (found : Option Member) → find test members ≡ found → kind_to (target_of rows (option_and_then (λ (m : Member). kind_of rows m.ty) found)) ≡ option_and_then (λ (m : Member). kind_of rows m.ty) found
       go None e = refl

@@ -28,13 +28,7 @@ filter_keeps p (x ∷ xs) (suc k) z e q = go (p x) (filter_keeps p xs k z e q) w
   go false c = c
 
 place_below : (fs : List Field) → Rises fs → (i j : ℕ) (f g : Field) → slice_get fs i ≡ Some f → slice_get fs j ≡ Some g → g.slot < f.slot → j < i
-place_below fs r i j f g a b lt = elim (le_or_lt i j) [
-  | inl le ↦ elim (lt_or_eq i j le) [
-    | inl less ↦ absurd (let h = rises_at fs r i j f g a b less in omega arith)
-    | inr same ↦ absurd (let w : Some f ≡ Some g = sym a ∙ ap (slice_get fs) same ∙ b in let v : f ≡ g = cc in let e = ap (λ (f : Field). f.slot) v in omega arith)
-  ]
-  | inr less ↦ less
-]
+place_below fs r i j f g a b lt = grind (arith, rises_at fs r i j f g a b)
 
 scalar_aligned : (s : _) → IsAlignment (scalar_size s)
 scalar_aligned s = power_of (scalar_size s) (0 ∷ 1 ∷ 2 ∷ 3 ∷ []) (is_one s) where

@@ -1,6 +1,6 @@
 -- The members of a union of legal rows.
 use Rattle.std.proofs.Common.{◌≡◌, ℕ, zero, suc, ◌<◌, ℤ, pos, Bool, true, false, ◌&&◌, List, [], ◌∷◌, length, get_or, slice_get, filter, map, Option, Some, None, IsTrue, refl, sym, ◌∙◌, ap, arith, find, if◌then◌else◌, int_cmp, int_eq, option_and_then, Equal}
-use Rattle.fb_schema.proofs.{Search.not_true, FindLemmas.find_filter, FindLemmas.found_item, FindLemmas.no_item, LegalLemmas.legal_clear}
+use Rattle.fb_schema.proofs.{Search.not_true, FindLemmas.find_filter, FindLemmas.found_item, LegalLemmas.legal_clear}
 use Rattle.fb_schema.proofs.{MemberLemmas.value_not_again, Numbers.slice_get_some, Numbers.both_true, Numbers.all_true}
 use Rattle.fb_schema.proofs.WalkLemmas.{mapped_at}
 use Rattle.std.proofs.lemmas.{Bool.Decides.nat_tests, List.length-map, List.get_or-map, Cmp.int_cmp_total}
@@ -60,11 +60,9 @@ pub member_of_row_is : (rows : Rows) (all : List MemberRow) (enums : List EnumPa
 unfolding member_of
 member_of_row_is rows all enums same n row at union v = ap (λ ms. option_and_then (λ (m : Member). kind_of rows m.ty) (find (λ m. int_eq m.value (pos v)) ms)) (members_read rows all enums same n row at union)
 
-zero_test : (z : ℤ) → (is_member_value z && int_eq z (pos 0)) ≡ true → ⊥
-zero_test z h = let both = both_true (is_member_value z) (int_eq z (pos 0)) h in let w : true ≡ false = sym both.1 ∙ not_none z both.0 in cc
-
 pub none_for_zero : (ms : List Member) → find (λ m. int_eq m.value (pos 0)) (filter (λ m. is_member_value m.value) ms) ≡ None
-none_for_zero ms = find_filter (λ m. int_eq m.value (pos 0)) (λ m. is_member_value m.value) ms ∙ no_item (λ m. is_member_value m.value && int_eq m.value (pos 0)) ms (λ j d lt e. zero_test (get_or ms j d).value e)
+none_for_zero [] = refl
+none_for_zero (m ∷ ms) = grind (arith, not_none m.value, none_for_zero ms)
 
 pub none_of : (e : Option Enum) → find (λ m. int_eq m.value (pos 0)) (members_in e) ≡ None
 none_of None = refl
