@@ -38,9 +38,7 @@ matched_pushed R xs xs' ys ys' x y h e f r = subst (λ zs. AreMatched R zs ys') 
 -- a step of the loops over owners
 pub matched_step : {X Y : Type 0} (R : X → Y → Type 0) (xs : List X) (i : ℕ) (x : X) (old new : List Y) (y : Y) → i < length xs → x ≡ get_or xs i x → AreMatched R (take i xs) old → new ≡ old ++ y ∷ [] → R x y → AreMatched R (take (i + 1) xs) new
 matched_step R xs i x old new y lt is h e r =
-    let grown = matched_more R (take i xs) old x y h r in
-    let more : take i xs ++ x ∷ [] ≡ take (i + 1) xs = ap (λ z. take i xs ++ z ∷ []) is ∙ sym (take_at_read xs i x lt).1 in
-    subst (λ zs. AreMatched R zs new) more (subst (AreMatched R (take i xs ++ x ∷ [])) (sym e) grown)
+    matched_pushed R (take i xs) (take (i + 1) xs) old new x y h ((take_at_read xs i x lt).1 ∙ ap (λ z. take i xs ++ z ∷ []) (sym is)) e r
 
 widest_end : (xs : List Object) (o : Object) → widest_of (xs ++ o ∷ []) ≡ max (widest_of xs) (length (live_rows o))
 widest_end [] o = omega arith

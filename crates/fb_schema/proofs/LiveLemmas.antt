@@ -68,20 +68,8 @@ sorted_members z fs = (Contains-permutation (by_slot fs) fs z (IsPermutation-sym
 
 one_rises : (f g : Field) (gs rest : List Field) → Rises (g ∷ gs) → ((z : Field) → Contains (g ∷ gs) z → f.slot ≢ z.slot) → ((z : Field) → Contains rest z → Contains (f ∷ gs) z) → Rises rest
     → (b : Bool) → (b ≡ true → f.slot ≤ g.slot) → (f.slot ≤ g.slot → b ≡ true) → Rises (if b then f ∷ g ∷ gs else g ∷ rest)
-one_rises f g gs rest r apart members ih true le _ = (
-  λ z h. elim (contains_cases g z gs h) [
-    | inl e ↦ (let a = apart g (contains_head g gs) in let b = le refl in let c = ap (λ (f : Field). f.slot) e in omega arith)
-    | inr t ↦ (let a = apart g (contains_head g gs) in let b = le refl in let c = r.0 z t in omega arith)
-  ],
-  r,
-)
-one_rises f g gs rest r apart members ih false _ less = (
-  λ z h. elim (contains_cases f z gs (members z h)) [
-    | inl e ↦ elim (le_or_lt f.slot g.slot) [ inl le ↦ absurd (let w : false ≡ true = less le in cc) | inr lt ↦ (let c = ap (λ (f : Field). f.slot) e in omega arith) ]
-    | inr t ↦ r.0 z t
-  ],
-  ih,
-)
+one_rises f g gs rest r apart members ih true le _ = (λ z h. let at = contains_cases g z gs h in let a = apart g (contains_head g gs) in let b = le refl in let later = r.0 z in grind (arith, at, later), r)
+one_rises f g gs rest r apart members ih false _ less = (λ z h. let at = contains_cases f z gs (members z h) in let later = r.0 z in grind (arith, at, later, less), ih)
 
 insert_rises : (f : Field) (gs : List Field) → Rises gs → ((g : Field) → Contains gs g → f.slot ≢ g.slot) → Rises (insert_by_slot f gs)
 insert_rises f [] r apart = (λ g h. absurd (omega (arith, h.1)), tt)

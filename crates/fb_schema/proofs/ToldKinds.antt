@@ -1,5 +1,5 @@
 -- The kind of a union's member is told from where it leads.
-use Rattle.std.proofs.Common.{◌≡◌, ℕ, suc, ℤ, pos, negsuc, Bool, true, false, not, ◌&&◌, cond, List, [], ◌∷◌, slice_get, filter, Option, Some, None, refl, sym, ◌∙◌, ap, subst, find, if◌then◌else◌, arith, option_and_then, int_eq}
+use Rattle.std.proofs.Common.{◌≡◌, ℕ, suc, ℤ, pos, negsuc, Bool, true, false, not, ◌&&◌, cond, List, [], ◌∷◌, slice_get, filter, Option, Some, None, refl, sym, ◌∙◌, ap, subst, find, if◌then◌else◌, arith, option_and_then, int_eq, inl, inr}
 use Rattle.std.proofs.lemmas.Option.{same_Some}
 use Rattle.fb_schema.proofs.KindWords.{Kind, Struct, Table, Shape, One, OfText, OfObject}
 use Rattle.fb_schema.proofs.{Numbers.both_true, DemandLaws.clear_line, FindLemmas.find_filter, UnionLemmas.not_none}
@@ -8,6 +8,7 @@ use Rattle.fb_schema.specs.Demands.{IsLegal, first_code, members_asked, member_d
 use Rattle.fb_schema.specs.Kinds.{kind_of, shape_of, shape_kind, object_kind}
 use Rattle.fb_schema.specs.{Members.is_member_value, Members.member_of, Members.members_in, Targets.target_of, Targets.kind_to, Targets.kind_among}
 use Rattle.fb_schema.specs.Rows.{Rows, Object, Member, Enum, entry_at}
+use Rattle.fb_schema.proofs.MemberLemmas.{is_true_or_false}
 
 -- what is found passes the test and stands in the list
 found_with : {X : Type 0} (p : X → Bool) (P : X → Type 0) (xs : List X) → ((j : ℕ) (x : X) → slice_get xs j ≡ Some x → p x ≡ true → P x) → (m : X) → find p xs ≡ Some m → P m
@@ -54,16 +55,10 @@ kind_in rows value e = option_and_then (λ m. kind_of rows m.ty) (find (λ m. in
 
 told_in : (rows : Rows) → IsLegal rows → (n value : ℕ) (e : Option Enum) → slice_get rows.enums n ≡ e → kind_to (target_of rows (kind_in rows value e)) ≡ kind_in rows value e
 told_in rows legal n value None at = refl
-told_in rows legal n value (Some e) at = go e.is_union refl where
-  members : Bool → List Member
-  members b = if b then filter (λ m. is_member_value m.value) e.members else []
-
-  kind : Bool → Option Kind
-  kind b = option_and_then (λ m. kind_of rows m.ty) (find (λ m. int_eq m.value (pos value)) (members b))
-
-  go : (b : Bool) → e.is_union ≡ b → kind_to (target_of rows (kind b)) ≡ kind b
-  go true union = told_again rows e.members (λ q. rw (at, union) at (legal_clear rows legal 1 n (suc q))) value
-  go false union = refl
+told_in rows legal n value (Some e) at = elim (is_true_or_false e.is_union) [
+  | inl union ↦ rw union (told_again rows e.members (λ q. rw (at, union) at (legal_clear rows legal 1 n (suc q))) value)
+  | inr other ↦ rw other refl
+]
 
 -- the same of legal rows
 pub told_of : (rows : Rows) → IsLegal rows → (n value : ℕ) → kind_to (target_of rows (member_of rows n value)) ≡ member_of rows n value

@@ -69,11 +69,7 @@ type_shape rows index ForUnions (Some (Vector (OfScalar UType))) h = refl
 type_shape rows index wanted s h = absurd (let w : false ≡ true = h in cc)
 
 size_of_type : (rows : Rows) (wanted : TypeField) → kind_size rows (type_kind wanted) ≡ 1
-size_of_type rows ForUnion = refl
-size_of_type rows ForUnions = refl
-
-three : (a b c : Bool) → (a && b && c) ≡ true → (a ≡ true) × (b ≡ true) × (c ≡ true)
-three a b c h = grind arith
+size_of_type rows wanted = grind arith
 
 -- a live row has a place among the live rows
 live_place : (o : Object) (h : Field) → o.is_struct ≡ false → Contains o.fields h → is_live h ≡ true → (j : ℕ) × (slice_get (live_rows o) j ≡ Some h)
@@ -87,15 +83,14 @@ unfolding kind_of
 type_before rows legal k i o g r wanted stands =
     let found = Any-from_list_any (λ h. not h.deprecated && (h.slot + 2 == g.slot) && is_type_field wanted (shape_of h.ty)) o.fields stands in
     let h = found.1 in
-    let is = three (not h.deprecated) (h.slot + 2 == g.slot) (is_type_field wanted (shape_of h.ty)) found.4 in
-    let below : h.slot + 2 ≡ g.slot = (Decides-eqb (h.slot + 2) g.slot).0 is.1 in
+    let is : (is_live h ≡ true) × (h.slot + 2 ≡ g.slot) × (is_type_field wanted (shape_of h.ty) ≡ true) = (grind (arith, found.4), grind (arith, nat_tests, found.4), grind (arith, found.4)) in
     let p = live_place o h r.table (found.0, found.2, found.3) is.0 in
     record {
       place = p.0;
-      lower = place_below (live_rows o) (rows_rise rows legal k o r.at) i p.0 g h r.here p.1 (omega (arith, below));
+      lower = place_below (live_rows o) (rows_rise rows legal k o r.at) i p.0 g h r.here p.1 (omega (arith, is.1));
       field = live_as rows (live_rows o) h (type_kind wanted);
       found = listed rows legal k o r.at p.0 h (type_kind wanted) p.1 (type_shape rows h.ty.index wanted (shape_of h.ty) is.2);
-      below = below;
+      below = is.1;
       kind_is = refl;
       size_is = size_of_type rows wanted;
     }
