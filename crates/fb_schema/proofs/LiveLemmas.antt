@@ -14,6 +14,7 @@ use Rattle.fb_schema.proofs.Numbers.{lt_or_eq, le_or_lt, slice_get_some, neither
 use Rattle.fb_schema.proofs.{PositionLemmas.found_position, PositionLemmas.no_position, Search.nat_tied, Search.search_missed, Search.not_true}
 use Rattle.std.proofs.lemmas.List.{get_or_append_left}
 use Rattle.fb_schema.proofs.Blank.{blank_field}
+use Rattle.fb_schema.proofs.OrderLemmas.{once_permuted}
 
 contains_cases : {X : Type 0} (y z : X) (ys : List X) → Contains (y ∷ ys) z → (y ≡ z) ⊎ Contains ys z
 contains_cases y z ys (zero, lt, e) = inl e
@@ -94,14 +95,7 @@ rises_from_order (f ∷ fs) up h = (
 )
 
 apart_permutation : (xs ys : List Field) → IsPermutation xs ys → AreApart xs → AreApart ys
-apart_permutation xs ys p h = IsPermutation-keeps xs AreApart h (λ l i j p q old. record {
-  at = λ a b d la lb e.
-      let s = swapped_from_swap l (swap l i j) i j d p q refl in
-      let la' : a < length l = rw (length-swap l i j) at la in
-      let lb' : b < length l = rw (length-swap l i j) at lb in
-      let o = old.at in
-      grind (arith, s, o);
-}) ys p
+apart_permutation xs ys p h = record { at = once_permuted (λ (f : Field). f.slot) xs ys p h.at }
 
 is_by_slot : (xs ys : List Field) → AreApart xs → IsPermutation xs ys → IsNonDecreasingBy (λ (f : Field). f.slot) ys → ys ≡ by_slot xs
 is_by_slot xs ys apart p up =
