@@ -1,11 +1,8 @@
 -- The one item of a list that passes a test.
-use Rattle.std.proofs.Common.{◌≡◌, ℕ, zero, suc, ◌<◌, Bool, true, false, ◌&&◌, List, [], ◌∷◌, length, get_or, filter, Option, Some, None, refl, ◌∙◌, arith, cond, find, option_and_then, slice_get, position, ap, nat_lt, ◌≤◌}
-
-use Rattle.std.proofs.lemmas.List.Folds.{find_at}
+use Rattle.std.proofs.Common.{◌≡◌, ℕ, ◌<◌, Bool, true, ◌&&◌, List, [], ◌∷◌, length, get_or, filter, Some, None, refl, ◌∙◌, arith, cond, find, option_and_then, slice_get, position, ap, nat_lt, ◌≤◌}
+use Rattle.std.proofs.lemmas.{List.Folds.find_at, Option.slice_get_past, Option.slice_get-get_or, Bool.Decides.nat_tests}
 use Rattle.std.specs.List.{position_or_len}
-use Rattle.std.proofs.lemmas.Option.{slice_get_past, slice_get-get_or}
-use Rattle.fb_schema.proofs.PositionLemmas.{found_position, no_position}
-use Rattle.std.proofs.lemmas.Bool.Decides.{nat_tests}
+use Rattle.fb_schema.proofs.PositionLemmas.{found_position}
 
 -- to look among those that pass one test is to ask both
 pub find_filter : {X : Type 0} (p q : X → Bool) (xs : List X) → find p (filter q xs) ≡ find (λ y. q y && p y) xs

@@ -1,14 +1,13 @@
 -- The steps by which the index of a schema is made.
-use Rattle.std.proofs.Common.{◌≡◌, ℕ, zero, suc, ◌+◌, ◌<◌, ◌≤◌, ◌⊎◌, inl, inr, Bool, true, false, not, ◌||◌, ◌&&◌, ◌==◌, ◌%◌, nat_lt, List, [], ◌∷◌, ◌++◌, length, get_or, slice_get, take, map, max, Some, None, refl, sym, ◌∙◌, ap, subst, arith, if◌then◌else◌}
-use Rattle.std.proofs.lemmas.List.{map-append, get_or-take, get_or-map, length-take-le, length_push, map_more}
-use Rattle.std.proofs.lemmas.{List.Folds.list_any-from_Any, Option.slice_get-get_or, Option.slice_get_within, Bool.Decides.Decides-eqb}
+use Rattle.std.proofs.Common.{◌≡◌, ℕ, zero, suc, ◌+◌, ◌<◌, ◌≤◌, ◌⊎◌, inl, inr, Bool, false, List, [], ◌∷◌, ◌++◌, length, get_or, slice_get, take, map, max, Some, None, refl, sym, ◌∙◌, ap, subst, arith, if◌then◌else◌}
+use Rattle.std.proofs.lemmas.List.{map-append, get_or-map, length_push, map_more}
+use Rattle.std.proofs.lemmas.{Option.slice_get-get_or, Option.slice_get_within}
 use Rattle.std.proofs.lemmas.Grind.{take_at_read}
-use Rattle.fb_schema.specs.declared.{fault.Code.TheVariants.BadSlot, rows.FieldRow.FieldRow}
-use Rattle.fb_schema.specs.Demands.{Demand, IsLegal, demands_of_object, demands_of_table_field, demands_of_struct_field, stands_before, same_slot}
-use Rattle.fb_schema.specs.Live.{Live, AreApart, AreSpaced, live_rows, widest_of}
+use Rattle.fb_schema.specs.declared.{rows.FieldRow.FieldRow}
+use Rattle.fb_schema.specs.Live.{Live, AreSpaced, live_rows, widest_of}
 use Rattle.fb_schema.specs.{Matched.AreMatched, Steps.act_of, Steps.is_plain_act, Steps.are_plain}
-use Rattle.fb_schema.specs.Rows.{Rows, Field, Object, field_of}
-use Rattle.fb_schema.proofs.{Numbers.get_or_default, Numbers.neither_below, WalkLemmas.mapped_at}
+use Rattle.fb_schema.specs.Rows.{Object, field_of}
+use Rattle.fb_schema.proofs.{Numbers.get_or_default, WalkLemmas.mapped_at}
 
 -- Matched lists grow together.
 pub slice_get_end : {X : Type 0} (xs : List X) (x y : X) (n : ℕ) → slice_get (xs ++ x ∷ []) n ≡ Some y → (slice_get xs n ≡ Some y) ⊎ ((n ≡ length xs) × (x ≡ y))

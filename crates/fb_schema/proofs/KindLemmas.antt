@@ -1,11 +1,11 @@
 -- What the kinds of legal rows name.
-use Rattle.std.proofs.Common.{◌≡◌, ℕ, ◌^◌, ◌<◌, ◌==◌, ℤ, pos, negsuc, Bool, true, false, not, ◌&&◌, ◌||◌, int_lt, List, [], ◌∷◌, map, length, slice_get, Option, Some, None, IsTrue, refl, sym, ◌∙◌, ap, subst, find, unsigned_abs, option_map, if◌then◌else◌, arith, IfSome, option_and_then, int_eq}
+use Rattle.std.proofs.Common.{◌≡◌, ℕ, ◌^◌, ◌<◌, ◌==◌, ℤ, pos, negsuc, Bool, true, false, not, ◌&&◌, ◌||◌, List, [], ◌∷◌, map, length, slice_get, Option, Some, None, IsTrue, refl, sym, ◌∙◌, ap, subst, find, unsigned_abs, option_map, arith, IfSome, option_and_then, int_eq}
 use Rattle.fb_schema.proofs.KindWords.{Kind, Struct, Table, Union, Structs, Tables, Unions, Element, OfScalar, OfText, OfObject, OfUnion, Shape, One, Vector}
 use Rattle.fb_schema.proofs.{Numbers.not_false, DemandLaws.clear_line, LegalLemmas.legal_clear}
 use Rattle.std.proofs.lemmas.{Option.slice_get_within, Option.MatchOption-at_some, Bool.Decides.Decides-eqb}
 use Rattle.std.specs.List.{list_any}
 use Rattle.fb_schema.specs.declared.rows.TypeRow.{TypeRow}
-use Rattle.fb_schema.specs.Demands.{IsLegal, first_code, demands_of_object, object_demands, stands_before, same_object_name, is_alignment, is_union_shape, lacks_type_field}
+use Rattle.fb_schema.specs.Demands.{IsLegal, object_demands, is_alignment, is_union_shape, lacks_type_field}
 use Rattle.fb_schema.specs.Kinds.{kind_of, shape_of, shape_kind, object_kind, union_kind, struct_align, align_in}
 use Rattle.fb_schema.specs.{Vectors.vector_of, Members.member_of, Members.members_of, Served.IsAlignment, Served.MemberHolds}
 use Rattle.fb_schema.specs.Rows.{Rows, Object, Enum, Member, entry_at, is_table, is_union, is_some_table, is_some_union}

@@ -1,20 +1,17 @@
 -- Fields in rising slot are those that an insertion sort gives.
-use Rattle.std.proofs.Common.{◌≡◌, ◌≢◌, ℕ, zero, suc, ◌+◌, ◌-◌, ◌<◌, ◌≤◌, ◌==◌, ◌⊎◌, inl, inr, Bool, true, false, List, [], ◌∷◌, length, get_or, map, filter, position, Some, None, refl, sym, ◌∙◌, ap, subst, arith, IsPermutation, nat_le, if◌then◌else◌, cond, Contains, swap, Less, Equal, Greater, ◌++◌, length-append, not}
+use Rattle.std.proofs.Common.{◌≡◌, ◌≢◌, ℕ, zero, suc, ◌+◌, ◌-◌, ◌<◌, ◌≤◌, ◌==◌, ◌⊎◌, inl, inr, Bool, true, false, List, [], ◌∷◌, length, get_or, map, filter, position, Some, None, refl, sym, ◌∙◌, ap, subst, arith, IsPermutation, nat_le, if◌then◌else◌, Contains, Less, Equal, Greater, ◌++◌, length-append, not}
 use Rattle.std.proofs.lemmas.{Cmp.nat_cmp_total, Cmp.tied_itself, List.length-map, List.get_or-map}
-use Rattle.std.proofs.lemmas.{List.Edits.swapped_from_swap, List.Edits.length-swap, Bool.Decides.Decides-eqb}
-use Rattle.std.proofs.lemmas.List.Sorted.{IsPermutation-keeps, IsPermutation-map, Contains-permutation, IsPermutation-sym, IsPermutation-refl, IsPermutation-trans, IsPermutation-swap, IsPermutation-cons, IsPermutation-filter_both, IsNonDecreasingBy-from_default}
-use Rattle.std.proofs.lemmas.List.Elements.{Contains-get_or, All-contains, All-filter, All-contains_itself}
+use Rattle.std.proofs.lemmas.{Bool.Decides.Decides-eqb}
+use Rattle.std.proofs.lemmas.List.Sorted.{IsPermutation-map, Contains-permutation, IsPermutation-sym, IsPermutation-refl, IsPermutation-trans, IsPermutation-swap, IsPermutation-cons, IsPermutation-filter_both, IsNonDecreasingBy-from_default}
+use Rattle.std.proofs.lemmas.{List.Elements.All-contains, List.Elements.All-filter, List.Elements.All-contains_itself, List.get_or_append_left}
 use borrow.Author.Tests.{leb-true, le-leb}
 use Rattle.std.specs.List.Sorted.{IsSortedBy, IsNonDecreasingBy, IsPartitionPoint}
 use Rattle.std.specs.Ordering.{nat_cmp, is_lt, ordering_index}
 use Rattle.fb_schema.specs.declared.rows.FieldRow.{FieldRow}
 use Rattle.fb_schema.specs.Rows.{Field, field_of}
 use Rattle.fb_schema.specs.Live.{insert_by_slot, by_slot, is_live, AreApart, AreRising}
-use Rattle.fb_schema.proofs.Numbers.{lt_or_eq, le_or_lt, slice_get_some, neither_below}
+use Rattle.fb_schema.proofs.{Numbers.lt_or_eq, Numbers.slice_get_some, Numbers.neither_below, Blank.blank_field, OrderLemmas.once_permuted}
 use Rattle.fb_schema.proofs.{PositionLemmas.found_position, PositionLemmas.no_position, Search.nat_tied, Search.search_missed, Search.not_true}
-use Rattle.std.proofs.lemmas.List.{get_or_append_left}
-use Rattle.fb_schema.proofs.Blank.{blank_field}
-use Rattle.fb_schema.proofs.OrderLemmas.{once_permuted}
 
 contains_cases : {X : Type 0} (y z : X) (ys : List X) → Contains (y ∷ ys) z → (y ≡ z) ⊎ Contains ys z
 contains_cases y z ys (zero, lt, e) = inl e

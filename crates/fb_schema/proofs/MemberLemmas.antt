@@ -1,15 +1,14 @@
 -- The steps of the walk over the members of a union.
-use Rattle.std.proofs.Common.{◌≡◌, ℕ, ◌<◌, ◌≤◌, pos, ◌⊎◌, inl, inr, Bool, true, false, not, ◌&&◌, List, [], ◌∷◌, length, slice_get, take, map, int_lt, Option, Some, None, refl, sym, ◌∙◌, ap, Decides, arith, bytes_eq, Ordering, Equal, ◌||◌}
+use Rattle.std.proofs.Common.{◌≡◌, ℕ, ◌<◌, pos, ◌⊎◌, inl, inr, Bool, true, false, not, ◌&&◌, List, [], ◌∷◌, slice_get, take, map, Option, Some, None, refl, sym, ◌∙◌, ap, Decides, arith, bytes_eq, Ordering, Equal, ◌||◌}
 use Rattle.fb_schema.proofs.{Search.not_true, DemandLaws.clear_line, KeyLemmas.test_from_again, KeyLemmas.is_at_test, KeyLemmas.never_again}
-use Rattle.fb_schema.proofs.Numbers.{slice_get_some, all_true}
-use Rattle.std.proofs.lemmas.{List.Folds.list_any_none, List.length-map}
+use Rattle.fb_schema.proofs.{Numbers.slice_get_some, Numbers.all_true, WalkLemmas.names_agree, WalkLemmas.mapped_at, WalkLemmas.values_agree}
+use Rattle.std.proofs.lemmas.{List.length-map}
 use Rattle.std.specs.{Cmp.signed_Decides, List.list_any}
 use Rattle.std.specs.Ordering.{int_cmp, bool_cmp, int_eq, is_eq, ordering_then}
 use Rattle.fb_schema.specs.declared.rows.MemberRow.{MemberRow}
 use Rattle.fb_schema.specs.Sorting.{IsAgain, IsFirstAgain, name_cmp, member_cmp, member_value, member_key}
 use Rattle.fb_schema.specs.Rows.{Rows, Member, member_of_row}
 use Rattle.fb_schema.specs.Demands.{is_at, first_code, stands_before, same_value, same_member_name, Demand, member_demands, members_asked, demands_of_member}
-use Rattle.fb_schema.proofs.WalkLemmas.{names_agree, mapped_at, values_agree, past_list}
 use Rattle.std.proofs.lemmas.List.Folds.{Any-from_list_any, list_any-from_Any}
 
 -- both rows stand for the union without a value, or neither does, and they have one name

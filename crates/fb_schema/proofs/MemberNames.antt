@@ -1,18 +1,15 @@
 -- The members of a union of legal rows are found by name.
-use Rattle.std.proofs.Common.{◌≡◌, ℕ, zero, suc, ◌<◌, ℤ, pos, negsuc, Bool, true, false, ◌&&◌, ◌||◌, int_lt, unsigned_abs, List, length, get_or, slice_get, filter, map, Some, None, refl, sym, ◌∙◌, ap, arith, find, Decides, FitsSigned, w64, Bor, option_map, bytes_eq, Equal, Option, option_and_then}
-use Rattle.std.proofs.lemmas.{Bool.Decides.nat_tests, Cmp.on_total, Cmp.then_total, List.length-map, List.get_or-map, Option.slice_get-get_or}
+use Rattle.std.proofs.Common.{◌≡◌, ℕ, zero, suc, ◌<◌, ℤ, pos, negsuc, Bool, true, false, ◌&&◌, ◌||◌, int_lt, unsigned_abs, List, length, get_or, slice_get, filter, map, Some, None, refl, ◌∙◌, ap, arith, find, Decides, FitsSigned, w64, Bor, option_map, bytes_eq, Equal, Option, option_and_then}
+use Rattle.std.proofs.lemmas.{Bool.Decides.nat_tests, Cmp.on_total, Cmp.then_total, Option.slice_get-get_or}
 use Rattle.std.specs.{Cmp.IsTotalOrder, Cmp.bool_cmp_total, Ordering.int_eq, Ordering.bool_cmp, Ordering.is_eq}
 use Rattle.fb_schema.specs.declared.{flat.EnumPart.EnumPart, rows.MemberRow.MemberRow}
-use Rattle.fb_schema.specs.Demands.{first_code, members_asked, member_demands, stands_before, same_value, same_member_name}
+use Rattle.fb_schema.specs.{Demands.first_code, Demands.members_asked, Demands.member_demands, Sorting.IsPlaceOf}
 use Rattle.fb_schema.specs.{Members.is_member_value, Members.member_named, Sorting.name_cmp, Sorting.member_cmp, Sorting.member_key}
 use Rattle.fb_schema.specs.{Rows.Rows, Rows.Member, Rows.member_of_row, Flat.part, FlatRows.enum_in}
-use Rattle.fb_schema.proofs.{DemandLaws.clear_line, FindLemmas.find_filter, FindLemmas.found_item, FindLemmas.no_item}
-use Rattle.fb_schema.proofs.MemberLemmas.{name_not_again, clear_demands, both_equal}
-use Rattle.fb_schema.proofs.{Numbers.slice_get_some, Numbers.both_true, Numbers.all_true}
-use Rattle.fb_schema.proofs.{UnionLemmas.members_read, UnionLemmas.not_none, WalkLemmas.names_agree, WalkLemmas.names_total}
-use Rattle.fb_schema.specs.Sorting.{IsPlaceOf}
-use Rattle.fb_schema.proofs.DemandLaws.{places_end}
-use Rattle.fb_schema.proofs.PlaceLemmas.{place_find}
+use Rattle.fb_schema.proofs.{DemandLaws.clear_line, FindLemmas.find_filter}
+use Rattle.fb_schema.proofs.{MemberLemmas.name_not_again, MemberLemmas.clear_demands, MemberLemmas.both_equal, PlaceLemmas.place_find}
+use Rattle.fb_schema.proofs.{Numbers.both_true}
+use Rattle.fb_schema.proofs.{UnionLemmas.members_read, WalkLemmas.names_agree, WalkLemmas.names_total}
 
 pub members_total : IsTotalOrder member_cmp
 members_total = then_total (on_total (λ (m : Bool × Bor (List ℕ)). m.0) bool_cmp_total) (on_total (λ (m : Bool × Bor (List ℕ)). m.1) names_total)

@@ -1,10 +1,9 @@
 -- The name of a union's member is that of the row with its value.
-use Rattle.std.proofs.Common.{◌≡◌, ℕ, ◌<◌, ℤ, pos, Bool, true, false, ◌&&◌, List, [], map, slice_get, Option, Some, None, refl, ◌∙◌, ap, arith, find, option_map, int_eq}
-use Rattle.std.specs.Cmp.{signed_Decides}
+use Rattle.std.proofs.Common.{◌≡◌, ℕ, ◌<◌, pos, true, false, List, [], map, slice_get, Option, Some, None, refl, ◌∙◌, ap, arith, find, option_map, int_eq}
 use Rattle.fb_schema.specs.declared.{flat.EnumPart.EnumPart, rows.MemberRow.MemberRow}
-use Rattle.fb_schema.specs.{Members.is_member_value, Members.members_in, Members.member_name, Flat.part, FlatRows.enum_in}
+use Rattle.fb_schema.specs.{Members.members_in, Members.member_name, Flat.part, FlatRows.enum_in}
 use Rattle.fb_schema.specs.Rows.{Rows, Member, Enum, member_of_row, is_union, is_some_union}
-use Rattle.fb_schema.proofs.{FindLemmas.find_filter, UnionLemmas.members_read, UnionLemmas.none_of, UnionLemmas.real_value}
+use Rattle.fb_schema.proofs.{UnionLemmas.members_read, UnionLemmas.none_of}
 use Rattle.fb_schema.proofs.UnionLemmas.{found_among}
 
 -- the name that is looked up of a union, over its row

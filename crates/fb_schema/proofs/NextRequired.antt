@@ -1,5 +1,5 @@
 -- The next required field of a table, from a place on.
-use Rattle.std.proofs.Common.{◌≡◌, ℕ, ◌+◌, ◌-◌, ◌<◌, ◌≤◌, Bool, true, false, not, cond, nat_lt, List, [], ◌∷◌, length, drop, map, get_or, slice_get, set, position, option_map, IsTrue, Option, Some, None, refl, sym, ◌∙◌, ap, subst, arith, length-drop, inl, inr, Bor, drop_of_length-le}
+use Rattle.std.proofs.Common.{◌≡◌, ℕ, ◌+◌, ◌<◌, ◌≤◌, Bool, true, false, not, cond, nat_lt, List, [], ◌∷◌, length, drop, map, get_or, slice_get, set, position, option_map, IsTrue, Option, Some, None, refl, sym, ◌∙◌, ap, subst, arith, length-drop, inl, inr, Bor, drop_of_length-le}
 use Rattle.std.specs.{List.position_or_len, Slice.IsItemAt}
 use Rattle.std.proofs.Math.Seq.{drop-length}
 use Rattle.std.proofs.lemmas.{Bool.Decides.nat_tests, Option.slice_get-get_or, Option.slice_get_within, Option.get_or_from_slice_get}

@@ -1,5 +1,5 @@
 -- Small facts on numbers and lists that the other files share.
-use Rattle.std.proofs.Common.{◌≡◌, ℕ, ◌<◌, ◌≤◌, ◌⊎◌, inl, inr, List, length, slice_get, Some, arith, Bool, true, false, not, ◌&&◌, ◌||◌}
+use Rattle.std.proofs.Common.{◌≡◌, ℕ, ◌<◌, ◌≤◌, ◌⊎◌, inl, inr, List, length, slice_get, Some, arith, Bool, true, false, not, ◌&&◌}
 use Rattle.std.proofs.lemmas.Option.{slice_get_cases}
 pub use Rattle.std.proofs.lemmas.List.{get_or_default}
 pub use Rattle.std.proofs.lemmas.Option.{slice_get_past}

@@ -1,10 +1,10 @@
 -- The fields of the structs of legal rows lie in them.
-use Rattle.std.proofs.Common.{◌≡◌, ◌<◌, ℕ, suc, ◌+◌, ◌*◌, ◌≤◌, ℤ, pos, negsuc, ◌+ℤ◌, ◌*ℤ◌, Bool, true, false, not, ◌&&◌, ◌||◌, int_lt, List, [], length, slice_get, Option, Some, None, refl, sym, ◌∙◌, ap, subst, arith, unsigned_abs, if◌then◌else◌, IfSome, option_and_then, option_map}
+use Rattle.std.proofs.Common.{◌≡◌, ◌<◌, ℕ, suc, ◌+◌, ◌*◌, ◌≤◌, ℤ, pos, negsuc, ◌+ℤ◌, ◌*ℤ◌, Bool, true, false, not, ◌&&◌, ◌||◌, int_lt, length, slice_get, Option, Some, None, refl, sym, ◌∙◌, ap, subst, arith, unsigned_abs, IfSome, option_map}
 use Rattle.fb_schema.proofs.KindWords.{Kind, Struct, Table, Structs, Tables, Element, OfScalar, OfObject, Shape, One, Vector, Array}
 use Rattle.fb_schema.proofs.{KindLemmas.object_kinds, Numbers.not_false, DemandLaws.clear_line, LegalLemmas.legal_clear}
-use Rattle.std.proofs.lemmas.{Option.slice_get_within, Option.MatchOption-at_some, Bool.Decides.nat_tests}
+use Rattle.std.proofs.lemmas.{Option.slice_get_within, Bool.Decides.nat_tests}
 use Rattle.fb_schema.specs.declared.views.PartView.{PartView}
-use Rattle.fb_schema.specs.Demands.{IsLegal, first_code, demands_of_object, demands_of_struct_field, demands_of_table_field, object_demands, struct_field_demands, stands_before, same_object_name, same_field_name, is_inline, is_object, is_alignment, shape_bytes, element_bytes, inline_bytes, bytes_in, names_table}
+use Rattle.fb_schema.specs.Demands.{IsLegal, first_code, object_demands, struct_field_demands, stands_before, same_field_name, is_inline, is_object, is_alignment, shape_bytes, element_bytes, inline_bytes, bytes_in, names_table}
 use Rattle.fb_schema.specs.Kinds.{scalar_size, struct_size, size_in, shape_of, shape_kind, object_kind}
 use Rattle.fb_schema.specs.Parts.{PartFits, part_at, part_count, part_kind, part_of, parts_in, parts_of}
 use Rattle.fb_schema.specs.Rows.{Field, Object, Rows, entry_at, is_some_table}

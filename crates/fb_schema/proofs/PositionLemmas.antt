@@ -1,5 +1,5 @@
 -- The place of the one item that passes a test.
-use Rattle.std.proofs.Common.{◌≡◌, ℕ, ◌<◌, ◌≤◌, ◌⊎◌, inl, inr, Bool, true, false, not, cond, ◌+◌, List, [], ◌∷◌, length, get_or, map, Option, Some, None, refl, sym, ◌∙◌, ap, arith, position}
+use Rattle.std.proofs.Common.{◌≡◌, ℕ, ◌<◌, ◌≤◌, inl, inr, Bool, true, false, not, cond, ◌+◌, List, [], ◌∷◌, length, get_or, map, Option, Some, None, refl, sym, ◌∙◌, ap, arith, position}
 use Rattle.std.proofs.lemmas.{List.length-map, List.Quantifiers.position-Some, List.Sums.fails_before_first, Grind.common_steps}
 use Rattle.std.specs.List.{position_or_len}
 use Rattle.fb_schema.proofs.Numbers.{le_or_lt, slice_get_some}

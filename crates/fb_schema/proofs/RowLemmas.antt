@@ -1,10 +1,9 @@
 -- The rows of live fields, and what is demanded of them.
-use Rattle.std.proofs.Common.{◌≡◌, ℕ, zero, suc, ◌<◌, Bool, true, false, not, ◌&&◌, List, [], ◌∷◌, slice_get, filter, Some, None, refl, sym, ◌∙◌, ap, arith, if◌then◌else◌, Contains}
-use Rattle.fb_schema.proofs.{Numbers.negated, LegalLemmas.legal_clear}
+use Rattle.std.proofs.Common.{◌≡◌, ℕ, zero, suc, ◌<◌, Bool, true, false, not, ◌&&◌, List, [], ◌∷◌, slice_get, filter, Some, None, refl, ◌∙◌, ap, arith, if◌then◌else◌, Contains}
+use Rattle.fb_schema.proofs.{Numbers.negated}
 use Rattle.std.proofs.lemmas.List.Elements.{filter_passes, All-contains}
 use Rattle.std.proofs.lemmas.Option.{slice_get-get_or, slice_get_within, get_or_from_slice_get}
-use Rattle.fb_schema.specs.declared.kinds.TypeField.TheVariants.{ForUnion, ForUnions}
-use Rattle.fb_schema.specs.Demands.{IsLegal, first_code, demands_of_object, demands_of_table_field, demands_of_struct_field, table_field_demands, stands_before, same_field_name, same_slot, stands_below}
+use Rattle.fb_schema.specs.Demands.{IsLegal}
 use Rattle.fb_schema.specs.{Live.live_rows, Live.by_slot, Live.is_live, Rows.Rows, Rows.Field, Rows.Object}
 use Rattle.fb_schema.proofs.LiveLemmas.{Rises, sorted_rises, sorted_members, filter_contains, filter_apart}
 use Rattle.fb_schema.proofs.LegalLemmas.{IsAsked, legal_slots, table_clear}

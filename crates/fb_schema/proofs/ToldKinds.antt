@@ -1,14 +1,12 @@
 -- The kind of a union's member is told from where it leads.
-use Rattle.std.proofs.Common.{◌≡◌, ℕ, suc, ℤ, pos, negsuc, Bool, true, false, not, ◌&&◌, cond, List, [], ◌∷◌, slice_get, filter, Option, Some, None, refl, sym, ◌∙◌, ap, subst, find, if◌then◌else◌, arith, option_and_then, int_eq, inl, inr}
+use Rattle.std.proofs.Common.{◌≡◌, ℕ, suc, ℤ, pos, negsuc, Bool, true, false, ◌&&◌, cond, List, [], ◌∷◌, slice_get, filter, Option, Some, None, refl, sym, ◌∙◌, ap, subst, find, arith, option_and_then, int_eq, inl, inr}
 use Rattle.std.proofs.lemmas.Option.{same_Some}
-use Rattle.fb_schema.proofs.KindWords.{Kind, Struct, Table, Shape, One, OfText, OfObject}
+use Rattle.fb_schema.proofs.KindWords.{Kind, Shape, One, OfText, OfObject}
 use Rattle.fb_schema.proofs.{Numbers.both_true, DemandLaws.clear_line, FindLemmas.find_filter, UnionLemmas.not_none}
-use Rattle.fb_schema.proofs.LegalLemmas.{legal_clear}
-use Rattle.fb_schema.specs.Demands.{IsLegal, first_code, members_asked, member_demands, demands_of_member, demands_of_enum, is_for_member}
-use Rattle.fb_schema.specs.Kinds.{kind_of, shape_of, shape_kind, object_kind}
+use Rattle.fb_schema.proofs.{LegalLemmas.legal_clear, MemberLemmas.is_true_or_false}
+use Rattle.fb_schema.specs.Demands.{IsLegal, first_code, members_asked, member_demands, demands_of_member, is_for_member}
+use Rattle.fb_schema.specs.{Kinds.kind_of, Kinds.shape_of, Kinds.shape_kind, Rows.Rows, Rows.Member, Rows.Enum}
 use Rattle.fb_schema.specs.{Members.is_member_value, Members.member_of, Members.members_in, Targets.target_of, Targets.kind_to, Targets.kind_among}
-use Rattle.fb_schema.specs.Rows.{Rows, Object, Member, Enum, entry_at}
-use Rattle.fb_schema.proofs.MemberLemmas.{is_true_or_false}
 
 -- what is found passes the test and stands in the list
 found_with : {X : Type 0} (p : X → Bool) (P : X → Type 0) (xs : List X) → ((j : ℕ) (x : X) → slice_get xs j ≡ Some x → p x ≡ true → P x) → (m : X) → find p xs ≡ Some m → P m

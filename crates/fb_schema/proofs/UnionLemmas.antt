@@ -1,17 +1,14 @@
 -- The members of a union of legal rows.
-use Rattle.std.proofs.Common.{◌≡◌, ℕ, zero, suc, ◌<◌, ℤ, pos, Bool, true, false, ◌&&◌, List, [], ◌∷◌, length, get_or, slice_get, filter, map, Option, Some, None, IsTrue, refl, sym, ◌∙◌, ap, arith, find, if◌then◌else◌, int_cmp, int_eq, option_and_then, Equal}
-use Rattle.fb_schema.proofs.{Search.not_true, FindLemmas.find_filter, FindLemmas.found_item, LegalLemmas.legal_clear}
-use Rattle.fb_schema.proofs.{MemberLemmas.value_not_again, Numbers.slice_get_some, Numbers.both_true, Numbers.all_true}
-use Rattle.fb_schema.proofs.WalkLemmas.{mapped_at}
-use Rattle.std.proofs.lemmas.{Bool.Decides.nat_tests, List.length-map, List.get_or-map, Cmp.int_cmp_total}
+use Rattle.std.proofs.Common.{◌≡◌, ℕ, zero, suc, ◌<◌, ℤ, pos, Bool, true, false, ◌&&◌, List, [], ◌∷◌, slice_get, filter, map, Option, Some, None, IsTrue, refl, sym, ◌∙◌, ap, arith, find, if◌then◌else◌, int_cmp, int_eq, option_and_then}
+use Rattle.fb_schema.proofs.{Search.not_true, FindLemmas.find_filter, LegalLemmas.legal_clear}
+use Rattle.fb_schema.proofs.{MemberLemmas.value_not_again}
+use Rattle.fb_schema.proofs.{WalkLemmas.mapped_at, PlaceLemmas.place_find}
+use Rattle.std.proofs.lemmas.{Bool.Decides.nat_tests, Cmp.int_cmp_total}
 use Rattle.std.specs.Cmp.{Equal-is, signed_Decides}
 use Rattle.fb_schema.specs.declared.{flat.EnumPart.EnumPart, rows.MemberRow.MemberRow}
-use Rattle.fb_schema.specs.Demands.{IsLegal, first_code, members_asked, demands_of_enum}
+use Rattle.fb_schema.specs.{Demands.IsLegal, Demands.first_code, Demands.members_asked, FlatRows.enum_in, Sorting.IsPlaceOf}
 use Rattle.fb_schema.specs.{Kinds.kind_of, Members.is_member_value, Members.member_of, Members.members_in, Sorting.member_value, Flat.part}
-use Rattle.fb_schema.specs.FlatRows.{enum_in}
 use Rattle.fb_schema.specs.Rows.{Rows, Member, Enum, member_of_row, is_some_union}
-use Rattle.fb_schema.specs.Sorting.{IsPlaceOf}
-use Rattle.fb_schema.proofs.PlaceLemmas.{place_find}
 
 -- a union's row
 pub union_at : (all : List MemberRow) (enums : List EnumPart) (n : ℕ) → IsTrue (is_some_union (slice_get (map (enum_in all) enums) n)) → (row : EnumPart) × (slice_get enums n ≡ Some row) × (row.is_union ≡ true)

@@ -1,5 +1,5 @@
 -- The steps of the walk over the rows.
-use Rattle.std.proofs.Common.{◌≡◌, ℕ, ◌<◌, ◌≤◌, ℤ, inl, inr, Bool, false, not, ◌||◌, ◌==◌, ◌%◌, nat_lt, List, [], length, slice_get, map, Option, Some, None, refl, sym, ◌∙◌, ap, arith, Decides, option_map, Bor, nat_cmp, int_cmp, bytes_eq, Equal}
+use Rattle.std.proofs.Common.{◌≡◌, ℕ, ◌<◌, ◌≤◌, ℤ, inl, inr, Bool, List, [], length, slice_get, map, Option, Some, None, refl, sym, ◌∙◌, ap, arith, Decides, option_map, Bor, nat_cmp, int_cmp, bytes_eq, Equal}
 use Rattle.std.proofs.lemmas.{List.length-map, Option.slice_get-map, Slice.Eq.bytes_eq-Decides, Bool.Decides.Decides-eqb, Map.Lookups.exact_bytes}
 use Rattle.std.proofs.lemmas.Cmp.{nat_list_cmp_total, nat_cmp_total, tied_itself, on_total}
 use Rattle.std.specs.{Cmp.Equal-is, Cmp.IsTotalOrder, Cmp.Lexicographic.slice_cmp}

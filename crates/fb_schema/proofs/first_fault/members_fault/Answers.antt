@@ -4,8 +4,7 @@ use Rattle.fb_schema.specs.Sorting.{IsFirstAgain, member_cmp, member_value, memb
 use Rattle.fb_schema.specs.{FlatRows.borrowed_rows, Rows.member_of_row, Demands.first_code, Demands.members_asked}
 use Rattle.fb_schema.proofs.{Blank.blank_member, MemberLemmas.member_code}
 use Rattle.fb_schema.proofs.first_fault.members_fault.Goals as goal
-use Rattle.fb_schema.proofs.first_fault.members_fault.Goals.{After-member_fault}
-use Rattle.fb_schema.proofs.WalkLemmas.{past_list}
+use Rattle.fb_schema.proofs.{first_fault.members_fault.Goals.After-member_fault, WalkLemmas.past_list}
 use Rattle.fb_schema.specs.Demands.{demands_of_member}
 use Rattle.std.proofs.lemmas.List.{length-map}
 

@@ -5,8 +5,7 @@ use Rattle.fb_schema.specs.FlatRows.{borrowed_rows}
 use Rattle.fb_schema.proofs.Blank.{blank_object}
 use Rattle.fb_schema.proofs.OwnerLemmas.{refused_object, refused_field, clear_object, all_owners}
 use Rattle.fb_schema.proofs.legal.objects_legal.Goals as goal
-use Rattle.fb_schema.proofs.legal.objects_legal.Goals.{After-object_fault}
-use Rattle.fb_schema.proofs.DemandLaws.{owners_end}
+use Rattle.fb_schema.proofs.{legal.objects_legal.Goals.After-object_fault, DemandLaws.owners_end}
 
 -- the object that is gone through
 abbrev item : (g : _) → After-object_fault g → ObjectPart

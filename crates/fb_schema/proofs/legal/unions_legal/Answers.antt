@@ -3,8 +3,7 @@ use Rattle.std.proofs.lemmas.{List.length-map, Option.slice_get-get_or}
 use Rattle.fb_schema.specs.FlatRows.{borrowed_rows, enum_in}
 use Rattle.fb_schema.proofs.{Blank.blank_enum, OwnerLemmas.refused_member, OwnerLemmas.clear_enum, OwnerLemmas.all_owners, WalkLemmas.mapped_at}
 use Rattle.fb_schema.proofs.legal.unions_legal.Goals as goal
-use Rattle.fb_schema.proofs.legal.unions_legal.Goals.{After-union_fault}
-use Rattle.fb_schema.proofs.DemandLaws.{owners_end}
+use Rattle.fb_schema.proofs.{legal.unions_legal.Goals.After-union_fault, DemandLaws.owners_end}
 
 at_row : (g : _) (c : After-union_fault g) → slice_get (borrowed_rows c.args.rows.now).enums c.loop-n.n ≡ Some (enum_in c.args.rows.now.members.now (get_or c.args.rows.now.enums.now c.loop-n.n blank_enum))
 at_row g c = mapped_at (enum_in c.args.rows.now.members.now) c.args.rows.now.enums.now c.loop-n.n (get_or c.args.rows.now.enums.now c.loop-n.n blank_enum) (slice_get-get_or c.args.rows.now.enums.now c.loop-n.n blank_enum c.loop-n-test.true)

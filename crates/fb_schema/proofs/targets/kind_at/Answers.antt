@@ -6,8 +6,7 @@ use Rattle.fb_schema.specs.Targets.{kind_among, AreSorted}
 use Rattle.fb_schema.proofs.{Blank.blank_member, NextRequired.item_lent}
 use Rattle.fb_schema.proofs.UnionLemmas.{none_for_zero, value_place}
 use Rattle.fb_schema.proofs.targets.kind_at.Goals as goal
-use Rattle.fb_schema.proofs.targets.kind_at.Goals.{After-place_of}
-use Rattle.fb_schema.proofs.WalkLemmas.{mapped_at}
+use Rattle.fb_schema.proofs.{targets.kind_at.Goals.After-place_of, WalkLemmas.mapped_at}
 use Rattle.std.proofs.lemmas.Option.{slice_get-get_or}
 
 pub returns-then-value-eq0 : goal.returns-then-value-eq0

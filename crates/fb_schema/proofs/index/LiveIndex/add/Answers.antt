@@ -6,8 +6,7 @@ use Rattle.fb_schema.specs.Live.{live_in, live_of_view, by_slot, is_live, AreKin
 use Rattle.fb_schema.proofs.{Blank.blank_object, Kinded.rows_kinded, Kinded.live_long, TypedLemmas.rows_spaced}
 use Rattle.fb_schema.proofs.IndexLemmas.{matched_pushed, matched_step, lists_step, value_step, widest_step, kept_read, mapped_read, mapped_twice}
 use Rattle.fb_schema.proofs.index.LiveIndex.add.Goals as goal
-use Rattle.fb_schema.proofs.index.LiveIndex.add.Goals.{Start}
-use Rattle.fb_schema.proofs.LegalLemmas.{legal_slots}
+use Rattle.fb_schema.proofs.{index.LiveIndex.add.Goals.Start, LegalLemmas.legal_slots}
 
 -- the object with this number, as it is read there
 abbrev object_read : (g : _) → Start g → Object

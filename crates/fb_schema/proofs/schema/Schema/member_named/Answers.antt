@@ -8,8 +8,7 @@ use Rattle.fb_schema.specs.Rows.{Rows, Member, is_union, member_of_row}
 use Rattle.fb_schema.proofs.{Blank.blank_member, UnionLemmas.union_at, UnionLemmas.members_clear}
 use Rattle.fb_schema.proofs.MemberNames.{member_named_is, real_at, small_value, fits_small, name_place}
 use Rattle.fb_schema.proofs.schema.Schema.member_named.Goals as goal
-use Rattle.fb_schema.proofs.schema.Schema.member_named.Goals.{After-place_of}
-use Rattle.fb_schema.proofs.WalkLemmas.{mapped_at}
+use Rattle.fb_schema.proofs.{schema.Schema.member_named.Goals.After-place_of, WalkLemmas.mapped_at}
 use Rattle.std.proofs.lemmas.Option.{slice_get-get_or}
 
 union_row : (g : _) (c : After-place_of g) → (row : EnumPart) × (slice_get c.self.inside.rows.enums.items c.args.e ≡ Some row) × (row.is_union ≡ true)

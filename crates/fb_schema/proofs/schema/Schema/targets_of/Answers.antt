@@ -3,8 +3,7 @@ use Rattle.fb_schema.specs.{Members.member_of, FlatRows.flat_rows, Rows.Rows, Ro
 use Rattle.fb_schema.proofs.UnionLemmas.{union_at, member_of_row_is}
 use Rattle.fb_schema.proofs.schema.Schema.targets_of.Goals as goal
 use Rattle.std.proofs.lemmas.Option.{get_or_from_slice_get}
-use Rattle.fb_schema.specs.Targets.{target_at}
-use Rattle.fb_schema.specs.FlatLists.{lists_of}
+use Rattle.fb_schema.specs.{Targets.target_at, FlatLists.lists_of}
 
 pub returns : goal.returns
 returns g c = λ value lt.
