@@ -19,10 +19,6 @@ unfoldable pub first_below : {A : Type 0} → (ℕ → Option A) → ℕ → Opt
 first_below f zero = None
 first_below f (suc n) = or_at (first_below f n) n (f n)
 
-or_none : {A : Type 0} (x : Option (A × ℕ)) (n : ℕ) (found : Option A) → or_at x n found ≡ None → (x ≡ None) × (found ≡ None)
-unfolding or_at
-or_none x n found h = grind (arith, h)
-
 or_some : {A : Type 0} (x : Option (A × ℕ)) (n : ℕ) (found : Option A) (y : A × ℕ) → or_at x n found ≡ Some y → (x ≡ Some y) ⊎ ((x ≡ None) × (found ≡ Some y.0) × (n ≡ y.1))
 unfolding or_at
 or_some x n found y h = grind (arith, h)
@@ -30,11 +26,9 @@ or_some x n found y h = grind (arith, h)
 module _ {A : Type 0} (f : ℕ → Option A) where
   -- nothing is found below n
   pub none_below : (n : ℕ) → first_below f n ≡ None → (m : ℕ) → m < n → f m ≡ None
-  unfolding first_below
+  unfolding first_below or_at
   none_below zero h m lt = absurd (omega arith)
-  none_below (suc n) h m lt =
-      let both = or_none (first_below f n) n (f n) h in
-      elim (lt_or_eq m n (omega arith)) [ inl below ↦ none_below n both.0 m below | inr here ↦ subst (λ k. f k ≡ None) (sym here) both.1 ]
+  none_below (suc n) h m lt = grind (arith, h, none_below n)
 
   -- this is found, and nothing before it
   pub some_below : (n : ℕ) (y : A × ℕ) → first_below f n ≡ Some y → (f y.1 ≡ Some y.0) × ((m : ℕ) → m < y.1 → f m ≡ None)

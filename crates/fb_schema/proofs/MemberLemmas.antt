@@ -45,23 +45,14 @@ module _ (rows : Rows) (members : List MemberRow) where
   abbrev pub asked_at : ℕ → MemberRow → List Demand
   asked_at p row = member_demands rows (member_of_row row) (stands_before same_value (map member_of_row members) p (member_of_row row)) (stands_before same_member_name (map member_of_row members) p (member_of_row row))
 
-  pub member_at : (p : ℕ) (row : MemberRow) → slice_get members p ≡ Some row → members_asked rows (map member_of_row members) p ≡ asked_at p row
-  member_at p row at = ap (demands_of_member rows (map member_of_row members) p) (mapped_at member_of_row members p row at)
-
   pub clear_demands : (q : ℕ) (row : MemberRow) → slice_get members q ≡ Some row → first_code (members_asked rows (map member_of_row members) q) ≡ None → first_code (asked_at q row) ≡ None
-  clear_demands q row at clear = ap first_code (sym (member_at q row at)) ∙ clear
+  clear_demands q row at clear = rw (mapped_at member_of_row members q row at) at clear
 
-  not_taken_member : (q : ℕ) → first_code (members_asked rows (map member_of_row members) q) ≡ None → (row : MemberRow) → slice_get members q ≡ Some row → stands_before same_value (map member_of_row members) q (member_of_row row) ≡ true → ⊥
-  not_taken_member q clear row at old =
-      let line = clear_line (asked_at q row) (clear_demands q row at clear) 0 _ refl in grind (arith, line, old)
-
-  not_named_member : (q : ℕ) → first_code (members_asked rows (map member_of_row members) q) ≡ None → (row : MemberRow) → slice_get members q ≡ Some row → stands_before same_member_name (map member_of_row members) q (member_of_row row) ≡ true → ⊥
-  not_named_member q clear row at old =
-      let new = clear_line (asked_at q row) (clear_demands q row at clear) 1 _ refl in
-      let w : true ≡ false = sym old ∙ new in cc
+  not_taken_member : (q : ℕ) → first_code (members_asked rows (map member_of_row members) q) ≡ None → (row : MemberRow) → slice_get members q ≡ Some row → stands_before same_value (map member_of_row members) q (member_of_row row) ≡ false
+  not_taken_member q clear row at = let line = clear_line (asked_at q row) (clear_demands q row at clear) 0 _ refl in grind (arith, line)
 
   pub value_not_again : (q : ℕ) → first_code (members_asked rows (map member_of_row members) q) ≡ None → IsAgain int_cmp (map member_value members) q → ⊥
-  value_not_again q clear a = never_again int_cmp member_value member_of_row same_value values_agree members q a (λ row at. not_true _ (not_taken_member q clear row at))
+  value_not_again q clear a = never_again int_cmp member_value member_of_row same_value values_agree members q a (not_taken_member q clear)
 
   pub name_not_again : (q : ℕ) → first_code (members_asked rows (map member_of_row members) q) ≡ None → IsAgain member_cmp (map member_key members) q → ⊥
   name_not_again q clear a =
@@ -69,16 +60,11 @@ module _ (rows : Rows) (members : List MemberRow) where
       let row = here.0 in
       let same = test_from_again member_cmp member_key member_of_row same_key keys_agree members q row here.1 a in
       elim (is_true_or_false (int_eq row.value (pos 0))) [
-        | inl none ↦ not_taken_member q clear row here.1 (none_value (map member_of_row members) q (member_of_row row) none same)
-        | inr real ↦ not_named_member q clear row here.1 (sym (by_key (member_of_row row) (take q (map member_of_row members))) ∙ all_true _ _ (ap not real) same)
+        | inl none ↦ (let w : true ≡ false = sym (none_value (map member_of_row members) q (member_of_row row) none same) ∙ not_taken_member q clear row here.1 in cc)
+        | inr real ↦ (
+            let named = sym (by_key (member_of_row row) (take q (map member_of_row members))) ∙ all_true _ _ (ap not real) same in
+            let w : true ≡ false = sym named ∙ clear_line (asked_at q row) (clear_demands q row here.1 clear) 1 _ refl in cc)
       ]
-
-  name_test : (p : ℕ) (row : MemberRow) (again : Option ℕ) → slice_get members p ≡ Some row → IsFirstAgain member_cmp (map member_key members) again
-      → ((q : ℕ) → q < p → first_code (members_asked rows (map member_of_row members) q) ≡ None)
-      → (not (int_eq row.value (pos 0)) && is_at again p) ≡ stands_before same_member_name (map member_of_row members) p (member_of_row row)
-  name_test p row again at h clear =
-      ap (λ b. not (int_eq row.value (pos 0)) && b) (is_at_test member_cmp member_key member_of_row same_key keys_agree members p row at again h (λ q lt. name_not_again q (clear q lt)))
-      ∙ by_key (member_of_row row) (take p (map member_of_row members))
 
   -- what the walk computes at p is what is demanded there
   pub member_code : (p : ℕ) (row : MemberRow) (value_again name_again : Option ℕ) (taken named : Bool) → slice_get members p ≡ Some row
@@ -88,6 +74,7 @@ module _ (rows : Rows) (members : List MemberRow) where
       → first_code (member_demands rows (member_of_row row) taken named) ≡ first_code (members_asked rows (map member_of_row members) p)
   member_code p row value_again name_again taken named at h k clear t n =
       let same_taken = t ∙ is_at_test int_cmp member_value member_of_row same_value values_agree members p row at value_again h (λ q lt. value_not_again q (clear q lt)) in
-      let same_named = n ∙ name_test p row name_again at k clear in
-      let all : member_demands rows (member_of_row row) taken named ≡ asked_at p row = λ i. member_demands rows (member_of_row row) (same_taken i) (same_named i) in
-      ap first_code all ∙ ap first_code (sym (member_at p row at))
+      let same_named = n
+          ∙ ap (λ b. not (int_eq row.value (pos 0)) && b) (is_at_test member_cmp member_key member_of_row same_key keys_agree members p row at name_again k (λ q lt. name_not_again q (clear q lt)))
+          ∙ by_key (member_of_row row) (take p (map member_of_row members)) in
+      rw (mapped_at member_of_row members p row at) (λ i. first_code (member_demands rows (member_of_row row) (same_taken i) (same_named i)))

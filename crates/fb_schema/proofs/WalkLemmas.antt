@@ -48,21 +48,17 @@ past_list xs demands none n le h q = elim (le_or_lt (length xs) q) [
 
 -- Structs.
 module _ (rows : Rows) (bytesize : ℤ) (fields : List FieldRow) where
-  struct_at : (p : ℕ) (row : FieldRow) → slice_get fields p ≡ Some row
-      → struct_asked rows bytesize (map field_of fields) p ≡ struct_field_demands rows bytesize (field_of row) (stands_before same_field_name (map field_of fields) p (field_of row))
-  struct_at p row at = ap (demands_of_struct_field rows bytesize (map field_of fields) p) (mapped_at field_of fields p row at)
-
   not_again_struct : (q : ℕ) → first_code (struct_asked rows bytesize (map field_of fields) q) ≡ None → IsAgain name_cmp (map field_name fields) q → ⊥
   not_again_struct q clear a = never_again name_cmp field_name field_of same_field_name field_names_agree fields q a
-      (λ row at. clear_line (struct_field_demands rows bytesize (field_of row) _) (ap first_code (sym (struct_at q row at)) ∙ clear) 0 _ refl)
+      (λ row at. clear_line (struct_field_demands rows bytesize (field_of row) _) (rw (mapped_at field_of fields q row at) at clear) 0 _ refl)
 
   -- what the walk computes at p is what is demanded there
   pub struct_code : (p : ℕ) (row : FieldRow) (first : Option ℕ) (named : Bool) → slice_get fields p ≡ Some row → IsFirstAgain name_cmp (map field_name fields) first
       → ((q : ℕ) → q < p → first_code (struct_asked rows bytesize (map field_of fields) q) ≡ None) → named ≡ is_at first p
       → first_code (struct_field_demands rows bytesize (field_of row) named) ≡ first_code (struct_asked rows bytesize (map field_of fields) p)
   struct_code p row first named at h clear n =
-      ap (λ b. first_code (struct_field_demands rows bytesize (field_of row) b)) (n ∙ is_at_test name_cmp field_name field_of same_field_name field_names_agree fields p row at first h (λ q lt. not_again_struct q (clear q lt)))
-      ∙ ap first_code (sym (struct_at p row at))
+      rw (mapped_at field_of fields p row at)
+      (ap (λ b. first_code (struct_field_demands rows bytesize (field_of row) b)) (n ∙ is_at_test name_cmp field_name field_of same_field_name field_names_agree fields p row at first h (λ q lt. not_again_struct q (clear q lt))))
 
   -- past the last field nothing is demanded
   pub past_struct : (n : ℕ) → length fields ≤ n → ((q : ℕ) → q < n → first_code (struct_asked rows bytesize (map field_of fields) q) ≡ None) → (q : ℕ) → first_code (struct_asked rows bytesize (map field_of fields) q) ≡ None
@@ -70,19 +66,12 @@ module _ (rows : Rows) (bytesize : ℤ) (fields : List FieldRow) where
 
 -- Tables.
 module _ (rows : Rows) (fields : List FieldRow) where
-  abbrev table_asked_at : ℕ → FieldRow → List Demand
-  table_asked_at p row = table_field_demands rows (field_of row) (stands_before same_field_name (map field_of fields) p (field_of row)) (stands_before same_slot (map field_of fields) p (field_of row))
-      (stands_below ForUnion (map field_of fields) row.slot) (stands_below ForUnions (map field_of fields) row.slot)
-
-  table_at : (p : ℕ) (row : FieldRow) → slice_get fields p ≡ Some row → table_asked rows (map field_of fields) p ≡ table_asked_at p row
-  table_at p row at = ap (demands_of_table_field rows (map field_of fields) p) (mapped_at field_of fields p row at)
-
-  pub not_named_table : (q : ℕ) → first_code (table_asked rows (map field_of fields) q) ≡ None → IsAgain name_cmp (map field_name fields) q → ⊥
-  not_named_table q clear a = never_again name_cmp field_name field_of same_field_name field_names_agree fields q a (λ row at. clear_line (table_asked_at q row) (ap first_code (sym (table_at q row at)) ∙ clear) 0 _ refl)
+  not_named_table : (q : ℕ) → first_code (table_asked rows (map field_of fields) q) ≡ None → IsAgain name_cmp (map field_name fields) q → ⊥
+  not_named_table q clear a = never_again name_cmp field_name field_of same_field_name field_names_agree fields q a (λ row at. clear_line (table_field_demands rows (field_of row) _ _ _ _) (rw (mapped_at field_of fields q row at) at clear) 0 _ refl)
 
   not_taken_table : (q : ℕ) → first_code (table_asked rows (map field_of fields) q) ≡ None → IsAgain nat_cmp (map field_slot fields) q → ⊥
   not_taken_table q clear a = never_again nat_cmp field_slot field_of same_slot slots_agree fields q a
-      (λ row at. let line = clear_line (table_asked_at q row) (ap first_code (sym (table_at q row at)) ∙ clear) 1 _ refl in grind (arith, line))
+      (λ row at. let line = clear_line (table_field_demands rows (field_of row) _ _ _ _) (rw (mapped_at field_of fields q row at) at clear) 1 _ refl in grind (arith, line))
 
   -- what the walk computes at p is what is demanded there
   pub table_code : (p : ℕ) (row : FieldRow) (name_again slot_again : Option ℕ) (named taken byte vector : Bool) → slice_get fields p ≡ Some row
@@ -93,8 +82,7 @@ module _ (rows : Rows) (fields : List FieldRow) where
   table_code p row name_again slot_again named taken byte vector at h k clear n t b v =
       let same_named = n ∙ is_at_test name_cmp field_name field_of same_field_name field_names_agree fields p row at name_again h (λ q lt. not_named_table q (clear q lt)) in
       let same_taken = t ∙ is_at_test nat_cmp field_slot field_of same_slot slots_agree fields p row at slot_again k (λ q lt. not_taken_table q (clear q lt)) in
-      let all : table_field_demands rows (field_of row) named taken byte vector ≡ table_asked_at p row = λ i. table_field_demands rows (field_of row) (same_named i) (same_taken i) (b i) (v i) in
-      ap first_code all ∙ ap first_code (sym (table_at p row at))
+      rw (mapped_at field_of fields p row at) (λ i. first_code (table_field_demands rows (field_of row) (same_named i) (same_taken i) (b i) (v i)))
 
   -- past the last field nothing is demanded
   pub past_table : (n : ℕ) → length fields ≤ n → ((q : ℕ) → q < n → first_code (table_asked rows (map field_of fields) q) ≡ None) → (q : ℕ) → first_code (table_asked rows (map field_of fields) q) ≡ None
