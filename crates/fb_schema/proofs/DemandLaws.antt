@@ -55,18 +55,12 @@ first_illegal rows level n place code levels owners clear h =
       broken = l.1;
       owner = refl;
       part = refl;
-      first = λ k c before b. elim before [
-        | inl lower ↦ none_broken _ (levels.at k.level k.number k.place lower) k.line c b
-        | inr same ↦ (let at_level : IsBrokenIn (demands_at rows level k.number k.place) k.line c = subst (λ l. IsBrokenIn (demands_at rows l k.number k.place) k.line c) same.0 b in
-            elim same.1 [
-              | inl lower ↦ none_broken _ (owners.at k.number k.place lower) k.line c at_level
-              | inr owner ↦ (let at_n : IsBrokenIn (demands_at rows level n k.place) k.line c = subst (λ m. IsBrokenIn (demands_at rows level m k.place) k.line c) owner.0 at_level in
-                  elim owner.1 [
-                    | inl lower ↦ none_broken _ (clear.at k.place lower) k.line c at_n
-                    | inr there ↦ l.2 k.line c there.1 (subst (λ p. IsBrokenIn (demands_at rows level n p) k.line c) there.0 at_n)
-                  ])
-            ])
-      ];
+      first = λ k c before b. (
+          let lower_level : k.level < level → ⊥ = λ lt. none_broken _ (levels.at k.level k.number k.place lt) k.line c b in
+          let lower_owner : k.level ≡ level → k.number < n → ⊥ = λ e lt. none_broken _ (owners.at k.number k.place lt) k.line c (rw e at b) in
+          let lower_place : k.level ≡ level → k.number ≡ n → k.place < place → ⊥ = λ e f lt. none_broken _ (clear.at k.place lt) k.line c (rw (e, f) at b) in
+          let lower_line : k.level ≡ level → k.number ≡ n → k.place ≡ place → k.line < l.0 → ⊥ = λ e f g lt. l.2 k.line c lt (rw (e, f, g) at b) in
+          grind (arith, before, lower_level, lower_owner, lower_place, lower_line));
     }
 
 -- how many levels there are, how many owners a level has, and how many places an owner

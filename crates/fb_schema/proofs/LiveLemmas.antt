@@ -34,13 +34,11 @@ same_rising [] [] r s f g = refl
 same_rising [] (y ∷ ys) r s f g = absurd (let w = g y (contains_head y ys) in omega (arith, w.1))
 same_rising (x ∷ xs) [] r s f g = absurd (let w = f x (contains_head x xs) in omega (arith, w.1))
 same_rising (x ∷ xs) (y ∷ ys) r s f g =
-    let same : x ≡ y = elim (contains_cases y x ys (f x (contains_head x xs))) [
-      | inl e ↦ sym e
-      | inr there ↦ elim (contains_cases x y xs (g y (contains_head y ys))) [
-        | inl e ↦ e
-        | inr here ↦ absurd (let a = s.0 x there in let b = r.0 y here in omega arith)
-      ]
-    ] in
+    let x_at = contains_cases y x ys (f x (contains_head x xs)) in
+    let y_at = contains_cases x y xs (g y (contains_head y ys)) in
+    let above_y = s.0 x in
+    let above_x = r.0 y in
+    let same : x ≡ y = grind (arith, x_at, y_at, above_x, above_y) in
     λ i. same i ∷ same_rising xs ys r.1 s.1
     (λ z h. elim (contains_cases y z ys (f z (contains_tail x z xs h))) [ inl e ↦ absurd (let a = r.0 z h in let b = ap (λ (f : Field). f.slot) (same ∙ e) in omega arith) | inr t ↦ t ])
     (λ z h. elim (contains_cases x z xs (g z (contains_tail y z ys h))) [ inl e ↦ absurd (let a = s.0 z h in let b = ap (λ (f : Field). f.slot) (sym same ∙ e) in omega arith) | inr t ↦ t ]) i

@@ -29,11 +29,8 @@ module _ (places : List ℕ) (place n : ℕ) (long : length places ≡ n) where
   pub within_step : (old new : ℕ) → old ≤ new → place < new → ((k : ℕ) → get_or places k 0 < old) → (k : ℕ) → get_or (places ++ place ∷ []) k 0 < new
   within_step old new le lt h k = elim (grown places place k) [ inl e ↦ (let w = h k in omega arith) | inr here ↦ (let w = here.1 in omega arith) ]
 
-  pub behind_taken : (end : ℕ) → end ≤ n → ((k : ℕ) → end ≤ k → get_or places k 0 ≡ 0) → (k : ℕ) → n + 1 ≤ k → get_or (places ++ place ∷ []) k 0 ≡ 0
-  behind_taken end le h k low = elim (grown places place k) [ inl e ↦ e ∙ h k (omega arith) | inr here ↦ absurd (let w = here.0 in omega arith) ]
-
-  pub behind_none : (end : ℕ) → place ≡ 0 → ((k : ℕ) → end ≤ k → get_or places k 0 ≡ 0) → (k : ℕ) → end ≤ k → get_or (places ++ place ∷ []) k 0 ≡ 0
-  behind_none end z h k low = elim (grown places place k) [ inl e ↦ e ∙ h k low | inr here ↦ here.1 ∙ z ]
+  pub behind_step : (end next : ℕ) → end ≤ next → (next ≤ n → place ≡ 0) → ((k : ℕ) → end ≤ k → get_or places k 0 ≡ 0) → (k : ℕ) → next ≤ k → get_or (places ++ place ∷ []) k 0 ≡ 0
+  behind_step end next le none h k low = elim (grown places place k) [ inl e ↦ e ∙ h k (omega arith) | inr here ↦ here.1 ∙ none (let w = here.0 in omega arith) ]
 
   pub found_step : (old new : List Target) (wanted : ℕ → Target) → ((k : ℕ) → get_or places k 0 < length old)
       → ((k : ℕ) → k < length old → get_or new k nothing ≡ get_or old k nothing)
