@@ -122,24 +122,19 @@ is_legal rows clear = record { none = λ k c b. none_broken _ (clear k.level k.n
 pub no_levels : (rows : Rows) → AreLevelsClear rows 0
 no_levels rows = record { at = λ l m place lt. absurd (omega arith) }
 
--- Of two keys one is before the other, or they are the same.
-is_before_or_same : (a b : Key) → IsBefore a b ⊎ (IsBefore b a ⊎ (a ≡ b))
-is_before_or_same a b = grind arith
+-- two keys of which neither is before the other
+same_key : (a b : Key) → (IsBefore a b → ⊥) → (IsBefore b a → ⊥) → a ≡ b
+same_key a b h k = grind (arith, h, k)
 
 -- At most one fault is the first.
 pub one_first : (rows : Rows) (f g : SchemaFault) → IsFirstIllegal rows f → IsFirstIllegal rows g → f ≡ g
-one_first rows f g a b = elim (is_before_or_same a.key b.key) [
-  | inl before ↦ absurd (b.first a.key f.code before a.broken)
-  | inr other ↦ elim other [
-    | inl before ↦ absurd (a.first b.key g.code before b.broken)
-    | inr same ↦ (
-        let there : IsBroken rows b.key f.code = subst (λ (k : Key). IsBroken rows k f.code) same a.broken in
-        let code = ap (λ (d : Demand). d.code) (same_Some _ _ (sym there ∙ b.broken)) in
-        let owner : f.owner ≡ g.owner = a.owner ∙ ap (λ (k : Key). k.number) same ∙ sym b.owner in
-        let part : f.part ≡ g.part = a.part ∙ ap (λ (k : Key). part_of k.place) same ∙ sym b.part in
-        λ i. record { code = code i; owner = owner i; part = part i })
-  ]
-]
+one_first rows f g a b =
+    let same = same_key a.key b.key (λ before. b.first a.key f.code before a.broken) (λ before. a.first b.key g.code before b.broken) in
+    let there : IsBroken rows b.key f.code = subst (λ (k : Key). IsBroken rows k f.code) same a.broken in
+    let code = ap (λ (d : Demand). d.code) (same_Some _ _ (sym there ∙ b.broken)) in
+    let owner : f.owner ≡ g.owner = a.owner ∙ ap (λ (k : Key). k.number) same ∙ sym b.owner in
+    let part : f.part ≡ g.part = a.part ∙ ap (λ (k : Key). part_of k.place) same ∙ sym b.part in
+    λ i. record { code = code i; owner = owner i; part = part i }
 
 -- Of legal rows no fault is the first.
 pub no_first_if_legal : (rows : Rows) → IsLegal rows → (f : SchemaFault) → IsFirstIllegal rows f → ⊥

@@ -19,16 +19,13 @@ slice_get_end (z ∷ zs) x y (suc n) e = elim (slice_get_end zs x y n e) [ inl a
 pub matched_more : {X Y : Type 0} (R : X → Y → Type 0) (xs : List X) (ys : List Y) (x : X) (y : Y) → AreMatched R xs ys → R x y → AreMatched R (xs ++ x ∷ []) (ys ++ y ∷ [])
 matched_more R xs ys x y h r = record {
   long = omega (arith, length_push ys y, length_push xs x, h.long);
-  at = λ n a b e f. elim (slice_get_end xs x a n e) [
-    | inl old ↦ elim (slice_get_end ys y b n f) [
-      | inl there ↦ h.at n a b old there
-      | inr here ↦ absurd (let lt = slice_get_within xs n a old in let m = here.0 in let l = h.long in omega arith)
-    ]
-    | inr new ↦ elim (slice_get_end ys y b n f) [
-      | inl there ↦ absurd (let lt = slice_get_within ys n b there in let m = new.0 in let l = h.long in omega arith)
-      | inr here ↦ subst (λ z. R z b) new.1 (subst (R x) here.1 r)
-    ]
-  ];
+  at = λ n a b e f. (
+      let x_at = slice_get_end xs x a n e in
+      let y_at = slice_get_end ys y b n f in
+      let x_low = slice_get_within xs n a in
+      let y_low = slice_get_within ys n b in
+      let long = h.long in
+      grind (arith, x_at, y_at, x_low, y_low, h.at n a b, r));
 }
 
 pub matched_pushed : {X Y : Type 0} (R : X → Y → Type 0) (xs xs' : List X) (ys ys' : List Y) (x : X) (y : Y) → AreMatched R xs ys → xs' ≡ xs ++ x ∷ [] → ys' ≡ ys ++ y ∷ [] → R x y → AreMatched R xs' ys'

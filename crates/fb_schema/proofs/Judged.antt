@@ -63,24 +63,15 @@ first_fault rows = option_map fault_of (in_rows rows)
 module _ (rows : Rows) where
   owner_clear : (level n : ℕ) → in_owner rows level n ≡ None → (place : ℕ) → IsClear rows level n place
   unfolding in_owner
-  owner_clear level n h place = elim (le_or_lt (places_end rows level n) place) [
-    | inl past ↦ past_places rows level n place past
-    | inr lt ↦ none_below (λ p. first_code (demands_at rows level n p)) (places_end rows level n) h place lt
-  ]
+  owner_clear level n h place = grind (arith, past_places rows level n place, none_below (λ p. first_code (demands_at rows level n p)) (places_end rows level n) h place)
 
   level_clear : (level : ℕ) → in_level rows level ≡ None → (n place : ℕ) → IsClear rows level n place
   unfolding in_level
-  level_clear level h n place = elim (le_or_lt (owners_end rows level) n) [
-    | inl past ↦ past_owners rows level n place past
-    | inr lt ↦ owner_clear level n (none_below (in_owner rows level) (owners_end rows level) h n lt) place
-  ]
+  level_clear level h n place = grind (arith, past_owners rows level n place, owner_clear level n, none_below (in_owner rows level) (owners_end rows level) h n)
 
   all_clear : in_rows rows ≡ None → (level n place : ℕ) → IsClear rows level n place
   unfolding in_rows
-  all_clear h level n place = elim (le_or_lt levels_end level) [
-    | inl past ↦ past_levels rows level n place past
-    | inr lt ↦ level_clear level (none_below (in_level rows) levels_end h level lt) n place
-  ]
+  all_clear h level n place = grind (arith, past_levels rows level n place, level_clear level, none_below (in_level rows) levels_end h level)
 
   first_in : (x : ((Code × ℕ) × ℕ) × ℕ) → in_rows rows ≡ Some x → IsFirstIllegal rows (fault_of x)
   unfolding in_rows in_level in_owner
