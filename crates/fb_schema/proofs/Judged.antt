@@ -19,10 +19,6 @@ unfoldable pub first_below : {A : Type 0} → (ℕ → Option A) → ℕ → Opt
 first_below f zero = None
 first_below f (suc n) = or_at (first_below f n) n (f n)
 
-or_some : {A : Type 0} (x : Option (A × ℕ)) (n : ℕ) (found : Option A) (y : A × ℕ) → or_at x n found ≡ Some y → (x ≡ Some y) ⊎ ((x ≡ None) × (found ≡ Some y.0) × (n ≡ y.1))
-unfolding or_at
-or_some x n found y h = grind (arith, h)
-
 module _ {A : Type 0} (f : ℕ → Option A) where
   -- nothing is found below n
   pub none_below : (n : ℕ) → first_below f n ≡ None → (m : ℕ) → m < n → f m ≡ None
@@ -31,16 +27,13 @@ module _ {A : Type 0} (f : ℕ → Option A) where
   none_below (suc n) h m lt = grind (arith, h, none_below n)
 
   -- this is found, and nothing before it
-  pub some_below : (n : ℕ) (y : A × ℕ) → first_below f n ≡ Some y → (f y.1 ≡ Some y.0) × ((m : ℕ) → m < y.1 → f m ≡ None)
-  unfolding first_below
+  some_below : (n : ℕ) (y : A × ℕ) → first_below f n ≡ Some y → (f y.1 ≡ Some y.0) × ((m : ℕ) → m < y.1 → f m ≡ None)
+  unfolding first_below or_at
   some_below zero y h = absurd (cc)
-  some_below (suc n) y h = elim (or_some (first_below f n) n (f n) y h) [
-    | inl before ↦ some_below n y before
-    | inr here ↦ (
-      subst (λ k. f k ≡ Some y.0) here.2 here.1,
-      λ m lt. none_below n here.0 m (omega (arith, here.2)),
-    )
-  ]
+  some_below (suc n) y h =
+      let first = some_below n y in
+      let none = none_below n in
+      (grind (arith, h, first), λ m lt. grind (arith, h, first, none, lt))
 
 -- the first broken demand of an owner, of a level, and of all
 unfoldable pub in_owner : Rows → ℕ → ℕ → Option (Code × ℕ)

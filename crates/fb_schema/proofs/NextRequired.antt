@@ -37,10 +37,7 @@ module _ {X : Type 0} (v : X → Live) (xs : List X) (i : ℕ) (d : X) (lt : i <
 -- one place more is filled, below those that are
 pub filled_more : (fs : List Live) (places : List ℕ) (at n count next : ℕ) → n ≡ at + 1 → at < length places → next ≡ first_from fs at → ((k : ℕ) → n ≤ k → k < count → get_or places k 0 ≡ first_from fs k)
     → (k : ℕ) → at ≤ k → k < count → get_or (set places at next) k 0 ≡ first_from fs k
-filled_more fs places at n count next e lt is filled k le within = elim (lt_or_eq at k le) [
-  | inl above ↦ (let kept : get_or (set places at next) k 0 ≡ get_or places k 0 = grind (arith, common_steps) in kept ∙ filled k (omega arith) within)
-  | inr same ↦ subst (λ j. get_or (set places at next) j 0 ≡ first_from fs j) same (let put : get_or (set places at next) at 0 ≡ next = grind (arith, common_steps) in put ∙ is)
-]
+filled_more fs places at n count next e lt is filled k le within = grind (arith, common_steps, filled k, is)
 
 -- What is looked up.
 

@@ -13,10 +13,7 @@ pub search_missed : {K X : Type 0} (R : K → K → Ordering) (o : IsTotalOrder 
     → (k : ℕ) (d : X) → k < length xs → R (key (get_or xs k d)) x ≡ Equal → ⊥
 search_missed R o key xs x at up split k d lt tied =
     let s = split (searchable_from_sorted o key xs x up) in
-    elim (le_or_lt at k) [
-      | inl after ↦ (let w : Equal ≡ Greater = sym tied ∙ s.1 k d after lt in cc)
-      | inr before ↦ (let w : Equal ≡ Less = sym tied ∙ s.0 k d (omega arith) before in cc)
-    ]
+    grind (arith, s.0 k d, s.1 k d, tied)
 
 pub not_true : (b : Bool) → (b ≡ true → ⊥) → b ≡ false
 not_true b h = grind arith

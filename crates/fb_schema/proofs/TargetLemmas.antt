@@ -6,6 +6,7 @@ use Rattle.fb_schema.specs.declared.{flat.EnumPart.EnumPart, views.Target.Target
 use Rattle.fb_schema.specs.{Flat.part, Kinds.kind_of, Rows.Rows, Rows.Member, Rows.member_of_row}
 use Rattle.fb_schema.specs.Targets.{nothing, target_at, target_of, kind_among, AreTargets, HaveTargets}
 use Rattle.fb_schema.proofs.{IndexLemmas.slice_get_end, Numbers.lt_or_eq, UnionLemmas.none_for_zero}
+use Rattle.std.proofs.lemmas.List.{get_or_past}
 
 pub first_place : (places : List ℕ) → places ≡ 0 ∷ [] → (k : ℕ) → get_or places k 0 ≡ 0
 first_place places e zero = ap (λ ps. get_or ps 0 0) e
@@ -15,12 +16,12 @@ first_place places e (suc k) = ap (λ ps. get_or ps (suc k) 0) e
 pub zero_target : (rows : Rows) (members : List Member) → nothing ≡ target_of rows (kind_among rows members 0)
 zero_target rows members = sym (ap (target_of rows) (ap (option_and_then (λ (m : Member). kind_of rows m.ty)) (none_for_zero members)))
 
+put_last : {X : Type 0} (xs : List X) (x d : X) (n : ℕ) → n ≡ length xs → get_or (xs ++ x ∷ []) n d ≡ x
+put_last xs x d n e = ap (λ k. get_or (xs ++ x ∷ []) k d) e ∙ get_or-append_seam xs x [] d
+
 -- one place more
 pub grown : (places : List ℕ) (place k : ℕ) → (get_or (places ++ place ∷ []) k 0 ≡ get_or places k 0) ⊎ ((k ≡ length places) × (get_or (places ++ place ∷ []) k 0 ≡ place))
-grown [] place zero = inr (refl, refl)
-grown [] place (suc k) = inl refl
-grown (p ∷ ps) place zero = inl refl
-grown (p ∷ ps) place (suc k) = elim (grown ps place k) [ inl e ↦ inl e | inr h ↦ inr (ap suc h.0, h.1) ]
+grown places place k = grind (arith, length_push places place, get_or_append_left places (place ∷ []) 0 k, put_last places place 0 k, get_or_past places k 0, get_or_past (places ++ place ∷ []) k 0)
 
 module _ (places : List ℕ) (place n : ℕ) (long : length places ≡ n) where
   pub long_step : length (places ++ place ∷ []) ≡ n + 1
@@ -36,14 +37,7 @@ module _ (places : List ℕ) (place n : ℕ) (long : length places ≡ n) where
       → ((k : ℕ) → k < length old → get_or new k nothing ≡ get_or old k nothing)
       → ((k : ℕ) → k < n → target_at places old k ≡ wanted k) → get_or new place nothing ≡ wanted n
       → (k : ℕ) → k < n + 1 → target_at (places ++ place ∷ []) new k ≡ wanted k
-  found_step old new wanted within kept found here k lt = elim (lt_or_eq k n (omega arith)) [
-    | inl low ↦ ap (λ p. get_or new p nothing) (get_or_append_left places (place ∷ []) 0 k (omega (arith, low, long))) ∙ kept (get_or places k 0) (within k) ∙ found k low
-    | inr same ↦ subst (λ j. target_at (places ++ place ∷ []) new j ≡ wanted j) (long ∙ sym same)
-        (ap (λ p. get_or new p nothing) (get_or-append_seam places place [] 0) ∙ here ∙ ap wanted (sym long))
-  ]
-
-put_last : {X : Type 0} (xs : List X) (x d : X) (n : ℕ) → n ≡ length xs → get_or (xs ++ x ∷ []) n d ≡ x
-put_last xs x d n e = ap (λ k. get_or (xs ++ x ∷ []) k d) e ∙ get_or-append_seam xs x [] d
+  found_step old new wanted within kept found here k lt = grind (arith, get_or_append_left places (place ∷ []) 0 k, put_last places place 0 k, kept (get_or places k 0) (within k), found k, here)
 
 -- one enum more, with its places and targets
 have_more : (rows : Rows) (all : List MemberRow) (enums : List EnumPart) (places : List (List ℕ)) (targets : List (List Target)) (row : EnumPart) (ps : List ℕ) (ts : List Target) → HaveTargets rows all enums places targets
