@@ -9,9 +9,7 @@ use Rattle.fb_schema.proofs.Kept.{kept_fewer}
 
 -- what is made of the item that there may be at a place
 read_made : {X Y : Type 0} (g : Option X → Y) (xs : List X) (n : ℕ) (y : Y) → slice_get (map (λ x. g (Some x)) xs) n ≡ Some y → y ≡ g (slice_get xs n)
-read_made g [] n y e = absurd (let w : None ≡ Some y = e in cc)
-read_made g (x ∷ xs) zero y e = let w : g (Some x) ≡ y = cc in sym w
-read_made g (x ∷ xs) (suc n) y e = read_made g xs n y e
+read_made g xs n y e = grind (arith, slice_get-map (λ x. g (Some x)) xs n, e)
 
 pub live_read : (rows : Rows) (objects : List Object) (lists : List (List Live)) (n : ℕ) (y : List Live) → lists ≡ map (λ o. live_in rows (Some o)) objects → slice_get lists n ≡ Some y → y ≡ live_in rows (slice_get objects n)
 live_read rows objects lists n y e at = read_made (live_in rows) objects n y (ap (λ ls. slice_get ls n) (sym e) ∙ at)

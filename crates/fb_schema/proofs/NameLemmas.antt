@@ -25,10 +25,8 @@ live_names fields apart one i j d lt within e =
     let x_at : get_or fields a.0 d ≡ x = get_or_default fields a.0 d x a.1 ∙ a.2 in
     let y_at : get_or fields b.0 d ≡ y = get_or_default fields b.0 d y b.1 ∙ b.2 in
     let same : a.0 ≡ b.0 = one a.0 b.0 d a.1 b.1 (ap (λ (f : Field). f.name) x_at ∙ e ∙ ap (λ (f : Field). f.name) (sym y_at)) in
-    let one_field : x ≡ y = sym x_at ∙ ap (λ k. get_or fields k d) same ∙ y_at in
-    let slots = ap (λ (f : Field). f.slot) one_field in
     let up = rises_at live (sorted_rises (filter is_live fields) (filter_apart is_live fields apart)) i j x y (slice_get-get_or live i d (omega arith)) (slice_get-get_or live j d within) lt in
-    omega arith
+    grind (arith, same, x_at, y_at, up)
 
 named_alike : (rows : Rows) (live : List Field) (g : Field) (f : Live) (kind : Option Kind) → option_map (live_as rows live g) kind ≡ Some f → f.name ≡ g.name
 named_alike rows live g f kind e = grind (arith, e)

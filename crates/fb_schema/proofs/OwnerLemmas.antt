@@ -4,7 +4,7 @@ use Rattle.fb_schema.specs.declared.{fault.Code.Code, flat.ObjectPart.ObjectPart
 use Rattle.fb_schema.specs.Sorting.{IsAgain, IsFirstAgain, name_cmp, object_name}
 use Rattle.fb_schema.specs.{FlatRows.object_in, Rows.Rows, Rows.Enum}
 use Rattle.fb_schema.specs.Demands.{is_at, first_code, stands_before, same_object_name, object_demands, demands_of_object, demands_of_enum, demands_of_field, demands_of_union, demands_at, IsFirstOf, IsFirstIllegal, IsLegal, AreClear}
-use Rattle.fb_schema.proofs.DemandLaws.{IsClear, AreLevelsClear, AreClearBelow, clear_line, first_illegal, is_legal, no_levels, past_owners, owners_end}
+use Rattle.fb_schema.proofs.DemandLaws.{IsClear, AreLevelsClear, AreClearBelow, clear_line, first_illegal, is_legal, no_levels, past_owners, owners_end, levels_end, past_levels}
 use Rattle.fb_schema.proofs.{KeyLemmas.is_at_test, KeyLemmas.never_again, Numbers.le_or_lt, Numbers.lt_or_eq}
 use Rattle.fb_schema.proofs.WalkLemmas.{object_names_agree, mapped_at}
 
@@ -12,18 +12,12 @@ pub all_owners : (rows : Rows) (level n : ℕ) → owners_end rows level ≤ n �
 all_owners rows level n le clear = record { at = λ m place. elim (le_or_lt n m) [ inl past ↦ past_owners rows level m place (omega arith) | inr lt ↦ clear.at m place lt ] }
 
 pub both_levels : (rows : Rows) → AreClear rows 0 → AreClear rows 1 → IsLegal rows
-both_levels rows objects enums = is_legal rows clear where
-  clear : (level n place : ℕ) → IsClear rows level n place
-  clear zero n place = objects.at n place
-  clear (suc zero) n place = enums.at n place
-  clear (suc (suc level)) n place = refl
+unfolding levels_end
+both_levels rows objects enums = is_legal rows (λ level n place. grind (arith, objects.at n place, enums.at n place, past_levels rows level n place))
 
 -- a level below 1 is that of the objects
 objects_level : (rows : Rows) → AreClear rows 0 → AreLevelsClear rows 1
-objects_level rows objects = record { at = go } where
-  go : (l m place : ℕ) → l < 1 → IsClear rows l m place
-  go zero m place lt = objects.at m place
-  go (suc l) m place lt = absurd (omega arith)
+objects_level rows objects = record { at = λ l m place lt. (let w : l ≡ 0 = omega arith in rw w (objects.at m place)) }
 
 -- clear up to an owner, and that owner too
 pub one_more : (rows : Rows) (level n : ℕ) → AreClearBelow rows level n → ((place : ℕ) → IsClear rows level n place) → AreClearBelow rows level (n + 1)

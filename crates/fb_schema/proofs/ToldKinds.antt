@@ -11,10 +11,7 @@ use Rattle.fb_schema.specs.{Members.is_member_value, Members.member_of, Members.
 -- what is found passes the test and stands in the list
 found_with : {X : Type 0} (p : X → Bool) (P : X → Type 0) (xs : List X) → ((j : ℕ) (x : X) → slice_get xs j ≡ Some x → p x ≡ true → P x) → (m : X) → find p xs ≡ Some m → P m
 found_with p P [] h m e = absurd (let w : None ≡ Some m = e in cc)
-found_with p P (x ∷ xs) h m e = go (found_with p P xs (λ j y a t. h (suc j) y a t) m) (p x) refl e where
-  go : (find p xs ≡ Some m → P m) → (b : Bool) → p x ≡ b → cond b (Some x) (find p xs) ≡ Some m → P m
-  go later true t e = subst P (same_Some x m e) (h 0 x refl t)
-  go later false t e = later e
+found_with p P (x ∷ xs) h m e = grind (arith, e, h 0 x, found_with p P xs (λ j. h (suc j)) m)
 
 shape_told : (rows : Rows) (index : ℤ) (s : Option Shape) → is_for_member s ≡ true → kind_to (target_of rows (shape_kind rows index s)) ≡ shape_kind rows index s
 shape_told rows index None h = refl
