@@ -5,7 +5,7 @@ use Rattle.std.proofs.lemmas.{Option.slice_get-get_or, Option.slice_get_within}
 use Rattle.std.proofs.lemmas.Grind.{take_at_read}
 use Rattle.fb_schema.specs.declared.{rows.FieldRow.FieldRow}
 use Rattle.fb_schema.specs.Live.{Live, AreSpaced, live_rows, widest_of}
-use Rattle.fb_schema.specs.{Matched.AreMatched, Steps.act_of, Steps.is_plain_act, Steps.are_plain}
+use Rattle.fb_schema.specs.{Index.AreMatched, Steps.act_of, Steps.is_plain_act, Steps.are_plain}
 use Rattle.fb_schema.specs.Rows.{Object, field_of}
 use Rattle.fb_schema.proofs.{Numbers.get_or_default, WalkLemmas.mapped_at}
 

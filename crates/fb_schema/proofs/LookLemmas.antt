@@ -45,12 +45,6 @@ unfolding widest
 few_read rows seen most n e few same h = let w = ap widest same in omega arith
 
 -- The entry that an index names, of rows as they are kept.
-entry_kept : {X Y : Type 0} (f : X → Y) (xs : List X) (index : ℤ) → option_map f (entry_at xs index) ≡ entry_at (map f xs) index
-entry_kept f xs (pos k) = sym (slice_get-map f xs k)
-entry_kept f xs (negsuc k) = refl
-
-found_kept : {X Y : Type 0} (f : X → Y) (found : Option (Bor X)) → option_map (λ x. f x.now) found ≡ option_map f (option_map (λ x. x.now) found)
-found_kept f found = grind arith
-
 pub entry_found : {X Y : Type 0} (f : X → Y) (xs : List X) (index : ℤ) (found : Option (Bor X)) → option_map (λ x. x.now) found ≡ entry_at xs index → option_map (λ x. f x.now) found ≡ entry_at (map f xs) index
-entry_found f xs index found e = found_kept f found ∙ ap (option_map f) e ∙ entry_kept f xs index
+entry_found f xs (pos k) found e = grind (arith, slice_get-map f xs k, e)
+entry_found f xs (negsuc k) found e = grind (arith, e)

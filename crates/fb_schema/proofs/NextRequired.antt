@@ -4,7 +4,7 @@ use Rattle.std.specs.{List.position_or_len, Slice.IsItemAt}
 use Rattle.std.proofs.Math.Seq.{drop-length}
 use Rattle.std.proofs.lemmas.{Bool.Decides.nat_tests, Option.slice_get-get_or, Option.slice_get_within, Option.get_or_from_slice_get}
 use Rattle.std.proofs.lemmas.{List.at_drop_more, List.length-map, List.get_or-map, Grind.common_steps}
-use Rattle.fb_schema.specs.{Index.AreNextRequired, Matched.AreMatched}
+use Rattle.fb_schema.specs.{Index.AreNextRequired, Index.AreMatched}
 use Rattle.fb_schema.specs.Live.{Live, live_in, live_fields, next_required_of}
 use Rattle.fb_schema.specs.Rows.{Rows, Object, is_table, is_some_table}
 use Rattle.fb_schema.proofs.Numbers.{lt_or_eq}

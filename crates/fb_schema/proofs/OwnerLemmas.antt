@@ -19,6 +19,11 @@ both_levels rows objects enums = is_legal rows (λ level n place. grind (arith, 
 objects_level : (rows : Rows) → AreClear rows 0 → AreLevelsClear rows 1
 objects_level rows objects = record { at = λ l m place lt. (let w : l ≡ 0 = omega arith in rw w (objects.at m place)) }
 
+-- an owner's head has place 0, and its items the places after it
+by_place : (P : ℕ → Type 0) → P 0 → ((p : ℕ) → P (suc p)) → (q : ℕ) → P q
+by_place P head item zero = head
+by_place P head item (suc p) = item p
+
 -- clear up to an owner, and that owner too
 pub one_more : (rows : Rows) (level n : ℕ) → AreClearBelow rows level n → ((place : ℕ) → IsClear rows level n place) → AreClearBelow rows level (n + 1)
 one_more rows level n clear here = record { at = λ m place lt. elim (lt_or_eq m n (omega arith)) [ inl l ↦ clear.at m place l | inr e ↦ subst (λ m. IsClear rows level m place) (sym e) (here place) ] }
@@ -49,16 +54,10 @@ module _ (rows : Rows) (fields : List FieldRow) (objects : List ObjectPart) (sam
   field_at p = ap (λ x. first_code (demands_of_object rows n (suc p) x)) (object_at rows fields objects same n row at)
 
   pub refused_field : (named : Bool) → named ≡ is_at again n → None ≡ first_code (object_demands (object_in fields row) named) → (code : Code) (p : ℕ) → IsFirstOf (demands_of_field rows (object_in fields row)) (Some (code, p)) → IsFirstIllegal rows (record { code = code; owner = n; part = Some p })
-  refused_field named e none code p r = first_illegal rows 0 n (suc p) code (no_levels rows) clear (record { at = below }) (field_at p ∙ r.0) where
-    below : (q : ℕ) → q < suc p → IsClear rows 0 n q
-    below zero lt = sym (head_code named e) ∙ sym none
-    below (suc q) lt = field_at q ∙ r.1 q (omega arith)
+  refused_field named e none code p r = first_illegal rows 0 n (suc p) code (no_levels rows) clear (record { at = by_place (λ q. q < suc p → IsClear rows 0 n q) (λ lt. sym (head_code named e) ∙ sym none) (λ q lt. field_at q ∙ r.1 q (omega arith)) }) (field_at p ∙ r.0)
 
   pub clear_object : (named : Bool) → named ≡ is_at again n → None ≡ first_code (object_demands (object_in fields row) named) → IsFirstOf (demands_of_field rows (object_in fields row)) None → AreClearBelow rows 0 (n + 1)
-  clear_object named e none r = one_more rows 0 n clear here where
-    here : (place : ℕ) → IsClear rows 0 n place
-    here zero = sym (head_code named e) ∙ sym none
-    here (suc p) = field_at p ∙ r p
+  clear_object named e none r = one_more rows 0 n clear (by_place (IsClear rows 0 n) (sym (head_code named e) ∙ sym none) (λ p. field_at p ∙ r p))
 
 -- Enums: the one at n.
 module _ (rows : Rows) (objects : AreClear rows 0) (n : ℕ) (e : Enum) (at : slice_get rows.enums n ≡ Some e) (clear : AreClearBelow rows 1 n) where
@@ -69,16 +68,10 @@ module _ (rows : Rows) (objects : AreClear rows 0) (n : ℕ) (e : Enum) (at : sl
   member_at p = ap (λ x. first_code (demands_of_enum rows (suc p) x)) at
 
   pub refused_member : (code : Code) (p : ℕ) → IsFirstOf (demands_of_union rows e) (Some (code, p)) → IsFirstIllegal rows (record { code = code; owner = n; part = Some p })
-  refused_member code p r = first_illegal rows 1 n (suc p) code (objects_level rows objects) clear (record { at = below }) (member_at p ∙ r.0) where
-    below : (q : ℕ) → q < suc p → IsClear rows 1 n q
-    below zero lt = head_clear
-    below (suc q) lt = member_at q ∙ r.1 q (omega arith)
+  refused_member code p r = first_illegal rows 1 n (suc p) code (objects_level rows objects) clear (record { at = by_place (λ q. q < suc p → IsClear rows 1 n q) (λ lt. head_clear) (λ q lt. member_at q ∙ r.1 q (omega arith)) }) (member_at p ∙ r.0)
 
   pub clear_enum : IsFirstOf (demands_of_union rows e) None → AreClearBelow rows 1 (n + 1)
-  clear_enum r = one_more rows 1 n clear here where
-    here : (place : ℕ) → IsClear rows 1 n place
-    here zero = head_clear
-    here (suc p) = member_at p ∙ r p
+  clear_enum r = one_more rows 1 n clear (by_place (IsClear rows 1 n) head_clear (λ p. member_at p ∙ r p))
 
 pub legal_if : (rows : Rows) {X E : Type 0} (r : Result X E) → AreClear rows 0 → OnOk r (AreClear rows 1) → OnOk r (IsLegal rows)
 legal_if rows (Ok x) objects enums = both_levels rows objects enums
