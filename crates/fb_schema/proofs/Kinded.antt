@@ -99,8 +99,7 @@ row_of rows legal k i f e = go (slice_get rows.objects k) refl e where
   go (Some o) at e = option_and_then_some (live_of rows (live_rows o)) (slice_get (live_rows o) i) f (sym (live_at rows legal k o at i) ∙ e) (λ g here. kinded o g (row_in rows k i o g at here))
 
 kind_sized : (rows : Rows) (live : List Field) (g : Field) (f : Live) (kind : Option Kind) → option_map (live_as rows live g) kind ≡ Some f → IsSized rows f
-kind_sized rows live g f None e = absurd (let w : None ≡ Some f = e in cc)
-kind_sized rows live g f (Some kind) e = let w : live_as rows live g kind ≡ f = cc in subst (IsSized rows) w (record { size = refl; align = refl })
+kind_sized rows live g f kind e = record { size = grind (arith, e); align = grind (arith, e) }
 
 -- a live field of any rows has its kind's size and alignment
 pub field_sized : (rows : Rows) (k i : ℕ) (f : Live) → slice_get (live_fields rows k) i ≡ Some f → IsSized rows f

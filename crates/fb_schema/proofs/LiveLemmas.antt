@@ -145,10 +145,9 @@ module _ (fields old new : List FieldRow) (apart : AreApart (map field_of fields
         at = λ i j d lt within.
             let le = up i j d (omega arith) within in
             let low : i < length new = omega arith in
-            elim (lt_or_eq (get_or new i d).slot (get_or new j d).slot le) [
-              | inl less ↦ less
-              | inr e ↦ absurd (let w : i ≡ j = a.at i j (field_of d) (rw length-map low) (rw length-map within) (ap (λ (f : Field). f.slot) (get_or-map field_of new i d (field_of d) low) ∙ e ∙ sym (ap (λ (f : Field). f.slot) (get_or-map field_of new j d (field_of d) within))) in omega arith)
-            ];
+            let at = λ (k : ℕ) (below : k < length new). ap (λ (f : Field). f.slot) (get_or-map field_of new k d (field_of d) below) in
+            let once = λ (e : (get_or new i d).slot ≡ (get_or new j d).slot). a.at i j (field_of d) (rw length-map low) (rw length-map within) (at i low ∙ e ∙ sym (at j within)) in
+            grind (arith, le, once, lt);
       }
 
 -- The field in the slot two below.

@@ -54,15 +54,12 @@ next_is : (fs : List Live) (i : ℕ) → i < length fs → next_required_of fs i
 next_is fs i lt = grind (arith, nat_tests, length-drop i fs)
 
 module _ (fs : List Live) (places : List ℕ) (i : ℕ) (all : AreNextRequired fs places) (place : ℕ) (at : slice_get places i ≡ Some place) where
-  place_is : (i < length fs) × (place ≡ first_from fs i)
-  place_is =
-      let lt = slice_get_within places i place at in
-      let got : place ≡ get_or places i 0 = sym (get_or_from_slice_get places i place 0 at) in
-      let here : i < length fs = omega (arith, all.long) in
-      (here, got ∙ all.at i here)
-
   is_next : next_required_of fs i ≡ cond (nat_lt place (length places)) (Some place) None
-  is_next = next_is fs i place_is.0 ∙ ap (λ n. cond (nat_lt n (length fs)) (Some n) None) (sym place_is.1) ∙ ap (λ n. cond (nat_lt place n) (Some place) None) (sym all.long)
+  is_next =
+      let lt = slice_get_within places i place at in
+      let got = get_or_from_slice_get places i place 0 at in
+      let long = all.long in
+      grind (arith, next_is fs i, all.at i, got)
 
   pub next_found : place < length places → Some place ≡ next_required_of fs i
   next_found lt = let e : nat_lt place (length places) ≡ true = grind (arith, nat_tests) in sym (is_next ∙ ap (λ b. cond b (Some place) None) e)
