@@ -45,14 +45,9 @@ module _ {X Y K : Type 0} (R : K → K → Ordering) (key : X → K) (f : X → 
       let long = length-take-le p xs (let w = within in omega arith) in
       let lower : k < p = omega (arith, a.2) in
       let here : get_or xs k a.1 ≡ a.1 = sym (get_or-take p xs k a.1 lower) ∙ a.3 in
-      let alike = (agrees a.1 x).0 a.4 in
-      record {
-        earlier = k;
-        before = lower;
-        within = rw length-map within;
-        alike = λ d. ap (λ z. R z (get_or (map key xs) p d)) (get_or-map key xs k a.1 d (let w = within in omega arith) ∙ ap key here)
-            ∙ ap (R (key a.1)) (get_or-map key xs p x d within ∙ ap key (get_or_from_slice_get xs p x x at)) ∙ alike;
-      }
+      again_at R (map key xs) k p (key x) lower (rw length-map within)
+      (ap (λ z. R z (get_or (map key xs) p (key x))) (get_or-map key xs k a.1 (key x) (let w = within in omega arith) ∙ ap key here)
+      ∙ ap (R (key a.1)) (get_or-map key xs p x (key x) within ∙ ap key (get_or_from_slice_get xs p x x at)) ∙ (agrees a.1 x).0 a.4)
 
   pub test_from_again : IsAgain R (map key xs) p → stands_before same (map f xs) p (f x) ≡ true
   test_from_again a =

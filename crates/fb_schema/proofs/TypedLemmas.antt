@@ -123,9 +123,8 @@ spaced_from low (x ∷ xs) even r all zero f e = let h = (all f (contains_at (x 
 spaced_from low (x ∷ xs) even r all (suc i) f e =
     let here = all x (0, omega arith, refl) in
     let a = here.0 in
-    let b = here.1 in
     let later = spaced_from (x.slot + 2) xs (omega (arith, a)) r.1 (λ g c. let there = all g (suc c.0, omega (arith, c.1), c.2) in let p = there.0 in let lt = r.0 g c in (p, omega (arith, p, lt, a))) i f e in
-    omega (arith, later, b)
+    omega (arith, here.1, later)
 
 -- the slots of a legal table's live fields rise by two at least
 pub rows_spaced : (rows : Rows) → IsLegal rows → (k : ℕ) (o : Object) → slice_get rows.objects k ≡ Some o → AreSpaced (live_rows o)
