@@ -1,5 +1,5 @@
 -- The live fields of legal rows have a kind.
-use Rattle.std.proofs.Common.{◌≡◌, ℕ, ℤ, pos, negsuc, true, false, not, ◌&&◌, List, slice_get, Option, Some, None, is_none, length, option_map, option_and_then, is_some, refl, sym, ◌∙◌, ap, subst, arith, IsSome}
+use Rattle.std.proofs.Common.{◌≡◌, ℕ, ℤ, pos, negsuc, true, false, not, ◌&&◌, List, slice_get, Option, Some, None, is_none, length, option_map, option_and_then, is_some, refl, sym, ◌∙◌, ap, arith, IsSome}
 use Rattle.fb_schema.specs.Demands.{IsLegal, table_field_demands, is_supported, is_object, is_union_shape, names_no_object, names_no_union}
 use Rattle.fb_schema.specs.Kinds.{kind_of, shape_of, shape_kind, object_kind, union_kind}
 use Rattle.fb_schema.specs.Live.{Live, live_rows, live_as, live_of, live_in, live_fields, AreKinded}

@@ -10,7 +10,7 @@ use Rattle.std.specs.Ordering.{nat_cmp, is_lt, ordering_index}
 use Rattle.fb_schema.specs.declared.rows.FieldRow.{FieldRow}
 use Rattle.fb_schema.specs.Rows.{Field, field_of}
 use Rattle.fb_schema.specs.Live.{insert_by_slot, by_slot, is_live, AreApart, AreRising}
-use Rattle.fb_schema.proofs.{Numbers.lt_or_eq, Numbers.slice_get_some, Numbers.neither_below, Blank.blank_field, OrderLemmas.once_permuted}
+use Rattle.fb_schema.proofs.{Numbers.slice_get_some, Numbers.neither_below, Blank.blank_field, OrderLemmas.once_permuted}
 use Rattle.fb_schema.proofs.{PositionLemmas.found_position, PositionLemmas.no_position, Search.nat_tied, Search.search_missed, Search.not_true}
 
 contains_cases : {X : Type 0} (y z : X) (ys : List X) → Contains (y ∷ ys) z → (y ≡ z) ⊎ Contains ys z

@@ -1,6 +1,6 @@
 -- The steps of the walk over the members of a union.
 use Rattle.std.proofs.Common.{◌≡◌, ℕ, ◌<◌, pos, ◌⊎◌, inl, inr, Bool, true, false, not, ◌&&◌, List, [], ◌∷◌, slice_get, take, map, Option, Some, None, refl, sym, ◌∙◌, ap, Decides, arith, bytes_eq, Ordering, Equal, ◌||◌}
-use Rattle.fb_schema.proofs.{Search.not_true, DemandLaws.clear_line, KeyLemmas.test_from_again, KeyLemmas.is_at_test, KeyLemmas.never_again}
+use Rattle.fb_schema.proofs.{DemandLaws.clear_line, KeyLemmas.test_from_again, KeyLemmas.is_at_test, KeyLemmas.never_again}
 use Rattle.fb_schema.proofs.{Numbers.slice_get_some, Numbers.all_true, WalkLemmas.names_agree, WalkLemmas.mapped_at, WalkLemmas.values_agree}
 use Rattle.std.proofs.lemmas.{List.length-map}
 use Rattle.std.specs.{Cmp.signed_Decides, List.list_any}
@@ -8,7 +8,7 @@ use Rattle.std.specs.Ordering.{int_cmp, bool_cmp, int_eq, is_eq, ordering_then}
 use Rattle.fb_schema.specs.declared.rows.MemberRow.{MemberRow}
 use Rattle.fb_schema.specs.Sorting.{IsAgain, IsFirstAgain, name_cmp, member_cmp, member_value, member_key}
 use Rattle.fb_schema.specs.Rows.{Rows, Member, member_of_row}
-use Rattle.fb_schema.specs.Demands.{is_at, first_code, stands_before, same_value, same_member_name, Demand, member_demands, members_asked, demands_of_member}
+use Rattle.fb_schema.specs.Demands.{is_at, first_code, stands_before, same_value, same_member_name, Demand, member_demands, members_asked}
 use Rattle.std.proofs.lemmas.List.Folds.{Any-from_list_any, list_any-from_Any}
 
 -- both rows stand for the union without a value, or neither does, and they have one name
@@ -75,6 +75,6 @@ module _ (rows : Rows) (members : List MemberRow) where
   member_code p row value_again name_again taken named at h k clear t n =
       let same_taken = t ∙ is_at_test int_cmp member_value member_of_row same_value values_agree members p row at value_again h (λ q lt. value_not_again q (clear q lt)) in
       let same_named = n
-          ∙ ap (λ b. not (int_eq row.value (pos 0)) && b) (is_at_test member_cmp member_key member_of_row same_key keys_agree members p row at name_again k (λ q lt. name_not_again q (clear q lt)))
-          ∙ by_key (member_of_row row) (take p (map member_of_row members)) in
+      ∙ ap (λ b. not (int_eq row.value (pos 0)) && b) (is_at_test member_cmp member_key member_of_row same_key keys_agree members p row at name_again k (λ q lt. name_not_again q (clear q lt)))
+      ∙ by_key (member_of_row row) (take p (map member_of_row members)) in
       rw (mapped_at member_of_row members p row at) (λ i. first_code (member_demands rows (member_of_row row) (same_taken i) (same_named i)))

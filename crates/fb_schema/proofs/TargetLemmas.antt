@@ -1,11 +1,11 @@
 -- The targets of a union are found by the values that its members have.
-use Rattle.std.proofs.Common.{◌≡◌, ℕ, zero, suc, ◌+◌, ◌<◌, ◌≤◌, ◌⊎◌, inl, inr, List, [], ◌∷◌, ◌++◌, length, get_or, take, map, true, refl, sym, subst, ◌∙◌, ap, arith, option_and_then}
+use Rattle.std.proofs.Common.{◌≡◌, ℕ, zero, suc, ◌+◌, ◌<◌, ◌≤◌, ◌⊎◌, inl, inr, List, [], ◌∷◌, ◌++◌, length, get_or, take, map, true, sym, subst, ◌∙◌, ap, arith, option_and_then}
 use Rattle.std.proofs.lemmas.{Option.slice_get_within, List.get_or_append_left, List.length_push, Grind.take_at_read}
 use Rattle.std.proofs.Math.Seq.{get_or-append_seam}
 use Rattle.fb_schema.specs.declared.{flat.EnumPart.EnumPart, views.Target.Target, rows.MemberRow.MemberRow}
 use Rattle.fb_schema.specs.{Flat.part, Kinds.kind_of, Rows.Rows, Rows.Member, Rows.member_of_row}
 use Rattle.fb_schema.specs.Targets.{nothing, target_at, target_of, kind_among, AreTargets, HaveTargets}
-use Rattle.fb_schema.proofs.{IndexLemmas.slice_get_end, Numbers.lt_or_eq, UnionLemmas.none_for_zero}
+use Rattle.fb_schema.proofs.{IndexLemmas.slice_get_end, UnionLemmas.none_for_zero}
 use Rattle.std.proofs.lemmas.List.{get_or_past}
 
 pub first_place : (places : List ℕ) → places ≡ 0 ∷ [] → (k : ℕ) → get_or places k 0 ≡ 0

@@ -1,6 +1,5 @@
 -- The kind of a union's member is told from where it leads.
-use Rattle.std.proofs.Common.{◌≡◌, ℕ, suc, ℤ, pos, negsuc, Bool, true, false, ◌&&◌, cond, List, [], ◌∷◌, slice_get, filter, Option, Some, None, refl, sym, ◌∙◌, ap, subst, find, arith, option_and_then, int_eq, inl, inr}
-use Rattle.std.proofs.lemmas.Option.{same_Some}
+use Rattle.std.proofs.Common.{◌≡◌, ℕ, suc, ℤ, pos, negsuc, Bool, true, false, ◌&&◌, List, [], ◌∷◌, slice_get, filter, Option, Some, None, refl, sym, ◌∙◌, ap, find, arith, option_and_then, int_eq, inl, inr}
 use Rattle.fb_schema.proofs.KindWords.{Kind, Shape, One, OfText, OfObject}
 use Rattle.fb_schema.proofs.{Numbers.both_true, DemandLaws.clear_line, FindLemmas.find_filter, UnionLemmas.not_none}
 use Rattle.fb_schema.proofs.{LegalLemmas.legal_clear, MemberLemmas.is_true_or_false}

@@ -1,5 +1,5 @@
 -- The steps of the walk over the rows.
-use Rattle.std.proofs.Common.{◌≡◌, ℕ, ◌<◌, ◌≤◌, ℤ, inl, inr, Bool, List, [], length, slice_get, map, Option, Some, None, refl, sym, ◌∙◌, ap, arith, Decides, option_map, Bor, nat_cmp, int_cmp, bytes_eq, Equal}
+use Rattle.std.proofs.Common.{◌≡◌, ℕ, ◌<◌, ◌≤◌, ℤ, inl, inr, Bool, List, [], length, slice_get, map, Option, Some, None, refl, ◌∙◌, ap, arith, Decides, option_map, Bor, nat_cmp, int_cmp, bytes_eq, Equal}
 use Rattle.std.proofs.lemmas.{List.length-map, Option.slice_get-map, Slice.Eq.bytes_eq-Decides, Bool.Decides.Decides-eqb, Map.Lookups.exact_bytes}
 use Rattle.std.proofs.lemmas.Cmp.{nat_list_cmp_total, nat_cmp_total, tied_itself, on_total}
 use Rattle.std.specs.{Cmp.Equal-is, Cmp.IsTotalOrder, Cmp.Lexicographic.slice_cmp}
@@ -7,7 +7,7 @@ use Rattle.fb_schema.specs.declared.{flat.ObjectPart.ObjectPart, rows.FieldRow.F
 use Rattle.fb_schema.specs.declared.kinds.TypeField.TheVariants.{ForUnion, ForUnions}
 use Rattle.fb_schema.specs.Sorting.{IsAgain, IsFirstAgain, name_cmp, object_name, field_name, field_slot, member_value}
 use Rattle.fb_schema.specs.{Rows.Rows, Rows.field_of, Rows.member_of_row, FlatRows.object_in}
-use Rattle.fb_schema.specs.Demands.{Demand, is_at, first_code, stands_before, same_object_name, same_field_name, same_slot, same_value, struct_field_demands, struct_asked, demands_of_struct_field, Demand, table_field_demands, table_asked, demands_of_table_field, stands_below}
+use Rattle.fb_schema.specs.Demands.{Demand, is_at, first_code, same_object_name, same_field_name, same_slot, same_value, struct_field_demands, struct_asked, demands_of_struct_field, Demand, table_field_demands, table_asked, demands_of_table_field, stands_below}
 use Rattle.fb_schema.proofs.{DemandLaws.clear_line, KeyLemmas.is_at_test, KeyLemmas.never_again, Numbers.slice_get_past, Numbers.le_or_lt}
 use Rattle.fb_schema.proofs.Search.{nat_tied}
 

@@ -1,4 +1,4 @@
-use Rattle.std.proofs.Common.{◌≡◌, ◌+◌, ◌≤◌, ◌<◌, ◌∷◌, [], ℕ, map, length, get_or, ap, subst, sym, ◌∙◌, arith, ◌++◌}
+use Rattle.std.proofs.Common.{◌≡◌, ◌+◌, ◌≤◌, ◌<◌, ◌∷◌, [], map, length, get_or, ap, subst, sym, ◌∙◌, arith, ◌++◌}
 use Rattle.fb_schema.specs.{FlatRows.borrowed_rows, Rows.member_of_row}
 use Rattle.fb_schema.specs.Targets.{nothing, target_at, target_of, kind_among}
 use Rattle.fb_schema.proofs.TargetLemmas.{first_place, zero_target, long_step, within_step, behind_step, found_step}
