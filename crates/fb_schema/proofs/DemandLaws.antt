@@ -1,28 +1,23 @@
 -- The laws of the first illegal demand.
-use Rattle.std.proofs.Common.{◌≡◌, ℕ, zero, suc, ℤ, ◌<◌, ◌≤◌, ◌⊎◌, inl, inr, Bool, true, false, List, [], ◌∷◌, length, slice_get, Option, Some, None, refl, sym, ◌∙◌, ap, subst, arith, if◌then◌else◌}
+use Rattle.std.proofs.Common.{◌≡◌, ℕ, zero, suc, ◌<◌, ◌≤◌, ◌⊎◌, inl, inr, Bool, true, false, List, [], ◌∷◌, length, slice_get, Option, Some, None, refl, sym, ◌∙◌, ap, subst, arith, if◌then◌else◌}
 use Rattle.fb_schema.specs.declared.{fault.Code.Code, fault.SchemaFault.SchemaFault}
-use Rattle.fb_schema.specs.Rows.{Field, Object, Enum, Rows}
-use Rattle.fb_schema.specs.Demands.{Demand, Key, IsBefore, IsBroken, IsLegal, IsFirstIllegal, demands_at, demands_of_object, demands_of_struct_field, demands_of_table_field, demands_of_enum, demands_of_member, first_code, part_of}
+use Rattle.fb_schema.specs.Rows.{Object, Enum, Rows}
+use Rattle.fb_schema.specs.Demands.{Demand, Key, IsBefore, IsBroken, IsLegal, IsFirstIllegal, demands_at, demands_of_object, demands_of_enum, first_code, part_of}
 use Rattle.fb_schema.proofs.Numbers.{slice_get_past}
+use Rattle.std.proofs.lemmas.Option.{same_Some}
 
 -- a broken demand of a list
 abbrev pub IsBrokenIn : List Demand → ℕ → Code → Type 0
 IsBrokenIn ds line code = slice_get ds line ≡ Some (record { code = code; broken = true })
 
-pub passed_over : (b : Bool) (c : Code) (rest : Option Code) → (if b then Some c else rest) ≡ None → (b ≡ false) × (rest ≡ None)
-passed_over b c rest e = grind arith
-
 found_here : (b : Bool) (c code : Code) (rest : Option Code) → (if b then Some c else rest) ≡ Some code → ((b ≡ true) × (c ≡ code)) ⊎ ((b ≡ false) × (rest ≡ Some code))
 found_here b c code rest e = grind arith
-
-is_broken : (d : Demand) (code : Code) → Some d ≡ Some (record { code = code; broken = true }) → d.broken ≡ true
-is_broken d code e = let w : d ≡ (record { code = code; broken = true }) = cc in ap (λ (d : Demand). d.broken) w
 
 -- where no demand of a list is broken, the one at this line isn't
 pub clear_line : (ds : List Demand) → first_code ds ≡ None → (line : ℕ) (d : Demand) → slice_get ds line ≡ Some d → d.broken ≡ false
 clear_line [] h line d e = absurd (cc)
-clear_line (x ∷ ds) h zero d e = let same : x ≡ d = cc in ap (λ (d : Demand). d.broken) (sym same) ∙ (passed_over x.broken x.code (first_code ds) h).0
-clear_line (x ∷ ds) h (suc line) d e = clear_line ds (passed_over x.broken x.code (first_code ds) h).1 line d e
+clear_line (x ∷ ds) h zero d e = grind (arith, h, e)
+clear_line (x ∷ ds) h (suc line) d e = clear_line ds (grind (arith, h)) line d e
 
 pub none_broken : (ds : List Demand) → first_code ds ≡ None → (line : ℕ) (code : Code) → IsBrokenIn ds line code → ⊥
 none_broken ds h line code b = let w : true ≡ false = clear_line ds h line (record { code = code; broken = true }) b in cc
@@ -35,7 +30,7 @@ first_line (d ∷ ds) code h = elim (found_here d.broken d.code code (first_code
   | inr e ↦ (let later = first_line ds code e.1 in (suc later.0, later.1, first_before d ds e.0 later.0 later.2))
 ] where
   first_before : (d : Demand) (ds : List Demand) → d.broken ≡ false → (line : ℕ) → ((m : ℕ) (c : Code) → m < line → IsBrokenIn ds m c → ⊥) → (m : ℕ) (c : Code) → m < suc line → IsBrokenIn (d ∷ ds) m c → ⊥
-  first_before d ds whole line none zero c lt b = let q = is_broken d c b in let w : true ≡ false = sym q ∙ whole in cc
+  first_before d ds whole line none zero c lt b = let q = ap (λ (d : Demand). d.broken) (same_Some d _ b) in let w : true ≡ false = sym q ∙ whole in cc
   first_before d ds whole line none (suc m) c lt b = none m c (omega arith) b
 
 -- no demand is broken at this place of this owner
@@ -60,18 +55,12 @@ first_illegal rows level n place code levels owners clear h =
       broken = l.1;
       owner = refl;
       part = refl;
-      first = λ k c before b. elim before [
-        | inl lower ↦ none_broken _ (levels.at k.level k.number k.place lower) k.line c b
-        | inr same ↦ (let at_level : IsBrokenIn (demands_at rows level k.number k.place) k.line c = subst (λ l. IsBrokenIn (demands_at rows l k.number k.place) k.line c) same.0 b in
-            elim same.1 [
-              | inl lower ↦ none_broken _ (owners.at k.number k.place lower) k.line c at_level
-              | inr owner ↦ (let at_n : IsBrokenIn (demands_at rows level n k.place) k.line c = subst (λ m. IsBrokenIn (demands_at rows level m k.place) k.line c) owner.0 at_level in
-                  elim owner.1 [
-                    | inl lower ↦ none_broken _ (clear.at k.place lower) k.line c at_n
-                    | inr there ↦ l.2 k.line c there.1 (subst (λ p. IsBrokenIn (demands_at rows level n p) k.line c) there.0 at_n)
-                  ])
-            ])
-      ];
+      first = λ k c before b. (
+          let lower_level : k.level < level → ⊥ = λ lt. none_broken _ (levels.at k.level k.number k.place lt) k.line c b in
+          let lower_owner : k.level ≡ level → k.number < n → ⊥ = λ e lt. none_broken _ (owners.at k.number k.place lt) k.line c (rw e at b) in
+          let lower_place : k.level ≡ level → k.number ≡ n → k.place < place → ⊥ = λ e f lt. none_broken _ (clear.at k.place lt) k.line c (rw (e, f) at b) in
+          let lower_line : k.level ≡ level → k.number ≡ n → k.place ≡ place → k.line < l.0 → ⊥ = λ e f g lt. l.2 k.line c lt (rw (e, f, g) at b) in
+          grind (arith, before, lower_level, lower_owner, lower_place, lower_line));
     }
 
 -- how many levels there are, how many owners a level has, and how many places an owner
@@ -100,36 +89,26 @@ past_levels rows zero n place h = absurd (omega arith)
 past_levels rows (suc zero) n place h = absurd (omega arith)
 past_levels rows (suc (suc level)) n place h = refl
 
-pub past_objects : (rows : Rows) (n place : ℕ) → length rows.objects ≤ n → IsClear rows 0 n place
-past_objects rows n place h = ap (λ o. first_code (demands_of_object rows n place o)) (slice_get_past rows.objects n h)
-
-pub past_enums : (rows : Rows) (n place : ℕ) → length rows.enums ≤ n → IsClear rows 1 n place
-past_enums rows n place h = ap (λ e. first_code (demands_of_enum rows place e)) (slice_get_past rows.enums n h)
-
 pub past_owners : (rows : Rows) (level n place : ℕ) → owners_end rows level ≤ n → IsClear rows level n place
 unfolding owners_end
-past_owners rows zero n place h = past_objects rows n place h
-past_owners rows (suc zero) n place h = past_enums rows n place h
+past_owners rows zero n place h = ap (λ o. first_code (demands_of_object rows n place o)) (slice_get_past rows.objects n h)
+past_owners rows (suc zero) n place h = ap (λ e. first_code (demands_of_enum rows place e)) (slice_get_past rows.enums n h)
 past_owners rows (suc (suc level)) n place h = refl
 
-past_list : (rows : Rows) (b : Bool) (bytesize : ℤ) (fields : List Field) (p : ℕ) → length fields ≤ p → first_code (if b then demands_of_struct_field rows bytesize fields p (slice_get fields p) else demands_of_table_field rows fields p (slice_get fields p)) ≡ None
-past_list rows true bytesize fields p h = ap (λ f. first_code (demands_of_struct_field rows bytesize fields p f)) (slice_get_past fields p h)
-past_list rows false bytesize fields p h = ap (λ f. first_code (demands_of_table_field rows fields p f)) (slice_get_past fields p h)
+nothing_asked : (b : Bool) → first_code (if b then [] else []) ≡ None
+nothing_asked b = grind arith
 
 past_fields : (rows : Rows) (n place : ℕ) (o : Option Object) → object_end o ≤ place → first_code (demands_of_object rows n place o) ≡ None
 unfolding object_end
 past_fields rows n place None h = refl
 past_fields rows n zero (Some o) h = absurd (omega arith)
-past_fields rows n (suc p) (Some o) h = past_list rows o.is_struct o.bytesize o.fields p (omega arith)
-
-pub nothing_asked : (b : Bool) (ds : List Demand) → first_code ds ≡ None → first_code (if b then ds else []) ≡ None
-nothing_asked b ds h = grind arith
+past_fields rows n (suc p) (Some o) h = rw (slice_get_past o.fields p (omega arith)) (nothing_asked o.is_struct)
 
 past_members : (rows : Rows) (place : ℕ) (e : Option Enum) → enum_end e ≤ place → first_code (demands_of_enum rows place e) ≡ None
 unfolding enum_end
 past_members rows place None h = refl
 past_members rows zero (Some e) h = refl
-past_members rows (suc p) (Some e) h = nothing_asked e.is_union _ (ap (λ m. first_code (demands_of_member rows e.members p m)) (slice_get_past e.members p (omega arith)))
+past_members rows (suc p) (Some e) h = rw (slice_get_past e.members p (omega arith)) (nothing_asked e.is_union)
 
 pub past_places : (rows : Rows) (level n place : ℕ) → places_end rows level n ≤ place → IsClear rows level n place
 unfolding places_end
@@ -143,27 +122,19 @@ is_legal rows clear = record { none = λ k c b. none_broken _ (clear k.level k.n
 pub no_levels : (rows : Rows) → AreLevelsClear rows 0
 no_levels rows = record { at = λ l m place lt. absurd (omega arith) }
 
--- Of two keys one is before the other, or they are the same.
-is_before_or_same : (a b : Key) → IsBefore a b ⊎ (IsBefore b a ⊎ (a ≡ b))
-is_before_or_same a b = grind arith
-
-same_code : (c d : Code) → ◌≡◌ {A = Option Demand} (Some (record { code = c; broken = true })) (Some (record { code = d; broken = true })) → c ≡ d
-same_code c d e = let w : ◌≡◌ {A = Demand} (record { code = c; broken = true }) (record { code = d; broken = true }) = cc in ap (λ (d : Demand). d.code) w
+-- two keys of which neither is before the other
+same_key : (a b : Key) → (IsBefore a b → ⊥) → (IsBefore b a → ⊥) → a ≡ b
+same_key a b h k = grind (arith, h, k)
 
 -- At most one fault is the first.
 pub one_first : (rows : Rows) (f g : SchemaFault) → IsFirstIllegal rows f → IsFirstIllegal rows g → f ≡ g
-one_first rows f g a b = elim (is_before_or_same a.key b.key) [
-  | inl before ↦ absurd (b.first a.key f.code before a.broken)
-  | inr other ↦ elim other [
-    | inl before ↦ absurd (a.first b.key g.code before b.broken)
-    | inr same ↦ (
-        let there : IsBroken rows b.key f.code = subst (λ (k : Key). IsBroken rows k f.code) same a.broken in
-        let code = same_code f.code g.code (sym there ∙ b.broken) in
-        let owner : f.owner ≡ g.owner = a.owner ∙ ap (λ (k : Key). k.number) same ∙ sym b.owner in
-        let part : f.part ≡ g.part = a.part ∙ ap (λ (k : Key). part_of k.place) same ∙ sym b.part in
-        λ i. record { code = code i; owner = owner i; part = part i })
-  ]
-]
+one_first rows f g a b =
+    let same = same_key a.key b.key (λ before. b.first a.key f.code before a.broken) (λ before. a.first b.key g.code before b.broken) in
+    let there : IsBroken rows b.key f.code = subst (λ (k : Key). IsBroken rows k f.code) same a.broken in
+    let code = ap (λ (d : Demand). d.code) (same_Some _ _ (sym there ∙ b.broken)) in
+    let owner : f.owner ≡ g.owner = a.owner ∙ ap (λ (k : Key). k.number) same ∙ sym b.owner in
+    let part : f.part ≡ g.part = a.part ∙ ap (λ (k : Key). part_of k.place) same ∙ sym b.part in
+    λ i. record { code = code i; owner = owner i; part = part i }
 
 -- Of legal rows no fault is the first.
 pub no_first_if_legal : (rows : Rows) → IsLegal rows → (f : SchemaFault) → IsFirstIllegal rows f → ⊥

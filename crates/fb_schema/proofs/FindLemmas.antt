@@ -1,25 +1,19 @@
 -- The one item of a list that passes a test.
-use Rattle.std.proofs.Common.{◌≡◌, ℕ, zero, suc, ◌<◌, Bool, true, false, ◌&&◌, List, [], ◌∷◌, length, get_or, filter, Option, Some, None, refl, ◌∙◌, arith, cond, find}
-use Rattle.fb_schema.proofs.Search.{not_true}
+use Rattle.std.proofs.Common.{◌≡◌, ℕ, ◌<◌, Bool, true, ◌&&◌, List, [], ◌∷◌, length, get_or, filter, Some, None, refl, ◌∙◌, arith, cond, find, option_and_then, slice_get, position, ap, nat_lt, ◌≤◌}
+use Rattle.std.proofs.lemmas.{List.Folds.find_at, Option.slice_get_past, Option.slice_get-get_or, Bool.Decides.nat_tests}
+use Rattle.std.specs.List.{position_or_len}
+use Rattle.fb_schema.proofs.PositionLemmas.{found_position}
 
 -- to look among those that pass one test is to ask both
 pub find_filter : {X : Type 0} (p q : X → Bool) (xs : List X) → find p (filter q xs) ≡ find (λ y. q y && p y) xs
 find_filter p q [] = refl
 find_filter p q (x ∷ xs) = grind (arith, find_filter p q xs)
 
-found_head : {X : Type 0} (b : Bool) (x : X) (rest : Option X) → b ≡ true → cond b (Some x) rest ≡ Some x
-found_head b x rest e = grind arith
-
-found_later : {X : Type 0} (b : Bool) (x : X) (rest : Option X) → b ≡ false → cond b (Some x) rest ≡ rest
-found_later b x rest e = grind arith
+-- what is found stands at its position
+pub find_by_position : {X : Type 0} (p : X → Bool) (xs : List X) → find p xs ≡ option_and_then (slice_get xs) (position p xs)
+find_by_position p xs = find_at p xs ∙ go (position_or_len p xs) (slice_get_past xs (position_or_len p xs)) where
+  go : (i : ℕ) → (length xs ≤ i → slice_get xs i ≡ None) → slice_get xs i ≡ option_and_then (slice_get xs) (cond (nat_lt i (length xs)) (Some i) None)
+  go i past = grind (arith, nat_tests, past)
 
 pub found_item : {X : Type 0} (p : X → Bool) (xs : List X) (k : ℕ) (d : X) → k < length xs → p (get_or xs k d) ≡ true → ((j : ℕ) → j < length xs → p (get_or xs j d) ≡ true → j ≡ k) → find p xs ≡ Some (get_or xs k d)
-found_item p [] k d lt e only = absurd (omega arith)
-found_item p (x ∷ xs) zero d lt e only = found_head (p x) x (find p xs) e
-found_item p (x ∷ xs) (suc k) d lt e only =
-    found_later (p x) x (find p xs) (not_true (p x) (λ h. let w : 0 ≡ suc k = only 0 (omega arith) h in omega arith))
-    ∙ found_item p xs k d (omega arith) e (λ j l h. let w : suc j ≡ suc k = only (suc j) (omega arith) h in omega arith)
-
-pub no_item : {X : Type 0} (p : X → Bool) (xs : List X) → ((j : ℕ) (d : X) → j < length xs → p (get_or xs j d) ≡ true → ⊥) → find p xs ≡ None
-no_item p [] never = refl
-no_item p (x ∷ xs) never = found_later (p x) x (find p xs) (not_true (p x) (never 0 x (omega arith))) ∙ no_item p xs (λ j d lt e. never (suc j) d (omega arith) e)
+found_item p xs k d lt e only = find_by_position p xs ∙ ap (option_and_then (slice_get xs)) (found_position p xs k d lt e only) ∙ slice_get-get_or xs k d lt

@@ -1,39 +1,13 @@
 -- The steps by which the index of a schema is made.
-use Rattle.std.proofs.Common.{◌≡◌, ℕ, zero, suc, ◌+◌, ◌<◌, ◌≤◌, ◌⊎◌, inl, inr, Bool, true, false, not, ◌||◌, ◌&&◌, ◌==◌, ◌%◌, nat_lt, List, [], ◌∷◌, ◌++◌, length, get_or, slice_get, take, map, max, Some, None, refl, sym, ◌∙◌, ap, subst, arith, if◌then◌else◌}
-use Rattle.std.proofs.lemmas.List.{map-append, get_or-take, get_or-map, length-take-le, length_push, map_more}
-use Rattle.std.proofs.lemmas.{List.Folds.list_any-from_Any, Option.slice_get-get_or, Option.slice_get_within, Bool.Decides.Decides-eqb}
+use Rattle.std.proofs.Common.{◌≡◌, ℕ, zero, suc, ◌+◌, ◌<◌, ◌≤◌, ◌⊎◌, inl, inr, Bool, false, List, [], ◌∷◌, ◌++◌, length, get_or, slice_get, take, map, max, Some, None, refl, sym, ◌∙◌, ap, subst, arith, if◌then◌else◌}
+use Rattle.std.proofs.lemmas.List.{map-append, get_or-map, length_push, map_more}
+use Rattle.std.proofs.lemmas.{Option.slice_get-get_or, Option.slice_get_within}
 use Rattle.std.proofs.lemmas.Grind.{take_at_read}
-use Rattle.fb_schema.specs.declared.{fault.Code.TheVariants.BadSlot, rows.FieldRow.FieldRow}
-use Rattle.fb_schema.specs.Demands.{Demand, IsLegal, demands_of_object, demands_of_table_field, demands_of_struct_field, stands_before, same_slot}
-use Rattle.fb_schema.specs.Live.{Live, AreApart, AreSpaced, live_rows, widest_of}
-use Rattle.fb_schema.specs.{Matched.AreMatched, Steps.act_of, Steps.is_plain_act, Steps.are_plain}
-use Rattle.fb_schema.specs.Rows.{Rows, Field, Object, field_of}
-use Rattle.fb_schema.proofs.{Numbers.get_or_default, Numbers.neither_below, WalkLemmas.mapped_at}
-
--- In a legal table no slot stands twice.
-or_true : (a b c : Bool) → c ≡ true → (a || b || c) ≡ true
-or_true a b c e = grind arith
-
-pub table_list : (b : Bool) (some other : List Demand) → b ≡ false → (if b then some else other) ≡ other
-table_list b some other e = grind arith
-
-no_slot_again : (rows : Rows) (n : ℕ) (o : Object) → IsLegal rows → slice_get rows.objects n ≡ Some o → o.is_struct ≡ false → (i j : ℕ) (d : Field) → i < j → j < length o.fields → (get_or o.fields i d).slot ≡ (get_or o.fields j d).slot → ⊥
-no_slot_again rows n o legal at table i j d lt within e =
-    let f = get_or o.fields j d in
-    let g = get_or o.fields i d in
-    let short = length-take-le j o.fields (omega arith) in
-    let taken : stands_before same_slot o.fields j f ≡ true =
-    list_any-from_Any (λ x. same_slot x f) (take j o.fields) (i, g, omega arith, get_or-take j o.fields i g lt ∙ get_or_default o.fields i g d (omega arith), (Decides-eqb g.slot f.slot).1 e) in
-    legal.none (record { level = 0; number = n; place = suc j; line = 1 }) BadSlot
-    (ap (λ x. slice_get (demands_of_object rows n (suc j) x) 1) at
-    ∙ ap (λ ds. slice_get ds 1) (table_list o.is_struct (demands_of_struct_field rows o.bytesize o.fields j (slice_get o.fields j)) (demands_of_table_field rows o.fields j (slice_get o.fields j)) table)
-    ∙ ap (λ x. slice_get (demands_of_table_field rows o.fields j x) 1) (slice_get-get_or o.fields j d within)
-    ∙ ap (λ b. Some (record { code = BadSlot; broken = b })) (or_true (not (f.slot % 2 == 0)) (nat_lt f.slot 4) (stands_before same_slot o.fields j f) taken))
-
-pub legal_slots : (rows : Rows) (n : ℕ) (o : Object) → IsLegal rows → slice_get rows.objects n ≡ Some o → o.is_struct ≡ false → AreApart o.fields
-legal_slots rows n o legal at table = record {
-  at = λ i j d a b e. neither_below i j (λ lt. no_slot_again rows n o legal at table i j d lt b e) (λ lt. no_slot_again rows n o legal at table j i d lt a (sym e));
-}
+use Rattle.fb_schema.specs.declared.{rows.FieldRow.FieldRow}
+use Rattle.fb_schema.specs.Live.{Live, AreSpaced, live_rows, widest_of}
+use Rattle.fb_schema.specs.{Index.AreMatched, Steps.act_of, Steps.is_plain_act, Steps.are_plain}
+use Rattle.fb_schema.specs.Rows.{Object, field_of}
+use Rattle.fb_schema.proofs.{Numbers.get_or_default, WalkLemmas.mapped_at}
 
 -- Matched lists grow together.
 pub slice_get_end : {X : Type 0} (xs : List X) (x y : X) (n : ℕ) → slice_get (xs ++ x ∷ []) n ≡ Some y → (slice_get xs n ≡ Some y) ⊎ ((n ≡ length xs) × (x ≡ y))
@@ -45,16 +19,13 @@ slice_get_end (z ∷ zs) x y (suc n) e = elim (slice_get_end zs x y n e) [ inl a
 pub matched_more : {X Y : Type 0} (R : X → Y → Type 0) (xs : List X) (ys : List Y) (x : X) (y : Y) → AreMatched R xs ys → R x y → AreMatched R (xs ++ x ∷ []) (ys ++ y ∷ [])
 matched_more R xs ys x y h r = record {
   long = omega (arith, length_push ys y, length_push xs x, h.long);
-  at = λ n a b e f. elim (slice_get_end xs x a n e) [
-    | inl old ↦ elim (slice_get_end ys y b n f) [
-      | inl there ↦ h.at n a b old there
-      | inr here ↦ absurd (let lt = slice_get_within xs n a old in let m = here.0 in let l = h.long in omega arith)
-    ]
-    | inr new ↦ elim (slice_get_end ys y b n f) [
-      | inl there ↦ absurd (let lt = slice_get_within ys n b there in let m = new.0 in let l = h.long in omega arith)
-      | inr here ↦ subst (λ z. R z b) new.1 (subst (R x) here.1 r)
-    ]
-  ];
+  at = λ n a b e f. (
+      let x_at = slice_get_end xs x a n e in
+      let y_at = slice_get_end ys y b n f in
+      let x_low = slice_get_within xs n a in
+      let y_low = slice_get_within ys n b in
+      let long = h.long in
+      grind (arith, x_at, y_at, x_low, y_low, h.at n a b, r));
 }
 
 pub matched_pushed : {X Y : Type 0} (R : X → Y → Type 0) (xs xs' : List X) (ys ys' : List Y) (x : X) (y : Y) → AreMatched R xs ys → xs' ≡ xs ++ x ∷ [] → ys' ≡ ys ++ y ∷ [] → R x y → AreMatched R xs' ys'
@@ -63,9 +34,7 @@ matched_pushed R xs xs' ys ys' x y h e f r = subst (λ zs. AreMatched R zs ys') 
 -- a step of the loops over owners
 pub matched_step : {X Y : Type 0} (R : X → Y → Type 0) (xs : List X) (i : ℕ) (x : X) (old new : List Y) (y : Y) → i < length xs → x ≡ get_or xs i x → AreMatched R (take i xs) old → new ≡ old ++ y ∷ [] → R x y → AreMatched R (take (i + 1) xs) new
 matched_step R xs i x old new y lt is h e r =
-    let grown = matched_more R (take i xs) old x y h r in
-    let more : take i xs ++ x ∷ [] ≡ take (i + 1) xs = ap (λ z. take i xs ++ z ∷ []) is ∙ sym (take_at_read xs i x lt).1 in
-    subst (λ zs. AreMatched R zs new) more (subst (AreMatched R (take i xs ++ x ∷ [])) (sym e) grown)
+    matched_pushed R (take i xs) (take (i + 1) xs) old new x y h ((take_at_read xs i x lt).1 ∙ ap (λ z. take i xs ++ z ∷ []) (sym is)) e r
 
 widest_end : (xs : List Object) (o : Object) → widest_of (xs ++ o ∷ []) ≡ max (widest_of xs) (length (live_rows o))
 widest_end [] o = omega arith
@@ -99,12 +68,8 @@ few_step live i d spaced lt range = let least = spaced.at i (field_of (get_or li
 
 -- one field more, behind the others
 plain_more : (fs : List Live) (f : Live) (b : Bool) → is_plain_act (act_of f f.kind) ≡ b → are_plain (fs ++ f ∷ []) ≡ if b then are_plain fs else false
-plain_more [] f true e = ap (λ b. b && true) e
-plain_more [] f false e = ap (λ b. b && true) e
-plain_more (g ∷ gs) f true e = ap (λ x. is_plain_act (act_of g g.kind) && x) (plain_more gs f true e)
-plain_more (g ∷ gs) f false e = ap (λ x. is_plain_act (act_of g g.kind) && x) (plain_more gs f false e) ∙ both_false (is_plain_act (act_of g g.kind)) where
-  both_false : (b : Bool) → (b && false) ≡ false
-  both_false b = grind arith
+plain_more [] f b e = grind (arith, e)
+plain_more (g ∷ gs) f b e = grind (arith, plain_more gs f b e)
 
 pub plain_step : {X : Type 0} (v : X → Live) (xs : List X) (i : ℕ) (d : X) (b : Bool) → i < length xs → is_plain_act (act_of (v (get_or xs i d)) (v (get_or xs i d)).kind) ≡ b
     → are_plain (map v (take (i + 1) xs)) ≡ if b then are_plain (map v (take i xs)) else false

@@ -1,11 +1,10 @@
 -- Rows are judged by computing: the first level, in it the first owner, and in it the first place where a demand is
 -- broken.
-use Rattle.std.proofs.Common.{◌≡◌, ℕ, zero, suc, ◌<◌, ◌⊎◌, inl, inr, Option, Some, None, refl, sym, subst, arith, option_map}
+use Rattle.std.proofs.Common.{◌≡◌, ℕ, zero, suc, ◌<◌, Option, Some, None, refl, subst, arith, option_map}
 use Rattle.std.proofs.lemmas.Option.{same_Some}
 use Rattle.fb_schema.specs.declared.{fault.Code.Code, fault.SchemaFault.SchemaFault}
 use Rattle.fb_schema.specs.Rows.{Rows}
 use Rattle.fb_schema.specs.Demands.{IsLegal, IsFirstIllegal, demands_at, first_code, part_of}
-use Rattle.fb_schema.proofs.Numbers.{lt_or_eq, le_or_lt}
 use Rattle.fb_schema.proofs.DemandLaws.{IsClear, levels_end, owners_end, places_end, past_levels, past_owners, past_places, is_legal, first_illegal}
 
 -- what was found before, or what is found at n
@@ -19,34 +18,21 @@ unfoldable pub first_below : {A : Type 0} → (ℕ → Option A) → ℕ → Opt
 first_below f zero = None
 first_below f (suc n) = or_at (first_below f n) n (f n)
 
-or_none : {A : Type 0} (x : Option (A × ℕ)) (n : ℕ) (found : Option A) → or_at x n found ≡ None → (x ≡ None) × (found ≡ None)
-unfolding or_at
-or_none x n found h = grind (arith, h)
-
-or_some : {A : Type 0} (x : Option (A × ℕ)) (n : ℕ) (found : Option A) (y : A × ℕ) → or_at x n found ≡ Some y → (x ≡ Some y) ⊎ ((x ≡ None) × (found ≡ Some y.0) × (n ≡ y.1))
-unfolding or_at
-or_some x n found y h = grind (arith, h)
-
 module _ {A : Type 0} (f : ℕ → Option A) where
   -- nothing is found below n
   pub none_below : (n : ℕ) → first_below f n ≡ None → (m : ℕ) → m < n → f m ≡ None
-  unfolding first_below
+  unfolding first_below or_at
   none_below zero h m lt = absurd (omega arith)
-  none_below (suc n) h m lt =
-      let both = or_none (first_below f n) n (f n) h in
-      elim (lt_or_eq m n (omega arith)) [ inl below ↦ none_below n both.0 m below | inr here ↦ subst (λ k. f k ≡ None) (sym here) both.1 ]
+  none_below (suc n) h m lt = grind (arith, h, none_below n)
 
   -- this is found, and nothing before it
-  pub some_below : (n : ℕ) (y : A × ℕ) → first_below f n ≡ Some y → (f y.1 ≡ Some y.0) × ((m : ℕ) → m < y.1 → f m ≡ None)
-  unfolding first_below
+  some_below : (n : ℕ) (y : A × ℕ) → first_below f n ≡ Some y → (f y.1 ≡ Some y.0) × ((m : ℕ) → m < y.1 → f m ≡ None)
+  unfolding first_below or_at
   some_below zero y h = absurd (cc)
-  some_below (suc n) y h = elim (or_some (first_below f n) n (f n) y h) [
-    | inl before ↦ some_below n y before
-    | inr here ↦ (
-      subst (λ k. f k ≡ Some y.0) here.2 here.1,
-      λ m lt. none_below n here.0 m (omega (arith, here.2)),
-    )
-  ]
+  some_below (suc n) y h =
+      let first = some_below n y in
+      let none = none_below n in
+      (grind (arith, h, first), λ m lt. grind (arith, h, first, none, lt))
 
 -- the first broken demand of an owner, of a level, and of all
 unfoldable pub in_owner : Rows → ℕ → ℕ → Option (Code × ℕ)
@@ -69,24 +55,15 @@ first_fault rows = option_map fault_of (in_rows rows)
 module _ (rows : Rows) where
   owner_clear : (level n : ℕ) → in_owner rows level n ≡ None → (place : ℕ) → IsClear rows level n place
   unfolding in_owner
-  owner_clear level n h place = elim (le_or_lt (places_end rows level n) place) [
-    | inl past ↦ past_places rows level n place past
-    | inr lt ↦ none_below (λ p. first_code (demands_at rows level n p)) (places_end rows level n) h place lt
-  ]
+  owner_clear level n h place = grind (arith, past_places rows level n place, none_below (λ p. first_code (demands_at rows level n p)) (places_end rows level n) h place)
 
   level_clear : (level : ℕ) → in_level rows level ≡ None → (n place : ℕ) → IsClear rows level n place
   unfolding in_level
-  level_clear level h n place = elim (le_or_lt (owners_end rows level) n) [
-    | inl past ↦ past_owners rows level n place past
-    | inr lt ↦ owner_clear level n (none_below (in_owner rows level) (owners_end rows level) h n lt) place
-  ]
+  level_clear level h n place = grind (arith, past_owners rows level n place, owner_clear level n, none_below (in_owner rows level) (owners_end rows level) h n)
 
   all_clear : in_rows rows ≡ None → (level n place : ℕ) → IsClear rows level n place
   unfolding in_rows
-  all_clear h level n place = elim (le_or_lt levels_end level) [
-    | inl past ↦ past_levels rows level n place past
-    | inr lt ↦ level_clear level (none_below (in_level rows) levels_end h level lt) n place
-  ]
+  all_clear h level n place = grind (arith, past_levels rows level n place, level_clear level, none_below (in_level rows) levels_end h level)
 
   first_in : (x : ((Code × ℕ) × ℕ) × ℕ) → in_rows rows ≡ Some x → IsFirstIllegal rows (fault_of x)
   unfolding in_rows in_level in_owner
@@ -100,9 +77,6 @@ module _ (rows : Rows) where
       (record { at = λ p lt. place.1 p lt })
       place.0
 
-  no_fault : (x : Option (((Code × ℕ) × ℕ) × ℕ)) → option_map fault_of x ≡ None → x ≡ None
-  no_fault x h = grind (arith, h)
-
   one_fault : (x : Option (((Code × ℕ) × ℕ) × ℕ)) (f : SchemaFault) → in_rows rows ≡ x → option_map fault_of x ≡ Some f → IsFirstIllegal rows f
   one_fault None f e h = absurd (cc)
   one_fault (Some x) f e h = subst (IsFirstIllegal rows) (same_Some _ _ h) (first_in x e)
@@ -110,7 +84,7 @@ module _ (rows : Rows) where
 -- rows without a fault are legal, and a fault is the first
 pub legal : {rows : Rows} → first_fault rows ≡ None → IsLegal rows
 unfolding first_fault
-legal {rows} h = is_legal rows (all_clear rows (no_fault rows (in_rows rows) h))
+legal {rows} h = is_legal rows (all_clear rows (grind (arith, h)))
 
 pub refused : {rows : Rows} {f : SchemaFault} → first_fault rows ≡ Some f → IsFirstIllegal rows f
 unfolding first_fault

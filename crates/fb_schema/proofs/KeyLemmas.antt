@@ -27,13 +27,8 @@ list_any-map p f [] = refl
 list_any-map p f (x ∷ xs) = ap (λ b. p (f x) || b) (list_any-map p f xs)
 
 -- a key of a list stands again behind one that is like it
-pub again_at : {X K : Type 0} (R : K → K → Ordering) (key : X → K) (xs : List X) (i j : ℕ) (x : X) → i < j → j < length xs → R (key (get_or xs i x)) (key (get_or xs j x)) ≡ Equal → IsAgain R (map key xs) j
-again_at R key xs i j x lt within e = record {
-  earlier = i;
-  before = lt;
-  within = rw length-map within;
-  alike = λ d. ap (λ z. R z (get_or (map key xs) j d)) (get_or-map key xs i x d (omega arith)) ∙ ap (R (key (get_or xs i x))) (get_or-map key xs j x d within) ∙ e;
-}
+pub again_at : {K : Type 0} (R : K → K → Ordering) (keys : List K) (i j : ℕ) (d : K) → i < j → j < length keys → R (get_or keys i d) (get_or keys j d) ≡ Equal → IsAgain R keys j
+again_at R keys i j d lt within e = record { earlier = i; before = lt; within = within; alike = λ x. rw (get_or_default keys i x d (omega arith), get_or_default keys j x d within) e }
 
 -- rows in memory with their keys, and how the definitions see them: two are the same where their keys are alike
 module _ {X Y K : Type 0} (R : K → K → Ordering) (key : X → K) (f : X → Y) (same : Y → Y → Bool) (agrees : (a b : X) → Decides (same (f a) (f b)) (R (key a) (key b) ≡ Equal)) (xs : List X) (p : ℕ) (x : X) (at : slice_get xs p ≡ Some x) where
@@ -50,14 +45,9 @@ module _ {X Y K : Type 0} (R : K → K → Ordering) (key : X → K) (f : X → 
       let long = length-take-le p xs (let w = within in omega arith) in
       let lower : k < p = omega (arith, a.2) in
       let here : get_or xs k a.1 ≡ a.1 = sym (get_or-take p xs k a.1 lower) ∙ a.3 in
-      let alike = (agrees a.1 x).0 a.4 in
-      record {
-        earlier = k;
-        before = lower;
-        within = rw length-map within;
-        alike = λ d. ap (λ z. R z (get_or (map key xs) p d)) (get_or-map key xs k a.1 d (let w = within in omega arith) ∙ ap key here)
-            ∙ ap (R (key a.1)) (get_or-map key xs p x d within ∙ ap key (get_or_from_slice_get xs p x x at)) ∙ alike;
-      }
+      again_at R (map key xs) k p (key x) lower (rw length-map within)
+      (ap (λ z. R z (get_or (map key xs) p (key x))) (get_or-map key xs k a.1 (key x) (let w = within in omega arith) ∙ ap key here)
+      ∙ ap (R (key a.1)) (get_or-map key xs p x (key x) within ∙ ap key (get_or_from_slice_get xs p x x at)) ∙ (agrees a.1 x).0 a.4)
 
   pub test_from_again : IsAgain R (map key xs) p → stands_before same (map f xs) p (f x) ≡ true
   test_from_again a =

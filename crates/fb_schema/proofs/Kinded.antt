@@ -1,41 +1,37 @@
 -- The live fields of legal rows have a kind.
-use Rattle.std.proofs.Common.{◌≡◌, ℕ, ℤ, pos, negsuc, Bool, true, false, not, ◌&&◌, ◌||◌, List, slice_get, Option, Some, None, is_none, length, option_map, option_and_then, is_some, refl, sym, ◌∙◌, ap, subst, arith}
+use Rattle.std.proofs.Common.{◌≡◌, ℕ, ℤ, pos, negsuc, true, false, not, ◌&&◌, List, slice_get, Option, Some, None, is_none, length, option_map, option_and_then, is_some, refl, sym, ◌∙◌, ap, arith, IsSome}
 use Rattle.fb_schema.specs.Demands.{IsLegal, table_field_demands, is_supported, is_object, is_union_shape, names_no_object, names_no_union}
 use Rattle.fb_schema.specs.Kinds.{kind_of, shape_of, shape_kind, object_kind, union_kind}
 use Rattle.fb_schema.specs.Live.{Live, live_rows, live_as, live_of, live_in, live_fields, AreKinded}
-use Rattle.fb_schema.specs.Rows.{Rows, Field, Object, Enum, entry_at, is_some_union}
+use Rattle.fb_schema.specs.Rows.{Rows, Field, Object, entry_at, is_some_union}
 use Rattle.fb_schema.specs.Served.{IsSized, HaveKinds}
-use Rattle.fb_schema.proofs.KindWords.{Kind, Struct, Table, Union, Structs, Tables, Unions, OfObject, OfUnion, Shape, One, Vector, Array}
+use Rattle.fb_schema.proofs.KindWords.{Kind, Struct, Table, Union, Structs, Tables, Unions, OfObject, OfUnion, Shape, One, Vector}
 use Rattle.fb_schema.proofs.{DemandLaws.clear_line, Kept.kept_from, Kept.kept_long, Kept.kept_at}
 use Rattle.fb_schema.proofs.RowLemmas.{IsRowOf, row_in, asked, live_line}
+use Rattle.std.proofs.lemmas.Option.{option_and_then_some}
 
 -- a kind of an object that is there, and of a union that is
 
-object_has_kind : (rows : Rows) (index : ℤ) (struct table : ℕ → Kind) → is_none (entry_at rows.objects index) ≡ false → (k : Kind) × (object_kind index struct table (entry_at rows.objects index) ≡ Some k)
+object_has_kind : (rows : Rows) (index : ℤ) (struct table : ℕ → Kind) → is_none (entry_at rows.objects index) ≡ false → IsSome (object_kind index struct table (entry_at rows.objects index))
 object_has_kind rows (negsuc n) struct table h = absurd (let w : true ≡ false = h in cc)
-object_has_kind rows (pos n) struct table h = go (slice_get rows.objects n) h where
-  go : (o : Option Object) → is_none o ≡ false → (k : Kind) × (object_kind (pos n) struct table o ≡ Some k)
-  go None e = absurd (let w : true ≡ false = e in cc)
-  go (Some o) e = (_, refl)
+object_has_kind rows (pos n) struct table h = grind (arith, h)
 
-union_has_kind : (rows : Rows) (index : ℤ) (union : ℕ → Kind) → not (is_some_union (entry_at rows.enums index)) ≡ false → (k : Kind) × (union_kind index union (entry_at rows.enums index) ≡ Some k)
+union_has_kind : (rows : Rows) (index : ℤ) (union : ℕ → Kind) → not (is_some_union (entry_at rows.enums index)) ≡ false → IsSome (union_kind index union (entry_at rows.enums index))
 union_has_kind rows (negsuc n) union h = absurd (let w : true ≡ false = h in cc)
-union_has_kind rows (pos n) union h = go (slice_get rows.enums n) h where
-  go : (e : Option Enum) → not (is_some_union e) ≡ false → (k : Kind) × (union_kind (pos n) union e ≡ Some k)
-  go None h = absurd (let w : true ≡ false = h in cc)
-  go (Some e) h = (_, refl)
+union_has_kind rows (pos n) union h = grind (arith, h)
 
-shape_has_kind : (rows : Rows) (index : ℤ) (s : Option Shape) → is_supported s ≡ true → (is_object s && is_none (entry_at rows.objects index)) ≡ false → (is_union_shape s && not (is_some_union (entry_at rows.enums index))) ≡ false → (k : Kind) × (shape_kind rows index s ≡ Some k)
-shape_has_kind rows index None h o u = absurd (let w : false ≡ true = h in cc)
-shape_has_kind rows index (Some (Array e)) h o u = absurd (let w : false ≡ true = h in cc)
+shape_has_kind : (rows : Rows) (index : ℤ) (s : Option Shape) → is_supported s ≡ true → (is_object s && is_none (entry_at rows.objects index)) ≡ false → (is_union_shape s && not (is_some_union (entry_at rows.enums index))) ≡ false → IsSome (shape_kind rows index s)
 shape_has_kind rows index (Some (One OfObject)) h o u = object_has_kind rows index Struct Table o
 shape_has_kind rows index (Some (One OfUnion)) h o u = union_has_kind rows index Union u
 shape_has_kind rows index (Some (Vector OfObject)) h o u = object_has_kind rows index Structs Tables o
 shape_has_kind rows index (Some (Vector OfUnion)) h o u = union_has_kind rows index Unions u
-shape_has_kind rows index s h o u = (_, refl)
+shape_has_kind rows index (Some (One e)) h o u = refl
+shape_has_kind rows index (Some (Vector e)) h o u = refl
+shape_has_kind rows index s h o u = absurd (let w : false ≡ true = h in cc)
 
-neither : (a b : Bool) → (a || not b) ≡ false → b ≡ true
-neither a b h = grind arith
+some_in : {A : Type 0} (x : Option A) → IsSome x → (a : A) × (x ≡ Some a)
+some_in None h = absurd (let w : false ≡ true = h in cc)
+some_in (Some a) h = (a, refl)
 
 pub field_has_kind : (rows : Rows) → IsLegal rows → (k i : ℕ) (o : Object) (g : Field) → IsRowOf rows k i o g → (kind : Kind) × (kind_of rows g.ty ≡ Some kind)
 unfolding kind_of names_no_object names_no_union
@@ -45,10 +41,11 @@ field_has_kind rows legal k i o g r =
     let object_line = clear_line (table_field_demands rows g _ _ _ _) clear 3 _ refl in
     let union_line = clear_line (table_field_demands rows g _ _ _ _) clear 4 _ refl in
     let s = shape_of g.ty in
-    let fits = neither g.offset64 (is_supported s) (live_line g.deprecated (g.offset64 || not (is_supported s)) type_line r.live) in
+    let live = r.live in
+    let fits : is_supported s ≡ true = grind (arith, type_line, live) in
     let there = live_line g.deprecated (is_object s && is_none (entry_at rows.objects g.ty.index)) object_line r.live in
     let joined = live_line g.deprecated (is_union_shape s && not (is_some_union (entry_at rows.enums g.ty.index))) union_line r.live in
-    shape_has_kind rows g.ty.index s fits there joined
+    some_in _ (shape_has_kind rows g.ty.index s fits there joined)
 
 -- A legal table's live fields are its live rows, one by one.
 module _ (rows : Rows) (legal : IsLegal rows) (k : ℕ) (o : Object) (at : slice_get rows.objects k ≡ Some o) where
@@ -97,17 +94,12 @@ row_of rows legal k i f e = go (slice_get rows.objects k) refl e where
       let w : Some (live_as rows (live_rows o) g h.0) ≡ Some f = sym (ap (option_map (live_as rows (live_rows o) g)) h.1) ∙ e in
       record { object = o; field = g; kind = h.0; row = r; kind_is = h.1; same = cc }
 
-  in_list : (o : Object) (g : Option Field) → slice_get rows.objects k ≡ Some o → slice_get (live_rows o) i ≡ g → option_and_then (live_of rows (live_rows o)) g ≡ Some f → IsLiveOf rows k i f
-  in_list o None at here e = absurd (let w : None ≡ Some f = e in cc)
-  in_list o (Some g) at here e = kinded o g (row_in rows k i o g at here) e
-
   go : (o : Option Object) → slice_get rows.objects k ≡ o → slice_get (live_in rows o) i ≡ Some f → IsLiveOf rows k i f
   go None at e = absurd (let w : None ≡ Some f = e in cc)
-  go (Some o) at e = in_list o (slice_get (live_rows o) i) at refl (sym (live_at rows legal k o at i) ∙ e)
+  go (Some o) at e = option_and_then_some (live_of rows (live_rows o)) (slice_get (live_rows o) i) f (sym (live_at rows legal k o at i) ∙ e) (λ g here. kinded o g (row_in rows k i o g at here))
 
 kind_sized : (rows : Rows) (live : List Field) (g : Field) (f : Live) (kind : Option Kind) → option_map (live_as rows live g) kind ≡ Some f → IsSized rows f
-kind_sized rows live g f None e = absurd (let w : None ≡ Some f = e in cc)
-kind_sized rows live g f (Some kind) e = let w : live_as rows live g kind ≡ f = cc in subst (IsSized rows) w (record { size = refl; align = refl })
+kind_sized rows live g f kind e = record { size = grind (arith, e); align = grind (arith, e) }
 
 -- a live field of any rows has its kind's size and alignment
 pub field_sized : (rows : Rows) (k i : ℕ) (f : Live) → slice_get (live_fields rows k) i ≡ Some f → IsSized rows f

@@ -1,16 +1,16 @@
 -- Fields in rising slot are those that an insertion sort gives.
-use Rattle.std.proofs.Common.{◌≡◌, ◌≢◌, ℕ, zero, suc, ◌+◌, ◌-◌, ◌<◌, ◌≤◌, ◌==◌, ◌⊎◌, inl, inr, Bool, true, false, List, [], ◌∷◌, length, get_or, map, filter, position, Some, None, refl, sym, ◌∙◌, ap, subst, arith, IsPermutation, nat_le, if◌then◌else◌, cond, Contains, swap, Less, Equal, Greater}
+use Rattle.std.proofs.Common.{◌≡◌, ◌≢◌, ℕ, zero, suc, ◌+◌, ◌-◌, ◌<◌, ◌≤◌, ◌==◌, ◌⊎◌, inl, inr, Bool, true, false, List, [], ◌∷◌, length, get_or, map, filter, position, Some, None, refl, sym, ◌∙◌, ap, subst, arith, IsPermutation, nat_le, if◌then◌else◌, Contains, Less, Equal, Greater, ◌++◌, length-append, not}
 use Rattle.std.proofs.lemmas.{Cmp.nat_cmp_total, Cmp.tied_itself, List.length-map, List.get_or-map}
-use Rattle.std.proofs.lemmas.{List.Edits.swapped_from_swap, List.Edits.length-swap, Bool.Decides.Decides-eqb}
-use Rattle.std.proofs.lemmas.List.Sorted.{IsPermutation-keeps, IsPermutation-map, Contains-permutation, IsPermutation-sym, IsPermutation-refl, IsPermutation-trans, IsPermutation-swap, IsPermutation-cons}
-use Rattle.std.proofs.lemmas.List.Elements.{Contains-get_or, All-contains, All-filter, All-contains_itself}
+use Rattle.std.proofs.lemmas.{Bool.Decides.Decides-eqb}
+use Rattle.std.proofs.lemmas.List.Sorted.{IsPermutation-map, Contains-permutation, IsPermutation-sym, IsPermutation-refl, IsPermutation-trans, IsPermutation-swap, IsPermutation-cons, IsPermutation-filter_both, IsNonDecreasingBy-from_default}
+use Rattle.std.proofs.lemmas.{List.Elements.All-contains, List.Elements.All-filter, List.Elements.All-contains_itself, List.get_or_append_left}
 use borrow.Author.Tests.{leb-true, le-leb}
 use Rattle.std.specs.List.Sorted.{IsSortedBy, IsNonDecreasingBy, IsPartitionPoint}
 use Rattle.std.specs.Ordering.{nat_cmp, is_lt, ordering_index}
 use Rattle.fb_schema.specs.declared.rows.FieldRow.{FieldRow}
 use Rattle.fb_schema.specs.Rows.{Field, field_of}
 use Rattle.fb_schema.specs.Live.{insert_by_slot, by_slot, is_live, AreApart, AreRising}
-use Rattle.fb_schema.proofs.Numbers.{lt_or_eq, le_or_lt, slice_get_some, neither_below}
+use Rattle.fb_schema.proofs.{Numbers.slice_get_some, Numbers.neither_below, Blank.blank_field, OrderLemmas.once_permuted}
 use Rattle.fb_schema.proofs.{PositionLemmas.found_position, PositionLemmas.no_position, Search.nat_tied, Search.search_missed, Search.not_true}
 
 contains_cases : {X : Type 0} (y z : X) (ys : List X) → Contains (y ∷ ys) z → (y ≡ z) ⊎ Contains ys z
@@ -34,13 +34,11 @@ same_rising [] [] r s f g = refl
 same_rising [] (y ∷ ys) r s f g = absurd (let w = g y (contains_head y ys) in omega (arith, w.1))
 same_rising (x ∷ xs) [] r s f g = absurd (let w = f x (contains_head x xs) in omega (arith, w.1))
 same_rising (x ∷ xs) (y ∷ ys) r s f g =
-    let same : x ≡ y = elim (contains_cases y x ys (f x (contains_head x xs))) [
-      | inl e ↦ sym e
-      | inr there ↦ elim (contains_cases x y xs (g y (contains_head y ys))) [
-        | inl e ↦ e
-        | inr here ↦ absurd (let a = s.0 x there in let b = r.0 y here in omega arith)
-      ]
-    ] in
+    let x_at = contains_cases y x ys (f x (contains_head x xs)) in
+    let y_at = contains_cases x y xs (g y (contains_head y ys)) in
+    let above_y = s.0 x in
+    let above_x = r.0 y in
+    let same : x ≡ y = grind (arith, x_at, y_at, above_x, above_y) in
     λ i. same i ∷ same_rising xs ys r.1 s.1
     (λ z h. elim (contains_cases y z ys (f z (contains_tail x z xs h))) [ inl e ↦ absurd (let a = r.0 z h in let b = ap (λ (f : Field). f.slot) (same ∙ e) in omega arith) | inr t ↦ t ])
     (λ z h. elim (contains_cases x z xs (g z (contains_tail y z ys h))) [ inl e ↦ absurd (let a = s.0 z h in let b = ap (λ (f : Field). f.slot) (sym same ∙ e) in omega arith) | inr t ↦ t ]) i
@@ -66,20 +64,8 @@ sorted_members z fs = (Contains-permutation (by_slot fs) fs z (IsPermutation-sym
 
 one_rises : (f g : Field) (gs rest : List Field) → Rises (g ∷ gs) → ((z : Field) → Contains (g ∷ gs) z → f.slot ≢ z.slot) → ((z : Field) → Contains rest z → Contains (f ∷ gs) z) → Rises rest
     → (b : Bool) → (b ≡ true → f.slot ≤ g.slot) → (f.slot ≤ g.slot → b ≡ true) → Rises (if b then f ∷ g ∷ gs else g ∷ rest)
-one_rises f g gs rest r apart members ih true le _ = (
-  λ z h. elim (contains_cases g z gs h) [
-    | inl e ↦ (let a = apart g (contains_head g gs) in let b = le refl in let c = ap (λ (f : Field). f.slot) e in omega arith)
-    | inr t ↦ (let a = apart g (contains_head g gs) in let b = le refl in let c = r.0 z t in omega arith)
-  ],
-  r,
-)
-one_rises f g gs rest r apart members ih false _ less = (
-  λ z h. elim (contains_cases f z gs (members z h)) [
-    | inl e ↦ elim (le_or_lt f.slot g.slot) [ inl le ↦ absurd (let w : false ≡ true = less le in cc) | inr lt ↦ (let c = ap (λ (f : Field). f.slot) e in omega arith) ]
-    | inr t ↦ r.0 z t
-  ],
-  ih,
-)
+one_rises f g gs rest r apart members ih true le _ = (λ z h. let at = contains_cases g z gs h in let a = apart g (contains_head g gs) in let b = le refl in let later = r.0 z in grind (arith, at, later), r)
+one_rises f g gs rest r apart members ih false _ less = (λ z h. let at = contains_cases f z gs (members z h) in let later = r.0 z in grind (arith, at, later, less), ih)
 
 insert_rises : (f : Field) (gs : List Field) → Rises gs → ((g : Field) → Contains gs g → f.slot ≢ g.slot) → Rises (insert_by_slot f gs)
 insert_rises f [] r apart = (λ g h. absurd (omega (arith, h.1)), tt)
@@ -104,14 +90,7 @@ rises_from_order (f ∷ fs) up h = (
 )
 
 apart_permutation : (xs ys : List Field) → IsPermutation xs ys → AreApart xs → AreApart ys
-apart_permutation xs ys p h = IsPermutation-keeps xs AreApart h (λ l i j p q old. record {
-  at = λ a b d la lb e.
-      let s = swapped_from_swap l (swap l i j) i j d p q refl in
-      let la' : a < length l = rw (length-swap l i j) at la in
-      let lb' : b < length l = rw (length-swap l i j) at lb in
-      let o = old.at in
-      grind (arith, s, o);
-}) ys p
+apart_permutation xs ys p h = record { at = once_permuted (λ (f : Field). f.slot) xs ys p h.at }
 
 is_by_slot : (xs ys : List Field) → AreApart xs → IsPermutation xs ys → IsNonDecreasingBy (λ (f : Field). f.slot) ys → ys ≡ by_slot xs
 is_by_slot xs ys apart p up =
@@ -131,29 +110,21 @@ shorter p (x ∷ xs) = grind (arith, shorter p xs)
 pub filter_contains : (p : Field → Bool) (fs : List Field) (z : Field) → Contains (filter p fs) z → Contains fs z
 filter_contains p fs z h = All-contains (Contains fs) (filter p fs) z (All-filter p (Contains fs) fs (All-contains_itself fs)) h
 
-apart_cons : (f : Field) (gs : List Field) → ((g : Field) → Contains gs g → f.slot ≢ g.slot) → AreApart gs → AreApart (f ∷ gs)
-apart_cons f gs head tail = record { at = go } where
-  go : (i j : ℕ) (d : Field) → i < length (f ∷ gs) → j < length (f ∷ gs) → (get_or (f ∷ gs) i d).slot ≡ (get_or (f ∷ gs) j d).slot → i ≡ j
-  go zero zero d a b e = refl
-  go zero (suc j) d a b e = absurd (head (get_or gs j d) (Contains-get_or gs j d (omega arith)) e)
-  go (suc i) zero d a b e = absurd (head (get_or gs i d) (Contains-get_or gs i d (omega arith)) (sym e))
-  go (suc i) (suc j) d a b e = ap suc (tail.at i j d (omega arith) (omega arith) e)
-
-apart_cond : (b : Bool) (f : Field) (gs : List Field) → ((g : Field) → Contains gs g → f.slot ≢ g.slot) → AreApart gs → AreApart (cond b (f ∷ gs) gs)
-apart_cond true f gs head tail = apart_cons f gs head tail
-apart_cond false f gs head tail = tail
+apart_front : (xs ys : List Field) → AreApart (xs ++ ys) → AreApart xs
+apart_front xs ys h = record {
+  at = λ i j d a b e.
+      let long = length-append xs ys in
+      h.at i j d (omega arith) (omega arith) (rw (get_or_append_left xs ys d i a, get_or_append_left xs ys d j b) e);
+}
 
 pub filter_apart : (p : Field → Bool) (fs : List Field) → AreApart fs → AreApart (filter p fs)
-filter_apart p [] h = h
-filter_apart p (f ∷ fs) h = apart_cond (p f) f (filter p fs) (λ g c. apart_head f fs h g (filter_contains p fs g c)) (filter_apart p fs (apart_tail f fs h))
+filter_apart p fs h = apart_front (filter p fs) _ (apart_permutation fs _ (IsPermutation-filter_both p (λ f. not (p f)) (λ f. refl) fs) h)
 
 mapped_up : (rows : List FieldRow) → IsNonDecreasingBy (λ (r : FieldRow). r.slot) rows → IsNonDecreasingBy (λ (f : Field). f.slot) (map field_of rows)
-mapped_up [] up = λ i j d le lt. absurd (omega arith)
-mapped_up (r ∷ rs) up = λ i j d le lt.
-    let rows = r ∷ rs in
+mapped_up rows up = IsNonDecreasingBy-from_default (λ (f : Field). f.slot) (map field_of rows) (field_of blank_field) (λ i j le lt.
     let low : j < length rows = rw length-map at lt in
-    let here : i < length rows = omega arith in
-    rw (get_or-map field_of rows i r d here, get_or-map field_of rows j r d low) (up i j r le low)
+    let at = λ (k : ℕ) (below : k < length rows). get_or-map field_of rows k blank_field (field_of blank_field) below in
+    rw (at i (omega arith), at j low) (up i j blank_field le low))
 
 module _ (fields old new : List FieldRow) (apart : AreApart (map field_of fields)) (all : old ≡ filter (λ r. is_live (field_of r)) fields) (moved : IsPermutation old new) (up : IsNonDecreasingBy (λ (r : FieldRow). r.slot) new) where
   same : map field_of old ≡ filter is_live (map field_of fields)
@@ -174,10 +145,9 @@ module _ (fields old new : List FieldRow) (apart : AreApart (map field_of fields
         at = λ i j d lt within.
             let le = up i j d (omega arith) within in
             let low : i < length new = omega arith in
-            elim (lt_or_eq (get_or new i d).slot (get_or new j d).slot le) [
-              | inl less ↦ less
-              | inr e ↦ absurd (let w : i ≡ j = a.at i j (field_of d) (rw length-map low) (rw length-map within) (ap (λ (f : Field). f.slot) (get_or-map field_of new i d (field_of d) low) ∙ e ∙ sym (ap (λ (f : Field). f.slot) (get_or-map field_of new j d (field_of d) within))) in omega arith)
-            ];
+            let at = λ (k : ℕ) (below : k < length new). ap (λ (f : Field). f.slot) (get_or-map field_of new k d (field_of d) below) in
+            let once = λ (e : (get_or new i d).slot ≡ (get_or new j d).slot). a.at i j (field_of d) (rw length-map low) (rw length-map within) (at i low ∙ e ∙ sym (at j within)) in
+            grind (arith, le, once, lt);
       }
 
 -- The field in the slot two below.

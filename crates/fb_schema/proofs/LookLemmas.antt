@@ -1,5 +1,5 @@
 -- What the look-ups read.
-use Rattle.std.proofs.Common.{◌≡◌, Bool, ℕ, ℤ, pos, negsuc, Bor, Option, option_map, refl, zero, suc, ◌<◌, ◌≤◌, ◌^◌, List, [], ◌∷◌, length, get_or, slice_get, map, Some, None, IsTrue, sym, ◌∙◌, ap, arith}
+use Rattle.std.proofs.Common.{◌≡◌, Bool, ℕ, ℤ, pos, negsuc, Bor, Option, option_map, zero, suc, ◌<◌, ◌≤◌, ◌^◌, List, [], ◌∷◌, length, get_or, slice_get, map, Some, IsTrue, sym, ◌∙◌, ap, arith}
 use Rattle.std.proofs.lemmas.Option.{slice_get-map}
 use Rattle.fb_schema.specs.declared.views.Step.{Step}
 use Rattle.fb_schema.specs.Live.{Live, live_of, live_in, live_rows, live_fields, widest, widest_of}
@@ -9,9 +9,7 @@ use Rattle.fb_schema.proofs.Kept.{kept_fewer}
 
 -- what is made of the item that there may be at a place
 read_made : {X Y : Type 0} (g : Option X → Y) (xs : List X) (n : ℕ) (y : Y) → slice_get (map (λ x. g (Some x)) xs) n ≡ Some y → y ≡ g (slice_get xs n)
-read_made g [] n y e = absurd (let w : None ≡ Some y = e in cc)
-read_made g (x ∷ xs) zero y e = let w : g (Some x) ≡ y = cc in sym w
-read_made g (x ∷ xs) (suc n) y e = read_made g xs n y e
+read_made g xs n y e = grind (arith, slice_get-map (λ x. g (Some x)) xs n, e)
 
 pub live_read : (rows : Rows) (objects : List Object) (lists : List (List Live)) (n : ℕ) (y : List Live) → lists ≡ map (λ o. live_in rows (Some o)) objects → slice_get lists n ≡ Some y → y ≡ live_in rows (slice_get objects n)
 live_read rows objects lists n y e at = read_made (live_in rows) objects n y (ap (λ ls. slice_get ls n) (sym e) ∙ at)
@@ -47,13 +45,6 @@ unfolding widest
 few_read rows seen most n e few same h = let w = ap widest same in omega arith
 
 -- The entry that an index names, of rows as they are kept.
-entry_kept : {X Y : Type 0} (f : X → Y) (xs : List X) (index : ℤ) → option_map f (entry_at xs index) ≡ entry_at (map f xs) index
-entry_kept f xs (pos k) = sym (slice_get-map f xs k)
-entry_kept f xs (negsuc k) = refl
-
-found_kept : {X Y : Type 0} (f : X → Y) (found : Option (Bor X)) → option_map (λ x. f x.now) found ≡ option_map f (option_map (λ x. x.now) found)
-found_kept f None = refl
-found_kept f (Some x) = refl
-
 pub entry_found : {X Y : Type 0} (f : X → Y) (xs : List X) (index : ℤ) (found : Option (Bor X)) → option_map (λ x. x.now) found ≡ entry_at xs index → option_map (λ x. f x.now) found ≡ entry_at (map f xs) index
-entry_found f xs index found e = found_kept f found ∙ ap (option_map f) e ∙ entry_kept f xs index
+entry_found f xs (pos k) found e = grind (arith, slice_get-map f xs k, e)
+entry_found f xs (negsuc k) found e = grind (arith, e)

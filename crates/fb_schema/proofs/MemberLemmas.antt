@@ -1,15 +1,15 @@
 -- The steps of the walk over the members of a union.
-use Rattle.std.proofs.Common.{◌≡◌, ℕ, ◌<◌, ◌≤◌, pos, ◌⊎◌, inl, inr, Bool, true, false, not, ◌&&◌, List, [], ◌∷◌, length, slice_get, take, map, int_lt, Option, Some, None, refl, sym, ◌∙◌, ap, Decides, arith, bytes_eq, Ordering, Equal}
-use Rattle.fb_schema.proofs.{Search.not_true, DemandLaws.clear_line, KeyLemmas.test_from_again, KeyLemmas.is_at_test, KeyLemmas.never_again}
-use Rattle.fb_schema.proofs.Numbers.{slice_get_some}
-use Rattle.std.proofs.lemmas.{List.Folds.list_any_none, List.length-map}
+use Rattle.std.proofs.Common.{◌≡◌, ℕ, ◌<◌, pos, ◌⊎◌, inl, inr, Bool, true, false, not, ◌&&◌, List, [], ◌∷◌, slice_get, take, map, Option, Some, None, refl, sym, ◌∙◌, ap, Decides, arith, bytes_eq, Ordering, Equal, ◌||◌}
+use Rattle.fb_schema.proofs.{DemandLaws.clear_line, KeyLemmas.test_from_again, KeyLemmas.is_at_test, KeyLemmas.never_again}
+use Rattle.fb_schema.proofs.{Numbers.slice_get_some, Numbers.all_true, WalkLemmas.names_agree, WalkLemmas.mapped_at, WalkLemmas.values_agree}
+use Rattle.std.proofs.lemmas.{List.length-map}
 use Rattle.std.specs.{Cmp.signed_Decides, List.list_any}
 use Rattle.std.specs.Ordering.{int_cmp, bool_cmp, int_eq, is_eq, ordering_then}
 use Rattle.fb_schema.specs.declared.rows.MemberRow.{MemberRow}
 use Rattle.fb_schema.specs.Sorting.{IsAgain, IsFirstAgain, name_cmp, member_cmp, member_value, member_key}
 use Rattle.fb_schema.specs.Rows.{Rows, Member, member_of_row}
-use Rattle.fb_schema.specs.Demands.{is_at, first_code, stands_before, same_value, same_member_name, Demand, member_demands, members_asked, demands_of_member}
-use Rattle.fb_schema.proofs.WalkLemmas.{names_agree, mapped_at, values_agree, or_false, past_list}
+use Rattle.fb_schema.specs.Demands.{is_at, first_code, stands_before, same_value, same_member_name, Demand, member_demands, members_asked}
+use Rattle.std.proofs.lemmas.List.Folds.{Any-from_list_any, list_any-from_Any}
 
 -- both rows stand for the union without a value, or neither does, and they have one name
 abbrev same_key : Member → Member → Bool
@@ -21,33 +21,22 @@ both_equal p q b d = grind (arith, d)
 keys_agree : (a b : MemberRow) → Decides (same_key (member_of_row a) (member_of_row b)) (member_cmp (member_key a) (member_key b) ≡ Equal)
 keys_agree a b = both_equal (bool_cmp (int_eq a.value (pos 0)) (int_eq b.value (pos 0))) (name_cmp a.name b.name) (bytes_eq a.name.now b.name.now) (names_agree a.name.now b.name.now)
 
-real_pair : (zero_a zero_b named : Bool) → zero_b ≡ false → (is_eq (bool_cmp zero_a zero_b) && named) ≡ (not zero_a && not zero_b && named)
-real_pair zero_a zero_b named e = grind arith
+by_pair : (zero_a zero_b named some other : Bool) → (not zero_b && some) ≡ other → (not zero_b && ((is_eq (bool_cmp zero_a zero_b) && named) || some)) ≡ ((not zero_a && not zero_b && named) || other)
+by_pair zero_a zero_b named some other h = grind (arith, h)
 
-none_pair : (zero_a zero_b named : Bool) → zero_b ≡ true → (not zero_a && not zero_b && named) ≡ false
-none_pair zero_a zero_b named e = grind arith
-
--- of a member the test by keys is the one by names
-real_test : (members : List Member) (p : ℕ) (m : Member) → int_eq m.value (pos 0) ≡ false → stands_before same_key members p m ≡ stands_before same_member_name members p m
-real_test members p m e = ap (λ t. list_any t (take p members)) (λ i y. real_pair (int_eq y.value (pos 0)) (int_eq m.value (pos 0)) (bytes_eq y.name m.name) e i)
-
--- of the union without a value none is asked
-none_test : (members : List Member) (p : ℕ) (m : Member) → int_eq m.value (pos 0) ≡ true → stands_before same_member_name members p m ≡ false
-none_test members p m e = list_any_none (λ y. same_member_name y m) (take p members) (λ k d lt. none_pair _ _ _ e)
-
-any_weaker : {X : Type 0} (s t : X → Bool) → ((x : X) → s x ≡ true → t x ≡ true) → (xs : List X) → list_any s xs ≡ true → list_any t xs ≡ true
-any_weaker s t f [] h = h
-any_weaker s t f (x ∷ xs) h = grind (arith, f x, any_weaker s t f xs)
-
-both_none : (zero_a zero_b named : Bool) → zero_b ≡ true → (is_eq (bool_cmp zero_a zero_b) && named) ≡ true → zero_a ≡ true
-both_none zero_a zero_b named e h = grind arith
+-- of a member the test by keys is the one by names, and of the union without a value none is asked
+by_key : (m : Member) (ys : List Member) → (not (int_eq m.value (pos 0)) && list_any (λ y. same_key y m) ys) ≡ list_any (λ y. same_member_name y m) ys
+by_key m [] = grind arith
+by_key m (y ∷ ys) = by_pair (int_eq y.value (pos 0)) (int_eq m.value (pos 0)) (bytes_eq y.name m.name) _ _ (by_key m ys)
 
 -- two rows without a value have one value
 none_value : (members : List Member) (p : ℕ) (m : Member) → int_eq m.value (pos 0) ≡ true → stands_before same_key members p m ≡ true → stands_before same_value members p m ≡ true
-none_value members p m e = any_weaker (λ y. same_key y m) (λ y. same_value y m) (λ y h.
+none_value members p m e h =
+    let a = Any-from_list_any (λ y. same_key y m) (take p members) h in
+    let y = a.1 in
     let here = (signed_Decides m.value (pos 0)).0 e in
-    let there = (signed_Decides y.value (pos 0)).0 (both_none (int_eq y.value (pos 0)) (int_eq m.value (pos 0)) (bytes_eq y.name m.name) e h) in
-    (signed_Decides y.value m.value).1 (there ∙ sym here)) (take p members)
+    let there = (signed_Decides y.value (pos 0)).0 (grind (arith, e, a.4)) in
+    list_any-from_Any (λ y. same_value y m) (take p members) (a.0, y, a.2, a.3, (signed_Decides y.value m.value).1 (there ∙ sym here))
 
 pub is_true_or_false : (b : Bool) → (b ≡ true) ⊎ (b ≡ false)
 is_true_or_false b = grind arith
@@ -56,25 +45,14 @@ module _ (rows : Rows) (members : List MemberRow) where
   abbrev pub asked_at : ℕ → MemberRow → List Demand
   asked_at p row = member_demands rows (member_of_row row) (stands_before same_value (map member_of_row members) p (member_of_row row)) (stands_before same_member_name (map member_of_row members) p (member_of_row row))
 
-  pub member_at : (p : ℕ) (row : MemberRow) → slice_get members p ≡ Some row → members_asked rows (map member_of_row members) p ≡ asked_at p row
-  member_at p row at = ap (demands_of_member rows (map member_of_row members) p) (mapped_at member_of_row members p row at)
+  pub clear_demands : (q : ℕ) (row : MemberRow) → slice_get members q ≡ Some row → first_code (members_asked rows (map member_of_row members) q) ≡ None → first_code (asked_at q row) ≡ None
+  clear_demands q row at clear = rw (mapped_at member_of_row members q row at) at clear
 
-  pub clear_demands : (q : ℕ) (row : MemberRow) → slice_get members q ≡ Some row → first_code (members_asked rows (map member_of_row members) q) ≡ None
-      → first_code (member_demands rows (member_of_row row) (stands_before same_value (map member_of_row members) q (member_of_row row)) (stands_before same_member_name (map member_of_row members) q (member_of_row row))) ≡ None
-  clear_demands q row at clear = ap first_code (sym (member_at q row at)) ∙ clear
-
-  not_taken_member : (q : ℕ) → first_code (members_asked rows (map member_of_row members) q) ≡ None → (row : MemberRow) → slice_get members q ≡ Some row → stands_before same_value (map member_of_row members) q (member_of_row row) ≡ true → ⊥
-  not_taken_member q clear row at old =
-      let new = or_false (int_lt row.value (pos 0)) (int_lt (pos 255) row.value) (stands_before same_value (map member_of_row members) q (member_of_row row)) (clear_line (asked_at q row) (clear_demands q row at clear) 0 _ refl) in
-      let w : true ≡ false = sym old ∙ new in cc
-
-  not_named_member : (q : ℕ) → first_code (members_asked rows (map member_of_row members) q) ≡ None → (row : MemberRow) → slice_get members q ≡ Some row → stands_before same_member_name (map member_of_row members) q (member_of_row row) ≡ true → ⊥
-  not_named_member q clear row at old =
-      let new = clear_line (asked_at q row) (clear_demands q row at clear) 1 _ refl in
-      let w : true ≡ false = sym old ∙ new in cc
+  not_taken_member : (q : ℕ) → first_code (members_asked rows (map member_of_row members) q) ≡ None → (row : MemberRow) → slice_get members q ≡ Some row → stands_before same_value (map member_of_row members) q (member_of_row row) ≡ false
+  not_taken_member q clear row at = let line = clear_line (asked_at q row) (clear_demands q row at clear) 0 _ refl in grind (arith, line)
 
   pub value_not_again : (q : ℕ) → first_code (members_asked rows (map member_of_row members) q) ≡ None → IsAgain int_cmp (map member_value members) q → ⊥
-  value_not_again q clear a = never_again int_cmp member_value member_of_row same_value values_agree members q a (λ row at. not_true _ (not_taken_member q clear row at))
+  value_not_again q clear a = never_again int_cmp member_value member_of_row same_value values_agree members q a (not_taken_member q clear)
 
   pub name_not_again : (q : ℕ) → first_code (members_asked rows (map member_of_row members) q) ≡ None → IsAgain member_cmp (map member_key members) q → ⊥
   name_not_again q clear a =
@@ -82,18 +60,11 @@ module _ (rows : Rows) (members : List MemberRow) where
       let row = here.0 in
       let same = test_from_again member_cmp member_key member_of_row same_key keys_agree members q row here.1 a in
       elim (is_true_or_false (int_eq row.value (pos 0))) [
-        | inl none ↦ not_taken_member q clear row here.1 (none_value (map member_of_row members) q (member_of_row row) none same)
-        | inr real ↦ not_named_member q clear row here.1 (sym (real_test (map member_of_row members) q (member_of_row row) real) ∙ same)
+        | inl none ↦ (let w : true ≡ false = sym (none_value (map member_of_row members) q (member_of_row row) none same) ∙ not_taken_member q clear row here.1 in cc)
+        | inr real ↦ (
+            let named = sym (by_key (member_of_row row) (take q (map member_of_row members))) ∙ all_true _ _ (ap not real) same in
+            let w : true ≡ false = sym named ∙ clear_line (asked_at q row) (clear_demands q row here.1 clear) 1 _ refl in cc)
       ]
-
-  name_test : (p : ℕ) (row : MemberRow) (again : Option ℕ) → slice_get members p ≡ Some row → IsFirstAgain member_cmp (map member_key members) again
-      → ((q : ℕ) → q < p → first_code (members_asked rows (map member_of_row members) q) ≡ None)
-      → (not (int_eq row.value (pos 0)) && is_at again p) ≡ stands_before same_member_name (map member_of_row members) p (member_of_row row)
-  name_test p row again at h clear = elim (is_true_or_false (int_eq row.value (pos 0))) [
-    | inl none ↦ ap (λ b. not b && is_at again p) none ∙ sym (none_test (map member_of_row members) p (member_of_row row) none)
-    | inr real ↦ ap (λ b. not b && is_at again p) real ∙ is_at_test member_cmp member_key member_of_row same_key keys_agree members p row at again h (λ q lt. name_not_again q (clear q lt))
-        ∙ real_test (map member_of_row members) p (member_of_row row) real
-  ]
 
   -- what the walk computes at p is what is demanded there
   pub member_code : (p : ℕ) (row : MemberRow) (value_again name_again : Option ℕ) (taken named : Bool) → slice_get members p ≡ Some row
@@ -103,10 +74,7 @@ module _ (rows : Rows) (members : List MemberRow) where
       → first_code (member_demands rows (member_of_row row) taken named) ≡ first_code (members_asked rows (map member_of_row members) p)
   member_code p row value_again name_again taken named at h k clear t n =
       let same_taken = t ∙ is_at_test int_cmp member_value member_of_row same_value values_agree members p row at value_again h (λ q lt. value_not_again q (clear q lt)) in
-      let same_named = n ∙ name_test p row name_again at k clear in
-      let all : member_demands rows (member_of_row row) taken named ≡ asked_at p row = λ i. member_demands rows (member_of_row row) (same_taken i) (same_named i) in
-      ap first_code all ∙ ap first_code (sym (member_at p row at))
-
-  -- past the last member nothing is demanded
-  pub past_members : (n : ℕ) → length members ≤ n → ((q : ℕ) → q < n → first_code (members_asked rows (map member_of_row members) q) ≡ None) → (q : ℕ) → first_code (members_asked rows (map member_of_row members) q) ≡ None
-  past_members n le h q = past_list (map member_of_row members) (demands_of_member rows (map member_of_row members)) (λ q. refl) n (rw length-map le) h q
+      let same_named = n
+      ∙ ap (λ b. not (int_eq row.value (pos 0)) && b) (is_at_test member_cmp member_key member_of_row same_key keys_agree members p row at name_again k (λ q lt. name_not_again q (clear q lt)))
+      ∙ by_key (member_of_row row) (take p (map member_of_row members)) in
+      rw (mapped_at member_of_row members p row at) (λ i. first_code (member_demands rows (member_of_row row) (same_taken i) (same_named i)))

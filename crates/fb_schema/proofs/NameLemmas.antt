@@ -1,41 +1,19 @@
 -- The live fields of a legal table are found by name.
-use Rattle.std.proofs.Common.{◌≡◌, ℕ, zero, suc, ◌<◌, Bool, true, false, IsTrue, if◌then◌else◌, List, [], ◌∷◌, length, get_or, slice_get, map, filter, option_map, option_and_then, Option, Some, None, refl, sym, ◌∙◌, ap, arith, nat_cmp, Equal}
-use Rattle.fb_schema.proofs.{RowLemmas.rises_at, KeyLemmas.again_at, IndexLemmas.legal_slots, IndexLemmas.table_list}
-use Rattle.fb_schema.proofs.{Kinded.live_long, Kinded.live_at, LegalLemmas.legal_clear, WalkLemmas.mapped_at, WalkLemmas.not_named_table}
+use Rattle.std.proofs.Common.{◌≡◌, ℕ, zero, suc, ◌<◌, true, false, IsTrue, if◌then◌else◌, List, [], ◌∷◌, length, get_or, slice_get, map, filter, option_map, option_and_then, Option, Some, refl, sym, ◌∙◌, ap, arith, nat_cmp, Equal}
+use Rattle.fb_schema.proofs.{RowLemmas.rises_at}
+use Rattle.fb_schema.proofs.{Kinded.live_long, Kinded.live_at, WalkLemmas.mapped_at}
 use Rattle.std.proofs.lemmas.{List.length-map, List.get_or-map, Option.slice_get-get_or, List.Elements.Contains-get_or}
-use Rattle.std.proofs.lemmas.{Cmp.tied_itself, Cmp.nat_list_cmp_total, Map.Lookups.exact_bytes}
+use Rattle.std.proofs.lemmas.{Map.Lookups.exact_bytes}
 use Rattle.std.specs.Cmp.Lexicographic.{slice_cmp}
 use Rattle.fb_schema.specs.declared.{kinds.Kind.Kind, flat.ObjectPart.ObjectPart, views.FieldView.FieldView, rows.FieldRow.FieldRow}
-use Rattle.fb_schema.specs.Demands.{IsLegal, first_code, table_asked, demands_of_object, demands_of_struct_field, demands_of_table_field}
-use Rattle.fb_schema.specs.{Index.view_name, Kinds.kind_of, Sorting.IsAgain, Sorting.name_cmp, Sorting.field_name, Flat.part, FlatRows.object_in}
+use Rattle.fb_schema.specs.Demands.{IsLegal}
+use Rattle.fb_schema.specs.{Index.view_name, Kinds.kind_of, Sorting.IsAgain, Sorting.name_cmp, Flat.part, FlatRows.object_in}
 use Rattle.fb_schema.specs.Live.{Live, by_slot, is_live, live_rows, live_as, live_of, live_of_view, live_in, AreApart}
 use Rattle.fb_schema.specs.Rows.{Rows, Field, field_of, is_some_table}
 use Rattle.fb_schema.proofs.LiveLemmas.{sorted_rises, sorted_members, filter_apart, filter_contains}
-use Rattle.fb_schema.proofs.Numbers.{get_or_default, slice_get_some, neither_below, negated}
+use Rattle.fb_schema.proofs.{Numbers.get_or_default, Numbers.slice_get_some, Numbers.negated, LegalLemmas.legal_slots, LegalLemmas.legal_names}
 
--- no field of a legal table has an earlier one's name
-no_name_again : (rows : Rows) (n : ℕ) (all : List FieldRow) (row : ObjectPart) → IsLegal rows → slice_get rows.objects n ≡ Some (object_in all row) → row.is_struct ≡ false → (q : ℕ) → IsAgain name_cmp (map field_name (part all row.fields)) q → ⊥
-no_name_again rows n all row legal at table q a =
-    let fields = map field_of (part all row.fields) in
-    let here : first_code (table_asked rows fields q) ≡ None =
-    sym (ap (λ x. first_code (demands_of_object rows n (suc q) x)) at ∙ ap first_code (table_list row.is_struct (demands_of_struct_field rows row.bytesize fields q (slice_get fields q)) (demands_of_table_field rows fields q (slice_get fields q)) table))
-    ∙ legal_clear rows legal 0 n (suc q) in
-    not_named_table rows (part all row.fields) q here a
-
--- two of a table's fields with one name are one
-one_name : (rows : Rows) (n : ℕ) (all : List FieldRow) (row : ObjectPart) → IsLegal rows → slice_get rows.objects n ≡ Some (object_in all row) → row.is_struct ≡ false
-    → (i j : ℕ) (d : Field) → i < length (map field_of (part all row.fields)) → j < length (map field_of (part all row.fields)) → (get_or (map field_of (part all row.fields)) i d).name ≡ (get_or (map field_of (part all row.fields)) j d).name → i ≡ j
-one_name rows n all row legal at table i j d a b e = neither_below i j (λ lt. no_name_again rows n all row legal at table j (again i j lt b e)) (λ lt. no_name_again rows n all row legal at table i (again j i lt a (sym e))) where
-  again : (i j : ℕ) → i < j → j < length (map field_of (part all row.fields)) → (get_or (map field_of (part all row.fields)) i d).name ≡ (get_or (map field_of (part all row.fields)) j d).name → IsAgain name_cmp (map field_name (part all row.fields)) j
-  again i j lt within e =
-      let rs = (part all row.fields) in
-      let low : j < length rs = rw length-map at within in
-      let x = (slice_get_some rs j low).0 in
-      let name_at = λ (k : ℕ) (lt : k < length rs). ap (λ (f : Field). f.name) (get_or-map field_of rs k x d lt) in
-      let same : (get_or rs i x).name.now ≡ (get_or rs j x).name.now = sym (name_at i (omega arith)) ∙ e ∙ name_at j low in
-      again_at name_cmp field_name rs i j x lt low (ap (λ y. slice_cmp nat_cmp y (get_or rs j x).name.now) same ∙ tied_itself nat_list_cmp_total (get_or rs j x).name.now)
-
--- nor do two live fields have one name
+-- no two live fields have one name, where no two fields have
 live_names : (fields : List Field) → AreApart fields → ((i j : ℕ) (d : Field) → i < length fields → j < length fields → (get_or fields i d).name ≡ (get_or fields j d).name → i ≡ j)
     → (i j : ℕ) (d : Field) → i < j → j < length (by_slot (filter is_live fields)) → (get_or (by_slot (filter is_live fields)) i d).name ≡ (get_or (by_slot (filter is_live fields)) j d).name → ⊥
 live_names fields apart one i j d lt within e =
@@ -47,17 +25,11 @@ live_names fields apart one i j d lt within e =
     let x_at : get_or fields a.0 d ≡ x = get_or_default fields a.0 d x a.1 ∙ a.2 in
     let y_at : get_or fields b.0 d ≡ y = get_or_default fields b.0 d y b.1 ∙ b.2 in
     let same : a.0 ≡ b.0 = one a.0 b.0 d a.1 b.1 (ap (λ (f : Field). f.name) x_at ∙ e ∙ ap (λ (f : Field). f.name) (sym y_at)) in
-    let one_field : x ≡ y = sym x_at ∙ ap (λ k. get_or fields k d) same ∙ y_at in
-    let slots = ap (λ (f : Field). f.slot) one_field in
     let up = rises_at live (sorted_rises (filter is_live fields) (filter_apart is_live fields apart)) i j x y (slice_get-get_or live i d (omega arith)) (slice_get-get_or live j d within) lt in
-    omega arith
-
-live_list : (b : Bool) (xs : List Field) → b ≡ false → (if b then [] else xs) ≡ xs
-live_list b xs e = grind arith
+    grind (arith, same, x_at, y_at, up)
 
 named_alike : (rows : Rows) (live : List Field) (g : Field) (f : Live) (kind : Option Kind) → option_map (live_as rows live g) kind ≡ Some f → f.name ≡ g.name
-named_alike rows live g f None e = absurd (let w : None ≡ Some f = e in cc)
-named_alike rows live g f (Some kind) e = let w : live_as rows live g kind ≡ f = cc in sym (ap (λ (l : Live). l.name) w)
+named_alike rows live g f kind e = grind (arith, e)
 
 -- the views of a table's live fields have names of their own
 pub view_not_again : (rows : Rows) (n : ℕ) (all : List FieldRow) (row : ObjectPart) → IsLegal rows → slice_get rows.objects n ≡ Some (object_in all row) → row.is_struct ≡ false → (views : List FieldView) → map live_of_view views ≡ live_in rows (Some (object_in all row))
@@ -65,7 +37,7 @@ pub view_not_again : (rows : Rows) (n : ℕ) (all : List FieldRow) (row : Object
 view_not_again rows n all row legal at table views same q a =
     let fields = map field_of (part all row.fields) in
     let live = by_slot (filter is_live fields) in
-    let listed : live_rows (object_in all row) ≡ live = live_list row.is_struct live table in
+    let listed : live_rows (object_in all row) ≡ live = ap (λ b. if b then [] else live) table in
     let long : length views ≡ length live = sym (length-map views live_of_view) ∙ ap length same ∙ live_long rows legal n (object_in all row) at ∙ ap length listed in
     let within : q < length views = rw length-map at a.within in
     let first : a.earlier < length views = let lt = a.before in omega arith in
@@ -80,7 +52,7 @@ view_not_again rows n all row legal at table views same q a =
     let e = get_or-map view_name views a.earlier v v.name first in
     let g = get_or-map view_name views q v v.name within in
     let tied : slice_cmp nat_cmp (get_or views a.earlier v).name.now (get_or views q v).name.now ≡ Equal = ap (λ z. name_cmp z (get_or views q v).name) (sym e) ∙ ap (name_cmp (get_or (map view_name views) a.earlier v.name)) (sym g) ∙ a.alike v.name in
-    live_names fields (legal_slots rows n (object_in all row) legal at table) (one_name rows n all row legal at table) a.earlier q f a.before (omega arith)
+    live_names fields (legal_slots rows legal n (object_in all row) at table) (legal_names rows legal n (object_in all row) at table) a.earlier q f a.before (omega arith)
     (sym (name_at a.earlier first) ∙ exact_bytes _ _ tied ∙ name_at q within)
 
 -- a table's row

@@ -1,13 +1,12 @@
 -- The next required field of a table, from a place on.
-use Rattle.std.proofs.Common.{◌≡◌, ℕ, ◌+◌, ◌-◌, ◌<◌, ◌≤◌, Bool, true, false, not, cond, nat_lt, List, [], ◌∷◌, length, drop, map, get_or, slice_get, set, position, option_map, IsTrue, Option, Some, None, refl, sym, ◌∙◌, ap, subst, arith, length-drop, inl, inr, Bor, drop_of_length-le}
+use Rattle.std.proofs.Common.{◌≡◌, ℕ, ◌+◌, ◌<◌, ◌≤◌, Bool, true, false, not, cond, nat_lt, List, [], ◌∷◌, length, drop, map, get_or, slice_get, set, position, option_map, IsTrue, Option, Some, None, refl, sym, ◌∙◌, ap, subst, arith, length-drop, Bor, drop_of_length-le}
 use Rattle.std.specs.{List.position_or_len, Slice.IsItemAt}
 use Rattle.std.proofs.Math.Seq.{drop-length}
 use Rattle.std.proofs.lemmas.{Bool.Decides.nat_tests, Option.slice_get-get_or, Option.slice_get_within, Option.get_or_from_slice_get}
 use Rattle.std.proofs.lemmas.{List.at_drop_more, List.length-map, List.get_or-map, Grind.common_steps}
-use Rattle.fb_schema.specs.{Index.AreNextRequired, Matched.AreMatched}
+use Rattle.fb_schema.specs.{Index.AreNextRequired, Index.AreMatched}
 use Rattle.fb_schema.specs.Live.{Live, live_in, live_fields, next_required_of}
 use Rattle.fb_schema.specs.Rows.{Rows, Object, is_table, is_some_table}
-use Rattle.fb_schema.proofs.Numbers.{lt_or_eq}
 
 abbrev pub is_required : Live → Bool
 is_required f = f.required
@@ -37,10 +36,7 @@ module _ {X : Type 0} (v : X → Live) (xs : List X) (i : ℕ) (d : X) (lt : i <
 -- one place more is filled, below those that are
 pub filled_more : (fs : List Live) (places : List ℕ) (at n count next : ℕ) → n ≡ at + 1 → at < length places → next ≡ first_from fs at → ((k : ℕ) → n ≤ k → k < count → get_or places k 0 ≡ first_from fs k)
     → (k : ℕ) → at ≤ k → k < count → get_or (set places at next) k 0 ≡ first_from fs k
-filled_more fs places at n count next e lt is filled k le within = elim (lt_or_eq at k le) [
-  | inl above ↦ (let kept : get_or (set places at next) k 0 ≡ get_or places k 0 = grind (arith, common_steps) in kept ∙ filled k (omega arith) within)
-  | inr same ↦ subst (λ j. get_or (set places at next) j 0 ≡ first_from fs j) same (let put : get_or (set places at next) at 0 ≡ next = grind (arith, common_steps) in put ∙ is)
-]
+filled_more fs places at n count next e lt is filled k le within = grind (arith, common_steps, filled k, is)
 
 -- What is looked up.
 
@@ -54,20 +50,15 @@ pub no_item_lent : {A : Type 0} (xs : List A) (i : ℕ) (r : Option (Bor A)) →
 no_item_lent xs i r h e = let g = subst (λ o. IsItemAt xs i o) e h in g.3
 
 next_is : (fs : List Live) (i : ℕ) → i < length fs → next_required_of fs i ≡ cond (nat_lt (first_from fs i) (length fs)) (Some (first_from fs i)) None
-next_is fs i lt = go (position_or_len is_required (drop i fs)) (length (drop i fs)) (length fs) (length-drop i fs) where
-  go : (p left all : ℕ) → left ≡ all - i → option_map (λ j. i + j) (cond (nat_lt p left) (Some p) None) ≡ cond (nat_lt (i + p) all) (Some (i + p)) None
-  go p left all e = grind (arith, nat_tests, e)
+next_is fs i lt = grind (arith, nat_tests, length-drop i fs)
 
 module _ (fs : List Live) (places : List ℕ) (i : ℕ) (all : AreNextRequired fs places) (place : ℕ) (at : slice_get places i ≡ Some place) where
-  place_is : (i < length fs) × (place ≡ first_from fs i)
-  place_is =
-      let lt = slice_get_within places i place at in
-      let got : place ≡ get_or places i 0 = sym (get_or_from_slice_get places i place 0 at) in
-      let here : i < length fs = omega (arith, all.long) in
-      (here, got ∙ all.at i here)
-
   is_next : next_required_of fs i ≡ cond (nat_lt place (length places)) (Some place) None
-  is_next = next_is fs i place_is.0 ∙ ap (λ n. cond (nat_lt n (length fs)) (Some n) None) (sym place_is.1) ∙ ap (λ n. cond (nat_lt place n) (Some place) None) (sym all.long)
+  is_next =
+      let lt = slice_get_within places i place at in
+      let got = get_or_from_slice_get places i place 0 at in
+      let long = all.long in
+      grind (arith, next_is fs i, all.at i, got)
 
   pub next_found : place < length places → Some place ≡ next_required_of fs i
   next_found lt = let e : nat_lt place (length places) ≡ true = grind (arith, nat_tests) in sym (is_next ∙ ap (λ b. cond b (Some place) None) e)

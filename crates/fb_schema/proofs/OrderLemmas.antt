@@ -1,5 +1,5 @@
 -- What the order of a list of keys says of the keys.
-use Rattle.std.proofs.Common.{◌≡◌, ℕ, zero, suc, ◌+◌, ◌-◌, ◌<◌, ◌≤◌, true, false, List, [], ◌∷◌, length, get_or, refl, sym, ◌∙◌, ap, subst, arith, add-zero, zero-add, Option, Some, None, MatchOption, min, max, inl, inr, Contains, swap, Ordering, Equal}
+use Rattle.std.proofs.Common.{◌≡◌, ℕ, zero, suc, ◌+◌, ◌-◌, ◌<◌, ◌≤◌, true, false, List, [], ◌∷◌, length, get_or, refl, sym, ◌∙◌, ap, subst, arith, add-zero, zero-add, Option, Some, None, MatchOption, min, max, inl, inr, Contains, swap, Ordering, Equal, IsPermutation}
 use Rattle.std.proofs.lemmas.{Cmp.nat_cmp_total, Cmp.then_total, Cmp.on_total, List.Elements.Contains-get_or}
 use Rattle.std.proofs.lemmas.List.Edits.{swapped_from_swap, length-swap}
 use Rattle.std.proofs.lemmas.List.Sorted.{sorted_far, ranks_by, Contains-permutation, IsPermutation-sym, IsPermutation-keeps}
@@ -17,11 +17,18 @@ pub length-numbered : {K : Type 0} (keys : List K) (n : ℕ) → length (numbere
 length-numbered [] n = refl
 length-numbered (k ∷ ks) n = ap suc (length-numbered ks (suc n))
 
--- each place is there once
-abbrev AreApart : {K : Type 0} → List (K × ℕ) → Type 0
-AreApart {K} ps = (i j : ℕ) (d : K × ℕ) → i < length ps → j < length ps → (get_or ps i d).1 ≡ (get_or ps j d).1 → i ≡ j
+-- each item has a number of its own
+abbrev pub StandOnce : {X : Type 0} → (X → ℕ) → List X → Type 0
+StandOnce {X} number xs = (i j : ℕ) (d : X) → i < length xs → j < length xs → number (get_or xs i d) ≡ number (get_or xs j d) → i ≡ j
 
-apart_numbered : {K : Type 0} (keys : List K) → AreApart (numbered 0 keys)
+pub once_permuted : {X : Type 0} (number : X → ℕ) (xs ys : List X) → IsPermutation xs ys → StandOnce number xs → StandOnce number ys
+once_permuted number xs ys moved once = IsPermutation-keeps xs (StandOnce number) once (λ l i j p q old a b d la lb e.
+    let s = swapped_from_swap l (swap l i j) i j d p q refl in
+    let la' : a < length l = rw (length-swap l i j) at la in
+    let lb' : b < length l = rw (length-swap l i j) at lb in
+    grind (arith, s, old)) ys moved
+
+apart_numbered : {K : Type 0} (keys : List K) → StandOnce (λ (e : K × ℕ). e.1) (numbered 0 keys)
 apart_numbered keys i j d p q e =
     let p' : i < length keys = rw length-numbered at p in
     let q' : j < length keys = rw length-numbered at q in
@@ -35,9 +42,6 @@ tied_between p q x y e a b = grind (arith, e, a, b)
 
 not_less : (x y : ℕ) → is_lt (nat_cmp x y) ≡ false → y ≤ x
 not_less x y h = grind (arith, h)
-
-less_is : (x y : ℕ) → x < y → is_lt (nat_cmp x y) ≡ true
-less_is x y h = grind (arith, h)
 
 -- two neighbours whose keys are alike
 abbrev pub Alike : {K : Type 0} → (K → K → Ordering) → List (K × ℕ) → K × ℕ → ℕ → Type 0
@@ -116,14 +120,10 @@ module _ {K : Type 0} (R : K → K → Ordering) (o : IsTotalOrder R) where
         (turned c.0 b.0 h.0, not_less b.1 a.1 h.1, not_less c.1 b.1 h.2)
 
     less_place : (a b : K × ℕ) → R a.0 b.0 ≡ Equal → a.1 < b.1 → is_lt (entry_cmp R a b) ≡ true
-    less_place a b same lt = ap (λ r. is_lt (ordering_then r (nat_cmp a.1 b.1))) same ∙ less_is a.1 b.1 lt
+    less_place a b same lt = grind (arith, same, lt)
 
-    apart : AreApart order
-    apart = IsPermutation-keeps _ AreApart (apart_numbered keys) (λ l i j p q old a b d la lb e.
-        let s = swapped_from_swap l (swap l i j) i j d p q refl in
-        let la' : a < length l = rw (length-swap l i j) at la in
-        let lb' : b < length l = rw (length-swap l i j) at lb in
-        grind (arith, s, old)) order h.same
+    apart : StandOnce (λ (e : K × ℕ). e.1) order
+    apart = once_permuted (λ (e : K × ℕ). e.1) (numbered 0 keys) order h.same (apart_numbered keys)
 
     key_at : (u : ℕ) (d : K × ℕ) (e : K) → u < length order → get_or keys (get_or order u d).1 e ≡ (get_or order u d).0
     key_at u d e lt = let k = is_key u d lt in get_or_default keys _ e d.0 k.0 ∙ k.1

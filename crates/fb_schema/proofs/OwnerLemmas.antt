@@ -1,35 +1,28 @@
 -- The steps of the walk over objects and enums.
-use Rattle.std.proofs.Common.{◌≡◌, ℕ, zero, suc, ◌+◌, ◌<◌, ◌≤◌, inl, inr, Bool, List, length, slice_get, map, Option, Some, None, refl, sym, ◌∙◌, ap, subst, arith, Result, Ok, Err, OnOk}
+use Rattle.std.proofs.Common.{◌≡◌, ℕ, zero, suc, ◌+◌, ◌<◌, ◌≤◌, inl, inr, Bool, List, slice_get, map, Option, Some, None, refl, sym, ◌∙◌, ap, subst, arith, Result, Ok, Err, OnOk}
 use Rattle.fb_schema.specs.declared.{fault.Code.Code, flat.ObjectPart.ObjectPart, rows.FieldRow.FieldRow}
 use Rattle.fb_schema.specs.Sorting.{IsAgain, IsFirstAgain, name_cmp, object_name}
 use Rattle.fb_schema.specs.{FlatRows.object_in, Rows.Rows, Rows.Enum}
 use Rattle.fb_schema.specs.Demands.{is_at, first_code, stands_before, same_object_name, object_demands, demands_of_object, demands_of_enum, demands_of_field, demands_of_union, demands_at, IsFirstOf, IsFirstIllegal, IsLegal, AreClear}
-use Rattle.fb_schema.proofs.DemandLaws.{IsClear, AreLevelsClear, AreClearBelow, clear_line, first_illegal, is_legal, no_levels, past_objects, past_enums}
+use Rattle.fb_schema.proofs.DemandLaws.{IsClear, AreLevelsClear, AreClearBelow, clear_line, first_illegal, is_legal, no_levels, past_owners, owners_end, levels_end, past_levels}
 use Rattle.fb_schema.proofs.{KeyLemmas.is_at_test, KeyLemmas.never_again, Numbers.le_or_lt, Numbers.lt_or_eq}
 use Rattle.fb_schema.proofs.WalkLemmas.{object_names_agree, mapped_at}
 
-pub level_clear : (rows : Rows) (level n : ℕ) → AreClearBelow rows level n → ((m place : ℕ) → n ≤ m → IsClear rows level m place) → AreClear rows level
-level_clear rows level n clear past = record { at = λ m place. elim (le_or_lt n m) [ inl le ↦ past m place le | inr lt ↦ clear.at m place lt ] }
-
-pub all_objects : (rows : Rows) (n : ℕ) → length rows.objects ≤ n → AreClearBelow rows 0 n → AreClear rows 0
-all_objects rows n le clear = level_clear rows 0 n clear (λ m place lt. past_objects rows m place (omega arith))
-
-pub all_enums : (rows : Rows) (n : ℕ) → length rows.enums ≤ n → AreClearBelow rows 1 n → AreClear rows 1
-all_enums rows n le clear = level_clear rows 1 n clear (λ m place lt. past_enums rows m place (omega arith))
+pub all_owners : (rows : Rows) (level n : ℕ) → owners_end rows level ≤ n → AreClearBelow rows level n → AreClear rows level
+all_owners rows level n le clear = record { at = λ m place. elim (le_or_lt n m) [ inl past ↦ past_owners rows level m place (omega arith) | inr lt ↦ clear.at m place lt ] }
 
 pub both_levels : (rows : Rows) → AreClear rows 0 → AreClear rows 1 → IsLegal rows
-both_levels rows objects enums = is_legal rows clear where
-  clear : (level n place : ℕ) → IsClear rows level n place
-  clear zero n place = objects.at n place
-  clear (suc zero) n place = enums.at n place
-  clear (suc (suc level)) n place = refl
+unfolding levels_end
+both_levels rows objects enums = is_legal rows (λ level n place. grind (arith, objects.at n place, enums.at n place, past_levels rows level n place))
 
 -- a level below 1 is that of the objects
 objects_level : (rows : Rows) → AreClear rows 0 → AreLevelsClear rows 1
-objects_level rows objects = record { at = go } where
-  go : (l m place : ℕ) → l < 1 → IsClear rows l m place
-  go zero m place lt = objects.at m place
-  go (suc l) m place lt = absurd (omega arith)
+objects_level rows objects = record { at = λ l m place lt. (let w : l ≡ 0 = omega arith in rw w (objects.at m place)) }
+
+-- an owner's head has place 0, and its items the places after it
+by_place : (P : ℕ → Type 0) → P 0 → ((p : ℕ) → P (suc p)) → (q : ℕ) → P q
+by_place P head item zero = head
+by_place P head item (suc p) = item p
 
 -- clear up to an owner, and that owner too
 pub one_more : (rows : Rows) (level n : ℕ) → AreClearBelow rows level n → ((place : ℕ) → IsClear rows level n place) → AreClearBelow rows level (n + 1)
@@ -61,16 +54,10 @@ module _ (rows : Rows) (fields : List FieldRow) (objects : List ObjectPart) (sam
   field_at p = ap (λ x. first_code (demands_of_object rows n (suc p) x)) (object_at rows fields objects same n row at)
 
   pub refused_field : (named : Bool) → named ≡ is_at again n → None ≡ first_code (object_demands (object_in fields row) named) → (code : Code) (p : ℕ) → IsFirstOf (demands_of_field rows (object_in fields row)) (Some (code, p)) → IsFirstIllegal rows (record { code = code; owner = n; part = Some p })
-  refused_field named e none code p r = first_illegal rows 0 n (suc p) code (no_levels rows) clear (record { at = below }) (field_at p ∙ r.0) where
-    below : (q : ℕ) → q < suc p → IsClear rows 0 n q
-    below zero lt = sym (head_code named e) ∙ sym none
-    below (suc q) lt = field_at q ∙ r.1 q (omega arith)
+  refused_field named e none code p r = first_illegal rows 0 n (suc p) code (no_levels rows) clear (record { at = by_place (λ q. q < suc p → IsClear rows 0 n q) (λ lt. sym (head_code named e) ∙ sym none) (λ q lt. field_at q ∙ r.1 q (omega arith)) }) (field_at p ∙ r.0)
 
   pub clear_object : (named : Bool) → named ≡ is_at again n → None ≡ first_code (object_demands (object_in fields row) named) → IsFirstOf (demands_of_field rows (object_in fields row)) None → AreClearBelow rows 0 (n + 1)
-  clear_object named e none r = one_more rows 0 n clear here where
-    here : (place : ℕ) → IsClear rows 0 n place
-    here zero = sym (head_code named e) ∙ sym none
-    here (suc p) = field_at p ∙ r p
+  clear_object named e none r = one_more rows 0 n clear (by_place (IsClear rows 0 n) (sym (head_code named e) ∙ sym none) (λ p. field_at p ∙ r p))
 
 -- Enums: the one at n.
 module _ (rows : Rows) (objects : AreClear rows 0) (n : ℕ) (e : Enum) (at : slice_get rows.enums n ≡ Some e) (clear : AreClearBelow rows 1 n) where
@@ -81,16 +68,10 @@ module _ (rows : Rows) (objects : AreClear rows 0) (n : ℕ) (e : Enum) (at : sl
   member_at p = ap (λ x. first_code (demands_of_enum rows (suc p) x)) at
 
   pub refused_member : (code : Code) (p : ℕ) → IsFirstOf (demands_of_union rows e) (Some (code, p)) → IsFirstIllegal rows (record { code = code; owner = n; part = Some p })
-  refused_member code p r = first_illegal rows 1 n (suc p) code (objects_level rows objects) clear (record { at = below }) (member_at p ∙ r.0) where
-    below : (q : ℕ) → q < suc p → IsClear rows 1 n q
-    below zero lt = head_clear
-    below (suc q) lt = member_at q ∙ r.1 q (omega arith)
+  refused_member code p r = first_illegal rows 1 n (suc p) code (objects_level rows objects) clear (record { at = by_place (λ q. q < suc p → IsClear rows 1 n q) (λ lt. head_clear) (λ q lt. member_at q ∙ r.1 q (omega arith)) }) (member_at p ∙ r.0)
 
   pub clear_enum : IsFirstOf (demands_of_union rows e) None → AreClearBelow rows 1 (n + 1)
-  clear_enum r = one_more rows 1 n clear here where
-    here : (place : ℕ) → IsClear rows 1 n place
-    here zero = head_clear
-    here (suc p) = member_at p ∙ r p
+  clear_enum r = one_more rows 1 n clear (by_place (IsClear rows 1 n) head_clear (λ p. member_at p ∙ r p))
 
 pub legal_if : (rows : Rows) {X E : Type 0} (r : Result X E) → AreClear rows 0 → OnOk r (AreClear rows 1) → OnOk r (IsLegal rows)
 legal_if rows (Ok x) objects enums = both_levels rows objects enums

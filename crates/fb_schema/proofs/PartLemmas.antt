@@ -1,13 +1,14 @@
 -- The fields of the structs of legal rows lie in them.
-use Rattle.std.proofs.Common.{◌≡◌, ◌<◌, ℕ, suc, ◌+◌, ◌*◌, ◌≤◌, ℤ, pos, negsuc, ◌+ℤ◌, ◌*ℤ◌, Bool, true, false, not, ◌&&◌, ◌||◌, int_lt, List, [], length, slice_get, Option, Some, None, refl, sym, ◌∙◌, ap, subst, arith, unsigned_abs, if◌then◌else◌, IfSome, option_and_then, option_map}
+use Rattle.std.proofs.Common.{◌≡◌, ◌<◌, ℕ, suc, ◌+◌, ◌*◌, ◌≤◌, ℤ, pos, negsuc, ◌+ℤ◌, ◌*ℤ◌, Bool, true, false, not, ◌&&◌, ◌||◌, int_lt, length, slice_get, Option, Some, None, refl, sym, ◌∙◌, ap, subst, arith, unsigned_abs, IfSome, option_map}
 use Rattle.fb_schema.proofs.KindWords.{Kind, Struct, Table, Structs, Tables, Element, OfScalar, OfObject, Shape, One, Vector, Array}
 use Rattle.fb_schema.proofs.{KindLemmas.object_kinds, Numbers.not_false, DemandLaws.clear_line, LegalLemmas.legal_clear}
-use Rattle.std.proofs.lemmas.{Option.slice_get_within, Option.MatchOption-at_some, Bool.Decides.nat_tests}
+use Rattle.std.proofs.lemmas.{Option.slice_get_within, Bool.Decides.nat_tests}
 use Rattle.fb_schema.specs.declared.views.PartView.{PartView}
-use Rattle.fb_schema.specs.Demands.{IsLegal, first_code, demands_of_object, demands_of_struct_field, demands_of_table_field, object_demands, struct_field_demands, stands_before, same_object_name, same_field_name, is_inline, is_object, is_alignment, shape_bytes, element_bytes, inline_bytes, bytes_in, names_table}
+use Rattle.fb_schema.specs.Demands.{IsLegal, first_code, object_demands, struct_field_demands, stands_before, same_field_name, is_inline, is_object, is_alignment, shape_bytes, element_bytes, inline_bytes, bytes_in, names_table}
 use Rattle.fb_schema.specs.Kinds.{scalar_size, struct_size, size_in, shape_of, shape_kind, object_kind}
 use Rattle.fb_schema.specs.Parts.{PartFits, part_at, part_count, part_kind, part_of, parts_in, parts_of}
 use Rattle.fb_schema.specs.Rows.{Field, Object, Rows, entry_at, is_some_table}
+use Rattle.std.proofs.lemmas.Option.{same_Some, option_and_then_some}
 
 -- the field at place i of struct k, with its object
 record IsPartRow (rows : Rows) (k i : ℕ) (f : Field) : Type 0 where
@@ -18,38 +19,23 @@ record IsPartRow (rows : Rows) (k i : ℕ) (f : Field) : Type 0 where
 
 row_of : (rows : Rows) (k i : ℕ) (f : Field) (o : Option Object) → slice_get rows.objects k ≡ o → slice_get (parts_in o) i ≡ Some f → IsPartRow rows k i f
 row_of rows k i f None at e = absurd (let w : None ≡ Some f = e in cc)
-row_of rows k i f (Some o) at e = go o.is_struct refl e where
-  go : (b : Bool) → o.is_struct ≡ b → slice_get (if b then o.fields else []) i ≡ Some f → IsPartRow rows k i f
-  go true is e = record { object = o; at = at; struct = is; here = e }
-  go false is e = absurd (let w : None ≡ Some f = e in cc)
-
-struct_list : {X : Type 0} (b : Bool) (xs ys : List X) → b ≡ true → (if b then xs else ys) ≡ xs
-struct_list b xs ys e = grind arith
+row_of rows k i f (Some o) at e = record { object = o; at = at; struct = grind (arith, e); here = grind (arith, e) }
 
 -- what is demanded of it, in an order that begins with its name
 abbrev IsAskedOf : Rows → Object → Field → ℕ → Type 0
 IsAskedOf rows o f i = first_code (struct_field_demands rows o.bytesize f (stands_before same_field_name o.fields i f)) ≡ None
 
 asked : (rows : Rows) → IsLegal rows → (k i : ℕ) (f : Field) (r : IsPartRow rows k i f) → IsAskedOf rows r.object f i
-asked rows legal k i f r =
-    let o = r.object in
-    let fields : demands_of_object rows k (suc i) (slice_get rows.objects k) ≡ demands_of_struct_field rows o.bytesize o.fields i (slice_get o.fields i) =
-    ap (demands_of_object rows k (suc i)) r.at ∙ struct_list o.is_struct (demands_of_struct_field rows o.bytesize o.fields i (slice_get o.fields i)) (demands_of_table_field rows o.fields i (slice_get o.fields i)) r.struct in
-    sym (ap first_code (fields ∙ ap (demands_of_struct_field rows o.bytesize o.fields i) r.here)) ∙ legal_clear rows legal 0 k (suc i)
+asked rows legal k i f r = rw (r.at, r.struct, r.here) at (legal_clear rows legal 0 k (suc i))
 
 -- a struct of legal rows has a size
-sized : (a b c : Bool) → (a && (b || c)) ≡ false → a ≡ true → b ≡ false
-sized a b c h e = grind arith
-
-positive : (z : ℤ) → int_lt z (pos 1) ≡ false → (m : ℕ) × (z ≡ pos m)
-positive (pos m) h = (m, refl)
-positive (negsuc m) h = absurd (let w : true ≡ false = h in cc)
+positive : (z : ℤ) (unaligned : Bool) → (int_lt z (pos 1) || unaligned) ≡ false → (m : ℕ) × (z ≡ pos m)
+positive (pos m) unaligned h = (m, refl)
+positive (negsuc m) unaligned h = absurd (let w : true ≡ false = h in cc)
 
 struct_bytes : (rows : Rows) → IsLegal rows → (k : ℕ) (o : Object) → slice_get rows.objects k ≡ Some o → o.is_struct ≡ true → (m : ℕ) × (o.bytesize ≡ pos m)
 struct_bytes rows legal k o at struct =
-    let named = stands_before same_object_name rows.objects k o in
-    let clear : first_code (object_demands o named) ≡ None = sym (ap (λ x. first_code (demands_of_object rows k 0 x)) at) ∙ legal_clear rows legal 0 k 0 in
-    positive o.bytesize (sized o.is_struct (int_lt o.bytesize (pos 1)) (not (is_alignment o.minalign)) (clear_line (object_demands o named) clear 1 _ refl) struct)
+    positive o.bytesize (not (is_alignment o.minalign)) (rw struct at (clear_line (object_demands o _) (rw at at (legal_clear rows legal 0 k 0)) 1 _ refl))
 
 not_past : (bytes : ℤ) (n : ℕ) → int_lt bytes (pos n) ≡ false → n ≤ unsigned_abs bytes
 not_past (pos b) n h = grind (arith, nat_tests, h)
@@ -102,32 +88,23 @@ module _ (rows : Rows) (legal : IsLegal rows) (index bytes : ℤ) (place length 
   of_shape (Some (Array x)) inline no_table h = of_array x inline no_table h
   of_shape shape inline no_table h = absurd (let w : false ≡ true = inline in cc)
 
--- what a part is of
-part_is : (rows : Rows) (f : Field) (kind : Option Kind) (part : PartView) → part_kind rows f.ty.index (shape_of f.ty) ≡ kind
-    → option_map (λ kind. record { place = f.slot; kind = kind; count = part_count f.ty.fixed_length (shape_of f.ty) }) kind ≡ Some part
-    → (part_kind rows f.ty.index (shape_of f.ty) ≡ Some part.kind) × (part ≡ record { place = f.slot; kind = part.kind; count = part_count f.ty.fixed_length (shape_of f.ty) })
-part_is rows f None part k e = absurd (let w : None ≡ Some part = e in cc)
-part_is rows f (Some kind) part k e =
-    let same : record { place = f.slot; kind = kind; count = part_count f.ty.fixed_length (shape_of f.ty) } ≡ part = cc in
-    (k ∙ ap (λ (p : PartView). Some p.kind) same, sym same ∙ ap (λ (p : PartView). record { place = f.slot; kind = p.kind; count = part_count f.ty.fixed_length (shape_of f.ty) }) same)
-
 part_fits : (rows : Rows) → IsLegal rows → (k i : ℕ) (f : Field) (r : IsPartRow rows k i f) (part : PartView) → part_of rows f ≡ Some part → PartFits rows (struct_size rows k) part part.kind
 unfolding inline_bytes names_table
 part_fits rows legal k i f r part e =
     let o = r.object in
     let ds = struct_field_demands rows o.bytesize f (stands_before same_field_name o.fields i f) in
     let clear = asked rows legal k i f r in
-    let is = part_is rows f (part_kind rows f.ty.index (shape_of f.ty)) part refl e in
-    let fits = MatchOption-at_some _ (Fits rows legal o.bytesize f.slot (part_count f.ty.fixed_length (shape_of f.ty))) part.kind is.0 (of_shape rows legal f.ty.index o.bytesize f.slot f.ty.fixed_length (shape_of f.ty)
-    (not_false (is_inline (shape_of f.ty)) (clear_line ds clear 1 _ refl)) (clear_line ds clear 3 _ refl) (clear_line ds clear 4 _ refl)) in
+    let kinds = of_shape rows legal f.ty.index o.bytesize f.slot f.ty.fixed_length (shape_of f.ty) (not_false (is_inline (shape_of f.ty)) (clear_line ds clear 1 _ refl)) (clear_line ds clear 3 _ refl) (clear_line ds clear 4 _ refl) in
     let size : struct_size rows k ≡ unsigned_abs o.bytesize = ap size_in r.at in
-    subst (λ (n : ℕ). PartFits rows n part part.kind) (sym size) (subst (λ (p : PartView). PartFits rows (unsigned_abs o.bytesize) p part.kind) (sym is.1) fits)
+    subst (λ (n : ℕ). PartFits rows n part part.kind) (sym size) (go (part_kind rows f.ty.index (shape_of f.ty)) kinds e) where
+      count : ℕ
+      count = part_count f.ty.fixed_length (shape_of f.ty)
 
-part_at_is : (rows : Rows) → IsLegal rows → (k i : ℕ) (f : Option Field) (part : PartView) → slice_get (parts_of rows k) i ≡ f → option_and_then (part_of rows) f ≡ Some part → PartFits rows (struct_size rows k) part part.kind
-part_at_is rows legal k i None part at e = absurd (let w : None ≡ Some part = e in cc)
-part_at_is rows legal k i (Some f) part at e = part_fits rows legal k i f (row_of rows k i f (slice_get rows.objects k) refl at) part e
+      go : (kind : Option Kind) → IfSome kind (Fits rows legal (r.object).bytesize f.slot count) → option_map (λ kind. record { place = f.slot; kind = kind; count = count }) kind ≡ Some part → PartFits rows (unsigned_abs (r.object).bytesize) part part.kind
+      go None h e = absurd (let w : None ≡ Some part = e in cc)
+      go (Some kind) h e = subst (λ (p : PartView). PartFits rows (unsigned_abs (r.object).bytesize) p p.kind) (same_Some _ part e) h
 
 -- the fields of structs of legal rows lie in them
 pub parts_fit : (rows : Rows) → IsLegal rows → (k i : ℕ) (part : PartView) → part_at rows k i ≡ Some part → PartFits rows (struct_size rows k) part part.kind
 unfolding part_at
-parts_fit rows legal k i part e = part_at_is rows legal k i (slice_get (parts_of rows k) i) part refl e
+parts_fit rows legal k i part e = option_and_then_some (part_of rows) (slice_get (parts_of rows k) i) part e (λ f here. part_fits rows legal k i f (row_of rows k i f (slice_get rows.objects k) refl here) part)

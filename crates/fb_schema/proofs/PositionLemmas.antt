@@ -1,5 +1,5 @@
 -- The place of the one item that passes a test.
-use Rattle.std.proofs.Common.{◌≡◌, ℕ, ◌<◌, ◌≤◌, ◌⊎◌, inl, inr, Bool, true, false, not, cond, ◌+◌, List, [], ◌∷◌, length, get_or, map, Option, Some, None, refl, sym, ◌∙◌, ap, arith, position}
+use Rattle.std.proofs.Common.{◌≡◌, ℕ, ◌<◌, ◌≤◌, inl, inr, Bool, true, false, not, cond, ◌+◌, List, [], ◌∷◌, length, get_or, map, Option, Some, None, refl, sym, ◌∙◌, ap, arith, position}
 use Rattle.std.proofs.lemmas.{List.length-map, List.Quantifiers.position-Some, List.Sums.fails_before_first, Grind.common_steps}
 use Rattle.std.specs.List.{position_or_len}
 use Rattle.fb_schema.proofs.Numbers.{le_or_lt, slice_get_some}
@@ -14,12 +14,9 @@ found_position p xs k d lt passes only =
 
 pub no_position : {X : Type 0} (p : X → Bool) (xs : List X) → ((j : ℕ) (d : X) → j < length xs → p (get_or xs j d) ≡ true → ⊥) → position p xs ≡ None
 no_position p xs never = go (position p xs) refl where
-  go : (o : Option ℕ) → position p xs ≡ o → position p xs ≡ None
-  go None e = e
-  go (Some i) e = absurd (missing (le_or_lt (length xs) i)) where
-    missing : (length xs ≤ i) ⊎ (i < length xs) → ⊥
-    missing (inl past) = let inside : i < length xs = grind (arith, common_steps) in omega arith
-    missing (inr lt) = let x = slice_get_some xs i lt in let w = position-Some p xs i x.0 e in never i x.0 w.0 w.1
+  go : (o : Option ℕ) → position p xs ≡ o → o ≡ None
+  go None e = refl
+  go (Some i) e = absurd (let inside : i < length xs = grind (arith, common_steps) in let x = slice_get_some xs i inside in let w = position-Some p xs i x.0 e in never i x.0 w.0 w.1)
 
 -- the first of a mapped list that passes stands where the first does whose image passes
 len_mapped : {X Y : Type 0} (f : X → Y) (p : Y → Bool) (xs : List X) → position_or_len p (map f xs) ≡ position_or_len (λ x. p (f x)) xs

@@ -1,12 +1,12 @@
 -- The rows of live fields, and what is demanded of them.
-use Rattle.std.proofs.Common.{◌≡◌, ℕ, zero, suc, ◌<◌, Bool, true, false, not, ◌&&◌, List, [], ◌∷◌, slice_get, filter, Some, None, refl, sym, ◌∙◌, ap, arith, if◌then◌else◌, Contains}
-use Rattle.fb_schema.proofs.{Numbers.negated, IndexLemmas.legal_slots, IndexLemmas.table_list, LegalLemmas.legal_clear}
+use Rattle.std.proofs.Common.{◌≡◌, ℕ, zero, suc, ◌<◌, Bool, true, false, not, ◌&&◌, List, [], ◌∷◌, slice_get, filter, Some, None, refl, ◌∙◌, ap, arith, if◌then◌else◌, Contains}
+use Rattle.fb_schema.proofs.{Numbers.negated}
 use Rattle.std.proofs.lemmas.List.Elements.{filter_passes, All-contains}
 use Rattle.std.proofs.lemmas.Option.{slice_get-get_or, slice_get_within, get_or_from_slice_get}
-use Rattle.fb_schema.specs.declared.kinds.TypeField.TheVariants.{ForUnion, ForUnions}
-use Rattle.fb_schema.specs.Demands.{IsLegal, first_code, demands_of_object, demands_of_table_field, demands_of_struct_field, table_field_demands, stands_before, same_field_name, same_slot, stands_below}
+use Rattle.fb_schema.specs.Demands.{IsLegal}
 use Rattle.fb_schema.specs.{Live.live_rows, Live.by_slot, Live.is_live, Rows.Rows, Rows.Field, Rows.Object}
 use Rattle.fb_schema.proofs.LiveLemmas.{Rises, sorted_rises, sorted_members, filter_contains, filter_apart}
+use Rattle.fb_schema.proofs.LegalLemmas.{IsAsked, legal_slots, table_clear}
 
 -- Places of lists.
 pub contains_at : {X : Type 0} (xs : List X) (i : ℕ) (x : X) → slice_get xs i ≡ Some x → Contains xs x
@@ -31,27 +31,16 @@ pub record IsRowOf (rows : Rows) (k i : ℕ) (o : Object) (f : Field) : Type 0 w
   pub place : ℕ
   pub there : slice_get o.fields place ≡ Some f
 
-table_rows : (o : Object) (b : Bool) → o.is_struct ≡ b → (i : ℕ) (f : Field) → slice_get (live_rows o) i ≡ Some f → (o.is_struct ≡ false) × Contains (by_slot (filter is_live o.fields)) f
-table_rows o true is i f e = absurd (let w : None ≡ Some f = sym (ap (λ b. slice_get (if b then [] else by_slot (filter is_live o.fields)) i) is) ∙ e in cc)
-table_rows o false is i f e = (is, contains_at (by_slot (filter is_live o.fields)) i f (sym (ap (λ b. slice_get (if b then [] else by_slot (filter is_live o.fields)) i) is) ∙ e))
-
 pub row_in : (rows : Rows) (k i : ℕ) (o : Object) (f : Field) → slice_get rows.objects k ≡ Some o → slice_get (live_rows o) i ≡ Some f → IsRowOf rows k i o f
 row_in rows k i o f at here =
-    let t = table_rows o o.is_struct refl i f here in
-    let c = (sorted_members f (filter is_live o.fields)).0 t.1 in
+    let table : o.is_struct ≡ false = grind (arith, here) in
+    let c = (sorted_members f (filter is_live o.fields)).0 (contains_at (by_slot (filter is_live o.fields)) i f (rw table at here)) in
     let p = place_in o.fields f (filter_contains is_live o.fields f c) in
-    record { at = at; table = t.0; here = here; live = negated f.deprecated (All-contains (λ f. is_live f ≡ true) (filter is_live o.fields) f (filter_passes is_live o.fields) c); place = p.0; there = p.1 }
+    record { at = at; table = table; here = here; live = negated f.deprecated (All-contains (λ f. is_live f ≡ true) (filter is_live o.fields) f (filter_passes is_live o.fields) c); place = p.0; there = p.1 }
 
--- the demands of a live field
-abbrev pub IsAsked : Rows → Object → Field → ℕ → Type 0
-IsAsked rows o f p = first_code (table_field_demands rows f (stands_before same_field_name o.fields p f) (stands_before same_slot o.fields p f) (stands_below ForUnion o.fields f.slot) (stands_below ForUnions o.fields f.slot)) ≡ None
-
+-- its demands are met
 pub asked : (rows : Rows) → IsLegal rows → (k i : ℕ) (o : Object) (f : Field) (r : IsRowOf rows k i o f) → IsAsked rows o f r.place
-asked rows legal k i o f r =
-    sym (ap (λ x. first_code (demands_of_object rows k (suc r.place) x)) r.at
-    ∙ ap first_code (table_list o.is_struct (demands_of_struct_field rows o.bytesize o.fields r.place (slice_get o.fields r.place)) (demands_of_table_field rows o.fields r.place (slice_get o.fields r.place)) r.table)
-    ∙ ap (λ x. first_code (demands_of_table_field rows o.fields r.place x)) r.there)
-    ∙ legal_clear rows legal 0 k (suc r.place)
+asked rows legal k i o f r = table_clear rows legal k o r.at r.table r.place f r.there
 
 pub live_line : (a b : Bool) → (not a && b) ≡ false → a ≡ false → b ≡ false
 live_line a b h e = grind arith
@@ -61,4 +50,4 @@ pub rows_rise : (rows : Rows) → IsLegal rows → (k : ℕ) (o : Object) → sl
 rows_rise rows legal k o at = go o.is_struct refl where
   go : (b : Bool) → o.is_struct ≡ b → Rises (if b then [] else by_slot (filter is_live o.fields))
   go true is = tt
-  go false is = sorted_rises (filter is_live o.fields) (filter_apart is_live o.fields (legal_slots rows k o legal at is))
+  go false is = sorted_rises (filter is_live o.fields) (filter_apart is_live o.fields (legal_slots rows legal k o at is))

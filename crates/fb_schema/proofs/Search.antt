@@ -1,11 +1,10 @@
 -- What a binary search by a key finds.
-use Rattle.std.proofs.Common.{◌≡◌, ℕ, ◌+◌, ◌-◌, ◌<◌, ◌≤◌, ◌==◌, inl, inr, Bool, true, false, List, length, get_or, refl, sym, ap, ◌∙◌, arith, is_ok, Result, Ok, Err, Ordering, Less, Equal, Greater}
+use Rattle.std.proofs.Common.{◌≡◌, ℕ, ◌+◌, ◌-◌, ◌<◌, ◌≤◌, ◌==◌, Bool, true, false, List, length, get_or, refl, sym, ap, ◌∙◌, arith, is_ok, Result, Ok, Err, Ordering, Less, Equal, Greater}
 use Rattle.std.proofs.lemmas.Cmp.{nat_cmp_total, ranked, by_ranked, tied_itself}
 use Rattle.std.proofs.lemmas.{Bool.Decides.Decides-eqb, Bool.Decides.nat_tests, List.Folds.list_any_at, List.Folds.list_any_none}
 use Rattle.std.proofs.lemmas.List.Sorted.{searchable_from_sorted}
 use Rattle.std.specs.{List.list_any, Cmp.IsTotalOrder, Ordering.nat_cmp, Ordering.is_lt, Ordering.ordering_index}
 use Rattle.std.specs.List.Sorted.{IsSorted, IsSortedBy, IsNonDecreasingBy, IsPartitionPoint, IsBinarySearchResult, IsSearchInRange}
-use Rattle.fb_schema.proofs.Numbers.{le_or_lt}
 
 -- where the search found nothing, no item has the key
 pub search_missed : {K X : Type 0} (R : K → K → Ordering) (o : IsTotalOrder R) (key : X → K) (xs : List X) (x : K) (at : ℕ) → IsSortedBy (λ a b. is_lt (R (key a) (key b))) xs
@@ -13,10 +12,7 @@ pub search_missed : {K X : Type 0} (R : K → K → Ordering) (o : IsTotalOrder 
     → (k : ℕ) (d : X) → k < length xs → R (key (get_or xs k d)) x ≡ Equal → ⊥
 search_missed R o key xs x at up split k d lt tied =
     let s = split (searchable_from_sorted o key xs x up) in
-    elim (le_or_lt at k) [
-      | inl after ↦ (let w : Equal ≡ Greater = sym tied ∙ s.1 k d after lt in cc)
-      | inr before ↦ (let w : Equal ≡ Less = sym tied ∙ s.0 k d (omega arith) before in cc)
-    ]
+    grind (arith, s.0 k d, s.1 k d, tied)
 
 pub not_true : (b : Bool) → (b ≡ true → ⊥) → b ≡ false
 not_true b h = grind arith

@@ -1,15 +1,12 @@
 -- The targets of a union are found by the values that its members have.
-use Rattle.std.proofs.Common.{◌≡◌, ℕ, zero, suc, ◌+◌, ◌<◌, ◌≤◌, ◌⊎◌, inl, inr, List, [], ◌∷◌, ◌++◌, length, get_or, take, map, true, refl, sym, subst, ◌∙◌, ap, arith, option_and_then}
+use Rattle.std.proofs.Common.{◌≡◌, ℕ, zero, suc, ◌+◌, ◌<◌, ◌≤◌, ◌⊎◌, inl, inr, List, [], ◌∷◌, ◌++◌, length, get_or, take, map, true, sym, subst, ◌∙◌, ap, arith, option_and_then}
 use Rattle.std.proofs.lemmas.{Option.slice_get_within, List.get_or_append_left, List.length_push, Grind.take_at_read}
 use Rattle.std.proofs.Math.Seq.{get_or-append_seam}
 use Rattle.fb_schema.specs.declared.{flat.EnumPart.EnumPart, views.Target.Target, rows.MemberRow.MemberRow}
 use Rattle.fb_schema.specs.{Flat.part, Kinds.kind_of, Rows.Rows, Rows.Member, Rows.member_of_row}
 use Rattle.fb_schema.specs.Targets.{nothing, target_at, target_of, kind_among, AreTargets, HaveTargets}
-use Rattle.fb_schema.proofs.{IndexLemmas.slice_get_end, Numbers.lt_or_eq, UnionLemmas.none_for_zero}
-
--- the first item of a list that was empty
-pub only_item : {X : Type 0} (old new : List X) (x : X) → old ≡ [] → new ≡ old ++ x ∷ [] → new ≡ x ∷ []
-only_item old new x e f = f ∙ ap (λ xs. xs ++ x ∷ []) e
+use Rattle.fb_schema.proofs.{IndexLemmas.slice_get_end, UnionLemmas.none_for_zero}
+use Rattle.std.proofs.lemmas.List.{get_or_past}
 
 pub first_place : (places : List ℕ) → places ≡ 0 ∷ [] → (k : ℕ) → get_or places k 0 ≡ 0
 first_place places e zero = ap (λ ps. get_or ps 0 0) e
@@ -19,12 +16,12 @@ first_place places e (suc k) = ap (λ ps. get_or ps (suc k) 0) e
 pub zero_target : (rows : Rows) (members : List Member) → nothing ≡ target_of rows (kind_among rows members 0)
 zero_target rows members = sym (ap (target_of rows) (ap (option_and_then (λ (m : Member). kind_of rows m.ty)) (none_for_zero members)))
 
+put_last : {X : Type 0} (xs : List X) (x d : X) (n : ℕ) → n ≡ length xs → get_or (xs ++ x ∷ []) n d ≡ x
+put_last xs x d n e = ap (λ k. get_or (xs ++ x ∷ []) k d) e ∙ get_or-append_seam xs x [] d
+
 -- one place more
 pub grown : (places : List ℕ) (place k : ℕ) → (get_or (places ++ place ∷ []) k 0 ≡ get_or places k 0) ⊎ ((k ≡ length places) × (get_or (places ++ place ∷ []) k 0 ≡ place))
-grown [] place zero = inr (refl, refl)
-grown [] place (suc k) = inl refl
-grown (p ∷ ps) place zero = inl refl
-grown (p ∷ ps) place (suc k) = elim (grown ps place k) [ inl e ↦ inl e | inr h ↦ inr (ap suc h.0, h.1) ]
+grown places place k = grind (arith, length_push places place, get_or_append_left places (place ∷ []) 0 k, put_last places place 0 k, get_or_past places k 0, get_or_past (places ++ place ∷ []) k 0)
 
 module _ (places : List ℕ) (place n : ℕ) (long : length places ≡ n) where
   pub long_step : length (places ++ place ∷ []) ≡ n + 1
@@ -33,21 +30,14 @@ module _ (places : List ℕ) (place n : ℕ) (long : length places ≡ n) where
   pub within_step : (old new : ℕ) → old ≤ new → place < new → ((k : ℕ) → get_or places k 0 < old) → (k : ℕ) → get_or (places ++ place ∷ []) k 0 < new
   within_step old new le lt h k = elim (grown places place k) [ inl e ↦ (let w = h k in omega arith) | inr here ↦ (let w = here.1 in omega arith) ]
 
-  pub behind_taken : (end : ℕ) → end ≤ n → ((k : ℕ) → end ≤ k → get_or places k 0 ≡ 0) → (k : ℕ) → n + 1 ≤ k → get_or (places ++ place ∷ []) k 0 ≡ 0
-  behind_taken end le h k low = elim (grown places place k) [ inl e ↦ e ∙ h k (omega arith) | inr here ↦ absurd (let w = here.0 in omega arith) ]
-
-  pub behind_none : (end : ℕ) → place ≡ 0 → ((k : ℕ) → end ≤ k → get_or places k 0 ≡ 0) → (k : ℕ) → end ≤ k → get_or (places ++ place ∷ []) k 0 ≡ 0
-  behind_none end z h k low = elim (grown places place k) [ inl e ↦ e ∙ h k low | inr here ↦ here.1 ∙ z ]
+  pub behind_step : (end next : ℕ) → end ≤ next → (next ≤ n → place ≡ 0) → ((k : ℕ) → end ≤ k → get_or places k 0 ≡ 0) → (k : ℕ) → next ≤ k → get_or (places ++ place ∷ []) k 0 ≡ 0
+  behind_step end next le none h k low = elim (grown places place k) [ inl e ↦ e ∙ h k (omega arith) | inr here ↦ here.1 ∙ none (let w = here.0 in omega arith) ]
 
   pub found_step : (old new : List Target) (wanted : ℕ → Target) → ((k : ℕ) → get_or places k 0 < length old)
       → ((k : ℕ) → k < length old → get_or new k nothing ≡ get_or old k nothing)
       → ((k : ℕ) → k < n → target_at places old k ≡ wanted k) → get_or new place nothing ≡ wanted n
       → (k : ℕ) → k < n + 1 → target_at (places ++ place ∷ []) new k ≡ wanted k
-  found_step old new wanted within kept found here k lt = elim (lt_or_eq k n (omega arith)) [
-    | inl low ↦ ap (λ p. get_or new p nothing) (get_or_append_left places (place ∷ []) 0 k (omega (arith, low, long))) ∙ kept (get_or places k 0) (within k) ∙ found k low
-    | inr same ↦ subst (λ j. target_at (places ++ place ∷ []) new j ≡ wanted j) (long ∙ sym same)
-        (ap (λ p. get_or new p nothing) (get_or-append_seam places place [] 0) ∙ here ∙ ap wanted (sym long))
-  ]
+  found_step old new wanted within kept found here k lt = grind (arith, get_or_append_left places (place ∷ []) 0 k, put_last places place 0 k, kept (get_or places k 0) (within k), found k, here)
 
 -- one enum more, with its places and targets
 have_more : (rows : Rows) (all : List MemberRow) (enums : List EnumPart) (places : List (List ℕ)) (targets : List (List Target)) (row : EnumPart) (ps : List ℕ) (ts : List Target) → HaveTargets rows all enums places targets
@@ -55,22 +45,12 @@ have_more : (rows : Rows) (all : List MemberRow) (enums : List EnumPart) (places
 have_more rows all enums places targets row ps ts h r = record {
   long_places = omega (arith, length_push places ps, length_push enums row, h.long_places);
   long_targets = omega (arith, length_push targets ts, length_push enums row, h.long_targets);
-  at = λ n a b d e f k. elim (slice_get_end enums row a n e) [
+  at = λ n a e. elim (slice_get_end enums row a n e) [
     | inl old ↦ (
         let low = slice_get_within enums n a old in
-        elim (slice_get_end places ps b n f) [
-          | inr here ↦ absurd (let m = here.0 in let l = h.long_places in omega arith)
-          | inl there ↦ elim (slice_get_end targets ts d n k) [ inr here ↦ absurd (let m = here.0 in let l = h.long_targets in omega arith) | inl too ↦ h.at n a b d old there too ]
-        ])
-    | inr new ↦ elim (slice_get_end places ps b n f) [
-      | inl there ↦ absurd (let lt = slice_get_within places n b there in let m = new.0 in let l = h.long_places in omega arith)
-      | inr here ↦ elim (slice_get_end targets ts d n k) [
-        | inl there ↦ absurd (let lt = slice_get_within targets n d there in let m = new.0 in let l = h.long_targets in omega arith)
-        | inr last ↦ subst (λ x. x.is_union ≡ true → AreTargets rows (map member_of_row (part all x.members)) b d) new.1
-            (subst (λ y. row.is_union ≡ true → AreTargets rows (map member_of_row (part all row.members)) y d) here.1
-            (subst (λ z. row.is_union ≡ true → AreTargets rows (map member_of_row (part all row.members)) ps z) last.1 r))
-      ]
-    ]
+        rw (get_or_append_left places (ps ∷ []) [] n (omega (arith, h.long_places)), get_or_append_left targets (ts ∷ []) [] n (omega (arith, h.long_targets))) (h.at n a old))
+    | inr new ↦ subst (λ x. x.is_union ≡ true → AreTargets rows (map member_of_row (part all x.members)) (get_or (places ++ ps ∷ []) n []) (get_or (targets ++ ts ∷ []) n [])) new.1
+        (rw (put_last places ps [] n (new.0 ∙ sym h.long_places), put_last targets ts [] n (new.0 ∙ sym h.long_targets)) r)
   ];
 }
 

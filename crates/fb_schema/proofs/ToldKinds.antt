@@ -1,39 +1,27 @@
 -- The kind of a union's member is told from where it leads.
-use Rattle.std.proofs.Common.{◌≡◌, ℕ, suc, ℤ, pos, negsuc, Bool, true, false, not, ◌&&◌, cond, List, [], ◌∷◌, slice_get, filter, Option, Some, None, refl, sym, ◌∙◌, ap, subst, find, if◌then◌else◌, arith, option_and_then, int_eq}
-use Rattle.std.proofs.lemmas.Option.{same_Some}
-use Rattle.fb_schema.proofs.KindWords.{Kind, Struct, Table, Shape, One, OfText, OfObject}
-use Rattle.fb_schema.proofs.{Numbers.both_true, DemandLaws.clear_line, FindLemmas.find_filter, UnionLemmas.union_list, UnionLemmas.not_none}
-use Rattle.fb_schema.proofs.LegalLemmas.{legal_clear}
-use Rattle.fb_schema.specs.Demands.{IsLegal, first_code, members_asked, member_demands, demands_of_member, demands_of_enum, is_for_member}
-use Rattle.fb_schema.specs.Kinds.{kind_of, shape_of, shape_kind, object_kind}
+use Rattle.std.proofs.Common.{◌≡◌, ℕ, suc, ℤ, pos, negsuc, Bool, true, false, ◌&&◌, List, [], ◌∷◌, slice_get, filter, Option, Some, None, refl, sym, ◌∙◌, ap, find, arith, option_and_then, int_eq, inl, inr}
+use Rattle.fb_schema.proofs.KindWords.{Kind, Shape, One, OfText, OfObject}
+use Rattle.fb_schema.proofs.{Numbers.both_true, DemandLaws.clear_line, FindLemmas.find_filter, UnionLemmas.not_none}
+use Rattle.fb_schema.proofs.{LegalLemmas.legal_clear, MemberLemmas.is_true_or_false}
+use Rattle.fb_schema.specs.Demands.{IsLegal, first_code, members_asked, member_demands, demands_of_member, is_for_member}
+use Rattle.fb_schema.specs.{Kinds.kind_of, Kinds.shape_of, Kinds.shape_kind, Rows.Rows, Rows.Member, Rows.Enum}
 use Rattle.fb_schema.specs.{Members.is_member_value, Members.member_of, Members.members_in, Targets.target_of, Targets.kind_to, Targets.kind_among}
-use Rattle.fb_schema.specs.Rows.{Rows, Object, Member, Enum, entry_at}
 
 -- what is found passes the test and stands in the list
 found_with : {X : Type 0} (p : X → Bool) (P : X → Type 0) (xs : List X) → ((j : ℕ) (x : X) → slice_get xs j ≡ Some x → p x ≡ true → P x) → (m : X) → find p xs ≡ Some m → P m
 found_with p P [] h m e = absurd (let w : None ≡ Some m = e in cc)
-found_with p P (x ∷ xs) h m e = go (found_with p P xs (λ j y a t. h (suc j) y a t) m) (p x) refl e where
-  go : (find p xs ≡ Some m → P m) → (b : Bool) → p x ≡ b → cond b (Some x) (find p xs) ≡ Some m → P m
-  go later true t e = subst P (same_Some x m e) (h 0 x refl t)
-  go later false t e = later e
-
-object_told : (rows : Rows) (index : ℤ) (o : Option Object) → kind_to (target_of rows (object_kind index Struct Table o)) ≡ object_kind index Struct Table o
-object_told rows index None = refl
-object_told rows (negsuc k) (Some o) = refl
-object_told rows (pos k) (Some o) = grind arith
+found_with p P (x ∷ xs) h m e = grind (arith, e, h 0 x, found_with p P xs (λ j. h (suc j)) m)
 
 shape_told : (rows : Rows) (index : ℤ) (s : Option Shape) → is_for_member s ≡ true → kind_to (target_of rows (shape_kind rows index s)) ≡ shape_kind rows index s
 shape_told rows index None h = refl
 shape_told rows index (Some (One OfText)) h = refl
-shape_told rows index (Some (One OfObject)) h = object_told rows index (entry_at rows.objects index)
+shape_told rows (negsuc k) (Some (One OfObject)) h = refl
+shape_told rows (pos k) (Some (One OfObject)) h = grind arith
 shape_told rows index s h = absurd (let w : false ≡ true = h in cc)
 
 type_told : (rows : Rows) (m : Member) → is_for_member (shape_of m.ty) ≡ true → kind_to (target_of rows (kind_of rows m.ty)) ≡ kind_of rows m.ty
 unfolding kind_of
 type_told rows m h = shape_told rows (m.ty).index (shape_of m.ty) h
-
-both_asked : (zero for : Bool) → zero ≡ false → (not zero && not for) ≡ false → for ≡ true
-both_asked zero for z h = grind arith
 
 -- of members that break no demand, the kind of the one with a value is told by its target
 pub told_again : (rows : Rows) (members : List Member) → ((q : ℕ) → first_code (members_asked rows members q) ≡ None) → (value : ℕ) → kind_to (target_of rows (kind_among rows members value)) ≡ kind_among rows members value
@@ -48,7 +36,9 @@ told_again rows members clear value =
       holds : (j : ℕ) (m : Member) → slice_get members j ≡ Some m → test m ≡ true → is_for_member (shape_of m.ty) ≡ true
       holds j m at t =
           let c = ap first_code (sym (ap (demands_of_member rows members j) at)) ∙ clear j in
-          both_asked (int_eq m.value (pos 0)) (is_for_member (shape_of m.ty)) (not_none m.value (both_true (is_member_value m.value) (int_eq m.value (pos value)) t).0) (clear_line (member_demands rows m _ _) c 2 _ refl)
+          let real = not_none m.value (both_true (is_member_value m.value) (int_eq m.value (pos value)) t).0 in
+          let line = clear_line (member_demands rows m _ _) c 2 _ refl in
+          grind (arith, real, line)
 
       go : (found : Option Member) → find test members ≡ found → kind_to (target_of rows (option_and_then (λ (m : Member). kind_of rows m.ty) found)) ≡ option_and_then (λ (m : Member). kind_of rows m.ty) found
       go None e = refl
@@ -59,16 +49,10 @@ kind_in rows value e = option_and_then (λ m. kind_of rows m.ty) (find (λ m. in
 
 told_in : (rows : Rows) → IsLegal rows → (n value : ℕ) (e : Option Enum) → slice_get rows.enums n ≡ e → kind_to (target_of rows (kind_in rows value e)) ≡ kind_in rows value e
 told_in rows legal n value None at = refl
-told_in rows legal n value (Some e) at = go e.is_union refl where
-  members : Bool → List Member
-  members b = if b then filter (λ m. is_member_value m.value) e.members else []
-
-  kind : Bool → Option Kind
-  kind b = option_and_then (λ m. kind_of rows m.ty) (find (λ m. int_eq m.value (pos value)) (members b))
-
-  go : (b : Bool) → e.is_union ≡ b → kind_to (target_of rows (kind b)) ≡ kind b
-  go true union = told_again rows e.members (λ q. sym (ap first_code (ap (demands_of_enum rows (suc q)) at ∙ union_list e.is_union (members_asked rows e.members q) union)) ∙ legal_clear rows legal 1 n (suc q)) value
-  go false union = refl
+told_in rows legal n value (Some e) at = elim (is_true_or_false e.is_union) [
+  | inl union ↦ rw union (told_again rows e.members (λ q. rw (at, union) at (legal_clear rows legal 1 n (suc q))) value)
+  | inr other ↦ rw other refl
+]
 
 -- the same of legal rows
 pub told_of : (rows : Rows) → IsLegal rows → (n value : ℕ) → kind_to (target_of rows (member_of rows n value)) ≡ member_of rows n value

@@ -1,23 +1,20 @@
 -- What the live fields of legal rows give.
-use Rattle.std.proofs.Common.{◌≡◌, ℕ, zero, suc, ◌+◌, ◌-◌, ◌*◌, ◌/◌, ◌<◌, ◌≤◌, ◌==◌, ◌%◌, nat_lt, inl, inr, ℤ, Bool, true, false, not, ◌&&◌, ◌||◌, List, [], ◌∷◌, slice_get, filter, Option, Some, None, refl, sym, ◌∙◌, ap, subst, arith, cond, if◌then◌else◌, IfSome}
-use Rattle.std.proofs.lemmas.{Option.MatchOption-at_some, List.Folds.Any-from_list_any, Bool.Decides.Decides-eqb, Bool.Decides.nat_tests}
+use Rattle.std.proofs.Common.{◌≡◌, ℕ, zero, suc, ◌+◌, ◌*◌, ◌<◌, ◌≤◌, ◌==◌, ◌%◌, ℤ, Bool, true, false, not, ◌&&◌, List, [], ◌∷◌, slice_get, filter, Option, Some, None, refl, sym, ◌∙◌, ap, subst, arith, cond, if◌then◌else◌}
+use Rattle.std.proofs.lemmas.{List.Folds.Any-from_list_any, Bool.Decides.nat_tests}
 use Rattle.std.specs.List.{Contains, list_any}
 use Rattle.fb_schema.specs.declared.{kinds.Scalar.TheVariants.UType, kinds.TypeField.TypeField}
 use Rattle.fb_schema.specs.declared.kinds.TypeField.TheVariants.{ForUnion, ForUnions}
-use Rattle.fb_schema.specs.Demands.{IsLegal, table_field_demands, stands_before, same_slot, stands_below, is_type_field, lacks_type_field, is_union_shape, names_no_union}
+use Rattle.fb_schema.specs.Demands.{IsLegal, table_field_demands, stands_below, is_type_field, lacks_type_field, names_no_union}
 use Rattle.fb_schema.specs.Kinds.{kind_of, shape_of, shape_kind, kind_size, kind_align, scalar_size}
 use Rattle.fb_schema.specs.Live.{Live, live_fields, live_rows, live_as, by_slot, is_live, widest, AreSpaced}
-use Rattle.fb_schema.specs.Rows.{Rows, Field, Object, entry_at, is_some_union}
+use Rattle.fb_schema.specs.Rows.{Rows, Field, Object}
 use Rattle.fb_schema.specs.Served.{IsAlignment, KindHolds, HasTypeField, IsTyped, IsServed}
-use Rattle.fb_schema.proofs.KindWords.{Kind, Scalar, Struct, Table, Union, Scalars, Structs, Tables, Unions, OfScalar, OfObject, OfUnion, Shape, One, Vector}
+use Rattle.fb_schema.proofs.KindWords.{Kind, Scalar, Struct, Union, Scalars, Structs, Unions, OfScalar, Shape, One, Vector}
 use Rattle.fb_schema.proofs.{DemandLaws.clear_line, Kinded.listed, Kinded.row_of, Kinded.field_sized, LiveLemmas.Rises, LiveLemmas.sorted_members}
 use Rattle.fb_schema.proofs.{LookLemmas.within_widest, PartLemmas.parts_fit}
-use Rattle.fb_schema.proofs.KindLemmas.{NamesObject, NamesUnion, names_object, union_of_shape, object_kinds, union_kinds, member_holds, power_of}
-use Rattle.fb_schema.proofs.Numbers.{le_or_lt, lt_or_eq, not_false, neither_below}
+use Rattle.fb_schema.proofs.KindLemmas.{NamesObject, NamesUnion, member_holds, power_of, HasAsked, is_named}
+use Rattle.fb_schema.proofs.Numbers.{neither_below}
 use Rattle.fb_schema.proofs.RowLemmas.{contains_at, place_in, rises_at, IsRowOf, row_in, asked, live_line, rows_rise}
-
-any_found : {X : Type 0} (p : X → Bool) (xs : List X) → list_any p xs ≡ true → (x : X) × Contains xs x × (p x ≡ true)
-any_found p xs h = let a = Any-from_list_any p xs h in (a.1, (a.0, a.2, a.3), a.4)
 
 filter_keeps : {X : Type 0} (p : X → Bool) (xs : List X) (k : ℕ) (z : X) → slice_get xs k ≡ Some z → p z ≡ true → Contains (filter p xs) z
 filter_keeps p [] k z e q = absurd (let w : None ≡ Some z = e in cc)
@@ -31,13 +28,7 @@ filter_keeps p (x ∷ xs) (suc k) z e q = go (p x) (filter_keeps p xs k z e q) w
   go false c = c
 
 place_below : (fs : List Field) → Rises fs → (i j : ℕ) (f g : Field) → slice_get fs i ≡ Some f → slice_get fs j ≡ Some g → g.slot < f.slot → j < i
-place_below fs r i j f g a b lt = elim (le_or_lt i j) [
-  | inl le ↦ elim (lt_or_eq i j le) [
-    | inl less ↦ absurd (let h = rises_at fs r i j f g a b less in omega arith)
-    | inr same ↦ absurd (let w : Some f ≡ Some g = sym a ∙ ap (slice_get fs) same ∙ b in let v : f ≡ g = cc in let e = ap (λ (f : Field). f.slot) v in omega arith)
-  ]
-  | inr less ↦ less
-]
+place_below fs r i j f g a b lt = grind (arith, rises_at fs r i j f g a b)
 
 scalar_aligned : (s : _) → IsAlignment (scalar_size s)
 scalar_aligned s = power_of (scalar_size s) (0 ∷ 1 ∷ 2 ∷ 3 ∷ []) (is_one s) where
@@ -56,17 +47,16 @@ kind_holds rows f kind e h u = h
 
 -- the union of a live field is there
 union_named : (rows : Rows) → IsLegal rows → (k i : ℕ) (o : Object) (g : Field) → IsRowOf rows k i o g → (kind : Kind) → kind_of rows g.ty ≡ Some kind → NamesUnion rows kind
-unfolding kind_of names_no_union
+unfolding names_no_union
 union_named rows legal k i o g r kind e =
-    let line = clear_line (table_field_demands rows g _ _ _ _) (asked rows legal k i o g r) 4 _ refl in
-    MatchOption-at_some _ (NamesUnion rows) kind e (union_of_shape rows g.ty.index (shape_of g.ty) (live_line g.deprecated (is_union_shape (shape_of g.ty) && not (is_some_union (entry_at rows.enums g.ty.index))) line r.live))
+    (is_named rows legal g.ty false false kind e).1 (live_line g.deprecated _ (clear_line (table_field_demands rows g _ _ _ _) (asked rows legal k i o g r) 4 _ refl) r.live)
 
 -- what a live field's kind names is there
 pub field_holds : (rows : Rows) → IsLegal rows → (k i : ℕ) (f : Live) → slice_get (live_fields rows k) i ≡ Some f → KindHolds rows f f.kind
 field_holds rows legal k i f e =
     let r = row_of rows legal k i f e in
     subst (λ (f : Live). KindHolds rows f f.kind) (sym r.same)
-    (kind_holds rows (live_as rows (live_rows r.object) r.field r.kind) r.kind refl (names_object rows legal r.field.ty r.kind r.kind_is) (union_named rows legal k i r.object r.field r.row r.kind r.kind_is))
+    (kind_holds rows (live_as rows (live_rows r.object) r.field r.kind) r.kind refl (is_named rows legal r.field.ty false false r.kind r.kind_is).0 (union_named rows legal k i r.object r.field r.row r.kind r.kind_is))
 
 -- the kind of a type field
 abbrev type_kind : TypeField → Kind
@@ -78,16 +68,8 @@ type_shape rows index ForUnion (Some (One (OfScalar UType))) h = refl
 type_shape rows index ForUnions (Some (Vector (OfScalar UType))) h = refl
 type_shape rows index wanted s h = absurd (let w : false ≡ true = h in cc)
 
-kind_of_type : (rows : Rows) (wanted : TypeField) (h : Field) → is_type_field wanted (shape_of h.ty) ≡ true → kind_of rows h.ty ≡ Some (type_kind wanted)
-unfolding kind_of
-kind_of_type rows wanted h e = type_shape rows h.ty.index wanted (shape_of h.ty) e
-
 size_of_type : (rows : Rows) (wanted : TypeField) → kind_size rows (type_kind wanted) ≡ 1
-size_of_type rows ForUnion = refl
-size_of_type rows ForUnions = refl
-
-three : (a b c : Bool) → (a && b && c) ≡ true → (a ≡ true) × (b ≡ true) × (c ≡ true)
-three a b c h = grind arith
+size_of_type rows wanted = grind arith
 
 -- a live row has a place among the live rows
 live_place : (o : Object) (h : Field) → o.is_struct ≡ false → Contains o.fields h → is_live h ≡ true → (j : ℕ) × (slice_get (live_rows o) j ≡ Some h)
@@ -97,34 +79,21 @@ live_place o h table c live =
     (q.0, ap (λ b. slice_get (if b then [] else by_slot (filter is_live o.fields)) q.0) table ∙ q.1)
 
 type_before : (rows : Rows) → IsLegal rows → (k i : ℕ) (o : Object) (g : Field) → IsRowOf rows k i o g → (wanted : TypeField) → stands_below wanted o.fields g.slot ≡ true → HasTypeField (live_fields rows k) i g.slot (type_kind wanted)
+unfolding kind_of
 type_before rows legal k i o g r wanted stands =
-    let found = any_found (λ h. not h.deprecated && (h.slot + 2 == g.slot) && is_type_field wanted (shape_of h.ty)) o.fields stands in
-    let h = found.0 in
-    let is = three (not h.deprecated) (h.slot + 2 == g.slot) (is_type_field wanted (shape_of h.ty)) found.2 in
-    let below : h.slot + 2 ≡ g.slot = (Decides-eqb (h.slot + 2) g.slot).0 is.1 in
-    let p = live_place o h r.table found.1 is.0 in
+    let found = Any-from_list_any (λ h. not h.deprecated && (h.slot + 2 == g.slot) && is_type_field wanted (shape_of h.ty)) o.fields stands in
+    let h = found.1 in
+    let is : (is_live h ≡ true) × (h.slot + 2 ≡ g.slot) × (is_type_field wanted (shape_of h.ty) ≡ true) = (grind (arith, found.4), grind (arith, nat_tests, found.4), grind (arith, found.4)) in
+    let p = live_place o h r.table (found.0, found.2, found.3) is.0 in
     record {
       place = p.0;
-      lower = place_below (live_rows o) (rows_rise rows legal k o r.at) i p.0 g h r.here p.1 (omega (arith, below));
+      lower = place_below (live_rows o) (rows_rise rows legal k o r.at) i p.0 g h r.here p.1 (omega (arith, is.1));
       field = live_as rows (live_rows o) h (type_kind wanted);
-      found = listed rows legal k o r.at p.0 h (type_kind wanted) p.1 (kind_of_type rows wanted h is.2);
-      below = below;
+      found = listed rows legal k o r.at p.0 h (type_kind wanted) p.1 (type_shape rows h.ty.index wanted (shape_of h.ty) is.2);
+      below = is.1;
       kind_is = refl;
       size_is = size_of_type rows wanted;
     }
-
--- the type field that a kind asks for is there
-abbrev HasAsked : Bool → Bool → Kind → Type 0
-HasAsked byte vector (Union e) = byte ≡ true
-HasAsked byte vector (Unions e) = vector ≡ true
-HasAsked byte vector _ = Unit {0}
-
-has_asked : (rows : Rows) (byte vector : Bool) (index : ℤ) (s : Option Shape) → lacks_type_field s byte vector ≡ false → IfSome (shape_kind rows index s) (HasAsked byte vector)
-has_asked rows byte vector index (Some (One OfObject)) h = object_kinds rows (HasAsked byte vector) Struct Table index (λ _ _ _ _ _. tt) (λ _ _ _ _ _. tt)
-has_asked rows byte vector index (Some (One OfUnion)) h = union_kinds rows (HasAsked byte vector) Union index (λ _ _ _ _. not_false byte h)
-has_asked rows byte vector index (Some (Vector OfObject)) h = object_kinds rows (HasAsked byte vector) Structs Tables index (λ _ _ _ _ _. tt) (λ _ _ _ _ _. tt)
-has_asked rows byte vector index (Some (Vector OfUnion)) h = union_kinds rows (HasAsked byte vector) Unions index (λ _ _ _ _. not_false vector h)
-has_asked rows byte vector index s h = tt
 
 kind_typed : (fs : List Live) (i slot : ℕ) (byte vector : Bool) (kind : Kind) → HasAsked byte vector kind → (byte ≡ true → HasTypeField fs i slot (Scalar UType)) → (vector ≡ true → HasTypeField fs i slot (Scalars UType)) → IsTyped fs i slot kind
 kind_typed fs i slot byte vector (Union e) h one many = one h
@@ -132,12 +101,11 @@ kind_typed fs i slot byte vector (Unions e) h one many = many h
 kind_typed fs i slot byte vector kind h one many = tt
 
 row_typed : (rows : Rows) → IsLegal rows → (k i : ℕ) (o : Object) (g : Field) → IsRowOf rows k i o g → (kind : Kind) → kind_of rows g.ty ≡ Some kind → IsTyped (live_fields rows k) i g.slot kind
-unfolding kind_of
 row_typed rows legal k i o g r kind e =
     let byte = stands_below ForUnion o.fields g.slot in
     let vector = stands_below ForUnions o.fields g.slot in
     let line = live_line g.deprecated (lacks_type_field (shape_of g.ty) byte vector) (clear_line (table_field_demands rows g _ _ _ _) (asked rows legal k i o g r) 5 _ refl) r.live in
-    kind_typed (live_fields rows k) i g.slot byte vector kind (MatchOption-at_some _ (HasAsked byte vector) kind e (has_asked rows byte vector g.ty.index (shape_of g.ty) line)) (type_before rows legal k i o g r ForUnion) (type_before rows legal k i o g r ForUnions)
+    kind_typed (live_fields rows k) i g.slot byte vector kind ((is_named rows legal g.ty byte vector kind e).2 line) (type_before rows legal k i o g r ForUnion) (type_before rows legal k i o g r ForUnions)
 
 -- a live union has its type field before it
 pub field_typed : (rows : Rows) → IsLegal rows → (k i : ℕ) (f : Live) → slice_get (live_fields rows k) i ≡ Some f → IsTyped (live_fields rows k) i f.slot f.kind
@@ -146,19 +114,8 @@ field_typed rows legal k i f e =
     subst (λ (f : Live). IsTyped (live_fields rows k) i f.slot f.kind) (sym r.same) (row_typed rows legal k i r.object r.field r.row r.kind r.kind_is)
 
 -- Slots.
-asked_of_slot : (a b c : Bool) → (not a || b || c) ≡ false → (a ≡ true) × (b ≡ false)
-asked_of_slot a b c h = grind arith
-
-abbrev IsSlot : Field → Type 0
-IsSlot f = (f.slot % 2 ≡ 0) × (4 ≤ f.slot)
-
-row_slot : (rows : Rows) → IsLegal rows → (k i : ℕ) (o : Object) (f : Field) → IsRowOf rows k i o f → IsSlot f
-row_slot rows legal k i o f r =
-    let line = clear_line (table_field_demands rows f _ _ _ _) (asked rows legal k i o f r) 1 _ refl in
-    let is = asked_of_slot (f.slot % 2 == 0) (nat_lt f.slot 4) (stands_before same_slot o.fields r.place f) line in
-    ((Decides-eqb (f.slot % 2) 0).0 is.0, at_least f.slot is.1) where
-      at_least : (n : ℕ) → nat_lt n 4 ≡ false → 4 ≤ n
-      at_least n h = grind (arith, nat_tests, h)
+row_slot : (rows : Rows) → IsLegal rows → (k i : ℕ) (o : Object) (f : Field) → IsRowOf rows k i o f → (f.slot % 2 ≡ 0) × (4 ≤ f.slot)
+row_slot rows legal k i o f r = let line = clear_line (table_field_demands rows f _ _ _ _) (asked rows legal k i o f r) 1 _ refl in (grind (arith, nat_tests, line), grind (arith, nat_tests, line))
 
 spaced_from : (low : ℕ) (fs : List Field) → low % 2 ≡ 0 → Rises fs → ((f : Field) → Contains fs f → (f.slot % 2 ≡ 0) × (low ≤ f.slot)) → (i : ℕ) (f : Field) → slice_get fs i ≡ Some f → low + 2 * i ≤ f.slot
 spaced_from low [] even r all i f e = absurd (let w : None ≡ Some f = e in cc)
@@ -166,9 +123,8 @@ spaced_from low (x ∷ xs) even r all zero f e = let h = (all f (contains_at (x 
 spaced_from low (x ∷ xs) even r all (suc i) f e =
     let here = all x (0, omega arith, refl) in
     let a = here.0 in
-    let b = here.1 in
     let later = spaced_from (x.slot + 2) xs (omega (arith, a)) r.1 (λ g c. let there = all g (suc c.0, omega (arith, c.1), c.2) in let p = there.0 in let lt = r.0 g c in (p, omega (arith, p, lt, a))) i f e in
-    omega (arith, later, b)
+    omega (arith, here.1, later)
 
 -- the slots of a legal table's live fields rise by two at least
 pub rows_spaced : (rows : Rows) → IsLegal rows → (k : ℕ) (o : Object) → slice_get rows.objects k ≡ Some o → AreSpaced (live_rows o)
@@ -186,34 +142,18 @@ fields_rise rows legal k i j f g a b lt =
     let less = rises_at (live_rows p.object) (rows_rise rows legal k p.object (p.row).at) i j p.field q.field (p.row).here there lt in
     omega (arith, less, ap (λ (x : Live). x.slot) p.same, ap (λ (x : Live). x.slot) q.same)
 
-slots_even : (rows : Rows) → IsLegal rows → (k i : ℕ) (f : Live) → slice_get (live_fields rows k) i ≡ Some f → f.slot % 2 ≡ 0
-slots_even rows legal k i f e =
-    let p = row_of rows legal k i f e in
-    subst (λ s. s % 2 ≡ 0) (sym (ap (λ (x : Live). x.slot) p.same)) (row_slot rows legal k i p.object p.field p.row).0
-
 -- the slot of a field follows from its number
-numbered : (s n : ℕ) → s % 2 ≡ 0 → 4 ≤ s → n ≡ (s - 4) / 2 → s ≡ 2 * n + 4
-numbered s n e l h = omega arith
-
 slot_numbered : (rows : Rows) → IsLegal rows → (k i : ℕ) (f : Live) → slice_get (live_fields rows k) i ≡ Some f → f.slot ≡ 2 * f.number + 4
 slot_numbered rows legal k i f e =
     let p = row_of rows legal k i f e in
     let s = row_slot rows legal k i p.object p.field p.row in
-    ap (λ (x : Live). x.slot) p.same ∙ numbered (p.field).slot f.number s.0 s.1 (ap (λ (x : Live). x.number) p.same)
-
-same_number : (a b : ℕ) → a % 2 ≡ 0 → 4 ≤ a → b % 2 ≡ 0 → 4 ≤ b → (a - 4) / 2 ≡ (b - 4) / 2 → a ≡ b
-same_number a b e l f m h = omega arith
+    omega (arith, s.0, s.1, ap (λ (x : Live). x.slot) p.same, ap (λ (x : Live). x.number) p.same)
 
 -- two live fields of one number stand in one place
 numbers_apart : (rows : Rows) → IsLegal rows → (k i j : ℕ) (f g : Live) → slice_get (live_fields rows k) i ≡ Some f → slice_get (live_fields rows k) j ≡ Some g → f.number ≡ g.number → i ≡ j
 numbers_apart rows legal k i j f g a b e =
-    let p = row_of rows legal k i f a in
-    let q = row_of rows legal k j g b in
-    let s = row_slot rows legal k i p.object p.field p.row in
-    let t = row_slot rows legal k j q.object q.field q.row in
-    let n : ((p.field).slot - 4) / 2 ≡ ((q.field).slot - 4) / 2 = sym (ap (λ (f : Live). f.number) p.same) ∙ e ∙ ap (λ (f : Live). f.number) q.same in
-    let one = same_number (p.field).slot (q.field).slot s.0 s.1 t.0 t.1 n in
-    let here : f.slot ≡ g.slot = ap (λ (f : Live). f.slot) p.same ∙ one ∙ sym (ap (λ (f : Live). f.slot) q.same) in
+    let s = slot_numbered rows legal k i f a in
+    let t = slot_numbered rows legal k j g b in
     neither_below i j (λ lt. let w = fields_rise rows legal k i j f g a b lt in omega arith) (λ lt. let w = fields_rise rows legal k j i g f b a lt in omega arith)
 
 -- What legal rows give, where no table has more live fields than slots.
@@ -224,7 +164,7 @@ served_by rows legal few = record {
   typed = field_typed rows legal;
   sized = field_sized rows;
   rising = fields_rise rows legal;
-  even = slots_even rows legal;
+  even = λ k i f e. (let s = slot_numbered rows legal k i f e in omega arith);
   slots = slot_numbered rows legal;
   numbers = numbers_apart rows legal;
   members = member_holds rows legal;

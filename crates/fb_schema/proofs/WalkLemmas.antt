@@ -1,5 +1,5 @@
 -- The steps of the walk over the rows.
-use Rattle.std.proofs.Common.{◌≡◌, ℕ, ◌<◌, ◌≤◌, ℤ, inl, inr, Bool, false, not, ◌||◌, ◌==◌, ◌%◌, nat_lt, List, [], length, slice_get, map, Option, Some, None, refl, sym, ◌∙◌, ap, arith, Decides, option_map, Bor, nat_cmp, int_cmp, bytes_eq, Equal}
+use Rattle.std.proofs.Common.{◌≡◌, ℕ, ◌<◌, ◌≤◌, ℤ, inl, inr, Bool, List, [], length, slice_get, map, Option, Some, None, refl, ◌∙◌, ap, arith, Decides, option_map, Bor, nat_cmp, int_cmp, bytes_eq, Equal}
 use Rattle.std.proofs.lemmas.{List.length-map, Option.slice_get-map, Slice.Eq.bytes_eq-Decides, Bool.Decides.Decides-eqb, Map.Lookups.exact_bytes}
 use Rattle.std.proofs.lemmas.Cmp.{nat_list_cmp_total, nat_cmp_total, tied_itself, on_total}
 use Rattle.std.specs.{Cmp.Equal-is, Cmp.IsTotalOrder, Cmp.Lexicographic.slice_cmp}
@@ -7,7 +7,7 @@ use Rattle.fb_schema.specs.declared.{flat.ObjectPart.ObjectPart, rows.FieldRow.F
 use Rattle.fb_schema.specs.declared.kinds.TypeField.TheVariants.{ForUnion, ForUnions}
 use Rattle.fb_schema.specs.Sorting.{IsAgain, IsFirstAgain, name_cmp, object_name, field_name, field_slot, member_value}
 use Rattle.fb_schema.specs.{Rows.Rows, Rows.field_of, Rows.member_of_row, FlatRows.object_in}
-use Rattle.fb_schema.specs.Demands.{Demand, is_at, first_code, stands_before, same_object_name, same_field_name, same_slot, same_value, struct_field_demands, struct_asked, demands_of_struct_field, Demand, table_field_demands, table_asked, demands_of_table_field, stands_below}
+use Rattle.fb_schema.specs.Demands.{Demand, is_at, first_code, same_object_name, same_field_name, same_slot, same_value, struct_field_demands, struct_asked, demands_of_struct_field, Demand, table_field_demands, table_asked, demands_of_table_field, stands_below}
 use Rattle.fb_schema.proofs.{DemandLaws.clear_line, KeyLemmas.is_at_test, KeyLemmas.never_again, Numbers.slice_get_past, Numbers.le_or_lt}
 use Rattle.fb_schema.proofs.Search.{nat_tied}
 
@@ -48,44 +48,30 @@ past_list xs demands none n le h q = elim (le_or_lt (length xs) q) [
 
 -- Structs.
 module _ (rows : Rows) (bytesize : ℤ) (fields : List FieldRow) where
-  struct_at : (p : ℕ) (row : FieldRow) → slice_get fields p ≡ Some row
-      → struct_asked rows bytesize (map field_of fields) p ≡ struct_field_demands rows bytesize (field_of row) (stands_before same_field_name (map field_of fields) p (field_of row))
-  struct_at p row at = ap (demands_of_struct_field rows bytesize (map field_of fields) p) (mapped_at field_of fields p row at)
-
   not_again_struct : (q : ℕ) → first_code (struct_asked rows bytesize (map field_of fields) q) ≡ None → IsAgain name_cmp (map field_name fields) q → ⊥
   not_again_struct q clear a = never_again name_cmp field_name field_of same_field_name field_names_agree fields q a
-      (λ row at. clear_line (struct_field_demands rows bytesize (field_of row) _) (ap first_code (sym (struct_at q row at)) ∙ clear) 0 _ refl)
+      (λ row at. clear_line (struct_field_demands rows bytesize (field_of row) _) (rw (mapped_at field_of fields q row at) at clear) 0 _ refl)
 
   -- what the walk computes at p is what is demanded there
   pub struct_code : (p : ℕ) (row : FieldRow) (first : Option ℕ) (named : Bool) → slice_get fields p ≡ Some row → IsFirstAgain name_cmp (map field_name fields) first
       → ((q : ℕ) → q < p → first_code (struct_asked rows bytesize (map field_of fields) q) ≡ None) → named ≡ is_at first p
       → first_code (struct_field_demands rows bytesize (field_of row) named) ≡ first_code (struct_asked rows bytesize (map field_of fields) p)
   struct_code p row first named at h clear n =
-      ap (λ b. first_code (struct_field_demands rows bytesize (field_of row) b)) (n ∙ is_at_test name_cmp field_name field_of same_field_name field_names_agree fields p row at first h (λ q lt. not_again_struct q (clear q lt)))
-      ∙ ap first_code (sym (struct_at p row at))
+      rw (mapped_at field_of fields p row at)
+      (ap (λ b. first_code (struct_field_demands rows bytesize (field_of row) b)) (n ∙ is_at_test name_cmp field_name field_of same_field_name field_names_agree fields p row at first h (λ q lt. not_again_struct q (clear q lt))))
 
   -- past the last field nothing is demanded
   pub past_struct : (n : ℕ) → length fields ≤ n → ((q : ℕ) → q < n → first_code (struct_asked rows bytesize (map field_of fields) q) ≡ None) → (q : ℕ) → first_code (struct_asked rows bytesize (map field_of fields) q) ≡ None
   past_struct n le h q = past_list (map field_of fields) (demands_of_struct_field rows bytesize (map field_of fields)) (λ q. refl) n (rw length-map le) h q
 
 -- Tables.
-pub or_false : (a b c : Bool) → (a || b || c) ≡ false → c ≡ false
-or_false a b c e = grind arith
-
 module _ (rows : Rows) (fields : List FieldRow) where
-  abbrev table_asked_at : ℕ → FieldRow → List Demand
-  table_asked_at p row = table_field_demands rows (field_of row) (stands_before same_field_name (map field_of fields) p (field_of row)) (stands_before same_slot (map field_of fields) p (field_of row))
-      (stands_below ForUnion (map field_of fields) row.slot) (stands_below ForUnions (map field_of fields) row.slot)
-
-  table_at : (p : ℕ) (row : FieldRow) → slice_get fields p ≡ Some row → table_asked rows (map field_of fields) p ≡ table_asked_at p row
-  table_at p row at = ap (demands_of_table_field rows (map field_of fields) p) (mapped_at field_of fields p row at)
-
-  pub not_named_table : (q : ℕ) → first_code (table_asked rows (map field_of fields) q) ≡ None → IsAgain name_cmp (map field_name fields) q → ⊥
-  not_named_table q clear a = never_again name_cmp field_name field_of same_field_name field_names_agree fields q a (λ row at. clear_line (table_asked_at q row) (ap first_code (sym (table_at q row at)) ∙ clear) 0 _ refl)
+  not_named_table : (q : ℕ) → first_code (table_asked rows (map field_of fields) q) ≡ None → IsAgain name_cmp (map field_name fields) q → ⊥
+  not_named_table q clear a = never_again name_cmp field_name field_of same_field_name field_names_agree fields q a (λ row at. clear_line (table_field_demands rows (field_of row) _ _ _ _) (rw (mapped_at field_of fields q row at) at clear) 0 _ refl)
 
   not_taken_table : (q : ℕ) → first_code (table_asked rows (map field_of fields) q) ≡ None → IsAgain nat_cmp (map field_slot fields) q → ⊥
   not_taken_table q clear a = never_again nat_cmp field_slot field_of same_slot slots_agree fields q a
-      (λ row at. or_false (not (row.slot % 2 == 0)) (nat_lt row.slot 4) (stands_before same_slot (map field_of fields) q (field_of row)) (clear_line (table_asked_at q row) (ap first_code (sym (table_at q row at)) ∙ clear) 1 _ refl))
+      (λ row at. let line = clear_line (table_field_demands rows (field_of row) _ _ _ _) (rw (mapped_at field_of fields q row at) at clear) 1 _ refl in grind (arith, line))
 
   -- what the walk computes at p is what is demanded there
   pub table_code : (p : ℕ) (row : FieldRow) (name_again slot_again : Option ℕ) (named taken byte vector : Bool) → slice_get fields p ≡ Some row
@@ -96,8 +82,7 @@ module _ (rows : Rows) (fields : List FieldRow) where
   table_code p row name_again slot_again named taken byte vector at h k clear n t b v =
       let same_named = n ∙ is_at_test name_cmp field_name field_of same_field_name field_names_agree fields p row at name_again h (λ q lt. not_named_table q (clear q lt)) in
       let same_taken = t ∙ is_at_test nat_cmp field_slot field_of same_slot slots_agree fields p row at slot_again k (λ q lt. not_taken_table q (clear q lt)) in
-      let all : table_field_demands rows (field_of row) named taken byte vector ≡ table_asked_at p row = λ i. table_field_demands rows (field_of row) (same_named i) (same_taken i) (b i) (v i) in
-      ap first_code all ∙ ap first_code (sym (table_at p row at))
+      rw (mapped_at field_of fields p row at) (λ i. first_code (table_field_demands rows (field_of row) (same_named i) (same_taken i) (b i) (v i)))
 
   -- past the last field nothing is demanded
   pub past_table : (n : ℕ) → length fields ≤ n → ((q : ℕ) → q < n → first_code (table_asked rows (map field_of fields) q) ≡ None) → (q : ℕ) → first_code (table_asked rows (map field_of fields) q) ≡ None

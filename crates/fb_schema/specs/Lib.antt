@@ -18,6 +18,5 @@ pub mod FlatRows
 pub mod Heads
 pub mod Index
 pub mod Indexed
-pub mod Matched
 pub mod Sorting
 pub mod Vectors

@@ -1,10 +1,12 @@
-use Rattle.std.proofs.Common.{◌≡◌, map, get_or, sym, ◌∙◌, below_more, rules, int_cmp}
+use Rattle.std.proofs.Common.{◌≡◌, map, get_or, sym, ◌∙◌, below_more, rules, int_cmp, refl}
 use Rattle.std.proofs.lemmas.Option.{slice_get-get_or}
 use Rattle.fb_schema.specs.Sorting.{IsFirstAgain, member_cmp, member_value, member_key}
 use Rattle.fb_schema.specs.{FlatRows.borrowed_rows, Rows.member_of_row, Demands.first_code, Demands.members_asked}
-use Rattle.fb_schema.proofs.{Blank.blank_member, MemberLemmas.member_code, MemberLemmas.past_members}
+use Rattle.fb_schema.proofs.{Blank.blank_member, MemberLemmas.member_code}
 use Rattle.fb_schema.proofs.first_fault.members_fault.Goals as goal
-use Rattle.fb_schema.proofs.first_fault.members_fault.Goals.{After-member_fault}
+use Rattle.fb_schema.proofs.{first_fault.members_fault.Goals.After-member_fault, WalkLemmas.past_list}
+use Rattle.fb_schema.specs.Demands.{demands_of_member}
+use Rattle.std.proofs.lemmas.List.{length-map}
 
 found : (g : _) (c : After-member_fault g) → c.member_fault.result ≡ first_code (members_asked (borrowed_rows c.args.rows.now) (map member_of_row c.args.members.now) c.loop-p.p)
 found g c =
@@ -20,7 +22,7 @@ pub returns-in-Some : goal.returns-in-Some
 returns-in-Some g c = (sym (found g (goal.at.returns-in-Some g c).After-member_fault) ∙ c.in-Some.is, c.loop-p.invariant)
 
 pub returns : goal.returns
-returns g c = past_members _ _ c.loop-p.p c.loop-p-test.false c.loop-p.invariant
+returns g c = past_list (map member_of_row c.args.members.now) (demands_of_member (borrowed_rows c.args.rows.now) (map member_of_row c.args.members.now)) (λ q. refl) c.loop-p.p (rw length-map c.loop-p-test.false) c.loop-p.invariant
 
 pub loop-p-preserved : goal.loop-p-preserved
 loop-p-preserved g c = below_more _ _ c.loop-p.invariant (sym (found g (goal.at.loop-p-preserved g c).After-member_fault) ∙ c.in_default.is)

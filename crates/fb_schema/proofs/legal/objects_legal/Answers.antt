@@ -3,9 +3,9 @@ use Rattle.std.proofs.lemmas.{List.length-map, Option.slice_get-get_or}
 use Rattle.fb_schema.specs.declared.flat.ObjectPart.{ObjectPart}
 use Rattle.fb_schema.specs.FlatRows.{borrowed_rows}
 use Rattle.fb_schema.proofs.Blank.{blank_object}
-use Rattle.fb_schema.proofs.OwnerLemmas.{refused_object, refused_field, clear_object, all_objects}
+use Rattle.fb_schema.proofs.OwnerLemmas.{refused_object, refused_field, clear_object, all_owners}
 use Rattle.fb_schema.proofs.legal.objects_legal.Goals as goal
-use Rattle.fb_schema.proofs.legal.objects_legal.Goals.{After-object_fault}
+use Rattle.fb_schema.proofs.{legal.objects_legal.Goals.After-object_fault, DemandLaws.owners_end}
 
 -- the object that is gone through
 abbrev item : (g : _) → After-object_fault g → ObjectPart
@@ -32,4 +32,5 @@ loop-n-preserved g c =
     (rw c.in_default-fault.is at c.in_ok-fault.ensures)
 
 pub returns-clause-clear : goal.returns-clause-clear
-returns-clause-clear g c = all_objects (borrowed_rows c.args.rows.now) c.loop-n.n (rw length-map c.loop-n-test.false) c.loop-n.invariant
+unfolding owners_end
+returns-clause-clear g c = all_owners (borrowed_rows c.args.rows.now) 0 c.loop-n.n (rw length-map c.loop-n-test.false) c.loop-n.invariant

@@ -1,9 +1,9 @@
 use Rattle.std.proofs.Common.{◌≡◌, Some, slice_get, get_or, inl}
 use Rattle.std.proofs.lemmas.{List.length-map, Option.slice_get-get_or}
 use Rattle.fb_schema.specs.FlatRows.{borrowed_rows, enum_in}
-use Rattle.fb_schema.proofs.{Blank.blank_enum, OwnerLemmas.refused_member, OwnerLemmas.clear_enum, OwnerLemmas.all_enums, WalkLemmas.mapped_at}
+use Rattle.fb_schema.proofs.{Blank.blank_enum, OwnerLemmas.refused_member, OwnerLemmas.clear_enum, OwnerLemmas.all_owners, WalkLemmas.mapped_at}
 use Rattle.fb_schema.proofs.legal.unions_legal.Goals as goal
-use Rattle.fb_schema.proofs.legal.unions_legal.Goals.{After-union_fault}
+use Rattle.fb_schema.proofs.{legal.unions_legal.Goals.After-union_fault, DemandLaws.owners_end}
 
 at_row : (g : _) (c : After-union_fault g) → slice_get (borrowed_rows c.args.rows.now).enums c.loop-n.n ≡ Some (enum_in c.args.rows.now.members.now (get_or c.args.rows.now.enums.now c.loop-n.n blank_enum))
 at_row g c = mapped_at (enum_in c.args.rows.now.members.now) c.args.rows.now.enums.now c.loop-n.n (get_or c.args.rows.now.enums.now c.loop-n.n blank_enum) (slice_get-get_or c.args.rows.now.enums.now c.loop-n.n blank_enum c.loop-n-test.true)
@@ -19,4 +19,5 @@ loop-n-preserved g c =
     clear_enum (borrowed_rows c.args.rows.now) c.requires.objects c.loop-n.n (enum_in c.args.rows.now.members.now (get_or c.args.rows.now.enums.now c.loop-n.n blank_enum)) (at_row g d) c.loop-n.invariant (rw c.in_default.is at c.in_ok-fault.ensures)
 
 pub returns-clause-clear : goal.returns-clause-clear
-returns-clause-clear g c = all_enums (borrowed_rows c.args.rows.now) c.loop-n.n (rw length-map c.loop-n-test.false) c.loop-n.invariant
+unfolding owners_end
+returns-clause-clear g c = all_owners (borrowed_rows c.args.rows.now) 1 c.loop-n.n (rw length-map c.loop-n-test.false) c.loop-n.invariant

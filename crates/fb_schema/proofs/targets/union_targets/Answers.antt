@@ -1,15 +1,15 @@
-use Rattle.std.proofs.Common.{◌≡◌, ◌+◌, ◌≤◌, ◌<◌, ◌∷◌, [], ℕ, map, length, get_or, ap, subst, sym, ◌∙◌, arith}
+use Rattle.std.proofs.Common.{◌≡◌, ◌+◌, ◌≤◌, ◌<◌, ◌∷◌, [], map, length, get_or, ap, subst, sym, ◌∙◌, arith, ◌++◌}
 use Rattle.fb_schema.specs.{FlatRows.borrowed_rows, Rows.member_of_row}
 use Rattle.fb_schema.specs.Targets.{nothing, target_at, target_of, kind_among}
-use Rattle.fb_schema.proofs.TargetLemmas.{only_item, first_place, zero_target, long_step, within_step, behind_taken, behind_none, found_step}
+use Rattle.fb_schema.proofs.TargetLemmas.{first_place, zero_target, long_step, within_step, behind_step, found_step}
 use Rattle.fb_schema.proofs.targets.union_targets.Goals as goal
 use Rattle.fb_schema.proofs.targets.union_targets.Goals.{then-place-ne0, else-place-ne0}
 
 pub loop-value-init : goal.loop-value-init
 loop-value-init g c =
     let rows = borrowed_rows c.args.rows.now in
-    let targets : c.push.new.self.items ≡ nothing ∷ [] = only_item c.new-targets.result.items c.push.new.self.items nothing c.new-targets.ensures.items c.in_ok-push.ensures.items in
-    let places : c.push-2.new.self.items ≡ 0 ∷ [] = only_item c.new-places.result.items c.push-2.new.self.items 0 c.new-places.ensures.items c.in_ok-push-2.ensures.items in
+    let targets : c.push.new.self.items ≡ nothing ∷ [] = c.in_ok-push.ensures.items ∙ ap (λ ts. ts ++ nothing ∷ []) c.new-targets.ensures.items in
+    let places : c.push-2.new.self.items ≡ 0 ∷ [] = c.in_ok-push-2.ensures.items ∙ ap (λ ps. ps ++ 0 ∷ []) c.new-places.ensures.items in
     let one = ap length targets in
     let first : get_or c.push.new.self.items 0 nothing ≡ nothing = ap (λ ts. get_or ts 0 nothing) targets in
     record {
@@ -35,13 +35,9 @@ loop-value-preserved g c =
     let old = c.loop-value.targets.items in
     let new = c.add_target.new.targets.items in
     let more = c.in_ok-push-3.ensures.items in
-    let behind : (k : ℕ) → c.if-place-ne0.end ≤ k → get_or c.push-in-loop-value.new.self.items k 0 ≡ 0 = λ k low. ap (λ ps. get_or ps k 0) more ∙ elim c.if-place-ne0.branch [
-      | then-place-ne0 w ↦ behind_taken places place value i.long c.loop-value.end i.end i.behind k (let at = w.end-is in omega (arith, at, low))
-      | else-place-ne0 w ↦ behind_none places place value i.long c.loop-value.end w.if-place-ne0.false i.behind k (let at = w.end-is in omega (arith, at, low))
-    ] in
-    let end : c.if-place-ne0.end ≤ value + 1 = elim c.if-place-ne0.branch [
-      | then-place-ne0 w ↦ (let at = w.end-is in omega (arith, at))
-      | else-place-ne0 w ↦ (let at = w.end-is in omega (arith, at, i.end))
+    let ends : (c.loop-value.end ≤ c.if-place-ne0.end) × (c.if-place-ne0.end ≤ value + 1) × (c.if-place-ne0.end ≤ value → place ≡ 0) = elim c.if-place-ne0.branch [
+      | then-place-ne0 w ↦ (let at = w.end-is in let low = i.end in (omega arith, omega arith, λ le. absurd (omega arith)))
+      | else-place-ne0 w ↦ (let at = w.end-is in let low = i.end in (omega arith, omega arith, λ le. w.if-place-ne0.false))
     ] in
     record {
       long = ap length more ∙ long_step places place value i.long;
@@ -49,8 +45,8 @@ loop-value-preserved g c =
       few = omega (arith, i.few, e.one);
       first = e.kept 0 i.least ∙ i.first;
       within = λ k. subst (λ ps. get_or ps k 0 < length new) (sym more) (within_step places place value i.long (length old) (length new) e.longer e.within i.within k);
-      end = end;
-      behind = behind;
+      end = ends.1;
+      behind = λ k low. ap (λ ps. get_or ps k 0) more ∙ behind_step places place value i.long c.loop-value.end c.if-place-ne0.end ends.0 ends.2 i.behind k low;
       found = λ members h k lt. ap (λ ps. target_at ps new k) more
           ∙ found_step places place value i.long old new (λ v. target_of rows (kind_among rows (map member_of_row members) v)) i.within e.kept (i.found members h)
           (e.target ∙ ap (target_of rows) (c.kind_at.ensures rows members h)) k lt;

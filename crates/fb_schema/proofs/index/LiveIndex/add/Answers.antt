@@ -4,9 +4,9 @@ use Rattle.fb_schema.specs.{Index.view_name, Index.AreNextRequired, FlatLists.li
 use Rattle.fb_schema.specs.{FlatRows.borrowed_rows, FlatRows.object_in, Rows.Object, Steps.step_of, Steps.are_plain}
 use Rattle.fb_schema.specs.Live.{live_in, live_of_view, by_slot, is_live, AreKinded, AreSpaced}
 use Rattle.fb_schema.proofs.{Blank.blank_object, Kinded.rows_kinded, Kinded.live_long, TypedLemmas.rows_spaced}
-use Rattle.fb_schema.proofs.IndexLemmas.{legal_slots, matched_pushed, matched_step, lists_step, value_step, widest_step, kept_read, mapped_read, mapped_twice}
+use Rattle.fb_schema.proofs.IndexLemmas.{matched_pushed, matched_step, lists_step, value_step, widest_step, kept_read, mapped_read, mapped_twice}
 use Rattle.fb_schema.proofs.index.LiveIndex.add.Goals as goal
-use Rattle.fb_schema.proofs.index.LiveIndex.add.Goals.{Start}
+use Rattle.fb_schema.proofs.{index.LiveIndex.add.Goals.Start, LegalLemmas.legal_slots}
 
 -- the object with this number, as it is read there
 abbrev object_read : (g : _) → Start g → Object
@@ -18,7 +18,7 @@ object_there g c = kept_read (object_in c.args.rows.now.fields.now) c.args.rows.
 pub table_views-requires-clause-apart : goal.table_views-requires-clause-apart
 table_views-requires-clause-apart g c = λ table.
     let d = (goal.at.table_views-requires-clause-apart g c).Start in
-    legal_slots (borrowed_rows c.args.rows.now) c.args.n (object_read g d) c.requires.legal (object_there g d) table
+    legal_slots (borrowed_rows c.args.rows.now) c.requires.legal c.args.n (object_read g d) (object_there g d) table
 
 pub table_views-requires-clause-spaced : goal.table_views-requires-clause-spaced
 table_views-requires-clause-spaced g c = λ table.

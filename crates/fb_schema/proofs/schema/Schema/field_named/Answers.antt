@@ -23,7 +23,7 @@ returns g c =
     let at = mapped_at (object_in s.rows.fields.items) s.rows.objects.items n t.0 t.1 in
     let same : map live_of_view views.0 ≡ live_in rows (Some (object_in s.rows.fields.items t.0)) = value ∙ ap (live_in rows) at in
     let found = c.place_of.ensures (map view_name views.0) order in
-    place_position name_cmp names_total view_name live_of_view views.0 name (λ (f : Live). bytes_eq f.name name.now) (λ v. names_agree v.name.now name.now)
+    place_position name_cmp names_total view_name live_of_view views.0 name (λ (f : Live). bytes_eq f.name name.now) (λ k v at. names_agree v.name.now name.now)
     (view_not_again rows n s.rows.fields.items t.0 c.self.invariant.legal at t.2 views.0 same) c.place_of.result found
     ∙ ap (position (λ (f : Live). bytes_eq f.name name.now)) value
     ∙ ap (λ r. position (λ (f : Live). bytes_eq f.name name.now) (live_fields r n)) c.self.view_is

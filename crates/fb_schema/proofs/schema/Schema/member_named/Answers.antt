@@ -1,4 +1,4 @@
-use Rattle.std.proofs.Common.{◌≡◌, ◌<◌, ℕ, Some, None, List, map, length, slice_get, get_or, find, filter, IsTrue, true, false, unsigned_abs, refl, sym, ap, subst, ◌∙◌, arith, to_z, of_z, w64, option_map, bytes_eq, Equal}
+use Rattle.std.proofs.Common.{◌≡◌, ◌<◌, ℕ, Option, Some, None, List, map, length, slice_get, get_or, find, filter, IsTrue, true, false, unsigned_abs, refl, sym, ap, subst, ◌∙◌, arith, to_z, of_z, w64, option_map, bytes_eq, Equal}
 use Rattle.std.proofs.lemmas.{Int.to_z-of_z, List.length-map, List.get_or-map}
 use Rattle.fb_schema.specs.declared.{flat.EnumPart.EnumPart, rows.MemberRow.MemberRow}
 use Rattle.fb_schema.specs.{Demands.first_code, Demands.members_asked, Flat.part, Index.kept_members, Members.member_named, Members.is_member_value}
@@ -6,9 +6,10 @@ use Rattle.fb_schema.specs.FlatRows.{flat_rows}
 use Rattle.fb_schema.specs.Sorting.{IsOrderOf, IsPlaceOf, member_cmp, member_key}
 use Rattle.fb_schema.specs.Rows.{Rows, Member, is_union, member_of_row}
 use Rattle.fb_schema.proofs.{Blank.blank_member, UnionLemmas.union_at, UnionLemmas.members_clear}
-use Rattle.fb_schema.proofs.MemberNames.{name_found, name_missing, member_named_is, real_at, small_value, fits_small}
+use Rattle.fb_schema.proofs.MemberNames.{member_named_is, real_at, small_value, fits_small, name_place}
 use Rattle.fb_schema.proofs.schema.Schema.member_named.Goals as goal
-use Rattle.fb_schema.proofs.schema.Schema.member_named.Goals.{After-place_of}
+use Rattle.fb_schema.proofs.{schema.Schema.member_named.Goals.After-place_of, WalkLemmas.mapped_at}
+use Rattle.std.proofs.lemmas.Option.{slice_get-get_or}
 
 union_row : (g : _) (c : After-place_of g) → (row : EnumPart) × (slice_get c.self.inside.rows.enums.items c.args.e ≡ Some row) × (row.is_union ≡ true)
 union_row g c = union_at c.self.inside.rows.members.items c.self.inside.rows.enums.items c.args.e (subst (λ (r : Rows). IsTrue (is_union r c.args.e)) (sym c.self.view_is) c.requires)
@@ -20,11 +21,11 @@ rows g c = flat_rows c.self.inside.rows
 abbrev listed : (g : _) (c : After-place_of g) → List MemberRow
 listed g c = part c.self.inside.rows.members.items (union_row g c).0.members
 
-placed : (g : _) (c : After-place_of g) → IsPlaceOf member_cmp (map member_key (listed g c)) (false, c.args.name) c.place_of.result
-placed g c =
+at_place : (g : _) (c : After-place_of g) (place : Option ℕ) → c.place_of.result ≡ place → IsPlaceOf member_cmp (map member_key (listed g c)) (false, c.args.name) place
+at_place g c place is =
     let row = (union_row g c).0 in
     let list = part c.self.inside.rows.members.items row.members in
-    c.place_of.ensures (map member_key list) (subst (λ b. IsOrderOf member_cmp (map member_key (kept_members b list)) c.get-names.result.now) (union_row g c).2 (c.self.invariant.kinds.names.at c.args.e row c.get-names.result.now (union_row g c).1 c.get-names.ensures))
+    subst (IsPlaceOf member_cmp (map member_key list) (false, c.args.name)) is (c.place_of.ensures (map member_key list) (subst (λ b. IsOrderOf member_cmp (map member_key (kept_members b list)) c.get-names.result.now) (union_row g c).2 (c.self.invariant.kinds.names.at c.args.e row c.get-names.result.now (union_row g c).1 c.get-names.ensures)))
 
 clear : (g : _) (c : After-place_of g) (q : ℕ) → first_code (members_asked (rows g c) (map member_of_row (listed g c)) q) ≡ None
 clear g c = members_clear (rows g c) c.self.inside.rows.members.items c.self.inside.rows.enums.items refl c.self.invariant.legal c.args.e (union_row g c).0 (union_row g c).1 (union_row g c).2
@@ -38,16 +39,13 @@ seen g c = ap (λ r. member_named r c.args.e c.args.name.now) c.self.view_is
 pub returns-in-None : goal.returns-in-None
 returns-in-None g c =
     let d = (goal.at.returns-in-None g c).After-place_of in
-    let members = listed g d in
-    let h : IsPlaceOf member_cmp (map member_key members) (false, c.args.name) None = subst (IsPlaceOf member_cmp (map member_key members) (false, c.args.name)) c.in-None.is (placed g d) in
-    sym (ap (option_map (λ (m : Member). unsigned_abs m.value)) (name_missing (rows g d) members (clear g d) c.args.name (λ k x lt e. h k (member_key x) (rw length-map lt) (ap (λ z. member_cmp z (false, c.args.name)) (get_or-map member_key members k x (member_key x) lt) ∙ e))))
-    ∙ sym (read g d) ∙ seen g d
+    sym (ap (option_map (λ (m : Member). unsigned_abs m.value)) (name_place (rows g d) (listed g d) (clear g d) c.args.name None (at_place g d None c.in-None.is))) ∙ sym (read g d) ∙ seen g d
 
 -- the member at the place of the name
 found : (g : _) (c : After-place_of g) (place : ℕ) → c.place_of.result ≡ Some place → (place < length (listed g c)) × (member_cmp (member_key (get_or (listed g c) place blank_member)) (false, c.args.name) ≡ Equal)
 found g c place is =
     let members = listed g c in
-    let h : IsPlaceOf member_cmp (map member_key members) (false, c.args.name) (Some place) = subst (IsPlaceOf member_cmp (map member_key members) (false, c.args.name)) is (placed g c) in
+    let h = at_place g c (Some place) is in
     let lt : place < length members = rw length-map at h.0 in
     (lt, ap (λ z. member_cmp z (false, c.args.name)) (sym (get_or-map member_key members place blank_member (member_key blank_member) lt)) ∙ h.1 (member_key blank_member))
 
@@ -69,7 +67,7 @@ read_value g c place is lent n e k =
     let value : n ≡ unsigned_abs x.value = k ∙ ap (λ ms. unsigned_abs (to_z w64 (of_z w64 (get_or ms place blank_member).value))) e ∙ ap unsigned_abs (to_z-of_z w64 x.value (fits_small x.value real)) in
     let small = small_value x.value real in (
       omega arith,
-      ap Some value ∙ sym (ap (option_map (λ (m : Member). unsigned_abs m.value)) (name_found (rows g c) members (clear g c) c.args.name place blank_member h.0 h.1)) ∙ sym (read g c) ∙ seen g c,
+      ap Some value ∙ sym (ap (option_map (λ (m : Member). unsigned_abs m.value)) (name_place (rows g c) members (clear g c) c.args.name (Some place) (at_place g c (Some place) is) ∙ mapped_at member_of_row members place x (slice_get-get_or members place blank_member h.0))) ∙ sym (read g c) ∙ seen g c,
     )
 
 pub overflow_cast-result : goal.overflow_cast-result

@@ -1,7 +1,9 @@
-use Rattle.std.proofs.Common.{IsTrue, refl, sym, ap, subst, ◌∙◌}
+use Rattle.std.proofs.Common.{IsTrue, refl, sym, ap, subst, ◌∙◌, []}
 use Rattle.fb_schema.specs.{Members.member_of, FlatRows.flat_rows, Rows.Rows, Rows.is_union, Targets.target_of}
 use Rattle.fb_schema.proofs.UnionLemmas.{union_at, member_of_row_is}
 use Rattle.fb_schema.proofs.schema.Schema.targets_of.Goals as goal
+use Rattle.std.proofs.lemmas.Option.{get_or_from_slice_get}
+use Rattle.fb_schema.specs.{Targets.target_at, FlatLists.lists_of}
 
 pub returns : goal.returns
 returns g c = λ value lt.
@@ -9,6 +11,8 @@ returns g c = λ value lt.
     let e = c.args.e in
     let rows = flat_rows s.rows in
     let u = union_at s.rows.members.items s.rows.enums.items e (subst (λ (r : Rows). IsTrue (is_union r e)) (sym c.self.view_is) c.requires) in
-    (c.self.invariant.kinds.targets.at e u.0 c.get.result.now c.get-2.result.now u.1 c.get.ensures c.get-2.ensures u.2).at value lt
+    let places = get_or_from_slice_get (lists_of s.members.places) e c.get.result.now [] c.get.ensures in
+    let targets = get_or_from_slice_get (lists_of s.members.targets) e c.get-2.result.now [] c.get-2.ensures in
+    sym (λ i. target_at (places i) (targets i) value) ∙ (c.self.invariant.kinds.targets.at e u.0 u.1 u.2).at value lt
     ∙ ap (target_of rows) (sym (member_of_row_is rows s.rows.members.items s.rows.enums.items refl e u.0 u.1 u.2 value))
     ∙ ap (λ r. target_of r (member_of r e value)) c.self.view_is
