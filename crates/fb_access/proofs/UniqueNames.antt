@@ -110,7 +110,4 @@ named_again S e y name legal there h = go (find (λ n. int_eq n.value (pos y)) (
 -- a type that has a member has a name
 pub has_name : (S : Rows) (e y : ℕ) (kind : Kind) → member_of S e y ≡ Some kind → member_name S e y ≡ None → ⊥
 unfolding member_name member_of
-has_name S e y kind h none = go (find (λ n. int_eq n.value (pos y)) (members_of S e)) refl none where
-  go : (m : Option Member) → find (λ n. int_eq n.value (pos y)) (members_of S e) ≡ m → option_map (λ (n : Member). n.name) m ≡ None → ⊥
-  go None f i = let w : None ≡ Some kind = sym (ap (λ m. option_and_then (λ (n : Member). kind_of S n.ty) m) f) ∙ h in cc
-  go (Some m) f i = let w : Some m.name ≡ None = i in cc
+has_name S e y kind h none = grind arith

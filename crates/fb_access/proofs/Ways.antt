@@ -15,15 +15,14 @@ use Rattle.fb_access.specs.LocationLaws.{field_parts, element_parts, member_part
 
 -- Names of the grammar are written as they are.
 kept_if : (b x : Bool) (c : ℕ) → b ≡ true → (if b || x then c else 63) ≡ c
-kept_if b x c e = rw e refl
+kept_if b x c e = grind arith
 
 kept_rest : (cs : List ℕ) → AllByRecursion (λ x. IsTrue (goes_on x)) cs → name_text cs ≡ cs
 kept_rest [] h = refl
 kept_rest (c ∷ cs) h = λ i. kept_if (goes_on c) (c == 46) c h.0 i ∷ kept_rest cs h.1 i
 
 kept_name : (name : List ℕ) → IsName name → name_text name ≡ name
-kept_name [] h = absurd h
-kept_name (c ∷ cs) h = λ i. kept_if (goes_on c) (c == 46) c (or_left (begins_name c) (is_digit c) h.0) i ∷ kept_rest cs h.1 i
+kept_name name h = grind (arith, kept_rest)
 
 -- Numbers are read back.
 in_range : (c : ℕ) → is_digit c ≡ true → IsInRange 48 57 c
@@ -70,16 +69,13 @@ spelling_append (member name ∷ ps) qs = ap (λ t. 64 ∷ name ++ t) (spelling_
 
 -- The parts of a link.
 element_are : (e : Option ℕ) → IsShort e → AllByRecursion IsPart (element_parts e)
-element_are None h = tt
-element_are (Some j) h = (is_number j h, tt)
+element_are e h = grind (arith, is_number)
 
 member_are : (m : Option (List ℕ)) → IsNameIfAny m → AllByRecursion IsPart (member_parts m)
-member_are None h = tt
-member_are (Some name) h = (h, tt)
+member_are m h = grind arith
 
 element_spelled : (e : Option ℕ) → spelling (element_parts e) ≡ element_text e
-element_spelled None = refl
-element_spelled (Some j) = refl
+element_spelled e = grind arith
 
 member_spelled : (m : Option (List ℕ)) → IsNameIfAny m → spelling (member_parts m) ≡ named (codes "@") m
 member_spelled None h = refl
