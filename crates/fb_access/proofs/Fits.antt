@@ -17,17 +17,15 @@ use Rattle.fb_access.proofs.{Found.found_at, Found.none_found, Found.found_there
 
 -- a table without the field
 pub no_field : (S : Rows) (k : ℕ) (name : List ℕ) → field_named S k name ≡ None → Err NoSuchField ≡ field_step S (Table k) name
-no_field S k name e = sym (ap to_field (none_found (λ (f : Live). bytes_eq f.name name) (live_fields S k) e))
+no_field S k name e = grind (arith, none_found)
 
 -- and one with it
 pub a_field : (S : Rows) (k i : ℕ) (name : List ℕ) (f : FieldView) → field_named S k name ≡ Some i → slice_get (live_fields S k) i ≡ Some (live_of_view f) → Ok (record { step = Field f.number; kind = f.kind }) ≡ field_step S (Table k) name
-a_field S k i name f e at = sym (ap to_field (found_at (λ (f : Live). bytes_eq f.name name) (live_fields S k) i e ∙ at))
+a_field S k i name f e at = grind (arith, found_at)
 
 -- a member that is named has a kind
 pub has_kind : (S : Rows) (e v : ℕ) (name : List ℕ) → IsLegal S → IsTrue (is_union S e) → member_named S e name ≡ Some v → IsSome (member_of S e v)
-has_kind S e v name legal there named =
-    let k = member_there S e v name legal there named in
-    subst IsSome (sym k.1) refl
+has_kind S e v name legal there named = grind (arith, member_there)
 
 -- Where a step leads.
 pub record Leads (S : Rows) (kind : Kind) (x : Fitted) : Type 0 where

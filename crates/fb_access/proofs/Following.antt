@@ -21,7 +21,7 @@ follows_more S kind last ps steps p x h e = follows_on S kind last x.kind ps (p 
 -- as many steps as parts
 as_many : (S : Rows) (kind last : Kind) (ps : List Part) (steps : List Step) → Follows S kind ps steps last → length steps ≡ length ps
 as_many S kind last [] steps h = ap length h.0
-as_many S kind last (p ∷ ps) steps h = ap length h.3 ∙ ap suc (as_many S h.0.kind last ps h.2 h.4)
+as_many S kind last (p ∷ ps) steps h = grind (arith, as_many S h.0.kind last ps h.2)
 
 -- steps that follow fit
 steps_fit : (S : Rows) → IsLegal S → IsServed S → (kind last : Kind) (ps : List Part) (steps : List Step) → IsThere S kind → Follows S kind ps steps last → StepsFit S kind steps

@@ -40,10 +40,7 @@ module _ (S : Rows) where
 
 -- one place is the longest beginning
 one_place : (text : List ℕ) (a b : ℕ) → IsWrongAt text a → IsWrongAt text b → a ≡ b
-one_place text a b h g = elim (le_or_lt a b) [
-  | inl le ↦ elim (lt_or_eq a b le) [ inl lt ↦ absurd (h.longest b lt g.within g.begins) | inr e ↦ e ]
-  | inr lt ↦ absurd (g.longest a lt h.within h.begins)
-]
+one_place text a b h g = grind arith
 
 -- the parts of two readings
 same_parts : (text name other : List ℕ) (parts others : List Part) → IsReading text name parts → IsReading text other others → field name ∷ parts ≡ field other ∷ others

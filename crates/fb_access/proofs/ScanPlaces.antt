@@ -15,8 +15,7 @@ seen_append (Some s) (c ∷ p) q = seen_append (next_seen s c) p q
 
 seen_nothing : (o : Option Seen) → seen o [] ≡ o
 unfolding seen
-seen_nothing None = refl
-seen_nothing (Some s) = refl
+seen_nothing o = grind arith
 
 -- what is scanned begins a path
 begins : (p : List ℕ) (s : Seen) → seen (Some Mark) p ≡ Some s → BeginsPath p

@@ -60,7 +60,7 @@ module _ (b : List ℕ) (S : Rows) where
   -- an element, or nothing past the last
   if_below : (n j : ℕ) (p q : Spot) → (j < n → IsSpot b S p) → Some (if_element n j p) ≡ Some q → IsSpot b S q
   unfolding IsSpot
-  if_below n j p q h l = subst (IsSpot b S) (some_same l) (one_of (nat_lt j n) p AtNoElement (λ t. h (if_less j n t)) tt)
+  if_below n j p q h l = grind (arith, one_of, if_less)
 
   -- an element that stands in place
   in_place : (n p size j : ℕ) → p + n * size ≤ length b → j < n → p + size * j + size ≤ length b
@@ -87,10 +87,7 @@ module _ (b : List ℕ) (S : Rows) where
 
   member_of_union : (e y p m : ℕ) (member : Option Kind) (q : Spot) → MemberHolds S member → IsUnionAt b S e y p → member_of S e m ≡ member → option_map (λ kind. if y == m then member_spot b p kind else AtOtherMember) member ≡ Some q → IsSpot b S q
   unfolding IsSpot
-  member_of_union e y p m None q holds h i l = absurd cc
-  member_of_union e y p m (Some kind) q holds h i l =
-      let led = λ (t : (y == m) ≡ true). subst (λ x. IsLed b S p (lead_of S x)) (ap (member_of S e) (eqb-true y m t) ∙ i) h.led in
-      subst (IsSpot b S) (some_same l) (one_of (y == m) (member_spot b p kind) AtOtherMember (λ t. member_lies p kind holds (led t)) tt)
+  member_of_union e y p m member q holds h i l = grind (arith, nat_tests, member_lies)
 
   from_union : (p : Spot) (m : ℕ) (q : Spot) → IsServed S → IsSpot b S p → spot_of_member b S p m ≡ Some q → IsSpot b S q
   unfolding IsSpot

@@ -25,7 +25,7 @@ module _ (b : List ℕ) (S : Rows) (k t n : ℕ) (f : Live) (e : numbered S k n 
   -- the field step
   pub field_step : Leads b S (AtTable k t) (Field n) (field_spot b t f)
   unfolding next_spot
-  field_step = ap (option_map (field_spot b t)) e
+  field_step = grind arith
 
   one_step : (q : Spot) → Leads b S (AtTable k t) (Field n) q → field_spot b t f ≡ q
   one_step q l = some_same (sym field_step ∙ l)
@@ -92,7 +92,7 @@ module _ (b : List ℕ) (S : Rows) (t o p j : ℕ) where
 
   -- an element step from a vector of offset words that has no such word
   past_end : (n : ℕ) (x q : Spot) → n ≤ j → (m : Spot) × (Some (if_element n j x) ≡ Some m) × (m ≡ q) → position_of q ≡ None
-  past_end n x q past r = ap position_of (sym (some_same (sym (ap Some (element_past n j x past)) ∙ r.1) ∙ r.2))
+  past_end n x q past r = grind (arith, element_past)
 
   no_element : (f : Live) (kind : Kind) (q : Spot) → AreOffsets kind → slice_get (entries_of b S t f p kind) j ≡ None → Reaches b S (present_spot b t o p kind) (Element j ∷ []) q → position_of q ≡ None
   unfolding present_spot next_spot spot_of_element
@@ -153,7 +153,7 @@ numbered_size S k n f e = (field_sized S k (position_or_len (λ g. g.number == n
 
 module _ (b : List ℕ) (S : Rows) (t o p j : ℕ) (lt : j < word b (target b p) 4) where
   below : (x q : Spot) → (m : Spot) × (Some (if_element (word b (target b p) 4) j x) ≡ Some m) × (m ≡ q) → x ≡ q
-  below x q r = some_same (sym (ap Some (element_there (word b (target b p) 4) j x lt)) ∙ r.1) ∙ r.2
+  below x q r = grind (arith, element_there)
 
   in_row : (size : ℕ) (kind : Kind) (q : Spot) → size ≡ kind_size S kind → AreInline kind → Reaches b S (present_spot b t o p kind) (Element j ∷ []) q → position_of q ≡ Some (target b p + 4 + size * j)
   unfolding present_spot next_spot spot_of_element

@@ -55,10 +55,7 @@ field_here c b S t f onward met e = grind (arith, place_here)
 module _ (b : List ℕ) (S : Rows) where
   table_leads_here : (k t n : ℕ) (f : Live) (q : Spot) (onward : Kind) → IsServed S → IsTableAt b S k t → numbered S k n ≡ Some f → sure_field f ≡ Some onward → Leads b S (AtTable k t) (Field n) q → IsHere q onward
   unfolding next_spot
-  table_leads_here k t n f q onward served h found sure l =
-      let r : Some (field_spot b t f) ≡ Some q = rw found at l in
-      let e : field_spot b t f ≡ q = cc in
-      subst (λ x. IsHere x onward) e (field_here h.checks b S t f onward (field_holds b S k t n f served h found).met sure)
+  table_leads_here k t n f q onward served h found sure l = let i = field_here h.checks b S t f onward (field_holds b S k t n f served h found).met sure in grind arith
 
   pub here_goes_on : (p : Spot) (s : Step) (q : Spot) → IsServed S → IsSpot b S p → Leads b S p s q → HereGoesOn S p s q
   here_goes_on p s q served holds l kind onward h e =

@@ -25,10 +25,10 @@ stands same (z ∷ zs) (suc p) (suc q) x y a lt h = or_right (same z y) (stands_
 
 -- one of two numbers is below the other, or they are one
 apart : (P : Type 0) (m n : ℕ) → (m < n → P) → (n < m → P) → (m ≡ n → P) → P
-apart P m n a b c = elim (le_or_lt m n) [ inl le ↦ elim (lt_or_eq m n le) [ inl lt ↦ a lt | inr e ↦ c e ] | inr lt ↦ b lt ]
+apart P m n a b c = grind arith
 
 alike : (a b : List ℕ) → a ≡ b → bytes_eq a b ≡ true
-alike a b e = (bytes_eq-Decides a b).1 e
+alike a b e = grind (arith, bytes_eq-Decides)
 
 -- Fields.
 module _ (S : Rows) (legal : IsLegal S) (k : ℕ) where

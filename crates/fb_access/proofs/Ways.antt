@@ -26,10 +26,10 @@ kept_name name h = grind (arith, kept_rest)
 
 -- Numbers are read back.
 in_range : (c : ℕ) → is_digit c ≡ true → IsInRange 48 57 c
-in_range c e = let low : 48 ≤ c = grind (arith, nat_tests) in let high : c ≤ 57 = grind (arith, nat_tests) in (low, high)
+in_range c e = grind (arith, nat_tests)
 
 digit_in : (c : ℕ) → IsInRange 48 57 c → is_digit c ≡ true
-digit_in c h = let low : 48 ≤ c = h.0 in let high : c ≤ 57 = h.1 in grind (arith, nat_tests)
+digit_in c h = grind (arith, nat_tests)
 
 tells : IsDigitsTest AreDigits
 tells = record { empty = tt; parts = λ c cs d. (in_range c d.0, d.1); more = λ c cs k d. (digit_in c k, d) }
@@ -59,13 +59,11 @@ is_number (suc k) h = go (decimal (suc k)) refl where
 -- Lists of parts.
 all_append : (ps qs : List Part) → AllByRecursion IsPart ps → AllByRecursion IsPart qs → AllByRecursion IsPart (ps ++ qs)
 all_append [] qs a b = b
-all_append (p ∷ ps) qs a b = (a.0, all_append ps qs a.1 b)
+all_append (p ∷ ps) qs a b = grind (arith, all_append ps qs)
 
 spelling_append : (ps qs : List Part) → spelling (ps ++ qs) ≡ spelling ps ++ spelling qs
 spelling_append [] qs = refl
-spelling_append (field name ∷ ps) qs = ap (λ t. 46 ∷ name ++ t) (spelling_append ps qs) ∙ ap (λ t. 46 ∷ t) (sym (append_assoc name (spelling ps) (spelling qs)))
-spelling_append (element digits ∷ ps) qs = ap (λ t. 91 ∷ digits ++ 93 ∷ t) (spelling_append ps qs) ∙ ap (λ t. 91 ∷ t) (sym (append_assoc digits (93 ∷ spelling ps) (spelling qs)))
-spelling_append (member name ∷ ps) qs = ap (λ t. 64 ∷ name ++ t) (spelling_append ps qs) ∙ ap (λ t. 64 ∷ t) (sym (append_assoc name (spelling ps) (spelling qs)))
+spelling_append (p ∷ ps) qs = grind (arith, append_assoc, spelling_append ps qs)
 
 -- The parts of a link.
 element_are : (e : Option ℕ) → IsShort e → AllByRecursion IsPart (element_parts e)
@@ -78,8 +76,7 @@ element_spelled : (e : Option ℕ) → spelling (element_parts e) ≡ element_te
 element_spelled e = grind arith
 
 member_spelled : (m : Option (List ℕ)) → IsNameIfAny m → spelling (member_parts m) ≡ named (codes "@") m
-member_spelled None h = refl
-member_spelled (Some name) h = ap (λ t. 64 ∷ t) (append-nil name ∙ sym (kept_name name h))
+member_spelled m h = grind (arith, append-nil, kept_name)
 
 -- what a link has behind its field's name
 module _ (S : Rows) (link : Link) (h : IsNamed S link) where
