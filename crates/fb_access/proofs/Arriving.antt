@@ -1,6 +1,6 @@
 -- The links to a fault lead to what is under check.
 use Rattle.std.proofs.Common.{◌≡◌, ℕ, ◌+◌, ◌*◌, ◌<◌, ◌^◌, ◌==◌, if◌then◌else◌, List, [], ◌∷◌, ◌++◌, length, slice_get, decimal, option_map, option_and_then, IsTrue, Option, Some, None, Ok, append-nil, refl, sym, ◌∙◌, ap, subst, arith, inl, inr}
-use Rattle.std.proofs.lemmas.{Bool.cond-true, Bool.Decides.Decides-eqb, Option.slice_get_within}
+use Rattle.std.proofs.lemmas.{Bool.cond-true, Bool.Decides.Decides-eqb}
 use Rattle.fb_bytes.specs.Word.{word}
 use Rattle.fb_schema.specs.declared.kinds.Kind.{Kind}
 use Rattle.fb_schema.specs.declared.kinds.Kind.TheVariants.{Text, Struct, Table, Union, Texts, Tables, Unions}
@@ -8,7 +8,7 @@ use Rattle.fb_schema.specs.{Demands.IsLegal, Live.Live, Live.live_fields, Member
 use Rattle.fb_schema.specs.Served.{KindHolds, IsServed}
 use Rattle.fb_verify.specs.declared.{checks.Checks.Checks, fault.Fault.Fault, links.Link.Link}
 use Rattle.fb_verify.specs.{Bounds.Bounds, Places.target, Places.field_place, Tree.kids_length, Tree.elements_length, WellFormed.base}
-use Rattle.fb_verify.specs.Fields.{type_place, union_type, types_begin, IsVectorField, IsPresent, IsPresentOrAbsent, IsField, Lead, to_table, to_string, to_nothing, lead_of, Entry, entry, union_entry, entries_of, entries_at, entries}
+use Rattle.fb_verify.specs.Fields.{type_place, union_type, types_begin, IsVectorField, IsPresent, IsPresentOrAbsent, IsField, Lead, to_table, to_string, to_nothing, lead_of, Entry, entry, entries_of, entries_at, entries}
 use Rattle.fb_verify.specs.Way.{Way, way_to_start, way_to_root, way_to_field, way_to_element, way_to_table}
 use Rattle.fb_verify.specs.Stops.{in_start, in_head, in_field, in_element, Trail, at_head, at_field, FieldTrail, at_own, at_element, ElementTrail, at_lead, through, IsTrail, IsFieldTrail, IsElementTrail}
 use Rattle.fb_verify.specs.Links.{element_of, type_of, field_link, element_link, object_led_to, links_of, links_in_field, links_in_element}
@@ -23,8 +23,7 @@ use Rattle.fb_access.specs.Spots.{if_element, present_spot, spot_at, field_spot,
 use Rattle.fb_access.proofs.{MemberKinds.member_there, MemberKinds.IsOfMember, NumberedFields.found_by_number}
 use Rattle.fb_access.proofs.{UniqueNames.found_by_name, UniqueNames.named_again, UniqueNames.has_name, Walks.reaches_on, Ways.read_back}
 use Rattle.fb_access.proofs.StepLaws.{field_step, one_entry, one_union, element_there}
-use Rattle.fb_access.proofs.Leading.{row_at, union_row_at, row_get}
-use Rattle.fb_access.proofs.Following.{follows_on}
+use Rattle.fb_access.proofs.{Leading.row_at, Leading.union_row_at, Leading.row_get, Following.follows_on}
 
 -- a step, and the kind to which it leads
 abbrev fitted : Step → Kind → Fitted

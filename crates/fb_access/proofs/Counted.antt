@@ -1,9 +1,8 @@
 -- Vectors have no more elements than there is room for.
-use Rattle.std.proofs.Common.{◌≡◌, ℕ, ◌+◌, ◌*◌, ◌≤◌, List, length, arith}
-use Rattle.fb_bytes.specs.Word.{word}
+use Rattle.std.proofs.Common.{◌≡◌, ℕ, ◌*◌, ◌≤◌, List, length, arith}
 use Rattle.fb_schema.specs.declared.kinds.Kind.TheVariants.{Tables}
 use Rattle.fb_schema.specs.Rows.{Rows}
-use Rattle.fb_access.specs.declared.{spot.Spot.Spot, spot.Spot.TheVariants.AtTables}
+use Rattle.fb_access.specs.declared.{spot.Spot.Spot}
 use Rattle.fb_access.specs.{Denotes.vector, Denotes.value, Held.IsSpot, Held.Placed, Held.IsPlaced, Here.IsHere}
 
 pub tables_fit : (b : List ℕ) (S : Rows) (p : Spot) (k n : ℕ) → IsSpot b S p → IsHere p (Tables k) → vector n ≡ value b S p → 4 * n ≤ length b

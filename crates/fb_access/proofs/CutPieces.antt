@@ -1,10 +1,9 @@
 -- The piece that is cut off a text is the first of the parts that are left.
 use Rattle.std.proofs.Common.{◌≡◌, ℕ, ◌≤◌, ◌-◌, List, ◌∷◌, length, take, drop, refl, ◌∙◌, ap, subst, arith, Bor, false}
 use Rattle.std.proofs.lemmas.List.{take_rest}
-use Rattle.fb_access.specs.declared.pieces.Piece.{Piece}
 use Rattle.fb_access.specs.declared.pieces.Piece.TheVariants.{Field, Element, Member}
 use Rattle.fb_access.specs.Grammar.{begins_name, number_of, IsNumber, Part, spelling}
-use Rattle.fb_access.specs.Cutting.{word_length, AreLeft, IsCuttable, IsCut, IsPieceOf}
+use Rattle.fb_access.specs.Cutting.{word_length, AreLeft, IsCuttable, IsCut}
 use Rattle.fb_access.proofs.{ScanAccepts.AreDigits, ScanAccepts.Most, Words.number_digits, Words.number_small}
 use Rattle.fb_access.proofs.Cuts.{PartLeft, marked, unmarked, some_part}
 

@@ -1,7 +1,6 @@
 -- What a text begins with, where parts are left.
-use Rattle.std.proofs.Common.{◌≡◌, ℕ, List, [], ◌∷◌, ◌++◌, ◌==◌, if◌then◌else◌, take, drop, refl, sym, ◌∙◌, ap, arith, inl, inr, false}
+use Rattle.std.proofs.Common.{◌≡◌, ℕ, List, [], ◌∷◌, ◌++◌, ◌==◌, if◌then◌else◌, take, drop, refl, arith, inl, inr, false}
 use Rattle.std.proofs.Math.Seq.{take-append_seam, drop-append_seam}
-use Rattle.std.proofs.lemmas.Bool.{false≢true}
 use Rattle.fb_access.specs.Grammar.{begins_name, IsName, Part, field, element, member, IsPart, spelling}
 use Rattle.fb_access.specs.Cutting.{word_length, AreLeft}
 use Rattle.fb_access.proofs.{ScanAccepts.GoOn, Words.Stops, Words.parts_stop, Words.length_of_word, Words.name_word, Words.number_word}

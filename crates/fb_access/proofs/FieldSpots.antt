@@ -1,9 +1,9 @@
 -- A field of a table leads to a spot where what is to hold holds.
-use Rattle.std.proofs.Common.{◌≡◌, ℕ, zero, suc, ◌+◌, ◌≤◌, ◌<◌, ℤ, List, [], ◌∷◌, length, refl, subst, arith, Option, Some, None, Bool, false}
+use Rattle.std.proofs.Common.{◌≡◌, ℕ, zero, suc, ◌+◌, ◌≤◌, ◌<◌, ℤ, List, [], ◌∷◌, length, refl, subst, arith, Option, Some, Bool}
 use Rattle.std.proofs.lemmas.Nat.{pow_pos}
 use Rattle.std.specs.Prelude.{slice_get, IfSome}
 use Rattle.fb_bytes.specs.Word.{word}
-use Rattle.fb_schema.specs.declared.{kinds.Scalar.Scalar, kinds.Scalar.TheVariants.Float, kinds.Kind.Kind}
+use Rattle.fb_schema.specs.declared.{kinds.Scalar.Scalar, kinds.Kind.Kind}
 use Rattle.fb_schema.specs.declared.kinds.Kind.TheVariants.{Scalar as AScalar, Text, Struct, Table, Union, Scalars, Texts, Structs, Tables, Unions}
 use Rattle.fb_schema.specs.{Rows.Rows, Rows.Object, Kinds.kind_size, Kinds.kind_align, Kinds.align_in, Live.Live, Members.member_of}
 use Rattle.fb_schema.specs.Served.{IsAlignment, IsServed, KindHolds}

@@ -1,18 +1,17 @@
 -- The steps that parts are, and the kinds to which they lead.
 use Rattle.std.proofs.Common.{arith}
-use Rattle.std.proofs.Common.{◌≡◌, ℕ, ◌^◌, nat_lt, Bool, true, false, if◌then◌else◌, List, slice_get, Option, Some, None, Ok, Err, IsTrue, IsSome, IfSome, refl, sym, ◌∙◌, ap, subst}
-use Rattle.std.specs.Str.{bytes_eq}
+use Rattle.std.proofs.Common.{◌≡◌, ℕ, List, slice_get, Option, Some, None, Ok, Err, IsTrue, IsSome, IfSome, refl}
 use Rattle.fb_schema.specs.declared.{kinds.Kind.Kind, views.FieldView.FieldView, views.PartView.PartView}
-use Rattle.fb_schema.specs.declared.kinds.Kind.TheVariants.{Scalar, Struct, Table, Union, Scalars, Structs, Tables, Unions}
-use Rattle.fb_schema.specs.{Demands.IsLegal, Kinds.struct_size, Members.member_of, Members.member_named}
+use Rattle.fb_schema.specs.declared.kinds.Kind.TheVariants.{Struct, Table, Union}
+use Rattle.fb_schema.specs.{Demands.IsLegal, Members.member_of, Members.member_named}
 use Rattle.fb_schema.specs.{Parts.PartFits, Parts.part_at, Parts.part_named, Rows.Rows, Rows.is_union}
-use Rattle.fb_schema.specs.Served.{KindHolds, MemberHolds, IsServed}
+use Rattle.fb_schema.specs.Served.{KindHolds, IsServed}
 use Rattle.fb_schema.specs.Live.{Live, live_fields, live_of_view, field_named}
-use Rattle.fb_access.specs.declared.{step.Step.Step, step.Step.TheVariants.Field, step.Step.TheVariants.Element, step.Step.TheVariants.Member}
+use Rattle.fb_access.specs.declared.{step.Step.Step, step.Step.TheVariants.Field}
 use Rattle.fb_access.specs.declared.{misfit.Misfit.TheVariants.NoSuchField, misfit.Fitted.Fitted}
 use Rattle.fb_access.specs.{Fitting.element_kind, Fitting.next_kind, Kept.IsThere}
 use Rattle.fb_access.specs.Grammar.{Part, field, element, member, number_of}
-use Rattle.fb_access.specs.Resolving.{field_with_name, to_field, to_part, to_place, to_element, to_kind, to_member, field_step, member_step, fitting}
+use Rattle.fb_access.specs.Resolving.{field_with_name, to_field, to_part, to_place, to_element, to_member, field_step, member_step, fitting}
 use Rattle.fb_access.proofs.{Found.found_at, Found.none_found, Found.found_there, MemberKinds.member_there, NumberedFields.found_by_number}
 
 -- a table without the field

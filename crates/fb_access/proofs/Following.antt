@@ -2,7 +2,7 @@
 use Rattle.std.proofs.Common.{◌≡◌, ℕ, suc, ◌<◌, List, [], ◌∷◌, ◌++◌, length, Result, Ok, Err, refl, sym, ◌∙◌, ap, subst, arith, inl, inr, append_assoc, append-nil}
 use Rattle.fb_schema.specs.declared.{kinds.Kind.Kind, kinds.Kind.TheVariants.Table}
 use Rattle.fb_schema.specs.{Demands.IsLegal, Rows.Rows, Served.IsServed}
-use Rattle.fb_access.specs.declared.{step.Step.Step, misfit.Misfit.Misfit, misfit.Misfit.TheVariants.NoSuchField, misfit.Fitted.Fitted}
+use Rattle.fb_access.specs.declared.{step.Step.Step, misfit.Misfit.Misfit, misfit.Fitted.Fitted}
 use Rattle.fb_access.specs.declared.pieces.Piece.{Piece}
 use Rattle.fb_access.specs.{Cutting.IsPieceOf, Cutting.AreLeft, Cutting.IsCut, Fitting.StepsFit, Kept.IsThere}
 use Rattle.fb_access.specs.Grammar.{Part, field, element, member, IsName, IsPart, IsPath, IsReading, spelling}
@@ -106,20 +106,23 @@ module _ (S : Rows) (root : ℕ) (text rest : List ℕ) (steps : List Step) (kin
 
   -- and if it doesn't
   pub stands_at : (n : ℕ) → n ≡ length steps → (m : Misfit) → ((p : Part) → IsPieceOf p piece → Err m ≡ fitting S kind p) → (misfit : Misfits S root text m n) × (misfit.last ≡ kind)
-  stands_at n same m f = (record {
-    name = w.name;
-    parts = w.parts;
-    reading = w.reading;
-    before = w.done;
-    part = first_left.0;
-    after = first_left.1;
-    all = all_is;
-    number = same ∙ as_many S (Table root) kind w.done steps w.follows;
-    steps = steps;
-    last = kind;
-    follows = w.follows;
-    unfit = part_is (Err m) f;
-  }, refl)
+  stands_at n same m f = (
+    record {
+      name = w.name;
+      parts = w.parts;
+      reading = w.reading;
+      before = w.done;
+      part = first_left.0;
+      after = first_left.1;
+      all = all_is;
+      number = same ∙ as_many S (Table root) kind w.done steps w.follows;
+      steps = steps;
+      last = kind;
+      follows = w.follows;
+      unfit = part_is (Err m) f;
+    },
+    refl,
+  )
 
   pub is_fault : (n : ℕ) → n ≡ length steps → (m : Misfit) → ((p : Part) → IsPieceOf p piece → Err m ≡ fitting S kind p) → IsFault S root text (fault_of m n)
   is_fault n same m f = misfit_fault S root text m n (stands_at n same m f).0

@@ -1,6 +1,5 @@
 -- What is found in a list.
-use Rattle.std.proofs.Common.{◌≡◌, ℕ, zero, suc, ◌≤◌, Bool, true, false, List, [], ◌∷◌, length, slice_get, Some, None, refl, sym, ◌∙◌, ap, arith, cond, find, position}
-use Rattle.std.specs.List.{position_or_len}
+use Rattle.std.proofs.Common.{◌≡◌, ℕ, zero, suc, Bool, true, false, List, [], ◌∷◌, slice_get, Some, None, refl, sym, ◌∙◌, ap, arith, cond, find, position}
 use Rattle.std.proofs.lemmas.{Grind.common_steps, List.Folds.find_at, Option.slice_get_past}
 
 -- the item at the first place that passes is the one that is found

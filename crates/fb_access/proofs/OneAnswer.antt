@@ -1,8 +1,7 @@
 -- One answer applies to a text.
-use Rattle.std.proofs.Common.{◌≡◌, ℕ, suc, ◌+◌, ◌⊎◌, inl, inr, List, [], ◌∷◌, ◌++◌, length, Result, Ok, Err, refl, sym, ◌∙◌, ap, subst, arith}
+use Rattle.std.proofs.Common.{◌≡◌, ℕ, suc, ◌+◌, ◌⊎◌, inl, inr, List, [], ◌∷◌, ◌++◌, length, Result, Ok, Err, refl, sym, ◌∙◌, ap, arith}
 use Rattle.fb_schema.specs.declared.{kinds.Kind.Kind, kinds.Kind.TheVariants.Table}
 use Rattle.fb_schema.specs.Rows.{Rows}
-use Rattle.fb_schema.proofs.Numbers.{le_or_lt, lt_or_eq}
 use Rattle.fb_access.specs.declared.{step.Step.Step, misfit.Misfit.Misfit, misfit.Fitted.Fitted, path_fault.PathFault.PathFault}
 use Rattle.fb_access.specs.declared.misfit.Misfit.TheVariants.{NoSuchField, NotIndexable, NotAUnion, NoSuchMember, NotATable}
 use Rattle.fb_access.specs.declared.path_fault.PathFault.TheVariants.{BadText, NoSuchField as NoSuchFieldAt, NotIndexable as NotIndexableAt, NotAUnion as NotAUnionAt, NoSuchMember as NoSuchMemberAt, NotATable as NotATableAt, OutOfMemory}

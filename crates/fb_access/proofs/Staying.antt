@@ -1,8 +1,7 @@
 -- Wherever steps lead in a buffer that unfolds, what is there lies in the buffer.
-use Rattle.std.proofs.Common.{◌≡◌, ℕ, suc, ◌+◌, ◌*◌, ◌<◌, ◌≤◌, ◌==◌, nat_lt, if◌then◌else◌, Bool, true, false, List, [], ◌∷◌, length, refl, subst, ap, ◌∙◌, arith, Option, Some, None}
-use Rattle.std.proofs.lemmas.{Bool.eqb-true, Bool.Decides.nat_tests}
+use Rattle.std.proofs.Common.{◌≡◌, ℕ, ◌+◌, ◌*◌, ◌<◌, ◌≤◌, ◌==◌, nat_lt, if◌then◌else◌, Bool, true, List, [], ◌∷◌, length, refl, subst, arith, Option, Some, None}
+use Rattle.std.proofs.lemmas.{Bool.Decides.nat_tests}
 use Rattle.std.specs.Prelude.{option_map}
-use Rattle.std.proofs.Math.Nat.{mul-le-mul_right, suc-mul, mul_comm}
 use Rattle.fb_bytes.specs.Word.{word}
 use Rattle.fb_schema.specs.declared.{kinds.Kind.Kind, views.PartView.PartView}
 use Rattle.fb_schema.specs.declared.kinds.Kind.TheVariants.{Scalar, Text, Struct, Table, Scalars, Structs}
@@ -13,7 +12,7 @@ use Rattle.fb_verify.specs.{Places.target, Tree.Element as Found, Tree.leaf, Tre
 use Rattle.fb_verify.specs.Fields.{Lead, to_table, to_struct, to_string, to_nothing, lead_of}
 use Rattle.fb_access.specs.declared.{step.Step.Step, step.Step.TheVariants.Field, step.Step.TheVariants.Element, step.Step.TheVariants.Member}
 use Rattle.fb_access.specs.declared.spot.Spot.{Spot}
-use Rattle.fb_access.specs.declared.spot.Spot.TheVariants.{AtTable, AtInline, AtStruct, AtText, AtScalars, AtStructs, AtScalarArray, AtStructArray, AtTexts, AtTables, AtUnions, AtUnion, AtAbsent, AtNoElement, AtOtherMember}
+use Rattle.fb_access.specs.declared.spot.Spot.TheVariants.{AtScalars, AtStructs, AtScalarArray, AtStructArray, AtTexts, AtTables, AtUnions, AtUnion, AtAbsent, AtNoElement, AtOtherMember}
 use Rattle.fb_access.specs.{Fitting.numbered, Denotes.next_spot, Denotes.Reaches, Denotes.root_spot}
 use Rattle.fb_access.specs.Inside.{OffsetLies, LiesInside, ValuesLieInside}
 use Rattle.fb_access.specs.Spots.{field_spot, part_spot, spot_of_part, spot_of_field, if_element, spot_of_element, member_spot, spot_of_member}
@@ -68,13 +67,13 @@ module _ (b : List ℕ) (S : Rows) where
 
   from_element : (p : Spot) (j : ℕ) (q : Spot) → IsSpot b S p → spot_of_element b S p j ≡ Some q → IsSpot b S q
   unfolding IsSpot spot_of_element
-  from_element (AtScalars s c) j q h l = if_below (word b c 4) j (AtInline s (c + 4 + scalar_size s * j)) q (λ lt. in_place (word b c 4) (c + 4) (scalar_size s) j h.within lt) l
-  from_element (AtStructs k c) j q h l = if_below (word b c 4) j (AtStruct k (c + 4 + struct_size S k * j)) q (λ lt. record { object = h.object; within = in_place (word b c 4) (c + 4) (struct_size S k) j h.counted.within lt }) l
-  from_element (AtScalarArray s n p) j q h l = if_below n j (AtInline s (p + scalar_size s * j)) q (λ lt. in_place n p (scalar_size s) j h lt) l
-  from_element (AtStructArray k n p) j q h l = if_below n j (AtStruct k (p + struct_size S k * j)) q (λ lt. record { object = h.object; within = in_place n p (struct_size S k) j h.within lt }) l
-  from_element (AtTexts c) j q h l = if_below (word b c 4) j (AtText (target b (c + 4 + 4 * j))) q (λ lt. (led_to_string b S (c + 4 + 4 * j) (h.led.at j lt)).1) l
-  from_element (AtTables k c) j q h l = if_below (word b c 4) j (AtTable k (target b (c + 4 + 4 * j))) q (λ lt. (led_to_table b S (c + 4 + 4 * j) k h.object (h.led.at j lt)).1) l
-  from_element (AtUnions e y c) j q h l = if_below (word b c 4) j (AtUnion e (word b (y + j) 1) (c + 4 + 4 * j)) q (λ lt. record { union = h.union; led = h.led.at j lt }) l
+  from_element (AtScalars s c) j q h l = if_below (word b c 4) j _ q (λ lt. in_place (word b c 4) (c + 4) (scalar_size s) j h.within lt) l
+  from_element (AtStructs k c) j q h l = if_below (word b c 4) j _ q (λ lt. record { object = h.object; within = in_place (word b c 4) (c + 4) (struct_size S k) j h.counted.within lt }) l
+  from_element (AtScalarArray s n p) j q h l = if_below n j _ q (λ lt. in_place n p (scalar_size s) j h lt) l
+  from_element (AtStructArray k n p) j q h l = if_below n j _ q (λ lt. record { object = h.object; within = in_place n p (struct_size S k) j h.within lt }) l
+  from_element (AtTexts c) j q h l = if_below (word b c 4) j _ q (λ lt. (led_to_string b S (c + 4 + 4 * j) (h.led.at j lt)).1) l
+  from_element (AtTables k c) j q h l = if_below (word b c 4) j _ q (λ lt. (led_to_table b S (c + 4 + 4 * j) k h.object (h.led.at j lt)).1) l
+  from_element (AtUnions e y c) j q h l = if_below (word b c 4) j _ q (λ lt. record { union = h.union; led = h.led.at j lt }) l
   from_element p j q h l = absurd cc
 
   -- what a union's offset word leads to

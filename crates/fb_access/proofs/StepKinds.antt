@@ -1,16 +1,13 @@
 -- Which steps lead on from what is here, and to what kind.
 use Rattle.std.proofs.Common.{arith}
-use Rattle.std.proofs.Common.{◌≡◌, ℕ, ◌+◌, ◌*◌, ◌==◌, nat_lt, if◌then◌else◌, ℤ, Bool, true, false, IsTrue, List, refl, sym, ◌∙◌, ap, subst, Option, Some, None, is_some, inl, inr}
+use Rattle.std.proofs.Common.{◌≡◌, ℕ, ◌+◌, IsTrue, List, subst, Option, Some, None, is_some, inl, inr}
 use Rattle.std.specs.Prelude.{option_map}
-use Rattle.fb_bytes.specs.Word.{word}
-use Rattle.fb_schema.specs.declared.{kinds.Scalar.Scalar, kinds.Scalar.TheVariants.Float, kinds.Scalar.TheVariants.Double, kinds.Kind.Kind}
-use Rattle.fb_schema.specs.declared.views.PartView.{PartView}
-use Rattle.fb_schema.specs.declared.kinds.Kind.TheVariants.{Scalar as AScalar, Text, Struct, Table, Union, Scalars, Texts, Structs, Tables, Unions}
-use Rattle.fb_schema.specs.{Rows.Rows, Kinds.scalar_size, Kinds.struct_size, Live.Live, Members.member_of, Parts.part_at}
-use Rattle.fb_verify.specs.Places.{target, field_place}
+use Rattle.fb_schema.specs.declared.{kinds.Kind.Kind}
+use Rattle.fb_schema.specs.declared.{views.PartView.PartView, kinds.Kind.TheVariants.Struct, kinds.Kind.TheVariants.Table}
+use Rattle.fb_schema.specs.{Rows.Rows, Live.Live, Parts.part_at}
 use Rattle.fb_access.specs.declared.{step.Step.Step, step.Step.TheVariants.Field, step.Step.TheVariants.Element, step.Step.TheVariants.Member}
 use Rattle.fb_access.specs.declared.spot.Spot.{Spot}
-use Rattle.fb_access.specs.declared.spot.Spot.TheVariants.{AtTable, AtInline, AtStruct, AtText, AtScalars, AtStructs, AtScalarArray, AtStructArray, AtTexts, AtTables, AtUnions, AtUnion, AtAbsent, AtNoElement, AtOtherMember}
+use Rattle.fb_access.specs.declared.spot.Spot.TheVariants.{AtTable, AtStruct, AtScalars, AtStructs, AtScalarArray, AtStructArray, AtTexts, AtTables, AtUnions, AtAbsent, AtNoElement, AtOtherMember}
 use Rattle.fb_access.specs.{Fitting.numbered, Fitting.next_kind, Denotes.next_spot, Denotes.Leads, Denotes.allows}
 use Rattle.fb_access.specs.Spots.{kind_at, present_spot, default_spot, absent_spot, field_spot, part_spot, spot_of_field, spot_of_part, spot_of_element, member_spot, spot_of_member}
 use Rattle.fb_access.specs.Here.{IsHere, MayBeHere, IsOfKind, KindsGoOn}

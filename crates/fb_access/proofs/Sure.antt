@@ -1,17 +1,17 @@
 -- From where something is, certain steps lead to where something is.
 use Rattle.std.proofs.Common.{arith}
-use Rattle.std.proofs.Common.{◌≡◌, ℕ, ◌||◌, if◌then◌else◌, ℤ, Bool, true, false, IsFalse, List, refl, ◌∙◌, ap, subst, Option, Some, None}
+use Rattle.std.proofs.Common.{◌≡◌, ℕ, ◌||◌, if◌then◌else◌, ℤ, Bool, true, IsFalse, List, ◌∙◌, ap, subst, Option, Some, None}
 use Rattle.std.specs.Prelude.{option_and_then}
-use Rattle.fb_schema.specs.declared.{kinds.Scalar.Scalar, kinds.Scalar.TheVariants.Float, kinds.Scalar.TheVariants.Double, kinds.Kind.Kind}
-use Rattle.fb_schema.specs.declared.kinds.Kind.TheVariants.{Scalar as AScalar, Table}
+use Rattle.fb_schema.specs.declared.{kinds.Kind.Kind}
+use Rattle.fb_schema.specs.declared.kinds.Kind.TheVariants.{Table}
 use Rattle.fb_schema.specs.{Rows.Rows, Live.Live, Served.IsServed}
 use Rattle.fb_verify.specs.declared.checks.Checks.{Checks}
-use Rattle.fb_verify.specs.{Places.field_place, Fields.IsField, Fields.IsPresentOrAbsent}
-use Rattle.fb_access.specs.declared.{step.Step.Step, step.Step.TheVariants.Field, step.Step.TheVariants.Element, step.Step.TheVariants.Member}
+use Rattle.fb_verify.specs.{Fields.IsField, Fields.IsPresentOrAbsent}
+use Rattle.fb_access.specs.declared.{step.Step.Step, step.Step.TheVariants.Field}
 use Rattle.fb_access.specs.declared.{spot.Spot.Spot, spot.Spot.TheVariants.AtTable}
 use Rattle.fb_access.specs.{Fitting.numbered, Denotes.next_spot, Denotes.Leads, Held.IsSpot, Held.IsTableAt}
 use Rattle.fb_access.specs.Spots.{default_spot, absent_spot, spot_at, field_spot}
-use Rattle.fb_access.specs.Here.{IsHere, has_default, defaults, sure_field, sure_kind, HereGoesOn}
+use Rattle.fb_access.specs.Here.{IsHere, defaults, sure_field, sure_kind, HereGoesOn}
 use Rattle.fb_access.proofs.{Held.at_table, TableFields.field_holds, StepKinds.present_kind}
 
 -- such a step is one to a field of a table
@@ -55,7 +55,9 @@ field_here c b S t f onward met e = grind (arith, place_here)
 module _ (b : List ℕ) (S : Rows) where
   table_leads_here : (k t n : ℕ) (f : Live) (q : Spot) (onward : Kind) → IsServed S → IsTableAt b S k t → numbered S k n ≡ Some f → sure_field f ≡ Some onward → Leads b S (AtTable k t) (Field n) q → IsHere q onward
   unfolding next_spot
-  table_leads_here k t n f q onward served h found sure l = let i = field_here h.checks b S t f onward (field_holds b S k t n f served h found).met sure in grind arith
+  table_leads_here k t n f q onward served h found sure l =
+      let here = field_here h.checks b S t f onward (field_holds b S k t n f served h found).met sure in
+      grind arith
 
   pub here_goes_on : (p : Spot) (s : Step) (q : Spot) → IsServed S → IsSpot b S p → Leads b S p s q → HereGoesOn S p s q
   here_goes_on p s q served holds l kind onward h e =

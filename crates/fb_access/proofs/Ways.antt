@@ -1,6 +1,6 @@
 -- The text of a way is read back as the parts of its links.
-use Rattle.std.proofs.Common.{◌≡◌, ℕ, zero, suc, ◌<◌, ◌≤◌, ◌^◌, Bool, true, ◌||◌, ◌==◌, if◌then◌else◌, IsTrue, List, [], ◌∷◌, ◌++◌, length, get_or, Option, Some, None, codes, decimal, refl, sym, ◌∙◌, ap, subst, arith, append_assoc, append-nil, inl, inr}
-use Rattle.std.proofs.lemmas.{Bool.or_left, Bool.Decides.nat_tests, List.Concat.flat_map-cons}
+use Rattle.std.proofs.Common.{◌≡◌, ℕ, zero, suc, ◌<◌, ◌^◌, Bool, true, ◌||◌, ◌==◌, if◌then◌else◌, IsTrue, List, [], ◌∷◌, ◌++◌, length, get_or, Option, codes, decimal, refl, sym, ◌∙◌, ap, subst, arith, append_assoc, append-nil, inl, inr}
+use Rattle.std.proofs.lemmas.{Bool.Decides.nat_tests, List.Concat.flat_map-cons}
 use Rattle.std.specs.{Int.IsInRange, List.AllByRecursion, List.flat_map}
 use Rattle.std.proofs.lemmas.Fmt.{decimal_digit, decimal_nonempty, first_decimal, digits_decimal, digits_value-decimal}
 use Rattle.std.proofs.lemmas.Str.Parse.{IsDigitsTest, FoldsDigits, IsNumeralModel, numerals_by_fold}
@@ -8,7 +8,7 @@ use Rattle.fb_schema.specs.declared.kinds.Kind.TheVariants.{Table}
 use Rattle.fb_schema.specs.Rows.{Rows}
 use Rattle.fb_verify.specs.declared.links.Link.{Link}
 use Rattle.fb_access.proofs.ScanAccepts.{AreDigits}
-use Rattle.fb_access.specs.Grammar.{begins_name, goes_on, is_digit, number_from, number_of, Part, field, element, member, IsName, IsNumber, IsPart, spelling}
+use Rattle.fb_access.specs.Grammar.{goes_on, is_digit, number_from, number_of, Part, field, IsName, IsNumber, IsPart, spelling}
 use Rattle.fb_access.specs.Resolving.{Follows}
 use Rattle.fb_access.specs.Location.{name_text, named, link_member, element_text, link_text}
 use Rattle.fb_access.specs.LocationLaws.{field_parts, element_parts, member_parts, link_parts, parts_of, IsShort, IsNameIfAny, IsNamed, AreNamed, WaysResolve}

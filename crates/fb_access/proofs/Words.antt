@@ -1,8 +1,7 @@
 -- A word of letters, `_` and digits, and the text after it.
-use Rattle.std.proofs.Common.{◌≡◌, ℕ, suc, ◌+◌, ◌-◌, ◌*◌, ◌<◌, ◌≤◌, inl, inr, List, [], ◌∷◌, ◌++◌, length, take, drop, get_or, refl, ◌∙◌, ap, subst, arith, add-one, true, false}
-use Rattle.std.proofs.lemmas.Bool.{cond-true, cond-false, or_left, or_right}
+use Rattle.std.proofs.Common.{◌≡◌, ℕ, suc, ◌+◌, ◌-◌, ◌*◌, ◌<◌, ◌≤◌, List, [], ◌∷◌, ◌++◌, length, drop, get_or, refl, ◌∙◌, ap, subst, arith, add-one, true, false}
+use Rattle.std.proofs.lemmas.{Bool.cond-true, Bool.cond-false, Bool.or_right, Bool.Decides.nat_tests}
 use Rattle.std.proofs.Math.Seq.{drop-cons, drop-length}
-use Rattle.std.proofs.lemmas.Bool.Decides.{nat_tests}
 use Rattle.fb_access.specs.Grammar.{is_digit, begins_name, goes_on, IsName, IsNumber, number_from, Part, field, spelling}
 use Rattle.fb_access.specs.Cutting.{word_length}
 use Rattle.fb_access.proofs.{ScanAccepts.Most, ScanAccepts.GoOn, ScanAccepts.AreDigits, ScanReads.number_grows}
