@@ -1,6 +1,6 @@
 -- The links to a fault lead to what is under check.
 use Rattle.std.proofs.Common.{◌≡◌, ℕ, ◌+◌, ◌*◌, ◌<◌, ◌^◌, ◌==◌, if◌then◌else◌, List, [], ◌∷◌, ◌++◌, length, slice_get, decimal, option_map, option_and_then, IsTrue, Option, Some, None, Ok, append-nil, refl, sym, ◌∙◌, ap, subst, arith, inl, inr}
-use Rattle.std.proofs.lemmas.{Bool.cond-true, Bool.Decides.Decides-eqb, Option.slice_get_within}
+use Rattle.std.proofs.lemmas.{Bool.cond-true, Bool.Decides.Decides-eqb}
 use Rattle.fb_bytes.specs.Word.{word}
 use Rattle.fb_schema.specs.declared.kinds.Kind.{Kind}
 use Rattle.fb_schema.specs.declared.kinds.Kind.TheVariants.{Text, Struct, Table, Union, Texts, Tables, Unions}
@@ -8,7 +8,7 @@ use Rattle.fb_schema.specs.{Demands.IsLegal, Live.Live, Live.live_fields, Member
 use Rattle.fb_schema.specs.Served.{KindHolds, IsServed}
 use Rattle.fb_verify.specs.declared.{checks.Checks.Checks, fault.Fault.Fault, links.Link.Link}
 use Rattle.fb_verify.specs.{Bounds.Bounds, Places.target, Places.field_place, Tree.kids_length, Tree.elements_length, WellFormed.base}
-use Rattle.fb_verify.specs.Fields.{type_place, union_type, types_begin, IsVectorField, IsPresent, IsPresentOrAbsent, IsField, Lead, to_table, to_string, to_nothing, lead_of, Entry, entry, union_entry, entries_of, entries_at, entries}
+use Rattle.fb_verify.specs.Fields.{type_place, union_type, types_begin, IsVectorField, IsPresent, IsPresentOrAbsent, IsField, Lead, to_table, to_string, to_nothing, lead_of, Entry, entry, entries_of, entries_at, entries}
 use Rattle.fb_verify.specs.Way.{Way, way_to_start, way_to_root, way_to_field, way_to_element, way_to_table}
 use Rattle.fb_verify.specs.Stops.{in_start, in_head, in_field, in_element, Trail, at_head, at_field, FieldTrail, at_own, at_element, ElementTrail, at_lead, through, IsTrail, IsFieldTrail, IsElementTrail}
 use Rattle.fb_verify.specs.Links.{element_of, type_of, field_link, element_link, object_led_to, links_of, links_in_field, links_in_element}
@@ -22,7 +22,8 @@ use Rattle.fb_access.specs.Resolving.{to_field, to_element, to_kind, to_member, 
 use Rattle.fb_access.specs.Spots.{if_element, present_spot, spot_at, field_spot, spot_of_element, member_spot}
 use Rattle.fb_access.proofs.{MemberKinds.member_there, MemberKinds.IsOfMember, NumberedFields.found_by_number}
 use Rattle.fb_access.proofs.{UniqueNames.found_by_name, UniqueNames.named_again, UniqueNames.has_name, Walks.reaches_on, Ways.read_back}
-use Rattle.fb_access.proofs.StepLaws.{field_step, one_entry, row_get, union_row_get, element_there}
+use Rattle.fb_access.proofs.StepLaws.{field_step, one_entry, one_union, element_there}
+use Rattle.fb_access.proofs.{Leading.row_at, Leading.union_row_at, Leading.row_get, Following.follows_on}
 
 -- a step, and the kind to which it leads
 abbrev fitted : Step → Kind → Fitted
@@ -32,11 +33,6 @@ same_table : {k j : ℕ} → to_table k ≡ to_table j → k ≡ j
 same_table h = cc
 
 module _ (b : List ℕ) (S : Rows) where
-  -- One way behind another.
-  follows_on : (kind mid last : Kind) (ps qs : List Part) (ss rs : List Step) → Follows S kind ps ss mid → Follows S mid qs rs last → Follows S kind (ps ++ qs) (ss ++ rs) last
-  follows_on kind mid last [] qs ss rs h g = subst (λ k. Follows S k qs (ss ++ rs) last) (sym h.1) (subst (λ xs. Follows S mid qs (xs ++ rs) last) (sym h.0) g)
-  follows_on kind mid last (p ∷ ps) qs ss rs h g = (h.0, h.1, h.2 ++ rs, ap (λ xs. xs ++ rs) h.3, follows_on (h.0).kind mid last ps qs h.2 rs h.4 g)
-
   -- By parts from a kind at a spot to what is behind an offset word.
   record GoesTo (kind : Kind) (from : Spot) (parts : List Part) (place : ℕ) (lead : Lead) : Type 0 where
     steps : List Step
@@ -102,65 +98,40 @@ module _ (b : List ℕ) (S : Rows) where
           (goes_after (Union e) k.0 (AtUnion e y p) (member_spot b p k.0) (member name) [] (Member y) p (lead_of S (Some k.0)) (ap (to_member S e) v ∙ ap (to_kind y) k.1) leads (member_here p k.0 k.3))
 
     -- an element of a vector that is its j-th offset word
-    element_goes : (kind next : Kind) (from q : Spot) (j c : ℕ) (ps : List Part) (x y : Entry) → j < 2 ^ 32 → element_kind kind ≡ Some next → next_spot b S from (Element j) ≡ Some (if_element b c j q)
-        → (j < word b c 4) × (y ≡ x) → GoesBy next q ps y → GoesBy kind from (element (decimal j) ∷ ps) x
-    element_goes kind next from q j c ps x y small is leads h g =
-        let fit : fitting S kind (element (decimal j)) ≡ Ok (fitted (Element j) next) = ap (to_element (number_of (decimal j))) is ∙ ap (λ n. Ok (fitted (Element n) next)) (read_back j small) in
-        subst (GoesBy kind from (element (decimal j) ∷ ps)) h.1 (goes_after kind next from q (element (decimal j)) ps (Element j) y.place y.lead fit (leads ∙ ap Some (element_there b c j q h.0)) g)
+    element_goes : (kind next : Kind) (from q : Spot) (j n : ℕ) (ps : List Part) (x y : Entry) → n < 2 ^ 32 → element_kind kind ≡ Some next → next_spot b S from (Element j) ≡ Some (if_element n j q)
+        → (j < n) × (y ≡ x) → GoesBy next q ps y → GoesBy kind from (element (decimal j) ∷ ps) x
+    element_goes kind next from q j n ps x y few is leads h g =
+        let fit : fitting S kind (element (decimal j)) ≡ Ok (fitted (Element j) next) = ap (to_element (number_of (decimal j))) is ∙ ap (λ n. Ok (fitted (Element n) next)) (read_back j (omega arith)) in
+        subst (GoesBy kind from (element (decimal j) ∷ ps)) h.1 (goes_after kind next from q (element (decimal j)) ps (Element j) y.place y.lead fit (leads ∙ ap Some (element_there n j q h.0)) g)
 
-    module _ (t p j : ℕ) (g : Live) where
+    module _ (c : Checks) (short : length b < 2 ^ 31) (t j : ℕ) (g : Live) where
       -- what a link has behind its field's name
       abbrev parts_behind : Kind → List Part
       parts_behind kind = element_parts (element_of j kind) ++ member_parts (option_and_then (λ value. member_of_kind S value kind) (type_of b t g j kind))
 
-      abbrev Behind : Kind → Entry → Type 0
-      Behind kind x = GoesBy kind (present_spot b t g.slot p kind) (parts_behind kind) x
+      -- a vector has no more offset words than the buffer has room for
+      few : (p : ℕ) → IsVectorField c b t p 4 4 → word b (target b p) 4 < 2 ^ 32
+      few p h = omega (arith, h.vector.within)
 
-      one_union : (member : Option Kind) (x : Entry) → slice_get (union_entry S p member) j ≡ Some x → (x.place ≡ p) × (x.lead ≡ lead_of S member)
-      one_union None x h = absurd cc
-      one_union (Some kind) x h = let e = one_entry (entry (lead_of S (Some kind)) p 0) x j h in (ap (λ (y : Entry). y.place) (sym e), ap (λ (y : Entry). y.lead) (sym e))
-
-      entry_goes : (kind : Kind) (x : Entry) → KindHolds S g kind → j < 2 ^ 32 → slice_get (entries_of b S t g p kind) j ≡ Some x → Behind kind x
+      entry_goes : (p : ℕ) (kind : Kind) (x : Entry) → KindHolds S g kind → IsPresent c b S t g p kind → slice_get (entries_of b S t g p kind) j ≡ Some x → GoesBy kind (present_spot b t g.slot p kind) (parts_behind kind) x
       unfolding present_spot next_spot spot_of_element
-      entry_goes Text x holds small h = subst (GoesBy Text (AtText (target b p)) []) (one_entry (entry to_string p 0) x j h) (text_here p)
-      entry_goes (Table k) x holds small h = subst (GoesBy (Table k) (AtTable k (target b p)) []) (one_entry (entry (to_table k) p 0) x j h) (table_here k p)
-      entry_goes (Union e) x holds small h =
+      entry_goes p Text x holds own h = subst (GoesBy Text (AtText (target b p)) []) (one_entry (entry to_string p 0) x j h) (text_here p)
+      entry_goes p (Table k) x holds own h = subst (GoesBy (Table k) (AtTable k (target b p)) []) (one_entry (entry (to_table k) p 0) x j h) (table_here k p)
+      entry_goes p (Union e) x holds own h =
           let y = union_type b (type_place b t g.slot) in
-          let i = one_union (member_of S e y) x h in
-          let ps = member_parts (member_name S e y) in
-          subst (λ lead. GoesTo (Union e) (AtUnion e y p) ps x.place lead) (sym i.1) (subst (λ place. GoesTo (Union e) (AtUnion e y p) ps place (lead_of S (member_of S e y))) (sym i.0) (union_goes e y p holds))
-      entry_goes Texts x holds small h = element_goes _ _ _ _ j (target b p) [] x _ small refl refl (row_get to_string (target b p + 4) (word b (target b p) 4) j x h) (text_here (target b p + 4 + 4 * j))
-      entry_goes (Tables k) x holds small h = element_goes _ _ _ _ j (target b p) [] x _ small refl refl (row_get (to_table k) (target b p + 4) (word b (target b p) 4) j x h) (table_here k (target b p + 4 + 4 * j))
-      entry_goes (Unions e) x holds small h =
+          let i = one_union S p j (member_of S e y) x h in
+          rw (← i.0, ← i.1) (union_goes e y p holds)
+      entry_goes p Texts x holds own h = element_goes _ _ _ _ j _ [] x _ (few p own) refl refl (row_get (row_at to_string (target b p + 4) (word b (target b p) 4) j) x h) (text_here (target b p + 4 + 4 * j))
+      entry_goes p (Tables k) x holds own h = element_goes _ _ _ _ j _ [] x _ (few p own) refl refl (row_get (row_at (to_table k) (target b p + 4) (word b (target b p) 4) j) x h) (table_here k (target b p + 4 + 4 * j))
+      entry_goes p (Unions e) x holds own h =
           let y = types_begin b (type_place b t g.slot) in
-          element_goes _ _ _ _ j (target b p) _ x _ small refl refl (union_row_get b S e y (target b p + 4) (word b (target b p) 4) j x h) (union_goes e (word b (y + j) 1) (target b p + 4 + 4 * j) holds)
-      entry_goes kind x holds small h = absurd cc
-
-    -- a field's offset words are not more than the buffer has room for
-    module _ (c : Checks) (short : length b < 2 ^ 31) (t j : ℕ) (g : Live) where
-      in_vector : (p : ℕ) → IsVectorField c b t p 4 4 → j < word b (target b p) 4 → j < 2 ^ 32
-      in_vector p h lt = omega (arith, h.vector.within, lt)
-
-      alone : (y x : Entry) → slice_get (y ∷ []) j ≡ Some x → j < 2 ^ 32
-      alone y x h = let one = slice_get_within (y ∷ []) j x h in omega arith
-
-      in_union : (p : ℕ) (member : Option Kind) (x : Entry) → slice_get (union_entry S p member) j ≡ Some x → j < 2 ^ 32
-      in_union p None x h = absurd cc
-      in_union p (Some kind) x h = alone (entry (lead_of S (Some kind)) p 0) x h
-
-      few_of : (p : ℕ) (kind : Kind) (x : Entry) → IsPresent c b S t g p kind → slice_get (entries_of b S t g p kind) j ≡ Some x → j < 2 ^ 32
-      few_of p Text x h e = alone (entry to_string p 0) x e
-      few_of p (Table k) x h e = alone (entry (to_table k) p 0) x e
-      few_of p (Union u) x h e = in_union p (member_of S u (union_type b (type_place b t g.slot))) x e
-      few_of p Texts x h e = in_vector p h (row_get to_string (target b p + 4) (word b (target b p) 4) j x e).0
-      few_of p (Tables k) x h e = in_vector p h (row_get (to_table k) (target b p + 4) (word b (target b p) 4) j x e).0
-      few_of p (Unions u) x h e = in_vector p h.field (union_row_get b S u (types_begin b (type_place b t g.slot)) (target b p + 4) (word b (target b p) 4) j x e).0
-      few_of p kind x h e = absurd cc
+          element_goes _ _ _ _ j _ _ x _ (few p own.field) refl refl (row_get (union_row_at b S e y (target b p + 4) (word b (target b p) 4) j) x h) (union_goes e (word b (y + j) 1) (target b p + 4 + 4 * j) holds)
+      entry_goes p kind x holds own h = absurd cc
 
       -- past a field, where it stands somewhere
-      field_goes : (place : Option ℕ) (x : Entry) → IsPresentOrAbsent c b S t g place → KindHolds S g g.kind → slice_get (entries_at b S t g place) j ≡ Some x → GoesBy g.kind (spot_at b t g place) (parts_behind t 0 j g g.kind) x
+      field_goes : (place : Option ℕ) (x : Entry) → IsPresentOrAbsent c b S t g place → KindHolds S g g.kind → slice_get (entries_at b S t g place) j ≡ Some x → GoesBy g.kind (spot_at b t g place) (parts_behind g.kind) x
       field_goes None x h holds e = absurd cc
-      field_goes (Some p) x h holds e = entry_goes t p j g g.kind x holds (few_of p g.kind x h e) e
+      field_goes (Some p) x h holds e = entry_goes p g.kind x holds h e
 
     module _ (served : IsServed S) (k t i : ℕ) (g : Live) (at : slice_get (live_fields S k) i ≡ Some g) where
       -- the field of a link, and what it has behind it
@@ -181,7 +152,7 @@ module _ (b : List ℕ) (S : Rows) where
       link_goes c j x short own next =
           let behind = field_goes c short t j g (field_place b t g.slot) x own (served.kinds k i g at) next in
           subst (λ ps. GoesBy (Table k) (AtTable k t) ps x) (sym (field_first (element_of j g.kind) (type_of b t g j g.kind)))
-          (goes_after (Table k) g.kind (AtTable k t) (field_spot b t g) (field g.name) (parts_behind t 0 j g g.kind) (Field g.number) x.place x.lead field_fits field_leads behind)
+          (goes_after (Table k) g.kind (AtTable k t) (field_spot b t g) (field g.name) (parts_behind c short t j g g.kind) (Field g.number) x.place x.lead field_fits field_leads behind)
 
   -- Along a trail.
   module _ (legal : IsLegal S) (served : IsServed S) (short : length b < 2 ^ 31) (c : Checks) (L : Bounds) (f : Fault) where
@@ -195,7 +166,7 @@ module _ (b : List ℕ) (S : Rows) where
         record {
           steps = g.steps ++ r.steps;
           last = r.last;
-          follows = follows_on kind g.last r.last (link_parts S link) (parts_of S links) g.steps r.steps g.follows (subst (λ z. Follows S z (parts_of S links) r.steps r.last) (sym to.0) r.follows);
+          follows = follows_on S kind g.last r.last (link_parts S link) (parts_of S links) g.steps r.steps g.follows (subst (λ z. Follows S z (parts_of S links) r.steps r.last) (sym to.0) r.follows);
           end = r.end;
           reaches = reaches_on b S from g.end r.end g.steps r.steps g.reaches (subst (λ z. Reaches b S z r.steps r.end) (sym to.1) r.reaches);
           place = r.place;

@@ -1,15 +1,12 @@
 -- For who reads by a schema that they know: which steps are allowed, and what is here after them.
-use Rattle.std.proofs.Common.{◌≡◌, ℕ, ◌<◌, ◌+◌, ◌*◌, nat_lt, if◌then◌else◌, true, IsTrue, List, [], ◌∷◌, refl, sym, ◌∙◌, ap, subst, arith, Option, Some, None, inl}
+use Rattle.std.proofs.Common.{◌≡◌, ℕ, ◌<◌, nat_lt, if◌then◌else◌, IsTrue, List, [], ◌∷◌, sym, ◌∙◌, ap, subst, arith, Option, Some, None, inl}
 use Rattle.std.specs.Prelude.{option_map}
 use Rattle.std.proofs.lemmas.Bool.Decides.{nat_tests}
-use Rattle.fb_bytes.specs.Word.{word}
-use Rattle.fb_schema.specs.declared.kinds.Kind.{Kind}
-use Rattle.fb_schema.specs.declared.kinds.Kind.TheVariants.{Scalar as AScalar, Text, Struct, Table, Union, Scalars, Texts, Structs, Tables, Unions}
-use Rattle.fb_schema.specs.{Rows.Rows, Kinds.scalar_size, Kinds.struct_size, Live.Live}
-use Rattle.fb_verify.specs.Places.{target}
+use Rattle.fb_schema.specs.declared.{kinds.Kind.Kind, kinds.Kind.TheVariants.Table}
+use Rattle.fb_schema.specs.{Rows.Rows, Live.Live}
 use Rattle.fb_access.specs.declared.{step.Step.Step, step.Step.TheVariants.Field, step.Step.TheVariants.Element, spot.Spot.Spot}
-use Rattle.fb_access.specs.declared.spot.Spot.TheVariants.{AtTable, AtInline, AtStruct, AtText, AtScalars, AtStructs, AtScalarArray, AtStructArray, AtTexts, AtTables, AtUnions, AtUnion, AtNoElement}
-use Rattle.fb_access.specs.{Fitting.numbered, Fitting.element_kind, Fitting.next_kind, Spots.kind_at, Spots.field_spot, Spots.spot_of_element}
+use Rattle.fb_access.specs.declared.spot.Spot.TheVariants.{AtScalars, AtStructs, AtScalarArray, AtStructArray, AtTexts, AtTables, AtUnions, AtNoElement}
+use Rattle.fb_access.specs.{Fitting.numbered, Fitting.element_kind, Fitting.next_kind, Spots.field_spot, Spots.spot_of_element}
 use Rattle.fb_access.specs.Denotes.{next_spot, Leads, allows, Reaches, Shown, vector, value}
 use Rattle.fb_access.specs.Here.{IsHere, MayBeHere, sure_kind, Shows}
 use Rattle.fb_access.proofs.{StepKinds.kind_allows, StepKinds.field_kind, Sure.is_sure, Sure.sure_kind_of, Sure.table_here}
@@ -20,7 +17,7 @@ here_allows S p s kind onward h e = kind_allows S p s kind onward (inl h) e
 
 field_fits : (S : Rows) (k n : ℕ) (f : Live) → numbered S k n ≡ Some f → next_kind S (Table k) (Field n) ≡ Some f.kind
 unfolding next_kind
-field_fits S k n f e = rw e refl
+field_fits S k n f e = grind arith
 
 -- a sure step is a step of the kind
 pub sure_fits : (S : Rows) (kind : Kind) (s : Step) (onward : Kind) → sure_kind S kind s ≡ Some onward → next_kind S kind s ≡ Some onward
@@ -30,7 +27,7 @@ sure_fits S kind s onward e =
     subst (λ x. next_kind S x s ≡ Some onward) (sym i.is_table) (subst (λ x. next_kind S (Table i.object) x ≡ Some onward) (sym i.is_field) fits)
 
 pub sure_allows : (S : Rows) (p : Spot) (s : Step) (kind onward : Kind) → IsHere p kind → sure_kind S kind s ≡ Some onward → IsTrue (allows S p s)
-sure_allows S p s kind onward h e = here_allows S p s kind onward h (sure_fits S kind s onward e)
+sure_allows S p s kind onward h e = grind (arith, here_allows, sure_fits)
 
 module _ (b : List ℕ) (S : Rows) where
   -- a field of a table that is here is here, or absent
@@ -47,28 +44,24 @@ module _ (b : List ℕ) (S : Rows) where
             subst (λ x. MayBeHere x onward) j (subst (MayBeHere (field_spot b t f)) i (field_kind b t f))
 
   if_below : (j n : ℕ) (spot q : Spot) (kind onward : Kind) → IsHere spot kind → Some kind ≡ Some onward → j < n → Some (if nat_lt j n then spot else AtNoElement) ≡ Some q → IsHere q onward
-  if_below j n spot q kind onward h e l i =
-      let t : nat_lt j n ≡ true = grind (arith, nat_tests) in
-      let r : Some spot ≡ Some q = rw t at i in
-      let m : spot ≡ q = cc in
-      subst (λ x. kind_at x ≡ Some onward) m (h ∙ e)
+  if_below j n spot q kind onward h e l i = grind (arith, nat_tests)
 
   -- an element below the count of a vector that is here is here
   pub element_is_here : (p : Spot) (j n : ℕ) (kind onward : Kind) (q : Spot) → IsHere p kind → element_kind kind ≡ Some onward → value b S p ≡ vector n → j < n → Leads b S p (Element j) q → IsHere q onward
   unfolding next_spot spot_of_element value
-  element_is_here (AtScalars s c) j n kind onward q h e v l d = let i : kind ≡ Scalars s = cc in let w : word b c 4 ≡ n = cc in if_below j (word b c 4) (AtInline s (c + 4 + scalar_size s * j)) q (AScalar s) onward refl (rw i at e) (rw w l) d
-  element_is_here (AtStructs k c) j n kind onward q h e v l d = let i : kind ≡ Structs k = cc in let w : word b c 4 ≡ n = cc in if_below j (word b c 4) (AtStruct k (c + 4 + struct_size S k * j)) q (Struct k) onward refl (rw i at e) (rw w l) d
-  element_is_here (AtScalarArray s m p) j n kind onward q h e v l d = let i : kind ≡ Scalars s = cc in let w : m ≡ n = cc in if_below j m (AtInline s (p + scalar_size s * j)) q (AScalar s) onward refl (rw i at e) (rw w l) d
-  element_is_here (AtStructArray k m p) j n kind onward q h e v l d = let i : kind ≡ Structs k = cc in let w : m ≡ n = cc in if_below j m (AtStruct k (p + struct_size S k * j)) q (Struct k) onward refl (rw i at e) (rw w l) d
-  element_is_here (AtTexts c) j n kind onward q h e v l d = let i : kind ≡ Texts = cc in let w : word b c 4 ≡ n = cc in if_below j (word b c 4) (AtText (target b (c + 4 + 4 * j))) q Text onward refl (rw i at e) (rw w l) d
-  element_is_here (AtTables k c) j n kind onward q h e v l d = let i : kind ≡ Tables k = cc in let w : word b c 4 ≡ n = cc in if_below j (word b c 4) (AtTable k (target b (c + 4 + 4 * j))) q (Table k) onward refl (rw i at e) (rw w l) d
-  element_is_here (AtUnions u t c) j n kind onward q h e v l d = let i : kind ≡ Unions u = cc in let w : word b c 4 ≡ n = cc in if_below j (word b c 4) (AtUnion u (word b (t + j) 1) (c + 4 + 4 * j)) q (Union u) onward refl (rw i at e) (rw w l) d
+  element_is_here (AtScalars s c) j n kind onward q h e v l d = grind (arith, nat_tests)
+  element_is_here (AtStructs k c) j n kind onward q h e v l d = grind (arith, nat_tests)
+  element_is_here (AtScalarArray s m p) j n kind onward q h e v l d = grind (arith, nat_tests)
+  element_is_here (AtStructArray k m p) j n kind onward q h e v l d = grind (arith, nat_tests)
+  element_is_here (AtTexts c) j n kind onward q h e v l d = grind (arith, nat_tests)
+  element_is_here (AtTables k c) j n kind onward q h e v l d = grind (arith, nat_tests)
+  element_is_here (AtUnions u t c) j n kind onward q h e v l d = grind (arith, nat_tests)
   element_is_here p j n kind onward q h e v l d = absurd cc
 
   -- a path shows one value
   reaches_one : (p : Spot) (steps : List Step) (q r : Spot) → Reaches b S p steps q → Reaches b S p steps r → q ≡ r
-  reaches_one p [] q r h i = sym h ∙ i
-  reaches_one p (s ∷ steps) q r h i = let e : i.0 ≡ h.0 = (let a = h.1 in let c = i.1 in cc) in reaches_one h.0 steps q r h.2 (subst (λ m. Reaches b S m steps r) e i.2)
+  reaches_one p [] q r h i = grind arith
+  reaches_one p (s ∷ steps) q r h i = grind (arith, reaches_one h.0 steps q r)
 
   pub shows_one : (p : Spot) (steps : List Step) (x y : Shown) → Shows b S p steps x → Shows b S p steps y → x ≡ y
   shows_one p steps x y h i = h.2 ∙ ap (value b S) (reaches_one p steps h.0 i.0 h.1 i.1) ∙ sym i.2

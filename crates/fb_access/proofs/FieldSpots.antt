@@ -1,9 +1,9 @@
 -- A field of a table leads to a spot where what is to hold holds.
-use Rattle.std.proofs.Common.{◌≡◌, ℕ, zero, suc, ◌+◌, ◌≤◌, ◌<◌, ℤ, List, [], ◌∷◌, length, refl, subst, arith, Option, Some, None, Bool, false}
+use Rattle.std.proofs.Common.{◌≡◌, ℕ, zero, suc, ◌+◌, ◌≤◌, ◌<◌, ℤ, List, [], ◌∷◌, length, refl, subst, arith, Option, Some, Bool}
 use Rattle.std.proofs.lemmas.Nat.{pow_pos}
 use Rattle.std.specs.Prelude.{slice_get, IfSome}
 use Rattle.fb_bytes.specs.Word.{word}
-use Rattle.fb_schema.specs.declared.{kinds.Scalar.Scalar, kinds.Scalar.TheVariants.Float, kinds.Kind.Kind}
+use Rattle.fb_schema.specs.declared.{kinds.Scalar.Scalar, kinds.Kind.Kind}
 use Rattle.fb_schema.specs.declared.kinds.Kind.TheVariants.{Scalar as AScalar, Text, Struct, Table, Union, Scalars, Texts, Structs, Tables, Unions}
 use Rattle.fb_schema.specs.{Rows.Rows, Rows.Object, Kinds.kind_size, Kinds.kind_align, Kinds.align_in, Live.Live, Members.member_of}
 use Rattle.fb_schema.specs.Served.{IsAlignment, IsServed, KindHolds}
@@ -26,12 +26,10 @@ object_there (o ∷ os) (suc k) h = let r = object_there os k h in omega arith
 module _ (c : Checks) (b : List ℕ) (S : Rows) (t : ℕ) (f : Live) (p : ℕ) where
   -- the types of a vector of unions, as many as its values
   types_within : TypesFit b t f.slot → (n : ℕ) → (types : Option ℕ) → type_place b t f.slot ≡ types → n ≡ type_count b types → types_begin b types + n ≤ length b
-  types_within h n None e same = omega arith
-  types_within h n (Some q) e same = let w = h.types q e in omega (arith, w, same)
+  types_within h n types e same = grind arith
 
   union_led : (ys : Elements) (member : Option Kind) → ElementsUnfold ys c b S (union_entry S p member) → IsLed b S p (lead_of S member)
-  union_led ys None u = led_to_nothing c b S p
-  union_led ys (Some kind) u = one_led c b S ys (lead_of S (Some kind)) p 0 u
+  union_led ys member u = grind (arith, led_to_nothing, one_led)
 
   -- a present field leads to such a spot
   present_holds : (ys : Elements) (kind : Kind) → IsPresent c b S t f p kind → ElementsUnfold ys c b S (entries_of b S t f p kind) → KindHolds S f kind → f.size ≡ kind_size S kind → f.align ≡ kind_align S kind → IsTyped b t f.slot kind → IsSpot b S (present_spot b t f.slot p kind)
@@ -65,22 +63,18 @@ module _ (c : Checks) (b : List ℕ) (S : Rows) (t : ℕ) (f : Live) (p : ℕ) w
 module _ (b : List ℕ) (S : Rows) where
   default_holds : (d : ℤ) (s : Scalar) → IsSpot b S (default_spot d s)
   unfolding IsSpot default_spot
-  default_holds d Float = tt
-  default_holds d s = tt
+  default_holds d s = grind arith
 
   absent_holds : (optional : Bool) (d : ℤ) (kind : Kind) → IsSpot b S (absent_spot optional d kind)
   unfolding IsSpot absent_spot
-  absent_holds false d (AScalar s) = default_holds d s
-  absent_holds optional d kind = tt
+  absent_holds optional d kind = grind (arith, default_holds)
 
   module _ (c : Checks) (t : ℕ) (f : Live) where
     spot_holds : (place : Option ℕ) (ys : Elements) → IsPresentOrAbsent c b S t f place → ElementsUnfold ys c b S (entries_at b S t f place) → KindHolds S f f.kind → f.size ≡ kind_size S f.kind → f.align ≡ kind_align S f.kind → IsTyped b t f.slot f.kind → IsSpot b S (spot_at b t f place)
-    spot_holds None ys h u k size align typed = absent_holds f.optional f.default f.kind
-    spot_holds (Some p) ys h u k size align typed = present_holds c b S t f p ys f.kind h u k size align typed
+    spot_holds place ys h u k size align typed = grind (arith, absent_holds, present_holds)
 
     spot_readable : (place : Option ℕ) (ys : Elements) → IsPresentOrAbsent c b S t f place → ElementsUnfold ys c b S (entries_at b S t f place) → KindHolds S f f.kind → IsTyped b t f.slot f.kind → IfSome place (λ p. IsReadable b t f.slot p f.kind)
-    spot_readable None ys h u k typed = tt
-    spot_readable (Some p) ys h u k typed = present_readable c b S t f p ys f.kind h u k typed
+    spot_readable place ys h u k typed = grind (arith, present_readable)
 
     field_spot_held : HoldsField c b S t f → IsSpot b S (field_spot b t f)
     unfolding IsField entries

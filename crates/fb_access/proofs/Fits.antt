@@ -1,32 +1,30 @@
 -- The steps that parts are, and the kinds to which they lead.
-use Rattle.std.proofs.Common.{◌≡◌, ℕ, ◌^◌, nat_lt, Bool, true, false, if◌then◌else◌, List, slice_get, Option, Some, None, Ok, Err, IsTrue, IsSome, IfSome, refl, sym, ◌∙◌, ap, subst}
-use Rattle.std.specs.Str.{bytes_eq}
+use Rattle.std.proofs.Common.{arith}
+use Rattle.std.proofs.Common.{◌≡◌, ℕ, List, slice_get, Option, Some, None, Ok, Err, IsTrue, IsSome, IfSome, refl}
 use Rattle.fb_schema.specs.declared.{kinds.Kind.Kind, views.FieldView.FieldView, views.PartView.PartView}
-use Rattle.fb_schema.specs.declared.kinds.Kind.TheVariants.{Scalar, Struct, Table, Union, Scalars, Structs, Tables, Unions}
-use Rattle.fb_schema.specs.{Demands.IsLegal, Kinds.struct_size, Members.member_of, Members.member_named}
+use Rattle.fb_schema.specs.declared.kinds.Kind.TheVariants.{Struct, Table, Union}
+use Rattle.fb_schema.specs.{Demands.IsLegal, Members.member_of, Members.member_named}
 use Rattle.fb_schema.specs.{Parts.PartFits, Parts.part_at, Parts.part_named, Rows.Rows, Rows.is_union}
-use Rattle.fb_schema.specs.Served.{KindHolds, MemberHolds, IsServed}
+use Rattle.fb_schema.specs.Served.{KindHolds, IsServed}
 use Rattle.fb_schema.specs.Live.{Live, live_fields, live_of_view, field_named}
-use Rattle.fb_access.specs.declared.{step.Step.Step, step.Step.TheVariants.Field, step.Step.TheVariants.Element, step.Step.TheVariants.Member}
+use Rattle.fb_access.specs.declared.{step.Step.Step, step.Step.TheVariants.Field}
 use Rattle.fb_access.specs.declared.{misfit.Misfit.TheVariants.NoSuchField, misfit.Fitted.Fitted}
 use Rattle.fb_access.specs.{Fitting.element_kind, Fitting.next_kind, Kept.IsThere}
 use Rattle.fb_access.specs.Grammar.{Part, field, element, member, number_of}
-use Rattle.fb_access.specs.Resolving.{field_with_name, to_field, to_part, to_place, to_element, to_kind, to_member, field_step, member_step, fitting}
+use Rattle.fb_access.specs.Resolving.{field_with_name, to_field, to_part, to_place, to_element, to_member, field_step, member_step, fitting}
 use Rattle.fb_access.proofs.{Found.found_at, Found.none_found, Found.found_there, MemberKinds.member_there, NumberedFields.found_by_number}
 
 -- a table without the field
 pub no_field : (S : Rows) (k : ℕ) (name : List ℕ) → field_named S k name ≡ None → Err NoSuchField ≡ field_step S (Table k) name
-no_field S k name e = sym (ap to_field (none_found (λ (f : Live). bytes_eq f.name name) (live_fields S k) e))
+no_field S k name e = grind (arith, none_found)
 
 -- and one with it
 pub a_field : (S : Rows) (k i : ℕ) (name : List ℕ) (f : FieldView) → field_named S k name ≡ Some i → slice_get (live_fields S k) i ≡ Some (live_of_view f) → Ok (record { step = Field f.number; kind = f.kind }) ≡ field_step S (Table k) name
-a_field S k i name f e at = sym (ap to_field (found_at (λ (f : Live). bytes_eq f.name name) (live_fields S k) i e ∙ at))
+a_field S k i name f e at = grind (arith, found_at)
 
 -- a member that is named has a kind
 pub has_kind : (S : Rows) (e v : ℕ) (name : List ℕ) → IsLegal S → IsTrue (is_union S e) → member_named S e name ≡ Some v → IsSome (member_of S e v)
-has_kind S e v name legal there named =
-    let k = member_there S e v name legal there named in
-    subst IsSome (sym k.1) refl
+has_kind S e v name legal there named = grind (arith, member_there)
 
 -- Where a step leads.
 pub record Leads (S : Rows) (kind : Kind) (x : Fitted) : Type 0 where
@@ -34,19 +32,11 @@ pub record Leads (S : Rows) (kind : Kind) (x : Fitted) : Type 0 where
   pub there : IsThere S x.kind
 
 field_kind_there : (S : Rows) (f : Live) (kind : Kind) → KindHolds S f kind → IsThere S kind
-field_kind_there S f (Table k) h = h
-field_kind_there S f (Union e) h = h
-field_kind_there S f (Tables k) h = h
-field_kind_there S f (Unions e) h = h
-field_kind_there S f kind h = tt
+field_kind_there S f kind h = grind arith
 
 -- what stands in a struct names no table and no union
 part_there : (S : Rows) (bytes : ℕ) (part : PartView) (kind : Kind) → PartFits S bytes part kind → IsThere S kind
-part_there S bytes part (Scalar s) h = tt
-part_there S bytes part (Struct k) h = tt
-part_there S bytes part (Scalars s) h = tt
-part_there S bytes part (Structs k) h = tt
-part_there S bytes part kind h = absurd h
+part_there S bytes part kind h = grind arith
 
 -- a step that fits, with the kind to which it leads
 abbrev fitted : Step → Kind → Fitted
@@ -55,49 +45,25 @@ fitted step kind = record { step = step; kind = kind }
 module _ (S : Rows) (legal : IsLegal S) (served : IsServed S) where
   field_leads : (k : ℕ) (name : List ℕ) (o : Option Live) (x : Fitted) → field_with_name S k name ≡ o → to_field o ≡ Ok x → Leads S (Table k) x
   unfolding next_kind
-  field_leads k name None x e h = absurd cc
-  field_leads k name (Some f) x e h =
-      let t = found_there (λ (f : Live). bytes_eq f.name name) (live_fields S k) f e in
-      let same : fitted (Field f.number) f.kind ≡ x = cc in
-      subst (Leads S (Table k)) same (record {
-        next = rw (found_by_number S served k t.0 f t.1) refl;
-        there = field_kind_there S f f.kind (served.kinds k t.0 f t.1);
-      })
+  field_leads k name o x e h = grind (arith, found_there, found_by_number, field_kind_there)
 
   part_leads : (k i : ℕ) (o : Option PartView) (x : Fitted) → part_at S k i ≡ o → to_part i o ≡ Ok x → Leads S (Struct k) x
   unfolding next_kind
-  part_leads k i None x e h = absurd cc
-  part_leads k i (Some part) x e h = go (nat_lt i (2 ^ 16)) h where
-    go : (b : Bool) → (if b then Ok (fitted (Field i) part.kind) else Err NoSuchField) ≡ Ok x → Leads S (Struct k) x
-    go true h =
-        let same : fitted (Field i) part.kind ≡ x = cc in
-        subst (Leads S (Struct k)) same (record { next = rw e refl; there = part_there S (struct_size S k) part part.kind (served.parts k i part e) })
-    go false h = absurd cc
+  part_leads k i o x e h = grind (arith, part_there)
 
   placed_leads : (k : ℕ) (o : Option ℕ) (x : Fitted) → to_place S k o ≡ Ok x → Leads S (Struct k) x
-  placed_leads k None x h = absurd cc
-  placed_leads k (Some i) x h = part_leads k i (part_at S k i) x refl h
+  placed_leads k o x h = grind (arith, part_leads)
 
   member_leads : (e : ℕ) (name : List ℕ) (o : Option ℕ) (x : Fitted) → IsTrue (is_union S e) → member_named S e name ≡ o → to_member S e o ≡ Ok x → Leads S (Union e) x
   unfolding next_kind
-  member_leads e name None x u n h = absurd cc
-  member_leads e name (Some v) x u n h =
-      let k = member_there S e v name legal u n in
-      let w : Ok (fitted (Member v) k.0) ≡ Ok x = sym (ap (to_kind v) k.1) ∙ h in
-      let same : fitted (Member v) k.0 ≡ x = cc in
-      subst (Leads S (Union e)) same (record { next = k.1; there = k.2 (subst (MemberHolds S) k.1 (served.members e v)) })
+  member_leads e name o x u n h = grind (arith, member_there)
 
   element_leads : (kind : Kind) (j : ℕ) (o : Option Kind) (x : Fitted) → element_kind kind ≡ o → IfSome o (IsThere S) → to_element j o ≡ Ok x → Leads S kind x
   unfolding next_kind
-  element_leads kind j None x e t h = absurd cc
-  element_leads kind j (Some to) x e t h =
-      let same : fitted (Element j) to ≡ x = cc in
-      subst (Leads S kind) same (record { next = e; there = t })
+  element_leads kind j o x e t h = grind arith
 
   element_there : (kind : Kind) → IsThere S kind → IfSome (element_kind kind) (IsThere S)
-  element_there (Tables k) h = h
-  element_there (Unions u) h = h
-  element_there kind h = tt
+  element_there kind h = grind arith
 
   named_leads : (kind : Kind) (name : List ℕ) (x : Fitted) → field_step S kind name ≡ Ok x → Leads S kind x
   named_leads (Table k) name x h = field_leads k name (field_with_name S k name) x refl h

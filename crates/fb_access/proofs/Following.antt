@@ -1,24 +1,27 @@
 -- How far a path has been followed.
-use Rattle.std.proofs.Common.{◌≡◌, ℕ, suc, ◌<◌, List, [], ◌∷◌, ◌++◌, length, Ok, Err, refl, sym, ◌∙◌, ap, subst, arith, inl, inr, append_assoc, append-nil}
+use Rattle.std.proofs.Common.{◌≡◌, ℕ, suc, ◌<◌, List, [], ◌∷◌, ◌++◌, length, Result, Ok, Err, refl, sym, ◌∙◌, ap, subst, arith, inl, inr, append_assoc, append-nil}
 use Rattle.fb_schema.specs.declared.{kinds.Kind.Kind, kinds.Kind.TheVariants.Table}
 use Rattle.fb_schema.specs.{Demands.IsLegal, Rows.Rows, Served.IsServed}
-use Rattle.fb_access.specs.declared.{step.Step.Step, misfit.Misfit.Misfit, misfit.Misfit.TheVariants.NoSuchField, misfit.Fitted.Fitted}
+use Rattle.fb_access.specs.declared.{step.Step.Step, misfit.Misfit.Misfit, misfit.Fitted.Fitted}
 use Rattle.fb_access.specs.declared.pieces.Piece.{Piece}
 use Rattle.fb_access.specs.{Cutting.IsPieceOf, Cutting.AreLeft, Cutting.IsCut, Fitting.StepsFit, Kept.IsThere}
 use Rattle.fb_access.specs.Grammar.{Part, field, element, member, IsName, IsPart, IsPath, IsReading, spelling}
 use Rattle.fb_access.specs.Resolving.{fitting, fault_of, Follows, Resolves, Misfits, IsFault}
 use Rattle.std.proofs.lemmas.List.{length-append}
-use Rattle.fb_access.proofs.{Cuts.tail_is, Cuts.marks_differ, Fits.leads}
+use Rattle.fb_access.proofs.{Cuts.some_part, Fits.leads}
 
--- One more step.
+-- One way behind another, and one more step.
+pub follows_on : (S : Rows) (kind mid last : Kind) (ps qs : List Part) (ss rs : List Step) → Follows S kind ps ss mid → Follows S mid qs rs last → Follows S kind (ps ++ qs) (ss ++ rs) last
+follows_on S kind mid last [] qs ss rs h g = rw (h.0, h.1) g
+follows_on S kind mid last (p ∷ ps) qs ss rs h g = (h.0, h.1, h.2 ++ rs, ap (λ xs. xs ++ rs) h.3, follows_on S (h.0).kind mid last ps qs h.2 rs h.4 g)
+
 pub follows_more : (S : Rows) (kind last : Kind) (ps : List Part) (steps : List Step) (p : Part) (x : Fitted) → Follows S kind ps steps last → fitting S last p ≡ Ok x → Follows S kind (ps ++ p ∷ []) (steps ++ x.step ∷ []) x.kind
-follows_more S kind last [] steps p x h e = (x, rw h.1 e, [], rw h.0 refl, (refl, refl))
-follows_more S kind last (q ∷ ps) steps p x h e = (h.0, h.1, h.2 ++ x.step ∷ [], rw h.3 refl, follows_more S h.0.kind last ps h.2 p x h.4 e)
+follows_more S kind last ps steps p x h e = follows_on S kind last x.kind ps (p ∷ []) steps (x.step ∷ []) h (x, e, [], refl, (refl, refl))
 
 -- as many steps as parts
 as_many : (S : Rows) (kind last : Kind) (ps : List Part) (steps : List Step) → Follows S kind ps steps last → length steps ≡ length ps
 as_many S kind last [] steps h = ap length h.0
-as_many S kind last (p ∷ ps) steps h = ap length h.3 ∙ ap suc (as_many S h.0.kind last ps h.2 h.4)
+as_many S kind last (p ∷ ps) steps h = grind (arith, as_many S h.0.kind last ps h.2)
 
 -- steps that follow fit
 steps_fit : (S : Rows) → IsLegal S → IsServed S → (kind last : Kind) (ps : List Part) (steps : List Step) → IsThere S kind → Follows S kind ps steps last → StepsFit S kind steps
@@ -51,94 +54,78 @@ begins S root text p = record {
 }
 
 -- a text of which parts are left is longer than those after the first
+name_long : (n : List ℕ) → IsName n → 0 < length n
+name_long n h = grind arith
+
+part_long : (p : Part) (ps : List Part) → IsPart p → suc (length (spelling ps)) < length (spelling (p ∷ ps))
+part_long (field n) ps h = let some = name_long n h in simp length-append (omega arith)
+part_long (element ds) ps h = simp length-append (omega arith)
+part_long (member n) ps h = let some = name_long n h in simp length-append (omega arith)
+
 longer : (text : List ℕ) (p : Part) (ps : List Part) → AreLeft text (p ∷ ps) → length (spelling ps) < length text
-longer text p ps h = elim h.spelled [ inl e ↦ subst (λ n. length (spelling ps) < n) (sym (ap length e)) (whole p) | inr e ↦ named p h.are_parts.0 e ] where
-  whole : (p : Part) → length (spelling ps) < length (spelling (p ∷ ps))
-  whole (field n) = simp length-append (omega arith)
-  whole (element ds) = simp length-append (omega arith)
-  whole (member n) = simp length-append (omega arith)
-
-  more : (n : List ℕ) → IsName n → length (spelling ps) < length (n ++ spelling ps)
-  more [] g = absurd g
-  more (c ∷ cs) g = simp length-append (omega arith)
-
-  named : (p : Part) → IsPart p → 46 ∷ text ≡ spelling (p ∷ ps) → length (spelling ps) < length text
-  named (field n) g e = subst (λ t. length (spelling ps) < length t) (sym (tail_is 46 46 text _ e)) (more n g)
-  named p g e = absurd (marks_differ 46 _ text _ refl e)
+longer text p ps h =
+    let long = part_long p ps h.are_parts.0 in
+    elim h.spelled [ inl e ↦ let same = ap length e in omega arith | inr e ↦ let same = ap length e in omega arith ]
 
 -- a step that misfits is a fault
 pub misfit_fault : (S : Rows) (root : ℕ) (text : List ℕ) (m : Misfit) (n : ℕ) → Misfits S root text m n → IsFault S root text (fault_of m n)
-misfit_fault S root text NoSuchField n h = h
-misfit_fault S root text m n h = h
+misfit_fault S root text m n h = grind arith
 
--- What is cut off.
-record Split (S : Rows) (root : ℕ) (text rest : List ℕ) (steps : List Step) (kind : Kind) (piece : Piece) (after : List ℕ) : Type 0 where
-  part : Part
-  parts : List Part
-  walked : IsWalked S root text rest steps kind
-  left_is : walked.left ≡ part ∷ parts
-  is_piece : IsPieceOf part piece
-  after_is : after ≡ spelling parts
-  left : AreLeft rest (part ∷ parts)
-
--- where bytes are left, a part is cut off
-split : (S : Rows) (root : ℕ) (text rest : List ℕ) (steps : List Step) (kind : Kind) (piece : Piece) (after : List ℕ) → IsWalked S root text rest steps kind → (rest ≡ [] → ⊥) → IsCut rest piece after → Split S root text rest steps kind piece after
-split S root text rest steps kind piece after w some c = go w.left refl w.are_left where
-  go : (ps : List Part) → w.left ≡ ps → AreLeft rest ps → Split S root text rest steps kind piece after
-  go [] e h = absurd (some (elim h.spelled [ inl e ↦ e | inr e ↦ absurd cc ]))
-  go (p ∷ ps) e h = record { part = p; parts = ps; walked = w; left_is = e; is_piece = c.first p ps h; after_is = c.after p ps h; left = h }
-
-pub shorter : (S : Rows) (root : ℕ) (text rest : List ℕ) (steps : List Step) (kind : Kind) (piece : Piece) (after : List ℕ) → IsWalked S root text rest steps kind → (rest ≡ [] → ⊥) → IsCut rest piece after → length after < length rest
-shorter S root text rest steps kind piece after w some c =
-    let s = split S root text rest steps kind piece after w some c in
-    subst (λ t. length t < length rest) (sym s.after_is) (longer rest s.part s.parts s.left)
-
+-- What is cut off, where bytes are left.
 module _ (S : Rows) (root : ℕ) (text rest : List ℕ) (steps : List Step) (kind : Kind) (piece : Piece) (after : List ℕ) (w : IsWalked S root text rest steps kind) (some : rest ≡ [] → ⊥) (c : IsCut rest piece after) where
+  first_left : (p : Part) × (ps : List Part) × (w.left ≡ p ∷ ps) × AreLeft rest (p ∷ ps)
+  first_left = some_part rest w.left some w.are_left
+
+  all_is : field w.name ∷ w.parts ≡ w.done ++ first_left.0 ∷ first_left.1
+  all_is = w.all ∙ ap (λ ps. w.done ++ ps) first_left.2
+
+  after_is : after ≡ spelling first_left.1
+  after_is = c.after first_left.0 first_left.1 first_left.3
+
+  part_is : (r : Result Fitted Misfit) → ((p : Part) → IsPieceOf p piece → r ≡ fitting S kind p) → fitting S kind first_left.0 ≡ r
+  part_is r f = sym (f first_left.0 (c.first first_left.0 first_left.1 first_left.3))
+
+  pub shorter : length after < length rest
+  shorter = rw after_is (longer rest first_left.0 first_left.1 first_left.3)
+
   -- the part that was cut off fits
   pub goes_on : (x : Fitted) → ((p : Part) → IsPieceOf p piece → Ok x ≡ fitting S kind p) → IsWalked S root text after (steps ++ x.step ∷ []) x.kind
-  goes_on x f =
-      let s = split S root text rest steps kind piece after w some c in
-      record {
-        name = s.walked.name;
-        parts = s.walked.parts;
-        reading = s.walked.reading;
-        done = s.walked.done ++ s.part ∷ [];
-        left = s.parts;
-        all = s.walked.all ∙ ap (λ ps. s.walked.done ++ ps) s.left_is ∙ sym (append_assoc s.walked.done (s.part ∷ []) s.parts);
-        follows = follows_more S (Table root) kind s.walked.done steps s.part x s.walked.follows (sym (f s.part s.is_piece));
-        are_left = record { are_parts = s.left.are_parts.1; spelled = inl s.after_is };
-      }
+  goes_on x f = record {
+    name = w.name;
+    parts = w.parts;
+    reading = w.reading;
+    done = w.done ++ first_left.0 ∷ [];
+    left = first_left.1;
+    all = all_is ∙ sym (append_assoc w.done (first_left.0 ∷ []) first_left.1);
+    follows = follows_more S (Table root) kind w.done steps first_left.0 x w.follows (part_is (Ok x) f);
+    are_left = record { are_parts = first_left.3.are_parts.1; spelled = inl after_is };
+  }
 
   pub leads_on : IsLegal S → IsServed S → IsThere S kind → (x : Fitted) → ((p : Part) → IsPieceOf p piece → Ok x ≡ fitting S kind p) → IsThere S x.kind
-  leads_on legal served there x f =
-      let s = split S root text rest steps kind piece after w some c in
-      (leads S legal served kind s.part x there (sym (f s.part s.is_piece))).there
+  leads_on legal served there x f = (leads S legal served kind first_left.0 x there (part_is (Ok x) f)).there
 
   -- and if it doesn't
-  misfits : (n : ℕ) → n ≡ length steps → (m : Misfit) → ((p : Part) → IsPieceOf p piece → Err m ≡ fitting S kind p) → Misfits S root text m n
-  misfits n same m f =
-      let s = split S root text rest steps kind piece after w some c in
-      record {
-        name = s.walked.name;
-        parts = s.walked.parts;
-        reading = s.walked.reading;
-        before = s.walked.done;
-        part = s.part;
-        after = s.parts;
-        all = s.walked.all ∙ ap (λ ps. s.walked.done ++ ps) s.left_is;
-        number = same ∙ as_many S (Table root) kind s.walked.done steps s.walked.follows;
-        steps = steps;
-        last = kind;
-        follows = s.walked.follows;
-        unfit = sym (f s.part s.is_piece);
-      }
-
   pub stands_at : (n : ℕ) → n ≡ length steps → (m : Misfit) → ((p : Part) → IsPieceOf p piece → Err m ≡ fitting S kind p) → (misfit : Misfits S root text m n) × (misfit.last ≡ kind)
-  unfolding misfits
-  stands_at n same m f = (misfits n same m f, refl)
+  stands_at n same m f = (
+    record {
+      name = w.name;
+      parts = w.parts;
+      reading = w.reading;
+      before = w.done;
+      part = first_left.0;
+      after = first_left.1;
+      all = all_is;
+      number = same ∙ as_many S (Table root) kind w.done steps w.follows;
+      steps = steps;
+      last = kind;
+      follows = w.follows;
+      unfit = part_is (Err m) f;
+    },
+    refl,
+  )
 
   pub is_fault : (n : ℕ) → n ≡ length steps → (m : Misfit) → ((p : Part) → IsPieceOf p piece → Err m ≡ fitting S kind p) → IsFault S root text (fault_of m n)
-  is_fault n same m f = misfit_fault S root text m n (misfits n same m f)
+  is_fault n same m f = misfit_fault S root text m n (stands_at n same m f).0
 
 -- no parts are left of no text
 nothing_left : (text : List ℕ) (ps : List Part) → text ≡ [] → AreLeft text ps → ps ≡ []

@@ -1,6 +1,7 @@
 -- The offset words of a field lead where their leads say.
-use Rattle.std.proofs.Common.{◌≡◌, ℕ, zero, suc, ◌+◌, ◌*◌, ◌<◌, ◌≤◌, List, [], ◌∷◌, length, refl, subst, arith, Some, IsTrue}
+use Rattle.std.proofs.Common.{◌≡◌, ℕ, zero, suc, ◌+◌, ◌*◌, ◌<◌, ◌≤◌, List, [], ◌∷◌, length, refl, subst, arith, Some, None, IsTrue, nat_lt, if◌then◌else◌}
 use Rattle.std.specs.Prelude.{slice_get}
+use Rattle.std.proofs.lemmas.Bool.Decides.{nat_tests}
 use Rattle.fb_bytes.specs.Word.{word}
 use Rattle.fb_schema.specs.{Rows.Rows, Rows.is_table, Members.member_of}
 use Rattle.fb_verify.specs.declared.checks.Checks.{Checks}
@@ -8,6 +9,40 @@ use Rattle.fb_verify.specs.{Places.target, Unfolds.ElementsUnfold, Unfolds.Eleme
 use Rattle.fb_verify.specs.Fields.{Lead, to_table, to_struct, to_string, to_nothing, lead_of, Entry, entry, row, union_row}
 use Rattle.fb_verify.specs.Tree.{Elements, no_elements, element, Element, leaf, table}
 use Rattle.fb_access.specs.Held.{IsTableAt, IsTextAt, IsLed, AreLed}
+
+-- the j-th of n offset words
+pub record IsNth (xs : List Entry) (n j : ℕ) (x : Entry) : Type 0 where
+  pub is : slice_get xs j ≡ (if nat_lt j n then Some x else None)
+
+pub row_at : (lead : Lead) (p n j : ℕ) → IsNth (row lead p n) n j (entry lead (p + 4 * j) 0)
+unfolding row
+row_at lead p zero j = record { is = grind (arith, nat_tests) }
+row_at lead p (suc n) zero = let e : p + 4 * 0 ≡ p = omega arith in record { is = grind (arith, nat_tests) }
+row_at lead p (suc n) (suc j) =
+    let e : p + 4 + 4 * j ≡ p + 4 * suc j = omega arith in
+    record { is = grind (arith, nat_tests, (row_at lead (p + 4) n j).is) }
+
+pub union_row_at : (b : List ℕ) (S : Rows) (e q p n j : ℕ) → IsNth (union_row b S e q p n) n j (entry (lead_of S (member_of S e (word b (q + j) 1))) (p + 4 * j) 1)
+unfolding union_row
+union_row_at b S e q p zero j = record { is = grind (arith, nat_tests) }
+union_row_at b S e q p (suc n) zero =
+    let i : p + 4 * 0 ≡ p = omega arith in
+    let k : q + 0 ≡ q = omega arith in
+    record { is = grind (arith, nat_tests) }
+union_row_at b S e q p (suc n) (suc j) =
+    let i : p + 4 + 4 * j ≡ p + 4 * suc j = omega arith in
+    let k : q + 1 + j ≡ q + suc j = omega arith in
+    record { is = grind (arith, nat_tests, (union_row_at b S e (q + 1) (p + 4) n j).is) }
+
+module _ {xs : List Entry} {n j : ℕ} {x : Entry} (nth : IsNth xs n j x) where
+  row_there : j < n → slice_get xs j ≡ Some x
+  row_there lt = let i = nth.is in grind (arith, nat_tests)
+
+  pub row_get : (y : Entry) → slice_get xs j ≡ Some y → (j < n) × (x ≡ y)
+  row_get y h = let i = nth.is in grind (arith, nat_tests)
+
+  pub row_end : slice_get xs j ≡ None → n ≤ j
+  row_end h = let i = nth.is in grind (arith, nat_tests)
 
 module _ (c : Checks) (b : List ℕ) (S : Rows) where
   -- each element of a row unfolds
@@ -19,27 +54,12 @@ module _ (c : Checks) (b : List ℕ) (S : Rows) where
   led_at (element y ys) (z ∷ zs) zero x u e = let i : z ≡ x = cc in subst (λ w. IsLed b S w.place w.lead) i (record { checks = c; found = y; unfolds = u.0 })
   led_at (element y ys) (z ∷ zs) (suc j) x u e = led_at ys zs j x u.1 e
 
-  row_at : (lead : Lead) (p n j : ℕ) → j < n → slice_get (row lead p n) j ≡ Some (entry lead (p + 4 * j) 0)
-  unfolding row
-  row_at lead p zero j h = absurd (omega arith)
-  row_at lead p (suc n) zero h = let e : p + 4 * 0 ≡ p = omega arith in rw e refl
-  row_at lead p (suc n) (suc j) h = let e : p + 4 + 4 * j ≡ p + 4 * suc j = omega arith in rw e at (row_at lead (p + 4) n j (omega arith))
-
-  union_row_at : (e q p n j : ℕ) → j < n → slice_get (union_row b S e q p n) j ≡ Some (entry (lead_of S (member_of S e (word b (q + j) 1))) (p + 4 * j) 1)
-  unfolding union_row
-  union_row_at e q p zero j h = absurd (omega arith)
-  union_row_at e q p (suc n) zero h = let i : p + 4 * 0 ≡ p = omega arith in let k : q + 0 ≡ q = omega arith in rw (i, k) refl
-  union_row_at e q p (suc n) (suc j) h =
-      let i : p + 4 + 4 * j ≡ p + 4 * suc j = omega arith in
-      let k : q + 1 + j ≡ q + suc j = omega arith in
-      rw (i, k) at (union_row_at e (q + 1) (p + 4) n j (omega arith))
-
   -- so do the elements of a vector of strings or tables, and those of a vector of unions
   pub row_led : (ys : Elements) (lead : Lead) (p n : ℕ) → ElementsUnfold ys c b S (row lead p n) → AreLed b S p n (λ j. lead)
-  row_led ys lead p n u = record { at = λ j h. led_at ys (row lead p n) j (entry lead (p + 4 * j) 0) u (row_at lead p n j h) }
+  row_led ys lead p n u = record { at = λ j lt. led_at ys (row lead p n) j _ u (row_there (row_at lead p n j) lt) }
 
   pub union_row_led : (ys : Elements) (e q p n : ℕ) → ElementsUnfold ys c b S (union_row b S e q p n) → AreLed b S p n (λ j. lead_of S (member_of S e (word b (q + j) 1)))
-  union_row_led ys e q p n u = record { at = λ j h. led_at ys (union_row b S e q p n) j (entry (lead_of S (member_of S e (word b (q + j) 1))) (p + 4 * j) 1) u (union_row_at e q p n j h) }
+  union_row_led ys e q p n u = record { at = λ j lt. led_at ys (union_row b S e q p n) j _ u (row_there (union_row_at b S e q p n j) lt) }
 
   -- one offset word alone
   pub one_led : (ys : Elements) (lead : Lead) (p reads : ℕ) → ElementsUnfold ys c b S (entry lead p reads ∷ []) → IsLed b S p lead

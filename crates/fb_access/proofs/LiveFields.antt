@@ -1,17 +1,15 @@
 -- What is no table has no live field.
-use Rattle.std.proofs.Common.{◌≡◌, ℕ, Bool, true, false, not, if◌then◌else◌, List, [], find, filter, slice_get, Option, Some, None, refl, ap, ◌==◌}
-use Rattle.std.specs.List.{filter_map}
-use Rattle.fb_schema.specs.Live.{Live, live_fields, live_in, live_of, by_slot, is_live}
+use Rattle.std.proofs.Common.{arith}
+use Rattle.std.proofs.Common.{◌≡◌, ℕ, Bool, false, not, if◌then◌else◌, List, [], find, slice_get, Option, None, ap, ◌==◌}
+use Rattle.fb_schema.specs.Live.{Live, live_fields, live_in}
 use Rattle.fb_schema.specs.Rows.{Field, Object, Rows, is_table, is_some_table}
 use Rattle.fb_access.specs.Fitting.{numbered}
 
 no_rows : (b : Bool) (fields : List Field) → not b ≡ false → (if b then [] else fields) ≡ []
-no_rows true fields h = refl
-no_rows false fields h = absurd (let w : true ≡ false = h in cc)
+no_rows b fields h = grind arith
 
 no_fields : (rows : Rows) (o : Option Object) → is_some_table o ≡ false → live_in rows o ≡ []
-no_fields rows None h = refl
-no_fields rows (Some o) h = ap (λ fs. filter_map (live_of rows fs) fs) (no_rows o.is_struct (by_slot (filter is_live o.fields)) h)
+no_fields rows o h = grind (arith, no_rows)
 
 pub none_numbered : (rows : Rows) (k n : ℕ) → is_table rows k ≡ false → numbered rows k n ≡ None
 unfolding live_fields

@@ -1,7 +1,8 @@
 -- A member of a union that has a name has a kind too.
+use Rattle.std.proofs.Common.{arith}
 use Rattle.std.proofs.Common.{◌≡◌, ℕ, suc, ℤ, pos, negsuc, Bool, true, false, not, ◌&&◌, List, [], slice_get, filter, Option, Some, None, option_map, unsigned_abs, IsTrue, refl, sym, ◌∙◌, ap, find, is_none, if◌then◌else◌}
-use Rattle.std.proofs.lemmas.Bool.{false≢true, not-false, false_from_ne_true, cond-true, and_parts, and_from}
-use Rattle.std.specs.{Cmp.signed_Decides, Option.option_and_then, Ordering.int_eq, Str.bytes_eq}
+use Rattle.std.proofs.lemmas.Bool.{false≢true, false_from_ne_true, cond-true, and_parts, and_from}
+use Rattle.std.specs.{Cmp.signed_Decides, Ordering.int_eq, Str.bytes_eq}
 use Rattle.fb_schema.specs.declared.{kinds.Kind.Kind, kinds.Kind.TheVariants.Text, kinds.Kind.TheVariants.Struct, kinds.Kind.TheVariants.Table}
 use Rattle.fb_schema.specs.declared.{kinds.Element.TheVariants.Text as OfText, kinds.Element.TheVariants.Object as OfObject, kinds.Shape.Shape}
 use Rattle.fb_schema.specs.declared.kinds.Shape.TheVariants.{One}
@@ -16,18 +17,17 @@ use Rattle.fb_access.proofs.Found.{found_there, some_found}
 
 -- Tests.
 not_and : (a b : Bool) → (not a && not b) ≡ false → a ≡ false → b ≡ true
-not_and a b h e = not-false b (rw e at h)
+not_and a b h e = grind arith
 
 and_false : (a b : Bool) → (not a && b) ≡ false → a ≡ false → b ≡ false
-and_false a b h e = rw e at h
+and_false a b h e = grind arith
 
 -- Values.
 pub real_not_zero : (z : ℤ) → is_member_value z ≡ true → int_eq z (pos 0) ≡ false
 real_not_zero z h = false_from_ne_true (int_eq z (pos 0)) (λ e. false≢true (ap is_member_value (sym ((signed_Decides z (pos 0)).0 e)) ∙ h))
 
 real_value : (z : ℤ) (v : ℕ) → is_member_value z ≡ true → unsigned_abs z ≡ v → int_eq z (pos v) ≡ true
-real_value (pos n) v h e = (signed_Decides (pos n) (pos v)).1 (ap pos e)
-real_value (negsuc n) v h e = absurd (false≢true h)
+real_value z v h e = grind (arith, signed_Decides)
 
 -- the members of a union, by its row
 module _ (rows : Rows) (e : ℕ) (row : Enum) (at : slice_get rows.enums e ≡ Some row) (union : row.is_union ≡ true) where
@@ -52,12 +52,10 @@ IsOfMember Text = Unit {0}
 IsOfMember _ = ⊥
 
 object_fits : (n : ℕ) (b : Bool) → IsOfMember (if b then Struct n else Table n)
-object_fits n true = tt
-object_fits n false = tt
+object_fits n b = grind arith
 
 object_kept : (rows : Rows) (n : ℕ) (b : Bool) → IsKept rows (if b then Struct n else Table n)
-object_kept rows n true h = tt
-object_kept rows n false h = h
+object_kept rows n b h = grind arith
 
 -- the kind that a type has
 record HasKind (rows : Rows) (kind : Option Kind) : Type 0 where
@@ -91,12 +89,10 @@ asked_at rows members q m at clear h = member_has_kind rows m _ _ (sym (ap (λ x
 
 -- a union that is there has a row
 pub union_row : (o : Option Enum) → IsTrue (is_some_union o) → (row : Enum) × (o ≡ Some row) × (row.is_union ≡ true)
-union_row None h = absurd (false≢true h)
-union_row (Some row) h = (row, refl, h)
+union_row o h = grind arith
 
 named_value : (o : Option Member) (v : ℕ) → option_map (λ (m : Member). unsigned_abs m.value) o ≡ Some v → (m : Member) × (o ≡ Some m) × (unsigned_abs m.value ≡ v)
-named_value None v e = absurd (let w : None ≡ Some v = e in cc)
-named_value (Some m) v e = (m, refl, (let w : unsigned_abs m.value ≡ v = cc in w))
+named_value o v e = grind arith
 
 -- the row of a member that is found by one test has a value by which a member is found
 value_found : (members : List Member) (v : ℕ) (p : Member → Bool) (m : Member) → find (λ m. is_member_value m.value && p m) members ≡ Some m → unsigned_abs m.value ≡ v → (y : Member) × (find (λ m. is_member_value m.value && int_eq m.value (pos v)) members ≡ Some y)
@@ -113,7 +109,7 @@ kind_found rows members v y clear found =
 
 looked_up : (rows : Rows) (e v : ℕ) (y : Member) (kind : Kind) → find (λ m. int_eq m.value (pos v)) (members_of rows e) ≡ Some y → kind_of rows y.ty ≡ Some kind → member_of rows e v ≡ Some kind
 unfolding member_of
-looked_up rows e v y kind found k = ap (option_and_then (λ (m : Member). kind_of rows m.ty)) found ∙ k
+looked_up rows e v y kind found k = grind arith
 
 named_is : (rows : Rows) (e v : ℕ) (name : List ℕ) → member_named rows e name ≡ Some v → (m : Member) × (find (λ m. bytes_eq m.name name) (members_of rows e) ≡ Some m) × (unsigned_abs m.value ≡ v)
 unfolding member_named

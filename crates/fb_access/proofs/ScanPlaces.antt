@@ -5,7 +5,7 @@ use Rattle.std.proofs.lemmas.List.{take_more, take-append-drop, take-take}
 use Rattle.std.proofs.Math.Seq.{take-length}
 use Rattle.fb_access.specs.declared.{scan.Seen.Seen, scan.Seen.TheVariants.Mark}
 use Rattle.fb_access.specs.{Grammar.IsPath, Grammar.BeginsPath, Grammar.IsWrongAt, Scanned.next_seen, Scanned.seen, Scanned.is_end}
-use Rattle.fb_access.proofs.{ScanAccepts.scanned_ends, ScanAccepts.path_ends, ScanReads.path_accepted, ScanReads.completed}
+use Rattle.fb_access.proofs.{ScanAccepts.path_ends, ScanReads.path_accepted, ScanReads.completed}
 
 seen_append : (o : Option Seen) (p q : List ℕ) → seen o (p ++ q) ≡ seen (seen o p) q
 unfolding seen
@@ -15,15 +15,13 @@ seen_append (Some s) (c ∷ p) q = seen_append (next_seen s c) p q
 
 seen_nothing : (o : Option Seen) → seen o [] ≡ o
 unfolding seen
-seen_nothing None = refl
-seen_nothing (Some s) = refl
+seen_nothing o = grind arith
 
 -- what is scanned begins a path
 begins : (p : List ℕ) (s : Seen) → seen (Some Mark) p ≡ Some s → BeginsPath p
 begins p s h =
     let q = completed s in
-    let e : seen (Some Mark) (p ++ q.0) ≡ Some q.1.last = seen_append (Some Mark) p q.0 ∙ rw h q.1.scanned in
-    record { rest = q.0; path = path_ends (p ++ q.0) (scanned_ends (p ++ q.0) Mark q.1.last tt e q.1.end) }
+    record { rest = q.0; path = path_ends (p ++ q.0) (rw (seen_append (Some Mark) p q.0, h) q.1) }
 
 -- what can't be scanned begins none
 stays_dead : (p q : List ℕ) → seen (Some Mark) p ≡ None → seen (Some Mark) (p ++ q) ≡ None
@@ -31,7 +29,7 @@ unfolding seen
 stays_dead p q h = seen_append (Some Mark) p q ∙ rw h refl
 
 dead_no_path : (t : List ℕ) → seen (Some Mark) t ≡ None → IsPath t → ⊥
-dead_no_path t e h = let a = path_accepted t h in let w : None ≡ Some a.last = sym e ∙ a.scanned in cc
+dead_no_path t e h = false≢true (rw e at (path_accepted t h))
 
 dead_begins_none : (p : List ℕ) → seen (Some Mark) p ≡ None → BeginsPath p → ⊥
 dead_begins_none p e h = dead_no_path (p ++ h.rest) (stays_dead p h.rest e) h.path
@@ -65,8 +63,8 @@ wrong_at_end text i n s l m h w = record {
   within = omega arith;
   begins = begins (take n text) s (rw (m ∙ sym l) h);
   longest = λ k g f b. absurd (omega arith);
-  wrong = λ p. let a = path_accepted text p in let q : Some s ≡ Some a.last = sym (all_seen text i s l h) ∙ a.scanned in let e : s ≡ a.last = cc in false≢true (sym w ∙ (rw e a.end));
+  wrong = λ p. false≢true (sym w ∙ (rw (all_seen text i s l h) at (path_accepted text p)));
 }
 
 pub right_at_end : (text : List ℕ) (i : ℕ) (s : Seen) → i ≡ length text → seen (Some Mark) (take i text) ≡ Some s → is_end s ≡ true → IsPath text
-right_at_end text i s l h w = path_ends text (scanned_ends text Mark s tt (all_seen text i s l h) w)
+right_at_end text i s l h w = path_ends text (rw (all_seen text i s l h) w)

@@ -1,8 +1,7 @@
 -- Wherever steps lead in a buffer that unfolds, what is there lies in the buffer.
-use Rattle.std.proofs.Common.{◌≡◌, ℕ, suc, ◌+◌, ◌*◌, ◌<◌, ◌≤◌, ◌==◌, nat_lt, if◌then◌else◌, Bool, true, false, List, [], ◌∷◌, length, refl, subst, ap, ◌∙◌, arith, Option, Some, None}
-use Rattle.std.proofs.lemmas.{Bool.eqb-true, Bool.Decides.nat_tests}
+use Rattle.std.proofs.Common.{◌≡◌, ℕ, ◌+◌, ◌*◌, ◌<◌, ◌≤◌, ◌==◌, nat_lt, if◌then◌else◌, Bool, true, List, [], ◌∷◌, length, refl, subst, arith, Option, Some, None}
+use Rattle.std.proofs.lemmas.{Bool.Decides.nat_tests}
 use Rattle.std.specs.Prelude.{option_map}
-use Rattle.std.proofs.Math.Nat.{mul-le-mul_right, suc-mul, mul_comm}
 use Rattle.fb_bytes.specs.Word.{word}
 use Rattle.fb_schema.specs.declared.{kinds.Kind.Kind, views.PartView.PartView}
 use Rattle.fb_schema.specs.declared.kinds.Kind.TheVariants.{Scalar, Text, Struct, Table, Scalars, Structs}
@@ -13,17 +12,17 @@ use Rattle.fb_verify.specs.{Places.target, Tree.Element as Found, Tree.leaf, Tre
 use Rattle.fb_verify.specs.Fields.{Lead, to_table, to_struct, to_string, to_nothing, lead_of}
 use Rattle.fb_access.specs.declared.{step.Step.Step, step.Step.TheVariants.Field, step.Step.TheVariants.Element, step.Step.TheVariants.Member}
 use Rattle.fb_access.specs.declared.spot.Spot.{Spot}
-use Rattle.fb_access.specs.declared.spot.Spot.TheVariants.{AtTable, AtInline, AtStruct, AtText, AtScalars, AtStructs, AtScalarArray, AtStructArray, AtTexts, AtTables, AtUnions, AtUnion, AtAbsent, AtNoElement, AtOtherMember}
+use Rattle.fb_access.specs.declared.spot.Spot.TheVariants.{AtScalars, AtStructs, AtScalarArray, AtStructArray, AtTexts, AtTables, AtUnions, AtUnion, AtAbsent, AtNoElement, AtOtherMember}
 use Rattle.fb_access.specs.{Fitting.numbered, Denotes.next_spot, Denotes.Reaches, Denotes.root_spot}
 use Rattle.fb_access.specs.Inside.{OffsetLies, LiesInside, ValuesLieInside}
-use Rattle.fb_access.specs.Spots.{field_spot, part_spot, spot_of_part, spot_of_field, if_element, if_of_array, spot_of_element, member_spot, spot_of_member}
+use Rattle.fb_access.specs.Spots.{field_spot, part_spot, spot_of_part, spot_of_field, if_element, spot_of_element, member_spot, spot_of_member}
 use Rattle.fb_access.specs.Held.{IsTableAt, IsStructAt, IsLed, IsUnionAt, IsSpot}
 use Rattle.fb_access.proofs.{FieldSpots.field_spot_holds, Leading.led_to_table, Leading.led_to_string, Leading.led_to_struct}
 use Rattle.fb_access.proofs.{TableFields.table_has_vtable, StepLaws.some_same, Walks.root_placed}
 
 -- an element below the count ends within the elements
 element_ends : (size j n : ℕ) → j < n → size * j + size ≤ n * size
-element_ends size j n lt = let m : suc j * size ≤ n * size = mul-le-mul_right size lt in omega (arith, m, suc-mul j size, mul_comm size j)
+element_ends size j n lt = grind arith
 
 if_less : (j n : ℕ) → nat_lt j n ≡ true → j < n
 if_less j n h = grind (arith, nat_tests)
@@ -31,8 +30,7 @@ if_less j n h = grind (arith, nat_tests)
 module _ (b : List ℕ) (S : Rows) where
   -- of two spots the one that the test takes
   one_of : (t : Bool) (q other : Spot) → (t ≡ true → IsSpot b S q) → IsSpot b S other → IsSpot b S (if t then q else other)
-  one_of true q other h o = h refl
-  one_of false q other h o = o
+  one_of t q other h o = grind arith
 
   -- a field of a table
   field_of : (k t n : ℕ) (f : Option Live) (q : Spot) → IsServed S → IsTableAt b S k t → numbered S k n ≡ f → option_map (field_spot b t) f ≡ Some q → IsSpot b S q
@@ -49,48 +47,33 @@ module _ (b : List ℕ) (S : Rows) where
   part_stays k p part kind h f = absurd f
 
   pub part_begins : (bytes : ℕ) (part : PartView) (kind : Kind) → PartFits S bytes part kind → part.place ≤ bytes
-  part_begins bytes part (Scalar s) f = omega (arith, f)
-  part_begins bytes part (Struct j) f = omega (arith, f.1)
-  part_begins bytes part (Scalars s) f = omega (arith, f)
-  part_begins bytes part (Structs j) f = omega (arith, f.1)
-  part_begins bytes part kind f = absurd f
+  part_begins bytes part kind f = grind arith
 
   part_of_struct : (k p n : ℕ) (o : Option PartView) (q : Spot) → IsServed S → IsStructAt b S k p → part_at S k n ≡ o → option_map (part_spot p) o ≡ Some q → IsSpot b S q
-  part_of_struct k p n None q served h e l = absurd cc
-  part_of_struct k p n (Some part) q served h e l = subst (IsSpot b S) (some_same l) (part_stays k p part part.kind h (served.parts k n part e))
+  part_of_struct k p n o q served h e l = grind (arith, part_stays)
 
   from_field : (p : Spot) (n : ℕ) (q : Spot) → IsServed S → IsSpot b S p → spot_of_field b S p n ≡ Some q → IsSpot b S q
   unfolding IsSpot
-  from_field (AtTable k t) n q served h l = field_of k t n (numbered S k n) q served h refl l
-  from_field (AtStruct k p) n q served h l = part_of_struct k p n (part_at S k n) q served h refl l
-  from_field p n q served h l = absurd cc
+  from_field p n q served h l = grind (arith, field_of, part_of_struct)
 
-  -- an element of a vector, or nothing past its count
-  if_below : (c j : ℕ) (p q : Spot) → (j < word b c 4 → IsSpot b S p) → Some (if_element b c j p) ≡ Some q → IsSpot b S q
+  -- an element, or nothing past the last
+  if_below : (n j : ℕ) (p q : Spot) → (j < n → IsSpot b S p) → Some (if_element n j p) ≡ Some q → IsSpot b S q
   unfolding IsSpot
-  if_below c j p q h l = subst (IsSpot b S) (some_same l) (one_of (nat_lt j (word b c 4)) p AtNoElement (λ t. h (if_less j (word b c 4) t)) tt)
+  if_below n j p q h l = grind (arith, one_of, if_less)
 
   -- an element that stands in place
-  in_place : (c size j : ℕ) → c + 4 + word b c 4 * size ≤ length b → j < word b c 4 → c + 4 + size * j + size ≤ length b
-  in_place c size j h lt = let e = element_ends size j (word b c 4) lt in omega (arith, h, e)
-
-  -- an element of an array
-  in_array : (n p size j : ℕ) → p + n * size ≤ length b → j < n → p + size * j + size ≤ length b
-  in_array n p size j h lt = let e = element_ends size j n lt in omega (arith, h, e)
-
-  of_array : (n j : ℕ) (p q : Spot) → (j < n → IsSpot b S p) → Some (if_of_array n j p) ≡ Some q → IsSpot b S q
-  unfolding IsSpot
-  of_array n j p q h l = subst (IsSpot b S) (some_same l) (one_of (nat_lt j n) p AtNoElement (λ t. h (if_less j n t)) tt)
+  in_place : (n p size j : ℕ) → p + n * size ≤ length b → j < n → p + size * j + size ≤ length b
+  in_place n p size j h lt = let e = element_ends size j n lt in omega (arith, h, e)
 
   from_element : (p : Spot) (j : ℕ) (q : Spot) → IsSpot b S p → spot_of_element b S p j ≡ Some q → IsSpot b S q
   unfolding IsSpot spot_of_element
-  from_element (AtScalars s c) j q h l = if_below c j (AtInline s (c + 4 + scalar_size s * j)) q (λ lt. in_place c (scalar_size s) j h.within lt) l
-  from_element (AtStructs k c) j q h l = if_below c j (AtStruct k (c + 4 + struct_size S k * j)) q (λ lt. record { object = h.object; within = in_place c (struct_size S k) j h.counted.within lt }) l
-  from_element (AtScalarArray s n p) j q h l = of_array n j (AtInline s (p + scalar_size s * j)) q (λ lt. in_array n p (scalar_size s) j h lt) l
-  from_element (AtStructArray k n p) j q h l = of_array n j (AtStruct k (p + struct_size S k * j)) q (λ lt. record { object = h.object; within = in_array n p (struct_size S k) j h.within lt }) l
-  from_element (AtTexts c) j q h l = if_below c j (AtText (target b (c + 4 + 4 * j))) q (λ lt. (led_to_string b S (c + 4 + 4 * j) (h.led.at j lt)).1) l
-  from_element (AtTables k c) j q h l = if_below c j (AtTable k (target b (c + 4 + 4 * j))) q (λ lt. (led_to_table b S (c + 4 + 4 * j) k h.object (h.led.at j lt)).1) l
-  from_element (AtUnions e y c) j q h l = if_below c j (AtUnion e (word b (y + j) 1) (c + 4 + 4 * j)) q (λ lt. record { union = h.union; led = h.led.at j lt }) l
+  from_element (AtScalars s c) j q h l = if_below (word b c 4) j _ q (λ lt. in_place (word b c 4) (c + 4) (scalar_size s) j h.within lt) l
+  from_element (AtStructs k c) j q h l = if_below (word b c 4) j _ q (λ lt. record { object = h.object; within = in_place (word b c 4) (c + 4) (struct_size S k) j h.counted.within lt }) l
+  from_element (AtScalarArray s n p) j q h l = if_below n j _ q (λ lt. in_place n p (scalar_size s) j h lt) l
+  from_element (AtStructArray k n p) j q h l = if_below n j _ q (λ lt. record { object = h.object; within = in_place n p (struct_size S k) j h.within lt }) l
+  from_element (AtTexts c) j q h l = if_below (word b c 4) j _ q (λ lt. (led_to_string b S (c + 4 + 4 * j) (h.led.at j lt)).1) l
+  from_element (AtTables k c) j q h l = if_below (word b c 4) j _ q (λ lt. (led_to_table b S (c + 4 + 4 * j) k h.object (h.led.at j lt)).1) l
+  from_element (AtUnions e y c) j q h l = if_below (word b c 4) j _ q (λ lt. record { union = h.union; led = h.led.at j lt }) l
   from_element p j q h l = absurd cc
 
   -- what a union's offset word leads to
@@ -103,10 +86,7 @@ module _ (b : List ℕ) (S : Rows) where
 
   member_of_union : (e y p m : ℕ) (member : Option Kind) (q : Spot) → MemberHolds S member → IsUnionAt b S e y p → member_of S e m ≡ member → option_map (λ kind. if y == m then member_spot b p kind else AtOtherMember) member ≡ Some q → IsSpot b S q
   unfolding IsSpot
-  member_of_union e y p m None q holds h i l = absurd cc
-  member_of_union e y p m (Some kind) q holds h i l =
-      let led = λ (t : (y == m) ≡ true). subst (λ x. IsLed b S p (lead_of S x)) (ap (member_of S e) (eqb-true y m t) ∙ i) h.led in
-      subst (IsSpot b S) (some_same l) (one_of (y == m) (member_spot b p kind) AtOtherMember (λ t. member_lies p kind holds (led t)) tt)
+  member_of_union e y p m member q holds h i l = grind (arith, nat_tests, member_lies)
 
   from_union : (p : Spot) (m : ℕ) (q : Spot) → IsServed S → IsSpot b S p → spot_of_member b S p m ≡ Some q → IsSpot b S q
   unfolding IsSpot
@@ -138,15 +118,7 @@ module _ (b : List ℕ) (S : Rows) where
 
   lies : (q : Spot) → IsSpot b S q → LiesInside b S q
   unfolding IsSpot
-  lies (AtTable k t) h = table_has_vtable b S k t h
-  lies (AtStruct k p) h = h.within
-  lies (AtStructs k c) h = h.counted
-  lies (AtStructArray k n p) h = h.within
-  lies (AtTexts c) h = h.counted
-  lies (AtTables k c) h = h.counted
-  lies (AtUnions e y c) h = (h.types, h.counted)
-  lies (AtUnion e y p) h = offset_lies h.led.checks h.led.found p (lead_of S (member_of S e y)) h.led.unfolds
-  lies q h = h
+  lies q h = grind (arith, table_has_vtable, offset_lies)
 
 pub values_lie_inside : ValuesLieInside
 values_lie_inside v steps q served h r =

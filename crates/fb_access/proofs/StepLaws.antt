@@ -1,16 +1,17 @@
 -- Where steps lead, by the verifier's words.
-use Rattle.std.proofs.Common.{◌≡◌, ◌≢◌, ℕ, zero, suc, ◌+◌, ◌*◌, ◌<◌, ◌≤◌, ◌⊎◌, inl, inr, ◌==◌, nat_lt, if◌then◌else◌, ℤ, Bool, true, false, List, [], ◌∷◌, refl, sym, ◌∙◌, ap, subst, arith, Option, Some, None}
+use Rattle.std.proofs.Common.{◌≡◌, ◌≢◌, ℕ, ◌+◌, ◌*◌, ◌<◌, ◌≤◌, ◌⊎◌, ◌==◌, if◌then◌else◌, ℤ, Bool, List, [], ◌∷◌, refl, sym, ◌∙◌, ap, subst, arith, Option, Some, None}
 use Rattle.std.specs.{Prelude.slice_get, Prelude.option_map, List.position_or_len}
 use Rattle.std.proofs.lemmas.{Bool.Decides.nat_tests, List.Folds.find_at}
 use Rattle.fb_bytes.specs.Word.{word}
-use Rattle.fb_schema.specs.declared.{kinds.Scalar.Scalar, kinds.Scalar.TheVariants.UType, kinds.Kind.Kind}
-use Rattle.fb_schema.specs.declared.kinds.Kind.TheVariants.{Scalar as AScalar, Text, Struct, Table, Union, Scalars, Texts, Structs, Tables, Unions}
+use Rattle.fb_schema.specs.declared.{kinds.Scalar.Scalar, kinds.Kind.Kind}
+use Rattle.fb_schema.specs.declared.kinds.Kind.TheVariants.{Text, Table, Union, Scalars, Texts, Structs, Tables, Unions}
 use Rattle.fb_schema.specs.{Rows.Rows, Kinds.scalar_size, Kinds.struct_size, Kinds.kind_size, Live.Live, Live.live_fields, Members.member_of}
 use Rattle.fb_schema.proofs.Kinded.{field_sized}
 use Rattle.fb_verify.specs.Places.{target, field_place}
-use Rattle.fb_verify.specs.Fields.{type_place, union_type, types_begin, Lead, to_table, to_string, lead_of, Entry, entry, row, union_row, union_entry, entries_of, entries_at, entries}
+use Rattle.fb_verify.specs.Fields.{type_place, union_type, types_begin, to_table, to_string, lead_of, Entry, entry, union_entry, entries_of, entries_at, entries}
 use Rattle.fb_access.specs.declared.{step.Step.TheVariants.Field, step.Step.TheVariants.Element, spot.Spot.Spot}
 use Rattle.fb_access.specs.declared.spot.Spot.TheVariants.{AtTable, AtInline, AtStruct, AtText, AtTexts, AtTables, AtUnions, AtUnion, AtNoElement, AtOtherMember}
+use Rattle.fb_access.proofs.Leading.{row_at, union_row_at, row_get, row_end}
 use Rattle.fb_access.specs.{Fitting.numbered, Denotes.next_spot, Denotes.Leads, Denotes.Reaches}
 use Rattle.fb_access.specs.Spots.{kind_at, present_spot, default_spot, absent_spot, spot_at, field_spot, if_element, spot_of_element, member_spot}
 use Rattle.fb_access.specs.StepLaws.{position_of, value_place, IsFieldOf, FieldsStandInPlace, IsLedTo, IsOfEntry, steps_on, StepsFollowEntries, AreOffsets, NoOtherElements, MembersFollowLeads, AreInline, ElementsStandInRow}
@@ -24,25 +25,22 @@ module _ (b : List ℕ) (S : Rows) (k t n : ℕ) (f : Live) (e : numbered S k n 
   -- the field step
   pub field_step : Leads b S (AtTable k t) (Field n) (field_spot b t f)
   unfolding next_spot
-  field_step = ap (option_map (field_spot b t)) e
+  field_step = grind arith
 
   one_step : (q : Spot) → Leads b S (AtTable k t) (Field n) q → field_spot b t f ≡ q
   one_step q l = some_same (sym field_step ∙ l)
 
 present_in_place : (b : List ℕ) (t o p : ℕ) (kind : Kind) → (kind_at (present_spot b t o p kind) ≡ Some kind) × (position_of (present_spot b t o p kind) ≡ Some (value_place b p kind))
 unfolding present_spot
-present_in_place b t o p (AScalar s) = (refl, refl)
-present_in_place b t o p kind = (refl, refl)
+present_in_place b t o p kind = grind arith
 
 default_nowhere : (d : ℤ) (s : Scalar) → position_of (default_spot d s) ≡ None
 unfolding default_spot
-default_nowhere d UType = refl
-default_nowhere d s = refl
+default_nowhere d s = grind arith
 
 absent_nowhere : (optional : Bool) (d : ℤ) (kind : Kind) → position_of (absent_spot optional d kind) ≡ None
 unfolding absent_spot
-absent_nowhere false d (AScalar s) = default_nowhere d s
-absent_nowhere optional d kind = refl
+absent_nowhere optional d kind = grind (arith, default_nowhere)
 
 field_in_place : (b : List ℕ) (t : ℕ) (f : Live) → IsFieldOf b t f (field_spot b t f)
 field_in_place b t f = record {
@@ -52,68 +50,31 @@ field_in_place b t f = record {
 }
 
 pub fields_stand_in_place : FieldsStandInPlace
-fields_stand_in_place b S k t n f q e l = subst (IsFieldOf b t f) (one_step b S k t n f e q l) (field_in_place b t f)
+fields_stand_in_place b S k t n f q e l = rw (← (one_step b S k t n f e q l)) (field_in_place b t f)
 
 -- Offset words.
 
 pub one_entry : (y x : Entry) (j : ℕ) → slice_get (y ∷ []) j ≡ Some x → y ≡ x
-one_entry y x zero h = some_same h
-one_entry y x (suc j) h = absurd cc
+one_entry y x j h = grind arith
 
--- the j-th of n offset words
-pub row_get : (lead : Lead) (p n j : ℕ) (x : Entry) → slice_get (row lead p n) j ≡ Some x → (j < n) × (entry lead (p + 4 * j) 0 ≡ x)
-unfolding row
-row_get lead p zero j x h = absurd cc
-row_get lead p (suc n) zero x h = let e : p + 4 * 0 ≡ p = omega arith in (omega arith, rw e (some_same h))
-row_get lead p (suc n) (suc j) x h =
-    let r = row_get lead (p + 4) n j x h in
-    let e : p + 4 + 4 * j ≡ p + 4 * suc j = omega arith in
-    (omega (arith, r.0), rw e at r.1)
-
-row_end : (lead : Lead) (p n j : ℕ) → slice_get (row lead p n) j ≡ None → n ≤ j
-unfolding row
-row_end lead p zero j h = omega arith
-row_end lead p (suc n) zero h = absurd cc
-row_end lead p (suc n) (suc j) h = let r = row_end lead (p + 4) n j h in omega (arith, r)
-
-pub union_row_get : (b : List ℕ) (S : Rows) (e q p n j : ℕ) (x : Entry) → slice_get (union_row b S e q p n) j ≡ Some x → (j < n) × (entry (lead_of S (member_of S e (word b (q + j) 1))) (p + 4 * j) 1 ≡ x)
-unfolding union_row
-union_row_get b S e q p zero j x h = absurd cc
-union_row_get b S e q p (suc n) zero x h =
-    let i : p + 4 * 0 ≡ p = omega arith in
-    let k : q + 0 ≡ q = omega arith in
-    (omega arith, rw (i, k) (some_same h))
-union_row_get b S e q p (suc n) (suc j) x h =
-    let r = union_row_get b S e (q + 1) (p + 4) n j x h in
-    let i : p + 4 + 4 * j ≡ p + 4 * suc j = omega arith in
-    let k : q + 1 + j ≡ q + suc j = omega arith in
-    (omega (arith, r.0), rw (i, k) at r.1)
-
-union_row_end : (b : List ℕ) (S : Rows) (e q p n j : ℕ) → slice_get (union_row b S e q p n) j ≡ None → n ≤ j
-unfolding union_row
-union_row_end b S e q p zero j h = omega arith
-union_row_end b S e q p (suc n) zero h = absurd cc
-union_row_end b S e q p (suc n) (suc j) h = let r = union_row_end b S e (q + 1) (p + 4) n j h in omega (arith, r)
+pub one_union : (S : Rows) (p j : ℕ) (member : Option Kind) (x : Entry) → slice_get (union_entry S p member) j ≡ Some x → (p ≡ x.place) × (lead_of S member ≡ x.lead)
+one_union S p j member x h = grind (arith, one_entry)
 
 -- an element below the count, and one past it
-pub element_there : (b : List ℕ) (c j : ℕ) (spot : Spot) → j < word b c 4 → if_element b c j spot ≡ spot
-element_there b c j spot lt = let t : nat_lt j (word b c 4) ≡ true = grind (arith, nat_tests) in rw t refl
+pub element_there : (n j : ℕ) (spot : Spot) → j < n → if_element n j spot ≡ spot
+element_there n j spot lt = grind (arith, nat_tests)
 
-element_past : (b : List ℕ) (c j : ℕ) (spot : Spot) → word b c 4 ≤ j → if_element b c j spot ≡ AtNoElement
-element_past b c j spot le = let t : nat_lt j (word b c 4) ≡ false = grind (arith, nat_tests) in rw t refl
+element_past : (n j : ℕ) (spot : Spot) → n ≤ j → if_element n j spot ≡ AtNoElement
+element_past n j spot le = grind (arith, nat_tests)
 
 module _ (b : List ℕ) (S : Rows) (t o p j : ℕ) where
   -- past a present field of this kind the steps lead to the j-th offset word
   abbrev Follows : Kind → Entry → Type 0
   Follows kind x = (q : Spot) × Reaches b S (present_spot b t o p kind) (steps_on j kind) q × IsOfEntry b S x q
 
-  in_union : (e y : ℕ) (member : Option Kind) (x : Entry) → member_of S e y ≡ member → slice_get (union_entry S p member) j ≡ Some x → IsOfEntry b S x (AtUnion e y p)
-  in_union e y None x m h = absurd cc
-  in_union e y (Some kind) x m h = subst (λ z. IsOfEntry b S z (AtUnion e y p)) (one_entry (entry (lead_of S (Some kind)) p 0) x j h) (refl, ap (lead_of S) m)
-
   -- an element step from a vector to its j-th offset word
-  by_element : (from q : Spot) (c : ℕ) (x y : Entry) → next_spot b S from (Element j) ≡ Some (if_element b c j q) → (j < word b c 4) × (y ≡ x) → IsOfEntry b S y q → (q : Spot) × Reaches b S from (Element j ∷ []) q × IsOfEntry b S x q
-  by_element from q c x y next h is = (q, (q, next ∙ ap Some (element_there b c j q h.0), refl), subst (λ z. IsOfEntry b S z q) h.1 is)
+  by_element : (from q : Spot) (n : ℕ) (x y : Entry) → next_spot b S from (Element j) ≡ Some (if_element n j q) → (j < n) × (y ≡ x) → IsOfEntry b S y q → (q : Spot) × Reaches b S from (Element j ∷ []) q × IsOfEntry b S x q
+  by_element from q n x y next h is = (q, (q, next ∙ ap Some (element_there n j q h.0), refl), subst (λ z. IsOfEntry b S z q) h.1 is)
 
   follows : (f : Live) (kind : Kind) (x : Entry) → f.slot ≡ o → slice_get (entries_of b S t f p kind) j ≡ Some x → Follows kind x
   unfolding present_spot next_spot spot_of_element
@@ -121,23 +82,23 @@ module _ (b : List ℕ) (S : Rows) (t o p j : ℕ) where
   follows f (Table k) x s_is h = subst (Follows (Table k)) (one_entry (entry (to_table k) p 0) x j h) (AtTable k (target b p), refl, refl)
   follows f (Union e) x s_is h =
       let y = union_type b (type_place b t o) in
-      (AtUnion e y p, refl, in_union e y (member_of S e y) x refl (rw s_is at h))
-  follows f Texts x s_is h = by_element (AtTexts (target b p)) (AtText (target b (target b p + 4 + 4 * j))) (target b p) x _ refl (row_get to_string (target b p + 4) (word b (target b p) 4) j x h) refl
-  follows f (Tables k) x s_is h = by_element (AtTables k (target b p)) (AtTable k (target b (target b p + 4 + 4 * j))) (target b p) x _ refl (row_get (to_table k) (target b p + 4) (word b (target b p) 4) j x h) refl
+      (AtUnion e y p, refl, one_union S p j (member_of S e y) x (rw s_is at h))
+  follows f Texts x s_is h = by_element (AtTexts (target b p)) _ _ x _ refl (row_get (row_at to_string (target b p + 4) (word b (target b p) 4) j) x h) refl
+  follows f (Tables k) x s_is h = by_element (AtTables k (target b p)) _ _ x _ refl (row_get (row_at (to_table k) (target b p + 4) (word b (target b p) 4) j) x h) refl
   follows f (Unions e) x s_is h =
       let y = types_begin b (type_place b t o) in
-      by_element (AtUnions e y (target b p)) (AtUnion e (word b (y + j) 1) (target b p + 4 + 4 * j)) (target b p) x _ refl (union_row_get b S e y (target b p + 4) (word b (target b p) 4) j x (rw s_is at h)) (refl, refl)
+      by_element (AtUnions e y (target b p)) _ _ x _ refl (row_get (union_row_at b S e y (target b p + 4) (word b (target b p) 4) j) x (rw s_is at h)) (refl, refl)
   follows f kind x s_is h = absurd cc
 
   -- an element step from a vector of offset words that has no such word
-  past_end : (c : ℕ) (x q : Spot) → word b c 4 ≤ j → (m : Spot) × (Some (if_element b c j x) ≡ Some m) × (m ≡ q) → position_of q ≡ None
-  past_end c x q past r = ap position_of (sym (some_same (sym (ap Some (element_past b c j x past)) ∙ r.1) ∙ r.2))
+  past_end : (n : ℕ) (x q : Spot) → n ≤ j → (m : Spot) × (Some (if_element n j x) ≡ Some m) × (m ≡ q) → position_of q ≡ None
+  past_end n x q past r = grind (arith, element_past)
 
   no_element : (f : Live) (kind : Kind) (q : Spot) → AreOffsets kind → slice_get (entries_of b S t f p kind) j ≡ None → Reaches b S (present_spot b t o p kind) (Element j ∷ []) q → position_of q ≡ None
   unfolding present_spot next_spot spot_of_element
-  no_element f Texts q v h r = past_end (target b p) _ q (row_end to_string (target b p + 4) (word b (target b p) 4) j h) r
-  no_element f (Tables k) q v h r = past_end (target b p) _ q (row_end (to_table k) (target b p + 4) (word b (target b p) 4) j h) r
-  no_element f (Unions u) q v h r = past_end (target b p) _ q (union_row_end b S u (types_begin b (type_place b t f.slot)) (target b p + 4) (word b (target b p) 4) j h) r
+  no_element f Texts q v h r = past_end (word b (target b p) 4) _ q (row_end (row_at to_string (target b p + 4) (word b (target b p) 4) j) h) r
+  no_element f (Tables k) q v h r = past_end (word b (target b p) 4) _ q (row_end (row_at (to_table k) (target b p + 4) (word b (target b p) 4) j) h) r
+  no_element f (Unions u) q v h r = past_end (word b (target b p) 4) _ q (row_end (union_row_at b S u (types_begin b (type_place b t f.slot)) (target b p + 4) (word b (target b p) 4) j) h) r
   no_element f kind q v h r = absurd v
 
 module _ (b : List ℕ) (S : Rows) (t j : ℕ) (f : Live) where
@@ -148,8 +109,7 @@ module _ (b : List ℕ) (S : Rows) (t j : ℕ) (f : Live) where
   -- an absent vector of offset words has no element
   absent_element : (optional : Bool) (d : ℤ) (kind : Kind) (q : Spot) → AreOffsets kind → Reaches b S (absent_spot optional d kind) (Element j ∷ []) q → position_of q ≡ None
   unfolding absent_spot next_spot
-  absent_element false d (AScalar s) q v r = absurd v
-  absent_element optional d kind q v r = ap position_of (sym (some_same r.1 ∙ r.2))
+  absent_element optional d kind q v r = grind (arith, absent_nowhere)
 
   no_element_at : (place : Option ℕ) (q : Spot) → AreOffsets f.kind → slice_get (entries_at b S t f place) j ≡ None → Reaches b S (spot_at b t f place) (Element j ∷ []) q → position_of q ≡ None
   no_element_at None q v h r = absent_element f.optional f.default f.kind q v r
@@ -170,23 +130,17 @@ no_other_elements b S k t n j f q e v h r =
 
 member_led : (b : List ℕ) (S : Rows) (p : ℕ) (kind : Kind) → IsLedTo b S p (lead_of S (Some kind)) (member_spot b p kind)
 unfolding member_spot
-member_led b S p (Struct k) = (k, refl, refl, refl)
-member_led b S p kind = refl
+member_led b S p kind = grind arith
 
 module _ (b : List ℕ) (S : Rows) (e y p m : ℕ) (q : Spot) where
   abbrev IsFollowed : Type 0
   IsFollowed = ((y ≡ m) × IsLedTo b S p (lead_of S (member_of S e y)) q) ⊎ ((y ≢ m) × (q ≡ AtOtherMember))
 
   by_type : (kind : Kind) (same : Bool) → member_of S e m ≡ Some kind → (y == m) ≡ same → (if same then member_spot b p kind else AtOtherMember) ≡ q → IsFollowed
-  by_type kind true h s i =
-      let type_is : y ≡ m = grind (arith, nat_tests) in
-      let lead_is : lead_of S (Some kind) ≡ lead_of S (member_of S e y) = ap (lead_of S) (sym (ap (member_of S e) type_is ∙ h)) in
-      inl (type_is, subst (λ lead. IsLedTo b S p lead q) lead_is (subst (IsLedTo b S p (lead_of S (Some kind))) i (member_led b S p kind)))
-  by_type kind false h s i = inr ((λ type_is. absurd (grind (arith, nat_tests, type_is))), sym i)
+  by_type kind same h s i = grind (arith, nat_tests, member_led)
 
   of_member : (member : Option Kind) → member_of S e m ≡ member → option_map (λ kind. if y == m then member_spot b p kind else AtOtherMember) member ≡ Some q → IsFollowed
-  of_member None h l = absurd cc
-  of_member (Some kind) h l = by_type kind (y == m) h refl (some_same l)
+  of_member member h l = grind (arith, by_type)
 
 pub members_follow_leads : MembersFollowLeads
 unfolding next_spot
@@ -198,8 +152,8 @@ numbered_size : (S : Rows) (k n : ℕ) (f : Live) → numbered S k n ≡ Some f 
 numbered_size S k n f e = (field_sized S k (position_or_len (λ g. g.number == n) (live_fields S k)) f (sym (find_at (λ g. g.number == n) (live_fields S k)) ∙ e)).size
 
 module _ (b : List ℕ) (S : Rows) (t o p j : ℕ) (lt : j < word b (target b p) 4) where
-  below : (x q : Spot) → (m : Spot) × (Some (if_element b (target b p) j x) ≡ Some m) × (m ≡ q) → x ≡ q
-  below x q r = some_same (sym (ap Some (element_there b (target b p) j x lt)) ∙ r.1) ∙ r.2
+  below : (x q : Spot) → (m : Spot) × (Some (if_element (word b (target b p) 4) j x) ≡ Some m) × (m ≡ q) → x ≡ q
+  below x q r = grind (arith, element_there)
 
   in_row : (size : ℕ) (kind : Kind) (q : Spot) → size ≡ kind_size S kind → AreInline kind → Reaches b S (present_spot b t o p kind) (Element j ∷ []) q → position_of q ≡ Some (target b p + 4 + size * j)
   unfolding present_spot next_spot spot_of_element

@@ -1,16 +1,17 @@
 -- From where something is, certain steps lead to where something is.
-use Rattle.std.proofs.Common.{◌≡◌, ℕ, ◌||◌, if◌then◌else◌, ℤ, Bool, true, false, IsFalse, List, refl, ◌∙◌, ap, subst, Option, Some, None}
+use Rattle.std.proofs.Common.{arith}
+use Rattle.std.proofs.Common.{◌≡◌, ℕ, ◌||◌, if◌then◌else◌, ℤ, Bool, true, IsFalse, List, ◌∙◌, ap, subst, Option, Some, None}
 use Rattle.std.specs.Prelude.{option_and_then}
-use Rattle.fb_schema.specs.declared.{kinds.Scalar.Scalar, kinds.Scalar.TheVariants.Float, kinds.Scalar.TheVariants.Double, kinds.Kind.Kind}
-use Rattle.fb_schema.specs.declared.kinds.Kind.TheVariants.{Scalar as AScalar, Table}
+use Rattle.fb_schema.specs.declared.{kinds.Kind.Kind}
+use Rattle.fb_schema.specs.declared.kinds.Kind.TheVariants.{Table}
 use Rattle.fb_schema.specs.{Rows.Rows, Live.Live, Served.IsServed}
 use Rattle.fb_verify.specs.declared.checks.Checks.{Checks}
-use Rattle.fb_verify.specs.{Places.field_place, Fields.IsField, Fields.IsPresentOrAbsent}
-use Rattle.fb_access.specs.declared.{step.Step.Step, step.Step.TheVariants.Field, step.Step.TheVariants.Element, step.Step.TheVariants.Member}
+use Rattle.fb_verify.specs.{Fields.IsField, Fields.IsPresentOrAbsent}
+use Rattle.fb_access.specs.declared.{step.Step.Step, step.Step.TheVariants.Field}
 use Rattle.fb_access.specs.declared.{spot.Spot.Spot, spot.Spot.TheVariants.AtTable}
 use Rattle.fb_access.specs.{Fitting.numbered, Denotes.next_spot, Denotes.Leads, Held.IsSpot, Held.IsTableAt}
 use Rattle.fb_access.specs.Spots.{default_spot, absent_spot, spot_at, field_spot}
-use Rattle.fb_access.specs.Here.{IsHere, has_default, defaults, sure_field, sure_kind, HereGoesOn}
+use Rattle.fb_access.specs.Here.{IsHere, defaults, sure_field, sure_kind, HereGoesOn}
 use Rattle.fb_access.proofs.{Held.at_table, TableFields.field_holds, StepKinds.present_kind}
 
 -- such a step is one to a field of a table
@@ -24,58 +25,39 @@ pub record IsSure (S : Rows) (kind : Kind) (s : Step) (onward : Kind) : Type 0 w
   pub sure : sure_field field ≡ Some onward
 
 found_sure : (S : Rows) (k n : ℕ) (onward : Kind) (o : Option Live) → numbered S k n ≡ o → option_and_then sure_field o ≡ Some onward → IsSure S (Table k) (Field n) onward
-found_sure S k n onward None i e = absurd cc
-found_sure S k n onward (Some f) i e = record { object = k; is_table = refl; number = n; is_field = refl; field = f; found = i; sure = e }
+found_sure S k n onward o i e = grind arith
 
 pub is_sure : (S : Rows) (kind : Kind) (s : Step) (onward : Kind) → sure_kind S kind s ≡ Some onward → IsSure S kind s onward
 unfolding sure_kind
-is_sure S (Table k) (Field n) onward e = found_sure S k n onward (numbered S k n) refl e
-is_sure S kind (Field n) onward e = absurd cc
-is_sure S kind (Element j) onward e = absurd cc
-is_sure S kind (Member m) onward e = absurd cc
+is_sure S kind s onward e = grind (arith, found_sure)
 
 -- a table is here
 pub table_here : (p : Spot) (k : ℕ) → IsHere p (Table k) → (t : ℕ) × (p ≡ AtTable k t)
-table_here (AtTable i t) k h = let e : i ≡ k = cc in (t, rw e refl)
-table_here p k h = absurd cc
+table_here p k h = grind arith
 
 sure_same : (v : Bool) (kind onward : Kind) → (if v then Some kind else None) ≡ Some onward → (kind ≡ onward) × (v ≡ true)
-sure_same true kind onward e = let i : kind ≡ onward = cc in (i, refl)
-sure_same false kind onward e = absurd cc
+sure_same v kind onward e = grind arith
 
 pub sure_kind_of : (f : Live) (onward : Kind) → sure_field f ≡ Some onward → f.kind ≡ onward
 sure_kind_of f onward e = (sure_same (f.required || defaults f.optional f.kind) f.kind onward e).0
 
-default_here : (d : ℤ) (s : Scalar) → has_default s ≡ true → IsHere (default_spot d s) (AScalar s)
-unfolding default_spot
-default_here d Float h = absurd cc
-default_here d Double h = absurd cc
-default_here d s h = refl
-
 absent_here : (required optional : Bool) (d : ℤ) (kind : Kind) → IsFalse required → (required || defaults optional kind) ≡ true → IsHere (absent_spot optional d kind) kind
-unfolding absent_spot
-absent_here true optional d kind f h = absurd cc
-absent_here false true d kind f h = absurd cc
-absent_here false false d (AScalar s) f h = default_here d s h
-absent_here false false d kind f h = absurd cc
+unfolding absent_spot default_spot
+absent_here required optional d kind f h = grind arith
 
 place_here : (c : Checks) (b : List ℕ) (S : Rows) (t : ℕ) (f : Live) (place : Option ℕ) → IsPresentOrAbsent c b S t f place → (f.required || defaults f.optional f.kind) ≡ true → IsHere (spot_at b t f place) f.kind
-place_here c b S t f None met h = absent_here f.required f.optional f.default f.kind met h
-place_here c b S t f (Some p) met h = present_kind b t f.slot p f.kind
+place_here c b S t f place met h = grind (arith, absent_here, present_kind)
 
 field_here : (c : Checks) (b : List ℕ) (S : Rows) (t : ℕ) (f : Live) (onward : Kind) → IsField c b S t f → sure_field f ≡ Some onward → IsHere (field_spot b t f) onward
 unfolding IsField
-field_here c b S t f onward met e =
-    let s = sure_same (f.required || defaults f.optional f.kind) f.kind onward e in
-    subst (IsHere (field_spot b t f)) s.0 (place_here c b S t f (field_place b t f.slot) met s.1)
+field_here c b S t f onward met e = grind (arith, place_here)
 
 module _ (b : List ℕ) (S : Rows) where
   table_leads_here : (k t n : ℕ) (f : Live) (q : Spot) (onward : Kind) → IsServed S → IsTableAt b S k t → numbered S k n ≡ Some f → sure_field f ≡ Some onward → Leads b S (AtTable k t) (Field n) q → IsHere q onward
   unfolding next_spot
   table_leads_here k t n f q onward served h found sure l =
-      let r : Some (field_spot b t f) ≡ Some q = rw found at l in
-      let e : field_spot b t f ≡ q = cc in
-      subst (λ x. IsHere x onward) e (field_here h.checks b S t f onward (field_holds b S k t n f served h found).met sure)
+      let here = field_here h.checks b S t f onward (field_holds b S k t n f served h found).met sure in
+      grind arith
 
   pub here_goes_on : (p : Spot) (s : Step) (q : Spot) → IsServed S → IsSpot b S p → Leads b S p s q → HereGoesOn S p s q
   here_goes_on p s q served holds l kind onward h e =

@@ -1,15 +1,15 @@
 -- The live fields and the members of legal rows are found by their names.
-use Rattle.std.proofs.Common.{◌≡◌, ℕ, zero, suc, ◌<◌, inl, inr, ◌&&◌, pos, Bool, true, List, [], ◌∷◌, get_or, slice_get, find, option_map, option_and_then, unsigned_abs, IsTrue, Option, Some, None, refl, sym, ◌∙◌, ap, subst, arith}
+use Rattle.std.proofs.Common.{◌≡◌, ℕ, zero, suc, ◌<◌, ◌&&◌, pos, Bool, true, List, [], ◌∷◌, get_or, slice_get, find, option_map, unsigned_abs, IsTrue, Option, Some, None, refl, sym, ◌∙◌, ap, subst, arith}
 use Rattle.fb_access.proofs.{StepLaws.some_same, Found.found_there}
 use Rattle.std.proofs.lemmas.Bool.{false≢true, and_parts, and_from, or_left, or_right}
 use Rattle.std.specs.{Cmp.signed_Decides, Ordering.int_eq, Str.bytes_eq}
 use Rattle.std.proofs.lemmas.{Option.slice_get-get_or, Option.get_or_from_slice_get, Option.slice_get_within, Slice.Eq.bytes_eq-Decides}
 use Rattle.fb_schema.specs.declared.kinds.Kind.{Kind}
 use Rattle.fb_schema.specs.Demands.{IsLegal, first_code, stands_before, same_field_name, same_member_name, table_field_demands, member_demands, demands_of_member}
-use Rattle.fb_schema.specs.{Kinds.kind_of, Live.Live, Live.live_fields, Served.IsServed}
+use Rattle.fb_schema.specs.{Live.Live, Live.live_fields, Served.IsServed}
 use Rattle.fb_schema.specs.Members.{is_member_value, members_of, member_of, member_named, member_name}
 use Rattle.fb_schema.specs.Rows.{Field, Object, Member, Enum, Rows, is_union}
-use Rattle.fb_schema.proofs.{DemandLaws.clear_line, FindLemmas.found_item, Kinded.row_of, Numbers.le_or_lt, Numbers.lt_or_eq}
+use Rattle.fb_schema.proofs.{DemandLaws.clear_line, FindLemmas.found_item, Kinded.row_of}
 use Rattle.fb_schema.proofs.RowLemmas.{IsRowOf, asked}
 use Rattle.fb_access.specs.Resolving.{field_with_name}
 use Rattle.fb_access.proofs.MemberKinds.{real_not_zero, union_row, found_among, clear}
@@ -25,10 +25,10 @@ stands same (z ∷ zs) (suc p) (suc q) x y a lt h = or_right (same z y) (stands_
 
 -- one of two numbers is below the other, or they are one
 apart : (P : Type 0) (m n : ℕ) → (m < n → P) → (n < m → P) → (m ≡ n → P) → P
-apart P m n a b c = elim (le_or_lt m n) [ inl le ↦ elim (lt_or_eq m n le) [ inl lt ↦ a lt | inr e ↦ c e ] | inr lt ↦ b lt ]
+apart P m n a b c = grind arith
 
 alike : (a b : List ℕ) → a ≡ b → bytes_eq a b ≡ true
-alike a b e = (bytes_eq-Decides a b).1 e
+alike a b e = grind (arith, bytes_eq-Decides)
 
 -- Fields.
 module _ (S : Rows) (legal : IsLegal S) (k : ℕ) where
@@ -110,7 +110,4 @@ named_again S e y name legal there h = go (find (λ n. int_eq n.value (pos y)) (
 -- a type that has a member has a name
 pub has_name : (S : Rows) (e y : ℕ) (kind : Kind) → member_of S e y ≡ Some kind → member_name S e y ≡ None → ⊥
 unfolding member_name member_of
-has_name S e y kind h none = go (find (λ n. int_eq n.value (pos y)) (members_of S e)) refl none where
-  go : (m : Option Member) → find (λ n. int_eq n.value (pos y)) (members_of S e) ≡ m → option_map (λ (n : Member). n.name) m ≡ None → ⊥
-  go None f i = let w : None ≡ Some kind = sym (ap (λ m. option_and_then (λ (n : Member). kind_of S n.ty) m) f) ∙ h in cc
-  go (Some m) f i = let w : Some m.name ≡ None = i in cc
+has_name S e y kind h none = grind arith

@@ -1,6 +1,6 @@
 -- The text of a way is read back as the parts of its links.
-use Rattle.std.proofs.Common.{◌≡◌, ℕ, zero, suc, ◌<◌, ◌≤◌, ◌^◌, Bool, true, ◌||◌, ◌==◌, if◌then◌else◌, IsTrue, List, [], ◌∷◌, ◌++◌, length, get_or, Option, Some, None, codes, decimal, refl, sym, ◌∙◌, ap, subst, arith, append_assoc, append-nil, inl, inr}
-use Rattle.std.proofs.lemmas.{Bool.or_left, Bool.Decides.nat_tests, List.Concat.flat_map-cons}
+use Rattle.std.proofs.Common.{◌≡◌, ℕ, zero, suc, ◌<◌, ◌^◌, Bool, true, ◌||◌, ◌==◌, if◌then◌else◌, IsTrue, List, [], ◌∷◌, ◌++◌, length, get_or, Option, codes, decimal, refl, sym, ◌∙◌, ap, subst, arith, append_assoc, append-nil, inl, inr}
+use Rattle.std.proofs.lemmas.{Bool.Decides.nat_tests, List.Concat.flat_map-cons}
 use Rattle.std.specs.{Int.IsInRange, List.AllByRecursion, List.flat_map}
 use Rattle.std.proofs.lemmas.Fmt.{decimal_digit, decimal_nonempty, first_decimal, digits_decimal, digits_value-decimal}
 use Rattle.std.proofs.lemmas.Str.Parse.{IsDigitsTest, FoldsDigits, IsNumeralModel, numerals_by_fold}
@@ -8,29 +8,28 @@ use Rattle.fb_schema.specs.declared.kinds.Kind.TheVariants.{Table}
 use Rattle.fb_schema.specs.Rows.{Rows}
 use Rattle.fb_verify.specs.declared.links.Link.{Link}
 use Rattle.fb_access.proofs.ScanAccepts.{AreDigits}
-use Rattle.fb_access.specs.Grammar.{begins_name, goes_on, is_digit, number_from, number_of, Part, field, element, member, IsName, IsNumber, IsPart, spelling}
+use Rattle.fb_access.specs.Grammar.{goes_on, is_digit, number_from, number_of, Part, field, IsName, IsNumber, IsPart, spelling}
 use Rattle.fb_access.specs.Resolving.{Follows}
 use Rattle.fb_access.specs.Location.{name_text, named, link_member, element_text, link_text}
 use Rattle.fb_access.specs.LocationLaws.{field_parts, element_parts, member_parts, link_parts, parts_of, IsShort, IsNameIfAny, IsNamed, AreNamed, WaysResolve}
 
 -- Names of the grammar are written as they are.
 kept_if : (b x : Bool) (c : ℕ) → b ≡ true → (if b || x then c else 63) ≡ c
-kept_if b x c e = rw e refl
+kept_if b x c e = grind arith
 
 kept_rest : (cs : List ℕ) → AllByRecursion (λ x. IsTrue (goes_on x)) cs → name_text cs ≡ cs
 kept_rest [] h = refl
 kept_rest (c ∷ cs) h = λ i. kept_if (goes_on c) (c == 46) c h.0 i ∷ kept_rest cs h.1 i
 
 kept_name : (name : List ℕ) → IsName name → name_text name ≡ name
-kept_name [] h = absurd h
-kept_name (c ∷ cs) h = λ i. kept_if (goes_on c) (c == 46) c (or_left (begins_name c) (is_digit c) h.0) i ∷ kept_rest cs h.1 i
+kept_name name h = grind (arith, kept_rest)
 
 -- Numbers are read back.
 in_range : (c : ℕ) → is_digit c ≡ true → IsInRange 48 57 c
-in_range c e = let low : 48 ≤ c = grind (arith, nat_tests) in let high : c ≤ 57 = grind (arith, nat_tests) in (low, high)
+in_range c e = grind (arith, nat_tests)
 
 digit_in : (c : ℕ) → IsInRange 48 57 c → is_digit c ≡ true
-digit_in c h = let low : 48 ≤ c = h.0 in let high : c ≤ 57 = h.1 in grind (arith, nat_tests)
+digit_in c h = grind (arith, nat_tests)
 
 tells : IsDigitsTest AreDigits
 tells = record { empty = tt; parts = λ c cs d. (in_range c d.0, d.1); more = λ c cs k d. (digit_in c k, d) }
@@ -60,30 +59,24 @@ is_number (suc k) h = go (decimal (suc k)) refl where
 -- Lists of parts.
 all_append : (ps qs : List Part) → AllByRecursion IsPart ps → AllByRecursion IsPart qs → AllByRecursion IsPart (ps ++ qs)
 all_append [] qs a b = b
-all_append (p ∷ ps) qs a b = (a.0, all_append ps qs a.1 b)
+all_append (p ∷ ps) qs a b = grind (arith, all_append ps qs)
 
 spelling_append : (ps qs : List Part) → spelling (ps ++ qs) ≡ spelling ps ++ spelling qs
 spelling_append [] qs = refl
-spelling_append (field name ∷ ps) qs = ap (λ t. 46 ∷ name ++ t) (spelling_append ps qs) ∙ ap (λ t. 46 ∷ t) (sym (append_assoc name (spelling ps) (spelling qs)))
-spelling_append (element digits ∷ ps) qs = ap (λ t. 91 ∷ digits ++ 93 ∷ t) (spelling_append ps qs) ∙ ap (λ t. 91 ∷ t) (sym (append_assoc digits (93 ∷ spelling ps) (spelling qs)))
-spelling_append (member name ∷ ps) qs = ap (λ t. 64 ∷ name ++ t) (spelling_append ps qs) ∙ ap (λ t. 64 ∷ t) (sym (append_assoc name (spelling ps) (spelling qs)))
+spelling_append (p ∷ ps) qs = grind (arith, append_assoc, spelling_append ps qs)
 
 -- The parts of a link.
 element_are : (e : Option ℕ) → IsShort e → AllByRecursion IsPart (element_parts e)
-element_are None h = tt
-element_are (Some j) h = (is_number j h, tt)
+element_are e h = grind (arith, is_number)
 
 member_are : (m : Option (List ℕ)) → IsNameIfAny m → AllByRecursion IsPart (member_parts m)
-member_are None h = tt
-member_are (Some name) h = (h, tt)
+member_are m h = grind arith
 
 element_spelled : (e : Option ℕ) → spelling (element_parts e) ≡ element_text e
-element_spelled None = refl
-element_spelled (Some j) = refl
+element_spelled e = grind arith
 
 member_spelled : (m : Option (List ℕ)) → IsNameIfAny m → spelling (member_parts m) ≡ named (codes "@") m
-member_spelled None h = refl
-member_spelled (Some name) h = ap (λ t. 64 ∷ t) (append-nil name ∙ sym (kept_name name h))
+member_spelled m h = grind (arith, append-nil, kept_name)
 
 -- what a link has behind its field's name
 module _ (S : Rows) (link : Link) (h : IsNamed S link) where

@@ -1,8 +1,7 @@
 -- A word of letters, `_` and digits, and the text after it.
-use Rattle.std.proofs.Common.{◌≡◌, ℕ, suc, ◌+◌, ◌-◌, ◌*◌, ◌<◌, ◌≤◌, inl, inr, List, [], ◌∷◌, ◌++◌, length, take, drop, get_or, refl, ◌∙◌, ap, subst, arith, add-one, true, false}
-use Rattle.std.proofs.lemmas.Bool.{cond-true, cond-false, or_left, or_right}
-use Rattle.std.proofs.Math.Seq.{drop-cons, drop-length, take-append_seam, drop-append_seam}
-use Rattle.std.proofs.lemmas.Bool.Decides.{nat_tests}
+use Rattle.std.proofs.Common.{◌≡◌, ℕ, suc, ◌+◌, ◌-◌, ◌*◌, ◌<◌, ◌≤◌, List, [], ◌∷◌, ◌++◌, length, drop, get_or, refl, ◌∙◌, ap, subst, arith, add-one, true, false}
+use Rattle.std.proofs.lemmas.{Bool.cond-true, Bool.cond-false, Bool.or_right, Bool.Decides.nat_tests}
+use Rattle.std.proofs.Math.Seq.{drop-cons, drop-length}
 use Rattle.fb_access.specs.Grammar.{is_digit, begins_name, goes_on, IsName, IsNumber, number_from, Part, field, spelling}
 use Rattle.fb_access.specs.Cutting.{word_length}
 use Rattle.fb_access.proofs.{ScanAccepts.Most, ScanAccepts.GoOn, ScanAccepts.AreDigits, ScanReads.number_grows}
@@ -19,42 +18,30 @@ parts_stop (p ∷ ps) = refl
 
 stops_length : (t : List ℕ) → Stops t → word_length t ≡ 0
 unfolding word_length
-stops_length [] h = refl
-stops_length (c ∷ cs) h = cond-false (goes_on c) _ _ h
+stops_length t h = grind arith
 
 -- a word is as long as it is, whatever stops it
 pub length_of_word : (w t : List ℕ) → GoOn w → Stops t → word_length (w ++ t) ≡ length w
 unfolding word_length
 length_of_word [] t h s = stops_length t s
-length_of_word (c ∷ cs) t h s = cond-true (goes_on c) _ _ h.0 ∙ ap suc (length_of_word cs t h.1 s)
-
-pub word_is : (text w t : List ℕ) → GoOn w → Stops t → text ≡ w ++ t → take (word_length text) text ≡ w
-word_is text w t h s e = rw (e, length_of_word w t h s) (take-append_seam w t)
-
-pub after_word : (text w t : List ℕ) → GoOn w → Stops t → text ≡ w ++ t → drop (word_length text) text ≡ t
-after_word text w t h s e = rw (e, length_of_word w t h s) (drop-append_seam w t)
+length_of_word (c ∷ cs) t h s = grind (arith, length_of_word cs t)
 
 -- Names and numbers are words.
 pub name_word : (n : List ℕ) → IsName n → GoOn n
-name_word [] h = absurd h
-name_word (c ∷ cs) h = (or_left (begins_name c) (is_digit c) h.0, h.1)
+name_word n h = grind arith
 
 digits_word : (ds : List ℕ) → AreDigits ds → GoOn ds
 digits_word [] h = tt
 digits_word (c ∷ cs) h = (or_right (begins_name c) (is_digit c) h.0, digits_word cs h.1)
 
 pub number_digits : (ds : List ℕ) → IsNumber ds → AreDigits ds
-number_digits [] h = absurd h
-number_digits (c ∷ cs) (inl h) = rw (h.0, h.1) (refl, tt)
-number_digits (c ∷ cs) (inr h) = h.1
+number_digits ds h = grind arith
 
 pub number_word : (ds : List ℕ) → IsNumber ds → GoOn ds
 number_word ds h = digits_word ds (number_digits ds h)
 
 pub number_small : (ds : List ℕ) → IsNumber ds → number_from 0 ds ≤ Most
-number_small [] h = absurd h
-number_small (c ∷ cs) (inl h) = rw (h.0, h.1) (omega arith)
-number_small (c ∷ cs) (inr h) = h.2
+number_small ds h = grind arith
 
 -- One more byte of a word.
 pub length_goes_on : (text : List ℕ) (i d : ℕ) → i < length text → goes_on (get_or text i d) ≡ true → i + word_length (drop i text) ≡ i + 1 + word_length (drop (i + 1) text)

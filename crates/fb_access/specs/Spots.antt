@@ -80,24 +80,20 @@ spot_of_field b S (AtTable k t) n = option_map (field_spot b t) (numbered S k n)
 spot_of_field b S (AtStruct k p) n = option_map (part_spot p) (part_at S k n)
 spot_of_field b S _ n = None
 
--- a spot, if the vector at c has an element j
-abbrev pub if_element : List ℕ → ℕ → ℕ → Spot → Spot
-if_element b c j spot = if nat_lt j (word b c 4) then spot else AtNoElement
-
--- a spot, if an array of n values has an element j
-abbrev pub if_of_array : ℕ → ℕ → Spot → Spot
-if_of_array n j spot = if nat_lt j n then spot else AtNoElement
+-- a spot, if a vector or array of n values has an element j
+abbrev pub if_element : ℕ → ℕ → Spot → Spot
+if_element n j spot = if nat_lt j n then spot else AtNoElement
 
 -- to element j: those of a vector stand behind its count, in place or as offset words, those of an array from its place
 -- on; a union has the j-th type
 unfoldable pub spot_of_element : List ℕ → Rows → Spot → ℕ → Option Spot
-spot_of_element b S (AtScalars s c) j = Some (if_element b c j (AtInline s (c + 4 + scalar_size s * j)))
-spot_of_element b S (AtStructs k c) j = Some (if_element b c j (AtStruct k (c + 4 + struct_size S k * j)))
-spot_of_element b S (AtScalarArray s n p) j = Some (if_of_array n j (AtInline s (p + scalar_size s * j)))
-spot_of_element b S (AtStructArray k n p) j = Some (if_of_array n j (AtStruct k (p + struct_size S k * j)))
-spot_of_element b S (AtTexts c) j = Some (if_element b c j (AtText (target b (c + 4 + 4 * j))))
-spot_of_element b S (AtTables k c) j = Some (if_element b c j (AtTable k (target b (c + 4 + 4 * j))))
-spot_of_element b S (AtUnions e q c) j = Some (if_element b c j (AtUnion e (word b (q + j) 1) (c + 4 + 4 * j)))
+spot_of_element b S (AtScalars s c) j = Some (if_element (word b c 4) j (AtInline s (c + 4 + scalar_size s * j)))
+spot_of_element b S (AtStructs k c) j = Some (if_element (word b c 4) j (AtStruct k (c + 4 + struct_size S k * j)))
+spot_of_element b S (AtScalarArray s n p) j = Some (if_element n j (AtInline s (p + scalar_size s * j)))
+spot_of_element b S (AtStructArray k n p) j = Some (if_element n j (AtStruct k (p + struct_size S k * j)))
+spot_of_element b S (AtTexts c) j = Some (if_element (word b c 4) j (AtText (target b (c + 4 + 4 * j))))
+spot_of_element b S (AtTables k c) j = Some (if_element (word b c 4) j (AtTable k (target b (c + 4 + 4 * j))))
+spot_of_element b S (AtUnions e q c) j = Some (if_element (word b c 4) j (AtUnion e (word b (q + j) 1) (c + 4 + 4 * j)))
 spot_of_element b S _ j = None
 
 -- what an offset word at p of a union leads to; a member is of one of these three kinds
