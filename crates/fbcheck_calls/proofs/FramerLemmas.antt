@@ -1,5 +1,5 @@
 -- What a framer holds after a piece.
-use Rattle.std.proofs.Common.{◌≡◌, ℕ, Bool, true, false, ◌+◌, ◌<◌, ◌≤◌, ◌≢◌, inl, inr, List, ◌++◌, length, take, drop, refl, sym, ap, ap₂, ◌∙◌, arith, append_assoc, length-append, length-take, length-drop, length-take-le, take_all, take-add, take-append-drop}
+use Rattle.std.proofs.Common.{◌≡◌, ℕ, Bool, true, false, ◌+◌, ◌<◌, ◌≤◌, ◌≢◌, inl, inr, List, ◌++◌, length, take, drop, refl, sym, ap, ap₂, ◌∙◌, arith, append_assoc, length-append, length-drop, length-take-le, take_all, take-add, take-append-drop}
 use Rattle.std.proofs.lemmas.{Bool.Decides.leb_tells, List.take-append-le}
 use Rattle.fb_bytes.specs.Messages.{declared, IsMessage}
 use Rattle.fb_bytes.specs.Framing.{Framing, Feeds, IsHeld, IsRefused}
@@ -27,19 +27,6 @@ message_is_first room h within is =
 pub fed_is_held : (old new : Framing) (piece : List ℕ) (used : ℕ) (whole : Bool) → Feeds old new piece used whole → IsHeld new.limit new.held
 fed_is_held old new piece used true fed = inr (fed.message refl)
 fed_is_held old new piece used false fed = inl (fed.partial refl).0
-
--- the piece ends in the prefix
-pub fed_prefix : (room room' piece : List ℕ) (h u : ℕ) → IsFilled room room' piece h 4 u → h + u < 4 → Feeds (going room h) (going room' (h + u)) piece u false
-fed_prefix room room' piece h u f few =
-    let all : u ≡ length piece = omega (arith, f.count_is) in
-    record {
-      limit = f.same;
-      fine = (refl, refl);
-      within = omega arith;
-      held = f.bytes;
-      message = λ e. let no : ⊥ = cc in absurd no;
-      partial = λ _. ((λ four. absurd (omega (arith, length-take (h + u) room'))), all);
-    }
 
 -- the prefix is whole, with u bytes of the piece
 module _ (room room' piece : List ℕ) (h u : ℕ) (within : h ≤ length room) (low : 8 ≤ length room) (held : IsHeld (length room) (take h room)) (f : IsFilled room room' piece h 4 u) (four : 4 ≤ h + u) where

@@ -1,12 +1,11 @@
 -- How steps lead on from a spot, and that steps that fit are allowed.
-use Rattle.std.proofs.Common.{◌≡◌, ℕ, ◌+◌, ◌<◌, true, false, get_or, add-one, List, [], ◌∷◌, ◌++◌, length, take, drop, sym, ap, subst, ◌∙◌, arith, append_assoc, drop-cons, length-take-le, Some, None}
+use Rattle.std.proofs.Common.{◌≡◌, ℕ, ◌+◌, ◌<◌, get_or, add-one, List, [], ◌∷◌, ◌++◌, length, take, drop, sym, ap, subst, ◌∙◌, arith, append_assoc, drop-cons, length-take-le, Some}
 use Rattle.std.proofs.Math.ListN.{set}
 use Rattle.std.proofs.lemmas.{List.set_at, List.take_more, Slice.Zip.AllZip-long, Slice.Zip.all_zipped_more}
 use Rattle.fb_schema.specs.declared.kinds.Kind.{Kind}
 use Rattle.fb_schema.specs.Rows.{Rows}
 use Rattle.fb_access.specs.declared.{step.Step.Step, spot.Spot.Spot}
-use Rattle.fb_access.specs.{Denotes.Leads, Denotes.Reaches, Denotes.allows, Fitting.StepsFit, Fitting.next_kind, Here.IsOfKind, Here.KindsGoOn}
-use Rattle.fb_access.proofs.StepKinds.{kind_allows}
+use Rattle.fb_access.specs.{Denotes.Leads, Denotes.Reaches, Fitting.StepsFit, Fitting.next_kind, Here.IsOfKind, Here.KindsGoOn}
 use Rattle.fbcheck_calls.specs.declared.steps.PlainStep.{PlainStep}
 use Rattle.fbcheck_calls.specs.Steps.{AreSteps, step_of}
 
@@ -22,33 +21,12 @@ module _ (S : Rows) (p : Spot) (c : PlainStep) (cs : List PlainStep) where
   pub reaches_more : (b : List ℕ) (W : Spot → Type 0) (s : Step) (q : Spot) → step_of c ≡ Some s → Leads b S p s q → IsReachedBy b S p (c ∷ cs) W → IsReachedBy b S q cs W
   reaches_more b W s q e l by = λ path x are reach. by (s ∷ path) x (e, are) (q, l, reach)
 
-  fit_more_at : (path : List Step) (kind : Kind) (s : Step) (q : Spot) → step_of c ≡ Some s → KindsGoOn S p s q → AreSteps (c ∷ cs) path → IsOfKind p kind → StepsFit S kind path → FitHere S q cs
-  fit_more_at [] kind s q e on are is fits = absurd are
-  fit_more_at (s' ∷ path) kind s q e on are is fits =
+  pub fit_more : (s : Step) (q : Spot) → step_of c ≡ Some s → KindsGoOn S p s q → FitHere S p (c ∷ cs) → FitHere S q cs
+  fit_more s q e on ([], kind, are, is, fits) = absurd are
+  fit_more s q e on (s' ∷ path, kind, are, is, fits) =
       let found : step_of c ≡ Some s' = are.0 in
       let same : s' ≡ s = cc in
       (path, fits.0, are.1, on kind fits.0 is (subst (λ v. next_kind S kind v ≡ Some fits.0) same fits.1), fits.2)
-
-  pub fit_more : (s : Step) (q : Spot) → step_of c ≡ Some s → KindsGoOn S p s q → FitHere S p (c ∷ cs) → FitHere S q cs
-  fit_more s q e on h = fit_more_at h.0 h.1 s q e on h.2 h.3 h.4
-
-  no_step_at : (path : List Step) → step_of c ≡ None → AreSteps (c ∷ cs) path → ⊥
-  no_step_at [] e are = absurd are
-  no_step_at (s' ∷ path) e are = let found : step_of c ≡ Some s' = are.0 in cc
-
-  pub no_step : step_of c ≡ None → FitHere S p (c ∷ cs) → ⊥
-  no_step e h = no_step_at h.0 e h.2
-
-  misfit_at : (path : List Step) (kind : Kind) (s : Step) → step_of c ≡ Some s → allows S p s ≡ false → AreSteps (c ∷ cs) path → IsOfKind p kind → StepsFit S kind path → ⊥
-  misfit_at [] kind s e refused are is fits = absurd are
-  misfit_at (s' ∷ path) kind s e refused are is fits =
-      let found : step_of c ≡ Some s' = are.0 in
-      let same : s' ≡ s = cc in
-      let yes : allows S p s ≡ true = kind_allows S p s kind fits.0 is (subst (λ v. next_kind S kind v ≡ Some fits.0) same fits.1) in
-      cc
-
-  pub misfit : (s : Step) → step_of c ≡ Some s → allows S p s ≡ false → FitHere S p (c ∷ cs) → ⊥
-  misfit s e refused h = misfit_at h.0 h.1 s e refused h.2 h.3 h.4
 
 -- one step more stands in front of the room
 pub one_written : (path : List Step) (first room front : List PlainStep) (i : ℕ) (d : Step) (c none : PlainStep) → i < length path → i < length first

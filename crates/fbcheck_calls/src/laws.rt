@@ -5,31 +5,37 @@ ghost use Rattle.fbcheck_calls.specs.Names.{FaultsHaveTheirNames, StatusesHaveWo
 
 /// Where the schema, the room and the options can serve a buffer of less than 2^31 bytes, and some tree of it is well
 /// formed and within the limits, the answer is 0.
+#[tactic(auto, using(crate::proofs::AnswerLemmas::good_gets_yes))]
 pub fn a_good_buffer_gets_a_yes()
     ensures { GoodGetsYes }
 {}
 
 /// Where they can, and none is, the answer is 1.
+#[tactic(auto, using(crate::proofs::AnswerLemmas::bad_gets_no))]
 pub fn a_bad_buffer_gets_a_no()
     ensures { BadGetsNo }
 {}
 
 /// Where they can, and it has more bytes, the answer is 7.
+#[tactic(auto, using(crate::proofs::AnswerLemmas::long_gets_its_number))]
 pub fn a_long_buffer_gets_its_number()
     ensures { LongGetsItsNumber }
 {}
 
 /// The bytes that are told of a float, a string and a struct are its value; what has no bytes is told none.
+#[tactic(auto, using(crate::proofs::StandLemmas::stands))]
 pub fn a_value_stands_where_told()
     ensures { ValuesStand }
 {}
 
 /// The status and the number that are told of an answer have the code and name of its own fault, and of no other.
+#[tactic(auto, using(crate::proofs::FaultNames::its_name))]
 pub fn a_fault_has_its_name()
     ensures { FaultsHaveTheirNames }
 {}
 
 /// Each answer is told by a status that says something in words.
+#[tactic(auto, using(crate::proofs::StatusWords::has_words))]
 pub fn a_status_has_words()
     ensures { StatusesHaveWords }
 {}

@@ -1,5 +1,5 @@
 -- Files that are gone through one behind another.
-use Rattle.std.proofs.Common.{◌≡◌, ◌∙◌, ℕ, zero, suc, ◌+◌, ◌<◌, ◌≤◌, List, [], ◌∷◌, ◌++◌, Bool, true, false, Option, None, Some, Result, Ok, Err, length, take, drop, drop-cons, get_or, append_assoc, add-one, arith, refl, sym, ap, subst}
+use Rattle.std.proofs.Common.{◌≡◌, ◌∙◌, ℕ, zero, suc, ◌+◌, ◌<◌, ◌≤◌, List, [], ◌∷◌, ◌++◌, Bool, true, false, Option, None, Some, Result, Ok, Err, length, take, take_all, drop, drop_of_length-le, drop-cons, get_or, append_assoc, add-one, arith, refl, sym, ap, subst}
 use Rattle.std.proofs.Math.ListN.{set}
 use Rattle.std.proofs.lemmas.List.{append-nil}
 use Rattle.std.specs.Global.{Global}
@@ -30,19 +30,10 @@ sums_on (a ∷ some) (b ∷ more) (suc i) within same =
 
 pub sum_at : (some more counts : List ℕ) (i sum : ℕ) → i < length some → length some ≡ length more → counts ≡ sums (take i some) more ++ drop i some
     → sum ≡ sum_of_counts (get_or counts i 0) (get_or more i 0) → set counts i sum ≡ sums (take (i + 1) some) more ++ drop (i + 1) some
-sum_at some more counts i sum within same are is =
-    ap (λ n. set counts i n) is
-    ∙ ap (λ l. set l i (sum_of_counts (get_or l i 0) (get_or more i 0))) are
-    ∙ sums_on some more i within same
-    ∙ ap (λ j. sums (take j some) more ++ drop j some) (sym (add-one i))
+sum_at some more counts i sum within same are is = rw (add-one, is, are) (sums_on some more i within same)
 
-pub all_summed : (some more : List ℕ) (i : ℕ) → length some ≤ i → length some ≡ length more → sums (take i some) more ++ drop i some ≡ sums some more
-all_summed [] more zero within same = refl
-all_summed [] more (suc i) within same = refl
-all_summed (a ∷ some) more zero within same = absurd (omega (arith, within))
-all_summed (a ∷ some) [] (suc i) within same = absurd (omega (arith, same))
-all_summed (a ∷ some) (b ∷ more) (suc i) within same =
-    ap (λ l. sum_of_counts a b ∷ l) (all_summed some more i (omega (arith, within)) (omega (arith, same)))
+pub all_summed : (some more : List ℕ) (i : ℕ) → length some ≤ i → sums (take i some) more ++ drop i some ≡ sums some more
+all_summed some more i within = rw (take_all i some within, drop_of_length-le some within, append-nil) refl
 
 pub sums_length : (some more : List ℕ) → length (sums some more) ≡ length some
 sums_length [] more = refl

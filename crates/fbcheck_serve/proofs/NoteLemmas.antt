@@ -1,5 +1,5 @@
 -- Two texts that are noted one behind the other, and the line that tells a fault.
-use Rattle.std.proofs.Common.{◌≡◌, ◌∙◌, ℕ, ◌+◌, ◌<◌, ◌≤◌, List, ◌++◌, Option, sym, ap, subst, length, take, arith}
+use Rattle.std.proofs.Common.{◌≡◌, ◌∙◌, ℕ, ◌+◌, ◌<◌, ◌≤◌, List, ◌++◌, Option, ap, subst, length, take, arith}
 use mathlib.Core.Logic.{inl, inr}
 use Rattle.std.specs.{Io.KnownBytes.Appends, Global.Global, Prelude.String}
 use Rattle.std.proofs.{KnownBytes.Appends-trans, Math.Nat.eq-or-lt_of_le, Math.Seq.take-append-add, Math.Seq.take-length}
@@ -11,39 +11,25 @@ use Rattle.fbcheck_serve.specs.{Inputs.IsNoted, Serving.Complains, Serving.behin
 use Rattle.fbcheck_serve.specs.declared.stop.Stop.{Stop}
 use Rattle.fbcheck_serve.specs.declared.stop.Stop.TheVariants as stop
 
--- the first text stands written, and of the second so many bytes
-both_wrote : (text behind : List ℕ) (n m n' : Option (List ℕ)) (first second : ℕ) → first ≡ length text → Appends n m (take first text) → Appends m n' (take second behind)
-    → Appends n n' (text ++ take second behind)
-both_wrote text behind n m n' first second whole wrote more =
-    Appends-trans n m n' text (take second behind) (subst (Appends n m) (ap (λ (i : ℕ). take i text) whole ∙ take-length text) wrote) more
-
-second_cut : (text behind : List ℕ) (n m n' : Option (List ℕ)) (k l k' first second : ℕ) → first ≡ length text → Appends n m (take first text) → l ≡ k
-    → second ≤ length behind → Appends m n' (take second behind) → k' ≡ l + 1 → IsNoted (text ++ behind) (record { bytes = n; failures = k }) (record { bytes = n'; failures = k' })
-second_cut text behind n m n' k l k' first second whole wrote same le more failed =
-    inr (
-      length text + second,
-      record {
-        taken = length text + second;
-        within = rw (length-append text behind) (omega (arith, le));
-        wrote = subst (Appends n n') (sym (take-append-add text behind second)) (both_wrote text behind n m n' first second whole wrote more);
-        written_is = omega arith;
-      },
-      failed ∙ ap (λ (i : ℕ). i + 1) same,
-    )
-
-both_whole : (text behind : List ℕ) (n m n' : Option (List ℕ)) (k l k' first second : ℕ) → first ≡ length text → Appends n m (take first text) → l ≡ k
-    → second ≡ length behind → Appends m n' (take second behind) → k' ≡ l → IsNoted (text ++ behind) (record { bytes = n; failures = k }) (record { bytes = n'; failures = k' })
-both_whole text behind n m n' k l k' first second whole wrote same all more unfailed =
-    let wrote_all = both_wrote text behind n m n' first second whole wrote more in
-    inl (subst (λ (t : List ℕ). Appends n n' (text ++ t)) (ap (λ (i : ℕ). take i behind) all ∙ take-length behind) wrote_all, unfailed ∙ same)
-
 -- the first text stands written, and the second whole or in part
 pub second_noted : (text behind : List ℕ) (n m n' : Option (List ℕ)) (k l k' first second : ℕ) → first ≡ length text → Appends n m (take first text) → l ≡ k
     → second ≤ length behind → Appends m n' (take second behind) → (second < length behind → k' ≡ l + 1) → (second ≡ length behind → k' ≡ l) → IsNoted (text ++ behind) (record { bytes = n; failures = k }) (record { bytes = n'; failures = k' })
-second_noted text behind n m n' k l k' first second whole wrote same le more failed unfailed = elim (eq-or-lt_of_le le) [
-  | inl all ↦ both_whole text behind n m n' k l k' first second whole wrote same all more (unfailed all)
-  | inr cut ↦ second_cut text behind n m n' k l k' first second whole wrote same le more (failed cut)
-]
+second_noted text behind n m n' k l k' first second whole wrote same le more failed unfailed =
+    let front = rw (whole, take-length text) at wrote in
+    let both = Appends-trans n m n' text (take second behind) front more in
+    elim (eq-or-lt_of_le le) [
+      | inl all ↦ let end = rw (all, take-length behind) at both in inl (end, unfailed all ∙ same)
+      | inr cut ↦ inr (
+        length text + second,
+        record {
+          taken = length text + second;
+          within = rw (length-append text behind) (omega (arith, le));
+          wrote = rw (take-append-add text behind second) both;
+          written_is = omega arith;
+        },
+        failed cut ∙ ap (λ (i : ℕ). i + 1) same,
+      )
+    ]
 
 -- what isn't the text of `clap` is told by a line of its own
 own_line : (cause : Causes) (fault : Stop) (before after : Writer) → ((text : String Global) → fault ≡ stop.Usage text → ⊥)

@@ -14,12 +14,12 @@ use Rattle.fb_bfbs.specs.declared.load_fault.LoadFault.TheVariants as load
 use Rattle.fb_bfbs.specs.LoadLaws.{Applies, IsSameLoad, ident_bytes}
 use Rattle.fb_bfbs.specs.declared.loading.Loaded.{Loaded}
 use Rattle.fb_run.specs.Job.{Job, job_of}
-use Rattle.fbcheck_serve.specs.Asked.{ArePaths, AsksBy, IsAsked, IsPath, IsPathFault, HasPathFault, LacksIdent, Own, asked_root, options_of, own_label, path_texts}
+use Rattle.fbcheck_serve.specs.Asked.{ArePaths, AsksBy, IsAsked, IsPath, IsPathFault, HasPathFault, Own, asked_root, options_of, own_label, path_texts}
 use Rattle.fbcheck_serve.specs.Inputs.{with_label}
 use Rattle.fbcheck_serve.specs.Checking.{Asks, IsSchema, IsNoSchema, own_of, schema_limits}
 use Rattle.fbcheck_words.specs.declared.choices.Settings.{Settings}
 use Rattle.fbcheck_texts.specs.declared.fault.AskFault.{AskFault}
-use Rattle.fbcheck_texts.specs.declared.fault.AskFault.TheVariants.{Load, Path, NoRoot, NoIdent}
+use Rattle.fbcheck_texts.specs.declared.fault.AskFault.TheVariants.{Load, Path, NoRoot, NoIdent, OutOfMemory}
 
 module _ (rows : Rows) (root : ℕ) where
   one_path : (text : List ℕ) (x y : Wanted) → IsPath rows root text x → IsPath rows root text y → x ≡ y
@@ -56,9 +56,6 @@ module _ (rows : Rows) (root : ℕ) where
 same_root : (r : Option ℕ) (n m : ℕ) → r ≡ Some n → r ≡ Some m → n ≡ m
 same_root r n m e f = let w : Some n ≡ Some m = sym e ∙ f in cc
 
-no_root_or_one : (r : Option ℕ) (n : ℕ) → r ≡ Some n → r ≡ None → ⊥
-no_root_or_one r n e f = let w : Some n ≡ None = sym e ∙ f in cc
-
 module _ (rows : Rows) (own : Own) (settings : Settings) where
   abbrev texts : List (List ℕ)
   texts = path_texts settings
@@ -77,18 +74,10 @@ module _ (rows : Rows) (own : Own) (settings : Settings) where
       ∙ ap (λ d. job_of rows (options_of settings i.root i.paths d)) a in
       h.job_is ∙ ap (λ (j : Job). with_label (own_label settings) j) same ∙ sym i.job_is
 
-  job_or_no_ident : (x : Job) → IsAsked rows own settings x → LacksIdent rows own settings → ⊥
-  job_or_no_ident x h i = let w : Some h.ident ≡ None = sym h.ident_is ∙ i.none in cc
-
-  no_ident_or_path_fault : (f : PathFault) → LacksIdent rows own settings → HasPathFault rows own settings f → ⊥
-  no_ident_or_path_fault f h i =
-      let r = same_root (asked_root rows own settings) h.root i.0 h.root_is i.1 in
-      paths_or_fault rows i.0 texts h.paths f (subst (λ n. ArePaths rows n texts h.paths) r h.paths_are) i.2
-
-  job_or_path_fault : (x : Job) (f : PathFault) → IsAsked rows own settings x → HasPathFault rows own settings f → ⊥
-  job_or_path_fault x f h i =
-      let r = same_root (asked_root rows own settings) h.root i.0 h.root_is i.1 in
-      paths_or_fault rows i.0 texts h.paths.items f (subst (λ n. ArePaths rows n texts h.paths.items) r h.paths_are) i.2
+  found_or_fault : (root : ℕ) (paths : List Wanted) (f : PathFault) → asked_root rows own settings ≡ Some root → ArePaths rows root texts paths → HasPathFault rows own settings f → ⊥
+  found_or_fault root paths f is are i =
+      let r = same_root (asked_root rows own settings) root i.0 is i.1 in
+      paths_or_fault rows i.0 texts paths f (rw r at are) i.2
 
   one_fault_of_path : (f g : PathFault) → HasPathFault rows own settings f → HasPathFault rows own settings g → f ≡ g
   one_fault_of_path f g h i =
@@ -97,35 +86,29 @@ module _ (rows : Rows) (own : Own) (settings : Settings) where
 
   asks_by_once : (x y : Result Job AskFault) → AsksBy rows own settings x → AsksBy rows own settings y → x ≡ y
   asks_by_once (Ok x) (Ok y) h i = ap Ok (one_job x y h i)
-  asks_by_once (Ok x) (Err NoRoot) h i = absurd (no_root_or_one (asked_root rows own settings) h.root h.root_is i)
-  asks_by_once (Ok x) (Err (Path f)) h i = absurd (job_or_path_fault x f h i)
-  asks_by_once (Ok x) (Err NoIdent) h i = absurd (job_or_no_ident x h i)
-  asks_by_once (Err NoIdent) (Ok y) h i = absurd (job_or_no_ident y i h)
+  asks_by_once (Ok x) (Err NoRoot) h i = let some = h.root_is in cc
+  asks_by_once (Ok x) (Err (Path f)) h i = absurd (found_or_fault h.root h.paths.items f h.root_is h.paths_are i)
+  asks_by_once (Ok x) (Err NoIdent) h i = let some = h.ident_is in let none = i.none in cc
+  asks_by_once (Err NoIdent) (Ok y) h i = let some = i.ident_is in let none = h.none in cc
   asks_by_once (Err NoIdent) (Err NoIdent) h i = refl
-  asks_by_once (Err NoIdent) (Err NoRoot) h i = absurd (no_root_or_one (asked_root rows own settings) h.root h.root_is i)
-  asks_by_once (Err NoIdent) (Err (Path g)) h i = absurd (no_ident_or_path_fault g h i)
-  asks_by_once (Err NoRoot) (Err NoIdent) h i = absurd (no_root_or_one (asked_root rows own settings) i.root i.root_is h)
-  asks_by_once (Err (Path f)) (Err NoIdent) h i = absurd (no_ident_or_path_fault f i h)
-  asks_by_once (Err NoRoot) (Ok y) h i = absurd (no_root_or_one (asked_root rows own settings) i.root i.root_is h)
+  asks_by_once (Err NoIdent) (Err NoRoot) h i = let some = h.root_is in cc
+  asks_by_once (Err NoIdent) (Err (Path f)) h i = absurd (found_or_fault h.root h.paths f h.root_is h.paths_are i)
+  asks_by_once (Err NoRoot) (Ok y) h i = let some = i.root_is in cc
+  asks_by_once (Err NoRoot) (Err NoIdent) h i = let some = i.root_is in cc
   asks_by_once (Err NoRoot) (Err NoRoot) h i = refl
-  asks_by_once (Err NoRoot) (Err (Path g)) h i = absurd (no_root_or_one (asked_root rows own settings) i.0 i.1 h)
-  asks_by_once (Err (Path f)) (Ok y) h i = absurd (job_or_path_fault y f i h)
-  asks_by_once (Err (Path f)) (Err NoRoot) h i = absurd (no_root_or_one (asked_root rows own settings) h.0 h.1 i)
+  asks_by_once (Err NoRoot) (Err (Path f)) h i = let some = i.1 in cc
+  asks_by_once (Err (Path f)) (Ok y) h i = absurd (found_or_fault i.root i.paths.items f i.root_is i.paths_are h)
+  asks_by_once (Err (Path f)) (Err NoIdent) h i = absurd (found_or_fault i.root i.paths f i.root_is i.paths_are h)
+  asks_by_once (Err (Path f)) (Err NoRoot) h i = let some = h.1 in cc
   asks_by_once (Err (Path f)) (Err (Path g)) h i = ap (λ f. Err (Path f)) (one_fault_of_path f g h i)
-  asks_by_once (Ok x) (Err _) h i = absurd i
-  asks_by_once (Err NoRoot) (Err _) h i = absurd i
-  asks_by_once (Err (Path f)) (Err _) h i = absurd i
-  asks_by_once (Err NoIdent) (Err _) h i = absurd i
-  asks_by_once (Err _) y h i = absurd h
+  asks_by_once (Err (Load f)) y h i = absurd h
+  asks_by_once (Err OutOfMemory) y h i = absurd h
+  asks_by_once x (Err _) h i = absurd i
 
 -- a file that gives no schema has that fault
 as_fault : (bytes : Bor (List ℕ)) (f : LoadFault) → IsNoSchema (Some bytes) f → Applies bytes.now (schema_limits (length bytes.now)) (Err f)
 as_fault bytes load.OutOfMemory h = absurd h
-as_fault bytes (load.NotWellFormed f) h = h
-as_fault bytes (load.BadSchema f) h = h
-as_fault bytes load.RootNotListed h = h
-as_fault bytes load.TooLong h = h
-as_fault bytes load.TooMuchShared h = h
+as_fault bytes _ h = h
 
 schema_or_none : (file : Option (Bor (List ℕ))) (rows : Rows) (own : Own) (f : LoadFault) → IsSchema file rows own → IsNoSchema file f → ⊥
 schema_or_none None rows own f h i = i

@@ -8,6 +8,7 @@ ghost use Rattle.fbcheck_texts.specs.TextTests.{AskTexts, HintTexts, LoadTexts, 
 /// nothing is checked, for one cause: the file gives no schema, there is no root table, the path isn't one from
 /// there, or the schema's own identifier is asked for and has neither no bytes nor four. So
 /// [`check`](crate::check::check) tells each of these exactly where it is so, or want of memory in its place.
+#[tactic(auto, using(crate::proofs::OneAsk::asks_once))]
 pub fn settings_ask_once()
     ensures { AsksOnce }
 {}

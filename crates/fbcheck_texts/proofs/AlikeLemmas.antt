@@ -1,23 +1,21 @@
 -- Names that are nearly alike.
-use Rattle.std.proofs.Common.{◌≡◌, ◌∙◌, ◌<◌, ◌≤◌, ◌+◌, ◌-◌, ℕ, zero, suc, true, false, List, [], ◌∷◌, length, drop, drop-cons, get_or, nat_le, add-one, refl, sym, ap, arith, take, min}
+use Rattle.std.proofs.Common.{◌≡◌, ◌∙◌, ◌<◌, ◌≤◌, ◌+◌, ◌-◌, ℕ, zero, suc, true, false, List, [], ◌∷◌, length, length-drop, drop, drop-cons, get_or, nat_le, add-one, refl, sym, ap, arith, take, min}
 use Rattle.std.specs.{Int.abs_diff, List.before_first}
 use Rattle.std.proofs.Math.Seq.{take-length}
 use Rattle.std.proofs.lemmas.List.Sums.{position_or_len_is}
 use Rattle.fbcheck_texts.specs.Alike.{from_step, is_near, is_sign}
 
--- one of two texts is at its end
-near_end : (some other : List ℕ) (i : ℕ) → i ≤ length some → i ≤ length other → min (length some) (length other) ≤ i
-    → is_near (drop i some) (drop i other) ≡ nat_le ((length some - i) + (length other - i)) 1
-near_end [] [] zero less more end = refl
-near_end [] (c ∷ other) zero less more end = ap (λ n. nat_le n 1) (omega arith)
-near_end (b ∷ some) [] zero less more end = ap (λ n. nat_le n 1) (omega arith)
-near_end (b ∷ some) (c ∷ other) zero less more end = absurd (omega (arith, end))
-near_end [] other (suc i) less more end = absurd (omega (arith, less))
-near_end (b ∷ some) [] (suc i) less more end = absurd (omega (arith, more))
-near_end (b ∷ some) (c ∷ other) (suc i) less more end = near_end some other i (omega (arith, less)) (omega (arith, more)) (omega (arith, end)) ∙ ap (λ n. nat_le n 1) (omega arith)
+-- one of two texts has no bytes
+near_none : (some other : List ℕ) → min (length some) (length other) ≡ 0 → is_near some other ≡ nat_le (length some + length other) 1
+near_none [] other none = ap (λ n. nat_le n 1) (omega arith)
+near_none (b ∷ some) [] none = ap (λ n. nat_le n 1) (omega arith)
+near_none (b ∷ some) (c ∷ other) none = absurd (omega (arith, none))
 
 pub near_ends : (some other : List ℕ) (i : ℕ) → i ≡ min (length some) (length other) → is_near (drop i some) (drop i other) ≡ nat_le (abs_diff (length some) (length other)) 1
-near_ends some other i end = near_end some other i (omega (arith, end)) (omega (arith, end)) (omega (arith, end)) ∙ ap (λ n. nat_le n 1) (omega (arith, end))
+near_ends some other i end =
+    let less = length-drop i some in
+    let more = length-drop i other in
+    near_none (drop i some) (drop i other) (omega (arith, less, more, end)) ∙ ap (λ n. nat_le n 1) (omega (arith, less, more, end))
 
 -- the rest of a text behind a byte, where steps are left
 pub sign_on : (path : List ℕ) (i left : ℕ) → i < length path → 0 < left → is_sign (get_or path i 0) ≡ true → from_step left (drop i path) ≡ from_step (left - 1) (drop (i + 1) path)

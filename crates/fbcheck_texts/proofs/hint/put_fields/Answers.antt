@@ -1,21 +1,27 @@
-use Rattle.std.proofs.Common.{◌≡◌, ◌-◌, arith, rules, sym, ◌∙◌}
-use Rattle.fbcheck_texts.proofs.HintLemmas.{more_names_told, name_told, names_told}
+use Rattle.std.proofs.Common.{◌≡◌, ◌+◌, ◌-◌, arith, rules, sym, ◌∙◌}
+use Rattle.fbcheck_texts.specs.Hints.{fields_at}
+use Rattle.fbcheck_texts.proofs.HintLemmas.{more_told, name_told, no_more, none_told, one_more}
 use Rattle.fbcheck_texts.proofs.hint.put_fields.Goals as goal
 
 pub returns-in_default : goal.returns-in_default
-returns-in_default c = names_told _ _ _ c.loop-place.place _ (sym c.in_default.ensures) c.loop-place.invariant
+returns-in_default c = none_told _ _ _ _ (no_more (fields_at c.args.schema.now c.args.kind) c.loop-place.place (sym c.in_default.ensures)) c.loop-place.invariant
 
 pub loop-place-preserved : goal.loop-place-preserved
-loop-place-preserved c = name_told c.loop-place.text.items _ _ _ c.loop-place.place 10 c.in-Some.name.now (sym c.in-Some.ensures) (omega (arith, c.loop-place-test.true)) c.in_ok-put_name.ensures c.loop-place.invariant
+loop-place-preserved c =
+    let place = c.loop-place.place in
+    let next = one_more (fields_at c.args.schema.now c.args.kind) place c.in-Some.name.now (sym c.in-Some.ensures) in
+    let less : 10 - (place + 1) ≡ 10 - place - 1 = omega arith in
+    rw less (name_told c.loop-place.text.items _ _ _ _ _ (10 - place) next (omega (arith, c.loop-place-test.true)) c.in_ok-put_name.ensures c.loop-place.invariant)
 
 -- all places were passed
 pub returns-in-Some-field_name : goal.returns-in-Some-field_name
 returns-in-Some-field_name c =
     let all : c.loop-place.place ≡ 10 = omega (arith, c.loop-place-test.false, c.loop-place.auto.place-end) in
-    let told = more_names_told c.loop-place.text.items _ _ c.loop-place.place (10 - c.loop-place.place) c.in-Some-field_name.field-0.now (rw all (sym c.in-Some-field_name.ensures)) (omega (arith, all)) c.loop-place.invariant in
+    let next = one_more (fields_at c.args.schema.now c.args.kind) c.loop-place.place c.in-Some-field_name.field-0.now (rw all (sym c.in-Some-field_name.ensures)) in
+    let told = more_told _ _ _ _ _ (10 - c.loop-place.place) next (omega (arith, all)) c.loop-place.invariant in
     search (rules, told, sym, ◌∙◌)
 
 pub returns-in-None : goal.returns-in-None
 returns-in-None c =
     let all : c.loop-place.place ≡ 10 = omega (arith, c.loop-place-test.false, c.loop-place.auto.place-end) in
-    names_told _ _ _ c.loop-place.place _ (rw all (sym c.in-None.ensures)) c.loop-place.invariant
+    none_told _ _ _ _ (no_more (fields_at c.args.schema.now c.args.kind) c.loop-place.place (rw all (sym c.in-None.ensures))) c.loop-place.invariant
