@@ -1,5 +1,5 @@
 -- What comes behind what waits, and of which a front is written.
-use Rattle.std.proofs.Common.{◌≡◌, ℕ, ◌+◌, ◌<◌, List, [], ◌∷◌, ◌++◌, Option, length, take, drop, get_or, refl, sym, ap, subst, ◌∙◌, arith, append-nil, append_assoc, length-append, take-append-drop}
+use Rattle.std.proofs.Common.{◌≡◌, ℕ, ◌+◌, ◌<◌, List, [], ◌++◌, Option, length, take, drop, get_or, refl, sym, ap, subst, ◌∙◌, arith, append-nil, append_assoc, length-append, take-append-drop}
 use Rattle.std.proofs.{Math.Seq.take-append-add, KnownBytes.Appends-trans}
 use Rattle.std.proofs.lemmas.{Grind.flat_map-append, List.flat_map_more, List.take-append-le, List.take_more}
 use Rattle.std.specs.{List.flat_map, Io.KnownBytes.Appends}

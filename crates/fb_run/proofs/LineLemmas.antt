@@ -1,5 +1,5 @@
 -- A line that stands at the end of its room.
-use Rattle.std.proofs.Common.{suc, ◌∷◌, get_or, subst, ◌≡◌, ℕ, ◌+◌, ◌-◌, ◌<◌, ◌≤◌, ◌^◌, List, [], ◌++◌, length, drop, drop-cons, arith, ap, append_assoc, length-append}
+use Rattle.std.proofs.Common.{◌≡◌, ℕ, ◌+◌, ◌-◌, ◌<◌, ◌≤◌, ◌^◌, List, [], ◌++◌, length, drop, arith, ap, length-append}
 use Rattle.std.specs.Prelude.{decimal, slice_index_or, slice_set}
 use Rattle.std.proofs.Math.ListN.{drop_of_length-le}
 use Rattle.std.proofs.lemmas.{List.drop-set, List.drop_more, Fmt.decimal_digit, Fmt.length-decimal-le}

@@ -1,10 +1,10 @@
 -- A line that is written while it is made.
-use Rattle.std.proofs.Common.{◌≡◌, ℕ, List, [], ◌∷◌, ◌++◌, Result, Ok, codes, refl, sym, ap, ◌∙◌}
+use Rattle.std.proofs.Common.{◌≡◌, ℕ, List, [], ◌∷◌, ◌++◌, Result, Ok, codes, refl, ap}
 use Rattle.std.specs.List.{flat_map}
 use Rattle.hex.specs.Hex.{encode_lower, encode_with}
 use Rattle.fb_access.specs.declared.answer.Answer.{Answer}
 use Rattle.fb_run.specs.{AnswerText.spaced_answer, AnswerText.spelled, Job.verdict_of, Texts.to_out}
-use Rattle.fb_run.specs.Line.{asked_text, short_line, told_of, verdict_line}
+use Rattle.fb_run.specs.Line.{short_line, told_of, verdict_line}
 use Rattle.fb_run.specs.declared.{checker.Found.Found, checker.Wrong.Wrong, options.Mode.Mode, options.Mode.TheVariants.Lines}
 use Rattle.fb_run.specs.declared.value_text.Spelling.TheVariants.{Digits}
 use Rattle.fb_run.proofs.AnswerLemmas.{answers_each}

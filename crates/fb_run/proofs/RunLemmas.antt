@@ -4,8 +4,7 @@ use Rattle.std.specs.Io.KnownBytes.{Consumes}
 use Rattle.std.proofs.KnownBytes.{Consumes-nil, Appends-kept, Appends-trans, Keeps-refl}
 use Rattle.fb_run.specs.{Ends.Ends, Ends.Outs, Ends.Takes, Job.Job, Sums.no_tally, Lines.WritesFronts}
 use Rattle.fb_run.specs.Faults.{End, EndsBeside, EndsWith, IsCaused, IsCausedOut, IsUnfailedOut, end_of, failed}
-use Rattle.fb_run.specs.Prompt.{IsBarePrompt, IsPrompt, IsPromptFrom, IsStreamPrompt}
-use Rattle.fb_run.specs.Run.{IsBareRun, answer_by, IsRunBeside, IsRunFrom, IsStreamRun}
+use Rattle.fb_run.specs.Run.{answer_by, IsRunBeside, IsRunFrom}
 use Rattle.fb_run.specs.Texts.{Sizes, Texts, followed, no_bytes, silent, to_notes}
 use Rattle.fb_run.specs.Stream.{FailsStream, Standing, Tells, TellsSome, WhyStream, Writes, at_first}
 use Rattle.fb_run.specs.declared.fault.RunFault.{RunFault}

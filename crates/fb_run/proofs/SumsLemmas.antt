@@ -1,5 +1,5 @@
 -- Sums over messages, in any order.
-use Rattle.std.proofs.Common.{All, rules, zero, suc, ◌≡◌, ℕ, ◌+◌, ◌<◌, ◌≤◌, List, [], ◌∷◌, ◌++◌, Ok, Err, length, drop, get_or, refl, sym, ap, subst, ◌∙◌, arith, inl, inr, append_assoc, drop-cons, length-append}
+use Rattle.std.proofs.Common.{All, rules, zero, suc, ◌≡◌, ℕ, ◌+◌, ◌<◌, ◌≤◌, List, [], ◌∷◌, ◌++◌, length, drop, get_or, refl, ap, arith, inl, inr, append_assoc, length-append}
 use Rattle.std.specs.Prelude.{decimal, slice_index}
 use Rattle.std.proofs.lemmas.{Fmt.length-decimal-le, Bool.cases_lt, List.drop_more, List.get_or_past, List.Elements.All-set, List.Elements.All-weaker}
 use Rattle.fb_run.specs.Job.{Verdict}

@@ -1,11 +1,11 @@
 -- A piece of which a front was passed, and what is told in it was written.
-use Rattle.std.proofs.Common.{◌≡◌, ℕ, ◌+◌, ◌≤◌, Bool, List, [], ◌++◌, Option, length, take, drop, refl, sym, ap, subst, ◌∙◌, arith, append_assoc, take-append-drop}
+use Rattle.std.proofs.Common.{◌≡◌, ℕ, ◌+◌, Bool, List, [], ◌++◌, Option, take, drop, refl, sym, ap, subst, ◌∙◌, arith, append_assoc, take-append-drop}
 use Rattle.std.specs.Io.KnownBytes.{Consumes, Keeps}
 use Rattle.std.proofs.KnownBytes.{Appends-nil, Consumes-trans}
 use mathlib.Core.Logic.{inl, inr}
 use Rattle.fb_bytes.specs.{Framing.Framing, Framing.Feeds, Messages.IsMessage}
 use Rattle.fb_bytes.specs.declared.stream_fault.StreamFault.TheVariants as stream
-use Rattle.fb_run.specs.Ends.{Ends, Outs, Reader, Takes, Writer, beside}
+use Rattle.fb_run.specs.Ends.{Ends, Outs, Reader, Writer, beside}
 use Rattle.fb_run.specs.{Faults.IsCausedWriting, Job.Job}
 use Rattle.fb_run.specs.Lines.{AddsTold, AddsThrough, StopsBehind, WritesFront, WritesFronts}
 use Rattle.fb_run.specs.Stream.{FailsStream, Gathers, Halts, HaltsThrough, IsFeedFault, Onward, OnwardThrough, PassesPiece, Rests, Standing, StopsAmid, Tells, TellsSome, Writes, with_written}

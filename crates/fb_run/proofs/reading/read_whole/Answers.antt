@@ -1,4 +1,4 @@
-use Rattle.std.proofs.Common.{rules, refl, sym, take, ◌++◌, ◌≤◌, ◌<◌, ◌+◌, length, arith}
+use Rattle.std.proofs.Common.{rules, refl, sym, take, ◌++◌, ◌≤◌, ◌<◌, ◌+◌, length}
 use Rattle.std.proofs.KnownBytes.{Consumes-trans, Keeps-refl}
 use Rattle.fb_run.specs.Ends.{ends_of}
 use Rattle.fb_run.proofs.Pieces.{length-with}

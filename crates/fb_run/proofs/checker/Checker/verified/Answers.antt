@@ -1,4 +1,4 @@
-use Rattle.std.proofs.Common.{sym, ap, arith}
+use Rattle.std.proofs.Common.{sym, ap}
 use Rattle.fb_verify.specs.{Stops.Stops, Links.StopsAlong}
 use Rattle.std.specs.Prelude.{take}
 use Rattle.fb_run.specs.Job.{asked_of}

@@ -1,4 +1,4 @@
-use Rattle.std.proofs.{Common.ap, Common.refl, Common.arith, KnownBytes.Keeps-refl}
+use Rattle.std.proofs.{Common.ap, Common.refl, KnownBytes.Keeps-refl}
 use Rattle.fb_verify.proofs.Frames.{if_err_exit}
 use Rattle.fb_bytes.specs.Framing.{Framing}
 use Rattle.fb_run.specs.{Ends.writer_of, Stream.standing}
