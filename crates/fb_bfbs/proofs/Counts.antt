@@ -6,7 +6,7 @@ use Rattle.fb_schema.specs.Rows.{Object, Enum, Rows}
 use Rattle.fb_access.specs.declared.step.Step.TheVariants.{Field as ToField}
 use Rattle.fb_access.specs.{Denotes.Leads, Denotes.value, Denotes.vector, Held.Placed}
 use Rattle.fb_bfbs.specs.{Says.Says, Says.after, Says.AreRows, Describes.IsObjectRow, Describes.IsEnumRow, Describes.Describes, Seen.IsRowAt}
-use Rattle.fb_bfbs.specs.Sums.{rows_count, object_rows, Lists, listed_rows, HasRows, IsPaid, ArePaid, most_rows}
+use Rattle.fb_bfbs.specs.Sums.{rows_count, Lists, listed_rows, HasRows, IsPaid, ArePaid, most_rows}
 use Rattle.fb_bfbs.proofs.{Composed.mapped_rows, Composed.row_here, Composed.seen_in, OneFile.IsSingle, OneFile.IsOnly, OneFile.only_rows}
 
 abbrev fields_of : Object → ℕ

@@ -107,8 +107,11 @@ two_rows Is carries b k l p q x y two to_x to_y here there =
 
 plain_objects : AreRows IsObjectRow (From plain (AtTables 5 44)) (monster_object ∷ [])
 unfolding computing
-plain_objects = some_rows IsObjectRow plain 5 44 (monster_object ∷ []) refl (onward IsObjectRow object_within plain (AtTables 5 44) (AtTable 5 60) (Element 0) monster_object refl (object_row plain 60 80 monster_object refl (two_rows IsFieldRow field_within plain 4 80 112 172 hp_field name_field refl refl refl
-    (field_row plain 112 152 hp_field refl (type_row plain 152 hp_field.ty (refl, refl, refl, refl)) (refl, refl, refl) (refl, refl, refl, refl)) (field_row plain 172 200 name_field refl (type_row plain 200 name_field.ty (refl, refl, refl, refl)) (refl, refl, refl) (refl, refl, refl, refl))) (refl, refl, refl, refl)), tt)
+plain_objects = some_rows IsObjectRow plain 5 44 (monster_object ∷ []) refl (
+  onward IsObjectRow object_within plain (AtTables 5 44) (AtTable 5 60) (Element 0) monster_object refl (object_row plain 60 80 monster_object refl (two_rows IsFieldRow field_within plain 4 80 112 172 hp_field name_field refl refl refl
+      (field_row plain 112 152 hp_field refl (type_row plain 152 hp_field.ty (refl, refl, refl, refl)) (refl, refl, refl) (refl, refl, refl, refl)) (field_row plain 172 200 name_field refl (type_row plain 200 name_field.ty (refl, refl, refl, refl)) (refl, refl, refl) (refl, refl, refl, refl))) (refl, refl, refl, refl)),
+  tt,
+)
 
 pub plain_described : Describes (told plain) plain_rows
 unfolding computing
@@ -121,8 +124,11 @@ plain_described = record {
 
 detailed_objects : AreRows IsObjectRow (From detailed (AtTables 5 36)) (struct_object ∷ [])
 unfolding computing
-detailed_objects = some_rows IsObjectRow detailed 5 36 (struct_object ∷ []) refl (onward IsObjectRow object_within detailed (AtTables 5 36) (AtTable 5 84) (Element 0) struct_object refl (object_row detailed 84 116 struct_object refl (two_rows IsFieldRow field_within detailed 4 116 160 260 old_field far_field refl refl refl
-    (field_row detailed 160 216 old_field refl (type_row detailed 216 old_field.ty (refl, refl, refl, refl)) (refl, refl, refl) (refl, refl, refl, refl)) (field_row detailed 260 296 far_field refl (type_row detailed 296 far_field.ty (refl, refl, refl, refl)) (refl, refl, refl) (refl, refl, refl, refl))) (refl, refl, refl, refl)), tt)
+detailed_objects = some_rows IsObjectRow detailed 5 36 (struct_object ∷ []) refl (
+  onward IsObjectRow object_within detailed (AtTables 5 36) (AtTable 5 84) (Element 0) struct_object refl (object_row detailed 84 116 struct_object refl (two_rows IsFieldRow field_within detailed 4 116 160 260 old_field far_field refl refl refl
+      (field_row detailed 160 216 old_field refl (type_row detailed 216 old_field.ty (refl, refl, refl, refl)) (refl, refl, refl) (refl, refl, refl, refl)) (field_row detailed 260 296 far_field refl (type_row detailed 296 far_field.ty (refl, refl, refl, refl)) (refl, refl, refl) (refl, refl, refl, refl))) (refl, refl, refl, refl)),
+  tt,
+)
 
 no_member_row : IsMemberRow (From detailed (AtTable 2 360)) no_member
 unfolding computing

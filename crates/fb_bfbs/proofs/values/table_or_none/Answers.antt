@@ -1,7 +1,7 @@
 use Rattle.std.proofs.Common.{sym}
 use Rattle.fb_schema.specs.declared.kinds.Kind.TheVariants.{Table}
 use Rattle.fb_access.proofs.Shapes.{answers_table, shows_nothing}
-use Rattle.fb_bfbs.proofs.{Sure.maybe_allowed, Sure.maybe_here, Sure.maybe_one_on, Composed.seen_in}
+use Rattle.fb_bfbs.proofs.{Sure.maybe_here, Sure.maybe_one_on, Composed.seen_in}
 use Rattle.fb_bfbs.proofs.values.table_or_none.Goals as goal
 
 pub returns-in-Table-clause-there : goal.returns-in-Table-clause-there
