@@ -4,16 +4,21 @@ use Rattle.std.specs.List.{sum_by}
 use Rattle.std.proofs.lemmas.List.Sums.{sum_by-cons}
 use Rattle.fb_schema.specs.Rows.{Object, Enum, Rows}
 use Rattle.fb_access.specs.declared.step.Step.TheVariants.{Field as ToField}
-use Rattle.fb_access.specs.Denotes.{vector}
-use Rattle.fb_bfbs.specs.{Says.Says, Says.after, Says.AreRows, Describes.IsObjectRow, Describes.IsEnumRow, Describes.Describes}
-use Rattle.fb_bfbs.specs.Sums.{rows_count, object_rows, Lists, listed_rows, HasRows, IsPaid, ArePaid, most_rows}
-use Rattle.fb_bfbs.proofs.{Composed.mapped_rows, OneFile.IsSingle, OneFile.IsOnly, OneFile.only_rows}
+use Rattle.fb_access.specs.{Denotes.Leads, Denotes.value, Denotes.vector, Held.Placed}
+use Rattle.fb_bfbs.specs.{Says.Says, Says.after, Says.AreRows, Describes.IsObjectRow, Describes.IsEnumRow, Describes.Describes, Seen.IsRowAt}
+use Rattle.fb_bfbs.specs.Sums.{rows_count, Lists, listed_rows, HasRows, IsPaid, ArePaid, most_rows}
+use Rattle.fb_bfbs.proofs.{Composed.mapped_rows, Composed.row_here, Composed.seen_in, OneFile.IsSingle, OneFile.IsOnly, OneFile.only_rows}
 
 abbrev fields_of : Object → ℕ
 fields_of o = length o.fields
 
 abbrev members_of : Enum → ℕ
 members_of e = length e.members
+
+-- a table that lists so many rows
+pub lists_here : (p r : Placed) (n : ℕ) → r.sealed ≡ p.sealed → Leads (p.sealed).bytes (p.sealed).schema p.spot (ToField 1) r.spot
+    → value (r.sealed).bytes (r.sealed).schema r.spot ≡ vector n → IsRowAt Lists p n
+lists_here p r n same leads count = row_here Lists (λ D E m h a. h _ _ a) p n (seen_in p r (ToField 1) (vector n) same leads (sym count))
 
 -- a list has one length
 only_list : IsOnly Lists
@@ -34,9 +39,7 @@ pub counted : (D : Says) (rows : Rows) (n : ℕ) → IsSingle D → HasRows D n 
 counted D rows n single has described =
     let objects = only_rows Lists only_list (after D (ToField 0)) has.objects (map fields_of rows.objects) (λ steps x y. single (ToField 0 ∷ steps) x y) has.fields (objects_listed (after D (ToField 0)) rows.objects described.objects) in
     let enums = only_rows Lists only_list (after D (ToField 1)) has.enums (map members_of rows.enums) (λ steps x y. single (ToField 1 ∷ steps) x y) has.members (enums_listed (after D (ToField 1)) rows.enums described.enums) in
-    has.total ∙ ap (λ xs. sum_by listed_rows xs + sum_by listed_rows has.enums) objects ∙ ap (λ xs. sum_by listed_rows (map fields_of rows.objects) + sum_by listed_rows xs) enums
-    ∙ ap (λ m. m + sum_by listed_rows (map members_of rows.enums)) (sum_mapped listed_rows fields_of rows.objects)
-    ∙ ap (λ m. sum_by object_rows rows.objects + m) (sum_mapped listed_rows members_of rows.enums)
+    rw (has.total, objects, enums, sum_mapped listed_rows fields_of rows.objects, sum_mapped listed_rows members_of rows.enums)
 
 -- rows that are paid for, by what the file says that it has
 pub paid_rows : (D : Says) (rows : Rows) (n : ℕ) → IsSingle D → Describes D rows → ArePaid D rows n → IsPaid rows n

@@ -6,20 +6,11 @@ use Rattle.fb_schema.specs.declared.kinds.Scalar.{Scalar}
 use Rattle.fb_schema.specs.declared.kinds.Scalar.TheVariants.{Byte, Short, Int as AsInt}
 use Rattle.fb_access.specs.Here.{width_of}
 
-byte_fits : (z : ℤ) → FitsSigned w8 z → FitsSigned w64 z
-byte_fits z h = omega (arith, ints)
-
-short_fits : (z : ℤ) → FitsSigned w16 z → FitsSigned w64 z
-short_fits z h = omega (arith, ints)
-
-int_fits : (z : ℤ) → FitsSigned w32 z → FitsSigned w64 z
-int_fits z h = omega (arith, ints)
-
 -- a number that fits a scalar fits 64 bits
 pub fits_long : (s : Scalar) (z : ℤ) → FitsSigned (width_of s) z → FitsSigned w64 z
-fits_long Byte z h = byte_fits z h
-fits_long Short z h = short_fits z h
-fits_long AsInt z h = int_fits z h
+fits_long Byte z h = let fits : FitsSigned w8 z = h in omega (arith, ints)
+fits_long Short z h = let fits : FitsSigned w16 z = h in omega (arith, ints)
+fits_long AsInt z h = let fits : FitsSigned w32 z = h in omega (arith, ints)
 fits_long s z h = h
 
 -- a number that fits so many bits is what these bits are

@@ -25,9 +25,7 @@ module _ (b : List ℕ) (L : Bounds) (v : Sealed) (same : v.bytes ≡ b) (by_fix
   said = Denotes v.bytes v.schema v.start v.root
 
   told_too : (P : Says → Type 0) → P said → P (told b)
-  told_too P p =
-      subst (λ x. P (Denotes b fixed Bare x)) root
-      (subst (λ x. P (Denotes b fixed x v.root)) bare (subst (λ x. P (Denotes b x v.start v.root)) by_fixed (subst (λ x. P (Denotes x v.schema v.start v.root)) same p)))
+  told_too P p = rw (same, by_fixed, bare, root) at p
 
   pub paid_for : (rows : Rows) (n : ℕ) (paying : Option ℕ) → n ≡ length b → paying ≡ option_map (λ _. n) L.reads → Describes said rows → IfSome paying (ArePaid said rows) → ArePaidFor b L rows
   paid_for rows n paying len is described paid budget = go L.reads refl budget where

@@ -1,5 +1,5 @@
 -- The files of the examples describe their rows, table by table.
-use Rattle.std.proofs.Common.{◌≡◌, ℕ, zero, suc, List, [], ◌∷◌, refl, sym, subst, Option, Some, None, option_map, inl, inr}
+use Rattle.std.proofs.Common.{◌≡◌, ℕ, zero, suc, List, [], ◌∷◌, length, refl, sym, subst, Option, Some, None, option_map, inl, inr}
 use Rattle.std.specs.Prelude.{slice_get}
 use Rattle.fb_bytes.specs.Word.{word}
 use Rattle.fb_schema.specs.declared.rows.TypeRow.{TypeRow}
@@ -91,42 +91,44 @@ enum_row b p l e to members (name, is_union) = record {
   is_union = said b _ 2 _ is_union;
 }
 
--- two tables Field, Object, EnumVal or Enum of a vector of a file at l, and no such table
+-- tables of a vector of a file at l, each said at its place
+some_rows : {Row : Type 0} (Is : Says → Row → Type 0) (b : List ℕ) (k l : ℕ) (rows : List Row) → vector (length rows) ≡ value b fixed (AtTables k l)
+    → AllAt (λ j r. Is (after (From b (AtTables k l)) (Element j)) r) rows → AreRows Is (From b (AtTables k l)) rows
+some_rows Is b k l rows count each = record { count = (_, refl, count); each = each_of (λ j r. Is (after (From b (AtTables k l)) (Element j)) r) rows each }
+
+-- two of them
 two_rows : {Row : Type 0} (Is : Says → Row → Type 0) → Carries Is → (b : List ℕ) (k l p q : ℕ) (x y : Row) → vector 2 ≡ value b fixed (AtTables k l)
     → Leads b fixed (AtTables k l) (Element 0) (AtTable k p) → Leads b fixed (AtTables k l) (Element 1) (AtTable k q)
     → Is (From b (AtTable k p)) x → Is (From b (AtTable k q)) y → AreRows Is (From b (AtTables k l)) (x ∷ y ∷ [])
-two_rows Is carries b k l p q x y two to_x to_y here there = record {
-  count = (_, refl, two);
-  each = each_of (λ j r. Is (after (From b (AtTables k l)) (Element j)) r) (x ∷ y ∷ []) (onward Is carries b _ _ (Element 0) x to_x here, (onward Is carries b _ _ (Element 1) y to_y there, tt));
-}
-
-no_rows : {Row : Type 0} (Is : Says → Row → Type 0) (b : List ℕ) (k l : ℕ) → vector 0 ≡ value b fixed (AtTables k l) → AreRows Is (From b (AtTables k l)) []
-no_rows Is b k l none = record { count = (_, refl, none); each = each_of (λ j r. Is (after (From b (AtTables k l)) (Element j)) r) [] tt }
-
--- a file's one Object at p, in a vector at l
-one_object : (b : List ℕ) (l p : ℕ) (o : Object) → vector 1 ≡ value b fixed (AtTables 5 l) → Leads b fixed (AtTables 5 l) (Element 0) (AtTable 5 p) → IsObjectRow (From b (AtTable 5 p)) o → AreRows IsObjectRow (From b (AtTables 5 l)) (o ∷ [])
-one_object b l p o one to here = record { count = (_, refl, one); each = each_of (λ j r. IsObjectRow (after (From b (AtTables 5 l)) (Element j)) r) (o ∷ []) (onward IsObjectRow object_within b _ _ (Element 0) o to here, tt) }
+two_rows Is carries b k l p q x y two to_x to_y here there =
+    some_rows Is b k l (x ∷ y ∷ []) two (onward Is carries b _ _ (Element 0) x to_x here, (onward Is carries b _ _ (Element 1) y to_y there, tt))
 
 -- The plain file.
 
 plain_objects : AreRows IsObjectRow (From plain (AtTables 5 44)) (monster_object ∷ [])
 unfolding computing
-plain_objects = one_object plain 44 60 monster_object refl refl (object_row plain 60 80 monster_object refl (two_rows IsFieldRow field_within plain 4 80 112 172 hp_field name_field refl refl refl
-    (field_row plain 112 152 hp_field refl (type_row plain 152 hp_field.ty (refl, refl, refl, refl)) (refl, refl, refl) (refl, refl, refl, refl)) (field_row plain 172 200 name_field refl (type_row plain 200 name_field.ty (refl, refl, refl, refl)) (refl, refl, refl) (refl, refl, refl, refl))) (refl, refl, refl, refl))
+plain_objects = some_rows IsObjectRow plain 5 44 (monster_object ∷ []) refl (
+  onward IsObjectRow object_within plain (AtTables 5 44) (AtTable 5 60) (Element 0) monster_object refl (object_row plain 60 80 monster_object refl (two_rows IsFieldRow field_within plain 4 80 112 172 hp_field name_field refl refl refl
+      (field_row plain 112 152 hp_field refl (type_row plain 152 hp_field.ty (refl, refl, refl, refl)) (refl, refl, refl) (refl, refl, refl, refl)) (field_row plain 172 200 name_field refl (type_row plain 200 name_field.ty (refl, refl, refl, refl)) (refl, refl, refl) (refl, refl, refl, refl))) (refl, refl, refl, refl)),
+  tt,
+)
 
 pub plain_described : Describes (told plain) plain_rows
 unfolding computing
 plain_described = record {
   objects = onward (AreRows IsObjectRow) (rows_within IsObjectRow object_within) plain (AtTable 9 24) (AtTables 5 44) (ToField 0) plain_rows.objects refl plain_objects;
-  enums = onward (AreRows IsEnumRow) (rows_within IsEnumRow enum_within) plain (AtTable 9 24) (AtTables 3 40) (ToField 1) plain_rows.enums refl (no_rows IsEnumRow plain 3 40 refl);
+  enums = onward (AreRows IsEnumRow) (rows_within IsEnumRow enum_within) plain (AtTable 9 24) (AtTables 3 40) (ToField 1) plain_rows.enums refl (some_rows IsEnumRow plain 3 40 [] refl tt);
 }
 
 -- The detailed file.
 
 detailed_objects : AreRows IsObjectRow (From detailed (AtTables 5 36)) (struct_object ∷ [])
 unfolding computing
-detailed_objects = one_object detailed 36 84 struct_object refl refl (object_row detailed 84 116 struct_object refl (two_rows IsFieldRow field_within detailed 4 116 160 260 old_field far_field refl refl refl
-    (field_row detailed 160 216 old_field refl (type_row detailed 216 old_field.ty (refl, refl, refl, refl)) (refl, refl, refl) (refl, refl, refl, refl)) (field_row detailed 260 296 far_field refl (type_row detailed 296 far_field.ty (refl, refl, refl, refl)) (refl, refl, refl) (refl, refl, refl, refl))) (refl, refl, refl, refl))
+detailed_objects = some_rows IsObjectRow detailed 5 36 (struct_object ∷ []) refl (
+  onward IsObjectRow object_within detailed (AtTables 5 36) (AtTable 5 84) (Element 0) struct_object refl (object_row detailed 84 116 struct_object refl (two_rows IsFieldRow field_within detailed 4 116 160 260 old_field far_field refl refl refl
+      (field_row detailed 160 216 old_field refl (type_row detailed 216 old_field.ty (refl, refl, refl, refl)) (refl, refl, refl) (refl, refl, refl, refl)) (field_row detailed 260 296 far_field refl (type_row detailed 296 far_field.ty (refl, refl, refl, refl)) (refl, refl, refl) (refl, refl, refl, refl))) (refl, refl, refl, refl)),
+  tt,
+)
 
 no_member_row : IsMemberRow (From detailed (AtTable 2 360)) no_member
 unfolding computing
@@ -144,7 +146,7 @@ detailed_enums : AreRows IsEnumRow (From detailed (AtTables 3 44)) (a_union ∷ 
 unfolding computing
 detailed_enums = two_rows IsEnumRow enum_within detailed 3 44 316 452 a_union an_enum refl refl refl
     (enum_row detailed 316 340 a_union refl (two_rows IsMemberRow member_within detailed 2 340 360 392 no_member one_member refl refl refl no_member_row one_member_row) (refl, refl))
-    (enum_row detailed 452 472 an_enum refl (no_rows IsMemberRow detailed 2 472 refl) (refl, refl))
+    (enum_row detailed 452 472 an_enum refl (some_rows IsMemberRow detailed 2 472 [] refl tt) (refl, refl))
 
 pub detailed_described : Describes (told detailed) detailed_rows
 unfolding computing

@@ -33,37 +33,31 @@ reading = 0
 
 -- The tree.
 
-abbrev hp_type_tree : Tree
-hp_type_tree = node 0 152 (kid no_elements (kid no_elements (kid no_elements (kid no_elements no_kids))))
+abbrev type_tree : ℕ → Tree
+type_tree place = node 0 place (kid no_elements (kid no_elements (kid no_elements (kid no_elements no_kids))))
 
-abbrev name_type_tree : Tree
-name_type_tree = node 0 200 (kid no_elements (kid no_elements (kid no_elements (kid no_elements no_kids))))
-
-abbrev hp_tree : Tree
-hp_tree = node 4 112 (kid (element leaf no_elements) (kid (element (table hp_type_tree) no_elements) (kid no_elements (kid no_elements (kid no_elements (kid no_elements (kid no_elements (kid no_elements (kid no_elements (kid no_elements (kid no_elements (kid no_elements (kid no_elements no_kids)))))))))))))
-
-abbrev name_tree : Tree
-name_tree = node 4 172 (kid (element leaf no_elements) (kid (element (table name_type_tree) no_elements) (kid no_elements (kid no_elements (kid no_elements (kid no_elements (kid no_elements (kid no_elements (kid no_elements (kid no_elements (kid no_elements (kid no_elements (kid no_elements no_kids)))))))))))))
+abbrev field_tree : ℕ → Tree → Tree
+field_tree place ty = node 4 place (kid (element leaf no_elements) (kid (element (table ty) no_elements) (kid no_elements (kid no_elements (kid no_elements (kid no_elements (kid no_elements (kid no_elements (kid no_elements (kid no_elements (kid no_elements (kid no_elements (kid no_elements no_kids)))))))))))))
 
 abbrev monster_tree : Tree
-monster_tree = node 5 60 (kid (element leaf no_elements) (kid (element (table hp_tree) (element (table name_tree) no_elements)) (kid no_elements (kid no_elements (kid no_elements (kid no_elements (kid no_elements (kid no_elements no_kids))))))))
+monster_tree = node 5 60 (kid (element leaf no_elements) (kid (element (table (field_tree 112 (type_tree 152))) (element (table (field_tree 172 (type_tree 200))) no_elements)) (kid no_elements (kid no_elements (kid no_elements (kid no_elements (kid no_elements (kid no_elements no_kids))))))))
 
 abbrev plain_tree : Tree
 plain_tree = node 9 24 (kid (element (table monster_tree) no_elements) (kid no_elements (kid no_elements (kid no_elements (kid (element (table monster_tree) no_elements) (kid no_elements (kid no_elements (kid no_elements no_kids))))))))
 
-hp_type_unfolds : Unfolds hp_type_tree published plain fixed 0 152
+hp_type_unfolds : Unfolds (type_tree 152) published plain fixed 0 152
 unfolding computing
 hp_type_unfolds = (refl, refl, head refl, (own _ _ _ _ _ refl, tt, (own _ _ _ _ _ refl, tt, (own _ _ _ _ _ refl, tt, (own _ _ _ _ _ refl, tt, tt)))))
 
-name_type_unfolds : Unfolds name_type_tree published plain fixed 0 200
+name_type_unfolds : Unfolds (type_tree 200) published plain fixed 0 200
 unfolding computing
 name_type_unfolds = (refl, refl, head refl, (own _ _ _ _ _ refl, tt, (own _ _ _ _ _ refl, tt, (own _ _ _ _ _ refl, tt, (own _ _ _ _ _ refl, tt, tt)))))
 
-hp_unfolds : Unfolds hp_tree published plain fixed 4 112
+hp_unfolds : Unfolds (field_tree 112 (type_tree 152)) published plain fixed 4 112
 unfolding computing
 hp_unfolds = (refl, refl, head refl, (own _ _ _ _ _ refl, ((offset refl, string refl), tt), (own _ _ _ _ _ refl, ((offset refl, hp_type_unfolds), tt), (own _ _ _ _ _ refl, tt, (own _ _ _ _ _ refl, tt, (own _ _ _ _ _ refl, tt, (own _ _ _ _ _ refl, tt, (own _ _ _ _ _ refl, tt, (own _ _ _ _ _ refl, tt, (own _ _ _ _ _ refl, tt, (own _ _ _ _ _ refl, tt, (own _ _ _ _ _ refl, tt, (own _ _ _ _ _ refl, tt, (own _ _ _ _ _ refl, tt, tt))))))))))))))
 
-name_unfolds : Unfolds name_tree published plain fixed 4 172
+name_unfolds : Unfolds (field_tree 172 (type_tree 200)) published plain fixed 4 172
 unfolding computing
 name_unfolds = (refl, refl, head refl, (own _ _ _ _ _ refl, ((offset refl, string refl), tt), (own _ _ _ _ _ refl, ((offset refl, name_type_unfolds), tt), (own _ _ _ _ _ refl, tt, (own _ _ _ _ _ refl, tt, (own _ _ _ _ _ refl, tt, (own _ _ _ _ _ refl, tt, (own _ _ _ _ _ refl, tt, (own _ _ _ _ _ refl, tt, (own _ _ _ _ _ refl, tt, (own _ _ _ _ _ refl, tt, (own _ _ _ _ _ refl, tt, (own _ _ _ _ _ refl, tt, (own _ _ _ _ _ refl, tt, tt))))))))))))))
 

@@ -41,6 +41,7 @@ pub fn own_ident(own: Option<&[u8]>) -> Option<Ident>
 }
 
 /// Room for as many open tables as the limits allow.
+#[tactic(auto, using(std::proofs::lemmas::Grind::common_steps))]
 fn scratch_of(alloc: Global, limits: Limits) -> Result<Scratch, AllocError>
     ensures { IfOk result (λ s. s ≡ limits.depth) }
 {
@@ -53,6 +54,7 @@ fn scratch_of(alloc: Global, limits: Limits) -> Result<Scratch, AllocError>
 
 /// How many bytes pay for the rows of a file of this length, none where the limits have no budget of reads and the rows
 /// no bound.
+#[tactic(auto, using(std::proofs::lemmas::Grind::common_steps))]
 fn paying(limits: Limits, len: u64) -> Option<u64>
     ensures { result ≡ option_map (λ _. len) limits.reads }
 {

@@ -30,6 +30,7 @@ const SERVICE: i32 = 7;
 const FILE: i32 = 8;
 
 /// The type of a field, of a vector's element or of a union's member.
+#[tactic(auto, using(std::proofs::lemmas::Grind::common_steps))]
 pub fn type_table(alloc: Global) -> Result<ObjectRow<'static>, AllocError>
     ensures { IfOk result (λ o. object_of o ≡ type_table) }
 {

@@ -91,6 +91,7 @@ pub fn text_or_none<'b>(place: &Place<'_, 'b, '_, '_>, number: u16) -> Option<&'
 }
 
 /// A table that may be absent.
+#[tactic(auto, using(crate::proofs::Sure::maybe_allowed))]
 pub fn table_or_none<'v, 'b, 's, 'n>(
     place: &Place<'v, 'b, 's, 'n>,
     number: u16,

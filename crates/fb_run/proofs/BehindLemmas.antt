@@ -1,7 +1,7 @@
 -- What comes behind what waits, and of which a front is written.
-use Rattle.std.proofs.Common.{◌≡◌, ℕ, ◌+◌, ◌<◌, List, [], ◌∷◌, ◌++◌, Option, length, take, drop, get_or, refl, sym, ap, subst, ◌∙◌, arith, append-nil, append_assoc, length-append, take-append-drop}
+use Rattle.std.proofs.Common.{◌≡◌, ℕ, ◌+◌, ◌<◌, List, [], ◌++◌, Option, length, take, drop, get_or, refl, sym, ap, subst, ◌∙◌, arith, append-nil, append_assoc, length-append, take-append-drop}
 use Rattle.std.proofs.{Math.Seq.take-append-add, KnownBytes.Appends-trans}
-use Rattle.std.proofs.lemmas.{Grind.flat_map-append, List.take-append-le, List.take_more}
+use Rattle.std.proofs.lemmas.{Grind.flat_map-append, List.flat_map_more, List.take-append-le, List.take_more}
 use Rattle.std.specs.{List.flat_map, Io.KnownBytes.Appends}
 use Rattle.fb_run.specs.{Lines.ComesBehind, Lines.WritesFront, Lines.WritesFronts, Ends.Outs, Ends.Writer}
 use Rattle.fb_run.specs.Texts.{Sizes, Texts, followed, to_out}
@@ -66,8 +66,7 @@ front_more w a c {s} {s'} front =
 module _ {A : Type 0} (f : A → List ℕ) (bytes : List A) (i : ℕ) (d : A) (inside : i < length bytes) where
   one_more : flat_map f (take (i + 1) bytes) ≡ flat_map f (take i bytes) ++ f (get_or bytes i d)
   one_more =
-      ap (flat_map f) (take_more bytes i d inside) ∙ flat_map-append f (take i bytes) (get_or bytes i d ∷ [])
-      ∙ ap (λ l. flat_map f (take i bytes) ++ l) (append-nil (f (get_or bytes i d)))
+      ap (flat_map f) (take_more bytes i d inside) ∙ sym (flat_map_more f [] (take i bytes) (get_or bytes i d))
 
   -- the next of many came behind the first ones
   pub each_more : {w w' w'' x : List ℕ} {s s' s'' : Option (List ℕ)} {b b' b'' : ℕ} → x ≡ f (get_or bytes i d)

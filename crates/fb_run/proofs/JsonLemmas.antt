@@ -2,8 +2,8 @@
 use Rattle.std.proofs.Common.{◌≡◌, ℕ, suc, ◌+◌, ◌<◌, ◌≤◌, ◌/◌, ◌%◌, ◌^◌, Bool, true, false, cond, List, [], ◌∷◌, ◌++◌, Option}
 use Rattle.std.proofs.Common.{Some, None, codes, decimal, length, fold, get_or, drop, Fits, w8, refl, sym, ap, ◌∙◌, arith, rules, append_assoc, append-nil, inl, inr, min}
 use Rattle.std.specs.{Prelude.nat_lt, Str.is_utf8, Str.IsUtf8, List.All}
-use Rattle.std.proofs.lemmas.{Bool.cases_lt, Bool.false_from_ne_true, Bool.Decides.nat_tests, List.drop_more, List.drop_all, List.Elements.All-get_or}
-use Rattle.std.proofs.lemmas.{Str.IsUtf8-from_is_utf8, Str.is_utf8-from_IsUtf8, List.Sums.fold-append, Grind.flat_map-append}
+use Rattle.std.proofs.lemmas.{Bool.cases_lt, Bool.false_from_ne_true, Bool.Decides.nat_tests, List.drop_more, List.drop_all, List.flat_map_more, List.Elements.All-get_or}
+use Rattle.std.proofs.lemmas.{Str.IsUtf8-from_is_utf8, Str.is_utf8-from_IsUtf8, List.Sums.fold-append}
 use Rattle.hex.specs.Hex.{encode_lower, encode_with, lower_digits}
 use Rattle.std.proofs.Math.Facts.{Fits-lt-pow}
 use Rattle.json.specs.{Token.Token, Tree.json_tokens, Tree.items_tokens, Tree.members_tokens}
@@ -81,12 +81,7 @@ next_member key j ms = member_then true key j ms
 
 -- the same by what is written
 part_then : (behind : Bool) (key : List ℕ) (j : Json) (ms : Members) → members_text behind (member key j ms) ≡ member_part behind key j ++ following ms
-part_then true key j ms =
-    member_then true key j ms ∙ ap (λ l. 44 ∷ (l ++ (58 ∷ (json_text j ++ following ms)))) (sym (string_text key))
-    ∙ ap (λ l. 44 ∷ l) (sym (append_assoc (json_text (string key)) (58 ∷ json_text j) (following ms)))
-part_then false key j ms =
-    member_then false key j ms ∙ ap (λ l. l ++ (58 ∷ (json_text j ++ following ms))) (sym (string_text key))
-    ∙ sym (append_assoc (json_text (string key)) (58 ∷ json_text j) (following ms))
+part_then behind key j ms = member_then behind key j ms ∙ simp (string_text, append_assoc)
 
 -- the end of an object
 none_left : (behind : Bool) → members_text behind no_members ≡ codes "}"
@@ -133,29 +128,13 @@ digits_stay (b ∷ bytes) h =
     let low = All-get_or StaysAs lower_digits (b % 16) 0 (omega arith) sixteen in
     λ i. high i ++ (low i ++ digits_stay bytes (λ k. h (suc k)) i)
 
--- an object of one member whose value is digits
-labelled_digits : (key bytes : List ℕ) → ((k : ℕ) → Fits w8 (get_or bytes k 0))
-    → json_text (labelled key (digits_json bytes)) ≡ 123 ∷ (quoted key ++ (58 ∷ 34 ∷ (encode_lower bytes ++ codes "\"}")))
-labelled_digits key bytes h =
-    labelled_text key (digits_json bytes)
-    ∙ ap (λ l. 123 ∷ (quoted key ++ (58 ∷ (l ++ codes "}")))) (string_text (encode_lower bytes))
-    ∙ ap (λ l. 123 ∷ (quoted key ++ (58 ∷ 34 ∷ ((l ++ codes "\"") ++ codes "}")))) (digits_stay bytes h)
-    ∙ ap (λ l. 123 ∷ (quoted key ++ (58 ∷ 34 ∷ l))) (append_assoc (encode_lower bytes) (codes "\"") (codes "}"))
+-- an object of one member whose value is digits, and one whose value is a number
+pub labelled_digits : (key bytes : List ℕ) → ((k : ℕ) → Fits w8 (get_or bytes k 0))
+    → json_text (labelled key (digits_json bytes)) ≡ codes "{" ++ (json_text (string key) ++ ((codes ":\"" ++ encode_lower bytes) ++ codes "\"}"))
+labelled_digits key bytes h = labelled_text key (digits_json bytes) ∙ simp (string_text, digits_stay bytes h, append_assoc)
 
--- and by its key's text
-pub labelled_parts : (key bytes text text' : List ℕ) → ((k : ℕ) → Fits w8 (get_or bytes k 0))
-    → text' ≡ text ++ (codes "{" ++ (json_text (string key) ++ ((codes ":\"" ++ encode_lower bytes) ++ codes "\"}"))) → text' ≡ text ++ json_text (labelled key (digits_json bytes))
-labelled_parts key bytes text text' h is =
-    is ∙ ap (λ l. text ++ l) (ap (λ l. 123 ∷ (l ++ (58 ∷ 34 ∷ (encode_lower bytes ++ codes "\"}")))) (string_text key) ∙ sym (labelled_digits key bytes h))
-
--- and one whose value is a number
-pub labelled_number : (key s text text' : List ℕ)
-    → text' ≡ text ++ (codes "{" ++ (json_text (string key) ++ ((codes ":" ++ s) ++ codes "}"))) → text' ≡ text ++ json_text (labelled key (number s))
-labelled_number key s text text' is =
-    is ∙ ap (λ l. text ++ l) (
-    ap (λ l. 123 ∷ (l ++ (58 ∷ (s ++ codes "}")))) (string_text key)
-    ∙ sym (labelled_text key (number s) ∙ ap (λ l. 123 ∷ (quoted key ++ (58 ∷ (l ++ codes "}")))) (number_text s))
-    )
+pub labelled_number : (key s : List ℕ) → json_text (labelled key (number s)) ≡ codes "{" ++ (json_text (string key) ++ ((codes ":" ++ s) ++ codes "}"))
+labelled_number key s = labelled_text key (number s) ∙ simp (string_text, number_text)
 
 -- a text that is UTF-8, and one that isn't
 pub text_is_string : (bytes : List ℕ) → IsUtf8 bytes → text_json bytes ≡ string bytes
@@ -166,21 +145,18 @@ text_is_bytes bytes h = rw (false_from_ne_true (is_utf8 bytes) (λ e. h (IsUtf8-
 
 -- one byte more of a string
 pub escape_more : (xs : List ℕ) (b : ℕ) → escape (xs ++ b ∷ []) ≡ escape xs ++ escape_byte b
-escape_more xs b = flat_map-append escape_byte xs (b ∷ []) ∙ ap (λ l. escape xs ++ l) (append-nil (escape_byte b))
+escape_more xs b = sym (flat_map_more escape_byte [] xs b)
 
 -- a line by its beginning and the rest
 pub begun : (file : Option (List ℕ)) (k : ℕ) (rest : Members) → json_text (line_json file k rest) ≡ begin_part file k ++ following rest
 unfolding escape_byte
-begun None k rest = first_member (codes "message") (number (decimal k)) rest ∙ ap (λ l. codes "{\"message\":" ++ (l ++ following rest)) (number_text (decimal k))
-begun (Some file) k rest =
-    first_member (codes "file") (text_json file) (member (codes "message") (number (decimal k)) rest)
-    ∙ ap (λ l. codes "{\"file\":" ++ (json_text (text_json file) ++ l)) (next_member (codes "message") (number (decimal k)) rest ∙ ap (λ l. codes ",\"message\":" ++ (l ++ following rest)) (number_text (decimal k)))
-    ∙ simp append_assoc
+begun None k rest = simp (first_member, number_text)
+begun (Some file) k rest = simp (first_member, next_member, number_text, append_assoc)
 
 -- the place in words, where there is one
 pub place_parts : (place : List ℕ) → following (place_member (Some place)) ≡ codes ",\"place\":" ++ (json_text (text_json place) ++ codes "}")
 unfolding escape_byte
-place_parts place = next_member (codes "place") (text_json place) no_members ∙ ap (λ l. codes ",\"place\":" ++ (json_text (text_json place) ++ l)) no_more
+place_parts place = simp (next_member, no_more)
 
 -- the values of some paths up to the one with this number, and then one more
 nat_lt_next : (i : ℕ) → nat_lt 0 (i + 1) ≡ true
@@ -191,16 +167,8 @@ pub one_value_more : (paths : List (List ℕ)) (values : List Shown) (i : ℕ) (
     → text' ≡ text ++ member_part (nat_lt 0 i) (get_or paths i []) (value_json (get_or values i nothing))
     → text' ++ members_text (nat_lt 0 (i + 1)) (values_members (drop (i + 1) paths) (drop (i + 1) values)) ≡ whole
 one_value_more paths values i text text' whole few enough before more =
-    let path = get_or paths i [] in
-    let value = value_json (get_or values i nothing) in
-    let rest = values_members (drop (i + 1) paths) (drop (i + 1) values) in
-    ap (λ b. text' ++ members_text b rest) (nat_lt_next i)
-    ∙ ap (λ l. l ++ following rest) more
-    ∙ append_assoc text (member_part (nat_lt 0 i) path value) (following rest)
-    ∙ ap (λ l. text ++ l) (sym (part_then (nat_lt 0 i) path value rest))
-    ∙ ap (λ l. text ++ members_text (nat_lt 0 i) l)
-    (sym (ap (λ l. values_members l (drop i values)) (drop_more paths i [] few) ∙ ap (λ l. values_members (path ∷ drop (i + 1) paths) l) (drop_more values i nothing enough)))
-    ∙ before
+    let next = rw (drop_more paths i [] few, drop_more values i nothing enough, part_then (nat_lt 0 i)) at before in
+    rw (nat_lt_next i, more, append_assoc text) next
 
 -- where paths or values end, so do members
 none_valued : (paths : List (List ℕ)) → values_members paths [] ≡ no_members
@@ -215,60 +183,29 @@ values_end paths values i text text' whole over before more =
       | inl fewer ↦ rw (drop_all i values (omega arith)) (none_valued (drop i paths))
       | inr few ↦ rw (drop_all i paths few)
     ] in
-    more ∙ ap (λ l. text ++ l) (sym (ap (λ l. members_text (nat_lt 0 i) l) ended ∙ none_left (nat_lt 0 i))) ∙ before
+    rw (more, ← none_left (nat_lt 0 i), ← ended) before
 
--- what a line has of values, where paths are asked for
-values_parts : (path : List ℕ) (paths : List (List ℕ)) (values : List Shown)
-    → following (values_member (path ∷ paths) values) ≡ codes ",\"values\":" ++ (json_text (object (values_members (path ∷ paths) values)) ++ codes "}")
+-- what a line has of values, where paths are asked for, and where none are
+pub asked_parts : (paths : List (List ℕ)) (values : List Shown) → 0 < length paths
+    → following (values_member paths values) ≡ codes ",\"values\":{" ++ (members_text false (values_members paths values) ++ codes "}")
 unfolding escape_byte
-values_parts path paths values =
-    next_member (codes "values") (object (values_members (path ∷ paths) values)) no_members
-    ∙ ap (λ l. codes ",\"values\":" ++ (json_text (object (values_members (path ∷ paths) values)) ++ l)) no_more
+asked_parts [] values some = absurd (omega arith)
+asked_parts (path ∷ paths) values some = simp (next_member, object_text, no_more)
 
-pub asked_parts : (paths : List (List ℕ)) (values : List Shown) (text text' : List ℕ) → 0 < length paths
-    → text' ≡ text ++ (codes ",\"values\":{" ++ (members_text false (values_members paths values) ++ codes "}")) → text' ≡ text ++ following (values_member paths values)
-asked_parts [] values text text' some is = absurd (omega arith)
-asked_parts (path ∷ paths) values text text' some is =
-    is ∙ ap (λ l. text ++ l) (
-    ap (λ l. codes ",\"values\":" ++ (l ++ codes "}")) (sym (object_text (values_members (path ∷ paths) values)))
-    ∙ sym (values_parts path paths values)
-    )
-
--- and where none are
-pub none_asked : (paths : List (List ℕ)) (values : List Shown) (text text' : List ℕ) → length paths ≡ 0 → text' ≡ text ++ codes "}" → text' ≡ text ++ following (values_member paths values)
-none_asked [] values text text' none is = is ∙ ap (λ l. text ++ l) (sym no_more)
-none_asked (path ∷ paths) values text text' none is = absurd (omega arith)
-
--- what a yes has behind that
-pub yes_parts : (report : Report) (paths : List (List ℕ)) (values : List Shown)
-    → following (yes_members report paths values) ≡ counts_part report ++ following (values_member paths values)
-unfolding escape_byte
-yes_parts report paths values = simp (next_member, fixed_texts.1, number_text, append_assoc)
-
--- what a no has behind that
-pub no_parts : (rows : Rows) (fault : Fault) (place : Option (List ℕ))
-    → following (no_members_of rows fault place)
-    ≡ reason_part fault.reason ++ ((codes ",\"at\":" ++ decimal fault.at) ++ (names_part rows fault ++ end_part fault.reads place))
-unfolding escape_byte
-no_parts rows fault place = simp (next_member, fixed_texts.2, number_text, append_assoc)
+pub none_asked : (paths : List (List ℕ)) (values : List Shown) → length paths ≡ 0 → following (values_member paths values) ≡ codes "}"
+none_asked [] values none = no_more
+none_asked (path ∷ paths) values none = absurd (omega arith)
 
 -- the lines by what is written
-pub yes_line : (file : Option (List ℕ)) (k : ℕ) (report : Report) (paths : List (List ℕ)) (values : List Shown) (text text' : List ℕ)
-    → text' ≡ text ++ (begin_part file k ++ (counts_part report ++ (following (values_member paths values) ++ codes "\n")))
-    → text' ≡ text ++ json_yes file k report paths values
-yes_line file k report paths values text text' is =
-    is ∙ ap (λ l. text ++ l) (sym (
-    ap (λ l. l ++ codes "\n") (begun file k (yes_members report paths values) ∙ ap (λ l. begin_part file k ++ l) (yes_parts report paths values)) ∙ simp append_assoc
-    ))
+pub yes_line : (file : Option (List ℕ)) (k : ℕ) (report : Report) (paths : List (List ℕ)) (values : List Shown)
+    → json_yes file k report paths values ≡ begin_part file k ++ (counts_part report ++ (following (values_member paths values) ++ codes "\n"))
+unfolding escape_byte
+yes_line file k report paths values =
+    ap (λ l. l ++ codes "\n") (begun file k (yes_members report paths values)) ∙ simp (next_member, fixed_texts.1, number_text, append_assoc)
 
-six : (a b c d e f : List ℕ) → (a ++ (b ++ (c ++ (d ++ e)))) ++ f ≡ a ++ (b ++ (c ++ (d ++ (e ++ f))))
-six a b c d e f = simp append_assoc
-
-pub no_line : (file : Option (List ℕ)) (k : ℕ) (rows : Rows) (fault : Fault) (place : Option (List ℕ)) (text text' : List ℕ)
-    → text' ≡ text ++ (begin_part file k ++ (reason_part fault.reason ++ ((codes ",\"at\":" ++ decimal fault.at) ++ (names_part rows fault ++ (end_part fault.reads place ++ codes "\n")))))
-    → text' ≡ text ++ json_no file k rows fault place
-no_line file k rows fault place text text' is =
-    is ∙ ap (λ l. text ++ l) (sym (
-    ap (λ l. l ++ codes "\n") (begun file k (no_members_of rows fault place) ∙ ap (λ l. begin_part file k ++ l) (no_parts rows fault place))
-    ∙ six (begin_part file k) (reason_part fault.reason) (codes ",\"at\":" ++ decimal fault.at) (names_part rows fault) (end_part fault.reads place) (codes "\n")
-    ))
+pub no_line : (file : Option (List ℕ)) (k : ℕ) (rows : Rows) (fault : Fault) (place : Option (List ℕ))
+    → json_no file k rows fault place
+    ≡ begin_part file k ++ (reason_part fault.reason ++ ((codes ",\"at\":" ++ decimal fault.at) ++ (names_part rows fault ++ (end_part fault.reads place ++ codes "\n"))))
+unfolding escape_byte
+no_line file k rows fault place =
+    ap (λ l. l ++ codes "\n") (begun file k (no_members_of rows fault place)) ∙ simp (next_member, fixed_texts.2, number_text, append_assoc)

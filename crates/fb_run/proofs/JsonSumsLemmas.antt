@@ -27,18 +27,14 @@ key_text =
 abbrev given_part : ℕ → ℕ → List ℕ
 given_part k count = in_form form.Json (codes " V") (codes ",\"V") ++ decimal k ++ in_form form.Json (codes "=") (codes "\":") ++ decimal count
 
-regrouped : (k count : ℕ) (rest : List ℕ) → (44 ∷ ((codes "\"V" ++ (decimal k ++ codes "\"")) ++ (58 ∷ (decimal count ++ rest)))) ++ codes "\n" ≡ given_part k count ++ (rest ++ codes "\n")
-regrouped k count rest = simp append_assoc
-
 given_text : (k count : ℕ) (more : Members) → k < 14
     → following (member (codes "V" ++ decimal k) (count_json count) more) ++ codes "\n" ≡ given_part k count ++ (following more ++ codes "\n")
 given_text k count more few =
     ap (λ l. l ++ codes "\n") (
     next_member (codes "V" ++ decimal k) (count_json count) more
     ∙ ap (λ l. 44 ∷ (l ++ (58 ∷ (json_text (count_json count) ++ following more)))) (key_text k few)
-    ∙ ap (λ l. 44 ∷ ((codes "\"V" ++ (decimal k ++ codes "\"")) ++ (58 ∷ (l ++ following more)))) (number_text (decimal count))
     )
-    ∙ regrouped k count (following more)
+    ∙ simp (number_text, append_assoc)
 
 reason_text : (none : Bool) (k count : ℕ) (more : Members) (text : List ℕ) → k < 14 → following more ++ codes "\n" ≡ text
     → following (if none then more else member (codes "V" ++ decimal k) (count_json count) more) ++ codes "\n" ≡ (if none then [] else given_part k count) ++ text

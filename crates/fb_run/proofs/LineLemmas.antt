@@ -1,8 +1,8 @@
 -- A line that stands at the end of its room.
-use Rattle.std.proofs.Common.{suc, ◌∷◌, get_or, subst, ◌≡◌, ℕ, ◌+◌, ◌-◌, ◌<◌, ◌≤◌, ◌^◌, List, [], ◌++◌, length, drop, drop-cons, arith, ap, append_assoc, length-append}
+use Rattle.std.proofs.Common.{◌≡◌, ℕ, ◌+◌, ◌-◌, ◌<◌, ◌≤◌, ◌^◌, List, [], ◌++◌, length, drop, arith, ap, length-append}
 use Rattle.std.specs.Prelude.{decimal, slice_index_or, slice_set}
 use Rattle.std.proofs.Math.ListN.{drop_of_length-le}
-use Rattle.std.proofs.lemmas.{List.drop-set, Fmt.decimal_digit, Fmt.length-decimal-le}
+use Rattle.std.proofs.lemmas.{List.drop-set, List.drop_more, Fmt.decimal_digit, Fmt.length-decimal-le}
 
 -- nothing stands behind the end
 pub drop_whole : (room : List ℕ) (n : ℕ) → length room ≡ n → drop n room ≡ []
@@ -23,16 +23,11 @@ pub byte_before : (room text behind : List ℕ) (place left : ℕ) → 0 < left 
     → drop (place - 1) (slice_set room (place - 1) (slice_index_or text (left - 1) 0)) ≡ drop (left - 1) text ++ behind
 byte_before room text behind place left some inside later within is =
     let e : place - 1 + 1 ≡ place = omega arith in
-    let e' : suc (left - 1) ≡ left = omega arith in
-    let front : drop (left - 1) text ≡ get_or text (left - 1) 0 ∷ drop left text = subst (λ (k : ℕ). drop (left - 1) text ≡ get_or text (left - 1) 0 ∷ drop k text) e' (drop-cons text (left - 1) 0 (omega arith)) in
-    rw (drop-set room (place - 1) (slice_index_or text (left - 1) 0) (omega arith), e, is, front)
+    let e' : left - 1 + 1 ≡ left = omega arith in
+    rw (drop-set room (place - 1) (slice_index_or text (left - 1) 0) (omega arith), e, is, drop_more text (left - 1) 0 (omega arith), e')
 
 -- a number in front makes a line longer by no more than that
 pub digits_more : (line line' rest : List ℕ) (number : ℕ) → line' ≡ decimal number ++ rest → rest ≡ line → number < 2 ^ 64 → length line' ≤ length line + 20
 digits_more line line' rest number is same bits =
     let digits = digits_few number bits in
     omega (arith, ap length is, ap length same, length-append (decimal number) rest)
-
--- what a line was put together from, one in front of the other, are the same parts one after another
-pub parts_joined : (k a b c d e f g : List ℕ) → k ++ (a ++ (b ++ (c ++ (d ++ (e ++ (f ++ g)))))) ≡ (k ++ (a ++ b ++ c ++ d ++ e ++ f)) ++ g
-parts_joined k a b c d e f g = simp append_assoc

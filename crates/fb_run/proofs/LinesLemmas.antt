@@ -8,10 +8,7 @@ use Rattle.fb_run.proofs.{SumsLemmas.counts_one, SumsLemmas.with_both, TextsLemm
 pub lines_count : (job : Job) (k : ℕ) (messages : List (List ℕ)) (text : Texts) (tally : Tally) → AreTold job k messages text tally → length messages ≡ tally.yes + tally.no
 lines_count job k [] text tally (e, none) = sym (ap (λ (t : Tally). t.yes + t.no) none)
 lines_count job k (m ∷ ms) text tally (v, line, rest, others, first, is, told, sums) =
-    let more = lines_count job (k + 1) ms rest others told in
-    let one = counts_one m v others in
-    let all : tally.yes + tally.no ≡ 1 + (others.yes + others.no) = ap (λ (t : Tally). t.yes + t.no) sums ∙ one in
-    omega arith
+    rw sums (omega (arith, lines_count job (k + 1) ms rest others told, counts_one m v others))
 
 lines_then : (job : Job) (k : ℕ) (xs : List (List ℕ)) (m : List ℕ) (a line : Texts) (tally : Tally) (v : Verdict)
     → AreTold job k xs a tally → IsTold job (k + length xs) m v line → AreTold job k (xs ++ m ∷ []) (followed a line) (tally_with m v tally)

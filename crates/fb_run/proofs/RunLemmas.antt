@@ -4,8 +4,7 @@ use Rattle.std.specs.Io.KnownBytes.{Consumes}
 use Rattle.std.proofs.KnownBytes.{Consumes-nil, Appends-kept, Appends-trans, Keeps-refl}
 use Rattle.fb_run.specs.{Ends.Ends, Ends.Outs, Ends.Takes, Job.Job, Sums.no_tally, Lines.WritesFronts}
 use Rattle.fb_run.specs.Faults.{End, EndsBeside, EndsWith, IsCaused, IsCausedOut, IsUnfailedOut, end_of, failed}
-use Rattle.fb_run.specs.Prompt.{IsBarePrompt, IsPrompt, IsPromptFrom, IsStreamPrompt}
-use Rattle.fb_run.specs.Run.{IsBareRun, answer_by, IsRunBeside, IsRunFrom, IsStreamRun}
+use Rattle.fb_run.specs.Run.{answer_by, IsRunBeside, IsRunFrom}
 use Rattle.fb_run.specs.Texts.{Sizes, Texts, followed, no_bytes, silent, to_notes}
 use Rattle.fb_run.specs.Stream.{FailsStream, Standing, Tells, TellsSome, WhyStream, Writes, at_first}
 use Rattle.fb_run.specs.declared.fault.RunFault.{RunFault}
@@ -92,25 +91,10 @@ pub ends_told : (first now : Ends) (turns : ℕ) (end : End) → now.reader.fail
 ends_told first now turns end same ended told =
     rw (ended, same) (told first.reader.failures (first.reader.calls + turns - now.reader.calls))
 
--- what is so of one bare buffer, or of a stream, is so of the input that a job says
-at_input : (P : Bool → Type 0) (from says which : Bool) → from ≡ says → from ≡ which → P which → P says
-at_input P from says which is one p = subst P (sym one ∙ is) p
-
-module _ (job : Job) (from : Bool) (first now : Ends) (is : from ≡ job.bare) where
-  module _ (tally : Tally) (end : End) where
-    -- a run over one bare input is the run of a job that says so, and so is one over a stream
-    pub runs_bare : from ≡ true → IsBareRun job first now tally end → IsRunBeside job first now tally end
-    runs_bare = at_input (λ x. IsRunFrom x job first now tally end) from job.bare true is
-
-    pub runs_stream : from ≡ false → IsStreamRun job first now tally end → IsRunBeside job first now tally end
-    runs_stream = at_input (λ x. IsRunFrom x job first now tally end) from job.bare false is
-
-  -- it is prompt where that run is
-  pub prompt_bare : from ≡ true → IsBarePrompt job.limit first now → IsPrompt job first now
-  prompt_bare = at_input (λ x. IsPromptFrom x job first now) from job.bare true is
-
-  pub prompt_stream : from ≡ false → IsStreamPrompt job first now → IsPrompt job first now
-  prompt_stream = at_input (λ x. IsPromptFrom x job first now) from job.bare false is
+-- a run over one bare input is the run of a job that says so, and so is one over a stream
+pub runs_from : (job : Job) (first now : Ends) (tally : Tally) (end : End) (from which : Bool) → from ≡ job.bare → from ≡ which
+    → IsRunFrom which job first now tally end → IsRunBeside job first now tally end
+runs_from job first now tally end from which is one run = subst (λ x. IsRunFrom x job first now tally end) (sym one ∙ is) run
 
 -- without memory nothing is read or written, whatever the input is
 none_from : (from : Bool) (job : Job) (ends : Ends) → IsRunFrom from job ends ends no_tally (Err run.OutOfMemory)
@@ -125,13 +109,10 @@ pub ends_none : (ends : Ends) (turns : ℕ) (ran : Ran) → ran ≡ record { tal
 ends_none ends turns ran is = subst (λ (t : Ran). EndsBeside ends ends turns t.end) (sym is) (refl, refl, refl)
 
 -- the end that an answer tells is that of its run
-same_end : (tally : Tally) (end : End) → end_of (answer_by tally end) ≡ end
-same_end tally (Ok done) = refl
-same_end tally (Err fault) = refl
-
 pub ends_answer : (first now : Ends) (turns : ℕ) (tally : Tally) (end : End) (answer : Result Tally RunFault) → answer ≡ answer_by tally end
     → EndsBeside first now turns end → EndsBeside first now turns (end_of answer)
-ends_answer first now turns tally end answer is ends = subst (λ (e : End). EndsBeside first now turns e) (sym (ap end_of is ∙ same_end tally end)) ends
+ends_answer first now turns tally (Ok done) answer is ends = rw is ends
+ends_answer first now turns tally (Err fault) answer is ends = rw is ends
 
 -- the exit of a `?`
 pub err_exit : {A E : Type 0} (answer : Result A E) (x : E) (P : Result A E → Type 0) → IsErrAnd answer (λ e. e ≡ x) → P (Err x) → P answer

@@ -1,5 +1,5 @@
 -- What was read and told, and then more of the stream.
-use Rattle.std.proofs.Common.{◌≡◌, ℕ, ◌+◌, ◌-◌, ◌⊎◌, Bool, List, [], ◌∷◌, ◌++◌, length, take, drop, refl, sym, ap, subst, ◌∙◌, arith, append-nil, append_assoc, length-append, take-append-drop}
+use Rattle.std.proofs.Common.{◌≡◌, ℕ, ◌+◌, ◌-◌, ◌⊎◌, Bool, List, [], ◌∷◌, ◌++◌, length, take, drop, refl, sym, ap, subst, ◌∙◌, arith, Result, Ok, Err, IfOk, IfErr, append-nil, append_assoc, length-append, take-append-drop}
 use mathlib.Core.Logic.{inl, inr}
 use Rattle.std.specs.List.{concat}
 use Rattle.std.proofs.lemmas.{List.Elements.All-nil, List.Elements.All-cons, List.Elements.All-append, List.Folds.concat-append}
@@ -152,7 +152,9 @@ some_of job bytes text tally (run.Stream (stream.Oversize number)) kind (xs, res
 some_of job bytes text tally run.OutOfMemory kind (xs, rest, splits, some) = some
 some_of job bytes text tally _ kind rests = absurd kind
 
--- so does one in which the run came to rest
-pub gathers_halts : (job : Job) (before : Standing) (piece : List ℕ) (text : Texts) (tally : Tally) (fault : RunFault) → IsFeedFault fault → Halts job before piece text tally fault
-    → Gathers job before piece text tally
-gathers_halts job before piece text tally fault kind halts bytes written tells = some_of job (bytes ++ piece) (followed written text) tally fault kind (halts bytes written tells)
+-- so does one of which bytes were used up, or in which the run came to rest
+pub gathers_used : (job : Job) (before after : Standing) (piece : List ℕ) (used : Result ℕ RunFault) → IfOk used (λ n. Onward job before (take n piece) after)
+    → IfErr used (Halts job before piece after.text after.tally) → IfErr used IsFeedFault → Gathers job before piece after.text after.tally
+gathers_used job before after piece (Ok n) onward halts kind = gathers_front job before after n piece onward
+gathers_used job before after piece (Err fault) onward halts kind = λ bytes written tells.
+    some_of job (bytes ++ piece) (followed written after.text) after.tally fault kind (halts bytes written tells)

@@ -1,40 +1,28 @@
 -- Sums over messages, in any order.
-use Rattle.std.proofs.Common.{All, rules, zero, suc, ◌≡◌, ℕ, ◌+◌, ◌<◌, ◌≤◌, List, [], ◌∷◌, ◌++◌, Ok, Err, length, drop, get_or, refl, sym, ap, subst, ◌∙◌, arith, inl, inr, append_assoc, drop-cons, length-append}
+use Rattle.std.proofs.Common.{All, rules, zero, suc, ◌≡◌, ℕ, ◌+◌, ◌<◌, ◌≤◌, List, [], ◌∷◌, ◌++◌, length, drop, get_or, refl, ap, arith, inl, inr, append_assoc, length-append}
 use Rattle.std.specs.Prelude.{decimal, slice_index}
-use Rattle.std.proofs.lemmas.{Fmt.length-decimal-le, Bool.cases_lt, List.get_or_past, List.Elements.All-set, List.Elements.All-weaker}
+use Rattle.std.proofs.lemmas.{Fmt.length-decimal-le, Bool.cases_lt, List.drop_more, List.get_or_past, List.Elements.All-set, List.Elements.All-weaker}
 use Rattle.fb_run.specs.Job.{Verdict}
 use Rattle.fb_run.specs.declared.{options.Form.Form, tally.Tally.Tally}
 use Rattle.fb_run.specs.Sums.{IsBounded, no_tally, one_more, reason_part, reasons_from, sum_of_reads, tally_with}
-
-abbrev numbers : ℕ → ℕ → List ℕ → ℕ → ℕ → ℕ → Tally
-numbers y n reasons bytes tables reads = record { yes = y; no = n; reasons = reasons; bytes = bytes; tables = tables; reads = reads }
-
-same_numbers : (y n : ℕ) (l l' : List ℕ) (b b' t t' r r' : ℕ) → l ≡ l' → b ≡ b' → t ≡ t' → r ≡ r' → numbers y n l b t r ≡ numbers y n l' b' t' r'
-same_numbers y n l l' b b' t t' r r' el eb et er =
-    ap (λ (x : List ℕ). numbers y n x b t r) el ∙ ap (λ (x : ℕ). numbers y n l' x t r) eb ∙ ap (λ (x : ℕ). numbers y n l' b' x r) et ∙ ap (λ (x : ℕ). numbers y n l' b' t' x) er
 
 -- one more here and there
 one_both : (i j : ℕ) (l : List ℕ) → one_more i (one_more j l) ≡ one_more j (one_more i l)
 one_both i j [] = refl
 one_both zero zero (x ∷ l) = refl
-one_both zero (suc j) (x ∷ l) = refl
-one_both (suc i) zero (x ∷ l) = refl
 one_both (suc i) (suc j) (x ∷ l) = ap (λ (t : List ℕ). x ∷ t) (one_both i j l)
+one_both _ _ (x ∷ l) = refl
 
 reads_both : (a b c : ℕ) → sum_of_reads (sum_of_reads c b) a ≡ sum_of_reads (sum_of_reads c a) b
 reads_both a b c = omega arith
 
 -- it's the same which of two messages is counted first
 pub with_both : (x y : List ℕ) (v w : Verdict) (t : Tally) → tally_with x v (tally_with y w t) ≡ tally_with y w (tally_with x v t)
-with_both x y (Ok f) (Ok g) t = same_numbers _ _ _ _ _ _ _ _ _ _ refl (omega arith) (omega arith) (reads_both _ _ _)
-with_both x y (Ok f) (Err g) t = same_numbers _ _ _ _ _ _ _ _ _ _ refl (omega arith) refl (reads_both _ _ _)
-with_both x y (Err f) (Ok g) t = same_numbers _ _ _ _ _ _ _ _ _ _ refl (omega arith) refl (reads_both _ _ _)
-with_both x y (Err f) (Err g) t = same_numbers _ _ _ _ _ _ _ _ _ _ (one_both _ _ _) (omega arith) refl (reads_both _ _ _)
+with_both x y v w t = grind (arith, reads_both, one_both)
 
 -- each message has one verdict
 pub counts_one : (m : List ℕ) (v : Verdict) (t : Tally) → (tally_with m v t).yes + (tally_with m v t).no ≡ 1 + (t.yes + t.no)
-counts_one m (Ok found) t = omega arith
-counts_one m (Err bad) t = omega arith
+counts_one m v t = grind arith
 
 -- nothing is within any bounds
 pub nothing_bounded : IsBounded no_tally
@@ -51,17 +39,12 @@ one_no_more i k l each =
 
 -- a reason's number and how often it was given stand in front of the rest
 pub in_front : (letter number sign count rest : List ℕ) → letter ++ (number ++ (sign ++ (count ++ rest))) ≡ (letter ++ (number ++ (sign ++ count))) ++ rest
-in_front letter number sign count rest = sym (append_assoc letter (number ++ (sign ++ count)) rest ∙ ap (λ l. letter ++ l) (append_assoc number (sign ++ count) rest ∙ ap (λ l. number ++ l) (append_assoc sign count rest)))
+in_front letter number sign count rest = simp append_assoc
 
 -- a reason stands in front of those behind it
 pub one_reason_more : (form : Form) (counts rest line line' : List ℕ) (place next : ℕ) → next ≡ place + 1 → place < length counts → line ≡ reasons_from form (next + 1) (drop next counts) rest
     → line' ≡ reason_part form (place + 1) (get_or counts place 0) line → line' ≡ reasons_from form (place + 1) (drop place counts) rest
-one_reason_more form counts rest line line' place next at inside is more =
-    let behind : next ≡ suc place = omega (arith, at) in
-    let rest_is : line ≡ reasons_from form (place + 1 + 1) (drop (suc place) counts) rest = subst (λ (k : ℕ). line ≡ reasons_from form (place + 1 + 1) (drop k counts) rest) behind
-    (subst (λ (k : ℕ). line ≡ reasons_from form (k + 1) (drop next counts) rest) at is) in
-    more ∙ ap (λ (l : List ℕ). reason_part form (place + 1) (get_or counts place 0) l) rest_is
-    ∙ sym (ap (λ (l : List ℕ). reasons_from form (place + 1) l rest) (drop-cons counts place 0 inside))
+one_reason_more form counts rest line line' place next after inside is more = rw (more, is, after, drop_more counts place 0 inside)
 
 -- a reason's number and how often it was given are short
 pub reason_short : (line counted signed numbered lettered : List ℕ) (number : ℕ) → number < 100 → length counted ≤ length line + 20 → length signed ≤ 2 + length counted

@@ -1,12 +1,11 @@
 -- A piece of which a front was passed, and what is told in it was written.
-use Rattle.std.proofs.Common.{◌≡◌, ℕ, ◌+◌, ◌≤◌, Bool, List, [], ◌++◌, Option, length, take, drop, refl, sym, ap, subst, ◌∙◌, arith, append_assoc, take-append-drop}
+use Rattle.std.proofs.Common.{◌≡◌, ℕ, ◌+◌, Bool, List, [], ◌++◌, Option, take, drop, refl, sym, ap, subst, ◌∙◌, arith, append_assoc, take-append-drop}
 use Rattle.std.specs.Io.KnownBytes.{Consumes, Keeps}
 use Rattle.std.proofs.KnownBytes.{Appends-nil, Consumes-trans}
 use mathlib.Core.Logic.{inl, inr}
-use Rattle.std.proofs.lemmas.List.{take_all}
 use Rattle.fb_bytes.specs.{Framing.Framing, Framing.Feeds, Messages.IsMessage}
 use Rattle.fb_bytes.specs.declared.stream_fault.StreamFault.TheVariants as stream
-use Rattle.fb_run.specs.Ends.{Ends, Outs, Reader, Takes, Writer, beside}
+use Rattle.fb_run.specs.Ends.{Ends, Outs, Reader, Writer, beside}
 use Rattle.fb_run.specs.{Faults.IsCausedWriting, Job.Job}
 use Rattle.fb_run.specs.Lines.{AddsTold, AddsThrough, StopsBehind, WritesFront, WritesFronts}
 use Rattle.fb_run.specs.Stream.{FailsStream, Gathers, Halts, HaltsThrough, IsFeedFault, Onward, OnwardThrough, PassesPiece, Rests, Standing, StopsAmid, Tells, TellsSome, Writes, with_written}
@@ -116,9 +115,6 @@ module _ (job : Job) (before mid : Standing) (piece rest : List ℕ) (a b c : Ou
     writes = writes_then first.text second.text a b c before.written mid.written after.written first.writes second.writes;
   }
 
-  pub passes_last : (after : Standing) (used : ℕ) → length rest ≤ used → PassesPiece job mid (take used rest) after b c → PassesPiece job before piece after a c
-  passes_last after used all second = passes_rest after (subst (λ (l : List ℕ). PassesPiece job mid l after b c) (take_all used rest all) second)
-
   -- or the run came to rest in it
   pub stops_rest : (tally : Tally) (fault : RunFault) → StopsAmid job mid rest tally b c fault → StopsAmid job before piece tally a c fault
   stops_rest tally fault (inl amid) =
@@ -152,20 +148,7 @@ written_more job before mid after k piece rest rest' a b c at none first second 
     }
 
 module _ (job : Job) (before : Standing) (piece : List ℕ) (a c : Outs) where
-  -- bytes were passed, and what waited then was written
-  pub passes_flushed : (between after : Standing) → after.tally ≡ between.tally → after.held ≡ between.held → Onward job before piece between
-      → Writes between.text a c before.written after.written → PassesPiece job before piece after a c
-  passes_flushed between after counted hs onward writes = record {
-    text = between.text;
-    onward = λ bytes written tells. rw (counted, hs) (onward bytes written tells);
-    writes = writes;
-  }
-
-  -- the run came to rest in them, and what waited was written
-  pub stops_flushed : (waits : Texts) (tally told : Tally) (fault : RunFault) → told ≡ tally → Halts job before piece waits tally fault → Takes a c waits → StopsAmid job before piece told a c fault
-  stops_flushed waits tally told fault is halts takes = inr (waits, subst (λ (t : Tally). Halts job before piece waits t fault) (sym is) halts, takes)
-
-  -- or the writer or the notes failed there
+  -- the writer or the notes failed where what waited was written
   pub stops_flush : (waits : Texts) (tally told : Tally) (written : Sizes) (fault : RunFault) → told ≡ tally → written.out ≡ before.written.out → written.notes ≡ before.written.notes
       → Gathers job before piece waits tally → WritesFronts waits a c written fault → StopsAmid job before piece told a c fault
   stops_flush waits tally told written fault is same notes gathers within =
@@ -182,7 +165,7 @@ module _ (job : Job) (before : Standing) (piece : List ℕ) (a c : Outs) where
   -- the run came to rest in the message that was held, with nothing noted
   module _ (tally : Tally) (keeps : Keeps a.notes.bytes c.notes.bytes) where
     still : (fault : RunFault) → Halts job before piece silent tally fault × Keeps a.writer.bytes c.writer.bytes → StopsAmid job before piece tally a c fault
-    still fault (halts, kept) = stops_flushed silent tally tally fault refl halts (takes_none a c (kept, keeps))
+    still fault (halts, kept) = inr (silent, halts, takes_none a c (kept, keeps))
 
     pub stops_held : (fault : RunFault) → HaltsThrough job before piece tally a.writer.bytes c.writer.bytes fault → StopsAmid job before piece tally a c fault
     stops_held (run.WriteFault written) (text, gathers, within) = stops_flush text tally tally before.written (run.WriteFault written) refl refl refl gathers (within, keeps)

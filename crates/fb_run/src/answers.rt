@@ -38,6 +38,7 @@ impl<'b> Answers<'b> {
     }
 
     /// Adds one behind them.
+    #[tactic(auto, using(std::proofs::lemmas::Grind::common_steps))]
     pub fn push(&mut self, answer: Answer<'b>)
         requires { length self.old < MOST_PATHS }
         ensures { self.new ≡ self.old ++ answer.entry ∷ [] }

@@ -229,6 +229,7 @@ impl<'s, 'n, 'o> Checker<'s, 'n, 'o> {
     }
 
     /// The limits of a buffer, by its length.
+    #[tactic(auto, using(std::proofs::lemmas::Grind::common_steps))]
     fn limits_for(&self, bytes: &[u8]) -> Limits
         requires short { length bytes.now < 2 ^ 31 }
         ensures { result ≡ limits_for self.now bytes.now }
@@ -242,6 +243,7 @@ impl<'s, 'n, 'o> Checker<'s, 'n, 'o> {
     }
 
     /// The buffer, where it is well formed, or its fault.
+    #[tactic(auto, using(std::proofs::lemmas::Grind::common_steps))]
     fn verified<'b, A: Allocator>(
         &self,
         room: &mut Room<A>,
@@ -319,6 +321,7 @@ fn start(options: &Options) -> Start
 }
 
 /// How many bytes of a message stand before the buffer.
+#[tactic(auto, using(std::proofs::lemmas::Grind::common_steps))]
 fn skip(options: &Options) -> usize
     ensures { result ≡ skip_of options.now.bare options.now.prefix }
 {

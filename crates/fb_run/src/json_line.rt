@@ -81,6 +81,7 @@ fn put_values<A: Allocator>(
 }
 
 /// Adds a value by the text of its path, behind another one or as the first.
+#[tactic(auto, using(std::proofs::Common::append_assoc))]
 fn put_member<A: Allocator>(
     text: &mut Vec<u8, A>,
     behind: bool,
@@ -317,6 +318,7 @@ fn put_string<A: Allocator>(text: &mut Vec<u8, A>, bytes: &[u8]) -> Result<(), A
 }
 
 /// Adds the bytes of a string.
+#[tactic(auto, using(crate::proofs::JsonLemmas::escape_more, std::proofs::lemmas::List::take_more))]
 fn put_escaped<A: Allocator>(text: &mut Vec<u8, A>, bytes: &[u8]) -> Result<(), AllocError>
     ensures { OnOk result (text.new.items ≡ text.old.items ++ escape bytes.now) }
 {

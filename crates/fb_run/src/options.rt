@@ -52,6 +52,7 @@ impl Model for AskedPath {
 
 impl AskedPath {
     /// The path that was resolved from this text.
+    #[tactic(auto, using(std::proofs::lemmas::Grind::common_steps))]
     pub fn new(path: Path, text: Vec<u8>) -> AskedPath
         ensures { result ≡ record { text = text.items; steps = path } }
     {

@@ -241,6 +241,7 @@ impl<A: Allocator> Output<A> {
     }
 
     /// The same in memory.
+    #[tactic(auto, using(std::proofs::lemmas::Grind::common_steps))]
     fn tell(
         &mut self,
         checker: &Checker<'_, '_, '_>,
@@ -337,6 +338,7 @@ impl<A: Allocator> Output<A> {
 
     /// Whether so much waits that it is written before the next message is checked. (Where it were 2^40 bytes, they
     /// would wait on; no line and no message has as many.)
+    #[tactic(auto, using(std::proofs::lemmas::Grind::common_steps))]
     pub fn is_much(&self) -> bool
         ensures much { result ≡ true → 65536 ≤ size (waiting self.now) × (size (waiting self.now) < 2 ^ 40) }
         ensures little { result ≡ false → size (waiting self.now) < 65536 ⊎ 2 ^ 40 ≤ size (waiting self.now) }
@@ -346,6 +348,7 @@ impl<A: Allocator> Output<A> {
     }
 
     /// Writes what waits, first for the writer and then for the notes.
+    #[tactic(auto, using(std::proofs::lemmas::Grind::common_steps))]
     pub fn flush<K: Sink, N: Sink>(&mut self, writer: &mut K, notes: &mut N) -> Result<(), RunFault>
         requires load { IsBelow (load_of K.Sink N.Sink writer.old notes.old self.old) (2 ^ 99 + 2 ^ 98) }
         ensures takes { OnOk result (Takes (outs_of K.Sink N.Sink writer.old notes.old) (outs_of K.Sink N.Sink writer.new notes.new) (waiting self.old)) }

@@ -28,6 +28,7 @@ pub fn read_buffer<A: Allocator>(alloc: A) -> Result<Vec<u8, A>, AllocError>
 }
 
 /// One read into the read buffer, beside these outputs, and how many bytes came: none only at the end of the input.
+#[tactic(auto, using(std::proofs::lemmas::Grind::common_steps))]
 pub fn pull_piece<A: Allocator, S: Input<K, N>, K: Sink, N: Sink>(
     source: &mut S,
     piece: &mut Vec<u8, A>,
@@ -51,6 +52,7 @@ pub fn pull_piece<A: Allocator, S: Input<K, N>, K: Sink, N: Sink>(
 
 /// Reads the whole input, of at most `limit` bytes, in at most `turns` reads, beside these outputs. Whatever they hold,
 /// they keep.
+#[tactic(auto, using(std::proofs::lemmas::Grind::common_steps))]
 pub fn read_whole<A: Allocator, B: Allocator, S: Input<K, N>, K: Sink, N: Sink>(
     alloc: A,
     source: &mut S,

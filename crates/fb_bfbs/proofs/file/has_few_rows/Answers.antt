@@ -1,4 +1,4 @@
-use Rattle.std.proofs.Common.{◌≡◌, ℕ, ◌+◌, ◌≤◌, ◌↔◌, IsTrue, map, refl, sym, ◌∙◌, ap, subst}
+use Rattle.std.proofs.Common.{ℕ, ◌+◌, map, refl}
 use Rattle.std.specs.List.{sum_by}
 use Rattle.fb_bfbs.specs.declared.{counted.FieldCount.FieldCount, counted.MemberCount.MemberCount}
 use Rattle.fb_bfbs.specs.Sums.{Lists, listed_rows}
@@ -15,10 +15,6 @@ pub returns : goal.returns
 returns c =
     let objects = c.in_ok-objects.objects.items in
     let enums = c.in_ok-enums.enums.items in
-    let fields : sum_by (λ (x : FieldCount). listed_rows x.count) c.as_slice.result.now ≡ sum_by listed_rows (map field_count objects) =
-    ap (sum_by (λ (x : FieldCount). listed_rows x.count)) c.as_slice.ensures.value ∙ sym (sum_mapped listed_rows field_count objects) in
-    let members : sum_by (λ (x : MemberCount). listed_rows x.count) c.as_slice-2.result.now ≡ sum_by listed_rows (map member_count enums) =
-    ap (sum_by (λ (x : MemberCount). listed_rows x.count)) c.as_slice-2.ensures.value ∙ sym (sum_mapped listed_rows member_count enums) in
     record {
       rows = sum_by listed_rows (map field_count objects) + sum_by listed_rows (map member_count enums);
       has = record {
@@ -28,5 +24,5 @@ returns c =
         members = mapped_rows Lists _ member_count enums c.in_ok-enums.ensures.rows;
         total = refl;
       };
-      told = subst (λ n. IsTrue c.is_enough_for.result ↔ (n ≤ c.args.most)) (ap (λ n. n + sum_by (λ (x : MemberCount). listed_rows x.count) c.as_slice-2.result.now) fields ∙ ap (λ n. sum_by listed_rows (map field_count objects) + n) members) c.is_enough_for.ensures;
+      told = rw (sum_mapped listed_rows field_count objects, sum_mapped listed_rows member_count enums, ← c.as_slice.ensures.value, ← c.as_slice-2.ensures.value) c.is_enough_for.ensures;
     }

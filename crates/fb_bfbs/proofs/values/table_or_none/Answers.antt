@@ -1,11 +1,8 @@
 use Rattle.std.proofs.Common.{sym}
 use Rattle.fb_schema.specs.declared.kinds.Kind.TheVariants.{Table}
 use Rattle.fb_access.proofs.Shapes.{answers_table, shows_nothing}
-use Rattle.fb_bfbs.proofs.{Sure.maybe_allowed, Sure.maybe_here, Sure.maybe_one_on, Composed.seen_in}
+use Rattle.fb_bfbs.proofs.{Sure.maybe_here, Sure.maybe_one_on, Composed.seen_in}
 use Rattle.fb_bfbs.proofs.values.table_or_none.Goals as goal
-
-pub go-field-requires : goal.go-field-requires
-go-field-requires c = maybe_allowed _ _ _ c.requires.1
 
 pub returns-in-Table-clause-there : goal.returns-in-Table-clause-there
 returns-in-Table-clause-there c = λ k h. maybe_one_on _ _ _ k h c.go-field.ensures.same c.go-field.ensures.leads c.in-Table.ensures.shown

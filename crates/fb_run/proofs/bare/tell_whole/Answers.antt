@@ -1,14 +1,14 @@
-use Rattle.std.proofs.Common.{ap, refl, subst, sym, true}
-use Rattle.fb_run.specs.{Bare.FailsBare, Ends.beside, Ends.outs_of, Ends.writer_of, Texts.Sizes, Texts.written_by}
+use Rattle.std.proofs.Common.{ap, refl, subst, sym, true, ◌∙◌}
 use Rattle.fb_run.specs.declared.tally.Tally.{Tally}
+use Rattle.fb_run.specs.{Bare.FailsBare, Ends.beside, Ends.outs_of, Ends.writer_of, Texts.Sizes, Texts.Texts, Texts.no_bytes, Texts.written_by}
 use Rattle.fb_run.proofs.{BareLemmas.fails_part, BareLemmas.fails_through, BareLemmas.passes_through, BehindLemmas.fronts_behind}
 use Rattle.fb_run.proofs.RunLemmas.{caused_then, err_is}
 use Rattle.fb_run.proofs.bare.tell_whole.Goals as goal
 
 pub returns-in_err-add_through-clause-run : goal.returns-in_err-add_through-clause-run
 returns-in_err-add_through-clause-run g c before after read =
-    rw (err_is _ _ c.from_residual.ensures.1) (fails_through _ _ _ _ _ _ before after (writer_of g.K.Sink c.args.writer.now) (writer_of g.K.Sink c.add_through.new.writer) (writer_of g.N.Sink c.args.notes.now)
-    c.in_err-add_through.field-0.0 read c.requires.within c.requires.empty c.requires.counted (ap (λ (s : Sizes). s.out) c.requires.written) c.in_err-add_through.ensures.err)
+    rw (err_is _ _ c.from_residual.ensures.1) (fails_through _ _ _ before after (writer_of g.K.Sink c.args.writer.now) (writer_of g.K.Sink c.add_through.new.writer) (writer_of g.N.Sink c.args.notes.now)
+    c.in_err-add_through.field-0.0 read c.requires.within (rw (ap (λ (t : Texts). t.out) c.requires.empty, c.requires.counted, ap (λ (s : Sizes). s.out) c.requires.written) at c.in_err-add_through.ensures.err))
 
 pub returns-in_err-add_through-clause-end : goal.returns-in_err-add_through-clause-end
 returns-in_err-add_through-clause-end g c reads left =
@@ -16,14 +16,14 @@ returns-in_err-add_through-clause-end g c reads left =
 
 pub returns-in_err-flush-clause-run : goal.returns-in_err-flush-clause-run
 returns-in_err-flush-clause-run g c before after read =
-    let through = c.in_ok-add_through.ensures.ok in
+    let through = rw (c.requires.empty, c.requires.counted, ap (λ (s : Sizes). s.out) c.requires.written) at c.in_ok-add_through.ensures.ok in
     let a = outs_of g.K.Sink g.N.Sink c.args.writer.now c.args.notes.now in
     let z = outs_of g.K.Sink g.N.Sink c.flush.new.writer c.flush.new.notes in
+    let noted = c.add_through.ensures.noted ∙ ap (λ (s : Sizes). s.notes) c.requires.written in
     let cause = c.in_err-flush.field-0.0 in
     rw (err_is _ _ c.from_residual-in_err-flush.ensures.1) (subst (λ (t : Tally). FailsBare c.args.checker.now (beside before a) (beside after z) t cause) (sym c.flush.ensures.counted)
-    (fails_part _ _ _ _ (written_by c.args.output.now) (beside before a) (beside after z) read c.requires.within c.requires.empty c.requires.counted c.requires.written _ _ cause through.adds
-    (fronts_behind through.front _ a z (writer_of g.K.Sink c.add_through.new.writer) (written_by c.args.output.now) (written_by c.add_through.new.self) cause
-    through.wrote through.written_is c.add_through.ensures.noted c.in_err-flush.ensures.err)))
+    (fails_part _ _ (beside before a) (beside after z) read c.requires.within _ _ cause through.adds
+    (fronts_behind through.front _ a z (writer_of g.K.Sink c.add_through.new.writer) no_bytes (written_by c.add_through.new.self) cause through.wrote through.written_is noted c.in_err-flush.ensures.err)))
 
 pub returns-in_err-flush-clause-end : goal.returns-in_err-flush-clause-end
 returns-in_err-flush-clause-end g c reads left =
@@ -34,8 +34,7 @@ returns-in_err-flush-clause-end g c reads left =
 
 pub returns-clause-run : goal.returns-clause-run
 returns-clause-run g c before after read =
-    let flushed = c.in_ok-flush.ensures in
+    let through = rw (c.requires.empty, c.requires.counted, ap (λ (s : Sizes). s.out) c.requires.written) at c.in_ok-add_through.ensures.ok in
     let a = outs_of g.K.Sink g.N.Sink c.args.writer.now c.args.notes.now in
     let z = outs_of g.K.Sink g.N.Sink c.flush.new.writer c.flush.new.notes in
-    passes_through _ _ _ _ (written_by c.args.output.now) (beside before a) (beside after z) read c.requires.within c.requires.empty c.requires.counted c.requires.written
-    _ _ _ (writer_of g.K.Sink c.add_through.new.writer) _ flushed.counted c.in_ok-add_through.ensures.ok flushed.takes
+    rw c.in_ok-flush.ensures.counted (passes_through _ _ (beside before a) (beside after z) read c.requires.within _ _ (writer_of g.K.Sink c.add_through.new.writer) _ through c.in_ok-flush.ensures.takes)

@@ -7,6 +7,4 @@ use Rattle.fb_run.proofs.json_line.put_asked.Goals as goal
 
 pub returns : goal.returns
 returns g c =
-    asked_parts (map (λ (p : Wanted). p.text) c.args.paths.now) (map shown c.args.answers.now) c.args.text.now.items _
-    (omega (arith, length-map c.args.paths.now (λ (p : Wanted). p.text)))
-    (rw (c.in_ok-put-2.ensures, c.in_ok-put_values.ensures, c.in_ok-put.ensures) (simp append_assoc))
+    rw (asked_parts (map (λ (p : Wanted). p.text) c.args.paths.now) (map shown c.args.answers.now) (omega (arith, length-map c.args.paths.now (λ (p : Wanted). p.text))), c.in_ok-put-2.ensures, c.in_ok-put_values.ensures, c.in_ok-put.ensures) (simp append_assoc)

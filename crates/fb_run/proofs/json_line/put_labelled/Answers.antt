@@ -4,5 +4,4 @@ use Rattle.fb_run.proofs.json_line.put_labelled.Goals as goal
 
 pub returns : goal.returns
 returns g c =
-    labelled_number c.args.label.now (g.I.Integer.text c.args.count) c.args.text.now.items _
-    (rw (c.in_ok-put-2.ensures, c.in_ok-put_number.ensures, c.in_ok-put_string.ensures, c.in_ok-put.ensures) (simp append_assoc))
+    rw (labelled_number c.args.label.now (g.I.Integer.text c.args.count), c.in_ok-put-2.ensures, c.in_ok-put_number.ensures, c.in_ok-put_string.ensures, c.in_ok-put.ensures) (simp append_assoc)

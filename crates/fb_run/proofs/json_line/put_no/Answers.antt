@@ -5,6 +5,5 @@ use Rattle.fb_run.proofs.json_line.put_no.Goals as goal
 
 pub returns : goal.returns
 returns g c =
-    no_line (option_map (λ (f : Vec ℕ Global). f.items) c.args.file.now) c.args.number c.args.schema.now c.args.fault.now (option_map (λ (p : Bor (List ℕ)). p.now) c.args.place)
-    c.args.text.now.items _
-    (rw (c.in_ok-put.ensures, c.in_ok-put_end.ensures, c.in_ok-put_names.ensures, c.in_ok-put_number.ensures, c.in_ok-put_reason.ensures, c.in_ok-put_begin.ensures) (simp append_assoc))
+    let line = no_line (option_map (λ (f : Vec ℕ Global). f.items) c.args.file.now) c.args.number c.args.schema.now c.args.fault.now (option_map (λ (p : Bor (List ℕ)). p.now) c.args.place) in
+    rw (line, c.in_ok-put.ensures, c.in_ok-put_end.ensures, c.in_ok-put_names.ensures, c.in_ok-put_number.ensures, c.in_ok-put_reason.ensures, c.in_ok-put_begin.ensures) (simp append_assoc)

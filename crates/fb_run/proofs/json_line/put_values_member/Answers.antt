@@ -8,5 +8,4 @@ use Rattle.fb_run.proofs.json_line.put_values_member.Goals as goal
 pub returns-then-is_empty : goal.returns-then-is_empty
 returns-then-is_empty g c =
     let none : length c.args.paths.now ≡ 0 = search rules in
-    none_asked (map (λ (p : Wanted). p.text) c.args.paths.now) (map shown c.args.answers.now) c.args.text.now.items _
-    (omega (arith, length-map c.args.paths.now (λ (p : Wanted). p.text))) c.in_ok-put.ensures
+    rw (none_asked (map (λ (p : Wanted). p.text) c.args.paths.now) (map shown c.args.answers.now) (omega (arith, length-map c.args.paths.now (λ (p : Wanted). p.text)))) c.in_ok-put.ensures

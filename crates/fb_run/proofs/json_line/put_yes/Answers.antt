@@ -6,6 +6,5 @@ use Rattle.fb_run.proofs.json_line.put_yes.Goals as goal
 
 pub returns : goal.returns
 returns g c =
-    yes_line (option_map (λ (f : Vec ℕ Global). f.items) c.args.file.now) c.args.number c.args.report.now (map (λ (p : Wanted). p.text) c.args.paths.now)
-    (map shown c.args.answers.now) c.args.text.now.items _
-    (rw (c.in_ok-put.ensures, c.in_ok-put_values_member.ensures, c.in_ok-put_counts.ensures, c.in_ok-put_begin.ensures) (simp append_assoc))
+    let line = yes_line (option_map (λ (f : Vec ℕ Global). f.items) c.args.file.now) c.args.number c.args.report.now (map (λ (p : Wanted). p.text) c.args.paths.now) (map shown c.args.answers.now) in
+    rw (line, c.in_ok-put.ensures, c.in_ok-put_values_member.ensures, c.in_ok-put_counts.ensures, c.in_ok-put_begin.ensures) (simp append_assoc)

@@ -1,5 +1,4 @@
-use Rattle.std.proofs.Common.{rules, refl, sym, take, ◌++◌, ◌≤◌, ◌<◌, ◌+◌, length, arith}
-use Rattle.std.proofs.lemmas.Grind.{common_steps}
+use Rattle.std.proofs.Common.{rules, refl, sym, take, ◌++◌, ◌≤◌, ◌<◌, ◌+◌, length}
 use Rattle.std.proofs.KnownBytes.{Consumes-trans, Keeps-refl}
 use Rattle.fb_run.specs.Ends.{ends_of}
 use Rattle.fb_run.proofs.Pieces.{length-with}
@@ -30,6 +29,3 @@ pull_piece-requires-clause-leave g c =
     let before = c.loop-left.invariant in
     c.requires.leave (ends_of g.S.Input g.K.Sink g.N.Sink c.loop-left.source c.args.writer.now c.args.notes.now)
     (c.loop-left.whole.items, before.read, before.within, (Keeps-refl _, Keeps-refl _)) before.asks
-
-pub loop-left-preserved : goal.loop-left-preserved
-loop-left-preserved g c = grind (arith, common_steps)

@@ -1,5 +1,4 @@
-use Rattle.std.proofs.Common.{sym, ap, arith}
-use Rattle.std.proofs.lemmas.Grind.{common_steps}
+use Rattle.std.proofs.Common.{sym, ap}
 use Rattle.fb_verify.specs.{Stops.Stops, Links.StopsAlong}
 use Rattle.std.specs.Prelude.{take}
 use Rattle.fb_run.specs.Job.{asked_of}
@@ -19,9 +18,3 @@ returns-after-put_place-clause-refused g c =
       | in-Ok-put_place w ↦ rw w.result-is tt
       | in-Err-put_place w ↦ rw w.result-is (has_place job bytes fault links (rw (sym c.self.view_is) c.in-Words.is) stops along)
     ]
-
-pub returns-in-Ok-verify_and_locate-clause-room : goal.returns-in-Ok-verify_and_locate-clause-room
-returns-in-Ok-verify_and_locate-clause-room g c = grind (arith, common_steps)
-
-pub returns-after-put_place-clause-verdict : goal.returns-after-put_place-clause-verdict
-returns-after-put_place-clause-verdict g c = grind (arith, common_steps)

@@ -1,34 +1,28 @@
-use Rattle.std.proofs.Common.{rules, ap, subst, sym}
-use Rattle.std.specs.Io.KnownBytes.{Consumes}
-use Rattle.fb_run.specs.{Prompt.IsBarePrompt, Ends.ends_of, Ends.outs_of, Ends.reader_of, Stream.Standing, Stream.standing}
-use Rattle.fb_run.proofs.{BareLemmas.fails_untold, ThroughLemmas.fails_piece, ThroughLemmas.sofar_piece}
-use Rattle.fb_run.proofs.RunLemmas.{caused_then, ends_told, err_is, prompt_bare, prompt_stream, runs_bare, runs_stream, sofar_nothing}
+use Rattle.std.proofs.Common.{rules, ap, sym, true, false}
+use Rattle.fb_run.specs.{Ends.ends_of, Ends.outs_of, Ends.reader_of, Stream.Standing, Stream.standing}
+use Rattle.fb_run.proofs.{ThroughLemmas.fails_piece, ThroughLemmas.sofar_piece}
+use Rattle.fb_run.proofs.RunLemmas.{caused_then, ends_told, err_is, runs_from, sofar_nothing}
 use Rattle.fb_run.proofs.stream.Carried.pass_all.Goals as goal
 
 pub read_whole-requires-clause-leave : goal.read_whole-requires-clause-leave
 read_whole-requires-clause-leave g c now prompt unended =
-    let first = ends_of g.S.Input g.K.Sink g.N.Sink c.args.reader.now c.args.writer.now c.args.notes.now in
-    c.requires.leave now (prompt_bare _ _ first now c.is_bare.ensures c.if-is_bare.true (subst (λ limit. IsBarePrompt limit first now) c.limit-limit.ensures.value prompt)) unended
+    c.requires.leave now (rw (← c.is_bare.ensures, c.if-is_bare.true) (rw c.limit-limit.ensures.value at prompt)) unended
 
 pub returns-in_err-whole-clause-run : goal.returns-in_err-whole-clause-run
 returns-in_err-whole-clause-run g c =
     let first = ends_of g.S.Input g.K.Sink g.N.Sink c.args.reader.now c.args.writer.now c.args.notes.now in
     let now = ends_of g.S.Input g.K.Sink g.N.Sink c.read_whole.new.source c.args.writer.now c.args.notes.now in
-    rw (err_is _ _ c.from_residual.ensures.1) (runs_bare _ _ first now c.is_bare.ensures _ _ c.if-is_bare.true
-    (fails_untold _ first now _ _ (ap (λ (s : Standing). s.tally) c.requires.start) (c.in_err-whole.ensures.fault c.args.checker.now (sym c.limit-limit.ensures.value))))
+    rw (err_is _ _ c.from_residual.ensures.1, ap (λ (s : Standing). s.tally) c.requires.start)
+    (runs_from c.args.checker.now first now _ _ _ true c.is_bare.ensures c.if-is_bare.true (c.in_err-whole.ensures.fault c.args.checker.now (sym c.limit-limit.ensures.value)))
 
 pub returns-in_err-whole-clause-end : goal.returns-in_err-whole-clause-end
-returns-in_err-whole-clause-end g c =
-    let first = ends_of g.S.Input g.K.Sink g.N.Sink c.args.reader.now c.args.writer.now c.args.notes.now in
-    let now = ends_of g.S.Input g.K.Sink g.N.Sink c.read_whole.new.source c.args.writer.now c.args.notes.now in
-    rw (err_is _ _ c.from_residual.ensures.1) c.in_err-whole.ensures.cause
+returns-in_err-whole-clause-end g c = rw (err_is _ _ c.from_residual.ensures.1) c.in_err-whole.ensures.cause
 
 pub returns-then-is_bare-clause-run : goal.returns-then-is_bare-clause-run
 returns-then-is_bare-clause-run g c =
     let first = ends_of g.S.Input g.K.Sink g.N.Sink c.args.reader.now c.args.writer.now c.args.notes.now in
     let now = ends_of g.S.Input g.K.Sink g.N.Sink c.read_whole.new.source c.tell_whole.new.writer c.tell_whole.new.notes in
-    runs_bare _ _ first now c.is_bare.ensures _ _ c.if-is_bare.true
-    (c.tell_whole.ensures.run first.reader now.reader (subst (Consumes first.reader.left now.reader.left) (sym c.as_slice.ensures.value) c.in_ok-whole.ensures.ok))
+    runs_from c.args.checker.now first now _ _ _ true c.is_bare.ensures c.if-is_bare.true (c.tell_whole.ensures.run first.reader now.reader (rw c.as_slice.ensures.value c.in_ok-whole.ensures.ok))
 
 pub returns-then-is_bare-clause-end : goal.returns-then-is_bare-clause-end
 returns-then-is_bare-clause-end g c =
@@ -40,7 +34,7 @@ pub pull_piece-requires-clause-leave : goal.pull_piece-requires-clause-leave
 pull_piece-requires-clause-leave g c =
     let before = c.loop-left.invariant in
     let now = ends_of g.S.Input g.K.Sink g.N.Sink c.loop-left.reader c.loop-left.writer c.loop-left.notes in
-    c.requires.leave now (prompt_stream _ _ (ends_of g.S.Input g.K.Sink g.N.Sink c.args.reader.now c.args.writer.now c.args.notes.now) now c.is_bare.ensures c.if-is_bare.false (search rules)) before.asks
+    c.requires.leave now (rw (← c.is_bare.ensures, c.if-is_bare.false) (search rules)) before.asks
 
 pub loop-left-init : goal.loop-left-init
 loop-left-init g c =
@@ -63,7 +57,7 @@ returns-in_err-pass_piece-clause-run g c =
     let first = ends_of g.S.Input g.K.Sink g.N.Sink c.args.reader.now c.args.writer.now c.args.notes.now in
     let between = ends_of g.S.Input g.K.Sink g.N.Sink c.loop-left.reader c.loop-left.writer c.loop-left.notes in
     let now = ends_of g.S.Input g.K.Sink g.N.Sink c.pull_piece.new.source c.pass_piece.new.writer c.pass_piece.new.notes in
-    rw (err_is _ _ c.from_residual-in_err-pass_piece.ensures.1) (runs_stream _ _ first now c.is_bare.ensures _ _ c.if-is_bare.false
+    rw (err_is _ _ c.from_residual-in_err-pass_piece.ensures.1) (runs_from c.args.checker.now first now _ _ _ false c.is_bare.ensures c.if-is_bare.false
     (fails_piece _ (standing c.loop-left.self) _ _ _ first between now.reader now.outs c.as_slice-in-loop-left.ensures.value before.empty before.told c.in-Ok.ensures.ok _ _ c.in_err-pass_piece.ensures.stops))
 
 pub returns-in_err-pass_piece-clause-end : goal.returns-in_err-pass_piece-clause-end

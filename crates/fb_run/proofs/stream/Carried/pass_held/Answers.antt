@@ -1,5 +1,4 @@
-use Rattle.std.proofs.{Common.ap, Common.refl, Common.arith, KnownBytes.Keeps-refl}
-use Rattle.std.proofs.lemmas.Grind.{common_steps}
+use Rattle.std.proofs.{Common.ap, Common.refl, KnownBytes.Keeps-refl}
 use Rattle.fb_verify.proofs.Frames.{if_err_exit}
 use Rattle.fb_bytes.specs.Framing.{Framing}
 use Rattle.fb_run.specs.{Ends.writer_of, Stream.standing}
@@ -33,6 +32,3 @@ returns-clause-onward g c =
     let message = c.in-Some.ensures.whole.0 refl in
     through_line _ (standing c.args.self.now) _ c.args.self.now.framer c.feed.new.self c.args.piece.now c.in-Some.message.now c.in_ok-taken.taken.used c.in_ok-taken.taken.whole _ _
     c.requires.ready.limit refl c.in_ok-taken.ensures.ok c.in-Some.ensures.bytes message.1 (ap (λ (f : Framing). f.held) (c.next.ensures.whole message)) c.in_ok-add_through.ensures.ok
-
-pub returns-in_default-clause-onward : goal.returns-in_default-clause-onward
-returns-in_default-clause-onward g c = grind (arith, common_steps)

@@ -1,9 +1,9 @@
 use Rattle.std.proofs.Common.{refl, rules}
-use Rattle.std.proofs.lemmas.List.{length-drop, take_rest}
+use Rattle.std.proofs.lemmas.List.{length-drop, take_all, take_rest}
 use Rattle.fb_verify.proofs.Frames.{if_err_exit}
 use Rattle.fb_run.specs.{Ends.outs_of, Stream.standing}
 use Rattle.fb_run.proofs.RunLemmas.{caused_then}
-use Rattle.fb_run.proofs.ThroughLemmas.{passes_last, stops_rest, written_more, written_none}
+use Rattle.fb_run.proofs.ThroughLemmas.{passes_rest, stops_rest, written_more, written_none}
 use Rattle.fb_run.proofs.stream.Carried.pass_rest.Goals as goal
 
 pub fronts-init : goal.fronts-init
@@ -31,4 +31,5 @@ returns-in_err-used-clause-failed g c =
 pub returns-then-is_empty-clause-passes : goal.returns-then-is_empty-clause-passes
 returns-then-is_empty-clause-passes g c =
     let left = length-drop c.in_ok-used.used c.fronts.rest.now in
-    passes_last _ (standing c.args.self.now) _ _ c.fronts.rest.now _ _ _ c.fronts.invariant.passed _ c.in_ok-used.used (search rules) c.in_ok-used.ensures.passes
+    let all = rw (take_all c.in_ok-used.used c.fronts.rest.now (search rules)) at c.in_ok-used.ensures.passes in
+    passes_rest _ (standing c.args.self.now) _ _ c.fronts.rest.now _ _ _ c.fronts.invariant.passed _ all

@@ -1,5 +1,5 @@
 use Rattle.std.proofs.Common.{◌≡◌, ◌++◌, ◌∙◌, ℕ, List, [], arith, ap, length, refl, subst, sym, take}
-use Rattle.std.proofs.lemmas.{Grind.common_steps, List.nil_from_length}
+use Rattle.std.proofs.lemmas.List.{nil_from_length}
 use Rattle.fb_bytes.specs.{Framing.Framing, Messages.IsMessage}
 use Rattle.fb_verify.proofs.Frames.{if_err_exit}
 use Rattle.fb_run.specs.{Stream.standing, Texts.no_bytes}
@@ -32,6 +32,3 @@ returns-clause-onward g c =
     let message = c.in-Some-message.ensures.whole.0 refl in
     onward_line _ (standing c.args.self.now) (record { text = _; tally = _; held = _; written = no_bytes }) c.args.self.now.framer c.feed.new.self c.args.rest.now c.in-Some-message.message.now c.in_ok-taken.taken.used c.in_ok-taken.taken.whole c.requires.ready.limit refl c.in_ok-taken.ensures.ok
     c.in-Some-message.ensures.bytes message.1 (ap (λ (f : Framing). f.held) (c.next.ensures.whole message)) c.in_ok-add-2.ensures.ok
-
-pub returns-in_default-message-clause-onward : goal.returns-in_default-message-clause-onward
-returns-in_default-message-clause-onward g c = grind (arith, common_steps)

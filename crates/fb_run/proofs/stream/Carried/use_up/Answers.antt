@@ -1,8 +1,8 @@
-use Rattle.std.proofs.Common.{refl, rules}
+use Rattle.std.proofs.Common.{rules}
 use Rattle.std.proofs.lemmas.List.{take_rest}
 use Rattle.fb_verify.proofs.Frames.{if_err_exit}
 use Rattle.fb_run.specs.Stream.{standing}
-use Rattle.fb_run.proofs.StreamLemmas.{gathers_front, gathers_halts, halts_after, onward_front, passed_more, passed_none}
+use Rattle.fb_run.proofs.StreamLemmas.{halts_after, onward_front, passed_more, passed_none}
 use Rattle.fb_run.proofs.stream.Carried.use_up.Goals as goal
 
 pub loop-rest-init : goal.loop-rest-init
@@ -20,28 +20,11 @@ pub returns-in_err-used-clause-halts : goal.returns-in_err-used-clause-halts
 returns-in_err-used-clause-halts g c =
     if_err_exit _ _ _ c.from_residual.ensures.1 (halts_after _ (standing c.args.self.now) (standing c.loop-rest.self) _ c.loop-rest.rest.now _ _ _ c.loop-rest.invariant.passed c.in_err-used.ensures.halts)
 
-pub returns-in_err-used-clause-gathers : goal.returns-in_err-used-clause-gathers
-returns-in_err-used-clause-gathers g c =
-    gathers_halts _ (standing c.args.self.now) _ _ _ c.in_err-used.field-0.0 c.in_err-used.ensures.kind
-    (halts_after _ (standing c.args.self.now) (standing c.loop-rest.self) _ c.loop-rest.rest.now _ _ _ c.loop-rest.invariant.passed c.in_err-used.ensures.halts)
-
 pub returns-then-is_much-clause-onward : goal.returns-then-is_much-clause-onward
 returns-then-is_much-clause-onward g c =
     onward_front _ (standing c.args.self.now) (standing c.pass_some.new.self) _ _ _ (search rules)
     (passed_more _ (standing c.args.self.now) (standing c.loop-rest.self) (standing c.pass_some.new.self) c.in_ok-used.used _ c.loop-rest.rest.now _
     (take_rest c.loop-rest.rest.now c.in_ok-used.used) c.loop-rest.invariant.passed c.in_ok-used.ensures.onward)
 
-pub returns-then-is_much-clause-gathers : goal.returns-then-is_much-clause-gathers
-returns-then-is_much-clause-gathers g c =
-    gathers_front _ (standing c.args.self.now) (standing c.pass_some.new.self) _ _
-    (onward_front _ (standing c.args.self.now) (standing c.pass_some.new.self) _ _ _ refl
-    (passed_more _ (standing c.args.self.now) (standing c.loop-rest.self) (standing c.pass_some.new.self) c.in_ok-used.used _ c.loop-rest.rest.now _
-    (take_rest c.loop-rest.rest.now c.in_ok-used.used) c.loop-rest.invariant.passed c.in_ok-used.ensures.onward))
-
 pub returns-clause-onward : goal.returns-clause-onward
 returns-clause-onward g c = onward_front _ (standing c.args.self.now) (standing c.loop-rest.self) _ _ c.loop-rest.rest.now (search rules) c.loop-rest.invariant.passed
-
-pub returns-clause-gathers : goal.returns-clause-gathers
-returns-clause-gathers g c =
-    gathers_front _ (standing c.args.self.now) (standing c.loop-rest.self) _ _
-    (onward_front _ (standing c.args.self.now) (standing c.loop-rest.self) _ _ c.loop-rest.rest.now refl c.loop-rest.invariant.passed)
