@@ -9,9 +9,9 @@ loop-place-preserved c =
 
 pub returns-clause-sums : goal.returns-clause-sums
 returns-clause-sums c =
-    c.loop-place.invariant ∙ all_summed c.args.some.now c.args.more.now c.loop-place.place (omega (arith, c.requires.some, c.loop-place-test.false)) (c.requires.some ∙ sym c.requires.more)
+    c.loop-place.invariant ∙ all_summed c.args.some.now c.args.more.now c.loop-place.place (omega (arith, c.requires.some, c.loop-place-test.false))
 
 pub returns-clause-places : goal.returns-clause-places
 returns-clause-places c =
-    ap length (c.loop-place.invariant ∙ all_summed c.args.some.now c.args.more.now c.loop-place.place (omega (arith, c.requires.some, c.loop-place-test.false)) (c.requires.some ∙ sym c.requires.more))
+    ap length (c.loop-place.invariant ∙ all_summed c.args.some.now c.args.more.now c.loop-place.place (omega (arith, c.requires.some, c.loop-place-test.false)))
     ∙ sums_length c.args.some.now c.args.more.now ∙ c.requires.some
