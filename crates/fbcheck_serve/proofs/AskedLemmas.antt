@@ -3,11 +3,10 @@ use Rattle.std.proofs.Common.{◌≡◌, IsTrue, ℕ, List, Option, Some, refl, 
 use Rattle.std.specs.Borrow.{Bor}
 use Rattle.fb_schema.specs.Rows.{Rows, is_table}
 use Rattle.fb_bfbs.specs.Fixed.{fixed}
-use Rattle.fbcheck_serve.specs.Asked.{Own, PathsFail, asked_root, path_texts}
-use Rattle.fbcheck_serve.specs.Checking.{IsHint, IsPathHint, IsSchema, IsUntold, LacksJob}
-use Rattle.fbcheck_texts.specs.Hints.{hint_text}
+use Rattle.fbcheck_serve.specs.Asked.{Own, asked_root, path_texts}
+use Rattle.fbcheck_serve.specs.Checking.{IsHint, IsPathless, IsSchema, LacksJob}
+use Rattle.fbcheck_serve.proofs.PathLemmas.{fails_at}
 use Rattle.fbcheck_texts.specs.declared.{fault.AskFault.AskFault, fault.AskFault.TheVariants.OutOfMemory, fault.AskFault.TheVariants.Path}
-use Rattle.fbcheck_texts.specs.declared.hint.Unasked.{Unasked}
 use Rattle.fbcheck_words.specs.declared.choices.Settings.{Settings}
 
 -- the table Schema of the fixed table is a table
@@ -16,16 +15,10 @@ unfolding fixed
 schema_is_table rows is = subst (λ (r : Rows). IsTrue (is_table r 9)) (sym is) refl
 
 -- a path that is none leaves nothing to check by, with this told behind it
-path_untold : (file : Option (Bor (List ℕ))) (settings : Settings) (rows : Rows) (own : Own) (root : ℕ) (fault : AskFault) (hint : List ℕ) → IsSchema file rows own
-    → asked_root rows own settings ≡ Some root → PathsFail rows root (path_texts settings) fault → IsPathHint rows root (path_texts settings) fault hint
-    → LacksJob file settings fault × IsHint file settings fault hint
-path_untold file settings rows own root (Path fault) hint schema is fails told = ((rows, own, schema, (root, is, fails)), (rows, own, root, schema, is, told))
-path_untold file settings rows own root OutOfMemory hint schema is fails told = (tt, told)
-path_untold file settings rows own root _ hint schema is fails told = absurd fails
-
-pub untold_path : (file : Option (Bor (List ℕ))) (settings : Settings) (rows : Rows) (own : Own) (root : ℕ) (unasked : Unasked) → IsSchema file rows own
-    → asked_root rows own settings ≡ Some root → PathsFail rows root (path_texts settings) unasked.fault
-    → IsPathHint rows root (path_texts settings) unasked.fault (hint_text unasked.hint) → IsUntold file settings unasked
-untold_path file settings rows own root unasked schema is fails told =
-    let (lacks, hint) = path_untold file settings rows own root unasked.fault (hint_text unasked.hint) schema is fails told in
-    record { lacks = lacks; hint = hint }
+pub path_untold : (file : Option (Bor (List ℕ))) (settings : Settings) (rows : Rows) (own : Own) (root : ℕ) (fault : AskFault) (hint : List ℕ) → IsSchema file rows own
+    → asked_root rows own settings ≡ Some root → IsPathless rows root (path_texts settings) fault hint → LacksJob file settings fault × IsHint file settings fault hint
+path_untold file settings rows own root (Path fault) hint schema is told =
+    let fails = fails_at rows root told.front told.paths told.text told.rest fault told.paths_are told.fault_is in
+    ((rows, own, schema, (root, is, rw told.texts_are fails)), (rows, own, root, schema, is, told))
+path_untold file settings rows own root OutOfMemory hint schema is told = (tt, told)
+path_untold file settings rows own root _ hint schema is told = absurd told

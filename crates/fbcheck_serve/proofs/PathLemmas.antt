@@ -11,53 +11,35 @@ use Rattle.fb_schema.specs.declared.kinds.Kind.{Kind}
 use Rattle.fb_schema.specs.Rows.{Rows}
 use Rattle.fb_run.specs.Wanted.{Wanted}
 use Rattle.fb_run.proofs.FoundLemmas.{both_more}
-use Rattle.fbcheck_serve.specs.Asked.{ArePaths, IsPath, IsPathFault, PathFails, PathsFail}
-use Rattle.fbcheck_serve.specs.{Checking.IsPathHint, Inputs.are_several, Inputs.label_of}
+use Rattle.fbcheck_serve.specs.Asked.{ArePaths, IsPath, IsPathFault, PathFails}
+use Rattle.fbcheck_serve.specs.{Checking.IsPathless, Inputs.are_several, Inputs.label_of}
 use Rattle.fbcheck_texts.specs.Hints.{hint_text, path_hint, with_hint}
 use Rattle.fbcheck_texts.specs.declared.{fault.AskFault.AskFault, fault.AskFault.TheVariants.OutOfMemory, fault.AskFault.TheVariants.Path}
 use Rattle.fbcheck_texts.specs.declared.hint.Unasked.{Unasked}
 
 module _ (rows : Rows) (root : ℕ) where
   -- the next text fails, behind those that name paths
-  fails_at : (before : List (List ℕ)) (paths : List Wanted) (text : List ℕ) (after : List (List ℕ)) (fault : PathFault)
+  pub fails_at : (before : List (List ℕ)) (paths : List Wanted) (text : List ℕ) (after : List (List ℕ)) (fault : PathFault)
       → ArePaths rows root before paths → IsFault rows root text fault → IsPathFault rows root (before ++ text ∷ after) fault
   fails_at [] paths text after fault h is = inl is
   fails_at (t ∷ before) [] text after fault h is = absurd h
   fails_at (t ∷ before) (p ∷ paths) text after fault h is = inr (p.steps, h.0.1, fails_at before paths text after fault h.1 is)
 
-  fail_at : (before : List (List ℕ)) (paths : List Wanted) (text : List ℕ) (after : List (List ℕ)) (fault : AskFault)
-      → ArePaths rows root before paths → PathFails rows root text fault → PathsFail rows root (before ++ text ∷ after) fault
-  fail_at before paths text after (Path fault) h is = fails_at before paths text after fault h is
-  fail_at before paths text after OutOfMemory h is = tt
-  fail_at before paths text after _ h is = absurd is
-
   -- with a hint, or for want of memory without one
-  pub hinted_fails : (texts : List (List ℕ)) (fault : AskFault) (hint : Result (Vec ℕ Global) AllocError) (unasked : Unasked) → unasked ≡ with_hint fault hint
-      → PathsFail rows root texts fault → PathsFail rows root texts unasked.fault
-  hinted_fails texts fault (Ok hint) unasked is fails = subst (λ (u : Unasked). PathsFail rows root texts u.fault) (sym is) fails
-  hinted_fails texts fault (Err none) unasked is fails = subst (λ (u : Unasked). PathsFail rows root texts u.fault) (sym is) tt
-
-  pub hinted_told : (texts : List (List ℕ)) (fault : AskFault) (hint : Result (Vec ℕ Global) AllocError) (unasked : Unasked) → unasked ≡ with_hint fault hint
-      → IfOk hint (λ h. IsPathHint rows root texts fault h.items) → IsPathHint rows root texts unasked.fault (hint_text unasked.hint)
-  hinted_told texts fault (Ok hint) unasked is told = subst (λ (u : Unasked). IsPathHint rows root texts u.fault (hint_text u.hint)) (sym is) told
-  hinted_told texts fault (Err none) unasked is told = subst (λ (u : Unasked). IsPathHint rows root texts u.fault (hint_text u.hint)) (sym is) refl
+  pub hinted : (texts : List (List ℕ)) (fault : AskFault) (hint : Result (Vec ℕ Global) AllocError) (unasked : Unasked) → unasked ≡ with_hint fault hint
+      → IfOk hint (λ h. IsPathless rows root texts fault h.items) → IsPathless rows root texts unasked.fault (hint_text unasked.hint)
+  hinted texts fault (Ok hint) unasked is told = rw is told
+  hinted texts fault (Err none) unasked is told = rw is refl
 
   module _ (texts : List (String Global)) (i : ℕ) (text : String Global) (inside : i < length texts) (is : text ≡ get_or texts i text) where
     all_texts : map string_bytes texts ≡ map string_bytes (take i texts) ++ string_bytes text ∷ map string_bytes (drop (suc i) texts)
     all_texts =
-        let here : drop i texts ≡ text ∷ drop (suc i) texts = drop-cons texts i text inside ∙ ap (λ s. s ∷ drop (suc i) texts) (sym is) in
         ap (map string_bytes) (sym (take-append-drop i texts)) ∙ map-append string_bytes (take i texts) (drop i texts)
-        ∙ ap (λ l. map string_bytes (take i texts) ++ map string_bytes l) here
+        ∙ rw (drop-cons texts i text inside, ← is) refl
 
-    pub paths_fail : (paths : List Wanted) (fault : AskFault) → ArePaths rows root (map string_bytes (take i texts)) paths → PathFails rows root (string_bytes text) fault
-        → PathsFail rows root (map string_bytes texts) fault
-    paths_fail paths fault h fails =
-        subst (λ (l : List (List ℕ)). PathsFail rows root l fault) (sym all_texts)
-        (fail_at (map string_bytes (take i texts)) paths (string_bytes text) (map string_bytes (drop (suc i) texts)) fault h fails)
-
-    -- and what is told behind that
+    -- it fails, and this is told behind that
     pub path_told : (paths : List Wanted) (fault : AskFault) (at : Option Kind) (hint : List ℕ) → ArePaths rows root (map string_bytes (take i texts)) paths → PathFails rows root (string_bytes text) fault
-        → IsMisfitAt rows root (string_bytes text) at → hint ≡ path_hint rows (label_of (are_several (map string_bytes texts)) (string_bytes text)) (string_bytes text) fault at → IsPathHint rows root (map string_bytes texts) fault hint
+        → IsMisfitAt rows root (string_bytes text) at → hint ≡ path_hint rows (label_of (are_several (map string_bytes texts)) (string_bytes text)) (string_bytes text) fault at → IsPathless rows root (map string_bytes texts) fault hint
     path_told paths (Path fault) at hint h fails stands told = record {
       front = map string_bytes (take i texts);
       text = string_bytes text;
@@ -77,8 +59,5 @@ module _ (rows : Rows) (root : ℕ) where
     pub paths_more : (paths paths' : List Wanted) (path : Wanted) → ArePaths rows root (map string_bytes (take i texts)) paths → IsPath rows root (string_bytes text) path
         → paths' ≡ paths ++ path ∷ [] → ArePaths rows root (map string_bytes (take (i + 1) texts)) paths'
     paths_more paths paths' path h leads added =
-        let more : map string_bytes (take (i + 1) texts) ≡ map string_bytes (take i texts) ++ string_bytes text ∷ [] =
-        ap (map string_bytes) (take_more texts i text inside ∙ ap (λ s. take i texts ++ s ∷ []) (sym is)) ∙ map-append string_bytes (take i texts) (text ∷ []) in
-        subst (λ (l : List (List ℕ)). ArePaths rows root l paths') (sym more)
-        (subst (λ (l : List Wanted). ArePaths rows root (map string_bytes (take i texts) ++ string_bytes text ∷ []) l) (sym added)
-        (both_more (IsPath rows root) (map string_bytes (take i texts)) paths (string_bytes text) path h leads))
+        rw (take_more texts i text inside, ← is, map-append string_bytes (take i texts) (text ∷ []), added)
+        (both_more (IsPath rows root) (map string_bytes (take i texts)) paths (string_bytes text) path h leads)

@@ -17,9 +17,10 @@ use Rattle.fb_run.specs.{Job.Job, Faults.End, Faults.EndsBeside, JsonSums.summar
 use Rattle.fb_run.specs.Ends.{Ends, Reader, Writer, beside}
 use Rattle.fbcheck_serve.specs.Serving.{ChecksAsGiven, ComesBy, ComesTo, HoldsAsGiven, IsPromptAsGiven, EndsSo, IsCrowded, PassesAsGiven, SumsUp, Unserved, files_ending, lent_bytes, run_ending, summed, words_of}
 use Rattle.fbcheck_words.specs.declared.{choices.Settings.Settings, choices.SettingsFault.SettingsFault}
+use Rattle.fb_run.specs.declared.fault.RunFault.{RunFault}
 use Rattle.fb_run.specs.declared.fault.RunFault.TheVariants as run
 use Rattle.fb_run.specs.declared.tally.Tally.{Tally}
-use Rattle.fbcheck_serve.specs.declared.{stop.Ending.Ending, inputs.Course.Course, stop.Ending.TheVariants.Checked, stop.Ending.TheVariants.Passed}
+use Rattle.fbcheck_serve.specs.declared.{stop.Ending.Ending, inputs.Course.Course, stop.Ending.TheVariants.Helped}
 use Rattle.fbcheck_serve.specs.declared.{stop.Stop.Stop, stop.Sums.Sums}
 use Rattle.fbcheck_serve.specs.declared.stop.Stop.TheVariants as stop
 use Rattle.fbcheck_texts.specs.declared.fault.WordsFault.{WordsFault}
@@ -29,14 +30,11 @@ module _ (folder : Folder) where
   pub comes_unserved : (given : List Text) (reader : Reader) (writer writer' notes : Writer) (cause : Option ErrorKind) (fault : SettingsFault) (outcome : Result Ending Stop)
       → Refuses given fault → Unserved fault writer writer' outcome
       → ComesBy folder given (with_cause (beside reader (record { writer = writer; notes = notes })) cause) (with_cause (beside reader (record { writer = writer'; notes = notes })) cause) None outcome
-  comes_unserved given reader writer writer' notes cause fault (Ok (Checked tally manner)) refuses never = absurd never
-  comes_unserved given reader writer writer' notes cause fault (Ok (Passed course by)) refuses never = absurd never
-  comes_unserved given reader writer writer' notes cause fault (Err (stop.Run why tally manner)) refuses never = absurd never
-  comes_unserved given reader writer writer' notes cause fault (Err (stop.Halted why)) refuses never = absurd never
-  comes_unserved given reader writer writer' notes cause fault (Err (stop.Ask why)) refuses never = absurd never
-  comes_unserved given reader writer writer' notes cause fault (Err (stop.File why hint)) refuses never = absurd never
-  comes_unserved given reader writer writer' notes cause fault (Err (stop.Unsummed written)) refuses never = absurd never
-  comes_unserved given reader writer writer' notes cause fault outcome refuses unserved = ((fault, refuses, Keeps-refl reader.left, unserved, Keeps-refl notes.bytes), refl)
+  comes_unserved given reader writer writer' notes cause fault (Ok Helped) refuses unserved = ((fault, refuses, Keeps-refl reader.left, unserved, Keeps-refl notes.bytes), refl)
+  comes_unserved given reader writer writer' notes cause fault (Err (stop.Usage text)) refuses unserved = ((fault, refuses, Keeps-refl reader.left, unserved, Keeps-refl notes.bytes), refl)
+  comes_unserved given reader writer writer' notes cause fault (Err (stop.Settings why)) refuses unserved = ((fault, refuses, Keeps-refl reader.left, unserved, Keeps-refl notes.bytes), refl)
+  comes_unserved given reader writer writer' notes cause fault (Err (stop.CutOff written)) refuses unserved = ((fault, refuses, Keeps-refl reader.left, unserved, Keeps-refl notes.bytes), refl)
+  comes_unserved given reader writer writer' notes cause fault _ refuses never = absurd never
 
   -- what holds by the settings, and by what a read of the file of the words gave
   pub holds_given : (given : List Text) (settings : Settings) (file : Option (Bor (List ℕ))) (bytes : Option (List ℕ)) (Holds : Option (Bor (List ℕ)) → Settings → Type 0)
@@ -50,22 +48,6 @@ module _ (folder : Folder) where
     holds = holds;
   }
 
-  -- the buffers were checked by these settings
-  pub checks_given : (given : List Text) (settings : Settings) (file : Option (Bor (List ℕ))) (bytes : Option (List ℕ)) (before after : Ends) (tally : Tally) (manner : Manner) (sums : Option Sums)
-      (end end' : End) → end ≡ end' → AreGiven given settings → lent_bytes file ≡ bytes → IsFile folder.gives (option_map string_bytes settings.schema) bytes
-      → names_in settings ≡ [] → RunsAsAsked file settings before after tally end → manner ≡ manner_in settings → sums ≡ summed settings tally
-      → ChecksAsGiven folder given before after sums tally manner end'
-  checks_given given settings file bytes before after tally manner sums end end' same are lent is none ran stands counted =
-      holds_given given settings file bytes _ are lent is (none, subst (λ (e : End). RunsAsAsked file settings before after tally e) same ran, stands, counted)
-
-  -- files were gone through by these settings
-  pub passes_given : (given : List Text) (settings : Settings) (file : Option (Bor (List ℕ))) (bytes : Option (List ℕ)) (before after : Seen) (course : Course) (by : By) (sums : Option Sums)
-      (end end' : End) → end ≡ end' → AreGiven given settings → lent_bytes file ≡ bytes → IsFile folder.gives (option_map string_bytes settings.schema) bytes
-      → names_in settings ≢ [] → ServesAsAsked folder file settings before after course end → by ≡ by_of settings.schema → sums ≡ summed settings course.tally
-      → PassesAsGiven folder given before after sums course by end'
-  passes_given given settings file bytes before after course by sums end end' same are lent is some served stands counted =
-      holds_given given settings file bytes _ are lent is (some, subst (λ (e : End). ServesAsAsked folder file settings before after course e) same served, stands, counted)
-
   -- the program ends by the end of the run, or of the files
   pub comes_run : (given : List Text) (before after : Seen) (sums : Option Sums) (manner : Manner) (tally : Tally) (end : End) (outcome : Result Ending Stop) → outcome ≡ run_ending manner tally end
       → ChecksAsGiven folder given before.ends after.ends sums tally manner end → ComesBy folder given before after sums outcome
@@ -76,17 +58,6 @@ module _ (folder : Folder) where
       → PassesAsGiven folder given before after sums course by end → ComesBy folder given before after sums outcome
   comes_files given before after sums by course (Ok done) outcome is passes = subst (λ (o : Result Ending Stop). ComesBy folder given before after sums o) (sym is) passes
   comes_files given before after sums by course (Err fault) outcome is passes = subst (λ (o : Result Ending Stop). ComesBy folder given before after sums o) (sym is) (course, by, passes)
-
-  -- the end of files says nothing of the counts
-  pub files_end_so : (before after : Ends) (turns : ℕ) (by : By) (course : Course) (end : End) (outcome : Result Ending Stop) → outcome ≡ files_ending by course end → EndsSo before after turns outcome
-  files_end_so before after turns by course (Ok done) outcome is = subst (λ (o : Result Ending Stop). EndsSo before after turns o) (sym is) tt
-  files_end_so before after turns by course (Err fault) outcome is = subst (λ (o : Result Ending Stop). EndsSo before after turns o) (sym is) tt
-
-  -- and that of a run what the run does
-  pub run_ends_so : (before after : Ends) (turns : ℕ) (manner : Manner) (tally : Tally) (end : End) (outcome : Result Ending Stop) → outcome ≡ run_ending manner tally end → EndsBeside before after turns end
-      → EndsSo before after turns outcome
-  run_ends_so before after turns manner tally (Ok done) outcome is ends = subst (λ (o : Result Ending Stop). EndsSo before after turns o) (sym is) ends
-  run_ends_so before after turns manner tally (Err fault) outcome is ends = subst (λ (o : Result Ending Stop). EndsSo before after turns o) (sym is) ends
 
   -- all that was read is told, where no file is named, and among files
   pub prompt_alone : (file : Option (Bor (List ℕ))) (settings : Settings) (before now : Ends) → names_in settings ≡ [] → IsPromptAsAsked file settings before now
@@ -132,22 +103,8 @@ sums_noted sums told before after outcome line written some is all wrote same =
     subst (λ (o : Option Sums). SumsUp o before after outcome outcome) (sym some)
     (inl (subst (Appends before.bytes after.bytes) (ap (λ (m : ℕ). take m line) all ∙ take-length line ∙ is) wrote, same, refl))
 
--- more calls of the notes leave them as crowded
-pub crowded_on : (writes notes more : ℕ) (outcome : Result Ending Stop) → notes ≤ more → IsCrowded writes notes outcome → IsCrowded writes more outcome
-crowded_on writes notes more (Err (stop.Halted run.TooManyTurns)) le (inl many) = inl many
-crowded_on writes notes more (Err (stop.Halted run.TooManyTurns)) le (inr many) = inr (omega arith)
-crowded_on writes notes more (Err (stop.Halted fault)) le crowded = tt
-crowded_on writes notes more (Ok ending) le crowded = tt
-crowded_on writes notes more (Err cause) le crowded = tt
-
--- files that ended so
-pub files_crowded : (writes notes : ℕ) (by : By) (course : Course) (end : End) (outcome : Result Ending Stop) → outcome ≡ files_ending by course end
-    → (end ≡ Err run.TooManyTurns → (2 ^ 64 ≤ writes) ⊎ (2 ^ 64 ≤ notes)) → IsCrowded writes notes outcome
-files_crowded writes notes by course (Ok done) outcome is crowded = subst (λ (o : Result Ending Stop). IsCrowded writes notes o) (sym is) tt
-files_crowded writes notes by course (Err run.TooManyTurns) outcome is crowded = subst (λ (o : Result Ending Stop). IsCrowded writes notes o) (sym is) (crowded refl)
-files_crowded writes notes by course (Err fault) outcome is crowded = subst (λ (o : Result Ending Stop). IsCrowded writes notes o) (sym is) tt
-
--- and a run
-pub run_crowded : (writes notes : ℕ) (manner : Manner) (tally : Tally) (end : End) (outcome : Result Ending Stop) → outcome ≡ run_ending manner tally end → IsCrowded writes notes outcome
-run_crowded writes notes manner tally (Ok done) outcome is = subst (λ (o : Result Ending Stop). IsCrowded writes notes o) (sym is) tt
-run_crowded writes notes manner tally (Err fault) outcome is = subst (λ (o : Result Ending Stop). IsCrowded writes notes o) (sym is) tt
+-- a run over files that came to rest, with more calls of the notes since
+pub halted_crowded : (writes notes more : ℕ) (end : End) (fault : RunFault) → end ≡ Err fault → notes ≤ more → (end ≡ Err run.TooManyTurns → (2 ^ 64 ≤ writes) ⊎ (2 ^ 64 ≤ notes))
+    → IsCrowded writes more (Err (stop.Halted fault))
+halted_crowded writes notes more end run.TooManyTurns is le many = elim (many is) [ inl enough ↦ inl enough | inr enough ↦ inr (omega arith) ]
+halted_crowded writes notes more end _ is le many = tt

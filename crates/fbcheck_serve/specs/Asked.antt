@@ -144,13 +144,8 @@ AsksBy rows own settings (Err (Path fault)) = HasPathFault rows own settings fau
 AsksBy rows own settings (Err NoIdent) = LacksIdent rows own settings
 AsksBy rows own settings (Err _) = ⊥
 
--- why a text gives no path, and why texts give no paths
+-- why a text gives no path
 abbrev pub PathFails : Rows → ℕ → List ℕ → AskFault → Type 0
 PathFails rows root text (Path fault) = IsFault rows root text fault
 PathFails rows root text OutOfMemory = Unit {0}
 PathFails rows root text _ = ⊥
-
-abbrev pub PathsFail : Rows → ℕ → List (List ℕ) → AskFault → Type 0
-PathsFail rows root texts (Path fault) = IsPathFault rows root texts fault
-PathsFail rows root texts OutOfMemory = Unit {0}
-PathsFail rows root texts _ = ⊥

@@ -77,9 +77,11 @@ pub record TellsPath (rows : Rows) (root : ℕ) (texts : List (List ℕ)) (fault
   pub at_is : IsMisfitAt rows root text at
   pub hint_is : hint ≡ path_hint rows (label_of (are_several texts) text) text (Path fault) at
 
-abbrev pub IsPathHint : Rows → ℕ → List (List ℕ) → AskFault → List ℕ → Type 0
-IsPathHint rows root texts (Path fault) hint = TellsPath rows root texts fault hint
-IsPathHint rows root texts _ hint = hint ≡ codes "\n"
+-- why texts give no paths, and what is told behind that
+abbrev pub IsPathless : Rows → ℕ → List (List ℕ) → AskFault → List ℕ → Type 0
+IsPathless rows root texts (Path fault) hint = TellsPath rows root texts fault hint
+IsPathless rows root texts OutOfMemory hint = hint ≡ codes "\n"
+IsPathless rows root texts _ hint = ⊥
 
 -- this is told behind a fault of what a schema file, or none, and the settings ask
 abbrev pub IsHint : Option (Bor (List ℕ)) → Settings → AskFault → List ℕ → Type 0

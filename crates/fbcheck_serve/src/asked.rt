@@ -4,9 +4,9 @@ ghost use Rattle.std.specs.Prelude.{ℕ, Option, IfOk, IfErr, IfSome, IsTrue, Ok
 ghost use Rattle.fb_schema.specs.Rows.{is_table};
 ghost use Rattle.fb_bfbs.specs.LoadLaws.{ident_bytes};
 ghost use Rattle.fbcheck_texts.specs.{Framing.by_of, Hints.hint_text};
-ghost use Rattle.fbcheck_serve.specs.Asked.{ArePaths, IsPath, PathFails, PathsFail, asked_ident, form_of, framing_in, ident_of, manner_in, mode_of, options_of, places_of, prefix_of, root_of};
+ghost use Rattle.fbcheck_serve.specs.Asked.{ArePaths, IsPath, PathFails, asked_ident, form_of, framing_in, ident_of, manner_in, mode_of, options_of, places_of, prefix_of, root_of};
 ghost use Rattle.fbcheck_serve.specs.Inputs.{label_of};
-ghost use Rattle.fbcheck_serve.specs.Checking.{Asks, IsPathHint, IsSchema, IsUntold, LacksSchema, own_of, schema_limits};
+ghost use Rattle.fbcheck_serve.specs.Checking.{Asks, IsPathless, IsSchema, IsUntold, LacksSchema, own_of, schema_limits};
 ghost use Rattle.fbcheck_words.specs.Ranges.{AreInRange};
 ghost use Rattle.fbcheck_words.specs.declared.choices.Settings.{Settings};
 ghost use Rattle.fb_run.specs.Job.{PathsFit, Serves, job_of};
@@ -99,8 +99,7 @@ fn find_paths(
     ensures paths { IfOk result (λ paths. ArePaths schema.now root (map string_bytes texts.now) paths.items) }
     ensures fits { IfOk result (λ paths. PathsFit schema.now root paths.items) }
     ensures count { IfOk result (λ paths. length paths.items ≡ length texts.now) }
-    ensures fault { IfErr result (λ unasked. PathsFail schema.now root (map string_bytes texts.now) unasked.fault) }
-    ensures hint { IfErr result (λ unasked. IsPathHint schema.now root (map string_bytes texts.now) unasked.fault (hint_text unasked.hint)) }
+    ensures none { IfErr result (λ unasked. IsPathless schema.now root (map string_bytes texts.now) unasked.fault (hint_text unasked.hint)) }
 {
     let several = texts.len() > 1;
     let mut paths = Vec::new(alloc);

@@ -1,6 +1,6 @@
 //! Files as inputs, one behind another.
 
-ghost use Rattle.std.specs.Prelude.{Err, IfOk, true, false, ◌≡◌, ◌⊎◌, ◌+◌, ◌<◌, ◌≤◌, ◌^◌, length, map, option_map, string_bytes, vec_items};
+ghost use Rattle.std.specs.Prelude.{Err, IfOk, true, false, ◌≡◌, ◌≢◌, ◌⊎◌, ◌+◌, ◌<◌, ◌≤◌, ◌^◌, length, map, option_map, string_bytes, vec_items};
 ghost use Rattle.fb_run.specs.Ends.{HasCallsLeft, HasLeave, ends_of, writer_of};
 ghost use Rattle.fb_run.specs.{Sums.no_tally, Job.Serves, Job.job_of, Prompt.IsPrompt};
 ghost use Rattle.fb_run.specs.declared.fault.RunFault.TheVariants.{TooManyTurns};
@@ -279,6 +279,8 @@ impl Course {
         requires places { length self.tally.reasons ≡ 13 }
         requires more { IfOk came.now (λ ran. length ran.tally.reasons ≡ 13) }
         ensures course { result ≡ course_with name.now came.now self }
+        ensures unread { result.standard ≡ Unread → (is_standard name.now ≡ false) × (self.standard ≡ Unread) }
+        ensures spent { self.standard ≡ Spent → result.standard ≡ Spent }
         ensures places { length result.tally.reasons ≡ 13 }
     {
         let standard = standard_after(name, self.standard);
@@ -299,7 +301,9 @@ impl Course {
 
 /// Standard input once this file was gone through.
 fn standard_after(name: &str, standard: Standard) -> Standard
-    ensures { result ≡ standard_after (is_standard name.now) standard }
+    ensures after { result ≡ standard_after (is_standard name.now) standard }
+    ensures unread { result ≡ Unread → (is_standard name.now ≡ false) × (standard ≡ Unread) }
+    ensures spent { standard ≡ Spent → result ≡ Spent }
 {
     if name == STANDARD {
         Standard::Spent
@@ -349,6 +353,7 @@ fn tell_behind<N: Sink>(
 ) -> Result<(), RunFault>
     requires { N.calls notes.old < 2 ^ 99 }
     ensures told { IsBehind name.now framing came.now.what came.now.cause (writer_of N.Sink notes.old) (writer_of N.Sink notes.new) result }
+    ensures never { result ≢ Err TooManyTurns }
     ensures calls { N.calls notes.new ≤ N.calls notes.old + 2 ^ 64 }
 {
     match &came.what {
@@ -375,6 +380,7 @@ fn tell_run<N: Sink>(
 ) -> Result<(), RunFault>
     requires { N.calls notes.old < 2 ^ 99 }
     ensures told { IsBehindRun name.now framing ran.now.tally ran.now.end cause (writer_of N.Sink notes.old) (writer_of N.Sink notes.new) result }
+    ensures never { result ≢ Err TooManyTurns }
     ensures calls { N.calls notes.new ≤ N.calls notes.old + 2 ^ 64 }
 {
     let Err(fault) = &ran.end else {
@@ -397,6 +403,7 @@ fn tell_end<N: Sink>(
 ) -> Result<(), RunFault>
     requires { N.calls notes.old < 2 ^ 99 }
     ensures told { IsBehindEnd name.now (option_map (λ h. h.now) hint.entry) (writer_of N.Sink notes.old) (writer_of N.Sink notes.new) result }
+    ensures never { result ≢ Err TooManyTurns }
     ensures calls { N.calls notes.new ≤ N.calls notes.old + 2 ^ 64 }
 {
     let Some(hint) = hint else {
@@ -427,6 +434,7 @@ fn tell_fault<N: Sink>(
 ) -> Result<(), RunFault>
     requires { N.calls notes.old < 2 ^ 99 }
     ensures told { IsNotedOf (fault_line name.now why.now behind.now) (writer_of N.Sink notes.old) (writer_of N.Sink notes.new) result }
+    ensures never { result ≢ Err TooManyTurns }
     ensures calls { N.calls notes.new ≤ N.calls notes.old + 2 ^ 64 }
 {
     let line = fault_line(alloc, name, why, behind)?;

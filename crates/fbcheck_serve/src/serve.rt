@@ -1,7 +1,9 @@
 //! What the program does, from its words to its exit status.
 
-ghost use Rattle.std.specs.Prelude.{IfOk, IfSome, ◌≡◌, ◌+◌, ◌<◌, ◌≤◌, ◌^◌, ℕ, length, string_len};
-ghost use Rattle.fb_run.specs.Ends.{HasCallsLeft, HasLeave, Reader, Writer, beside, ends_of, writer_of};
+ghost use Rattle.std.specs.Prelude.{Err, IfOk, IfSome, ◌≡◌, ◌⊎◌, ◌+◌, ◌<◌, ◌≤◌, ◌^◌, ℕ, length, string_len};
+ghost use Rattle.fb_run.specs.Faults.{EndsBeside};
+ghost use Rattle.fb_run.specs.declared.fault.RunFault.TheVariants.{TooManyTurns};
+ghost use Rattle.fb_run.specs.Ends.{Ends, HasCallsLeft, HasLeave, Reader, Writer, beside, ends_of, writer_of};
 ghost use Rattle.fbcheck_serve.specs.Inputs.{folder_of, seen_of};
 ghost use Rattle.fbcheck_serve.specs.Serving.{ComesTo, EndsSo, IsCrowded, IsPromptAsGiven, IsServed, Unserved, files_ending, run_ending, summed, words_of};
 
@@ -69,7 +71,7 @@ fn come_to<F: Files, S: Input<K, N> + Explains, K: Sink, N: Sink>(
     ensures ends { EndsSo (ends_of S.Input K.Sink N.Sink reader.old writer.old notes.old) (ends_of S.Input K.Sink N.Sink reader.new writer.new notes.new) MOST_TURNS result }
     ensures turns { S.calls reader.new ≤ S.calls reader.old + MOST_TURNS }
     ensures noted { N.calls notes.new < 2 ^ 98 }
-    ensures crowded { IsCrowded (K.calls writer.new) (N.calls notes.new) result }
+    ensures crowded { (more : ℕ) → N.calls notes.new ≤ more → IsCrowded (K.calls writer.new) more result }
 {
     *sums = None;
     let words = match words {
@@ -107,7 +109,9 @@ fn come_to<F: Files, S: Input<K, N> + Explains, K: Sink, N: Sink>(
 
 /// How the program ends by what a run over an input came to that was checked in this manner.
 fn run_ending(manner: Manner, ran: &Ran) -> Result<Ending, Stop>
-    ensures { result ≡ run_ending manner ran.now.tally ran.now.end }
+    ensures ending { result ≡ run_ending manner ran.now.tally ran.now.end }
+    ensures ends { (before after : Ends) (turns : ℕ) → EndsBeside before after turns ran.now.end → EndsSo before after turns result }
+    ensures crowded { (writes notes : ℕ) → IsCrowded writes notes result }
 {
     match ran.end {
         Ok(()) => Ok(Ending::Checked(ran.tally, manner)),
@@ -117,7 +121,9 @@ fn run_ending(manner: Manner, ran: &Ran) -> Result<Ending, Stop>
 
 /// The same by what files came to that were checked by this.
 fn files_ending(by: By, passed: &Passed) -> Result<Ending, Stop>
-    ensures { result ≡ files_ending by passed.now.course passed.now.end }
+    ensures ending { result ≡ files_ending by passed.now.course passed.now.end }
+    ensures ends { (before after : Ends) (turns : ℕ) → EndsSo before after turns result }
+    ensures crowded { (writes notes more : ℕ) → notes ≤ more → (passed.now.end ≡ Err TooManyTurns → (2 ^ 64 ≤ writes) ⊎ (2 ^ 64 ≤ notes)) → IsCrowded writes more result }
 {
     match passed.end {
         Ok(()) => Ok(Ending::Passed(passed.course, by)),
@@ -157,6 +163,7 @@ fn without_settings<K: Sink>(
     ensures comes { Unserved fault (writer_of K.Sink writer.old) (writer_of K.Sink writer.new) result }
     ensures ends { (reader : Reader) (notes : Writer) (turns : ℕ) → EndsSo (beside reader (record { writer = writer_of K.Sink writer.old; notes = notes }))
         (beside reader (record { writer = writer_of K.Sink writer.new; notes = notes })) turns result }
+    ensures crowded { (writes notes : ℕ) → IsCrowded writes notes result }
 {
     let status = fault.status();
     let SettingsFault::Usage(error) = &fault else {

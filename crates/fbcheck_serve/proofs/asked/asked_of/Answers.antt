@@ -4,7 +4,7 @@ use Rattle.fbcheck_texts.specs.declared.hint.Unasked.{Unasked}
 use Rattle.fbcheck_serve.specs.{Asked.LacksIdent, Asked.options_of, Inputs.with_label, Checking.IsUntold, Checking.own_of}
 use Rattle.fb_run.specs.Job.{job_of}
 use Rattle.fb_run.proofs.RunLemmas.{err_exit}
-use Rattle.fbcheck_serve.proofs.AskedLemmas.{untold_path}
+use Rattle.fbcheck_serve.proofs.AskedLemmas.{path_untold}
 use Rattle.fbcheck_serve.proofs.asked.asked_of.Goals as goal
 
 pub returns-clause-job : goal.returns-clause-job
@@ -45,5 +45,6 @@ pub returns-in_err-paths-clause-none : goal.returns-in_err-paths-clause-none
 returns-in_err-paths-clause-none c =
     let loaded = c.in-Ok.loaded in
     err_exit c.from_residual.result _ (λ (r : Result Asked Unasked). IfErr r (IsUntold c.args.schema_bytes c.args.settings.now)) c.from_residual.ensures.1
-    (untold_path c.args.schema_bytes c.args.settings.now loaded.schema (own_of loaded) c.in-Some.root _ c.in-Ok.ensures.schema
-    (sym c.find_root.ensures.number ∙ c.in-Some.is) (rw c.as_slice.ensures.value at c.in_err-paths.ensures.fault) (rw c.as_slice.ensures.value at c.in_err-paths.ensures.hint))
+    (let (lacks, hint) = path_untold c.args.schema_bytes c.args.settings.now loaded.schema (own_of loaded) c.in-Some.root _ _ c.in-Ok.ensures.schema
+    (sym c.find_root.ensures.number ∙ c.in-Some.is) (rw c.as_slice.ensures.value at c.in_err-paths.ensures.none) in
+    record { lacks = lacks; hint = hint })

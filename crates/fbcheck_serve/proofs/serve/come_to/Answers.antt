@@ -7,7 +7,7 @@ use Rattle.fbcheck_serve.specs.Serving.{ComesTo, IsFileFault, words_of}
 use Rattle.fbcheck_words.specs.declared.choices.SettingsFault.TheVariants as refusal
 use Rattle.fbcheck_serve.specs.declared.stop.Stop.TheVariants as stop
 use Rattle.fb_run.proofs.RunLemmas.{err_exit}
-use Rattle.fbcheck_serve.proofs.ServingLemmas.{checks_given, comes_files, comes_read, comes_run, comes_unserved, files_crowded, files_end_so, holds_given, none_named, passes_given, prompt_alone, prompt_among, prompt_read, run_crowded, run_ends_so, some_named}
+use Rattle.fbcheck_serve.proofs.ServingLemmas.{comes_files, comes_read, comes_run, comes_unserved, holds_given, none_named, prompt_alone, prompt_among, prompt_read, some_named}
 use Rattle.fbcheck_serve.specs.Inputs.{folder_of}
 use Rattle.fbcheck_serve.proofs.serve.come_to.Goals as goal
 
@@ -62,29 +62,25 @@ pub returns-then-is_empty-clause-comes : goal.returns-then-is_empty-clause-comes
 returns-then-is_empty-clause-comes g c =
     let set = c.in-Ok-settings.ensures in
     comes_read _ c.args.words c.in-Ok.words c.as_slice.result.now _ _ _ _ c.in-Ok.is c.as_slice.ensures.value
-    (comes_run (folder_of g.F.Files g.F.Opened.Source g.F.Opened.Explains c.args.files.now) _ _ _ _ _ _ _ c.run_ending.result c.run_ending.ensures
-    (checks_given _ _ c.in-Ok-settings.settings c.as_deref.result _ _ _ _ _ _ _ _ refl set.given c.as_deref.ensures.value c.in-Ok-read_schema.ensures.bytes
-    (none_named c.in-Ok-settings.settings.files.items c.as_slice-2.result.now c.is_empty.result c.as_slice-2.ensures.value c.is_empty.ensures c.if-is_empty.true) c.in_ok-ran.ensures.run c.manner.ensures c.summed.ensures))
-
-pub returns-then-is_empty-clause-ends : goal.returns-then-is_empty-clause-ends
-returns-then-is_empty-clause-ends g c =
-    run_ends_so (folder_of g.F.Files g.F.Opened.Source g.F.Opened.Explains c.args.files.now) (ends_of g.S.Input g.K.Sink g.N.Sink c.args.reader.now c.args.writer.now c.args.notes.now)
-    (ends_of g.S.Input g.K.Sink g.N.Sink c.check_beside.new.reader c.check_beside.new.writer c.check_beside.new.notes) 4294967296 c.manner.result c.in_ok-ran.ran.tally c.in_ok-ran.ran.end c.run_ending.result
-    c.run_ending.ensures c.in_ok-ran.ensures.end
+    (comes_run (folder_of g.F.Files g.F.Opened.Source g.F.Opened.Explains c.args.files.now) _ _ _ _ c.manner.result c.in_ok-ran.ran.tally c.in_ok-ran.ran.end c.run_ending.result c.run_ending.ensures.ending
+    (holds_given _ _ c.in-Ok-settings.settings c.as_deref.result _ _ set.given c.as_deref.ensures.value c.in-Ok-read_schema.ensures.bytes (
+      none_named c.in-Ok-settings.settings.files.items c.as_slice-2.result.now c.is_empty.result c.as_slice-2.ensures.value c.is_empty.ensures c.if-is_empty.true,
+      c.in_ok-ran.ensures.run,
+      c.manner.ensures,
+      c.summed.ensures,
+    )))
 
 pub returns-clause-comes : goal.returns-clause-comes
 returns-clause-comes g c =
     let set = c.in-Ok-settings.ensures in
     comes_read _ c.args.words c.in-Ok.words c.as_slice.result.now _ _ _ _ c.in-Ok.is c.as_slice.ensures.value
-    (comes_files (folder_of g.F.Files g.F.Opened.Source g.F.Opened.Explains c.args.files.now) _ _ _ _ _ _ _ c.files_ending.result c.files_ending.ensures
-    (passes_given _ _ c.in-Ok-settings.settings c.as_deref-2.result _ _ _ _ _ _ _ _ refl set.given c.as_deref-2.ensures.value c.in-Ok-read_schema.ensures.bytes
-    (some_named c.in-Ok-settings.settings.files.items c.as_slice-2.result.now c.is_empty.result c.as_slice-2.ensures.value c.is_empty.ensures c.if-is_empty.false) c.in_ok-passed.ensures.served c.by.ensures c.summed-2.ensures))
-
-pub returns-clause-ends : goal.returns-clause-ends
-returns-clause-ends g c =
-    files_end_so (folder_of g.F.Files g.F.Opened.Source g.F.Opened.Explains c.args.files.now) (ends_of g.S.Input g.K.Sink g.N.Sink c.args.reader.now c.args.writer.now c.args.notes.now)
-    (ends_of g.S.Input g.K.Sink g.N.Sink c.check_files.new.reader c.check_files.new.writer c.check_files.new.notes) 4294967296 c.by.result c.in_ok-passed.passed.course c.in_ok-passed.passed.end
-    c.files_ending.result c.files_ending.ensures
+    (comes_files (folder_of g.F.Files g.F.Opened.Source g.F.Opened.Explains c.args.files.now) _ _ _ _ c.by.result c.in_ok-passed.passed.course c.in_ok-passed.passed.end c.files_ending.result c.files_ending.ensures.ending
+    (holds_given _ _ c.in-Ok-settings.settings c.as_deref-2.result _ _ set.given c.as_deref-2.ensures.value c.in-Ok-read_schema.ensures.bytes (
+      some_named c.in-Ok-settings.settings.files.items c.as_slice-2.result.now c.is_empty.result c.as_slice-2.ensures.value c.is_empty.ensures c.if-is_empty.false,
+      c.in_ok-passed.ensures.served,
+      c.by.ensures,
+      c.summed-2.ensures,
+    )))
 
 pub check_beside-requires-clause-leave : goal.check_beside-requires-clause-leave
 check_beside-requires-clause-leave g c now prompt unended =
@@ -105,9 +101,3 @@ check_files-requires-clause-leave g c now prompt unended =
     set.given c.as_deref-2.ensures.value c.in-Ok-read_schema.ensures.bytes
     (prompt_among (folder_of g.F.Files g.F.Opened.Source g.F.Opened.Explains c.args.files.now) c.as_deref-2.result c.in-Ok-settings.settings _ _
     (some_named c.in-Ok-settings.settings.files.items c.as_slice-2.result.now c.is_empty.result c.as_slice-2.ensures.value c.is_empty.ensures c.if-is_empty.false) prompt))) unended
-
-pub returns-then-is_empty-clause-crowded : goal.returns-then-is_empty-clause-crowded
-returns-then-is_empty-clause-crowded g c = run_crowded _ _ _ _ _ c.run_ending.result c.run_ending.ensures
-
-pub returns-clause-crowded : goal.returns-clause-crowded
-returns-clause-crowded g c = files_crowded _ _ _ _ _ c.files_ending.result c.files_ending.ensures c.in_ok-passed.ensures.crowded

@@ -2,7 +2,6 @@ use Rattle.std.proofs.Common.{Option, arith, subst}
 use Rattle.std.specs.declared.io.ErrorKind.{ErrorKind}
 use Rattle.fb_run.specs.Ends.{writer_of}
 use Rattle.fbcheck_serve.specs.Serving.{Complains}
-use Rattle.fbcheck_serve.proofs.ServingLemmas.{crowded_on}
 use Rattle.fbcheck_serve.proofs.serve.serve.Goals as goal
 
 pub returns-clause-served : goal.returns-clause-served
@@ -12,7 +11,7 @@ returns-clause-served g c = record {
   between = writer_of g.N.Sink c.come_to-outcome.new.notes;
   comes = c.come_to-outcome.ensures.comes;
   ends = c.come_to-outcome.ensures.ends;
-  crowded = crowded_on _ (g.N.Sink.calls c.come_to-outcome.new.notes) _ c.come_to-outcome.result (omega arith) c.come_to-outcome.ensures.crowded;
+  crowded = c.come_to-outcome.ensures.crowded _ (omega arith);
   ending = c.sum_up-ending.result;
   behind = writer_of g.N.Sink c.sum_up-ending.new.notes;
   summed = c.sum_up-ending.ensures.summed;
