@@ -1,22 +1,14 @@
 -- Files that are gone through one behind another.
-use Rattle.std.proofs.Common.{◌≡◌, ◌∙◌, ℕ, zero, suc, ◌+◌, ◌<◌, ◌≤◌, List, [], ◌∷◌, ◌++◌, Bool, true, false, Option, None, Some, Result, Ok, Err, length, take, take_all, drop, drop_of_length-le, drop-cons, get_or, append_assoc, add-one, arith, refl, sym, ap, subst}
+use Rattle.std.proofs.Common.{◌≡◌, ◌∙◌, ℕ, zero, suc, ◌+◌, ◌<◌, ◌≤◌, List, [], ◌∷◌, ◌++◌, Bool, Option, Ok, Err, length, take, take_all, drop, drop_of_length-le, drop-cons, get_or, append_assoc, add-one, arith, refl, sym, ap, subst}
 use Rattle.std.proofs.Math.ListN.{set}
 use Rattle.std.proofs.lemmas.List.{append-nil}
 use Rattle.std.specs.Global.{Global}
 use Rattle.std.specs.Prelude.{String, Vec, map, option_map, string_bytes, vec_items}
 use Rattle.fb_schema.specs.Rows.{Rows}
 use mathlib.Core.Logic.{inl}
-use Rattle.fb_run.specs.{Ends.Writer, Faults.End, Job.Job, Job.job_of}
+use Rattle.fb_run.specs.{Faults.End, Job.Job, Job.job_of}
 use Rattle.fb_run.specs.declared.{options.Options.Options, fault.RunFault.RunFault}
-use Rattle.fb_run.specs.declared.fault.RunFault.TheVariants as run
-use Rattle.fb_run.specs.declared.{run.Ran.Ran, tally.Tally.Tally}
-use Rattle.fbcheck_texts.specs.{Framing.end_hint, Framing.run_hint, Texts.of_read, Texts.run_text}
-use Rattle.fbcheck_texts.specs.declared.{framing.By.TheVariants.Named, framing.Framing.Framing}
-use Rattle.std.specs.declared.io.ErrorKind.{ErrorKind}
-use Rattle.fbcheck_serve.specs.Inputs.{Folder, HaltsAmong, IsBehind, IsBehindEnd, IsBehindFault, IsBehindRun, IsNotedOf, Passes, PassesAll, Stand, Tries, course_with, fault_line, is_final, is_standard, label_of, with_label, standard_after, sum_of_counts, sums, are_named}
-use Rattle.fbcheck_texts.specs.declared.fault.FileFault.TheVariants as file
-use Rattle.fbcheck_serve.specs.declared.{inputs.Course.Course, inputs.Missed.Missed}
-use Rattle.fbcheck_serve.specs.declared.inputs.Missed.TheVariants as missed
+use Rattle.fbcheck_serve.specs.Inputs.{Folder, HaltsAmong, Passes, PassesAll, Stand, Tries, label_of, with_label, sum_of_counts, sums, are_named}
 use Rattle.fbcheck_serve.specs.declared.{inputs.Standard.Standard, inputs.Standard.TheVariants.Unread, inputs.Standard.TheVariants.Spent}
 
 -- the counts up to a place are added; then those up to the next are

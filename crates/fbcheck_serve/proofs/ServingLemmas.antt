@@ -8,14 +8,13 @@ use Rattle.std.proofs.{KnownBytes.Keeps-refl, Math.Seq.take-length}
 use Rattle.std.proofs.lemmas.{Bool.eq-eqb, Bool.eqb-true, List.length-map, List.nil_from_length}
 use Rattle.clap.specs.Walk.{Text}
 use Rattle.fbcheck_words.specs.{Refusal.Refuses, Given.AreGiven}
-use Rattle.fbcheck_serve.specs.Checking.{IsPromptAmongAsked, IsPromptAsAsked, IsPromptOverAsked, RunsAsAsked, ServesAsAsked, names_in}
-use Rattle.fbcheck_serve.specs.Asked.{manner_in}
-use Rattle.fbcheck_texts.specs.{Faults.IsFile, Framing.by_of}
+use Rattle.fbcheck_serve.specs.Checking.{IsPromptAmongAsked, IsPromptAsAsked, IsPromptOverAsked, names_in}
+use Rattle.fbcheck_texts.specs.{Faults.IsFile}
 use Rattle.fbcheck_texts.specs.declared.{framing.By.By, framing.Manner.Manner}
 use Rattle.fbcheck_serve.specs.Inputs.{Folder, IsPromptAmong, IsPromptOver, Seen, with_cause}
-use Rattle.fb_run.specs.{Job.Job, Faults.End, Faults.EndsBeside, JsonSums.summary_in}
+use Rattle.fb_run.specs.{Job.Job, Faults.End, JsonSums.summary_in}
 use Rattle.fb_run.specs.Ends.{Ends, Reader, Writer, beside}
-use Rattle.fbcheck_serve.specs.Serving.{ChecksAsGiven, ComesBy, ComesTo, HoldsAsGiven, IsPromptAsGiven, EndsSo, IsCrowded, PassesAsGiven, SumsUp, Unserved, files_ending, lent_bytes, run_ending, summed, words_of}
+use Rattle.fbcheck_serve.specs.Serving.{ChecksAsGiven, ComesBy, ComesTo, HoldsAsGiven, IsPromptAsGiven, IsCrowded, PassesAsGiven, SumsUp, Unserved, files_ending, lent_bytes, run_ending, words_of}
 use Rattle.fbcheck_words.specs.declared.{choices.Settings.Settings, choices.SettingsFault.SettingsFault}
 use Rattle.fb_run.specs.declared.fault.RunFault.{RunFault}
 use Rattle.fb_run.specs.declared.fault.RunFault.TheVariants as run

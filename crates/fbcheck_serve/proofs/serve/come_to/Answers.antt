@@ -2,7 +2,7 @@ use Rattle.std.proofs.Common.{Err, None, Option, refl, subst}
 use Rattle.std.specs.Prelude.{map, string_bytes}
 use Rattle.std.proofs.KnownBytes.{Keeps-refl}
 use Rattle.clap.specs.Walk.{Text}
-use Rattle.fb_run.specs.Ends.{ends_of, reader_of, writer_of}
+use Rattle.fb_run.specs.Ends.{reader_of, writer_of}
 use Rattle.fbcheck_serve.specs.Serving.{ComesTo, IsFileFault, words_of}
 use Rattle.fbcheck_words.specs.declared.choices.SettingsFault.TheVariants as refusal
 use Rattle.fbcheck_serve.specs.declared.stop.Stop.TheVariants as stop
