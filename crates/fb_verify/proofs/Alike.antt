@@ -15,8 +15,7 @@ use Rattle.fb_verify.specs.Order.{after, head_failure, table_failure, inline_fai
 use Rattle.fb_verify.specs.Places.{is_aligned, vtable, vtable_size, inline_size, has_slot, field_place, ends_in_table}
 use Rattle.fb_verify.specs.Plain.{tested_by, FindsVtable, first_word_failure, vtable_failure, step_failure, step_failure_at, step_reads_at, plain_failure, plain_reads, StepsHold, steps_reads}
 use Rattle.fb_verify.proofs.{Passing.left_from, Budgets.fewer_reads, Heads.head_parts, Heads.head_reads_parts, Passing.AtStep, Passing.step_passed}
-use Rattle.fb_verify.proofs.Walking.{table_closed}
-use Rattle.fb_verify.proofs.Chains.{after_none, head_none}
+use Rattle.fb_verify.proofs.{Walking.table_closed, Chains.after_none, Chains.head_none}
 
 -- A small field is of one of four acts.
 no_other : (act : Act) → (act ≡ One) ⊎ (act ≡ Two) ⊎ (act ≡ Four) ⊎ (act ≡ Eight) → act ≡ Other → ⊥
