@@ -1,9 +1,9 @@
 -- The examples, by computing.
 use Rattle.std.proofs.Common.{◌≡◌, ℕ, refl, rules, List, [], ◌∷◌, Option, Some, None, option_map, option_and_then}
-use Rattle.fb_verify.specs.declared.start.Start.TheVariants.{Bare}
+use Rattle.fb_rules.specs.declared.start.Start.TheVariants.{Bare}
 use Rattle.fb_bytes.specs.Word.{word}
 use Rattle.fb_schema.specs.{Live.live_fields, Kinds.shape_of, Kinds.kind_of, Kinds.base_types, Members.member_of, Parts.part_at}
-use Rattle.fb_verify.specs.Places.{has_vtable, vtable, field_place}
+use Rattle.fb_rules.specs.Places.{has_vtable, vtable, field_place}
 use Rattle.fb_access.specs.Spots.{present_spot, default_spot, absent_spot, spot_of_part, spot_of_element, member_spot}
 use Rattle.fb_access.specs.Denotes.{next_spot, Reaches, Shown, root_spot, number, inline_value, default_value, value}
 use Rattle.fb_access.specs.declared.{step.Step.Step, spot.Spot.Spot}

@@ -1,5 +1,5 @@
 -- The sample unfolds into its tree.
-use Rattle.fb_verify.proofs.Shown.{computing, shown}
+use Rattle.fb_rules.proofs.Shown.{computing, shown}
 use Rattle.fb_access.specs.Examples.{SampleUnfolds}
 
 pub sample_unfolds : SampleUnfolds

@@ -7,8 +7,8 @@ use Rattle.fb_schema.specs.declared.{kinds.Scalar.Scalar, kinds.Kind.Kind}
 use Rattle.fb_schema.specs.declared.kinds.Kind.TheVariants.{Text, Table, Union, Scalars, Texts, Structs, Tables, Unions}
 use Rattle.fb_schema.specs.{Rows.Rows, Kinds.scalar_size, Kinds.struct_size, Kinds.kind_size, Live.Live, Live.live_fields, Members.member_of}
 use Rattle.fb_schema.proofs.Kinded.{field_sized}
-use Rattle.fb_verify.specs.Places.{target, field_place}
-use Rattle.fb_verify.specs.Fields.{type_place, union_type, types_begin, to_table, to_string, lead_of, Entry, entry, union_entry, entries_of, entries_at, entries}
+use Rattle.fb_rules.specs.Places.{target, field_place}
+use Rattle.fb_rules.specs.Fields.{type_place, union_type, types_begin, to_table, to_string, lead_of, Entry, entry, union_entry, entries_of, entries_at, entries}
 use Rattle.fb_access.specs.declared.{step.Step.TheVariants.Field, step.Step.TheVariants.Element, spot.Spot.Spot}
 use Rattle.fb_access.specs.declared.spot.Spot.TheVariants.{AtTable, AtInline, AtStruct, AtText, AtTexts, AtTables, AtUnions, AtUnion, AtNoElement, AtOtherMember}
 use Rattle.fb_access.proofs.Leading.{row_at, union_row_at, row_get, row_end}

@@ -5,8 +5,8 @@ use Rattle.std.specs.Prelude.{option_and_then}
 use Rattle.fb_schema.specs.declared.{kinds.Kind.Kind}
 use Rattle.fb_schema.specs.declared.kinds.Kind.TheVariants.{Table}
 use Rattle.fb_schema.specs.{Rows.Rows, Live.Live, Served.IsServed}
-use Rattle.fb_verify.specs.declared.checks.Checks.{Checks}
-use Rattle.fb_verify.specs.{Fields.IsField, Fields.IsPresentOrAbsent}
+use Rattle.fb_rules.specs.declared.checks.Checks.{Checks}
+use Rattle.fb_rules.specs.{Fields.IsField, Fields.IsPresentOrAbsent}
 use Rattle.fb_access.specs.declared.{step.Step.Step, step.Step.TheVariants.Field}
 use Rattle.fb_access.specs.declared.{spot.Spot.Spot, spot.Spot.TheVariants.AtTable}
 use Rattle.fb_access.specs.{Fitting.numbered, Denotes.next_spot, Denotes.Leads, Held.IsSpot, Held.IsTableAt}

@@ -3,7 +3,8 @@ use Rattle.std.proofs.Common.{◌≡◌, ℕ, ◌+◌, ◌<◌, suc, get_or, add
 use Rattle.std.proofs.Math.Seq.{drop-cons}
 use Rattle.std.proofs.lemmas.List.{take_more}
 use Rattle.fb_schema.specs.Rows.{Rows}
-use Rattle.fb_verify.specs.{Places.target, WellFormed.base, Sealed.Sealed, Sealed.IsUnfolded}
+use Rattle.fb_rules.specs.{Places.target, WellFormed.base}
+use Rattle.fb_verify.specs.Sealed.{Sealed, IsUnfolded}
 use Rattle.fb_access.specs.declared.{step.Step.Step, spot.Spot.Spot, spot.Spot.TheVariants.AtTable}
 use Rattle.fb_access.specs.{Denotes.Leads, Denotes.allows, Denotes.Reaches, Held.IsSpot, Held.IsPlaced, Underway.IsWalked}
 use Rattle.fb_access.proofs.StepKinds.{kind_allows, kinds_go_on}

@@ -1,9 +1,9 @@
 -- Examples of what paths denote in a buffer.
 use Rattle.std.specs.Prelude.{◌≡◌, pos, negsuc, true, false, List, [], ◌∷◌, codes, None}
-use Rattle.fb_verify.specs.declared.start.Start.TheVariants.{Bare, Prefixed}
-use Rattle.fb_verify.specs.Tree.{Tree, node, Kids, no_elements, element, leaf, table as a_table}
-use Rattle.fb_verify.specs.Samples.{monsters, monster, open_name}
-use Rattle.fb_verify.specs.Examples.{Counts, one_table, one_leaf, kids_of}
+use Rattle.fb_rules.specs.declared.start.Start.TheVariants.{Bare, Prefixed}
+use Rattle.fb_rules.specs.Tree.{Tree, node, Kids, no_elements, element, leaf, table as a_table}
+use Rattle.fb_rules.specs.Samples.{monsters, monster, open_name}
+use Rattle.fb_rules.specs.Examples.{Counts, one_table, one_leaf, kids_of}
 use Rattle.fb_access.specs.declared.{step.Step.Step, step.Step.TheVariants.Field, step.Step.TheVariants.Element, step.Step.TheVariants.Member}
 use Rattle.fb_access.specs.declared.spot.Spot.TheVariants.{AtTable, AtStruct, AtText, AtUnion}
 use Rattle.fb_access.specs.Denotes.{next_spot, Shown, nothing, no_element, other_member, truth, signed, unsigned, float, text, structure, vector, table, union, Denotes}

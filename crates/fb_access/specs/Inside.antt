@@ -3,7 +3,8 @@
 use Rattle.std.specs.Prelude.{ℕ, ◌+◌, ◌*◌, ◌≤◌, List, length}
 use Rattle.fb_bytes.specs.Word.{word}
 use Rattle.fb_schema.specs.{Rows.Rows, Kinds.scalar_size, Kinds.struct_size, Members.member_of, Served.IsServed}
-use Rattle.fb_verify.specs.{Fields.Lead, Fields.to_nothing, Fields.lead_of, Sealed.Sealed, Sealed.IsUnfolded}
+use Rattle.fb_rules.specs.Fields.{Lead, to_nothing, lead_of}
+use Rattle.fb_verify.specs.Sealed.{Sealed, IsUnfolded}
 use Rattle.fb_access.specs.declared.{step.Step.Step, spot.Spot.Spot}
 use Rattle.fb_access.specs.declared.spot.Spot.TheVariants.{AtTable, AtInline, AtStruct, AtText, AtScalars, AtStructs, AtScalarArray, AtStructArray, AtTexts, AtTables, AtUnions, AtUnion}
 use Rattle.fb_access.specs.{Denotes.Reaches, Denotes.root_spot, Held.IsCounted, Held.IsTextAt, Held.HasVtable}

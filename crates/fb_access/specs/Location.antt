@@ -3,7 +3,7 @@ use Rattle.std.specs.Prelude.{ℕ, ◌-◌, ◌==◌, ◌||◌, nat_lt, if◌the
 use Rattle.std.specs.List.{flat_map}
 use Rattle.fb_schema.specs.declared.{kinds.Kind.Kind, kinds.Kind.TheVariants.Union, kinds.Kind.TheVariants.Unions}
 use Rattle.fb_schema.specs.{Members.member_name, Rows.Rows}
-use Rattle.fb_verify.specs.declared.{fault.Fault.Fault, links.Link.Link}
+use Rattle.fb_rules.specs.declared.{fault.Fault.Fault, link.Link.Link}
 use Rattle.fb_access.specs.{Fitting.numbered, Grammar.goes_on}
 
 -- a byte of a name: a letter, a digit, `_` or `.` as it is, and `?` for any other

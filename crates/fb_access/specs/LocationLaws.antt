@@ -2,9 +2,9 @@
 use Rattle.std.specs.Prelude.{◌≡◌, ℕ, ◌<◌, ◌^◌, List, [], ◌∷◌, ◌++◌, length, Option, Some, None, decimal}
 use Rattle.fb_schema.specs.declared.{kinds.Kind.Kind, kinds.Kind.TheVariants.Table}
 use Rattle.fb_schema.specs.{Demands.IsLegal, Rows.Rows, Served.IsServed}
-use Rattle.fb_verify.specs.declared.{checks.Checks.Checks, fault.Fault.Fault, links.Link.Link}
-use Rattle.fb_verify.specs.{Bounds.Bounds, Question.Question, Fields.Lead, Fields.to_nothing, Way.Way, Links.StopsAlong}
-use Rattle.fb_verify.specs.Stops.{Place, in_start, in_head, in_field, in_element, IsFalseAt}
+use Rattle.fb_rules.specs.declared.{checks.Checks.Checks, fault.Fault.Fault, link.Link.Link}
+use Rattle.fb_rules.specs.{Bounds.Bounds, Question.Question, Fields.Lead, Fields.to_nothing, Way.Way, Links.StopsAlong}
+use Rattle.fb_rules.specs.Stops.{Place, in_start, in_head, in_field, in_element, IsFalseAt}
 use Rattle.fb_access.specs.declared.{step.Step.Step, spot.Spot.Spot, spot.Spot.TheVariants.AtTable, spot.Spot.TheVariants.AtUnion}
 use Rattle.fb_access.specs.{Denotes.Reaches, Denotes.root_spot, Resolving.Follows, Resolving.Resolves}
 use Rattle.fb_access.specs.{Location.field_name, Location.link_member, Location.path_text, Spots.field_spot, StepLaws.IsLedTo}

@@ -2,11 +2,11 @@
 use Rattle.std.specs.Prelude.{◌≡◌, ℕ, List, [], ◌∷◌, ◌++◌, codes, Option, Some, None}
 use Rattle.std.specs.Prelude.{replicate}
 use Rattle.fb_schema.specs.Rows.{Rows}
-use Rattle.fb_verify.specs.Samples.{short, field, table}
-use Rattle.fb_verify.specs.declared.fault.Fault.{Fault}
-use Rattle.fb_verify.specs.declared.fault.Reason.TheVariants.{OutOfBuffer, ZeroOffset, TooManyTables}
-use Rattle.fb_verify.specs.declared.links.Link.{Link}
-use Rattle.fb_verify.specs.LinkExamples.{herds, link, fault, to_third}
+use Rattle.fb_rules.specs.Samples.{short, field, table}
+use Rattle.fb_rules.specs.declared.fault.Fault.{Fault}
+use Rattle.fb_rules.specs.declared.fault.Reason.TheVariants.{OutOfBuffer, ZeroOffset, TooManyTables}
+use Rattle.fb_rules.specs.declared.link.Link.{Link}
+use Rattle.fb_rules.specs.LinkExamples.{herds, link, fault, to_third}
 use Rattle.fb_access.specs.{Location.cut_to, Location.name_text, Location.location_text, Samples.rows}
 
 -- a fault in a table of this object, at the field with this number if there is one

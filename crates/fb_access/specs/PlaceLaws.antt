@@ -1,7 +1,7 @@
 -- The laws of paths and values.
 use Rattle.std.specs.Prelude.{◌≡◌, ℕ, List, is_some}
 use Rattle.fb_schema.specs.Rows.{Rows}
-use Rattle.fb_verify.specs.declared.start.Start.{Start}
+use Rattle.fb_rules.specs.declared.start.Start.{Start}
 use Rattle.fb_access.specs.declared.{step.Step.Step, spot.Spot.Spot}
 use Rattle.fb_access.specs.Denotes.{next_spot, allows, Shown, Denotes}
 

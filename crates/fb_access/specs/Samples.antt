@@ -1,7 +1,7 @@
 -- A schema and a buffer for examples.
 use Rattle.std.specs.Prelude.{ℕ, ℤ, pos, negsuc, true, List, [], ◌∷◌, codes}
 use Rattle.fb_schema.specs.{Rows.Field, Rows.Rows, Builders.struct_of, Builders.plain_member, Builders.union_of}
-use Rattle.fb_verify.specs.Samples.{type_of, union_type, short, int, text, object, union, vector, field, table, monster}
+use Rattle.fb_rules.specs.Samples.{type_of, union_type, short, int, text, object, union, vector, field, table, monster}
 
 -- a field of each kind, and a vector of longs behind a field that isn't used any more
 abbrev pub root_fields : List Field

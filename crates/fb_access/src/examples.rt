@@ -40,7 +40,7 @@ pub fn paths()
 {}
 
 /// Where faults are, in words: at the root, in a field, an element and a member, in what has no name, and in what has a
-/// name that would forge a line; where those are of which `fb_verify::link_laws::links_found` tells the links; and of a
+/// name that would forge a line; where those are of which `fb_rules::link_laws::links_found` tells the links; and of a
 /// place that is too long its front.
 #[tactic(auto, using(crate::proofs::ShownLocations::told_shown, crate::proofs::ShownLocations::nameless_shown, crate::proofs::ShownLocations::masked_shown, crate::proofs::ShownLocations::ways_shown, crate::proofs::ShownLocations::long_shown))]
 pub fn locations()

@@ -3,7 +3,7 @@
 ghost use Rattle.std.specs.Prelude.{◌≡◌, ◌+◌, ◌-◌, ◌*◌, ◌^◌, ◌<◌, ◌≤◌, length, IfSome, IsTrue, Some, None, ℕ, option_map};
 ghost use Rattle.fb_bytes.specs.Word.{word};
 ghost use Rattle.fb_schema.specs.{Rows.is_table, Live.live_of_view};
-ghost use Rattle.fb_verify.specs.{Places.target, Places.vtable, Places.field_place, Fields.type_place, Fields.union_type, Fields.types_begin};
+ghost use Rattle.fb_rules.specs.{Places.target, Places.vtable, Places.field_place, Fields.type_place, Fields.union_type, Fields.types_begin};
 ghost use Rattle.fb_access.specs.{Fitting.numbered, Held.HasVtable, Held.IsReadable};
 ghost use Rattle.fb_access.specs.Spots.{present_spot, absent_spot, default_spot, field_spot};
 
@@ -29,7 +29,7 @@ pub fn field_numbered<'s, 'n>(
 }
 
 /// Where the vtable of the table at a position stands.
-#[tactic(auto, unfolding(fb_verify::specs::Places::has_vtable, fb_verify::specs::Places::vtable))]
+#[tactic(auto, unfolding(fb_rules::specs::Places::has_vtable, fb_rules::specs::Places::vtable))]
 fn vtable_of(window: &Window<'_>, at: u64) -> u64
     requires short { length window.now < 2 ^ 31 }
     requires table { HasVtable window.now at }
@@ -39,7 +39,7 @@ fn vtable_of(window: &Window<'_>, at: u64) -> u64
 }
 
 /// Where the field with this slot stands in the table at a position, none where it is absent.
-#[tactic(auto, unfolding(fb_verify::specs::Places::field_place))]
+#[tactic(auto, unfolding(fb_rules::specs::Places::field_place))]
 fn place_of(window: &Window<'_>, at: u64, slot: u16) -> Option<u64>
     requires short { length window.now < 2 ^ 31 }
     requires table { HasVtable window.now at }

@@ -3,7 +3,7 @@
 ghost use Rattle.std.specs.Prelude.{◌≡◌, ◌+◌, ◌*◌, ◌^◌, ◌<◌, ◌≤◌, length, IfSome, MatchOption, Some};
 ghost use Rattle.fb_bytes.specs.Word.{word};
 ghost use Rattle.fb_schema.specs.Served.{MemberHolds};
-ghost use Rattle.fb_verify.specs.Fields.{lead_of};
+ghost use Rattle.fb_rules.specs.Fields.{lead_of};
 ghost use Rattle.fb_access.specs.Spots.{spot_of_field, spot_of_part, spot_of_element, spot_of_member, member_spot};
 ghost use Rattle.fb_access.specs.{Denotes.next_spot, Held.IsSpot, Held.IsCounted, Held.IsLed};
 

@@ -2,7 +2,7 @@
 
 ghost use Rattle.std.specs.Prelude.{◌≡◌, ℕ, ◌+◌, ◌*◌, ◌≤◌, length, IfSome, IsTrue};
 ghost use Rattle.fb_schema.specs.declared.kinds.Kind.TheVariants.{Table as TableKind, Tables};
-ghost use Rattle.fb_verify.specs.WellFormed.{base};
+ghost use Rattle.fb_rules.specs.WellFormed.{base};
 ghost use Rattle.fb_access.specs.{Fitting.StepsFit, Extents.extent};
 ghost use Rattle.fb_access.specs.Denotes.{Leads, allows, root_spot, Denotes, value, shown, vector};
 ghost use Rattle.fb_access.specs.Here.{KindsGoOn, HereGoesOn, IsNarrow, IsHere};

@@ -4,9 +4,9 @@ use Rattle.std.specs.Borrow.{Bor}
 use Rattle.fb_schema.specs.{Rows.Rows, Rows.table_named, Demands.IsLegal, Demands.IsFirstIllegal}
 use Rattle.fb_schema.specs.declared.fault.SchemaFault.{SchemaFault}
 use Rattle.fb_schema.proofs.DemandLaws.{one_first, no_first_if_legal}
-use Rattle.fb_verify.specs.declared.{fault.Fault.Fault, start.Start.TheVariants.Bare}
-use Rattle.fb_verify.specs.{Bounds.Bounds, Stops.Stops}
-use Rattle.fb_verify.proofs.{OneFault.stops_once, Overruns.stops_nowhere}
+use Rattle.fb_rules.specs.declared.{fault.Fault.Fault, start.Start.TheVariants.Bare}
+use Rattle.fb_rules.specs.{Bounds.Bounds, Stops.Stops}
+use Rattle.fb_rules.proofs.{OneFault.stops_once, Overruns.stops_nowhere}
 use Rattle.fb_access.specs.declared.{step.Step.TheVariants.Field as ToField, spot.Spot.Spot, spot.Spot.TheVariants.AtAbsent}
 use Rattle.fb_access.specs.Denotes.{Leads, next_spot, root_spot, text, nothing, value}
 use Rattle.fb_access.proofs.Callers.{shows_one}

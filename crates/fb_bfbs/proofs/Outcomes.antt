@@ -3,8 +3,9 @@ use Rattle.std.proofs.Common.{◌≡◌, ℕ, List, length, Option, Some, None, 
 use Rattle.std.specs.Option.{IsSome}
 use Rattle.fb_schema.specs.declared.{fault.Code.Code, fault.Code.TheVariants.OutOfMemory as NoMemory, fault.SchemaFault.SchemaFault}
 use Rattle.fb_schema.specs.{Rows.Rows, Demands.Refuses}
-use Rattle.fb_verify.specs.declared.start.Start.TheVariants.{Bare}
-use Rattle.fb_verify.specs.{Bounds.Bounds, Sealed.Sealed}
+use Rattle.fb_rules.specs.declared.start.Start.TheVariants.{Bare}
+use Rattle.fb_rules.specs.Bounds.{Bounds}
+use Rattle.fb_verify.specs.Sealed.{Sealed}
 use Rattle.fb_access.specs.Denotes.{Denotes}
 use Rattle.fb_bfbs.specs.{Fixed.fixed, Says.Says, Describes.Describes, Sums.IsPaid, Sums.ArePaid}
 use Rattle.fb_bfbs.specs.Loads.{ArePaidFor, IsSchemaFile, IsLoadFault, build_fault, schema_number, told}

@@ -6,11 +6,11 @@ use Rattle.fb_schema.specs.{Rows.table_named, Kinds.shape_of, Kinds.kind_of, Kin
 use Rattle.fb_schema.specs.Demands.{IsLegal, names_no_object, names_table, names_no_union, inline_bytes}
 use Rattle.fb_schema.proofs.DemandLaws.{levels_end, owners_end, places_end, object_end, enum_end}
 use Rattle.fb_schema.proofs.Judged.{first_below, or_at, in_owner, in_level, in_rows, first_fault, legal}
-use Rattle.fb_verify.specs.Places.{is_aligned, has_vtable, vtable, field_place, ends_in_table}
-use Rattle.fb_verify.specs.{Fields.entries, Fields.row, Fields.union_row, Unfolds.Unfolds, Cost.own_reads, Cost.tree_cost, Samples.published_limits}
-use Rattle.fb_verify.specs.Tree.{Tree, node, no_kids, kid, no_elements, element, leaf, table, size, depth}
-use Rattle.fb_verify.specs.Order.{own_failure, start_failure, prefix_failure, ident_failure, head_failure, offset_failure, string_failure, vector_failure, inline_failure, table_failure}
-use Rattle.fb_verify.proofs.Shown.{start, head, own, offset, string}
+use Rattle.fb_rules.specs.Places.{is_aligned, has_vtable, vtable, field_place, ends_in_table}
+use Rattle.fb_rules.specs.{Fields.entries, Fields.row, Fields.union_row, Unfolds.Unfolds, Cost.own_reads, Cost.tree_cost, Samples.published_limits}
+use Rattle.fb_rules.specs.Tree.{Tree, node, no_kids, kid, no_elements, element, leaf, table, size, depth}
+use Rattle.fb_rules.specs.Order.{own_failure, start_failure, prefix_failure, ident_failure, head_failure, offset_failure, string_failure, vector_failure, inline_failure, table_failure}
+use Rattle.fb_rules.proofs.Shown.{start, head, own, offset, string}
 use Rattle.fb_access.specs.Spots.{present_spot, default_spot, absent_spot, spot_of_element, member_spot}
 use Rattle.fb_access.specs.Denotes.{next_spot, number, inline_value, default_value, value}
 use Rattle.fb_bfbs.specs.{Fixed.fixed, Loads.published, Loads.IsSchemaFile, Samples.plain, Samples.plain_rows, Examples.PlainFile}

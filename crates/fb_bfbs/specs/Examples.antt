@@ -2,7 +2,7 @@
 use Rattle.std.specs.Prelude.{[], ◌∷◌, codes, Some, None}
 use Rattle.fb_access.specs.declared.step.Step.TheVariants.{Field as ToField}
 use Rattle.fb_access.specs.Denotes.{text}
-use Rattle.fb_verify.specs.Samples.{published_limits}
+use Rattle.fb_rules.specs.Samples.{published_limits}
 use Rattle.fb_bfbs.specs.{Describes.Describes, Describes.IsRoot, Loads.told, Loads.IsLoaded}
 use Rattle.fb_bfbs.specs.Samples.{plain, plain_rows, detailed, detailed_rows}
 

@@ -2,8 +2,8 @@
 use Rattle.std.specs.Prelude.{◌≡◌, ◌==◌, ℕ, List, length, Option, Some, None, if◌then◌else◌, option_map, Result, Ok, Err}
 use Rattle.std.specs.Borrow.{Bor}
 use Rattle.fb_schema.specs.Rows.{Rows}
-use Rattle.fb_verify.specs.Bounds.{Bounds}
-use Rattle.fb_verify.specs.declared.{start.Ident.Ident, start.Ident.TheVariants.Any, start.Ident.TheVariants.Want}
+use Rattle.fb_rules.specs.Bounds.{Bounds}
+use Rattle.fb_rules.specs.declared.{start.Ident.Ident, start.Ident.TheVariants.Any, start.Ident.TheVariants.Want}
 use Rattle.fb_bfbs.specs.declared.{loading.Loaded.Loaded, load_fault.LoadFault.LoadFault, load_fault.LoadFault.TheVariants.OutOfMemory}
 use Rattle.fb_bfbs.specs.{Describes.Describes, Loads.told, Loads.IsLoaded, Loads.IsLoadFault}
 

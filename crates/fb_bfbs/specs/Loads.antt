@@ -2,8 +2,8 @@
 use Rattle.std.specs.Prelude.{ℕ, ◌<◌, ◌≤◌, ◌^◌, true, false, IfSome, IsSome, IsTrue, List, [], ◌∷◌, length}
 use Rattle.fb_schema.specs.{Rows.Rows, Rows.is_table, Demands.IsLegal, Demands.IsFirstIllegal}
 use Rattle.fb_schema.specs.declared.{fault.Code.Code, fault.Code.TheVariants.OutOfMemory as NoMemory, fault.SchemaFault.SchemaFault}
-use Rattle.fb_verify.specs.declared.{checks.Checks.Checks, start.Start.TheVariants.Bare, start.Ident.Ident, start.Ident.TheVariants.Want}
-use Rattle.fb_verify.specs.{Bounds.Bounds, Question.Question, Question.question, Tree.Tree, WellFormed.IsWellFormed, WellFormed.IsWithin, Stops.Stops}
+use Rattle.fb_rules.specs.declared.{checks.Checks.Checks, start.Start.TheVariants.Bare, start.Ident.Ident, start.Ident.TheVariants.Want}
+use Rattle.fb_rules.specs.{Bounds.Bounds, Question.Question, Question.question, Tree.Tree, WellFormed.IsWellFormed, WellFormed.IsWithin, Stops.Stops}
 use Rattle.fb_access.specs.declared.step.Step.TheVariants.{Field as ToField}
 use Rattle.fb_access.specs.Denotes.{Denotes}
 use Rattle.fb_bfbs.specs.declared.{loading.Loaded.Loaded, load_fault.LoadFault.LoadFault}

@@ -5,7 +5,7 @@ use Rattle.std.proofs.lemmas.List.{map-append, take_more}
 use Rattle.fb_access.specs.Denotes.{Denotes, Shown, shown}
 use Rattle.fb_access.specs.declared.answer.Answer.{Answer}
 use Rattle.fb_schema.specs.Rows.{Rows}
-use Rattle.fb_verify.specs.declared.start.Start.{Start}
+use Rattle.fb_rules.specs.declared.start.Start.{Start}
 use Rattle.fb_run.specs.{Job.AreAnswers, Wanted.Wanted}
 
 -- one more on both sides

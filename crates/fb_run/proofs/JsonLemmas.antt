@@ -11,7 +11,7 @@ use Rattle.json.specs.Json.{Json, null, boolean, number, string, array, object, 
 use Rattle.json.specs.Print.{print_from, ends, escape, escape_byte, quoted}
 use Rattle.json.proofs.Printed.Tokens.{print_from-append}
 use Rattle.fb_schema.specs.Rows.{Rows}
-use Rattle.fb_verify.specs.declared.{fault.Fault.Fault, fault.Report.Report}
+use Rattle.fb_rules.specs.declared.{fault.Fault.Fault, fault.Report.Report}
 use Rattle.fb_access.specs.Denotes.{Shown, nothing, no_element, other_member, table}
 use Rattle.fb_run.specs.Json.{json_text, text_json, value_json, labelled, digits_json, line_json, values_member, yes_members, no_members_of}
 use Rattle.fb_run.specs.Json.{place_member, values_members, members_text, member_part, following, begin_part, counts_part, reason_part, names_part, end_part, json_yes, json_no}

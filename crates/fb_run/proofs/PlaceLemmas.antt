@@ -1,7 +1,7 @@
 -- A no with the place of its fault in words.
 use Rattle.std.proofs.Common.{◌≡◌, ℕ, List, Some, Err, refl}
-use Rattle.fb_verify.specs.{Links.StopsAlong, Stops.Stops}
-use Rattle.fb_verify.specs.declared.{fault.Fault.Fault, links.Link.Link}
+use Rattle.fb_rules.specs.{Links.StopsAlong, Stops.Stops}
+use Rattle.fb_rules.specs.declared.{fault.Fault.Fault, link.Link.Link}
 use Rattle.fb_run.specs.Job.{IsVerdict, Job, Verdict, asked_of, place_told}
 use Rattle.fb_run.specs.declared.options.Places.TheVariants.{Words}
 

@@ -2,10 +2,11 @@
 use Rattle.std.specs.Prelude.{◌≡◌, ℕ, ◌<◌, ◌≤◌, ◌^◌, All, IsTrue, Bool, true, false, List, [], drop, length, map, Option, Some, None, Result, Ok, Err, option_map}
 use Rattle.std.specs.{Borrow.Bor, List.AllZip}
 use Rattle.fb_schema.specs.Rows.{Rows, is_table}
-use Rattle.fb_verify.specs.{Bounds.Bounds, Bounds.limits_of_length, Question.Question, Question.question, Stops.Stops, Links.StopsAlong}
-use Rattle.fb_verify.specs.{Verdict.Reports, Sealed.Sealed}
-use Rattle.fb_verify.specs.declared.{links.Link.Link, checks.Checks.Checks, fault.Fault.Fault, fault.Report.Report, start.Ident.Ident}
-use Rattle.fb_verify.specs.declared.{start.Start.Start, start.Start.TheVariants.Bare, start.Start.TheVariants.Prefixed}
+use Rattle.fb_rules.specs.{Bounds.Bounds, Bounds.limits_of_length, Question.Question, Question.question, Stops.Stops, Links.StopsAlong}
+use Rattle.fb_rules.specs.Verdict.{Reports}
+use Rattle.fb_verify.specs.Sealed.{Sealed}
+use Rattle.fb_rules.specs.declared.{link.Link.Link, checks.Checks.Checks, fault.Fault.Fault, fault.Report.Report, start.Ident.Ident}
+use Rattle.fb_rules.specs.declared.{start.Start.Start, start.Start.TheVariants.Bare, start.Start.TheVariants.Prefixed}
 use Rattle.fb_schema.specs.declared.kinds.Kind.TheVariants.{Table}
 use Rattle.fb_access.specs.{Denotes.Denotes, Denotes.Shown, Denotes.shown, Fitting.StepsFit, Location.location_text, Location.place_text}
 use Rattle.fb_run.specs.{AnswerText.label_text, Wanted.Wanted}

@@ -1,7 +1,7 @@
 -- What is verified of a message, by example.
 use Rattle.std.specs.Prelude.{◌≡◌, List, ℕ, false, [], ◌∷◌}
 use Rattle.fb_schema.specs.Rows.{Rows}
-use Rattle.fb_verify.specs.declared.start.Start.TheVariants.{Bare, Prefixed}
+use Rattle.fb_rules.specs.declared.start.Start.TheVariants.{Bare, Prefixed}
 use Rattle.fb_run.specs.Job.{buffer_in, job_of}
 use Rattle.fb_run.specs.declared.{options.Options.Options, options.Prefix.TheVariants.Part, options.Prefix.TheVariants.Apart}
 

@@ -5,8 +5,8 @@ use Rattle.hex.specs.Hex.{encode_lower}
 use Rattle.json.specs.Json.{Json, null, boolean, number, string, object, Members, no_members, member}
 use Rattle.json.specs.{Print.print, Print.print_from, Tree.json_tokens, Tree.members_tokens}
 use Rattle.fb_schema.specs.Rows.{Rows}
-use Rattle.fb_verify.specs.Reasons.{reason_number, reason_text}
-use Rattle.fb_verify.specs.declared.{fault.Fault.Fault, fault.Reason.Reason, fault.Report.Report}
+use Rattle.fb_rules.specs.Reasons.{reason_number, reason_text}
+use Rattle.fb_rules.specs.declared.{fault.Fault.Fault, fault.Reason.Reason, fault.Report.Report}
 use Rattle.fb_access.specs.Denotes.{Shown, nothing, no_element, other_member, truth, signed, unsigned, float, text, structure, vector, table, union}
 use Rattle.fb_access.specs.Location.{field_name}
 

@@ -2,7 +2,7 @@
 use Rattle.std.specs.Prelude.{◌≡◌, ℕ, ◌<◌, ◌^◌, List, [], Option, Some}
 use Rattle.json.specs.Json.{Json, document}
 use Rattle.fb_schema.specs.Rows.{Rows}
-use Rattle.fb_verify.specs.declared.{fault.Fault.Fault, fault.Report.Report}
+use Rattle.fb_rules.specs.declared.{fault.Fault.Fault, fault.Report.Report}
 use Rattle.fb_run.specs.Json.{json_text, line_json, no_members_of, yes_members}
 
 -- by the grammar of RFC 8259 the text of this value is that value

@@ -1,9 +1,9 @@
 -- Lines of JSON by example.
 use Rattle.std.specs.Prelude.{◌≡◌, ℕ, List, [], ◌∷◌, map, pos, codes, Some, None}
 use Rattle.fb_schema.specs.Rows.{Rows}
-use Rattle.fb_verify.specs.Samples.{short, field, table as table_row}
-use Rattle.fb_verify.specs.declared.{fault.Fault.Fault, fault.Reason.TheVariants.Misaligned, fault.Reason.TheVariants.NoTerminator}
-use Rattle.fb_verify.specs.declared.fault.Report.{Report}
+use Rattle.fb_rules.specs.Samples.{short, field, table as table_row}
+use Rattle.fb_rules.specs.declared.{fault.Fault.Fault, fault.Reason.TheVariants.Misaligned, fault.Reason.TheVariants.NoTerminator}
+use Rattle.fb_rules.specs.declared.fault.Report.{Report}
 use Rattle.fb_access.specs.Denotes.{signed, text}
 use Rattle.fb_run.specs.Json.{json_no, json_text, json_yes, text_json, value_json}
 use Rattle.fb_run.specs.LineTests.{of_each_kind}

@@ -5,8 +5,8 @@ use Rattle.fb_run.specs.Job.{Job, Verdict, IsVerdict, buffer_in}
 use Rattle.fb_run.specs.declared.{options.Form.Form, options.Form.TheVariants.Plain, options.Form.TheVariants.Json, options.Mode.Mode}
 use Rattle.fb_run.specs.declared.options.Mode.TheVariants.{Lines, BadLines, Filter}
 use Rattle.fb_run.specs.Texts.{Texts, silent, to_notes, to_out}
-use Rattle.fb_verify.specs.declared.{fault.Fault.Fault, fault.Report.Report}
-use Rattle.fb_verify.specs.Reasons.{reason_text}
+use Rattle.fb_rules.specs.declared.{fault.Fault.Fault, fault.Report.Report}
+use Rattle.fb_rules.specs.Reasons.{reason_text}
 
 -- a field's number, where there is one
 abbrev pub field_text : Option ℕ → List ℕ

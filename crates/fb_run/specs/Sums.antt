@@ -1,7 +1,7 @@
 -- What messages come to by their verdicts, and the line that tells it.
 use Rattle.std.specs.Prelude.{◌≡◌, ℕ, ◌+◌, ◌-◌, ◌*◌, ◌≤◌, ◌^◌, ◌==◌, min, if◌then◌else◌, List, [], ◌∷◌, ◌++◌, All, Ok, Err, length, slice_index, slice_set, codes, decimal}
-use Rattle.fb_verify.specs.Reasons.{reason_number}
-use Rattle.fb_verify.specs.declared.fault.Reason.{Reason}
+use Rattle.fb_rules.specs.Reasons.{reason_number}
+use Rattle.fb_rules.specs.declared.fault.Reason.{Reason}
 use Rattle.fb_run.specs.Job.{Verdict}
 use Rattle.fb_run.specs.declared.{options.Form.Form, options.Form.TheVariants.Plain, options.Form.TheVariants.Json, tally.Tally.Tally}
 

@@ -2,43 +2,18 @@
 use Rattle.std.proofs.Common.{◌≡◌, ℕ, ◌+◌, ◌*◌, ◌^◌, ◌<◌, ◌≤◌, IsTrue, List, length, map, option_map, sym, ◌∙◌, ap, subst, arith, Option, Some, Result, Ok, Err, IfErr}
 use Rattle.std.specs.{Prelude.slice_get, Result.IsErrAnd, Borrow.Bor, Slice.IsItemAt}
 use Rattle.std.proofs.lemmas.{List.length-map, Option.slice_get-get_or, Option.slice_get-map, Option.slice_get_within}
-use Rattle.fb_schema.specs.declared.kinds.Kind.{Kind}
-use Rattle.fb_schema.specs.{Rows.Rows, Rows.is_table, Live.Live, Live.live_fields, Served.IsServed}
-use Rattle.fb_verify.specs.declared.{checks.Checks.Checks, table.Table.Table as TableOf, offset_row.Row.Row, scratch.Frame.Frame}
-use Rattle.fb_verify.specs.Cost.{head_reads, slot_reads, reads_if_present, present_reads, own_reads, lead_reads}
-use Rattle.fb_verify.specs.{Fields.Lead, Told.IsHead}
-use Rattle.fb_verify.specs.OffsetRows.{first_word, past_first, IsRow, AreTypesNear}
+use Rattle.fb_schema.specs.{Rows.Rows, Rows.is_table, Live.live_fields, Served.IsServed}
+use Rattle.fb_rules.specs.declared.{checks.Checks.Checks, table.Table.Table as TableOf, offset_row.Row.Row}
+use Rattle.fb_verify.specs.declared.scratch.Frame.{Frame}
+use Rattle.fb_rules.specs.{Told.IsHead}
+use Rattle.fb_rules.specs.OffsetRows.{past_first, IsRow, AreTypesNear}
 use Rattle.fb_verify.specs.Stack.{blank, opened, IsFrame, frame_work}
-use Rattle.fb_verify.proofs.Words.{row_on}
+use Rattle.fb_rules.proofs.Words.{row_on}
 
 -- the exit of a `?`
 pub if_err_exit : {A E : Type 0} (r : Result A E) (x : E) (P : E → Type 0) → IsErrAnd r (λ e. e ≡ x) → P x → IfErr r P
 if_err_exit (Ok a) x P h p = tt
 if_err_exit (Err e) x P h p = subst P (sym h) p
-
--- Reads are few.
-
-pub lead_few : (lead : Lead) → lead_reads lead ≤ 3
-lead_few lead = grind arith
-
-pub first_few : (b : List ℕ) (S : Rows) (r : Row) → (first_word b S r).reads + lead_reads (first_word b S r).lead ≤ 4
-first_few b S r = grind (arith, lead_few)
-
-pub head_few : (c : Checks) → head_reads c ≤ 3
-head_few c = grind arith
-
-pub if_present_few : (n : ℕ) (place : Option ℕ) → reads_if_present n place ≤ n
-if_present_few n place = grind arith
-
-pub present_few : (b : List ℕ) (t o : ℕ) (kind : Kind) → present_reads b t o kind ≤ 5
-present_few b t o kind = grind (arith, if_present_few)
-
-pub slot_few : (b : List ℕ) (t o : ℕ) → slot_reads b t o ≤ 1
-slot_few b t o = grind arith
-
-pub own_few : (b : List ℕ) (t : ℕ) (f : Live) → own_reads b t f ≤ 6
-unfolding own_reads
-own_few b t f = grind (arith, slot_few, present_few)
 
 -- The fields that a schema lends are the live fields.
 

@@ -1,29 +1,28 @@
 -- The walk goes into a field that may lead on, whose slot was the last read.
-use Rattle.std.proofs.Common.{◌≡◌, ℕ, ◌+◌, ◌-◌, ◌^◌, ◌<◌, ◌≤◌, true, nat_lt, List, [], ◌∷◌, refl, sym, ◌∙◌, ap, subst, arith, Option, Some, None}
+use Rattle.std.proofs.Common.{◌≡◌, ℕ, ◌+◌, ◌-◌, ◌<◌, ◌≤◌, nat_lt, List, [], refl, sym, ◌∙◌, ap, subst, arith, Option, Some, None}
 use Rattle.std.proofs.lemmas.Bool.{lt-ltb}
 use Rattle.fb_bytes.specs.Word.{Lent}
 use Rattle.fb_schema.specs.{Rows.Rows, Live.Live}
-use Rattle.fb_verify.specs.declared.{checks.Checks.Checks, table.Child.Child, fault.Reason.Reason, offset_row.Row.Row, scratch.Frame.Frame}
-use Rattle.fb_verify.specs.declared.{site.Refusal.Refusal, site.Site.Site, site.Stop.Stop, stack.Turn.Turn, stack.Walk.Walk}
-use Rattle.fb_verify.specs.declared.{offset_row.Leads.TheVariants.All, offset_row.Referent.Referent}
+use Rattle.fb_rules.specs.declared.{checks.Checks.Checks, table.Child.Child, fault.Reason.Reason, offset_row.Row.Row}
+use Rattle.fb_verify.specs.declared.scratch.Frame.{Frame}
+use Rattle.fb_rules.specs.declared.site.{Refusal.Refusal, Site.Site, Stop.Stop}
+use Rattle.fb_verify.specs.declared.stack.{Turn.Turn, Walk.Walk}
 use Rattle.fb_verify.specs.declared.stack.Turn.TheVariants.{Down, Up, Slowly, Halt as Halted}
-use Rattle.fb_verify.specs.{Bounds.Bounds, Bounds.AreAllowed, Fields.entry, Fields.row, Fields.entries_of, Fields.entries_at, Fields.entries, Plain.tested_by, Plain.IsTested}
-use Rattle.fb_verify.specs.{Stops.reads_failure, StopsAt.IsStopAt, Told.refused, Told.stopped}
-use Rattle.fb_verify.specs.Cost.{slot_reads, present_reads, reads_at, own_reads}
-use Rattle.fb_verify.specs.OffsetRows.{lead_to, words_of, IsReferent, IsRow, IsAskable, LeavesRow}
-use Rattle.fb_verify.specs.Order.{Failure, after, present_failure, failure_at, own_failure}
+use Rattle.fb_rules.specs.{Bounds.Bounds, Bounds.AreAllowed, Fields.row, Fields.entries_of, Fields.entries_at, Fields.entries, Plain.tested_by, Plain.IsTested}
+use Rattle.fb_rules.specs.{Stops.reads_failure, Told.refused, Told.stopped}
+use Rattle.fb_verify.specs.StopsAt.{IsStopAt}
+use Rattle.fb_rules.specs.Cost.{slot_reads, present_reads, reads_at, own_reads}
+use Rattle.fb_rules.specs.OffsetRows.{words_of, IsRow, IsAskable, LeavesRow}
+use Rattle.fb_rules.specs.Order.{Failure, after, present_failure, failure_at, own_failure}
 use Rattle.fb_verify.specs.Stack.{blank, frame_work, work, Waiting, IsUnderWay, IsStopped}
 use Rattle.fb_verify.specs.Turns.{IsAtOpenField, GoesOn, StaysInField, PassedField, BeginsRow, RowTurned, FieldTurned}
-use Rattle.fb_verify.proofs.{Budgets.fewer_reads, Chains.after_none, Turning.halts_on, Turning.goes_on, Turning.goes_down}
-use Rattle.fb_verify.proofs.{Frames.no_row, Frames.own_few, Frames.present_few, Walking.AtNext, Walking.askable, Walking.next_stops}
-use Rattle.fb_verify.proofs.{Passing.slot_is_one, Passing.stop_is, Plains.after_twice, Refusals.told_after, Refusals.told_first, Words.row_none}
+use Rattle.fb_rules.proofs.{Budgets.fewer_reads, Chains.after_none}
+use Rattle.fb_verify.proofs.Turning.{halts_on, goes_on, goes_down}
+use Rattle.fb_rules.proofs.Few.{own_few, present_few}
+use Rattle.fb_verify.proofs.{Frames.no_row, Walking.AtNext, Walking.askable, Walking.next_stops}
+use Rattle.fb_rules.proofs.{Plains.after_twice, Refusals.told_after, Refusals.told_first, Words.row_none}
+use Rattle.fb_verify.proofs.Passing.{slot_is_one, stop_is}
 use Rattle.fb_verify.proofs.Walking.{field_passed, field_work, field_skipped, skip_work}
-
--- the row of a field that leads on by one word
-pub word_left : {b : List ℕ} {S : Rows} (referent : Referent) (p : ℕ) (old : Row) → p < 2 ^ 34 → IsReferent S referent → LeavesRow b S (entry (lead_to referent) p 0 ∷ []) old (record { leads = All referent; place = p; left = 1 }) true
-unfolding row
-word_left referent p old near holds =
-    record { none = λ x. absurd cc; entries = λ _. refl; row = λ _. (record { place = omega (arith, near); left = omega arith; leads = λ _. holds }, omega arith) }
 
 module _ {w : Walk} {m : Lent} {under : Waiting} {waiting : ℕ} {top : Frame} {place : ℕ} {f : Live} (h : IsAtOpenField w m under waiting top place f) where
   abbrev b : List ℕ

@@ -1,30 +1,18 @@
 -- Frames whose row was left behind a word, and the links through these words.
-use Rattle.std.proofs.Common.{◌≡◌, ℕ, zero, suc, ◌+◌, ◌-◌, ◌<◌, List, ◌∷◌, length, refl, sym, ◌∙◌, ap, subst, arith, Some, None}
+use Rattle.std.proofs.Common.{◌≡◌, ℕ, ◌+◌, ◌-◌, ◌<◌, List, ◌∷◌, length, refl, sym, ◌∙◌, ap, subst, arith, Some, None}
 use Rattle.std.specs.Prelude.{slice_get}
 use Rattle.std.proofs.lemmas.List.{length-drop}
 use Rattle.fb_schema.specs.declared.kinds.Kind.{Kind}
 use Rattle.fb_schema.specs.{Rows.Rows, Live.Live, Live.live_fields, Served.IsServed}
-use Rattle.fb_verify.specs.declared.{checks.Checks.Checks, offset_row.Row.Row, scratch.Frame.Frame}
-use Rattle.fb_verify.specs.Fields.{IsPresent, IsField, Lead, Entry, row, union_row, entries_of, entries_at, entries}
-use Rattle.fb_verify.specs.{Places.field_place, Tree.elements_length, Way.Way, Links.element_of, Links.type_of, Links.element_link}
-use Rattle.fb_verify.specs.{OffsetRows.words_of, OffsetRows.IsTyped, Walked.IsInField}
+use Rattle.fb_rules.specs.declared.{checks.Checks.Checks}
+use Rattle.fb_verify.specs.declared.scratch.Frame.{Frame}
+use Rattle.fb_rules.specs.Fields.{IsPresent, IsField, Entry, entries_of, entries_at, entries}
+use Rattle.fb_rules.specs.{Places.field_place, Tree.elements_length, Way.Way, Links.element_of, Links.type_of, Links.element_link}
+use Rattle.fb_rules.specs.OffsetRows.{words_of, IsTyped}
+use Rattle.fb_verify.specs.Walked.{IsInField}
 use Rattle.fb_verify.specs.Stack.{word_count, CountStands, TypeStands, frame_link, link_behind, IsFrame, IsLinked}
-use Rattle.fb_verify.proofs.Typed.{present, typed_before}
-
-module _ (b : List ℕ) (S : Rows) where
-  pub row_length : (lead : Lead) (p n : ℕ) → length (row lead p n) ≡ n
-  unfolding row
-  row_length lead p zero = refl
-  row_length lead p (suc n) = ap suc (row_length lead (p + 4) n)
-
-  pub union_row_length : (e q p n : ℕ) → length (union_row b S e q p n) ≡ n
-  unfolding union_row
-  union_row_length e q p zero = refl
-  union_row_length e q p (suc n) = ap suc (union_row_length e (q + 1) (p + 4) n)
-
-  -- a row has as many words as are left of it
-  pub row_words : (r : Row) → length (words_of b S r) ≡ r.left
-  row_words r = grind (arith, row_length, union_row_length)
+use Rattle.fb_rules.proofs.Typed.{present, typed_before}
+use Rattle.fb_rules.proofs.Words.{row_length, union_row_length, row_words}
 
 module _ (c : Checks) (b : List ℕ) (S : Rows) (fr : Frame) (w v : Way) (x : Entry) (h : IsInField c b S (fr.table).object (fr.table).at w fr.next fr.number (x ∷ words_of b S fr.row) v) where
   here : slice_get (live_fields S (fr.table).object) (fr.next - 1) ≡ Some h.field

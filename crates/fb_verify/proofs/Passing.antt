@@ -10,24 +10,28 @@ use Rattle.fb_schema.specs.declared.{views.Act.TheVariants.Other, views.Step.Ste
 use Rattle.fb_schema.specs.{Rows.Rows, Steps.act_of, Steps.step_of}
 use Rattle.fb_schema.specs.Live.{Live, live_fields, next_required, next_required_of}
 use Rattle.std.proofs.{Math.Seq.drop-cons, Common.add-one}
-use Rattle.fb_verify.specs.declared.{checks.Checks.Checks, fault.Fault.Fault, fault.Reason.Reason, fault.Reason.TheVariants.MissingRequired}
-use Rattle.fb_verify.specs.declared.{offset_row.Row.Row, offset_row.Referent.TheVariants.Text as AText}
-use Rattle.fb_verify.specs.declared.{offset_row.Leads.TheVariants.All as AllTo, scratch.Frame.Frame, site.Refusal.Refusal, site.Site.Site, site.Stop.Stop}
-use Rattle.fb_verify.specs.declared.{stack.Walk.Walk, plain.Came.Came}
-use Rattle.fb_verify.specs.declared.plain.Came.TheVariants.{Past, ToEnd, ToField, ToFault}
-use Rattle.fb_verify.specs.{Bounds.Bounds, Bounds.AreAllowed, Places.vtable_size, Places.has_slot, Places.field_place}
-use Rattle.fb_verify.specs.{Cost.slot_reads, Cost.own_reads, OffsetRows.first_word, OffsetRows.past_first, StopsAt.IsStopAt}
-use Rattle.fb_verify.specs.{Stops.reads_failure, Stops.lead_reads_failure}
-use Rattle.fb_verify.specs.Told.{refused, stopped}
-use Rattle.fb_verify.specs.Fields.{to_string, entry, entries, row}
-use Rattle.fb_verify.specs.Plain.{tested_by, plain_failure, plain_reads, StepsHold, steps_reads, StepTested, Stepped}
-use Rattle.fb_verify.specs.Order.{Failure, after, ◌▷◌, own_failure, element_failure}
+use Rattle.fb_rules.specs.declared.{checks.Checks.Checks, fault.Fault.Fault, fault.Reason.Reason, fault.Reason.TheVariants.MissingRequired}
+use Rattle.fb_rules.specs.declared.{offset_row.Row.Row, offset_row.Referent.TheVariants.Text as AText}
+use Rattle.fb_rules.specs.declared.{offset_row.Leads.TheVariants.All as AllTo, site.Refusal.Refusal, site.Site.Site, site.Stop.Stop}
+use Rattle.fb_verify.specs.declared.scratch.Frame.{Frame}
+use Rattle.fb_rules.specs.declared.plain.Came.{Came}
+use Rattle.fb_verify.specs.declared.stack.Walk.{Walk}
+use Rattle.fb_rules.specs.declared.plain.Came.TheVariants.{Past, ToEnd, ToField, ToFault}
+use Rattle.fb_rules.specs.{Bounds.Bounds, Bounds.AreAllowed, Places.vtable_size, Places.has_slot, Places.field_place}
+use Rattle.fb_rules.specs.{Cost.slot_reads, Cost.own_reads, OffsetRows.first_word, OffsetRows.past_first}
+use Rattle.fb_verify.specs.StopsAt.{IsStopAt}
+use Rattle.fb_rules.specs.{Stops.reads_failure, Stops.lead_reads_failure}
+use Rattle.fb_rules.specs.Told.{refused, stopped}
+use Rattle.fb_rules.specs.Fields.{to_string, entry, entries, row}
+use Rattle.fb_rules.specs.Plain.{tested_by, plain_failure, plain_reads, StepsHold, steps_reads, StepTested, Stepped}
+use Rattle.fb_rules.specs.Order.{Failure, after, ◌▷◌, own_failure, element_failure}
 use Rattle.fb_verify.specs.Stack.{blank, frame_link, own_link, Origin, Waiting, IsUnderWay, IsWalking, IsAtField, IsStopped, Standing, StopsIn}
 use Rattle.fb_verify.specs.PassesOn.{StepsPass, IsBetween, HasRoom, EndsBehind, CameTo, fields_left}
-use Rattle.fb_verify.proofs.{Budgets.fewer_reads, Chains.after_none, Chains.both_none, Refusals.told_after, Refusals.told_first, Words.row_none}
+use Rattle.fb_rules.proofs.{Budgets.fewer_reads, Chains.after_none, Chains.both_none, Refusals.told_after, Refusals.told_first, Words.row_none}
 use Rattle.fb_verify.proofs.Walking.{field_stops, stops_in_field, goes_on, field_skipped}
-use Rattle.fb_verify.proofs.Frames.{field_within, frame_passed, no_row, own_few, slot_few}
-use Rattle.fb_verify.proofs.Plains.{LeadsTo, step_at, comes, after_twice, plain_few}
+use Rattle.fb_rules.proofs.Few.{own_few, slot_few}
+use Rattle.fb_verify.proofs.Frames.{field_within, frame_passed, no_row}
+use Rattle.fb_rules.proofs.Plains.{LeadsTo, step_at, comes, after_twice, plain_few}
 use Rattle.fb_verify.proofs.Standings.{at_rest, pass_more, pass_leaf, stop_at_element}
 
 -- Fields behind the end of a table's vtable, of which none is required: they are passed without a read.

@@ -4,10 +4,10 @@ use Rattle.std.proofs.Math.Seq.{drop-nil}
 use Rattle.std.proofs.lemmas.List.{append-nil, take-append-drop, take_all as take_whole}
 use Rattle.std.specs.Prelude.{slice_get}
 use Rattle.fb_schema.specs.{Rows.Rows, Live.Live}
-use Rattle.fb_verify.specs.declared.checks.Checks.{Checks}
-use Rattle.fb_verify.specs.{Fields.IsField, Fields.Entry, Fields.entries, Unfolds.FieldsUnfold, Unfolds.ElementsUnfold, Unfolds.ElementUnfolds}
-use Rattle.fb_verify.specs.Tree.{Kids, no_kids, kid, Elements, no_elements, element, Element, kids_size, elements_size, element_size, kids_depth, elements_depth, element_depth, kids_length, elements_length}
-use Rattle.fb_verify.specs.Cost.{own_reads, lead_reads, kids_cost, elements_cost, element_cost}
+use Rattle.fb_rules.specs.declared.checks.Checks.{Checks}
+use Rattle.fb_rules.specs.{Fields.IsField, Fields.Entry, Fields.entries, Unfolds.FieldsUnfold, Unfolds.ElementsUnfold, Unfolds.ElementUnfolds}
+use Rattle.fb_rules.specs.Tree.{Kids, no_kids, kid, Elements, no_elements, element, Element, kids_size, elements_size, element_size, kids_depth, elements_depth, element_depth, kids_length, elements_length}
+use Rattle.fb_rules.specs.Cost.{own_reads, lead_reads, kids_cost, elements_cost, element_cost}
 
 unfoldable pub elements_push : Elements → Element → Elements
 elements_push no_elements y = element y no_elements

@@ -4,14 +4,18 @@ use Rattle.std.proofs.lemmas.{Bool.cases_eq, List.length-append, List.take_all}
 use Rattle.fb_bytes.specs.Word.{Lent}
 use Rattle.fb_schema.specs.declared.views.Step.{Step}
 use Rattle.fb_schema.specs.{Rows.Rows, Live.live_fields, Steps.is_plain, Steps.step_of}
-use Rattle.fb_verify.specs.declared.{checks.Checks.Checks, table.Child.Child, fault.Reason.Reason, offset_row.Row.Row, scratch.Frame.Frame}
-use Rattle.fb_verify.specs.declared.{site.LastLink.TheVariants.Behind, site.LastLink.TheVariants.InField, site.Stop.Stop, stack.Walk.Walk}
-use Rattle.fb_verify.specs.{Bounds.AreAllowed, Cost.head_reads, OffsetRows.first_word, OffsetRows.past_first, Order.after, Order.element_failure}
-use Rattle.fb_verify.specs.{Plain.tested_by, StopsAt.IsStopAt}
+use Rattle.fb_rules.specs.declared.{checks.Checks.Checks, table.Child.Child, fault.Reason.Reason, offset_row.Row.Row}
+use Rattle.fb_verify.specs.declared.scratch.Frame.{Frame}
+use Rattle.fb_rules.specs.declared.site.{LastLink.TheVariants.Behind, LastLink.TheVariants.InField, Stop.Stop}
+use Rattle.fb_verify.specs.declared.stack.Walk.{Walk}
+use Rattle.fb_rules.specs.{Bounds.AreAllowed, Cost.head_reads, OffsetRows.first_word, OffsetRows.past_first, Order.after, Order.element_failure}
+use Rattle.fb_rules.specs.Plain.{tested_by}
+use Rattle.fb_verify.specs.StopsAt.{IsStopAt}
 use Rattle.fb_verify.specs.Flat.{in_head, frame_at, MayPass, PassesFlat}
 use Rattle.fb_verify.specs.Stack.{Waiting, IsAtTable, IsWalking, HaltsIn, links_left}
 use Rattle.fb_verify.specs.Turns.{IsShort, IsAtChild, GoesDown, GoesOn, Halts}
-use Rattle.fb_verify.proofs.{Budgets.fewer_reads, Turns.words_work, Flats.flat_work, Flats.word_fails, Frames.first_few, Frames.head_few}
+use Rattle.fb_rules.proofs.{Budgets.fewer_reads, Few.first_few, Few.head_few}
+use Rattle.fb_verify.proofs.{Turns.words_work, Flats.flat_work, Flats.word_fails}
 use Rattle.fb_verify.proofs.Turns.{at_child, down_falls, halts_behind}
 
 pub two : (m : ℕ) → m + 2 ≡ m + 1 + 1

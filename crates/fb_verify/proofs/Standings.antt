@@ -3,19 +3,21 @@ use Rattle.std.proofs.Common.{◌≡◌, ℕ, ◌+◌, max, ◌<◌, ◌≤◌, 
 use Rattle.std.specs.{Prelude.slice_get, List.All}
 use Rattle.std.proofs.lemmas.List.Elements.{All-nil, All-cons, All-head, All-tail}
 use Rattle.fb_schema.specs.{Rows.Rows, Live.Live, Live.live_fields, Served.IsServed}
-use Rattle.fb_verify.specs.declared.{checks.Checks.Checks, fault.Fault.Fault, table.Table.Table, offset_row.Row.Row, scratch.Frame.Frame}
-use Rattle.fb_verify.specs.declared.{site.Site.Site, links.Link.Link}
-use Rattle.fb_verify.specs.{Bounds.Bounds, Bounds.AreAllowed, Places.target, Fields.Lead, Fields.to_table, Fields.entries}
-use Rattle.fb_verify.specs.{Tree.leaf, Tree.element_size, Tree.element_depth, Unfolds.ElementUnfolds, Laws.IsLead, Way.Way, Way.way_to_table}
-use Rattle.fb_verify.specs.{Links.LeadsAlong, Told.told, Told.way_at}
-use Rattle.fb_verify.specs.Cost.{head_reads, own_reads, lead_reads, element_cost}
-use Rattle.fb_verify.specs.Order.{Failure, ◌▷◌, head_failure, own_failure, element_failure}
-use Rattle.fb_verify.specs.Stops.{in_head, in_element, fault_of, budget_failure, reads_failure, lead_reads_failure, fault_at}
-use Rattle.fb_verify.specs.OffsetRows.{words_of, first_word, past_first, IsLeafLead}
+use Rattle.fb_rules.specs.declared.{checks.Checks.Checks, fault.Fault.Fault, table.Table.Table, offset_row.Row.Row}
+use Rattle.fb_verify.specs.declared.scratch.Frame.{Frame}
+use Rattle.fb_rules.specs.declared.{site.Site.Site, link.Link.Link}
+use Rattle.fb_rules.specs.{Bounds.Bounds, Bounds.AreAllowed, Places.target, Fields.Lead, Fields.to_table, Fields.entries}
+use Rattle.fb_rules.specs.{Tree.leaf, Tree.element_size, Tree.element_depth, Unfolds.ElementUnfolds, Laws.IsLead, Way.Way, Way.way_to_table}
+use Rattle.fb_rules.specs.{Links.LeadsAlong, Told.told, Told.way_at}
+use Rattle.fb_rules.specs.Cost.{head_reads, own_reads, lead_reads, element_cost}
+use Rattle.fb_rules.specs.Order.{Failure, ◌▷◌, head_failure, own_failure, element_failure}
+use Rattle.fb_rules.specs.Stops.{in_head, in_element, fault_of, budget_failure, reads_failure, lead_reads_failure, fault_at}
+use Rattle.fb_rules.specs.OffsetRows.{words_of, first_word, past_first, IsLeafLead}
 use Rattle.fb_verify.specs.Walked.{ended, TableWalked, IsInside, IsInField, Waits}
 use Rattle.fb_verify.specs.Stack.{opened as opened_frame, reached, Resting, Middle, Goes, Context, Origin, Standing, frame_link, IsFrame, IsLinked}
-use Rattle.fb_verify.proofs.{Budgets.fewer_reads, Chains.head_none, Chains.own_none, Chains.element_none}
-use Rattle.fb_verify.proofs.{Words.row_front, Words.row_none, Words.first_place, Linked.linked_by, Linked.is_linked}
+use Rattle.fb_rules.proofs.{Budgets.fewer_reads, Chains.head_none, Chains.own_none, Chains.element_none}
+use Rattle.fb_rules.proofs.Words.{row_front, row_none, first_place}
+use Rattle.fb_verify.proofs.Linked.{linked_by, is_linked}
 use Rattle.fb_verify.proofs.Steps.{same_way, field_deep, opened, entered, passed_on, field_done, closed, stops_at_head, stops_at_element, stops_below}
 
 -- The frames below the top.

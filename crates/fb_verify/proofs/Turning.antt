@@ -4,7 +4,8 @@ use Rattle.std.proofs.Math.ListN.{set, length-set}
 use Rattle.std.proofs.lemmas.List.{take-take, length-take, length-append}
 use Rattle.fb_bytes.specs.Word.{Lent}
 use Rattle.fb_schema.specs.Live.{live_fields}
-use Rattle.fb_verify.specs.declared.{table.Child.Child, scratch.Frame.Frame, stack.Turn.Turn, stack.Walk.Walk}
+use Rattle.fb_rules.specs.declared.table.Child.{Child}
+use Rattle.fb_verify.specs.declared.{scratch.Frame.Frame, stack.Turn.Turn, stack.Walk.Walk}
 use Rattle.fb_verify.specs.declared.stack.Turn.TheVariants.{Down, Up, Slowly, Halt as Halted}
 use Rattle.fb_verify.specs.Stack.{blank, Origin, frame_work, work, Waiting, IsWalking}
 use Rattle.fb_verify.specs.Turns.{GoesOn, GoesDown, Halts, WentOver, Opened, Turned, FramesTurned, RootTurned, PassedField, FieldTurned}

@@ -1,13 +1,16 @@
 -- From the walk of the root table to the verdict.
 use Rattle.std.proofs.Common.{◌≡◌, ℕ, ◌+◌, ◌≤◌, inl, inr, List, [], length, refl, sym, ◌∙◌, ap, arith, Some, None}
-use Rattle.fb_verify.specs.declared.{fault.Fault.Fault, fault.Report.Report, scratch.Frame.Frame, site.LastLink.LastLink, site.Site.Site, links.Link.Link}
-use Rattle.fb_verify.specs.{Bounds.AreAllowed, Question.Question, Places.target, Tree.size, Tree.depth, Cost.tree_cost}
-use Rattle.fb_verify.specs.{WellFormed.base, WellFormed.start_reads, Way.way_to_start, Way.way_to_root, Links.LeadsAlong, Links.StopsAlong}
-use Rattle.fb_verify.specs.{Told.told, Told.way_at, Walked.TableWalked, Walked.ended, Stack.HaltsAlong, MostReads.most_reads}
-use Rattle.fb_verify.specs.{Verdict.Reports, Verdict.HasNone, Stops.reads_failure, Stops.fault_at, Stops.Stops}
-use Rattle.fb_verify.specs.Order.{◌▷◌, start_failure}
-use Rattle.fb_verify.proofs.{Budgets.fewer_reads, Budgets.no_reads, Chains.start_none, Overruns.stops_nowhere}
-use Rattle.fb_verify.proofs.{Price.cost_is_bounded, Price.reads_are_bounded, Steps.same_way, Standings.told_is}
+use Rattle.fb_rules.specs.declared.{fault.Fault.Fault, fault.Report.Report, site.LastLink.LastLink, site.Site.Site, link.Link.Link}
+use Rattle.fb_verify.specs.declared.scratch.Frame.{Frame}
+use Rattle.fb_rules.specs.{Bounds.AreAllowed, Question.Question, Places.target, Tree.size, Tree.depth, Cost.tree_cost}
+use Rattle.fb_rules.specs.{WellFormed.base, WellFormed.start_reads, Way.way_to_start, Way.way_to_root, Links.LeadsAlong, Links.StopsAlong}
+use Rattle.fb_rules.specs.{Told.told, Told.way_at, MostReads.most_reads}
+use Rattle.fb_verify.specs.{Walked.TableWalked, Walked.ended, Stack.HaltsAlong}
+use Rattle.fb_rules.specs.{Verdict.Reports, Verdict.HasNone, Stops.reads_failure, Stops.fault_at, Stops.Stops}
+use Rattle.fb_rules.specs.Order.{◌▷◌, start_failure}
+use Rattle.fb_rules.proofs.{Budgets.fewer_reads, Budgets.no_reads, Chains.start_none, Overruns.stops_nowhere}
+use Rattle.fb_rules.proofs.Price.{cost_is_bounded, reads_are_bounded}
+use Rattle.fb_verify.proofs.{Steps.same_way, Standings.told_is}
 
 module _ (q : Question) (b : List ℕ) where
   abbrev root_site : Site

@@ -5,19 +5,24 @@ use Rattle.std.proofs.lemmas.{List.Elements.All-push, List.Elements.All-pop}
 use Rattle.std.proofs.lemmas.List.{length-append, map-append, append-nil}
 use Rattle.fb_bytes.specs.Word.{Lent}
 use Rattle.fb_schema.specs.{Rows.Rows, Live.Live, Live.live_fields}
-use Rattle.fb_verify.specs.declared.{checks.Checks.Checks, offset_row.Row.Row, scratch.Frame.Frame, fault.Fault.Fault}
-use Rattle.fb_verify.specs.declared.{links.Link.Link, site.Site.Site, site.Stop.Stop, stack.Walk.Walk}
-use Rattle.fb_verify.specs.{Bounds.Bounds, Bounds.AreAllowed, Fields.entries}
-use Rattle.fb_verify.specs.{Cost.own_reads, Cost.lead_reads, Walked.ended}
-use Rattle.fb_verify.specs.{Links.field_link, Links.LeadsAlong, PassesOn.HasPassed, PassesOn.PassesFields}
-use Rattle.fb_verify.specs.Told.{told, stopped}
-use Rattle.fb_verify.specs.Order.{own_failure, element_failure, Failure, ◌▷◌}
-use Rattle.fb_verify.specs.OffsetRows.{words_of, first_word, past_first, IsLeafLead, IsRow, IsAskable}
+use Rattle.fb_rules.specs.declared.{checks.Checks.Checks, offset_row.Row.Row, fault.Fault.Fault}
+use Rattle.fb_verify.specs.declared.scratch.Frame.{Frame}
+use Rattle.fb_rules.specs.declared.{link.Link.Link, site.Site.Site, site.Stop.Stop}
+use Rattle.fb_verify.specs.declared.stack.Walk.{Walk}
+use Rattle.fb_rules.specs.{Bounds.Bounds, Bounds.AreAllowed, Fields.entries}
+use Rattle.fb_rules.specs.Cost.{own_reads, lead_reads}
+use Rattle.fb_verify.specs.Walked.{ended}
+use Rattle.fb_rules.specs.Links.{field_link, LeadsAlong}
+use Rattle.fb_verify.specs.PassesOn.{HasPassed, PassesFields}
+use Rattle.fb_rules.specs.Told.{told, stopped}
+use Rattle.fb_rules.specs.Order.{own_failure, element_failure, Failure, ◌▷◌}
+use Rattle.fb_rules.specs.OffsetRows.{words_of, first_word, past_first, IsLeafLead, IsRow, IsAskable}
 use Rattle.fb_verify.specs.Stack.{IsFrame, frame_work, reached, Origin, IsUnderWay, Standing, frame_link, link_to_number, own_link, IsLinked, StopsIn, blank, Waiting, IsWalking, IsStopped}
-use Rattle.fb_verify.specs.Stops.{reads_failure, lead_reads_failure, in_field, fault_at}
-use Rattle.fb_verify.proofs.Frames.{own_few, field_within, frame_on, frame_passed, no_row}
+use Rattle.fb_rules.specs.Stops.{reads_failure, lead_reads_failure, in_field, fault_at}
+use Rattle.fb_rules.proofs.Few.{own_few}
+use Rattle.fb_verify.proofs.Frames.{field_within, frame_on, frame_passed, no_row}
 use Rattle.fb_verify.proofs.{Standings.context_pop, Standings.context_linked, Linked.is_linked}
-use Rattle.fb_verify.proofs.{Budgets.fewer_reads, Typed.typed_before, Words.row_none}
+use Rattle.fb_rules.proofs.{Budgets.fewer_reads, Typed.typed_before, Words.row_none}
 use Rattle.fb_verify.proofs.Steps.{resumed, stops_at_field as stops_at_test}
 use Rattle.fb_verify.proofs.Standings.{at_rest, goes_way, pass_leaf, pass_more, close, told_is, in_middle, stop, stop_at_element}
 

@@ -3,10 +3,12 @@ use Rattle.std.specs.Prelude.{◌≡◌, ℕ, ◌+◌, ◌*◌, ◌^◌, ◌<◌
 use Rattle.fb_bytes.specs.Word.{Lent}
 use Rattle.fb_schema.specs.declared.views.Step.{Step}
 use Rattle.fb_schema.specs.{Rows.Rows, Live.live_fields, Steps.is_plain, Steps.step_of}
-use Rattle.fb_verify.specs.declared.{checks.Checks.Checks, fault.Reason.Reason, table.Table.Table, scratch.Frame.Frame, site.Stop.Stop}
+use Rattle.fb_rules.specs.declared.{checks.Checks.Checks, fault.Reason.Reason, table.Table.Table, site.Stop.Stop}
+use Rattle.fb_verify.specs.declared.scratch.Frame.{Frame}
 use Rattle.fb_verify.specs.declared.stack.Walk.{Walk}
-use Rattle.fb_verify.specs.{Bounds.AreAllowed, Cost.head_reads, Order.after, Order.head_failure, Plain.tested_by, StopsAt.IsStopAt}
-use Rattle.fb_verify.specs.Told.{stopped, IsHead}
+use Rattle.fb_rules.specs.{Bounds.AreAllowed, Cost.head_reads, Order.after, Order.head_failure, Plain.tested_by}
+use Rattle.fb_verify.specs.StopsAt.{IsStopAt}
+use Rattle.fb_rules.specs.Told.{stopped, IsHead}
 use Rattle.fb_verify.specs.Stack.{blank, opened, own_link, Waiting, IsUnderWay, IsWalking, StopsIn}
 
 -- a walk under way, and what is below its top

@@ -3,9 +3,11 @@ use Rattle.std.specs.Prelude.{◌≡◌, ℕ, ◌+◌, ◌-◌, ◌*◌, ◌^◌
 use Rattle.fb_schema.specs.{Rows.Rows, Live.Live, Live.live_fields, Steps.act_of, Steps.step_of}
 use Rattle.fb_schema.specs.declared.{views.Act.TheVariants.Other, views.Step.Step}
 use Rattle.fb_bytes.specs.Word.{Lent}
-use Rattle.fb_verify.specs.declared.{fault.Reason.Reason, plain.Came.Came, scratch.Frame.Frame, site.Stop.Stop, stack.Walk.Walk}
-use Rattle.fb_verify.specs.declared.plain.Came.TheVariants.{Past, ToEnd, ToField, ToFault}
-use Rattle.fb_verify.specs.{Bounds.AreAllowed, Places.vtable_size, Plain.StepsHold, Plain.steps_reads, Told.stopped, StopsAt.IsStopAt}
+use Rattle.fb_rules.specs.declared.{fault.Reason.Reason, plain.Came.Came, site.Stop.Stop}
+use Rattle.fb_verify.specs.declared.{scratch.Frame.Frame, stack.Walk.Walk}
+use Rattle.fb_rules.specs.declared.plain.Came.TheVariants.{Past, ToEnd, ToField, ToFault}
+use Rattle.fb_rules.specs.{Bounds.AreAllowed, Places.vtable_size, Plain.StepsHold, Plain.steps_reads, Told.stopped}
+use Rattle.fb_verify.specs.StopsAt.{IsStopAt}
 use Rattle.fb_verify.specs.Stack.{Waiting, frame_work, IsWalking, IsAtField, IsStopped}
 
 -- a walk between two fields of the top

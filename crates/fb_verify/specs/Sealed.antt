@@ -1,9 +1,9 @@
 -- A buffer that was verified, as contracts see it.
 use Rattle.std.specs.Prelude.{◌≡◌, ℕ, ◌<◌, ◌^◌, List, length, IsTrue}
 use Rattle.fb_schema.specs.Rows.{Rows, is_table}
-use Rattle.fb_verify.specs.declared.{checks.Checks.Checks, start.Start.Start, start.Ident.Ident, fault.Report.Report}
-use Rattle.fb_verify.specs.{Bounds.Bounds, Question.Question, Question.question, Tree.Tree, Tree.size, Tree.depth}
-use Rattle.fb_verify.specs.WellFormed.{IsWellFormed, cost}
+use Rattle.fb_rules.specs.declared.{checks.Checks.Checks, start.Start.Start, start.Ident.Ident, fault.Report.Report}
+use Rattle.fb_rules.specs.{Bounds.Bounds, Question.Question, Question.question, Tree.Tree, Tree.size, Tree.depth}
+use Rattle.fb_rules.specs.WellFormed.{IsWellFormed, cost}
 
 -- the bytes, the rows of the schema, and what was asked and answered
 pub record Sealed : Type 0 where

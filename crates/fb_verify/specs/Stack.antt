@@ -5,14 +5,16 @@ use Rattle.fb_schema.specs.declared.kinds.Kind.{Kind}
 use Rattle.fb_schema.specs.declared.kinds.Kind.TheVariants.{Union, Texts, Tables, Unions}
 use Rattle.fb_schema.specs.{Rows.Rows, Rows.is_table, Live.Live, Live.live_fields, Served.IsServed}
 use Rattle.fb_bytes.specs.Word.{Lent, word}
-use Rattle.fb_verify.specs.declared.{checks.Checks.Checks, fault.Fault.Fault, offset_row.Referent.TheVariants.Nothing}
-use Rattle.fb_verify.specs.declared.{offset_row.Leads.TheVariants.All as AllTo, scratch.Frame.Frame, site.Halt.Halt, site.LastLink.LastLink}
-use Rattle.fb_verify.specs.declared.{site.LastLink.TheVariants.Behind, site.LastLink.TheVariants.InField, table.Child.Child, table.Table.Table}
-use Rattle.fb_verify.specs.declared.{links.Link.Link, stack.Walk.Walk}
-use Rattle.fb_verify.specs.{Bounds.Bounds, Bounds.AreAllowed, Question.Question, Places.target, Places.has_slot, Places.field_place, Cost.lead_reads}
-use Rattle.fb_verify.specs.{Order.element_failure, Way.Way, Told.IsHead, Told.stopped, Links.element_link, Links.LeadsAlong, Links.StopsAlong}
-use Rattle.fb_verify.specs.Fields.{IsField, to_table, entries, type_place, type_count}
-use Rattle.fb_verify.specs.OffsetRows.{words_of, first_word, IsRow, IsTyped, TypeFits, TypesFit}
+use Rattle.fb_rules.specs.declared.{checks.Checks.Checks, fault.Fault.Fault, offset_row.Referent.TheVariants.Nothing}
+use Rattle.fb_rules.specs.declared.{offset_row.Leads.TheVariants.All as AllTo, site.Halt.Halt, site.LastLink.LastLink}
+use Rattle.fb_verify.specs.declared.scratch.Frame.{Frame}
+use Rattle.fb_rules.specs.declared.{site.LastLink.TheVariants.Behind, site.LastLink.TheVariants.InField, table.Child.Child, table.Table.Table}
+use Rattle.fb_rules.specs.declared.link.Link.{Link}
+use Rattle.fb_verify.specs.declared.stack.Walk.{Walk}
+use Rattle.fb_rules.specs.{Bounds.Bounds, Bounds.AreAllowed, Question.Question, Places.target, Places.has_slot, Places.field_place, Cost.lead_reads}
+use Rattle.fb_rules.specs.{Order.element_failure, Way.Way, Told.IsHead, Told.stopped, Links.element_link, Links.LeadsAlong, Links.StopsAlong}
+use Rattle.fb_rules.specs.Fields.{IsField, to_table, entries, type_place, type_count}
+use Rattle.fb_rules.specs.OffsetRows.{words_of, first_word, IsRow, IsTyped, TypeFits, TypesFit}
 use Rattle.fb_verify.specs.Walked.{ended, TableWalked, IsInside, IsInField, Waits}
 
 -- what no walk has written

@@ -4,12 +4,16 @@ use Rattle.fb_bytes.specs.Word.{Lent}
 use Rattle.fb_schema.specs.declared.{kinds.Kind.Kind, views.Act.TheVariants.Other, views.Step.Step}
 use Rattle.fb_schema.specs.declared.kinds.Kind.TheVariants.{Table as ToTable, Union, Texts, Tables, Unions}
 use Rattle.fb_schema.specs.{Rows.is_table, Live.Live, Live.live_fields, Live.widest, Steps.act_of, Steps.is_plain, Steps.step_of}
-use Rattle.fb_verify.specs.declared.{table.Child.Child, fault.Reason.Reason, offset_row.Row.Row, offset_row.Leads.TheVariants.All}
-use Rattle.fb_verify.specs.declared.{offset_row.Referent.TheVariants.Table as ATable, scratch.Frame.Frame, site.Halt.Halt}
-use Rattle.fb_verify.specs.declared.{site.LastLink.TheVariants.Behind, stack.Turn.Turn, stack.Walk.Walk}
+use Rattle.fb_rules.specs.declared.{table.Child.Child, fault.Reason.Reason, offset_row.Row.Row, offset_row.Leads.TheVariants.All}
+use Rattle.fb_rules.specs.declared.{offset_row.Referent.TheVariants.Table as ATable, site.Halt.Halt}
+use Rattle.fb_verify.specs.declared.scratch.Frame.{Frame}
+use Rattle.fb_rules.specs.declared.site.LastLink.TheVariants.{Behind}
+use Rattle.fb_verify.specs.declared.stack.{Turn.Turn, Walk.Walk}
 use Rattle.fb_verify.specs.declared.stack.Turn.TheVariants.{Down, Up, Slowly, Halt as Halted}
-use Rattle.fb_verify.specs.{Bounds.AreAllowed, Flat.MayOpen, OffsetRows.past_first, Order.after, Order.head_failure}
-use Rattle.fb_verify.specs.{PassesOn.HasRoom, PassesOn.fields_left, Plain.tested_by}
+use Rattle.fb_rules.specs.{Bounds.AreAllowed, OffsetRows.past_first, Order.after, Order.head_failure}
+use Rattle.fb_verify.specs.Flat.{MayOpen}
+use Rattle.fb_rules.specs.Plain.{tested_by}
+use Rattle.fb_verify.specs.PassesOn.{HasRoom, fields_left}
 use Rattle.fb_verify.specs.Stack.{blank, opened, Origin, Waiting, frame_work, work, IsWalking, IsAtField, IsOver, StopsIn, HaltsIn, links_left}
 
 -- a count that 64 bits hold with room to spare

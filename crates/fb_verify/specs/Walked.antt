@@ -1,11 +1,11 @@
 -- A part of a walk: from the end of one way to the end of another, and what was passed between.
 use Rattle.std.specs.Prelude.{◌≡◌, ℕ, ◌+◌, List, ◌∷◌, Option, Some, take, drop, slice_get}
 use Rattle.fb_schema.specs.{Rows.Rows, Live.Live, Live.live_fields}
-use Rattle.fb_verify.specs.declared.checks.Checks.{Checks}
-use Rattle.fb_verify.specs.{Places.target, Facts.IsTable, Facts.IsOffset, Unfolds.Unfolds, Unfolds.FieldsUnfold, Unfolds.ElementsUnfold}
-use Rattle.fb_verify.specs.Fields.{IsField, to_table, Entry, entries}
-use Rattle.fb_verify.specs.Tree.{Tree, Kids, kids_length, Elements, elements_length}
-use Rattle.fb_verify.specs.Way.{Way, opening, past_tree, past_fields, way_to_element, way_to_table}
+use Rattle.fb_rules.specs.declared.checks.Checks.{Checks}
+use Rattle.fb_rules.specs.{Places.target, Facts.IsTable, Facts.IsOffset, Unfolds.Unfolds, Unfolds.FieldsUnfold, Unfolds.ElementsUnfold}
+use Rattle.fb_rules.specs.Fields.{IsField, to_table, Entry, entries}
+use Rattle.fb_rules.specs.Tree.{Tree, Kids, kids_length, Elements, elements_length}
+use Rattle.fb_rules.specs.Way.{Way, opening, past_tree, past_fields, way_to_element, way_to_table}
 
 -- the same way, to this field of the same table
 abbrev pub at_number : Option ℕ → Way → Way

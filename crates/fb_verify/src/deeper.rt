@@ -4,9 +4,9 @@ ghost use Rattle.std.specs.Prelude.{◌≡◌, ◌+◌, ◌<◌, ◌≤◌, leng
 ghost use Rattle.fb_verify.specs.{Stack.Origin, Stack.HaltsIn, Stack.links_left, Turns.IsUnderWayOver, Turns.GoneOn, Turns.WentOver};
 
 use crate::scratch::{BLANK, Frame};
-use crate::site::Halt;
 use crate::stack::{Turn, Walk};
 use fb_bytes::Loan;
+use fb_rules::site::Halt;
 
 impl Walk<'_, '_> {
     /// Goes on with a walk over these frames, of which so many wait below the top, until it is over, or until it needs

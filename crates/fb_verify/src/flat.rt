@@ -4,26 +4,28 @@
 ghost use Rattle.std.specs.Prelude.{◌≡◌, ◌+◌, ◌-◌, ◌*◌, ◌^◌, ◌<◌, ◌≤◌, length, map, IsTrue, None, true, false};
 ghost use Rattle.fb_schema.specs.{Rows.is_table, Live.live_fields, Steps.is_plain, Steps.step_of};
 ghost use Rattle.std.specs.List.{All};
-ghost use Rattle.fb_verify.specs.{Alike.IsSmallStep, Alike.IsKept, Cost.head_reads, OffsetRows.AreTargetsOf, Order.head_failure, Plain.IsTested};
-ghost use Rattle.fb_verify.specs.{Stack.opened, Stack.Waiting, StopsAt.IsStopAt, Told.IsHead};
-ghost use Rattle.fb_verify.specs.declared.{passed.Sizes.TheVariants.Small, offset_row.Leads.TheVariants.ByType};
+ghost use Rattle.fb_rules.specs.{Alike.IsSmallStep, Alike.IsKept, Cost.head_reads, OffsetRows.AreTargetsOf, Order.head_failure, Plain.IsTested};
+ghost use Rattle.fb_rules.specs.Told.{IsHead};
+ghost use Rattle.fb_verify.specs.{Stack.opened, Stack.Waiting, StopsAt.IsStopAt};
+ghost use Rattle.fb_rules.specs.declared.{passed.Sizes.TheVariants.Small, offset_row.Leads.TheVariants.ByType};
 ghost use Rattle.fb_verify.specs.declared.stack.Turn.TheVariants.{Halt as Halted};
-ghost use Rattle.fb_verify.specs.declared.site.LastLink.TheVariants.{Behind, InField};
+ghost use Rattle.fb_rules.specs.declared.site.LastLink.TheVariants.{Behind, InField};
 ghost use Rattle.fb_verify.specs.Flat.{in_head, frame_at, Going, MayPass, PassesFlat};
 ghost use Rattle.fb_verify.specs.PassesOn.{IsBetween, HasRoom, Passage, PassesOn, CameTo, steps_left};
 ghost use Rattle.fb_verify.specs.Turns.{IsAtMember, IsAtMembers, IsAtFlats, MemberTurned, RowTurned};
 
-use crate::checks::{Checks, PUBLISHED};
-use crate::fault::Reason;
 use crate::leaves::{first_referent, stop_at_word, targets_of};
-use crate::offset_row::{Leads, Referent, Row};
-use crate::passed::{Passed, Sizes, sizes_of};
-use crate::plain::{Came, pass_step, test_first_word, test_head, test_lead, test_vtable};
 use crate::scratch::Frame;
-use crate::site::LastLink;
 use crate::stack::{Turn, Walk};
-use crate::table::{Child, NO_HEAD, Table};
 use fb_bytes::Reads;
+use fb_rules::checks::{Checks, PUBLISHED, are_published};
+use fb_rules::fault::Reason;
+use fb_rules::limits::{short_of, tables_of};
+use fb_rules::offset_row::{Leads, Referent, Row};
+use fb_rules::passed::{Passed, Sizes, sizes_of};
+use fb_rules::plain::{Came, pass_step, test_first_word, test_head, test_lead, test_vtable};
+use fb_rules::site::LastLink;
+use fb_rules::table::{Child, NO_HEAD, Table};
 use fb_schema::{Schema, Step, Targets};
 
 /// The number of no field: the head of a table is under check.
@@ -266,7 +268,7 @@ impl<'s, 'n> Walk<'s, 'n> {
         ensures small { result ≡ true → (self.now.limits).tables < 2 ^ 32 }
         ensures room { result ≡ true → reads.now.count + cost ≤ room }
     {
-        row.left > 0 && self.tables < self.limits.tables() && reads.count() + cost <= room
+        row.left > 0 && self.tables < tables_of(self.limits) && reads.count() + cost <= room
     }
 
     /// Passes offset words that are left of the top table's field, each with the table to which it leads, whose fields
@@ -291,7 +293,7 @@ impl<'s, 'n> Walk<'s, 'n> {
         let schema = self.schema;
         let steps = schema.steps_of(object);
         let cost = 8 + 6 * steps.len() as u64;
-        let room = self.limits.short();
+        let room = short_of(self.limits);
         let mut row = top.row;
         let mut passed = Passed::none(sizes);
         while self.has_flat(reads, row, cost, room) {
@@ -403,7 +405,7 @@ impl<'s, 'n> Walk<'s, 'n> {
         requires same { checks ≡ self.old.checks }
         ensures { (child : Child) → RowTurned self.old self.new reads.old reads.new under top.old top.new child result }
     {
-        if checks.are_published() {
+        if are_published(checks) {
             if top.row.left > 1 && matches!(sizes_of(self.schema.steps_of(object)), Sizes::Small) {
                 return self.pass_small_by_published(reads, waiting, object, top);
             }
@@ -422,7 +424,7 @@ impl<'s, 'n> Walk<'s, 'n> {
         ensures small { result ≡ true → (self.now.limits).tables < 2 ^ 32 }
         ensures room { result ≡ true → reads.now.count + 8 ≤ room }
     {
-        row.left > 0 && self.tables < self.limits.tables() && reads.count() + 8 <= room
+        row.left > 0 && self.tables < tables_of(self.limits) && reads.count() + 8 <= room
     }
 
     /// Passes the first offset word of a row, with what it leads to, and answers `Up`; unless that is a table of which a
@@ -497,7 +499,7 @@ impl<'s, 'n> Walk<'s, 'n> {
         ensures { RowTurned self.old self.new reads.old reads.new under top.old top.new child.new result }
     {
         let schema = self.schema;
-        let room = self.limits.short();
+        let room = short_of(self.limits);
         // The same words, whose types are known at each turn of the loop then.
         let leads = Leads::ByType(union, types);
         let targets = targets_of(schema, leads);
@@ -581,7 +583,7 @@ impl<'s, 'n> Walk<'s, 'n> {
         requires same { checks ≡ self.old.checks }
         ensures { RowTurned self.old self.new reads.old reads.new under top.old top.new child.new result }
     {
-        if checks.are_published() {
+        if are_published(checks) {
             return self.pass_members_by_published(reads, waiting, union, types, top, child);
         }
         self.pass_members_by_checks(reads, waiting, union, types, top, child)

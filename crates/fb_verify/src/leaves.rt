@@ -2,20 +2,22 @@
 
 ghost use Rattle.std.specs.Prelude.{◌≡◌, ◌+◌, ◌*◌, ◌^◌, ◌<◌, ◌≤◌, [], ◌∷◌, ◌++◌, IfOk, IfErr, Some};
 ghost use Rattle.fb_schema.specs.Served.{IsServed};
-ghost use Rattle.fb_verify.specs.{Bounds.AreAllowed, Stack.Waiting, Stack.IsWalking, Stack.IsStoppedBehind, Told.stopped};
+ghost use Rattle.fb_rules.specs.{Bounds.AreAllowed, Told.stopped};
+ghost use Rattle.fb_verify.specs.Stack.{Waiting, IsWalking, IsStoppedBehind};
 ghost use Rattle.fb_verify.specs.Turns.{IsInRow, Rests, RowTurned};
-ghost use Rattle.fb_verify.specs.OffsetRows.{lead_to, first_word, past_first, AreOfUnion, AreTargetsOf, IsLeafLead, IsReferent, IsRow, AreTypesNear};
-ghost use Rattle.fb_verify.specs.declared.offset_row.Leads.TheVariants.{All};
+ghost use Rattle.fb_rules.specs.OffsetRows.{lead_to, first_word, past_first, AreOfUnion, AreTargetsOf, IsLeafLead, IsReferent, IsRow, AreTypesNear};
+ghost use Rattle.fb_rules.specs.declared.offset_row.Leads.TheVariants.{All};
 
-use crate::checks::Checks;
-use crate::fault::Reason;
-use crate::offset_row::{Leads, Referent, Row, referent_among};
-use crate::plain::test_lead;
 use crate::scratch::Frame;
-use crate::site::{LastLink, Refusal, Stop};
 use crate::stack::{Turn, Walk};
-use crate::table::Child;
 use fb_bytes::Reads;
+use fb_rules::checks::Checks;
+use fb_rules::fault::Reason;
+use fb_rules::limits::short_of;
+use fb_rules::offset_row::{Leads, Referent, Row, referent_among};
+use fb_rules::plain::test_lead;
+use fb_rules::site::{LastLink, Refusal, Stop};
+use fb_rules::table::Child;
 use fb_schema::{Schema, Targets};
 
 /// No targets, for words that all refer to the same.
@@ -137,7 +139,7 @@ impl Walk<'_, '_> {
         ensures { (child : Child) → RowTurned self.old self.new reads.old reads.new under top.old top.new child result }
     {
         let _schema = self.schema;
-        if reads.count() + 4 * u64::from(top.row.left) > self.limits.short() {
+        if reads.count() + 4 * u64::from(top.row.left) > short_of(self.limits) {
             return Turn::Slowly;
         }
         let mut own = reads.lend();

@@ -3,30 +3,17 @@
 ghost use Rattle.std.specs.Prelude.{◌≡◌, ◌+◌, ◌-◌, ◌^◌, ◌<◌, ◌≤◌, ◌++◌, length, map, take, IfSome};
 ghost use Rattle.std.specs.List.{All};
 ghost use Rattle.fb_schema.specs.Live.{live_of_view};
-ghost use Rattle.fb_verify.specs.{Links.element_of, Links.type_of, Places.field_place, Told.IsVtable};
+ghost use Rattle.fb_rules.specs.{Links.element_of, Links.type_of, Places.field_place, Told.IsVtable};
 ghost use Rattle.fb_verify.specs.Stack.{frame_link, word_count, CountStands, TypeStands, IsLinked, last_link, links_left};
 
-use crate::checks::Checks;
-use crate::fault::Fault;
 use crate::scratch::Frame;
-use crate::site::LastLink;
-use crate::table::Table;
 use fb_bytes::Window;
+use fb_rules::checks::Checks;
+use fb_rules::fault::Fault;
+use fb_rules::link::Link;
+use fb_rules::site::LastLink;
+use fb_rules::table::Table;
 use fb_schema::{FieldView, Kind, Schema};
-
-/// A link of the way from the root table to a fault: a field of a table, and of a field that leads on the offset word
-/// by which the way goes on, or that is under check with what it leads to.
-#[derive(Clone, Copy, Debug, PartialEq, Eq)]
-pub struct Link {
-    /// The number of the table's object.
-    pub object: u32,
-    /// The number of the field.
-    pub field: u16,
-    /// The number of the element, from 0 on, where the way goes by one of a vector.
-    pub element: Option<u32>,
-    /// The type of the union, where the way goes by the value of one.
-    pub member: Option<u8>,
-}
 
 /// A fault, and how many links lead to it.
 #[derive(Clone, Copy, Debug, PartialEq, Eq)]
@@ -36,7 +23,7 @@ pub struct Located {
 }
 
 /// Where the field with this slot stands in a table, none where it is absent.
-#[tactic(auto, unfolding(crate::specs::Places::field_place))]
+#[tactic(auto, unfolding(fb_rules::specs::Places::field_place))]
 fn place_of(window: &Window<'_>, table: Table, slot: u16) -> Option<u64>
     requires near { table.at < 2 ^ 33 }
     requires head { IsVtable window.now table.at table.head }

@@ -4,9 +4,9 @@ ghost use Rattle.std.specs.Prelude.{◌≡◌, ◌<◌, ◌≤◌, IfOk, IfErr, 
 ghost use Rattle.fb_verify.specs.declared.scratch.ScratchFault.TheVariants.{LimitOutOfRange, OutOfMemory};
 ghost use Rattle.fb_verify.specs.Stack.{blank};
 
-use crate::offset_row::{NO_ROW, Row};
-use crate::site::Site;
-use crate::table::{Head, Table};
+use fb_rules::offset_row::{NO_ROW, Row};
+use fb_rules::site::Site;
+use fb_rules::table::{Head, Table};
 use std::alloc::{Allocator, Global};
 use std::marker::Model;
 

@@ -3,15 +3,15 @@
 ghost use Rattle.std.specs.Prelude.{◌≡◌, ◌<◌, ◌≤◌, length, IfOk, IfErr, IsTrue};
 ghost use Rattle.fb_bytes.specs.Word.{while_lent};
 ghost use Rattle.fb_schema.specs.Rows.{is_table};
-ghost use Rattle.fb_verify.specs.{MostReads.most_reads, Question.question, Stops.Stops, Verdict.Reports, Verdict.HasNone};
+ghost use Rattle.fb_rules.specs.{MostReads.most_reads, Question.question, Stops.Stops, Verdict.Reports, Verdict.HasNone};
 
-use crate::checks::Checks;
-use crate::fault::{Fault, Report};
-use crate::limits::Limits;
 use crate::scratch::BLANK;
-use crate::start::{Ident, Start};
 use crate::verdict::trace;
 use fb_bytes::Meter;
+use fb_rules::checks::Checks;
+use fb_rules::fault::{Fault, Report};
+use fb_rules::limits::Limits;
+use fb_rules::start::{Ident, Start};
 use fb_schema::Schema;
 
 /// Checks a buffer as [`walk`](crate::walk) does, in room for 64 tables on the call's own stack.

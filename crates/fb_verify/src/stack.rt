@@ -2,23 +2,25 @@
 
 ghost use Rattle.std.specs.Prelude.{[], ◌≡◌, ◌+◌, ◌*◌, ◌^◌, ◌<◌, ◌≤◌, max, min, length, List, map, take, slice_get, slice_index_or, IfOk, IfErr, IsTrue, Some, None, true};
 ghost use Rattle.fb_schema.specs.{Rows.is_table, Live.Live, Live.live_fields, Steps.is_plain, Steps.step_of, Served.IsServed};
-ghost use Rattle.fb_verify.specs.{Bounds.AreAllowed, Flat.Going, Told.way_at, Walked.TableWalked, Walked.ended};
+ghost use Rattle.fb_rules.specs.{Bounds.AreAllowed, Told.way_at};
+ghost use Rattle.fb_verify.specs.{Flat.Going, Walked.TableWalked, Walked.ended};
 ghost use Rattle.fb_verify.specs.PassesOn.{IsBetween, HasRoom, Passage, PassesOn};
 ghost use Rattle.fb_verify.specs.Stack.{blank, Origin, Waiting, IsWalking, HaltsIn, links_left, opened};
 ghost use Rattle.fb_verify.specs.Turns.{IsShort, IsAtChild, IsAtStep, IsAtTableField, AllowsTable, IsAtWord, IsBrim, IsInRow, HasRoomToGo, RowTurned, FieldTurned, Turned, Opened, FramesTurned, RootTurned, Walked};
-ghost use Rattle.fb_verify.specs.declared.{offset_row.Leads.TheVariants.All, stack.Turn.TheVariants.Halt as Halted};
-ghost use Rattle.fb_verify.specs.declared.site.LastLink.TheVariants.{Behind, InField};
+ghost use Rattle.fb_rules.specs.declared.offset_row.Leads.TheVariants.{All};
+ghost use Rattle.fb_verify.specs.declared.stack.Turn.TheVariants.{Halt as Halted};
+ghost use Rattle.fb_rules.specs.declared.site.LastLink.TheVariants.{Behind, InField};
 
-use crate::checks::{Checks, PUBLISHED};
-use crate::fault::Reason;
 use crate::flat::{open_frame, pass_steps};
-use crate::limits::Limits;
-use crate::offset_row::{Leads, Referent, Row};
-use crate::plain::{test_end, test_offset};
 use crate::scratch::Frame;
-use crate::site::{Halt, LastLink, Refusal, Site, Stop};
-use crate::table::{Child, NO_CHILD, Table};
 use fb_bytes::{Loan, Reads};
+use fb_rules::checks::{Checks, PUBLISHED, are_published};
+use fb_rules::fault::Reason;
+use fb_rules::limits::{Limits, allows_short, short_of, tables_of};
+use fb_rules::offset_row::{Leads, Referent, Row};
+use fb_rules::plain::{test_end, test_offset};
+use fb_rules::site::{Halt, LastLink, Refusal, Site, Stop};
+use fb_rules::table::{Child, NO_CHILD, Table};
 use fb_schema::{Schema, Step};
 
 /// How a walk goes on, once it was a while in the top table.
@@ -136,13 +138,13 @@ impl<'s, 'n> Walk<'s, 'n> {
         ensures { IsBrim self.now result }
     {
         let most = 7 + 6 * u64::from(self.schema.widest());
-        self.limits.short().saturating_sub(most)
+        short_of(self.limits).saturating_sub(most)
     }
 
     /// Whether the budget allows whatever the other fields of the top table may cost by themselves, with the strings
     /// that they may lead to: six reads each, and eight for what the last of them may lead to.
     #[inline(always)]
-    #[tactic(auto, using(crate::proofs::Budgets::fewer_reads, fb_schema::proofs::LookLemmas::within_widest))]
+    #[tactic(auto, using(fb_rules::proofs::Budgets::fewer_reads, fb_schema::proofs::LookLemmas::within_widest))]
     fn has_room(&self, reads: &Reads<'_>, brim: u64, top: &Frame) -> bool
         requires table { IsTrue (is_table self.now.schema.now (top.now.table).object) }
         requires next { top.now.next ≤ length (live_fields self.now.schema.now (top.now.table).object) }
@@ -163,7 +165,7 @@ impl<'s, 'n> Walk<'s, 'n> {
         ensures { result ≡ true → HasRoomToGo self.now reads.now top.now }
     {
         let left = self.schema.steps_of(top.table.object).len() as u64 - u64::from(top.next);
-        reads.count() + 8 + 6 * left <= self.limits.short()
+        reads.count() + 8 + 6 * left <= short_of(self.limits)
     }
 
     /// Whether one more table may be opened, where so many are open, and eight reads may be made for it.
@@ -174,7 +176,7 @@ impl<'s, 'n> Walk<'s, 'n> {
         ensures room { result ≡ true → AreAllowed (self.now.limits).reads (reads.now.count + 8) }
         ensures short { result ≡ true → IsShort (reads.now.count + 8) }
     {
-        self.allows_table(links) && reads.count() + 8 <= self.limits.short()
+        self.allows_table(links) && reads.count() + 8 <= short_of(self.limits)
     }
 
     /// The same, but for the reads.
@@ -182,7 +184,7 @@ impl<'s, 'n> Walk<'s, 'n> {
     pub fn allows_table(&self, links: u32) -> bool
         ensures { result ≡ true → AllowsTable self.now links }
     {
-        links < self.limits.depth() && self.tables < self.limits.tables()
+        links < self.limits.depth() && self.tables < tables_of(self.limits)
     }
 
     /// Counts a table that is opened, with which so many are open.
@@ -327,7 +329,7 @@ impl<'s, 'n> Walk<'s, 'n> {
         requires { IsInRow self.old reads.old under waiting top.old }
         ensures { RowTurned self.old self.new reads.old reads.new under top.old top.new child.new result }
     {
-        if !self.checks.are_published() {
+        if !are_published(self.checks) {
             return self.pass_row_by_checks(reads, waiting, top, child);
         }
         self.pass_row_by(PUBLISHED, reads, waiting, top, child)
@@ -596,11 +598,11 @@ impl<'s, 'n> Walk<'s, 'n> {
         ensures length { length frames.new ≡ length frames.old }
     {
         let _schema = self.schema;
-        if !self.limits.allows_short(loan.reads()) {
+        if !allows_short(self.limits, loan.reads()) {
             return Turn::Slowly;
         }
         let mut reads = loan.lend();
-        let turn = if self.checks.are_published() {
+        let turn = if are_published(self.checks) {
             self.walk_by(PUBLISHED, &mut reads, frames, waiting)
         } else {
             self.walk_by_checks(&mut reads, frames, waiting)
@@ -651,7 +653,7 @@ impl<'s, 'n> Walk<'s, 'n> {
         let schema = self.schema;
         let steps = schema.steps_of(table.object);
         let most = loan.reads() + u128::from(6 * steps.len() as u64);
-        if !self.checks.are_published() || !self.limits.allows_short(most) {
+        if !are_published(self.checks) || !allows_short(self.limits, most) {
             return Turn::Slowly;
         }
         let mut next = 0;

@@ -3,24 +3,25 @@
 
 ghost use Rattle.std.specs.Prelude.{◌≡◌, ◌+◌, ◌-◌, ◌*◌, ◌^◌, ◌<◌, ◌≤◌, max, min, length, take, slice_index_or, [], ◌∷◌, ◌++◌, IfOk, IfErr, IfSome, MatchOption, IsTrue, Some, None, true, false};
 ghost use Rattle.fb_schema.specs.{Live.live_of_view, Rows.is_table, Served.IsServed};
-ghost use Rattle.fb_verify.specs.{Bounds.AreAllowed, Cost.head_reads, Cost.own_reads, Cost.lead_reads, Fields.entries, Fields.to_table};
-ghost use Rattle.fb_verify.specs.{Stops.budget_failure, Stops.reads_failure, Stops.lead_reads_failure, Places.target};
+ghost use Rattle.fb_rules.specs.{Bounds.AreAllowed, Cost.head_reads, Cost.own_reads, Cost.lead_reads, Fields.entries, Fields.to_table};
+ghost use Rattle.fb_rules.specs.{Stops.budget_failure, Stops.reads_failure, Stops.lead_reads_failure, Places.target};
 ghost use Rattle.fb_verify.specs.{PassesOn.IsBetween, PassesOn.PassesFields, Turns.AllowsTable, Turns.WentOver};
-ghost use Rattle.fb_verify.specs.Order.{◌▷◌, head_failure, own_failure, element_failure};
-ghost use Rattle.fb_verify.specs.OffsetRows.{IsAskable, LeavesRow, first_word, IsRow, IsLeafLead};
-ghost use Rattle.fb_verify.specs.Told.{told, stopped, way_at, IsAskedAt, IsHead};
+ghost use Rattle.fb_rules.specs.Order.{◌▷◌, head_failure, own_failure, element_failure};
+ghost use Rattle.fb_rules.specs.OffsetRows.{IsAskable, LeavesRow, first_word, IsRow, IsLeafLead};
+ghost use Rattle.fb_rules.specs.Told.{told, stopped, way_at, IsAskedAt, IsHead};
 ghost use Rattle.fb_verify.specs.Stack.{blank, Waiting, work, opened, IsWalking, IsAtTable, IsStoppedBehind, HaltsIn, links_left};
 
-use crate::budget::{answer, ask_reads, tell};
-use crate::fault::Reason;
 use crate::leaves::{first_referent, targets_of};
-use crate::offset_row::{Referent, Row};
-use crate::plain::{slot_at, test_head, test_lead};
 use crate::scratch::Frame;
-use crate::site::{Halt, LastLink, Refusal, Site, Stop};
 use crate::stack::Walk;
-use crate::table::{Child, Head, NO_HEAD, Table};
 use fb_bytes::Loan;
+use fb_rules::budget::{answer, ask_reads, tell};
+use fb_rules::fault::Reason;
+use fb_rules::limits::tables_of;
+use fb_rules::offset_row::{Referent, Row};
+use fb_rules::plain::{slot_at, test_head, test_lead};
+use fb_rules::site::{Halt, LastLink, Refusal, Site, Stop};
+use fb_rules::table::{Child, Head, NO_HEAD, Table};
 use fb_schema::FieldView;
 
 impl<'s, 'n> Walk<'s, 'n> {
@@ -73,7 +74,7 @@ impl<'s, 'n> Walk<'s, 'n> {
             };
             return Err(Stop { site, refusal });
         }
-        if self.tables >= self.limits.tables() {
+        if self.tables >= tables_of(self.limits) {
             let refusal = Refusal {
                 at: child.at,
                 reason: Reason::TooManyTables,

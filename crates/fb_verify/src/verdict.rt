@@ -3,19 +3,20 @@
 ghost use Rattle.std.specs.Prelude.{◌≡◌, ◌+◌, ◌<◌, ◌≤◌, max, min, length, take, IfOk, IfErr, IsTrue};
 ghost use Rattle.fb_bytes.specs.Word.{while_lent};
 ghost use Rattle.fb_schema.specs.Rows.{is_table};
-ghost use Rattle.fb_verify.specs.{MostReads.most_reads, Question.question, Stops.Stops, Stack.HaltsAlong, Stack.links_left, Told.stopped};
-ghost use Rattle.fb_verify.specs.Verdict.{Reports, HasNone};
+ghost use Rattle.fb_rules.specs.{MostReads.most_reads, Question.question, Stops.Stops, Told.stopped};
+ghost use Rattle.fb_verify.specs.Stack.{HaltsAlong, links_left};
+ghost use Rattle.fb_rules.specs.Verdict.{Reports, HasNone};
 
-use crate::begin::read_start;
-use crate::checks::Checks;
-use crate::fault::{Fault, Report};
-use crate::limits::Limits;
 use crate::scratch::{Frame, Scratch};
-use crate::site::{Halt, LastLink, NO_HALT, Site};
 use crate::stack::Walk;
-use crate::start::{Ident, Start};
-use crate::table::Child;
 use fb_bytes::{Loan, Meter};
+use fb_rules::begin::read_start;
+use fb_rules::checks::Checks;
+use fb_rules::fault::{Fault, Report};
+use fb_rules::limits::Limits;
+use fb_rules::site::{Halt, LastLink, NO_HALT, Site};
+use fb_rules::start::{Ident, Start};
+use fb_rules::table::Child;
 use fb_schema::Schema;
 use std::alloc::Allocator;
 

@@ -2,18 +2,19 @@
 
 ghost use Rattle.std.specs.Prelude.{◌≡◌, ◌<◌, ◌≤◌, length, take, IfOk, IfErr, IsTrue};
 ghost use Rattle.fb_schema.specs.Rows.{is_table};
-ghost use Rattle.fb_verify.specs.{Links.StopsAlong, MostReads.most_reads, Question.question, Stops.Stops, Verdict.Reports, Verdict.HasNone};
+ghost use Rattle.fb_rules.specs.{Links.StopsAlong, MostReads.most_reads, Question.question, Stops.Stops, Verdict.Reports, Verdict.HasNone};
 ghost use Rattle.fb_verify.specs.Sealed.{IsUnfolded};
 
-use crate::checks::Checks;
-use crate::fault::{Fault, Report};
-use crate::limits::Limits;
-use crate::links::{Link, Located, put_links};
+use crate::links::{Located, put_links};
 use crate::scratch::{BLANK, Frame, Scratch};
 use crate::shallow::walk_shallow;
-use crate::start::{Ident, Start};
 use crate::verdict::{trace, walk};
 use fb_bytes::{Meter, Window};
+use fb_rules::checks::Checks;
+use fb_rules::fault::{Fault, Report};
+use fb_rules::limits::Limits;
+use fb_rules::link::Link;
+use fb_rules::start::{Ident, Start};
 use fb_schema::Schema;
 use std::alloc::Allocator;
 use std::marker::Model;

@@ -1,7 +1,7 @@
 -- To whom a yes is due, and to whom a no.
 use Rattle.std.proofs.Common.{length, ◌≡◌, ℕ, ◌≤◌, ◌<◌, ◌^◌, List, refl, subst, arith, Option, Some, IsSomeAnd}
-use Rattle.fb_verify.specs.{Tree.Tree, Verdict.HasNone, WellFormed.IsWellFormed, WellFormed.IsWithin}
-use Rattle.fb_verify.specs.declared.start.Ident.{Ident}
+use Rattle.fb_rules.specs.{Tree.Tree, Verdict.HasNone, WellFormed.IsWellFormed, WellFormed.IsWithin}
+use Rattle.fb_rules.specs.declared.start.Ident.{Ident}
 use Rattle.fb_bfbs.specs.declared.loading.Loaded.{Loaded}
 use Rattle.fbcheck_calls.specs.declared.{answer.Answer.Answer, options.Options.Options}
 use Rattle.fbcheck_calls.specs.declared.answer.Answer.TheVariants.{Good, Bad, UnknownOptions, OutOfRange, NoIdent, NoRoot, TooLong}

@@ -9,9 +9,9 @@ use Rattle.fb_bfbs.specs.declared.load_fault.LoadFault.TheVariants as load
 use Rattle.fb_bytes.specs.declared.stream_fault.StreamFault.TheVariants as stream
 use Rattle.fb_schema.specs.declared.fault.Code.{Code}
 use Rattle.fb_schema.specs.declared.fault.Code.TheVariants.{NoSuchObject, NoSuchEnum, Unsupported, BadSlot, NoTypeField, BadStruct, BadMember, NameTwice, OutOfMemory as NoMemory}
-use Rattle.fb_verify.specs.Reasons.{reason_number, reason_text}
-use Rattle.fb_verify.specs.declared.fault.Reason.{Reason}
-use Rattle.fb_verify.specs.declared.fault.Reason.TheVariants.{WrongPrefix, OutOfBuffer, Misaligned, ZeroOffset, WrongIdentifier, TooDeep, TooManyTables, BadVtable, MissingRequired, NoTerminator, LengthsDiffer, PastTable, TooManyReads}
+use Rattle.fb_rules.specs.Reasons.{reason_number, reason_text}
+use Rattle.fb_rules.specs.declared.fault.Reason.{Reason}
+use Rattle.fb_rules.specs.declared.fault.Reason.TheVariants.{WrongPrefix, OutOfBuffer, Misaligned, ZeroOffset, WrongIdentifier, TooDeep, TooManyTables, BadVtable, MissingRequired, NoTerminator, LengthsDiffer, PastTable, TooManyReads}
 use Rattle.fbcheck_calls.specs.Names.{FaultsHaveTheirNames, IsCodeName, IsFaultName, IsPathName, IsReasonName}
 use Rattle.fbcheck_calls.specs.Told.{code_number}
 use Rattle.fbcheck_calls.specs.declared.answer.Answer.TheVariants.{Bad, NoSchema, BadStream, BadPath}

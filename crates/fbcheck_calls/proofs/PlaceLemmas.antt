@@ -1,7 +1,7 @@
 -- The place of a fault is written where its way was found.
 use Rattle.std.proofs.Common.{ℕ, ◌<◌, ◌^◌, List, length, sym, subst, IsSomeAnd}
-use Rattle.fb_verify.specs.{Links.StopsAlong, Question.Question, Question.question, Stops.Stops, Verdict.HasNone}
-use Rattle.fb_verify.specs.declared.{fault.Fault.Fault, links.Link.Link, start.Ident.Ident}
+use Rattle.fb_rules.specs.{Links.StopsAlong, Question.Question, Question.question, Stops.Stops, Verdict.HasNone}
+use Rattle.fb_rules.specs.declared.{fault.Fault.Fault, link.Link.Link, start.Ident.Ident}
 use Rattle.fb_access.specs.Location.{location_text}
 use Rattle.fb_bfbs.specs.declared.loading.Loaded.{Loaded}
 use Rattle.fbcheck_calls.specs.declared.{answer.Answer.TheVariants.Bad, checking.Begun.Begun, options.Options.Options}

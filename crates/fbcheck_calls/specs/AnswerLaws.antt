@@ -1,8 +1,8 @@
 -- The laws of what a check answers: to whom a yes is due, and to whom a no; and where a value's bytes are.
 use Rattle.std.specs.Prelude.{◌≡◌, ℕ, ◌<◌, ◌≤◌, ◌^◌, List, length, Option, Some, None}
 use Rattle.fb_schema.specs.Rows.{Rows}
-use Rattle.fb_verify.specs.{Tree.Tree, Verdict.HasNone, WellFormed.IsWellFormed, WellFormed.IsWithin}
-use Rattle.fb_verify.specs.declared.start.Ident.{Ident}
+use Rattle.fb_rules.specs.{Tree.Tree, Verdict.HasNone, WellFormed.IsWellFormed, WellFormed.IsWithin}
+use Rattle.fb_rules.specs.declared.start.Ident.{Ident}
 use Rattle.fb_access.specs.declared.{extent.Extent.Extent, spot.Spot.Spot}
 use Rattle.fb_access.specs.Denotes as denotes
 use Rattle.fb_access.specs.{Denotes.Shown, Denotes.bytes_at, Denotes.value, Extents.extent}

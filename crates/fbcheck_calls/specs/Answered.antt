@@ -1,8 +1,8 @@
 -- Which answer a call gives.
 use Rattle.std.specs.Prelude.{◌≡◌, ℕ, ◌<◌, ◌≤◌, ◌^◌, List, length, Option, Some, None, Result, Ok, Err, IsSomeAnd, IsSome, IsTrue}
 use Rattle.fb_schema.specs.Rows.{is_table}
-use Rattle.fb_verify.specs.{MostReads.most_reads, Stops.Stops, Verdict.Reports, Verdict.HasNone}
-use Rattle.fb_verify.specs.declared.{fault.Fault.Fault, fault.Report.Report, start.Ident.Ident}
+use Rattle.fb_rules.specs.{MostReads.most_reads, Stops.Stops, Verdict.Reports, Verdict.HasNone}
+use Rattle.fb_rules.specs.declared.{fault.Fault.Fault, fault.Report.Report, start.Ident.Ident}
 use Rattle.fb_bfbs.specs.Loads.{IsLoaded, IsLoadFault}
 use Rattle.fb_bfbs.specs.declared.{loading.Loaded.Loaded, load_fault.LoadFault.TheVariants.OutOfMemory}
 use Rattle.fbcheck_calls.specs.declared.{answer.Answer.Answer, checking.Begun.Begun, held.Held.Held}

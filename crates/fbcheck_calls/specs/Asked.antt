@@ -3,9 +3,9 @@ use Rattle.std.specs.Prelude.{◌≡◌, ℕ, ◌<◌, ◌≤◌, ◌==◌, min,
 use Rattle.fb_bfbs.specs.LoadLaws.{ident_bytes, own_ident}
 use Rattle.fb_bfbs.specs.declared.loading.Loaded.{Loaded}
 use Rattle.fb_schema.specs.Rows.{Rows, is_table}
-use Rattle.fb_verify.specs.{Bounds.Bounds, Bounds.limits_of_length, Question.Question, Question.question}
-use Rattle.fb_verify.specs.declared.{checks.Checks.Checks, start.Ident.Ident, start.Ident.TheVariants.Any, start.Ident.TheVariants.Want}
-use Rattle.fb_verify.specs.declared.{start.Start.Start, start.Start.TheVariants.Bare, start.Start.TheVariants.Prefixed}
+use Rattle.fb_rules.specs.{Bounds.Bounds, Bounds.limits_of_length, Question.Question, Question.question}
+use Rattle.fb_rules.specs.declared.{checks.Checks.Checks, start.Ident.Ident, start.Ident.TheVariants.Any, start.Ident.TheVariants.Want}
+use Rattle.fb_rules.specs.declared.{start.Start.Start, start.Start.TheVariants.Bare, start.Start.TheVariants.Prefixed}
 use Rattle.fbcheck_calls.specs.declared.{answer.Answer.Answer, answer.Answer.TheVariants.UnknownOptions, answer.Answer.TheVariants.OutOfRange}
 use Rattle.fbcheck_calls.specs.declared.options.Options.{Options}
 

@@ -5,10 +5,10 @@ use Rattle.fb_bfbs.specs.declared.load_fault.LoadFault.TheVariants as load
 use Rattle.fb_bfbs.specs.declared.loading.Loaded.{Loaded}
 use Rattle.fb_bytes.specs.declared.stream_fault.StreamFault.TheVariants as stream
 use Rattle.fb_schema.specs.declared.fault.Code.TheVariants.{NoSuchObject, NoSuchEnum, Unsupported, BadSlot, NoTypeField, BadStruct, BadMember, NameTwice}
-use Rattle.fb_verify.specs.{Samples.table, Reasons.reason_number}
-use Rattle.fb_verify.specs.declared.{fault.Fault.Fault, start.Ident.TheVariants.Any, start.Ident.TheVariants.Want}
-use Rattle.fb_verify.specs.declared.start.Start.TheVariants.{Bare, Prefixed}
-use Rattle.fb_verify.specs.declared.fault.Reason.TheVariants.{WrongPrefix, OutOfBuffer, Misaligned, ZeroOffset, WrongIdentifier, TooDeep, TooManyTables, BadVtable, MissingRequired, NoTerminator, LengthsDiffer, PastTable, TooManyReads}
+use Rattle.fb_rules.specs.{Samples.table, Reasons.reason_number}
+use Rattle.fb_rules.specs.declared.{fault.Fault.Fault, start.Ident.TheVariants.Any, start.Ident.TheVariants.Want}
+use Rattle.fb_rules.specs.declared.start.Start.TheVariants.{Bare, Prefixed}
+use Rattle.fb_rules.specs.declared.fault.Reason.TheVariants.{WrongPrefix, OutOfBuffer, Misaligned, ZeroOffset, WrongIdentifier, TooDeep, TooManyTables, BadVtable, MissingRequired, NoTerminator, LengthsDiffer, PastTable, TooManyReads}
 use Rattle.fb_access.specs.Denotes as denotes
 use Rattle.fb_access.specs.declared.path_fault.PathFault.TheVariants as path
 use Rattle.fb_access.specs.declared.step.Step.TheVariants.{Field, Element, Member}

@@ -1,8 +1,8 @@
 -- Names by their numbers, and how they are copied.
 use Rattle.std.specs.Prelude.{◌≡◌, ◌≢◌, ℕ, ◌==◌, nat_le, codes, List, [], ◌∷◌, ◌++◌, drop, find, length, slice_get, IsSome, Option, Some, None, option_map, if◌then◌else◌}
 use Rattle.fb_schema.specs.{Live.live_fields, Rows.Rows, Rows.is_table, Rows.table_named}
-use Rattle.fb_verify.specs.Reasons.{reason_number, reason_text}
-use Rattle.fb_verify.specs.declared.fault.Reason.{Reason}
+use Rattle.fb_rules.specs.Reasons.{reason_number, reason_text}
+use Rattle.fb_rules.specs.declared.fault.Reason.{Reason}
 use Rattle.fb_access.specs.PathCodes.{path_code}
 use Rattle.fb_access.specs.declared.path_fault.PathFault.{PathFault}
 use Rattle.fb_access.specs.declared.path_fault.PathFault.TheVariants as path

@@ -1,7 +1,7 @@
 -- What is written of where a fault is.
 use Rattle.std.specs.Prelude.{◌≡◌, ℕ, List, ◌++◌, drop, length, take}
-use Rattle.fb_verify.specs.Links.{StopsAlong}
-use Rattle.fb_verify.specs.declared.{fault.Fault.Fault, links.Link.Link, start.Ident.Ident}
+use Rattle.fb_rules.specs.Links.{StopsAlong}
+use Rattle.fb_rules.specs.declared.{fault.Fault.Fault, link.Link.Link, start.Ident.Ident}
 use Rattle.fb_access.specs.Location.{location_text}
 use Rattle.fb_bfbs.specs.declared.loading.Loaded.{Loaded}
 use Rattle.fbcheck_calls.specs.declared.{answer.Answer.Answer, answer.Answer.TheVariants.Bad, answer.Answer.TheVariants.NoRoot, held.Held.Held}

@@ -2,8 +2,8 @@
 use Rattle.std.specs.Prelude.{ℕ, min, replicate, Option, Some, None}
 use Rattle.fb_schema.specs.declared.fault.Code.{Code}
 use Rattle.fb_schema.specs.declared.fault.Code.TheVariants.{NoSuchObject, NoSuchEnum, Unsupported, BadSlot, NoTypeField, BadStruct, BadMember, NameTwice, OutOfMemory as NoMemory}
-use Rattle.fb_verify.specs.declared.fault.Fault.{Fault}
-use Rattle.fb_verify.specs.Reasons.{reason_number}
+use Rattle.fb_rules.specs.declared.fault.Fault.{Fault}
+use Rattle.fb_rules.specs.Reasons.{reason_number}
 use Rattle.fb_access.specs.declared.path_fault.PathFault.{PathFault}
 use Rattle.fb_access.specs.declared.path_fault.PathFault.TheVariants as path
 use Rattle.fb_bytes.specs.declared.stream_fault.StreamFault.{StreamFault}

@@ -1,7 +1,7 @@
 -- What C is told of a value.
 use Rattle.std.specs.Prelude.{◌≡◌, ℕ, ◌<◌, pos, List, length, slice_index_or, Bool, true, false, Option, Some, None, IsSomeAnd}
 use Rattle.fb_schema.specs.Rows.{Rows}
-use Rattle.fb_verify.specs.declared.start.Start.{Start}
+use Rattle.fb_rules.specs.declared.start.Start.{Start}
 use Rattle.fb_access.specs.declared.{extent.Extent.Extent, spot.Spot.Spot}
 use Rattle.fb_access.specs.Denotes as denotes
 use Rattle.fb_access.specs.{Denotes.Shown, Denotes.value, Extents.extent}

@@ -1,7 +1,7 @@
 //! What a call answers, and how it is told in numbers.
 
 ghost use Rattle.std.specs.Prelude.{◌≡◌, min};
-ghost use Rattle.fb_verify.specs.Reasons.{reason_number};
+ghost use Rattle.fb_rules.specs.Reasons.{reason_number};
 ghost use Rattle.fbcheck_calls.specs.declared.answer.Answer.TheVariants.{Bad, Good, Misfit};
 ghost use Rattle.fbcheck_calls.specs.Told.{blank, code_number, fault_told, field_number, load_told, low, misplaced, part_number, path_told, stream_number, told};
 

@@ -6,7 +6,7 @@ ghost use Rattle.fb_access.specs.declared.path_fault.PathFault.{PathFault};
 ghost use Rattle.fb_schema.specs.declared.fault.Code.{Code};
 ghost use Rattle.fbcheck_calls.specs.Told.{code_number};
 ghost use Rattle.fbcheck_calls.specs.Names.{IsCodeName, IsFaultName, IsNameTold, IsPathName, IsReasonName, NumbersNothing, field_name, filled, held_name, object_name, status_text, table_number};
-ghost use Rattle.fb_verify.specs.Reasons.{reason_number};
+ghost use Rattle.fb_rules.specs.Reasons.{reason_number};
 
 use crate::held::Held;
 use crate::options::NO_TABLE;

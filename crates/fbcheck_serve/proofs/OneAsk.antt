@@ -6,7 +6,7 @@ use Rattle.fb_schema.specs.Rows.{Rows}
 use Rattle.fb_access.specs.declared.{step.Step.Step, path_fault.PathFault.PathFault}
 use Rattle.fb_access.specs.Resolving.{IsFault, Resolves}
 use Rattle.fb_access.proofs.OneAnswer.{one_answer}
-use Rattle.fb_verify.specs.declared.start.Ident.{Ident}
+use Rattle.fb_rules.specs.declared.start.Ident.{Ident}
 use Rattle.fb_run.specs.Wanted.{Wanted}
 use Rattle.fb_bfbs.proofs.OneLoad.{one_answer as one_load}
 use Rattle.fb_bfbs.specs.declared.load_fault.LoadFault.{LoadFault}

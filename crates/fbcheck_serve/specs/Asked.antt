@@ -4,7 +4,7 @@ use Rattle.std.specs.{Global.Global, List.AllZip}
 use Rattle.fb_schema.specs.Rows.{Rows, table_named}
 use Rattle.fb_access.specs.declared.{step.Step.Step, path_fault.PathFault.PathFault}
 use Rattle.fb_access.specs.Resolving.{Resolves, IsFault}
-use Rattle.fb_verify.specs.declared.{start.Ident.Ident, start.Ident.TheVariants.Any, start.Ident.TheVariants.Want}
+use Rattle.fb_rules.specs.declared.{start.Ident.Ident, start.Ident.TheVariants.Any, start.Ident.TheVariants.Want}
 use Rattle.fb_bfbs.specs.LoadLaws.{own_ident}
 use Rattle.fb_run.specs.{Job.Job, Job.job_of, Job.start_of, Wanted.Wanted}
 use Rattle.fbcheck_words.specs.declared.choices.Form as asked

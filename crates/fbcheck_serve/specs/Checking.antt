@@ -3,7 +3,7 @@ use Rattle.std.specs.Prelude.{◌≡◌, ℕ, List, ◌∷◌, ◌++◌, Option,
 use Rattle.std.specs.{Borrow.Bor, Io.KnownBytes.Keeps}
 use Rattle.fb_schema.specs.declared.kinds.Kind.{Kind}
 use Rattle.fb_schema.specs.Rows.{Rows}
-use Rattle.fb_verify.specs.Bounds.{Bounds, limits_of_length}
+use Rattle.fb_rules.specs.Bounds.{Bounds, limits_of_length}
 use Rattle.fb_access.specs.Resolving.{IsFault, IsMisfitAt}
 use Rattle.fb_access.specs.declared.path_fault.PathFault.{PathFault}
 use Rattle.fb_bfbs.specs.{Fixed.fixed, Loads.IsLoaded, Loads.IsLoadFault, Loads.schema_number}

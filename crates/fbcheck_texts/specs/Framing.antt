@@ -2,8 +2,8 @@
 use Rattle.std.specs.Prelude.{ℕ, ◌==◌, ◌&&◌, nat_le, Bool, true, false, not, if◌then◌else◌, List, ◌++◌, Option, Some, None, codes, slice_get}
 use Rattle.std.specs.{Int.to_le_bytes, Int.w32, List.list_all, List.slice_index}
 use Rattle.fb_bytes.specs.declared.stream_fault.StreamFault.TheVariants.{Oversize}
-use Rattle.fb_verify.specs.declared.start.Start.{Start}
-use Rattle.fb_verify.specs.declared.start.Start.TheVariants as start
+use Rattle.fb_rules.specs.declared.start.Start.{Start}
+use Rattle.fb_rules.specs.declared.start.Start.TheVariants as start
 use Rattle.fb_run.specs.declared.{fault.RunFault.RunFault, fault.RunFault.TheVariants.BareTooLong, fault.RunFault.TheVariants.Stream}
 use Rattle.fb_run.specs.declared.tally.Tally.{Tally}
 use Rattle.fbcheck_texts.specs.Hints.{is_plain, opens, past_blanks}

@@ -5,7 +5,7 @@ use Rattle.fb_access.specs.declared.path_fault.PathFault.TheVariants as path
 use Rattle.fb_bfbs.specs.declared.load_fault.LoadFault.TheVariants as load
 use Rattle.fb_bytes.specs.declared.stream_fault.StreamFault.TheVariants as stream
 use Rattle.fb_schema.specs.declared.{fault.Code.TheVariants.BadSlot, fault.SchemaFault.SchemaFault}
-use Rattle.fb_verify.specs.declared.{fault.Fault.Fault, fault.Reason.TheVariants.TooDeep, fault.Reason.TheVariants.WrongIdentifier}
+use Rattle.fb_rules.specs.declared.{fault.Fault.Fault, fault.Reason.TheVariants.TooDeep, fault.Reason.TheVariants.WrongIdentifier}
 use Rattle.fb_run.specs.{FaultText.fault_text, FaultText.stream_text, Sums.no_tally}
 use Rattle.fb_run.specs.declared.fault.RunFault.TheVariants as run
 use Rattle.fbcheck_texts.specs.{Hints.front_hint, Framing.by_hint, Framing.end_hint, Framing.run_hint}

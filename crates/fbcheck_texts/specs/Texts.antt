@@ -8,8 +8,8 @@ use Rattle.fb_bfbs.specs.Codes.{code_text}
 use Rattle.fb_bfbs.specs.declared.load_fault.LoadFault.{LoadFault}
 use Rattle.fb_bfbs.specs.declared.load_fault.LoadFault.TheVariants as load
 use Rattle.fb_schema.specs.declared.fault.SchemaFault.{SchemaFault}
-use Rattle.fb_verify.specs.Reasons.{reason_text}
-use Rattle.fb_verify.specs.declared.fault.Fault.{Fault}
+use Rattle.fb_rules.specs.Reasons.{reason_text}
+use Rattle.fb_rules.specs.declared.fault.Fault.{Fault}
 use Rattle.fb_run.specs.{FaultText.fault_text, Line.field_text, Line.numbers_text}
 use Rattle.fb_run.specs.declared.fault.RunFault.{RunFault}
 use Rattle.fb_run.specs.declared.fault.RunFault.TheVariants as run

@@ -1,6 +1,7 @@
 use Rattle.std.proofs.Common.{◌<◌, ◌^◌, length, refl, ◌∙◌, ap}
 use Rattle.fb_schema.specs.Rows.{rows_of}
-use Rattle.fb_verify.specs.{Sealed.Sealed, Stops.Stops}
+use Rattle.fb_rules.specs.Stops.{Stops}
+use Rattle.fb_verify.specs.Sealed.{Sealed}
 use Rattle.fb_verify.proofs.Frames.{if_err_exit}
 use Rattle.fb_bfbs.specs.{Fixed.fixed, Loads.IsLoadFault, Loads.asked_within}
 use Rattle.fb_bfbs.proofs.Outcomes.{paid_for}

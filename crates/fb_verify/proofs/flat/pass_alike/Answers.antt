@@ -1,6 +1,8 @@
 use Rattle.std.proofs.Common.{◌≡◌, length, length, refl, ap, arith}
-use Rattle.fb_verify.specs.{Cost.head_reads, Flat.PassesFlat, Order.head_failure, Plain.IsTested}
-use Rattle.fb_verify.proofs.{Alike.alike_passes, Frames.head_few, Heads.first_fails, Heads.head_reads_parts, Heads.vtable_tested}
+use Rattle.fb_rules.specs.{Cost.head_reads, Order.head_failure, Plain.IsTested}
+use Rattle.fb_verify.specs.Flat.{PassesFlat}
+use Rattle.fb_rules.proofs.{Few.head_few, Heads.first_fails, Heads.head_reads_parts, Heads.vtable_tested}
+use Rattle.fb_verify.proofs.Alike.{alike_passes}
 use Rattle.fb_verify.proofs.Flats.{flat_holds, flat_many, flat_between, flat_room, flat_came, flat_kept, head_flat, reason_of}
 use Rattle.fb_verify.proofs.flat.pass_alike.Goals as goal
 use Rattle.fb_verify.proofs.flat.pass_alike.Goals.{After-test_vtable-failed, After-pass_steps}

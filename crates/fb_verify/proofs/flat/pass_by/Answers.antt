@@ -1,8 +1,10 @@
 use Rattle.std.proofs.Common.{◌≡◌, ◌+◌, ◌-◌, ◌%◌, ℕ, suc, length, map, drop, List, sym, ◌∙◌, ap, subst, arith, slice_get, Some, refl}
 use Rattle.std.proofs.lemmas.{List.length-map, List.length-drop, Option.slice_get_within}
 use Rattle.fb_schema.specs.{Live.Live, Live.live_fields, Steps.step_of}
-use Rattle.fb_verify.specs.{PassesOn.IsBetween, Plain.HasBit, Plain.IsStep}
-use Rattle.fb_verify.proofs.{Plains.each_step, Plains.kind_step, Plains.bit_at, Passing.AtStep}
+use Rattle.fb_rules.specs.Plain.{HasBit, IsStep}
+use Rattle.fb_verify.specs.PassesOn.{IsBetween}
+use Rattle.fb_rules.proofs.Plains.{each_step, kind_step, bit_at}
+use Rattle.fb_verify.proofs.Passing.{AtStep}
 use Rattle.fb_verify.proofs.Passing.{left_from, GoesBy, goes_first, ends_behind, step_by, came_to}
 use Rattle.fb_verify.proofs.flat.pass_by.Goals as goal
 use Rattle.fb_verify.proofs.flat.pass_by.Goals.{In-Some}

@@ -3,8 +3,9 @@ use Rattle.std.proofs.lemmas.{List.length-map, List.length-drop, Option.slice_ge
 use Rattle.fb_bytes.specs.Word.{Lent}
 use Rattle.fb_schema.specs.{Live.Live, Live.live_fields, Live.next_required, Steps.step_of}
 use Rattle.fb_schema.proofs.Numbers.{slice_get_some}
-use Rattle.fb_verify.specs.declared.{fault.Reason.Reason, plain.Came.Came, scratch.Frame.Frame, stack.Walk.Walk}
-use Rattle.fb_verify.specs.declared.plain.Came.TheVariants.{Past, ToEnd, ToField, ToFault}
+use Rattle.fb_rules.specs.declared.{fault.Reason.Reason, plain.Came.Came}
+use Rattle.fb_verify.specs.declared.{scratch.Frame.Frame, stack.Walk.Walk}
+use Rattle.fb_rules.specs.declared.plain.Came.TheVariants.{Past, ToEnd, ToField, ToFault}
 use Rattle.fb_verify.specs.{PassesOn.EndsBehind, PassesOn.CameTo, Stack.Waiting}
 use Rattle.fb_verify.proofs.Passing.{rest_holds, rest_free}
 use Rattle.fb_verify.proofs.Passing.{AtStep, rest_absent, required_within, required_stops}

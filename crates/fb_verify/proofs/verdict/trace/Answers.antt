@@ -1,8 +1,9 @@
 use Rattle.std.proofs.Common.{List, None, ap, [], rules, arith}
 use Rattle.std.proofs.lemmas.List.Elements.{All-nil}
 use Rattle.fb_verify.specs.Stack.{HaltsAlong, IsLinked, Origin, StopsIn, last_link}
-use Rattle.fb_verify.specs.{Question.question, Told.stopped, Told.way_at, Verdict.Reports}
-use Rattle.fb_verify.specs.declared.{scratch.Frame.Frame, site.LastLink.TheVariants.Behind}
+use Rattle.fb_rules.specs.{Question.question, Told.stopped, Told.way_at, Verdict.Reports}
+use Rattle.fb_rules.specs.declared.site.LastLink.TheVariants.{Behind}
+use Rattle.fb_verify.specs.declared.scratch.Frame.{Frame}
 use Rattle.fb_verify.proofs.Frames.{if_err_exit}
 use Rattle.fb_verify.proofs.Verdicts.{stops_at_start, stops_below_start, fault_along, none_along, price_of_no, reports, price_of_yes}
 use Rattle.fb_verify.proofs.verdict.trace.Goals as goal

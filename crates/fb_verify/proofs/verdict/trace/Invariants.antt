@@ -1,4 +1,4 @@
-use Rattle.fb_verify.specs.Told.{way_at}
+use Rattle.fb_rules.specs.Told.{way_at}
 use Rattle.fb_verify.proofs.verdict.trace.Given as goal
 
 abbrev pub ghost-run : goal.ghost-run

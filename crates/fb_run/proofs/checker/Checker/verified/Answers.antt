@@ -1,5 +1,5 @@
 use Rattle.std.proofs.Common.{sym, ap}
-use Rattle.fb_verify.specs.{Stops.Stops, Links.StopsAlong}
+use Rattle.fb_rules.specs.{Stops.Stops, Links.StopsAlong}
 use Rattle.std.specs.Prelude.{take}
 use Rattle.fb_run.specs.Job.{asked_of}
 use Rattle.fb_run.proofs.{PlaceLemmas.has_place, checker.Checker.verified.Goals.in-Ok-put_place, checker.Checker.verified.Goals.in-Err-put_place}

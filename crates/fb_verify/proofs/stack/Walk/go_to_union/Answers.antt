@@ -1,10 +1,12 @@
 use Rattle.std.proofs.Common.{◌≡◌, ◌+◌, ◌<◌, nat_lt, None, refl, ap, arith}
 use Rattle.fb_bytes.specs.Word.{Lent}
 use Rattle.fb_schema.specs.Live.{live_of_view}
-use Rattle.fb_verify.specs.declared.{stack.Walk.Walk, scratch.Frame.Frame, table.Child.Child, stack.Turn.Turn, offset_row.Leads.Leads}
-use Rattle.fb_verify.specs.declared.{offset_row.Leads.TheVariants.All, offset_row.Leads.TheVariants.ByType, offset_row.Referent.Referent}
-use Rattle.fb_verify.specs.declared.{offset_row.Row.Row, stack.Turn.TheVariants.Up}
-use Rattle.fb_verify.specs.{Cost.present_reads, Fields.entries_of, OffsetRows.LeavesRow, OffsetRows.AreAll, Order.present_failure, Plain.IsTested}
+use Rattle.fb_rules.specs.declared.{table.Child.Child, offset_row.Leads.Leads}
+use Rattle.fb_verify.specs.declared.{stack.Walk.Walk, scratch.Frame.Frame, stack.Turn.Turn}
+use Rattle.fb_rules.specs.declared.{offset_row.Leads.TheVariants.All, offset_row.Leads.TheVariants.ByType, offset_row.Referent.Referent}
+use Rattle.fb_rules.specs.declared.offset_row.Row.{Row}
+use Rattle.fb_verify.specs.declared.stack.Turn.TheVariants.{Up}
+use Rattle.fb_rules.specs.{Cost.present_reads, Fields.entries_of, OffsetRows.LeavesRow, OffsetRows.AreAll, Order.present_failure, Plain.IsTested}
 use Rattle.fb_verify.specs.{Stack.blank, Stack.Waiting, Turns.BeginsRow, Turns.MemberTurned, Turns.RowTurned}
 use Rattle.fb_verify.proofs.IntoField.{into_askable, into_stops, few_spent, passed_over, row_begins, far_turned}
 use Rattle.fb_verify.proofs.Turns.{halts_in_field}
@@ -64,8 +66,8 @@ pass_member-turn-requires g c =
         in-row = (begins g d none more).row;
         limits = c.may_pass_union.ensures.limits limits;
         few = omega (arith, spent, c.may_pass_union.ensures.room limits);
-        allowed = c.short-room.ensures.allowed;
-        short = c.short-room.ensures.short;
+        allowed = c.short_of-room.ensures.allowed;
+        short = c.short_of-room.ensures.short;
       },
       (rw (all_of _ one.1).1 tt, c.requires.1.1),
     )

@@ -1,7 +1,8 @@
 use Rattle.std.proofs.Common.{◌≡◌, ◌+◌, ◌<◌, map, length, option_map, refl, sym, ◌∙◌, ap, arith}
 use Rattle.std.proofs.lemmas.{Bool.ltb-true, Option.slice_get-map}
 use Rattle.fb_schema.specs.{Live.live_fields, Live.live_of_view, Steps.step_of}
-use Rattle.fb_verify.specs.{Places.vtable_size, PassesOn.PassesFields}
+use Rattle.fb_rules.specs.Places.{vtable_size}
+use Rattle.fb_verify.specs.PassesOn.{PassesFields}
 use Rattle.fb_verify.proofs.Frames.{item_some, field_at, length_map}
 use Rattle.fb_verify.proofs.Walking.{err_exit, AtNext, askable, next_stops, stops_at_field, next_leads, next_over}
 use Rattle.fb_verify.proofs.Passing.{AtStep, long, rest_absent, required_stops}

@@ -1,8 +1,9 @@
 use Rattle.std.proofs.Common.{◌≡◌, ◌+◌, refl, sym, ◌∙◌, ap, None, arith}
 use Rattle.fb_bytes.specs.Word.{Lent}
-use Rattle.fb_verify.specs.{Cost.lead_reads, OffsetRows.first_word, Order.element_failure}
-use Rattle.fb_verify.proofs.{Flats.word_told, Flats.is_leaf, Frames.if_err_exit, Words.first_place}
-use Rattle.fb_verify.proofs.Refusals.{unfound, tested_tells, spent, told_lead_reads}
+use Rattle.fb_rules.specs.{Cost.lead_reads, OffsetRows.first_word, Order.element_failure}
+use Rattle.fb_rules.proofs.Words.{first_place}
+use Rattle.fb_verify.proofs.{Flats.word_told, Flats.is_leaf, Frames.if_err_exit}
+use Rattle.fb_rules.proofs.Refusals.{unfound, tested_tells, spent, told_lead_reads}
 use Rattle.fb_verify.proofs.stack.Walk.pass_element.Goals as goal
 use Rattle.fb_verify.proofs.stack.Walk.pass_element.Goals.{In_ok-tell}
 

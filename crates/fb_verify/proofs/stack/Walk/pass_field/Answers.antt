@@ -1,6 +1,6 @@
 use Rattle.std.proofs.Common.{refl}
-use Rattle.fb_verify.specs.{Cost.own_reads, Fields.entries, Order.own_failure}
-use Rattle.fb_verify.proofs.Refusals.{unfailed, tested_then, asked_ok, asked_err}
+use Rattle.fb_rules.specs.{Cost.own_reads, Fields.entries, Order.own_failure}
+use Rattle.fb_rules.proofs.Refusals.{unfailed, tested_then, asked_ok, asked_err}
 use Rattle.fb_verify.proofs.stack.Walk.pass_field.Goals as goal
 
 pub returns-in_err-answer-clause-asked : goal.returns-in_err-answer-clause-asked

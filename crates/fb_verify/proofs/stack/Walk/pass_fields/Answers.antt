@@ -4,9 +4,11 @@ use Rattle.std.specs.Prelude.{slice_get}
 use Rattle.fb_schema.specs.declared.views.Step.{Step}
 use Rattle.std.proofs.lemmas.Option.{slice_get-get_or}
 use Rattle.fb_bytes.specs.Word.{Lent}
-use Rattle.fb_verify.specs.declared.{scratch.Frame.Frame, stack.Walk.Walk, table.Table.Table}
+use Rattle.fb_rules.specs.declared.table.Table.{Table}
+use Rattle.fb_verify.specs.declared.{scratch.Frame.Frame, stack.Walk.Walk}
 use Rattle.fb_verify.specs.{PassesOn.ComesToField, Stack.work, Stack.Waiting, Turns.IsAtOpenField, Turns.IsAtStep}
-use Rattle.fb_verify.proofs.{Budgets.fewer_reads, Frames.length_map, Plains.step_at, Turning.halts_on, Turning.field_turned, Turning.field_over}
+use Rattle.fb_rules.proofs.{Budgets.fewer_reads, Plains.step_at}
+use Rattle.fb_verify.proofs.{Frames.length_map, Turning.halts_on, Turning.field_turned, Turning.field_over}
 use Rattle.fb_verify.proofs.Turns.{halts_in_field}
 use Rattle.fb_verify.proofs.stack.Walk.pass_fields.Goals as goal
 use Rattle.fb_verify.proofs.stack.Walk.pass_fields.Goals.{In-Ok-true}

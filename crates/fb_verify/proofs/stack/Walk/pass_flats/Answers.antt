@@ -1,9 +1,10 @@
 use Rattle.std.proofs.Common.{◌≡◌, ◌≤◌, ◌+◌, ◌*◌, max, length, refl, sym, ◌∙◌, ap, arith}
 use Rattle.fb_schema.specs.{Live.live_fields, Steps.step_of}
-use Rattle.fb_verify.specs.declared.{offset_row.Row.Row, offset_row.Leads.TheVariants.All, offset_row.Referent.TheVariants.Table as ATable}
+use Rattle.fb_rules.specs.declared.{offset_row.Row.Row, offset_row.Leads.TheVariants.All, offset_row.Referent.TheVariants.Table as ATable}
 use Rattle.fb_verify.specs.declared.stack.Walk.{Walk}
-use Rattle.fb_verify.specs.{Fields.to_table, Order.after, Order.lead_failure, OffsetRows.leads_after, Plain.tested_by}
-use Rattle.fb_verify.proofs.{Budgets.fewer_reads, Flats.at_flat, Flats.word_tells, Frames.length_map}
+use Rattle.fb_rules.specs.{Fields.to_table, Order.after, Order.lead_failure, OffsetRows.leads_after, Plain.tested_by}
+use Rattle.fb_rules.proofs.Budgets.{fewer_reads}
+use Rattle.fb_verify.proofs.{Flats.at_flat, Flats.word_tells, Frames.length_map}
 use Rattle.fb_verify.proofs.RowTurns.{two, Counts, counted_same, flat_comes, table_passed, table_halts, word_halts}
 use Rattle.fb_verify.proofs.stack.Walk.pass_flats.Goals as goal
 use Rattle.fb_verify.proofs.stack.Walk.pass_flats.Goals.{After-test_lead-failed, After-count_table}
@@ -30,7 +31,7 @@ returns-in-Some g c child =
 paid : (g : _) (c : After-count_table g) → c.test_lead-failed.new.reads.count ≡ c.loop-schema.reads.count + 1
 paid g c = c.test_lead-failed.ensures.counted c.in_default.is
 
-room : (g : _) (c : After-count_table g) → c.loop-schema.reads.count + (8 + 6 * length c.steps_of-steps.result.now) ≤ c.short-room.result
+room : (g : _) (c : After-count_table g) → c.loop-schema.reads.count + (8 + 6 * length c.steps_of-steps.result.now) ≤ c.short_of-room.result
 room g c = omega (arith, c.has_flat.ensures.room c.loop-schema-test.true)
 
 -- where its word holds, the table is counted
@@ -56,7 +57,7 @@ counts g c =
       fewer = c.has_flat.ensures.fewer c.loop-schema-test.true;
       deep = ((c.requires.0).down).deep;
       low = ((c.requires.0).down).low;
-      cheap = fewer_reads (c.args.self.now.limits).reads (new.reads.count + 3) c.short-room.result (omega (arith, paid g c, room g c)) c.short-room.ensures.allowed;
+      cheap = fewer_reads (c.args.self.now.limits).reads (new.reads.count + 3) c.short_of-room.result (omega (arith, paid g c, room g c)) c.short_of-room.ensures.allowed;
       is = c.count_table.ensures ∙ ap (λ n. record w { tables = w.tables + 1; deepest = max w.deepest n }) (two c.args.waiting);
     }
 
@@ -65,7 +66,7 @@ pass_alike-came-requires g c =
     let d = (goal.at.pass_alike-came-requires g c).After-count_table in
     let steps = c.steps_of-steps.ensures in
     let e = c.test_lead-failed.ensures in (
-      flat_comes (counts g d) c.requires.1.0 refl steps.value steps.few (c.requires.0).plain c.short-room.ensures.allowed (omega (arith, paid g d, room g d)) c.short-room.ensures.short,
+      flat_comes (counts g d) c.requires.1.0 refl steps.value steps.few (c.requires.0).plain c.short_of-room.ensures.allowed (omega (arith, paid g d, room g d)) c.short_of-room.ensures.short,
       rw (e.bytes, steps.value) (c.loop-schema.invariant).kept,
     )
 
@@ -85,7 +86,7 @@ loop-schema-preserved g c =
     let long = ap length c.steps_of-steps.ensures.value ∙ length_map step_of (live_fields c.args.self.now.schema.now c.args.object) in
     let width = ap (λ (x : Walk). length (live_fields x.schema.now c.args.object)) (counted_same (counts g d)) in
     record {
-      on = table_passed (counts g d) came.next came.at came.reads (rw none at p) (omega (arith, p.paid none, paid g d, long, width, room g d, c.short-room.ensures.short));
+      on = table_passed (counts g d) came.next came.at came.reads (rw none at p) (omega (arith, p.paid none, paid g d, long, width, room g d, c.short_of-room.ensures.short));
       next = (c.loop-schema.invariant).next;
       kept = rw (sym p.bytes, c.steps_of-steps.ensures.value) at (c.pass_alike-came.ensures.kept none);
       leads = ap (λ (x : Row). x.leads) c.advance_all.ensures ∙ ap leads_after (leads g (goal.at.After-count_table g d).After-test_lead-failed) ∙ sym (c.requires.0).leads;

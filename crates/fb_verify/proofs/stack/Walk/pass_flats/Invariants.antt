@@ -1,6 +1,7 @@
 use Rattle.std.proofs.Common.{◌≡◌, map, [], ◌∷◌, ◌++◌}
 use Rattle.fb_schema.specs.{Live.live_fields, Steps.step_of}
-use Rattle.fb_verify.specs.{Alike.IsKept, Turns.GoesOn}
+use Rattle.fb_rules.specs.Alike.{IsKept}
+use Rattle.fb_verify.specs.Turns.{GoesOn}
 use Rattle.fb_verify.proofs.stack.Walk.pass_flats.Given as goal
 
 -- the walk goes on in the same field, between two offset words

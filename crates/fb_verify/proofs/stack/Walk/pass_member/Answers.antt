@@ -1,9 +1,12 @@
 use Rattle.std.proofs.Common.{None, ◌≡◌, ◌≤◌, ◌+◌, max, length, refl, sym, ◌∙◌, ap, subst, arith}
 use Rattle.fb_schema.specs.{Live.live_fields, Steps.step_of}
-use Rattle.fb_verify.specs.declared.{offset_row.Row.Row, stack.Walk.Walk}
-use Rattle.fb_verify.specs.{Cost.lead_reads, Fields.Entry, Order.after, Order.element_failure, Plain.tested_by, Turns.GoesOn}
-use Rattle.fb_verify.specs.OffsetRows.{lead_to, first_word, IsReferent, IsLeafLead}
-use Rattle.fb_verify.proofs.{Budgets.fewer_reads, Chains.after_none, Frames.first_few, Frames.length_map, Flats.word_told, Flats.is_leaf}
+use Rattle.fb_rules.specs.declared.offset_row.Row.{Row}
+use Rattle.fb_verify.specs.declared.stack.Walk.{Walk}
+use Rattle.fb_rules.specs.{Cost.lead_reads, Fields.Entry, Order.after, Order.element_failure, Plain.tested_by}
+use Rattle.fb_verify.specs.Turns.{GoesOn}
+use Rattle.fb_rules.specs.OffsetRows.{lead_to, first_word, IsReferent, IsLeafLead}
+use Rattle.fb_rules.proofs.{Budgets.fewer_reads, Chains.after_none, Few.first_few}
+use Rattle.fb_verify.proofs.{Frames.length_map, Flats.word_told, Flats.is_leaf}
 use Rattle.fb_verify.proofs.Walking.{leaf_passed}
 use Rattle.fb_verify.proofs.RowTurns.{stays, two, Counts, word_passed, flat_comes, goes_down, table_passed, table_halts, word_halts}
 use Rattle.fb_verify.proofs.stack.Walk.pass_member.Goals as goal

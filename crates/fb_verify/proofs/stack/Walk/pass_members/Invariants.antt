@@ -1,5 +1,6 @@
 use Rattle.std.proofs.Common.{◌≡◌}
-use Rattle.fb_verify.specs.{OffsetRows.AreTargetsOf, Turns.GoesOn}
+use Rattle.fb_rules.specs.OffsetRows.{AreTargetsOf}
+use Rattle.fb_verify.specs.Turns.{GoesOn}
 use Rattle.fb_verify.proofs.stack.Walk.pass_members.Given as goal
 
 -- the walk goes on in the same field, between two offset words

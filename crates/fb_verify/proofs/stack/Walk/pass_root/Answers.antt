@@ -1,7 +1,8 @@
 use Rattle.std.proofs.Common.{◌≡◌, ℕ, true, false, Bool, [], refl, arith, Ok}
 use Rattle.fb_bytes.specs.Word.{Lent}
 use Rattle.fb_schema.specs.Steps.{is_plain}
-use Rattle.fb_verify.specs.declared.{stack.Walk.Walk, table.Table.Table}
+use Rattle.fb_rules.specs.declared.table.Table.{Table}
+use Rattle.fb_verify.specs.declared.stack.Walk.{Walk}
 use Rattle.fb_verify.specs.{PassesOn.PassesOn, Stack.opened, Stack.Waiting, Turns.WentOver}
 use Rattle.fb_verify.proofs.{Flats.never_on, Turning.went_over}
 use Rattle.fb_verify.proofs.stack.Walk.pass_root.Goals as goal

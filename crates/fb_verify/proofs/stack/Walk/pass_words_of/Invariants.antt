@@ -1,5 +1,5 @@
 use Rattle.std.proofs.Common.{◌≡◌, ◌+◌, ◌*◌, ◌≤◌}
-use Rattle.fb_verify.specs.declared.offset_row.Leads.TheVariants.{All}
+use Rattle.fb_rules.specs.declared.offset_row.Leads.TheVariants.{All}
 use Rattle.fb_verify.specs.Turns.{GoesOn}
 use Rattle.fb_verify.proofs.stack.Walk.pass_words_of.Given as goal
 

@@ -2,7 +2,7 @@ use Rattle.std.proofs.Common.{◌≡◌, ℕ, arith}
 use Rattle.fb_schema.specs.declared.kinds.Kind.{Kind}
 use Rattle.fb_schema.specs.declared.kinds.Kind.TheVariants.{Union, Texts, Tables, Unions}
 use Rattle.fb_verify.specs.Turns.{IsFar}
-use Rattle.fb_verify.proofs.Words.{vector_left}
+use Rattle.fb_rules.proofs.Words.{vector_left}
 use Rattle.fb_verify.proofs.stack.Walk.put_row_by.Goals as goal
 
 pub returns-in-Unions-clause-leads : goal.returns-in-Unions-clause-leads

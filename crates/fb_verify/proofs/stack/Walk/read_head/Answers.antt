@@ -1,4 +1,4 @@
-use Rattle.fb_verify.proofs.Refusals.{unfailed, asked_ok, asked_err}
+use Rattle.fb_rules.proofs.Refusals.{unfailed, asked_ok, asked_err}
 use Rattle.fb_verify.proofs.stack.Walk.read_head.Goals as goal
 
 pub returns-in_err-answer-clause-asked : goal.returns-in_err-answer-clause-asked

@@ -1,10 +1,11 @@
 use Rattle.std.proofs.Common.{◌≡◌, ◌<◌, [], length, refl, sym, ◌∙◌, ap, arith}
 use Rattle.std.proofs.Math.ListN.{length-set}
 use Rattle.std.proofs.lemmas.{List.get_or-set_same, List.Elements.All-nil}
-use Rattle.fb_verify.specs.declared.table.Table.{Table}
-use Rattle.fb_verify.specs.Told.{stopped, way_at}
+use Rattle.fb_rules.specs.declared.table.Table.{Table}
+use Rattle.fb_rules.specs.Told.{stopped, way_at}
 use Rattle.fb_verify.specs.Stack.{blank, opened, IsFrame, IsLinked, IsUnderWay, Origin, StopsIn, work}
-use Rattle.fb_verify.proofs.{Frames.head_few, Frames.frame_opened, Frames.work_opened, Standings.begin, Standings.stop_at_root, Turning.root_kept}
+use Rattle.fb_rules.proofs.Few.{head_few}
+use Rattle.fb_verify.proofs.{Frames.frame_opened, Frames.work_opened, Standings.begin, Standings.stop_at_root, Turning.root_kept}
 use Rattle.fb_verify.proofs.stack.Walk.run.Goals.{In-Err, In-Ok, Joined-is_plain, then-is_plain+in_default, else-is_plain}
 use Rattle.fb_verify.proofs.stack.Walk.run.Goals as goal
 

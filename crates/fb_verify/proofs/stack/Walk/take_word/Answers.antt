@@ -1,7 +1,10 @@
 use Rattle.std.proofs.Common.{◌≡◌, ◌+◌, ◌*◌, max, refl, ◌∙◌, ap, arith}
-use Rattle.fb_verify.specs.declared.{offset_row.Row.Row, stack.Walk.Walk}
-use Rattle.fb_verify.specs.{Cost.head_reads, Fields.to_table, Order.after, Order.lead_failure, Plain.tested_by, Stack.IsAtTable}
-use Rattle.fb_verify.proofs.{Budgets.fewer_reads, Flats.at_flat, Flats.word_tells, Frames.head_few, RowTurns.two, RowTurns.stays, RowTurns.word_halts}
+use Rattle.fb_rules.specs.declared.offset_row.Row.{Row}
+use Rattle.fb_verify.specs.declared.stack.Walk.{Walk}
+use Rattle.fb_rules.specs.{Cost.head_reads, Fields.to_table, Order.after, Order.lead_failure, Plain.tested_by}
+use Rattle.fb_verify.specs.Stack.{IsAtTable}
+use Rattle.fb_rules.proofs.{Budgets.fewer_reads, Few.head_few}
+use Rattle.fb_verify.proofs.{Flats.at_flat, Flats.word_tells, RowTurns.two, RowTurns.stays, RowTurns.word_halts}
 use Rattle.fb_verify.proofs.Turns.{at_child, down_falls}
 use Rattle.fb_verify.proofs.stack.Walk.take_word.Goals as goal
 

@@ -1,0 +1,16 @@
+pub mod Few
+pub mod Budgets
+pub mod Chains
+pub mod Overruns
+pub mod OneFault
+pub mod LastLinks
+pub mod Refusals
+pub mod Price
+pub mod Words
+pub mod Typed
+pub mod Shown
+pub mod TrueFaults
+pub mod Plains
+pub mod Heads
+pub mod Alignments
+pub mod Members

@@ -1,0 +1,131 @@
+// The start of a buffer: its prefix, its identifier and its root offset.
+
+ghost use Rattle.std.specs.Prelude.{◌≡◌, ◌+◌, ◌^◌, ◌<◌, ◌≤◌, IfOk, None};
+ghost use Rattle.fb_bytes.specs.Word.{word};
+ghost use Rattle.fb_rules.specs.{Places.target, Order.prefix_failure, Order.ident_failure, Order.start_failure, Plain.IsTested, Told.IsAskedAt};
+ghost use Rattle.fb_rules.specs.WellFormed.{base, prefix_reads, ident_reads, start_reads};
+
+use crate::budget::answer;
+use crate::checks::Checks;
+use crate::fault::Reason;
+use crate::limits::Limits;
+use crate::plain::{fails, test_offset};
+use crate::site::{Site, Stop};
+use crate::start::{Ident, Start};
+use fb_bytes::{Loan, Reads};
+
+/// Where the root offset stands.
+fn base_of(start: Start) -> u64
+    ensures value { result ≡ base start }
+    ensures near { result ≤ 4 }
+{
+    match start {
+        Start::Bare => 0,
+        Start::Prefixed => 4,
+    }
+}
+
+/// Tests the prefix, if there should be one.
+#[inline(always)]
+#[tactic(auto, unfolding(crate::specs::Order::prefix_failure))]
+fn test_prefix(reads: &mut Reads<'_>, start: Start) -> Option<Reason>
+    requires few { reads.old.count < reads.old.base + 2 ^ 60 }
+    ensures { IsTested reads.old reads.new 0 (prefix_failure reads.old.bytes start) (prefix_reads start) result }
+{
+    match start {
+        Start::Bare => None,
+        Start::Prefixed => {
+            if !reads.fits(0, 4) {
+                return fails(Reason::OutOfBuffer);
+            }
+            if u64::from(reads.u32_at(0)) + 4 != reads.len() {
+                return fails(Reason::WrongPrefix);
+            }
+            None
+        }
+    }
+}
+
+/// The number that four bytes are, the lowest first.
+#[tactic(auto, unfolding(fb_bytes::specs::Word::word))]
+fn number_of(name: [u8; 4]) -> u32
+    ensures { result ≡ word name 0 4 }
+{
+    let [a, b, c, d] = name;
+    u32::from(a) + 256 * (u32::from(b) + 256 * (u32::from(c) + 256 * u32::from(d)))
+}
+
+/// Tests the identifier at a position, if one is wanted.
+#[inline(always)]
+#[tactic(auto, unfolding(crate::specs::Order::ident_failure))]
+fn test_ident(reads: &mut Reads<'_>, at: u64, ident: Ident) -> Option<Reason>
+    requires few { reads.old.count < reads.old.base + 2 ^ 60 }
+    requires near { at < 2 ^ 35 }
+    ensures { IsTested reads.old reads.new at (ident_failure reads.old.bytes at ident) (ident_reads ident) result }
+{
+    match ident {
+        Ident::Any => None,
+        Ident::Want(name) => {
+            if !reads.fits(at, 4) {
+                return fails(Reason::OutOfBuffer);
+            }
+            if reads.u32_at(at) != number_of(name) {
+                return fails(Reason::WrongIdentifier);
+            }
+            None
+        }
+    }
+}
+
+/// Tests all that stands before the root table, and moves the position to where that stands, or to where a test fails.
+#[inline(always)]
+#[tactic(auto, unfolding(crate::specs::Order::start_failure))]
+fn test_start(
+    reads: &mut Reads<'_>,
+    checks: Checks,
+    start: Start,
+    ident: Ident,
+    at: &mut u64,
+) -> Option<Reason>
+    requires few { reads.old.count < reads.old.base + 2 ^ 58 }
+    ensures tested { IsTested reads.old reads.new at.new (start_failure checks reads.old.bytes start ident) (start_reads start ident) result }
+    ensures value { result ≡ None → at.new ≡ target reads.old.bytes (base start) }
+    ensures near { result ≡ None → at.new < 2 ^ 33 }
+{
+    let base = base_of(start);
+    *at = 0;
+    let prefix = test_prefix(reads, start);
+    if prefix.is_some() {
+        return prefix;
+    }
+    *at = base + 4;
+    let identifier = test_ident(reads, *at, ident);
+    if identifier.is_some() {
+        return identifier;
+    }
+    *at = base;
+    test_offset(reads, checks, at)
+}
+
+/// Reads all that stands before the root table, asks the budget, and answers where that table stands. What fails does
+/// so at this site.
+#[inline(always)]
+pub fn read_start(
+    loan: &mut Loan<'_>,
+    limits: Limits,
+    checks: Checks,
+    site: Site,
+    start: Start,
+    ident: Ident,
+) -> Result<u64, Stop>
+    requires few { loan.old.count < 2 ^ 98 }
+    ensures asked { IsAskedAt site limits loan.old loan.new (start_failure checks loan.old.bytes start ident) (start_reads start ident) (base start) result }
+    ensures value { IfOk result (λ t. t ≡ target loan.old.bytes (base start)) }
+    ensures near { IfOk result (λ t. t < 2 ^ 33) }
+{
+    let mut reads = loan.lend();
+    let mut at = 0;
+    let failed = test_start(&mut reads, checks, start, ident, &mut at);
+    answer(loan, reads, limits, site, failed, at, base_of(start))?;
+    Ok(at)
+}

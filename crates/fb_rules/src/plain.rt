@@ -1,0 +1,559 @@
+// The rules of the format for tables, strings and vectors, by reads that are counted in a register, and how a field is
+// passed by its step. Those of unions stand in `leads.rt`, those of the start in `begin.rt`.
+
+ghost use Rattle.std.specs.Prelude.{◌≡◌, ℕ, ◌+◌, ◌*◌, ◌^◌, ◌<◌, ◌≤◌, ◌%◌, ◌==◌, length, Some, None, IfSome, MatchOption, IsTrue, true, false};
+ghost use Rattle.std.specs.Int.Bits.{bit_and};
+ghost use Rattle.fb_bytes.specs.Word.{word};
+ghost use Rattle.fb_schema.specs.Served.{IsAlignment};
+ghost use Rattle.fb_rules.specs.Places.{fits, target, has_slot, has_vtable, vtable, field_place};
+ghost use Rattle.fb_rules.specs.{Cost.head_reads, Cost.slot_reads, Cost.lead_reads, Fields.to_string, OffsetRows.lead_to, OffsetRows.IsSized};
+ghost use Rattle.fb_rules.specs.Told.{IsVtable, IsHead, IsPlaced};
+ghost use Rattle.fb_rules.specs.declared.offset_row.Referent.TheVariants.{Table as ATable};
+ghost use Rattle.fb_rules.specs.declared.plain.Came.TheVariants.{Past, ToFault};
+ghost use Rattle.fb_rules.specs.declared.fault.Reason.TheVariants.{OutOfBuffer, Misaligned};
+ghost use Rattle.fb_rules.specs.Order.{after, ◌▷◌, head_failure, table_failure, offset_failure, string_failure, vector_failure, inline_failure, inline_field_failure, vector_field_failure, lead_failure};
+ghost use Rattle.fb_rules.specs.Plain.{tested_by, vtable_failure, vtable_reads, FindsVtable, IsTested, IsSmall, place_from, IsStep, HasBit, IsCame, Filled, Stepped};
+
+use crate::checks::Checks;
+use crate::fault::Reason;
+use crate::offset_row::Referent;
+use crate::site::{is_aligned, is_multiple};
+use crate::table::{Head, Table};
+use fb_bytes::Reads;
+use fb_schema::Step;
+
+/// A test that fails for this reason. It stands apart, so that what holds is passed without a thought of it.
+#[cold]
+#[inline(never)]
+pub fn fails(reason: Reason) -> Option<Reason>
+    ensures { result ≡ Some reason }
+{
+    Some(reason)
+}
+
+/// Whether `n` bytes at a position are in the buffer. Neither is so great that their sum could be.
+#[inline(always)]
+fn is_inside(reads: &Reads<'_>, at: u64, n: u64) -> bool
+    requires near { at < 2 ^ 40 }
+    requires small { n < 2 ^ 40 }
+    ensures value { result ≡ fits reads.now.bytes at n }
+    ensures short { length reads.now.bytes < 2 ^ 31 }
+{
+    at + n <= reads.len()
+}
+
+/// Tests that a scalar or struct of this size and alignment stands at a position.
+#[inline(always)]
+#[tactic(auto, unfolding(crate::specs::Order::inline_failure))]
+pub fn test_inline(
+    reads: &Reads<'_>,
+    checks: Checks,
+    at: u64,
+    size: u32,
+    align: u32,
+) -> Option<Reason>
+    requires near { at < 2 ^ 35 }
+    requires align { IsAlignment align }
+    ensures told { tested_by at reads.now.count result ≡ after reads.now.count (inline_failure checks reads.now.bytes at size align) }
+    ensures near { result ≡ None → at + size < 2 ^ 31 }
+{
+    if !is_inside(reads, at, u64::from(size)) {
+        return fails(Reason::OutOfBuffer);
+    }
+    if !is_aligned(checks, at, align) {
+        return fails(Reason::Misaligned);
+    }
+    None
+}
+
+/// Tests the offset word at a position, and goes on where it leads.
+#[inline(always)]
+#[tactic(auto, using(crate::proofs::Alignments::four), unfolding(crate::specs::Order::offset_failure, crate::specs::Order::inline_failure))]
+pub fn test_offset(reads: &mut Reads<'_>, checks: Checks, at: &mut u64) -> Option<Reason>
+    requires few { reads.old.count < reads.old.base + 2 ^ 62 }
+    requires near { at.old < 2 ^ 35 }
+    ensures tested { IsTested reads.old reads.new at.new (offset_failure checks reads.old.bytes at.old) 1 result }
+    ensures value { result ≡ None → at.new ≡ target reads.old.bytes at.old }
+    ensures near { result ≡ None → at.new < 2 ^ 33 }
+{
+    let word = test_inline(reads, checks, *at, 4, 4);
+    if word.is_some() {
+        return word;
+    }
+    let offset = u64::from(reads.u32_at(*at));
+    if offset == 0 {
+        return fails(Reason::ZeroOffset);
+    }
+    *at += offset;
+    None
+}
+
+/// Tests the string at a position: its count, so many bytes, and a byte 0. It goes on to that byte.
+#[inline(always)]
+#[tactic(auto, using(crate::proofs::Alignments::four), unfolding(crate::specs::Order::string_failure, crate::specs::Order::inline_failure))]
+fn test_string(reads: &mut Reads<'_>, checks: Checks, at: &mut u64) -> Option<Reason>
+    requires few { reads.old.count < reads.old.base + 2 ^ 62 }
+    requires near { at.old < 2 ^ 35 }
+    ensures { IsTested reads.old reads.new at.new (string_failure checks reads.old.bytes at.old) 2 result }
+{
+    let word = test_inline(reads, checks, *at, 4, 4);
+    if word.is_some() {
+        return word;
+    }
+    let count = u64::from(reads.u32_at(*at));
+    *at += 4;
+    if !is_inside(reads, *at, count + 1) {
+        return fails(Reason::OutOfBuffer);
+    }
+    *at += count;
+    if reads.u8_at(*at) != 0 {
+        return fails(Reason::NoTerminator);
+    }
+    None
+}
+
+/// Tests the vector at a position, of elements of this size and alignment, puts their number, and goes on to the first.
+#[inline(always)]
+#[tactic(auto, using(crate::proofs::Alignments::four), unfolding(crate::specs::Order::vector_failure, crate::specs::Order::inline_failure))]
+fn test_vector(
+    reads: &mut Reads<'_>,
+    checks: Checks,
+    at: &mut u64,
+    size: u32,
+    align: u32,
+    many: &mut u32,
+) -> Option<Reason>
+    requires few { reads.old.count < reads.old.base + 2 ^ 62 }
+    requires near { at.old < 2 ^ 35 }
+    requires align { IsAlignment align }
+    ensures tested { IsTested reads.old reads.new at.new (vector_failure checks reads.old.bytes at.old size align) 1 result }
+    ensures first { result ≡ None → at.new ≡ at.old + 4 }
+    ensures many { result ≡ None → many.new ≡ word reads.old.bytes at.old 4 }
+    ensures within { result ≡ None → at.new + many.new * size < 2 ^ 31 }
+{
+    let word = test_inline(reads, checks, *at, 4, 4);
+    if word.is_some() {
+        return word;
+    }
+    let count = reads.u32_at(*at);
+    *at += 4;
+    if !reads.fits(*at, u64::from(count) * u64::from(size)) {
+        return fails(Reason::OutOfBuffer);
+    }
+    if count != 0 && !is_aligned(checks, *at, align) {
+        return fails(Reason::Misaligned);
+    }
+    *many = count;
+    None
+}
+
+/// Reads where the vtable of the table at a position stands, none where that is negative.
+#[inline(always)]
+#[tactic(auto, unfolding(crate::specs::Places::has_vtable, crate::specs::Places::vtable))]
+fn vtable_at(reads: &mut Reads<'_>, at: u64) -> Option<u64>
+    requires fits { at + 4 ≤ length reads.old.bytes }
+    requires near { at < 2 ^ 31 }
+    requires few { reads.old.count < reads.old.base + 2 ^ 62 }
+    ensures place { MatchOption result (has_vtable reads.old.bytes at ≡ false) (λ v. (has_vtable reads.old.bytes at ≡ true) × (v ≡ vtable reads.old.bytes at)) }
+    ensures near { IfSome result (λ v. v < 2 ^ 32) }
+    ensures counted { reads.new ≡ record reads.old { count = reads.old.count + 1 } }
+{
+    let place = at as i64 - i64::from(reads.i32_at(at));
+    if place < 0 { None } else { Some(place as u64) }
+}
+
+/// Tests the first word of the table at a position, and reads where its vtable stands.
+#[inline(always)]
+#[tactic(auto, using(crate::proofs::Alignments::four), unfolding(crate::specs::Plain::first_word_failure, crate::specs::Order::inline_failure))]
+pub fn test_first_word(reads: &mut Reads<'_>, checks: Checks, at: u64) -> Result<u64, Reason>
+    requires few { reads.old.count < reads.old.base + 2 ^ 61 }
+    requires near { at < 2 ^ 33 }
+    ensures { FindsVtable checks reads.old reads.new at result }
+{
+    let word = test_inline(reads, checks, at, 4, 4);
+    if let Some(reason) = word {
+        return Err(reason);
+    }
+    match vtable_at(reads, at) {
+        Some(vtable) => Ok(vtable),
+        None => Err(Reason::OutOfBuffer),
+    }
+}
+
+/// Tests the vtable, at this place, of the table at a position, and writes the table's head. Where it fails, the
+/// position is moved to where it does.
+#[inline(always)]
+#[tactic(auto, using(crate::proofs::Alignments::two), unfolding(crate::specs::Plain::vtable_failure))]
+pub fn test_vtable(
+    reads: &mut Reads<'_>,
+    checks: Checks,
+    place: u64,
+    at: &mut u64,
+    head: &mut Head,
+) -> Option<Reason>
+    requires few { reads.old.count < reads.old.base + 2 ^ 61 }
+    requires near { place < 2 ^ 32 }
+    requires its { place ≡ vtable reads.old.bytes at.old }
+    ensures tested { IsTested reads.old reads.new at.new (vtable_failure checks reads.old.bytes at.old) (vtable_reads checks) result }
+    ensures head { result ≡ None → IsHead checks reads.old.bytes at.old head.new }
+    ensures same { result ≡ None → at.new ≡ at.old }
+{
+    if !reads.fits(place, 2) {
+        return fails(Reason::OutOfBuffer);
+    }
+    if !is_aligned(checks, place, 2) {
+        *at = place;
+        return fails(Reason::Misaligned);
+    }
+    let size = reads.u16_at(place);
+    if size % 2 != 0 || size < 4 {
+        *at = place;
+        return fails(Reason::BadVtable);
+    }
+    if !reads.fits(place, u64::from(size)) {
+        *at = place;
+        return fails(Reason::OutOfBuffer);
+    }
+    let inline = if checks.inline_size {
+        reads.u16_at(place + 2)
+    } else {
+        0
+    };
+    *head = Head {
+        vtable: place,
+        size,
+        inline,
+    };
+    None
+}
+
+/// Tests the head of the table at a position, and writes it. Where it fails, the position is moved to where it does.
+#[inline(always)]
+#[tactic(auto, unfolding(crate::specs::Order::head_failure, crate::specs::Plain::first_word_failure, crate::specs::Plain::vtable_failure))]
+pub fn test_head(
+    reads: &mut Reads<'_>,
+    checks: Checks,
+    at: &mut u64,
+    head: &mut Head,
+) -> Option<Reason>
+    requires few { reads.old.count < reads.old.base + 2 ^ 60 }
+    requires near { at.old < 2 ^ 33 }
+    ensures tested { IsTested reads.old reads.new at.new (head_failure checks reads.old.bytes at.old) (head_reads checks) result }
+    ensures head { result ≡ None → IsHead checks reads.old.bytes at.old head.new }
+    ensures same { result ≡ None → at.new ≡ at.old }
+{
+    match test_first_word(reads, checks, *at) {
+        Ok(vtable) => test_vtable(reads, checks, vtable, at, head),
+        Err(reason) => Some(reason),
+    }
+}
+
+/// Reads where the field with this slot stands, the table's own position where it is absent.
+#[inline(always)]
+#[tactic(auto, using(std::proofs::lemmas::Bool::Decides::nat_tests), unfolding(crate::specs::Places::field_place))]
+pub fn slot_at(reads: &mut Reads<'_>, at: u64, head: Head, slot: u16) -> u64
+    requires few { reads.old.count < reads.old.base + 2 ^ 60 }
+    requires near { at < 2 ^ 33 }
+    requires head { IsVtable reads.old.bytes at head }
+    ensures value { place_from at result ≡ field_place reads.old.bytes at slot }
+    ensures within { IfSome (place_from at result) (λ _. IsTrue (has_slot reads.old.bytes at slot)) }
+    ensures near { result < 2 ^ 34 }
+    ensures counted { reads.new ≡ record reads.old { count = reads.old.count + slot_reads reads.old.bytes at slot } }
+{
+    if head.ends_before(slot) {
+        return at;
+    }
+    at + u64::from(reads.u16_at(head.vtable + u64::from(slot)))
+}
+
+/// Tests that what stands inline for a field ends within the inline size of its table, where that is checked.
+#[inline(always)]
+#[tactic(auto, unfolding(crate::specs::Order::table_failure, crate::specs::Places::ends_in_table))]
+pub fn test_end(
+    reads: &Reads<'_>,
+    checks: Checks,
+    table: Table,
+    place: u64,
+    size: u32,
+) -> Option<Reason>
+    requires placed { IsPlaced checks reads.now.bytes table.at table.head place }
+    ensures told { tested_by place reads.now.count result ≡ after reads.now.count (table_failure checks reads.now.bytes table.at place size) }
+{
+    if checks.inline_size && place + u64::from(size) > table.at + u64::from(table.head.inline) {
+        return fails(Reason::PastTable);
+    }
+    None
+}
+
+/// Tests a field that is a scalar or struct of this size and alignment.
+#[inline(always)]
+pub fn test_inline_field(
+    reads: &Reads<'_>,
+    checks: Checks,
+    table: Table,
+    place: u64,
+    size: u32,
+    align: u32,
+) -> Option<Reason>
+    requires placed { IsPlaced checks reads.now.bytes table.at table.head place }
+    requires align { IsAlignment align }
+    ensures told { tested_by place reads.now.count result ≡ after reads.now.count (inline_field_failure checks reads.now.bytes table.at place size align) }
+{
+    let end = test_end(reads, checks, table, place, size);
+    if end.is_some() {
+        return end;
+    }
+    test_inline(reads, checks, place, size, align)
+}
+
+/// Tests a field that holds an offset word to a vector of elements of this size and alignment, with that vector, puts
+/// the number of its elements, and goes on to the first.
+#[inline(always)]
+pub fn test_vector_field(
+    reads: &mut Reads<'_>,
+    checks: Checks,
+    table: Table,
+    at: &mut u64,
+    size: u32,
+    align: u32,
+    many: &mut u32,
+) -> Option<Reason>
+    requires few { reads.old.count < reads.old.base + 2 ^ 60 }
+    requires placed { IsPlaced checks reads.old.bytes table.at table.head at.old }
+    requires align { IsAlignment align }
+    ensures tested { IsTested reads.old reads.new at.new (vector_field_failure checks reads.old.bytes table.at at.old size align) 2 result }
+    ensures first { result ≡ None → at.new ≡ target reads.old.bytes at.old + 4 }
+    ensures many { result ≡ None → many.new ≡ word reads.old.bytes (target reads.old.bytes at.old) 4 }
+    ensures within { result ≡ None → at.new + many.new * size < 2 ^ 31 }
+{
+    let end = test_end(reads, checks, table, *at, 4);
+    if end.is_some() {
+        return end;
+    }
+    let offset = test_offset(reads, checks, at);
+    if offset.is_some() {
+        return offset;
+    }
+    test_vector(reads, checks, at, size, align, many)
+}
+
+/// Tests the offset word at a position, with the string that it leads to.
+#[inline(always)]
+fn test_text(reads: &mut Reads<'_>, checks: Checks, at: &mut u64) -> Option<Reason>
+    requires few { reads.old.count < reads.old.base + 2 ^ 61 }
+    requires near { at.old < 2 ^ 35 }
+    ensures { IsTested reads.old reads.new at.new (lead_failure checks reads.old.bytes at.old to_string) 3 result }
+{
+    let offset = test_offset(reads, checks, at);
+    if offset.is_some() {
+        return offset;
+    }
+    test_string(reads, checks, at)
+}
+
+/// Tests the offset word at a position, with the string or struct that it leads to; where it leads to a table, it goes
+/// on there.
+#[inline(always)]
+pub fn test_lead(
+    reads: &mut Reads<'_>,
+    checks: Checks,
+    at: &mut u64,
+    referent: Referent,
+) -> Option<Reason>
+    requires few { reads.old.count < reads.old.base + 2 ^ 60 }
+    requires near { at.old < 2 ^ 35 }
+    requires align { IsSized referent }
+    ensures told { tested_by at.new reads.new.count result ≡ after reads.old.count (lead_failure checks reads.old.bytes at.old (lead_to referent)) }
+    ensures value { result ≡ None → (object : ℕ) → referent ≡ ATable object → at.new ≡ target reads.old.bytes at.old }
+    ensures near { result ≡ None → (object : ℕ) → referent ≡ ATable object → at.new < 2 ^ 33 }
+    ensures counted { result ≡ None → reads.new.count ≡ reads.old.count + lead_reads (lead_to referent) }
+    ensures bytes { reads.new.bytes ≡ reads.old.bytes }
+    ensures base { reads.new.base ≡ reads.old.base }
+{
+    match referent {
+        Referent::Nothing => None,
+        Referent::Text => test_text(reads, checks, at),
+        Referent::Table(_) => test_offset(reads, checks, at),
+        Referent::Struct(size, align) => {
+            let offset = test_offset(reads, checks, at);
+            if offset.is_some() {
+                return offset;
+            }
+            test_inline(reads, checks, *at, size, align)
+        }
+    }
+}
+
+/// Tests a field that holds an offset word to a string, with that string.
+#[inline(always)]
+fn test_text_field(
+    reads: &mut Reads<'_>,
+    checks: Checks,
+    table: Table,
+    at: &mut u64,
+) -> Option<Reason>
+    requires few { reads.old.count < reads.old.base + 2 ^ 60 }
+    requires placed { IsPlaced checks reads.old.bytes table.at table.head at.old }
+    ensures { IsTested reads.old reads.new at.new (table_failure checks reads.old.bytes table.at at.old 4 ▷ lead_failure checks reads.old.bytes at.old to_string) 3 result }
+{
+    let end = test_end(reads, checks, table, *at, 4);
+    if end.is_some() {
+        return end;
+    }
+    test_text(reads, checks, at)
+}
+
+/// To where fields were passed by their steps.
+#[derive(Clone, Copy)]
+pub enum Came {
+    /// Past a field.
+    Past,
+    /// To the end of the vtable, or to that of the steps.
+    ToEnd,
+    /// To a field that stands there and may lead to a table.
+    ToField,
+    /// To a test that fails for this reason.
+    ToFault(Reason),
+}
+
+/// Goes past a field, unless a test of it failed.
+#[inline(always)]
+fn past(failed: Option<Reason>) -> Came
+    ensures { MatchOption failed (result ≡ Past) (λ reason. result ≡ ToFault reason) }
+{
+    match failed {
+        None => Came::Past,
+        Some(reason) => Came::ToFault(reason),
+    }
+}
+
+/// Passes the field of a step that stands at a position, with the string or vector that it may lead to, unless it may
+/// lead to a table. Where a test fails, the position is moved to where. The bits of the step are asked one by one: a
+/// jump by its act couldn't be foretold.
+#[inline(always)]
+#[tactic(auto, using(crate::proofs::Alignments::small))]
+fn pass_field(
+    reads: &mut Reads<'_>,
+    checks: Checks,
+    table: Table,
+    step: &Step,
+    at: &mut u64,
+) -> Came
+    requires few { reads.old.count < reads.old.base + 2 ^ 60 }
+    requires step { IsStep step.now (step.now).act }
+    requires bit { HasBit step.now (step.now).act }
+    requires placed { IsPlaced checks reads.old.bytes table.at table.head at.old }
+    ensures { Filled checks reads.old reads.new table.at step.now at.old at.new result }
+{
+    let bit = step.bit;
+    if bit & Step::SMALL != 0 {
+        return past(test_inline_field(reads, checks, table, *at, bit, bit));
+    }
+    if bit & Step::TEXT != 0 {
+        return past(test_text_field(reads, checks, table, at));
+    }
+    if bit & Step::LEADS_ON != 0 {
+        return Came::ToField;
+    }
+    let size = step.size;
+    let align = step.align;
+    if bit & Step::VECTOR != 0 {
+        let mut many = 0;
+        return past(test_vector_field(reads, checks, table, at, size, align, &mut many));
+    }
+    past(test_inline_field(reads, checks, table, *at, size, align))
+}
+
+/// Why a scalar or struct is refused of which a test failed at this position: it isn't in the buffer, or is misaligned.
+/// At no distance from its table it is absent, and isn't refused.
+#[cold]
+#[inline(never)]
+fn small_failure(length: u64, place: u64, size: u32, distance: u64) -> Option<Reason>
+    requires near { place < 2 ^ 34 }
+    ensures absent { distance ≡ 0 → result ≡ None }
+    ensures outside { 0 < distance → length < place + size → result ≡ Some OutOfBuffer }
+    ensures askew { 0 < distance → place + size ≤ length → result ≡ Some Misaligned }
+{
+    if distance == 0 {
+        return None;
+    }
+    if place + u64::from(size) > length {
+        return Some(Reason::OutOfBuffer);
+    }
+    Some(Reason::Misaligned)
+}
+
+/// Whether a step's field is a scalar or struct of one, two, four or eight bytes that may be absent, and its end isn't
+/// checked against its table's inline size.
+#[inline(always)]
+fn is_free_small(checks: Checks, step: &Step) -> bool
+    ensures small { result ≡ true → bit_and (step.now).bit 15 ≡ 0 → ⊥ }
+    ensures cut { result ≡ true → checks.inline_size ≡ false }
+{
+    step.bit & Step::SMALL != 0 && !checks.inline_size
+}
+
+/// Passes a scalar or struct of one, two, four or eight bytes, aligned to as many, that stands at this distance from
+/// its table, or is absent. Where it is absent the tests are made all the same, of the table's own position, since
+/// processors can't predict a jump by whether a field is there; that is asked only where a test fails.
+#[inline(always)]
+#[tactic(auto, using(crate::proofs::Alignments::small), unfolding(crate::specs::Places::is_aligned, crate::specs::Order::inline_failure, crate::specs::Order::table_failure, crate::specs::Places::ends_in_table))]
+fn pass_small(
+    reads: &Reads<'_>,
+    checks: Checks,
+    table: Table,
+    place: u64,
+    size: u32,
+    distance: u64,
+) -> Came
+    requires placed { IsPlaced checks reads.now.bytes table.at table.head place }
+    requires small { IsSmall size }
+    requires cut { checks.inline_size ≡ false }
+    ensures absent { distance ≡ 0 → result ≡ Past }
+    ensures there { 0 < distance → IsCame place reads.now.count (inline_field_failure checks reads.now.bytes table.at place size size) result }
+{
+    let is_held = is_inside(reads, place, u64::from(size));
+    if !is_held || checks.alignment && !is_multiple(place, size) {
+        return past(small_failure(reads.len(), place, size, distance));
+    }
+    Came::Past
+}
+
+/// Passes a field of a table by its step, unless it stands there and may lead to a table, or its slot lies behind the
+/// vtable. The position is moved to where it stands, or to where a test of it fails.
+#[inline(always)]
+#[tactic(auto, using(std::proofs::lemmas::Bool::Decides::nat_tests), unfolding(crate::specs::Plain::plain_failure, crate::specs::Plain::plain_reads, crate::specs::Places::field_place))]
+pub fn pass_step(
+    reads: &mut Reads<'_>,
+    checks: Checks,
+    table: Table,
+    step: &Step,
+    at: &mut u64,
+) -> Came
+    requires few { reads.old.count < reads.old.base + 2 ^ 59 }
+    requires step { IsStep step.now (step.now).act }
+    requires bit { HasBit step.now (step.now).act }
+    requires even { (step.now).slot % 2 ≡ 0 }
+    requires near { table.at < 2 ^ 33 }
+    requires head { IsHead checks reads.old.bytes table.at table.head }
+    ensures { Stepped checks reads.old reads.new table.at step.now at.new result }
+{
+    *at = table.at;
+    // Both are even, so that this says that a slot of two bytes isn't inside.
+    if step.slot >= table.head.size {
+        return Came::ToEnd;
+    }
+    let distance = u64::from(reads.u16_at(table.head.vtable + u64::from(step.slot)));
+    if is_free_small(checks, step) {
+        *at += distance;
+        return pass_small(reads, checks, table, *at, step.bit, distance);
+    }
+    if distance == 0 {
+        if step.required {
+            return Came::ToFault(Reason::MissingRequired);
+        }
+        return Came::Past;
+    }
+    *at += distance;
+    pass_field(reads, checks, table, step, at)
+}

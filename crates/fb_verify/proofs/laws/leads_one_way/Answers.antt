@@ -1,5 +1,0 @@
-use Rattle.fb_verify.proofs.OneFault.{leads_one_way}
-use Rattle.fb_verify.proofs.laws.leads_one_way.Goals as goal
-
-pub returns : goal.returns
-returns c = leads_one_way

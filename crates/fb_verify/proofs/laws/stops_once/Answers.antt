@@ -1,5 +1,0 @@
-use Rattle.fb_verify.proofs.OneFault.{stops_once}
-use Rattle.fb_verify.proofs.laws.stops_once.Goals as goal
-
-pub returns : goal.returns
-returns c = stops_once
