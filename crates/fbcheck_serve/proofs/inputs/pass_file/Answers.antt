@@ -1,4 +1,4 @@
-use Rattle.std.proofs.Common.{refl, subst}
+use Rattle.std.proofs.Common.{refl, rules, subst}
 use Rattle.fb_run.specs.{Ends.writer_of, Job.job_of}
 use Rattle.fbcheck_serve.proofs.InputsLemmas.{tries_of}
 use Rattle.fbcheck_serve.specs.Inputs.{IsBehind, folder_of, seen_of}
@@ -20,3 +20,6 @@ returns-clause-tries g c =
 
 pub returns-clause-unread : goal.returns-clause-unread
 returns-clause-unread g c is = let (isnt, old) = c.with.ensures.unread is in (old, c.run_file-came.ensures.apart isnt)
+
+pub returns-then-calls-ge-MOST_CALLS-clause-crowded : goal.returns-then-calls-ge-MOST_CALLS-clause-crowded
+returns-then-calls-ge-MOST_CALLS-clause-crowded g c = search rules
