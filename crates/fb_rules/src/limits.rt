@@ -133,7 +133,7 @@ impl Limits {
     }
 }
 
-// Of the next, which only a walk asks, none is a method, so that what is public of limits stays as it is.
+// What only a walk asks. These are functions and no methods, so that whoever is handed limits sees none of them.
 
 /// How many tables may be opened in all.
 pub fn tables_of(limits: Limits) -> u32
