@@ -673,6 +673,11 @@ class LibraryForC(LibraryCase):
             ]:
                 told = verifier.verify(given, python.Options(**asked))
                 self.same(name, (told.status, told.reason), want)
+        with python.Verifier(schemas.M) as verifier:
+            for reads, length, most in [(64, 32, 6_144), (0, 32, 4_096), (64, 1_562_435, 99_999_936),
+                                        (64, 1_562_437, 100_000_000), (2**32 - 1, 2_147_483_647, 100_000_000)]:
+                told = verifier.most_reads(length, python.Options(reads_per_byte=reads))
+                self.same(f"{length} bytes at {reads} reads each: the budget and 7", told, most + 7)
 
     def test_examples(self):
         """The programs of examples/c, and the module for Python, on the messages of the example."""
