@@ -1,4 +1,4 @@
-"""The bends of bench/bent fit the code as it stands, and the tests that catch them are there."""
+"""The bends of bench/bent fit the code as it stands, and the tests and tables that catch them are there."""
 
 import re
 
@@ -21,4 +21,4 @@ class Bent(Case):
         files = (TOP / "crates" / BENT.TESTS / "src").rglob("*.rt")
         tests = set(re.findall(r"#\[test\]\s+fn (\w+)", "\n".join(file.read_text() for file in files)))
         for bend in BENT.BENDS:
-            self.same(bend.text, [name for name in bend.caught_by if name not in tests], [])
+            self.same(bend.text, [name for name in bend.caught_by if name not in tests | BENT.ASKED.keys()], [])

@@ -13,7 +13,7 @@ import struct
 import subprocess
 
 from tests.support import buffers, schemas
-from tests.support.buffers import ORC, POST
+from tests.support.buffers import MEMBER, ORC, POST
 from tests.support.builder import buffer, messages_of, prefixed
 from tests.support.every_kind import FILE, LITTLE, OPTIONS, WHOLE, variants, words_of
 from tests.support.library import OUT, SANITIZED, SHARED, STATIC, LibraryCase, module, ran
@@ -563,6 +563,20 @@ class LibraryForC(LibraryCase):
                           calls.fbcheck_read(made, None, options, None, 9, path, value, paths, None), 2)
         calls.fbcheck_schema_free(made)
 
+    def test_a_scratch_serves_another_schema_after_a_fault(self):
+        """One of one level: it has no more afterwards, and no fewer."""
+        python = module()
+        calls, status, verdict = python._library(), python.Status, python._Verdict()
+        scratch = calls.fbcheck_scratch_new(1)
+        with python.Verifier(schemas.X, "R") as unions, python.Verifier(schemas.M) as monsters:
+            for name, verifier, data, want in [("a union's table is too deep", unions, MEMBER, (status.BAD, 6)),
+                                               ("a table is not", monsters, ORC, (status.OK, 0))]:
+                for depth, told in [(1, want), (2, (status.OUT_OF_RANGE, 0))]:
+                    asked = verifier._asked(python.Options(max_depth=depth, max_tables=7))
+                    got = calls.fbcheck_verify(verifier._schema, scratch, asked, data, len(data), verdict)
+                    self.same(f"{name}, within {depth}", (got, verdict.reason), told)
+        calls.fbcheck_scratch_free(scratch)
+
     def test_places(self):
         """Where a fault is, in the words of the program's --names, and cut to the room."""
         python = module()
@@ -659,6 +673,11 @@ class LibraryForC(LibraryCase):
             ]:
                 told = verifier.verify(given, python.Options(**asked))
                 self.same(name, (told.status, told.reason), want)
+        with python.Verifier(schemas.M) as verifier:
+            for reads, length, most in [(64, 32, 6_144), (0, 32, 4_096), (64, 1_562_435, 99_999_936),
+                                        (64, 1_562_437, 100_000_000), (2**32 - 1, 2_147_483_647, 100_000_000)]:
+                told = verifier.most_reads(length, python.Options(reads_per_byte=reads))
+                self.same(f"{length} bytes at {reads} reads each: the budget and 7", told, most + 7)
 
     def test_examples(self):
         """The programs of examples/c, and the module for Python, on the messages of the example."""

@@ -2,9 +2,10 @@
 
     A table: a@4 int, b@4 [obj]#0 gone far; S struct 8/4: ; U union: m=1 string, n=2 none
 
-A field has its slot behind the `@`, a member its value behind the `=`; a type is a base type by its name, `[int]` a
-vector and `[int:3]` an array, with an index behind a `#`; a struct has its bytes and its alignment. Bytes are words:
-hexadecimal digits, the name of a sample, `16=ffff` for other bytes from place 16 on, `..24` for as many bytes as this.
+A field has its slot behind the `@`, a member its value behind the `=`; a type is a base type by its name or its
+number, `[int]` a vector and `[int:3]` an array, with an index behind a `#`; a struct has its bytes and its alignment.
+Bytes are words: hexadecimal digits, the name of a sample, `16=ffff` for other bytes from place 16 on, `..24` for as
+many bytes as this.
 """
 
 from tests.support import schemas
@@ -18,7 +19,7 @@ def typed(text):
     """A type by its text."""
     text, _, index = text.partition("#")
     inner, _, length = text.strip("[]").partition(":")
-    base, index = (BASE_TYPES.index(inner),), int(index or -1)
+    base, index = (BASE_TYPES.index(inner) if inner in BASE_TYPES else int(inner),), int(index or -1)
     if text.startswith("["):
         base = schemas.array(base, int(length)) if length else schemas.vector(base)
     base, element, _, length = schemas.whole(base)

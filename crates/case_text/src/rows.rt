@@ -11,7 +11,7 @@
 //! say.
 
 use fb_schema::builders::{array, field, member, one, plain_enum, structure, table, union, vector};
-use fb_schema::{EnumRow, FieldRow, MemberRow, ObjectRow, Schema, SchemaFault, TypeRow, are_few};
+use fb_schema::{EnumRow, FieldRow, MemberRow, ObjectRow, Schema, TypeRow, are_few};
 use std::alloc::Global;
 use std::test::Fail;
 
@@ -163,18 +163,14 @@ impl<'t> Rows<'t> {
         let row = structure(alloc, name, bytesize, minalign, &fields)?;
         Ok(self.objects.push(row)?)
     }
-
-    /// What `build` answers of these rows. An error comes where there are more than `build` takes.
-    pub fn built(self, alloc: Global) -> Result<Result<Schema<'t>, SchemaFault>, Fail> {
-        let Rows { objects, enums } = self;
-        if !are_few(&objects, &enums) {
-            return Err(Fail::from("too many rows"));
-        }
-        Ok(Schema::build(alloc, objects, enums))
-    }
 }
 
-/// The schema of the rows that a text has. An error comes where the text has none, or `build` refuses them.
+/// The schema of the rows that a text has. An error comes where the text has none, or more than `build` takes, or
+/// `build` refuses them.
 pub fn schema_of<'t>(alloc: Global, text: &'t str) -> Result<Schema<'t>, Fail> {
-    Ok(Rows::read(alloc, text)?.built(alloc)??)
+    let Rows { objects, enums } = Rows::read(alloc, text)?;
+    if !are_few(&objects, &enums) {
+        return Err(Fail::from("too many rows"));
+    }
+    Ok(Schema::build(alloc, objects, enums)?)
 }

@@ -1,8 +1,6 @@
-//! Buffers that the tests of several crates share.
+//! Buffers that several tests share.
 
-use crate::buffer::Sample;
-
-/// The samples by their names.
+/// The samples by their names, with the text of their bytes.
 ///
 /// - `ORC`: a monster with 300 hit points and the name `Orc`
 /// - `EMPTY`: a table whose vtable has no slot
@@ -12,11 +10,9 @@ use crate::buffer::Sample;
 /// - `BOXED`: a union of a struct, which stands at 24: its type byte 2 at 20, its offset word at 16
 /// - `HI`: a vector of two unions, of the text `hi` and of nothing: the types' vector at 24, the values' at 32
 /// - `THREE`: a vector of three unions at 32 beside two types at 24
-/// - `NONE`: a vector of no unions at 20, and no types
-/// - `TWICE`: two vectors that are one, of two texts that are one
 /// - `NODES`: a node that leads twice to a second, which leads twice to a third: seven visits
 /// - `FILE`: the schema file of `table M { hp: short = 100; name: string; } root_type M;`, laid out by hand
-pub const SHARED: [Sample; 12] = [
+pub const SAMPLES: [(&str, &str); 10] = [
     (
         "ORC",
         "0c000000 08000c00 08000400 08000000 08000000 2c010000 03000000 4f726300",
@@ -46,14 +42,6 @@ pub const SHARED: [Sample; 12] = [
     (
         "THREE",
         "0c000000 08000c00 04000800 08000000 08000000 0c000000 02000000 00000000 03000000 ..48",
-    ),
-    (
-        "NONE",
-        "0c000000 08000800 00000400 08000000 04000000 00000000",
-    ),
-    (
-        "TWICE",
-        "0c000000 08000c00 04000800 08000000 08000000 04000000 02000000 08000000 04000000 02000000 68690000",
     ),
     (
         "NODES",

@@ -1,7 +1,5 @@
 mod cases;
 mod fixtures;
-mod get;
-mod grammar;
 mod locations;
-mod paths;
+mod path_faults;
 mod worked;

@@ -1,3 +1,2 @@
 mod fixed_table;
-mod fixtures;
-mod loading;
+mod texts;

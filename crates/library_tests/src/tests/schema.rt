@@ -1,4 +1,1 @@
 mod builders;
-mod cases;
-mod demands;
-mod member_demands;

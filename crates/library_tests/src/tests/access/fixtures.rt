@@ -8,21 +8,11 @@ use std::alloc::Global;
 use std::process::Abort;
 use std::test::Fail;
 
-/// By the rows of which schema a bare buffer is read, and how it is verified before.
+/// By the rows of which schema a bare buffer is read, and from which root.
 #[derive(Clone, Copy)]
 pub struct Reading<'n> {
     pub rows: &'n str,
     pub root: u32,
-    pub checks: Checks,
-}
-
-/// A bare buffer with this root by the schema of these rows, of which every position is aligned.
-pub fn bare(rows: &str, root: u32) -> Reading<'_> {
-    Reading {
-        rows,
-        root,
-        checks: Checks::published(),
-    }
 }
 
 /// What the steps lead to from the root; none where one of them isn't allowed.
@@ -47,7 +37,7 @@ pub fn answer_at<'b>(
     steps: &[Step],
 ) -> Result<Option<Answer<'b>>, Fail> {
     let schema = schema_of(alloc, reading.rows)?;
-    let Reading { root, checks, .. } = reading;
-    let verified = verified(rt, alloc, bytes, &schema, root, Start::Bare, checks);
+    let checks = Checks::published();
+    let verified = verified(rt, alloc, bytes, &schema, reading.root, Start::Bare, checks);
     Ok(answer_in(&verified, steps))
 }

@@ -1,12 +1,12 @@
 //! Each public call once, where it succeeds and where it refuses.
 
-use super::question::{answer, limits, verified};
+use super::question::{limits, verified};
 use crate::tests::compare::same;
 use crate::tests::rows::{MONSTERS, UNIONS};
 use case_text::buffer::bytes_of;
 use case_text::rows::schema_of;
 use fb_schema::Schema;
-use fb_verify::{Checks, Limits, Reason, Report, Scratch, ScratchFault, Start, most_reads};
+use fb_verify::{Checks, Limits, Report, Scratch, ScratchFault, Start, most_reads};
 use std::alloc::Global;
 use std::process::Abort;
 use std::test::Fail;
@@ -84,47 +84,7 @@ fn is_told(rt: &impl Abort, alloc: Global, schema: &Schema<'_>, bytes: &[u8]) {
 #[test]
 fn what_was_verified_is_told(rt: HostRuntime) -> Result<(), Fail> {
     let schema = schema_of(rt.alloc(), UNIONS)?;
-    let bytes = bytes_of(rt.alloc(), &[], "28000000 PICKED")?;
+    let bytes = bytes_of(rt.alloc(), "28000000 PICKED")?;
     is_told(&rt, rt.alloc(), &schema, &bytes);
     Ok(())
-}
-
-/// Why a sample is refused by a schema within one level, if it is.
-fn refusal(
-    rt: &impl Abort,
-    alloc: Global,
-    schema: &Schema<'_>,
-    root: u32,
-    sample: &str,
-    scratch: &mut Scratch,
-) -> Result<Option<Reason>, Fail> {
-    let bytes = bytes_of(alloc, &[], sample)?;
-    let answer = answer(rt, schema, root, limits(rt, 1, 7), &bytes, scratch);
-    Ok(answer.err().map(|fault| fault.reason))
-}
-
-/// Asserts why a sample is refused by the schema of these rows.
-fn is_refused(
-    rt: &impl Abort,
-    alloc: Global,
-    rows: &str,
-    root: u32,
-    sample: &str,
-    want: Option<Reason>,
-    scratch: &mut Scratch,
-) -> Result<(), Fail> {
-    let schema = schema_of(alloc, rows)?;
-    let refusal = refusal(rt, alloc, &schema, root, sample, scratch)?;
-    same(rt, refusal, want);
-    same(rt, scratch.depth(), 1);
-    Ok(())
-}
-
-#[test]
-fn a_scratch_serves_another_schema_after_a_fault(rt: HostRuntime) -> Result<(), Fail> {
-    let alloc = rt.alloc();
-    let mut scratch = Scratch::new(alloc, 1)?;
-    let too_deep = Some(Reason::TooDeep);
-    is_refused(&rt, alloc, UNIONS, R, "PICKED", too_deep, &mut scratch)?;
-    is_refused(&rt, alloc, MONSTERS, 0, "ORC", None, &mut scratch)
 }

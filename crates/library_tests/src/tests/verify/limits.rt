@@ -1,4 +1,5 @@
-//! Which limits can be made, and what they say of themselves.
+//! Which limits can be made, and what they say of themselves. Those of short buffers are asked by what they cost
+//! (`tests/test_c.py`).
 
 use crate::tests::compare::same;
 use fb_verify::Limits;
@@ -30,22 +31,6 @@ fn published_limits(rt: HostRuntime) {
 fn reads_are_bounded_where_a_budget_says_so(rt: HostRuntime) {
     for most in [0, 1, 1_000_000_000, u64::MAX] {
         let limits = Limits::published().with_reads(most);
-        same(&rt, limits.reads(), Some(most));
-        same(&rt, limits.depth(), 64);
-    }
-}
-
-#[test]
-fn a_short_buffer_may_take_few_reads(rt: HostRuntime) {
-    let limits = Limits::published().with_reads(100_000_000);
-    for (reads_per_byte, length, most) in [
-        (64, 32, 6_144),
-        (0, 32, 4_096),
-        (64, 1_562_435, 99_999_936),
-        (64, 1_562_437, 100_000_000),
-        (u32::MAX, 2_147_483_647, 100_000_000),
-    ] {
-        let limits = limits.of_length(reads_per_byte, length);
         same(&rt, limits.reads(), Some(most));
         same(&rt, limits.depth(), 64);
     }

@@ -114,7 +114,7 @@ fn digest_of(
     question: &Question,
     sample: &str,
 ) -> Result<u64, Fail> {
-    let mut bytes = bytes_of(alloc, &[], sample)?;
+    let mut bytes = bytes_of(alloc, sample)?;
     let mut engine = Engine::new(alloc, schema)?;
     Ok(sweep(rt, &mut engine, question, &mut bytes))
 }
