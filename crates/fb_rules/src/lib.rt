@@ -1,4 +1,4 @@
-//! What a verdict means, with its laws and examples, and the rules of the format: one test for each, over counted reads.
+//! What a verdict means, with its laws and examples, and the rules of the format: a test for each, over counted reads.
 #![tactic(auto)]
 
 pub mod begin;

@@ -1,5 +1,5 @@
-// Fields that stand there and lead on by the words of a vector or by that of a union: these are put into a row, or passed
-// at once.
+// Fields that stand there and lead on by the words of a vector or by that of a union: these are put into a row, or
+// passed at once.
 
 ghost use Rattle.std.specs.Prelude.{◌≡◌, ◌+◌, ◌^◌, ◌<◌, ◌≤◌, IfSome, IsTrue, None, nat_lt, true, false};
 ghost use Rattle.fb_bytes.specs.Word.{word};
@@ -201,8 +201,8 @@ impl<'s, 'n> Walk<'s, 'n> {
         }
     }
 
-    /// Whether the limits allow a union to be tested by itself and its word to be passed, and one more table to be opened
-    /// behind it, where so many are open: by thirteen reads at most.
+    /// Whether the limits allow a union to be tested by itself and its word to be passed, and one more table to be
+    /// opened behind it, where so many are open: by thirteen reads at most.
     #[inline(always)]
     fn may_pass_union(&self, reads: &Reads<'_>, links: u32, room: u64) -> bool
         requires few { IsShort reads.now.count }

@@ -427,8 +427,8 @@ impl<'s, 'n> Walk<'s, 'n> {
         row.left > 0 && self.tables < tables_of(self.limits) && reads.count() + 8 <= room
     }
 
-    /// Passes the first offset word of a row, with what it leads to, and answers `Up`; unless that is a table of which a
-    /// field may lead on, or for whose fields there is no room up to so many reads: such a table is to be opened. The
+    /// Passes the first offset word of a row, with what it leads to, and answers `Up`; unless that is a table of which
+    /// a field may lead on, or for whose fields there is no room up to so many reads: such a table is to be opened. The
     /// top is left with the row past that word, if it is to be opened or the walk stops. So many frames wait below it.
     #[inline(always)]
     pub fn pass_member(
