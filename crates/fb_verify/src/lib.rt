@@ -19,6 +19,7 @@ pub use fb_rules::limits::{LimitOutOfRange, Limits};
 pub use fb_rules::link::Link;
 pub use fb_rules::most::most_reads;
 pub use fb_rules::start::{Ident, Start};
+pub use fb_rules::{examples, laws, link_laws, tested};
 pub use links::Located;
 pub use scratch::{Scratch, ScratchFault};
 pub use shallow::walk_shallow;
