@@ -1,5 +1,5 @@
 -- The steps by which the index of a schema is made.
-use Rattle.std.proofs.Common.{◌≡◌, ℕ, zero, suc, ◌+◌, ◌<◌, ◌≤◌, ◌⊎◌, inl, inr, Bool, false, List, [], ◌∷◌, ◌++◌, length, get_or, slice_get, take, map, max, Some, None, refl, sym, ◌∙◌, ap, subst, arith, if◌then◌else◌}
+use Rattle.std.proofs.Common.{◌≡◌, ℕ, zero, suc, ◌+◌, ◌<◌, ◌≤◌, ◌⊎◌, inl, inr, Bool, false, List, [], ◌∷◌, ◌++◌, length, get_or, slice_get, take, map, max, Some, None, Result, Ok, Err, OnOk, IfOk, IsOkAnd, refl, sym, ◌∙◌, ap, subst, arith, if◌then◌else◌}
 use Rattle.std.proofs.lemmas.List.{map-append, get_or-map, length_push, map_more}
 use Rattle.std.proofs.lemmas.{Option.slice_get-get_or, Option.slice_get_within}
 use Rattle.std.proofs.lemmas.Grind.{take_at_read}
@@ -8,6 +8,16 @@ use Rattle.fb_schema.specs.Live.{Live, AreSpaced, live_rows, widest_of}
 use Rattle.fb_schema.specs.{Index.AreMatched, Steps.act_of, Steps.is_plain_act, Steps.are_plain}
 use Rattle.fb_schema.specs.Rows.{Object, field_of}
 use Rattle.fb_schema.proofs.{Numbers.get_or_default, WalkLemmas.mapped_at}
+
+-- what holds where a call was granted
+pub on_ok : {X E : Type 0} (r : Result X E) (P Q : Type 0) → (P → Q) → OnOk r P → OnOk r Q
+on_ok (Ok x) P Q f h = f h
+on_ok (Err e) P Q f h = h
+
+-- what was made and added
+pub with_made : {X E : Type 0} (r : Result X E) (P Q : X → Type 0) (R : Type 0) → IsOkAnd r P → IfOk r Q → ((x : X) → P x → Q x → R) → R
+with_made (Ok x) P Q R p q f = f x p q
+with_made (Err e) P Q R p q f = absurd p
 
 -- Matched lists grow together.
 pub slice_get_end : {X : Type 0} (xs : List X) (x y : X) (n : ℕ) → slice_get (xs ++ x ∷ []) n ≡ Some y → (slice_get xs n ≡ Some y) ⊎ ((n ≡ length xs) × (x ≡ y))
@@ -36,20 +46,24 @@ pub matched_step : {X Y : Type 0} (R : X → Y → Type 0) (xs : List X) (i : �
 matched_step R xs i x old new y lt is h e r =
     matched_pushed R (take i xs) (take (i + 1) xs) old new x y h ((take_at_read xs i x lt).1 ∙ ap (λ z. take i xs ++ z ∷ []) (sym is)) e r
 
-widest_end : (xs : List Object) (o : Object) → widest_of (xs ++ o ∷ []) ≡ max (widest_of xs) (length (live_rows o))
+pub widest_end : (xs : List Object) (o : Object) → widest_of (xs ++ o ∷ []) ≡ max (widest_of xs) (length (live_rows o))
 widest_end [] o = omega arith
 widest_end (x ∷ xs) o = let e = widest_end xs o in omega arith
 
-pub widest_step : (xs : List Object) (i : ℕ) (o : Object) (old new count : ℕ) → i < length xs → o ≡ get_or xs i o → old ≡ widest_of (take i xs) → new ≡ max old count → count ≡ length (live_rows o) → new ≡ widest_of (take (i + 1) xs)
-widest_step xs i o old new count lt is h e c =
-    e ∙ ap (λ n. max n count) h ∙ ap (max (widest_of (take i xs))) (c ∙ ap (λ z. length (live_rows z)) is) ∙ sym (widest_end (take i xs) (get_or xs i o)) ∙ ap widest_of (sym (take_at_read xs i o lt).1)
+-- one owner more, for what is one value of each
+pub value_more : {X Y : Type 0} (g : X → Y) (xs : List X) (x : X) (old new : List Y) (y : Y) → old ≡ map g xs → new ≡ old ++ y ∷ [] → y ≡ g x → new ≡ map g (xs ++ x ∷ [])
+value_more g xs x old new y h e r = e ∙ ap (λ zs. zs ++ y ∷ []) h ∙ ap (λ z. map g xs ++ z ∷ []) r ∙ sym (map-append g xs (x ∷ []))
+
+pub lists_more : {X Y Z : Type 0} (f : List Y → Z) (g : X → Z) (xs : List X) (x : X) (old new : List (List Y)) (y : List Y) → map f old ≡ map g xs → new ≡ old ++ y ∷ [] → f y ≡ g x → map f new ≡ map g (xs ++ x ∷ [])
+lists_more f g xs x old new y h e r = value_more g xs x (map f old) (map f new) (f y) h (ap (map f) e ∙ map-append f old (y ∷ [])) r
+
+-- the owners up to the next
+pub take_more : {X : Type 0} (xs : List X) (i : ℕ) (x : X) → i < length xs → x ≡ get_or xs i x → take i xs ++ x ∷ [] ≡ take (i + 1) xs
+take_more xs i x lt is = ap (λ z. take i xs ++ z ∷ []) is ∙ sym (take_at_read xs i x lt).1
 
 -- a step of the loop over objects, for what is one number of each
 pub value_step : {X Y : Type 0} (g : X → Y) (xs : List X) (i : ℕ) (x : X) (old new : List Y) (y : Y) → i < length xs → x ≡ get_or xs i x → old ≡ map g (take i xs) → new ≡ old ++ y ∷ [] → y ≡ g x → new ≡ map g (take (i + 1) xs)
 value_step g xs i x old new y lt is h e r = e ∙ ap (λ zs. zs ++ y ∷ []) h ∙ ap (λ z. map g (take i xs) ++ z ∷ []) (r ∙ ap g is) ∙ sym (map_more g xs i x lt)
-
-pub lists_step : {X Y Z : Type 0} (f : List Y → Z) (g : X → Z) (xs : List X) (i : ℕ) (x : X) (old new : List (List Y)) (y : List Y) → i < length xs → x ≡ get_or xs i x → map f old ≡ map g (take i xs) → new ≡ old ++ y ∷ [] → f y ≡ g x → map f new ≡ map g (take (i + 1) xs)
-lists_step f g xs i x old new y lt is h e r = value_step g xs i x (map f old) (map f new) (f y) lt is h (ap (map f) e ∙ map-append f old (y ∷ [])) r
 
 pub kept_read : {X Y : Type 0} (f : X → Y) (xs : List X) (i : ℕ) (d : X) → i < length xs → slice_get (map f xs) i ≡ Some (f (get_or xs i d))
 kept_read f xs i d lt = mapped_at f xs i (get_or xs i d) (slice_get-get_or xs i d lt)

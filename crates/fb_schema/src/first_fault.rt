@@ -1,18 +1,19 @@
 // The walk over the rows in the order of their demands.
 
 ghost use Rattle.std.specs.Prelude.{◌≡◌, ◌<◌, ◌^◌, pos, not, ◌&&◌, map, length, IfOk, OnOk, IfErr, All, vec_len};
-ghost use Rattle.std.specs.Ordering.{int_eq};
-ghost use Rattle.fb_schema.specs.{Sorting.IsOrderOf, Sorting.name_cmp, Sorting.object_name, Rows.field_of, Rows.member_of_row};
+ghost use Rattle.std.specs.Ordering.{int_eq, nat_cmp};
+ghost use Rattle.fb_schema.specs.Sorting.{IsFirstAgain, AreTypeSlots, name_cmp, field_name, field_slot};
+ghost use Rattle.fb_schema.specs.{Rows.field_of, Rows.member_of_row};
+ghost use Rattle.fb_schema.specs.declared.kinds.TypeField.TheVariants.{ForUnion, ForUnions};
 ghost use Rattle.fb_schema.specs.FlatRows.{borrowed_rows};
 ghost use Rattle.fb_schema.specs.Demands.{is_at, IsFirstOf, struct_asked, table_asked, members_asked, demands_of_field};
 
 use crate::demands::{Beside, member_fault, object_fault, struct_field_fault, table_field_fault};
 use crate::fault::Code;
 use crate::flat::{ObjectPart, RowLists};
-use crate::keys::{in_order, is_none};
+use crate::keys::{again_of, is_none};
 use crate::kinds::TypeField;
 use crate::rows::{FieldRow, MemberRow};
-use crate::sorting::first_again;
 use crate::type_fields::{stands_below, type_slots};
 use std::alloc::{AllocError, Allocator};
 
@@ -39,8 +40,7 @@ pub fn struct_fields_fault<A: Allocator + Copy>(
     requires { length fields.now < 2 ^ 31 }
     ensures { IfOk result (λ first. IsFirstOf (struct_asked (borrowed_rows rows.now) object.now.bytesize (map field_of fields.now)) first) }
 {
-    let order = in_order(alloc, fields, |field| field.name)?;
-    let again = first_again(&order);
+    let again = again_of(alloc, fields, |field| field.name)?;
     for (p, field) in fields.iter().enumerate() {
         let named = is_at(again, p);
         if let Some(code) = struct_field_fault(rows, object, field, named) {
@@ -50,8 +50,38 @@ pub fn struct_fields_fault<A: Allocator + Copy>(
     Ok(None)
 }
 
-/// The first demand that a field of a table breaks, with the field's place.
+/// The first demand that a field of a table breaks, by what repeats among its fields and the slots of its type fields.
 #[tactic(auto, using(crate::proofs::WalkLemmas::past_table))]
+fn first_table_fault(
+    rows: &RowLists,
+    fields: &[FieldRow],
+    name_again: Option<u32>,
+    slot_again: Option<u32>,
+    bytes: &[u16],
+    vectors: &[u16],
+) -> Option<(Code, u32)>
+    requires few { length fields.now < 2 ^ 31 }
+    requires names { IsFirstAgain name_cmp (map field_name fields.now) name_again }
+    requires slots { IsFirstAgain nat_cmp (map field_slot fields.now) slot_again }
+    requires bytes { AreTypeSlots ForUnion (map field_of fields.now) bytes.now }
+    requires vectors { AreTypeSlots ForUnions (map field_of fields.now) vectors.now }
+    ensures { IsFirstOf (table_asked (borrowed_rows rows.now) (map field_of fields.now)) result }
+{
+    for (p, field) in fields.iter().enumerate() {
+        let beside = Beside {
+            named: is_at(name_again, p),
+            taken: is_at(slot_again, p),
+            byte: stands_below(bytes, field.slot),
+            vector: stands_below(vectors, field.slot),
+        };
+        if let Some(code) = table_field_fault(rows, field, &beside) {
+            return Some((code, p as u32));
+        }
+    }
+    None
+}
+
+/// The first demand that a field of a table breaks, with the field's place.
 pub fn table_fields_fault<A: Allocator + Copy>(
     alloc: A,
     rows: &RowLists,
@@ -60,28 +90,11 @@ pub fn table_fields_fault<A: Allocator + Copy>(
     requires { length fields.now < 2 ^ 31 }
     ensures { IfOk result (λ first. IsFirstOf (table_asked (borrowed_rows rows.now) (map field_of fields.now)) first) }
 {
-    let names = in_order(alloc, fields, |field| field.name)?;
-    let slots = in_order(alloc, fields, |field| field.slot)?;
+    let name_again = again_of(alloc, fields, |field| field.name)?;
+    let slot_again = again_of(alloc, fields, |field| field.slot)?;
     let bytes = type_slots(alloc, TypeField::ForUnion, fields)?;
     let vectors = type_slots(alloc, TypeField::ForUnions, fields)?;
-    let name_again = first_again(&names);
-    let slot_again = first_again(&slots);
-    for (p, field) in fields.iter().enumerate() {
-        let named = is_at(name_again, p);
-        let taken = is_at(slot_again, p);
-        let byte = stands_below(&bytes, field.slot);
-        let vector = stands_below(&vectors, field.slot);
-        let beside = Beside {
-            named,
-            taken,
-            byte,
-            vector,
-        };
-        if let Some(code) = table_field_fault(rows, field, &beside) {
-            return Ok(Some((code, p as u32)));
-        }
-    }
-    Ok(None)
+    Ok(first_table_fault(rows, fields, name_again, slot_again, &bytes, &vectors))
 }
 
 /// Whether an earlier member has the name of this one, which isn't the union without a value.
@@ -100,10 +113,8 @@ pub fn members_fault<A: Allocator + Copy>(
     requires { length members.now < 2 ^ 31 }
     ensures { IfOk result (λ first. IsFirstOf (members_asked (borrowed_rows rows.now) (map member_of_row members.now)) first) }
 {
-    let values = in_order(alloc, members, |member| member.value)?;
-    let names = in_order(alloc, members, |member| (is_none(member), member.name))?;
-    let value_again = first_again(&values);
-    let name_again = first_again(&names);
+    let value_again = again_of(alloc, members, |member| member.value)?;
+    let name_again = again_of(alloc, members, |member| (is_none(member), member.name))?;
     for (p, member) in members.iter().enumerate() {
         let taken = is_at(value_again, p);
         let named = is_named(member, name_again, p);

@@ -1,10 +1,10 @@
 // The rows of a schema, flat: all fields of all objects in one vector, and all members of all enums in another.
 
-ghost use Rattle.std.specs.Prelude.{◌≡◌, ◌<◌, ◌^◌, map, length, IfOk, All, vec_len, slice_get, Some};
+ghost use Rattle.std.specs.Prelude.{◌≡◌, ◌<◌, ◌^◌, [], ◌++◌, map, length, IfOk, OnOk, All, vec_len, slice_get, Some};
 ghost use Rattle.fb_schema.specs.declared.flat.EnumPart.{EnumPart};
 ghost use Rattle.fb_schema.specs.{Parts.parts_of, Flat.part, Flat.IsPart};
 ghost use Rattle.fb_schema.specs.Rows.{AreFew, field_of, object_of, enum_of, rows_of};
-ghost use Rattle.fb_schema.specs.FlatRows.{object_with, object_in, enum_in, flat_rows, AreParts};
+ghost use Rattle.fb_schema.specs.FlatRows.{object_with, object_in, enum_with, enum_in, flat_rows, AreParts};
 
 use crate::rows::{EnumRow, FieldRow, MemberRow, ObjectRow};
 use std::alloc::{AllocError, Allocator};
@@ -89,6 +89,18 @@ fn object_part<'n>(object: &ObjectRow<'n>, fields: (usize, usize)) -> ObjectPart
     }
 }
 
+/// An enum, with this range for its members.
+fn enum_part<'n>(row: &EnumRow<'n>, members: (usize, usize)) -> EnumPart<'n>
+    ensures range { result.members ≡ members }
+    ensures same { enum_with result row.now.members.items ≡ enum_of row.now }
+{
+    EnumPart {
+        name: row.name,
+        members,
+        is_union: row.is_union,
+    }
+}
+
 /// How many fields these objects have: the room that is asked for them.
 fn count_fields(objects: &[ObjectRow]) -> usize {
     let mut count: usize = 0;
@@ -107,46 +119,57 @@ fn count_members(enums: &[EnumRow]) -> usize {
     count
 }
 
-/// These objects, and their fields one after another.
-fn flat_objects<'n, A: Allocator + Copy>(
-    alloc: A,
-    objects: &[ObjectRow<'n>],
-) -> Result<(Vec<ObjectPart<'n>, A>, Vec<FieldRow<'n>, A>), AllocError>
-    requires { All (λ o. vec_len o.fields < 2 ^ 31) objects.now }
-    ensures value { IfOk result (λ flat. map (object_in flat.1.items) flat.0.items ≡ map object_of objects.now) }
-    ensures parts { IfOk result (λ flat. All (λ o. IsPart (length flat.1.items) o.fields) flat.0.items) }
+/// Adds rows behind those that are there, and tells their range.
+fn add_rows<T: Copy, A: Allocator>(
+    all: &mut Vec<T, A>,
+    rows: &[T],
+) -> Result<(usize, usize), AllocError>
+    ensures rows { OnOk result (all.new.items ≡ all.old.items ++ rows.now) }
+    ensures range { IfOk result (λ range. range ≡ (length all.old.items, length all.new.items)) }
 {
-    let mut parts = Vec::with_capacity(alloc, objects.len())?;
-    let mut fields = Vec::with_capacity(alloc, count_fields(objects))?;
-    for object in objects {
-        let start = fields.len();
-        fields.extend_from_slice(&object.fields)?;
-        parts.push(object_part(object, (start, fields.len())))?;
-    }
-    Ok((parts, fields))
+    let start = all.len();
+    all.extend_from_slice(rows)?;
+    Ok((start, all.len()))
 }
 
-/// These enums, and their members one after another.
-fn flat_enums<'n, A: Allocator + Copy>(
-    alloc: A,
-    enums: &[EnumRow<'n>],
-) -> Result<(Vec<EnumPart<'n>, A>, Vec<MemberRow<'n>, A>), AllocError>
-    requires { All (λ e. vec_len e.members < 2 ^ 31) enums.now }
-    ensures value { IfOk result (λ flat. map (enum_in flat.1.items) flat.0.items ≡ map enum_of enums.now) }
-    ensures parts { IfOk result (λ flat. All (λ e. IsPart (length flat.1.items) e.members) flat.0.items) }
+/// Puts these objects, and their fields one after another, where none are yet.
+fn put_objects<'n, A: Allocator>(
+    objects: &[ObjectRow<'n>],
+    parts: &mut Vec<ObjectPart<'n>, A>,
+    fields: &mut Vec<FieldRow<'n>, A>,
+) -> Result<(), AllocError>
+    requires few { All (λ o. vec_len o.fields < 2 ^ 31) objects.now }
+    requires none { parts.old.items ≡ [] }
+    ensures value { OnOk result (map (object_in fields.new.items) parts.new.items ≡ map object_of objects.now) }
+    ensures parts { OnOk result (All (λ o. IsPart (length fields.new.items) o.fields) parts.new.items) }
 {
-    let mut parts = Vec::with_capacity(alloc, enums.len())?;
-    let mut members = Vec::with_capacity(alloc, count_members(enums))?;
-    for row in enums {
-        let start = members.len();
-        members.extend_from_slice(&row.members)?;
-        parts.push(EnumPart {
-            name: row.name,
-            members: (start, members.len()),
-            is_union: row.is_union,
-        })?;
+    parts.reserve_exact(objects.len())?;
+    fields.reserve_exact(count_fields(objects))?;
+    for object in objects {
+        let range = add_rows(fields, &object.fields)?;
+        parts.push(object_part(object, range))?;
     }
-    Ok((parts, members))
+    Ok(())
+}
+
+/// Puts these enums, and their members one after another, where none are yet.
+fn put_enums<'n, A: Allocator>(
+    enums: &[EnumRow<'n>],
+    parts: &mut Vec<EnumPart<'n>, A>,
+    members: &mut Vec<MemberRow<'n>, A>,
+) -> Result<(), AllocError>
+    requires few { All (λ e. vec_len e.members < 2 ^ 31) enums.now }
+    requires none { parts.old.items ≡ [] }
+    ensures value { OnOk result (map (enum_in members.new.items) parts.new.items ≡ map enum_of enums.now) }
+    ensures parts { OnOk result (All (λ e. IsPart (length members.new.items) e.members) parts.new.items) }
+{
+    parts.reserve_exact(enums.len())?;
+    members.reserve_exact(count_members(enums))?;
+    for row in enums {
+        let range = add_rows(members, &row.members)?;
+        parts.push(enum_part(row, range))?;
+    }
+    Ok(())
 }
 
 impl<'n, A: Allocator + Copy> FlatRows<'n, A> {
@@ -160,14 +183,26 @@ impl<'n, A: Allocator + Copy> FlatRows<'n, A> {
         ensures value { IfOk result (λ flat. flat_rows flat ≡ rows_of objects.entry.items enums.entry.items) }
         ensures parts { IfOk result (λ flat. AreParts flat.objects.items flat.fields.items flat.enums.items flat.members.items) }
     {
-        let (objects, fields) = flat_objects(alloc, &objects)?;
-        let (enums, members) = flat_enums(alloc, &enums)?;
-        Ok(FlatRows {
-            objects,
-            fields,
-            enums,
-            members,
-        })
+        let mut flat = FlatRows {
+            objects: Vec::new(alloc),
+            fields: Vec::new(alloc),
+            enums: Vec::new(alloc),
+            members: Vec::new(alloc),
+        };
+        flat.put(&objects, &enums)?;
+        Ok(flat)
+    }
+
+    /// Puts these rows where none are yet.
+    fn put(&mut self, objects: &[ObjectRow<'n>], enums: &[EnumRow<'n>]) -> Result<(), AllocError>
+        requires few { AreFew objects.now enums.now }
+        requires no_objects { self.old.objects.items ≡ [] }
+        requires no_enums { self.old.enums.items ≡ [] }
+        ensures value { OnOk result (flat_rows self.new ≡ rows_of objects.now enums.now) }
+        ensures parts { OnOk result (AreParts self.new.objects.items self.new.fields.items self.new.enums.items self.new.members.items) }
+    {
+        put_objects(objects, &mut self.objects, &mut self.fields)?;
+        put_enums(enums, &mut self.enums, &mut self.members)
     }
 
     /// The fields of the struct with this number, none where it is no struct.

@@ -1,9 +1,11 @@
 // How the index of legal rows is made.
 
-ghost use Rattle.std.specs.Prelude.{◌≡◌, ◌<◌, ◌^◌, ◌+◌, map, length, take, IfOk, OnOk, All};
-ghost use Rattle.fb_schema.specs.{Sorting.IsOrderOf, Sorting.name_cmp, Flat.IsPart, FlatRows.borrowed_rows, Rows.member_of_row, Kinds.kind_of};
-ghost use Rattle.fb_schema.specs.{Demands.IsLegal, Live.live_of_view};
-ghost use Rattle.fb_schema.specs.Index.{kept_members, view_name, AreNextRequired, IsLiveIndex, IsMemberIndex};
+ghost use Rattle.std.specs.Prelude.{◌≡◌, ◌<◌, ◌≤◌, ◌^◌, ◌+◌, ℕ, List, [], ◌∷◌, ◌++◌, map, length, take, IfOk, OnOk, All, Some, None, true};
+ghost use Rattle.fb_schema.specs.declared.{flat.EnumPart.EnumPart, rows.MemberRow.MemberRow};
+ghost use Rattle.fb_schema.specs.{Flat.IsPart, FlatRows.borrowed_rows, Rows.Rows, Rows.Object, Rows.member_of_row, Kinds.kind_of};
+ghost use Rattle.fb_schema.specs.{Demands.IsLegal, Demands.first_code, Demands.members_asked, Targets.AreTargets, FlatLists.lists_of};
+ghost use Rattle.fb_schema.specs.Live.{live_of_view, live_in, live_rows};
+ghost use Rattle.fb_schema.specs.Index.{kept_members, AreNextRequired, IsLiveIndex, IsMemberIndex};
 
 use crate::flat::RowLists;
 use crate::index::{LiveIndex, MemberIndex};
@@ -13,7 +15,7 @@ use crate::lists::Lists;
 use crate::live::table_views;
 use crate::rows::MemberRow;
 use crate::steps::{are_plain, field_steps};
-use crate::targets::enum_targets;
+use crate::targets::{ByValue, enum_targets};
 use crate::views::FieldView;
 use std::alloc::{AllocError, Allocator};
 
@@ -59,6 +61,45 @@ fn kept_members<'r, 'n>(is_union: bool, members: &'r [MemberRow<'n>]) -> &'r [Me
 }
 
 impl<'n, A: Allocator + Copy> LiveIndex<'n, A> {
+    /// No objects.
+    fn new(alloc: A) -> LiveIndex<'n, A>
+        ensures { (rows : Rows) → IsLiveIndex rows [] result }
+    {
+        LiveIndex {
+            fields: Lists::new(alloc),
+            names: Lists::new(alloc),
+            steps: Lists::new(alloc),
+            plain: Vec::new(alloc),
+            next_required: Lists::new(alloc),
+            widest: 0,
+        }
+    }
+
+    /// Makes room for so many objects, with so many fields in all.
+    fn reserve(&mut self, objects: usize, fields: usize) -> Result<(), AllocError>
+        ensures { (rows : Rows) (all : List Object) → IsLiveIndex rows all self.old → IsLiveIndex rows all self.new }
+    {
+        self.fields.reserve(objects, fields)?;
+        self.names.reserve(objects, fields)?;
+        self.steps.reserve(objects, fields)?;
+        self.plain.reserve_exact(objects)?;
+        self.next_required.reserve(objects, fields)
+    }
+
+    /// Adds what is kept of an object with these live fields, behind those before it.
+    fn push(&mut self, alloc: A, fields: &[FieldView<'n>]) -> Result<(), AllocError>
+        requires { length fields.now ≤ 32766 }
+        ensures { (rows : Rows) (all : List Object) (o : Object) → IsLiveIndex rows all self.old → map live_of_view fields.now ≡ live_in rows (Some o) → length fields.now ≡ length (live_rows o) → OnOk result (IsLiveIndex rows (all ++ o ∷ []) self.new) }
+    {
+        self.widest = self.widest.max(fields.len() as u32);
+        self.plain.push(are_plain(fields))?;
+        self.names
+            .push_made(in_order(alloc, fields, |field| field.name))?;
+        self.steps.push_made(field_steps(alloc, fields))?;
+        self.next_required.push_made(next_required(alloc, fields))?;
+        self.fields.push(fields)
+    }
+
     /// Adds what is kept of the object with this number, behind those before it.
     fn add(&mut self, alloc: A, rows: &RowLists<'_, 'n>, n: usize) -> Result<(), AllocError>
         requires legal { IsLegal (borrowed_rows rows.now) }
@@ -68,20 +109,56 @@ impl<'n, A: Allocator + Copy> LiveIndex<'n, A> {
         ensures { OnOk result (IsLiveIndex (borrowed_rows rows.now) (take (n + 1) (borrowed_rows rows.now).objects) self.new) }
     {
         let fields = table_views(alloc, rows, &rows.objects[n])?;
-        let names = in_order(alloc, &fields, |field| field.name)?;
-        let steps = field_steps(alloc, &fields)?;
-        self.widest = self.widest.max(fields.len() as u32);
-        self.fields.push(&fields)?;
-        self.names.push(&names)?;
-        self.steps.push(&steps)?;
-        self.plain.push(are_plain(&fields))?;
-        let next = next_required(alloc, &fields)?;
-        self.next_required.push(&next)?;
-        Ok(())
+        self.push(alloc, &fields)
     }
 }
 
+/// What the types of an enum with these members lead to, none where it is no union.
+fn member_targets<A: Allocator + Copy>(
+    alloc: A,
+    rows: &RowLists,
+    is_union: bool,
+    members: &[MemberRow],
+) -> Result<ByValue<A>, AllocError>
+    requires { length members.now < 2 ^ 31 }
+    ensures { IfOk result (λ found. is_union ≡ true → ((q : ℕ) → first_code (members_asked (borrowed_rows rows.now) (map member_of_row members.now) q) ≡ None) → AreTargets (borrowed_rows rows.now) (map member_of_row members.now) found.places.items found.targets.items) }
+{
+    let kinds = member_kinds(alloc, rows, members)?;
+    let values = in_order(alloc, members, |member| member.value)?;
+    enum_targets(alloc, rows, is_union, &values, &kinds)
+}
+
 impl<'n, A: Allocator + Copy> MemberIndex<'n, A> {
+    /// No enums.
+    fn new(alloc: A) -> MemberIndex<'n, A>
+        ensures { (rows : Rows) (members : List MemberRow) → IsMemberIndex rows members [] result }
+    {
+        MemberIndex {
+            places: Lists::new(alloc),
+            targets: Lists::new(alloc),
+            names: Lists::new(alloc),
+        }
+    }
+
+    /// Makes room for so many enums, with so many members in all.
+    fn reserve(&mut self, enums: usize, members: usize) -> Result<(), AllocError>
+        ensures { (rows : Rows) (all : List MemberRow) (es : List EnumPart) → IsMemberIndex rows all es self.old → IsMemberIndex rows all es self.new }
+    {
+        self.places.reserve(enums, members)?;
+        self.targets.reserve(enums, members)?;
+        self.names.reserve(enums, members)
+    }
+
+    /// Adds what the types of an enum lead to.
+    fn push_targets(&mut self, found: ByValue<A>) -> Result<(), AllocError>
+        ensures places { OnOk result (lists_of self.new.places ≡ lists_of self.old.places ++ found.places.items ∷ []) }
+        ensures targets { OnOk result (lists_of self.new.targets ≡ lists_of self.old.targets ++ found.targets.items ∷ []) }
+        ensures names { self.new.names ≡ self.old.names }
+    {
+        self.places.push(&found.places)?;
+        self.targets.push(&found.targets)
+    }
+
     /// Adds what is kept of the enum with this number, behind those before it.
     fn add(&mut self, alloc: A, rows: &RowLists<'_, 'n>, n: usize) -> Result<(), AllocError>
         requires legal { IsLegal (borrowed_rows rows.now) }
@@ -92,14 +169,9 @@ impl<'n, A: Allocator + Copy> MemberIndex<'n, A> {
     {
         let row = &rows.enums[n];
         let members = kept_members(row.is_union, rows.members_of(row));
-        let kinds = member_kinds(alloc, rows, members)?;
-        let values = in_order(alloc, members, |member| member.value)?;
-        let names = in_order(alloc, members, |member| (is_none(member), member.name))?;
-        self.names.push(&names)?;
-        let found = enum_targets(alloc, rows, row.is_union, &values, &kinds)?;
-        self.places.push(&found.places)?;
-        self.targets.push(&found.targets)?;
-        Ok(())
+        let found = member_targets(alloc, rows, row.is_union, members)?;
+        self.push_targets(found)?;
+        self.names.push_made(in_order(alloc, members, |member| (is_none(member), member.name)))
     }
 }
 
@@ -112,16 +184,8 @@ pub fn live_index<'n, A: Allocator + Copy>(
     requires parts { All (λ o. IsPart (length rows.now.fields.now) o.fields) rows.now.objects.now }
     ensures { IfOk result (IsLiveIndex (borrowed_rows rows.now) (borrowed_rows rows.now).objects) }
 {
-    let tables = rows.objects.len();
-    let fields = rows.fields.len();
-    let mut index = LiveIndex {
-        fields: Lists::with_capacity(alloc, tables, fields)?,
-        names: Lists::with_capacity(alloc, tables, fields)?,
-        steps: Lists::with_capacity(alloc, tables, fields)?,
-        plain: Vec::with_capacity(alloc, tables)?,
-        next_required: Lists::with_capacity(alloc, tables, fields)?,
-        widest: 0,
-    };
+    let mut index = LiveIndex::new(alloc);
+    index.reserve(rows.objects.len(), rows.fields.len())?;
     for n in 0..rows.objects.len() {
         index.add(alloc, rows, n)?;
     }
@@ -137,13 +201,8 @@ pub fn member_index<'n, A: Allocator + Copy>(
     requires parts { All (λ e. IsPart (length rows.now.members.now) e.members) rows.now.enums.now }
     ensures { IfOk result (IsMemberIndex (borrowed_rows rows.now) rows.now.members.now rows.now.enums.now) }
 {
-    let unions = rows.enums.len();
-    let members = rows.members.len();
-    let mut index = MemberIndex {
-        places: Lists::with_capacity(alloc, unions, members)?,
-        targets: Lists::with_capacity(alloc, unions, members)?,
-        names: Lists::with_capacity(alloc, unions, members)?,
-    };
+    let mut index = MemberIndex::new(alloc);
+    index.reserve(rows.enums.len(), rows.members.len())?;
     for n in 0..rows.enums.len() {
         index.add(alloc, rows, n)?;
     }

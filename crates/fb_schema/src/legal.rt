@@ -95,7 +95,6 @@ fn unions_legal<A: Allocator + Copy>(alloc: A, rows: &RowLists) -> Result<(), Sc
 }
 
 /// Refuses rows by the first demand that they break. The order is that of the objects' names.
-#[tactic(auto, using(crate::proofs::OwnerLemmas::legal_if))]
 pub fn legal<A: Allocator + Copy>(
     alloc: A,
     rows: &RowLists,

@@ -14,16 +14,25 @@ pub struct Lists<T: Drop, A: Allocator> {
 }
 
 impl<T: Copy, A: Allocator + Copy> Lists<T, A> {
-    ghost use Rattle.std.specs.Prelude.{◌≡◌, ◌<◌, [], ◌∷◌, ◌++◌, IfOk, OnOk, slice_get, Some};
+    ghost use Rattle.std.specs.Prelude.{◌≡◌, ◌<◌, [], ◌∷◌, ◌++◌, OnOk, IsOkAnd, slice_get, Some};
     ghost use Rattle.fb_schema.specs.FlatLists.{lists_of};
 
-    /// No lists, with room for so many, and for so many items in all.
-    pub fn with_capacity(alloc: A, lists: usize, items: usize) -> Result<Lists<T, A>, AllocError>
-        ensures { IfOk result (λ all. lists_of all ≡ []) }
+    /// No lists.
+    pub fn new(alloc: A) -> Lists<T, A>
+        ensures { lists_of result ≡ [] }
     {
-        let ranges = Vec::with_capacity(alloc, lists)?;
-        let rows = Vec::with_capacity(alloc, items)?;
-        Ok(Lists { ranges, rows })
+        Lists {
+            ranges: Vec::new(alloc),
+            rows: Vec::new(alloc),
+        }
+    }
+
+    /// Makes room for so many lists, and for so many items in all.
+    pub fn reserve(&mut self, lists: usize, items: usize) -> Result<(), AllocError>
+        ensures { lists_of self.new ≡ lists_of self.old }
+    {
+        self.ranges.reserve_exact(lists)?;
+        self.rows.reserve_exact(items)
     }
 
     /// Adds a list at the end.
@@ -34,6 +43,14 @@ impl<T: Copy, A: Allocator + Copy> Lists<T, A> {
         self.rows.extend_from_slice(list)?;
         self.ranges.push((start, self.rows.len()))?;
         Ok(())
+    }
+
+    /// The same of a list that was just made, if there was memory for it.
+    pub fn push_made(&mut self, made: Result<Vec<T, A>, AllocError>) -> Result<(), AllocError>
+        ensures { OnOk result (IsOkAnd made (λ list. lists_of self.new ≡ lists_of self.old ++ list.items ∷ [])) }
+    {
+        let list = made?;
+        self.push(&list)
     }
 
     /// The list at `n`.

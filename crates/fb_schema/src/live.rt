@@ -123,6 +123,5 @@ pub fn table_views<'n, A: Allocator + Copy>(
         return Ok(Vec::new(alloc));
     }
     let live = live_rows(alloc, rows.fields_of(object))?;
-    let views = views(alloc, rows, &live)?;
-    Ok(views)
+    views(alloc, rows, &live)
 }

@@ -8,10 +8,12 @@ ghost use Rattle.fb_schema.specs.Rows.{AreFew, rows_of, is_table, is_union, tabl
 ghost use Rattle.fb_schema.specs.{Heads.head_of, Heads.head_of_view, Members.member_of, Members.member_named, Members.member_name};
 ghost use Rattle.fb_schema.specs.{Demands.IsLegal, Demands.Refuses, Parts.part_at, Parts.part_named, Parts.parts_of};
 ghost use Rattle.fb_schema.specs.{Served.IsServed, Served.HaveKinds, Steps.is_plain, Steps.step_of, Targets.target_at, Targets.target_of};
+ghost use Rattle.fb_schema.specs.{FlatRows.borrowed_rows, FlatRows.AreParts, Index.IsLiveIndex, Index.IsMemberIndex};
+ghost use Rattle.fb_schema.specs.Sorting.{IsOrderOf, name_cmp, object_name};
 ghost use Rattle.fb_schema.specs.Live.{live_fields, live_of_view, field_named, next_required, widest};
 
 use crate::fault::SchemaFault;
-use crate::flat::FlatRows;
+use crate::flat::{FlatRows, RowLists};
 use crate::index::{LiveIndex, MemberIndex};
 use crate::indexing::{live_index, member_index};
 use crate::keys::in_order;
@@ -61,11 +63,7 @@ impl<'n, A: Allocator + Copy> Schema<'n, A> {
         ensures refused { IfErr result (Refuses (rows_of objects.entry.items enums.entry.items)) }
     {
         let rows = FlatRows::new(alloc, objects, enums)?;
-        let lists = rows.lists();
-        let order = in_order(alloc, lists.objects, |object| object.name)?;
-        legal(alloc, &lists, &order)?;
-        let live = live_index(alloc, &lists)?;
-        let members = member_index(alloc, &lists)?;
+        let (order, live, members) = indexed(alloc, &rows.lists())?;
         Ok(Schema {
             rows,
             order,
@@ -289,6 +287,33 @@ impl<'n, A: Allocator + Copy> Schema<'n, A> {
     {
         self.live.widest
     }
+}
+
+/// The order of the objects' names, the live fields and the members of rows that are legal. Others are refused by the
+/// first demand that they break.
+fn indexed<'n, A: Allocator + Copy>(
+    alloc: A,
+    rows: &RowLists<'_, 'n>,
+) -> Result<
+    (
+        Vec<(&'n [u8], u32), A>,
+        LiveIndex<'n, A>,
+        MemberIndex<'n, A>,
+    ),
+    SchemaFault,
+>
+    requires { AreParts rows.now.objects.now rows.now.fields.now rows.now.enums.now rows.now.members.now }
+    ensures legal { OnOk result (IsLegal (borrowed_rows rows.now)) }
+    ensures names { IfOk result (λ made. IsOrderOf name_cmp (map object_name rows.now.objects.now) made.0.items) }
+    ensures fields { IfOk result (λ made. IsLiveIndex (borrowed_rows rows.now) (borrowed_rows rows.now).objects made.1) }
+    ensures kinds { IfOk result (λ made. IsMemberIndex (borrowed_rows rows.now) rows.now.members.now rows.now.enums.now made.2) }
+    ensures refused { IfErr result (Refuses (borrowed_rows rows.now)) }
+{
+    let order = in_order(alloc, rows.objects, |object| object.name)?;
+    legal(alloc, rows, &order)?;
+    let live = live_index(alloc, rows)?;
+    let members = member_index(alloc, rows)?;
+    Ok((order, live, members))
 }
 
 /// The place of the field of this name.

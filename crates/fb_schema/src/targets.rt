@@ -1,6 +1,6 @@
 // What the offset words of a union lead to, found by their types without a search.
 
-ghost use Rattle.std.specs.Prelude.{◌≡◌, ◌<◌, ◌≤◌, ◌+◌, ℕ, List, map, length, slice_index_or, IfOk, OnOk, true};
+ghost use Rattle.std.specs.Prelude.{◌≡◌, ◌<◌, ◌≤◌, ◌+◌, ℕ, List, [], map, length, slice_index_or, IfOk, OnOk, true};
 ghost use Rattle.fb_schema.specs.{FlatRows.borrowed_rows, Rows.Rows, Rows.member_of_row};
 ghost use Rattle.fb_schema.specs.Targets.{nothing, kind_to, target_of, target_at, kind_among, AreTargets, AreSorted};
 ghost use Rattle.fb_schema.specs.declared.rows.MemberRow.{MemberRow};
@@ -135,29 +135,30 @@ fn add_target<A: Allocator>(
     }
 }
 
-/// The targets of a union's members, by the values in order and the kinds of these.
-fn union_targets<A: Allocator + Copy>(
-    alloc: A,
+/// Puts the targets of a union's members where none are yet, by the values in order and the kinds of these.
+fn put_targets<A: Allocator>(
     rows: &RowLists,
     values: &[(i64, u32)],
     kinds: &[Option<Kind>],
-) -> Result<ByValue<A>, AllocError>
-    ensures { IfOk result (λ found. (members : List MemberRow) → AreSorted (borrowed_rows rows.now) members values.now kinds.now → AreTargets (borrowed_rows rows.now) (map member_of_row members) found.places.items found.targets.items) }
+    places: &mut Vec<u8, A>,
+    targets: &mut Vec<Target, A>,
+) -> Result<(), AllocError>
+    requires places { places.old.items ≡ [] }
+    requires targets { targets.old.items ≡ [] }
+    ensures { OnOk result ((members : List MemberRow) → AreSorted (borrowed_rows rows.now) members values.now kinds.now → AreTargets (borrowed_rows rows.now) (map member_of_row members) places.new.items targets.new.items) }
 {
-    let mut targets = Vec::new(alloc);
     targets.push(NOTHING)?;
-    let mut places = Vec::new(alloc);
     places.push(0)?;
     let mut end = 0;
     for value in 1..256usize {
-        let place = add_target(&mut targets, rows, kind_at(values, kinds, value as u8))?;
+        let place = add_target(targets, rows, kind_at(values, kinds, value as u8))?;
         places.push(place)?;
         if place != 0 {
             end = value + 1;
         }
     }
     places.truncate(end);
-    Ok(ByValue { places, targets })
+    Ok(())
 }
 
 /// The targets of an enum's members, none where it is no union.
@@ -170,11 +171,12 @@ pub fn enum_targets<A: Allocator + Copy>(
 ) -> Result<ByValue<A>, AllocError>
     ensures { IfOk result (λ found. is_union ≡ true → (members : List MemberRow) → AreSorted (borrowed_rows rows.now) members values.now kinds.now → AreTargets (borrowed_rows rows.now) (map member_of_row members) found.places.items found.targets.items) }
 {
-    if is_union {
-        return union_targets(alloc, rows, values, kinds);
-    }
-    Ok(ByValue {
+    let mut found = ByValue {
         places: Vec::new(alloc),
         targets: Vec::new(alloc),
-    })
+    };
+    if is_union {
+        put_targets(rows, values, kinds, &mut found.places, &mut found.targets)?;
+    }
+    Ok(found)
 }

@@ -12,10 +12,10 @@ found : (g : _) (c : After-member_fault g) → c.member_fault.result ≡ first_c
 found g c =
     let members = c.args.members.now in
     let p = c.loop-p.p in
-    let values : IsFirstAgain int_cmp (map member_value members) c.first_again-value_again.result = c.first_again-value_again.ensures (map member_value members) (rw c.deref.ensures.value (c.in_ok-values.ensures member_value (λ x k r. search rules))) in
-    let names : IsFirstAgain member_cmp (map member_key members) c.first_again-name_again.result = c.first_again-name_again.ensures (map member_key members) (rw c.deref-2.ensures.value (c.in_ok-names.ensures member_key (λ x k r. search rules))) in
+    let values : IsFirstAgain int_cmp (map member_value members) c.in_ok-value_again.value_again = c.in_ok-value_again.ensures member_value (λ x k r. search rules) in
+    let names : IsFirstAgain member_cmp (map member_key members) c.in_ok-name_again.name_again = c.in_ok-name_again.ensures member_key (λ x k r. search rules) in
     c.member_fault.ensures
-    ∙ member_code (borrowed_rows c.args.rows.now) members p (get_or members p blank_member) c.first_again-value_again.result c.first_again-name_again.result c.is_at-taken.result c.is_named-named.result (slice_get-get_or members p blank_member c.loop-p-test.true) values names c.loop-p.invariant
+    ∙ member_code (borrowed_rows c.args.rows.now) members p (get_or members p blank_member) c.in_ok-value_again.value_again c.in_ok-name_again.name_again c.is_at-taken.result c.is_named-named.result (slice_get-get_or members p blank_member c.loop-p-test.true) values names c.loop-p.invariant
     c.is_at-taken.ensures c.is_named-named.ensures
 
 pub returns-in-Some : goal.returns-in-Some

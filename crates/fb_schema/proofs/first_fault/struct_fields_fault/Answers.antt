@@ -10,9 +10,9 @@ found : (g : _) (c : After-struct_field_fault g) → c.struct_field_fault.result
 found g c =
     let fields = c.args.fields.now in
     let p = c.loop-p.p in
-    let first : IsFirstAgain name_cmp (map field_name fields) c.first_again-again.result = c.first_again-again.ensures (map field_name fields) (rw c.deref.ensures.value (c.in_ok-order.ensures field_name (λ x k r. search rules))) in
+    let first : IsFirstAgain name_cmp (map field_name fields) c.in_ok-again.again = c.in_ok-again.ensures field_name (λ x k r. search rules) in
     c.struct_field_fault.ensures
-    ∙ struct_code (borrowed_rows c.args.rows.now) c.args.object.now.bytesize fields p (get_or fields p blank_field) c.first_again-again.result c.is_at-named.result (slice_get-get_or fields p blank_field c.loop-p-test.true) first c.loop-p.invariant c.is_at-named.ensures
+    ∙ struct_code (borrowed_rows c.args.rows.now) c.args.object.now.bytesize fields p (get_or fields p blank_field) c.in_ok-again.again c.is_at-named.result (slice_get-get_or fields p blank_field c.loop-p-test.true) first c.loop-p.invariant c.is_at-named.ensures
 
 pub returns-in-Some : goal.returns-in-Some
 returns-in-Some g c = (sym (found g (goal.at.returns-in-Some g c).After-struct_field_fault) ∙ c.in-Some.is, c.loop-p.invariant)

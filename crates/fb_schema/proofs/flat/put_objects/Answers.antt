@@ -2,18 +2,16 @@ use Rattle.std.proofs.Common.{◌<◌, ◌^◌, ◌∙◌, ◌++◌, length, vec
 use Rattle.fb_schema.specs.declared.rows.ObjectRow.{ObjectRow}
 use Rattle.fb_schema.specs.{FlatRows.object_with, Rows.object_of}
 use Rattle.fb_schema.proofs.{FlatLemmas.pushed, FlatLemmas.parts_step, IndexLemmas.value_step}
-use Rattle.fb_schema.proofs.flat.flat_objects.Goals as goal
+use Rattle.fb_schema.proofs.flat.put_objects.Goals as goal
 
 pub loop-object-preserved : goal.loop-object-preserved
 loop-object-preserved g c =
     let object = c.object-item.result in
     let fields = c.loop-object.fields.items in
     let parts = c.loop-object.invariant.parts in
-    let more = c.in_ok-extend_from_slice.ensures.items ∙ ap (λ z. fields ++ z) c.deref.ensures.value in
-    let start = c.len-start.ensures ∙ c.loop-object.fields.ok.0 in
-    let end = c.len.ensures ∙ c.extend_from_slice.new.self.ok.0 in
-    let range = (c.object_part.ensures.range ∙ (λ j. (start j, end j))) in
-    let least = subst (λ (o : ObjectRow). vec_len o.fields < 2 ^ 31) (sym c.object-item.is) (c.requires c.loop-object.object-index object c.loop-object-test.true) in
+    let more = c.in_ok-range.ensures.rows ∙ ap (λ z. fields ++ z) c.deref.ensures.value in
+    let range = c.object_part.ensures.range ∙ c.in_ok-range.ensures.range in
+    let least = subst (λ (o : ObjectRow). vec_len o.fields < 2 ^ 31) (sym c.object-item.is) (c.requires.few c.loop-object.object-index object c.loop-object-test.true) in
     let few : length object.fields.items < 2 ^ 31 = omega (arith, least, object.fields.ok.0) in
     record {
       value = value_step object_of c.args.objects.now c.loop-object.object-index object _ _ _ c.loop-object-test.true c.object-item.is c.loop-object.invariant.value

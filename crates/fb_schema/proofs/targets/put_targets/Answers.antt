@@ -2,14 +2,14 @@ use Rattle.std.proofs.Common.{◌≡◌, ◌+◌, ◌≤◌, ◌<◌, ◌∷◌,
 use Rattle.fb_schema.specs.{FlatRows.borrowed_rows, Rows.member_of_row}
 use Rattle.fb_schema.specs.Targets.{nothing, target_at, target_of, kind_among}
 use Rattle.fb_schema.proofs.TargetLemmas.{first_place, zero_target, long_step, within_step, behind_step, found_step}
-use Rattle.fb_schema.proofs.targets.union_targets.Goals as goal
-use Rattle.fb_schema.proofs.targets.union_targets.Goals.{then-place-ne0, else-place-ne0}
+use Rattle.fb_schema.proofs.targets.put_targets.Goals as goal
+use Rattle.fb_schema.proofs.targets.put_targets.Goals.{then-place-ne0, else-place-ne0}
 
 pub loop-value-init : goal.loop-value-init
 loop-value-init g c =
     let rows = borrowed_rows c.args.rows.now in
-    let targets : c.push.new.self.items ≡ nothing ∷ [] = c.in_ok-push.ensures.items ∙ ap (λ ts. ts ++ nothing ∷ []) c.new-targets.ensures.items in
-    let places : c.push-2.new.self.items ≡ 0 ∷ [] = c.in_ok-push-2.ensures.items ∙ ap (λ ps. ps ++ 0 ∷ []) c.new-places.ensures.items in
+    let targets : c.push.new.self.items ≡ nothing ∷ [] = c.in_ok-push.ensures.items ∙ ap (λ ts. ts ++ nothing ∷ []) c.requires.targets in
+    let places : c.push-2.new.self.items ≡ 0 ∷ [] = c.in_ok-push-2.ensures.items ∙ ap (λ ps. ps ++ 0 ∷ []) c.requires.places in
     let one = ap length targets in
     let first : get_or c.push.new.self.items 0 nothing ≡ nothing = ap (λ ts. get_or ts 0 nothing) targets in
     record {

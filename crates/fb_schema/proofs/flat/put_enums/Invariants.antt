@@ -1,6 +1,6 @@
 use Rattle.std.proofs.Common.{◌≡◌, All, map, take, length}
 use Rattle.fb_schema.specs.{Flat.IsPart, FlatRows.enum_in, Rows.enum_of}
-use Rattle.fb_schema.proofs.flat.flat_enums.Given as goal
+use Rattle.fb_schema.proofs.flat.put_enums.Given as goal
 
 abbrev pub invariant-loop-row : goal.invariant-loop-row
 invariant-loop-row g l = record {

@@ -1,6 +1,6 @@
 use Rattle.std.proofs.Common.{◌≡◌, All, map, take, length}
 use Rattle.fb_schema.specs.{Flat.IsPart, FlatRows.object_in, Rows.object_of}
-use Rattle.fb_schema.proofs.flat.flat_objects.Given as goal
+use Rattle.fb_schema.proofs.flat.put_objects.Given as goal
 
 abbrev pub invariant-loop-object : goal.invariant-loop-object
 invariant-loop-object g l = record {

@@ -1,0 +1,16 @@
+use Rattle.std.proofs.Common.{◌≤◌, [], length, take_all, subst, arith}
+use Rattle.std.proofs.lemmas.List.{length-map}
+use Rattle.fb_schema.specs.{FlatRows.borrowed_rows, Index.IsLiveIndex}
+use Rattle.fb_schema.proofs.indexing.live_index.Goals as goal
+
+pub loop-n-init : goal.loop-n-init
+loop-n-init g c = c.reserve.ensures (borrowed_rows c.args.rows.now) [] (c.new-index.ensures (borrowed_rows c.args.rows.now))
+
+pub loop-n-preserved : goal.loop-n-preserved
+loop-n-preserved g c = c.in_ok-add.ensures
+
+pub returns : goal.returns
+returns g c =
+    let rows = borrowed_rows c.args.rows.now in
+    let past : length rows.objects ≤ c.loop-n.n = rw length-map (omega arith) in
+    subst (λ os. IsLiveIndex rows os c.loop-n.index) (take_all c.loop-n.n rows.objects past) c.loop-n.invariant

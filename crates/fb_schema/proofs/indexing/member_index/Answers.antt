@@ -1,0 +1,16 @@
+use Rattle.std.proofs.Common.{◌≤◌, [], length, take_all, subst, arith}
+use Rattle.fb_schema.specs.{FlatRows.borrowed_rows, Index.IsMemberIndex}
+use Rattle.fb_schema.proofs.indexing.member_index.Goals as goal
+
+pub loop-n-init : goal.loop-n-init
+loop-n-init g c =
+    let rows = borrowed_rows c.args.rows.now in
+    c.reserve.ensures rows c.args.rows.now.members.now [] (c.new-index.ensures rows c.args.rows.now.members.now)
+
+pub loop-n-preserved : goal.loop-n-preserved
+loop-n-preserved g c = c.in_ok-add.ensures
+
+pub returns : goal.returns
+returns g c =
+    let past : length c.args.rows.now.enums.now ≤ c.loop-n.n = omega arith in
+    subst (λ es. IsMemberIndex (borrowed_rows c.args.rows.now) c.args.rows.now.members.now es c.loop-n.index) (take_all c.loop-n.n c.args.rows.now.enums.now past) c.loop-n.invariant

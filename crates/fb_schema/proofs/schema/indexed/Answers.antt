@@ -1,0 +1,9 @@
+use Rattle.std.proofs.Common.{rules}
+use Rattle.fb_schema.specs.Sorting.{object_name}
+use Rattle.fb_schema.proofs.schema.indexed.Goals as goal
+
+pub legal-requires-clause-order : goal.legal-requires-clause-order
+legal-requires-clause-order g c = rw c.deref.ensures.value (c.in_ok-order.ensures object_name (λ x k r. search rules))
+
+pub returns-clause-names : goal.returns-clause-names
+returns-clause-names g c = c.in_ok-order.ensures object_name (λ x k r. search rules)
