@@ -382,6 +382,8 @@ class Options(Case):
              refused("ident and schema-ident exclude each other")),
             ("17, and a length before a bare buffer", [*paths, "--bare", "--delimited"], b"", refused("more than 16 paths")),
             ("17, and a wrong identifier", [*paths, "--ident", "KIN"], b"", refused("ident must be four bytes")),
+            ("one, in a filter, and a wrong identifier", [*paths[:2], "--filter", "--ident", "KIN"], b"",
+             refused("ident must be four bytes")),
             ("a length before a bare buffer", ["--bare", "--delimited"], b"",
              refused("bare and delimited exclude each other")),
         ])
