@@ -8,12 +8,3 @@ returns-clause-tables c = λ k n here v.
     let placed : IsPlaced c.args.self.now = subst IsPlaced c.self.view_is c.self.invariant in
     let there : shown c.value_at.result ≡ value c.args.self.now.sealed.bytes c.args.self.now.sealed.schema c.args.self.now.spot = search rules in
     tables_fit_at c.args.self.now k n placed here (sym v ∙ there)
-
-pub value_at-requires-clause-spot : goal.value_at-requires-clause-spot
-value_at-requires-clause-spot c = search rules
-
-pub returns-clause-shown : goal.returns-clause-shown
-returns-clause-shown c = search rules
-
-pub returns-clause-narrow : goal.returns-clause-narrow
-returns-clause-narrow c = search rules
