@@ -1,15 +1,16 @@
 -- Which steps lead on from what is here, and to what kind.
 use Rattle.std.proofs.Common.{arith}
-use Rattle.std.proofs.Common.{◌≡◌, ℕ, ◌+◌, IsTrue, List, subst, Option, Some, None, is_some, inl, inr}
+use Rattle.std.proofs.Common.{◌≡◌, ℕ, ◌+◌, ◌==◌, nat_lt, Bool, true, false, if◌then◌else◌, IsTrue, List, subst, refl, Option, Some, None, is_some, inl, inr}
 use Rattle.std.specs.Prelude.{option_map}
 use Rattle.fb_schema.specs.declared.{kinds.Kind.Kind}
-use Rattle.fb_schema.specs.declared.{views.PartView.PartView, kinds.Kind.TheVariants.Struct, kinds.Kind.TheVariants.Table}
-use Rattle.fb_schema.specs.{Rows.Rows, Live.Live, Parts.part_at}
+use Rattle.fb_schema.specs.declared.views.PartView.{PartView}
+use Rattle.fb_schema.specs.declared.kinds.Kind.TheVariants.{Scalar as AScalar, Text, Struct, Table, Union, Scalars, Texts, Structs, Tables, Unions}
+use Rattle.fb_schema.specs.{Rows.Rows, Live.Live, Members.member_of, Parts.part_at}
 use Rattle.fb_access.specs.declared.{step.Step.Step, step.Step.TheVariants.Field, step.Step.TheVariants.Element, step.Step.TheVariants.Member}
 use Rattle.fb_access.specs.declared.spot.Spot.{Spot}
-use Rattle.fb_access.specs.declared.spot.Spot.TheVariants.{AtTable, AtStruct, AtScalars, AtStructs, AtScalarArray, AtStructArray, AtTexts, AtTables, AtUnions, AtAbsent, AtNoElement, AtOtherMember}
+use Rattle.fb_access.specs.declared.spot.Spot.TheVariants.{AtTable, AtStruct, AtScalars, AtStructs, AtScalarArray, AtStructArray, AtTexts, AtTables, AtUnions, AtUnion, AtAbsent, AtNoElement, AtOtherMember}
 use Rattle.fb_access.specs.{Fitting.numbered, Fitting.next_kind, Denotes.next_spot, Denotes.Leads, Denotes.allows}
-use Rattle.fb_access.specs.Spots.{kind_at, present_spot, default_spot, absent_spot, field_spot, part_spot, spot_of_field, spot_of_part, spot_of_element, member_spot, spot_of_member}
+use Rattle.fb_access.specs.Spots.{kind_at, present_spot, default_spot, absent_spot, field_spot, part_spot, spot_of_field, spot_of_part, if_element, spot_of_element, member_spot, spot_of_member}
 use Rattle.fb_access.specs.Here.{IsHere, MayBeHere, IsOfKind, KindsGoOn}
 
 -- a step leads on exactly where it is allowed
@@ -41,6 +42,19 @@ may_be_of q kind h = grind arith
 along : (q r : Spot) (kind onward : Kind) → IsOfKind q kind → Some q ≡ Some r → Some kind ≡ Some onward → IsOfKind r onward
 along q r kind onward h e i = let e1 : q ≡ r = cc in let i1 : kind ≡ onward = cc in subst (λ k. IsOfKind r k) i1 (subst (λ x. IsOfKind x kind) e1 h)
 
+-- a member of a union is of its kind
+member_here : (b : List ℕ) (p : ℕ) (kind : Kind) → IsOfKind (member_spot b p kind) kind
+unfolding member_spot
+member_here b p (Table k) = inl refl
+member_here b p (Struct k) = inl refl
+member_here b p Text = inl refl
+member_here b p kind = inr refl
+
+-- one of two spots, of which the other has no kind
+chosen : (t : Bool) (x o : Spot) (kind : Kind) → IsOfKind x kind → kind_at o ≡ None → IsOfKind (if t then x else o) kind
+chosen true x o kind h n = h
+chosen false x o kind h n = inr n
+
 module _ (b : List ℕ) (S : Rows) where
   -- from what is here
   numbered_kind : (t : ℕ) (o : Option Live) (q : Spot) (onward : Kind) → option_map (λ f. f.kind) o ≡ Some onward → option_map (field_spot b t) o ≡ Some q → IsOfKind q onward
@@ -57,20 +71,30 @@ module _ (b : List ℕ) (S : Rows) where
   field_kinds (AtStruct k p) n q kind onward h e l = let i : kind ≡ Struct k = cc in placed_kind p (part_at S k n) q onward (rw i at e) l
   field_kinds p n q kind onward h e l = absurd cc
 
+  -- an element is of its kind, or there is none
+  element_kind_at : (n j : ℕ) (x q : Spot) (kind onward : Kind) → IsHere x kind → Some (if_element n j x) ≡ Some q → Some kind ≡ Some onward → IsOfKind q onward
+  element_kind_at n j x q kind onward here l e = along (if_element n j x) q kind onward (chosen (nat_lt j n) x AtNoElement kind (inl here) refl) l e
+
   element_kinds : (p : Spot) (j : ℕ) (q : Spot) (kind onward : Kind) → IsHere p kind → next_kind S kind (Element j) ≡ Some onward → spot_of_element b S p j ≡ Some q → IsOfKind q onward
   unfolding next_kind spot_of_element
-  element_kinds (AtScalars s c) j q kind onward h e l = grind arith
-  element_kinds (AtStructs k c) j q kind onward h e l = grind arith
-  element_kinds (AtScalarArray s m p) j q kind onward h e l = grind arith
-  element_kinds (AtStructArray k m p) j q kind onward h e l = grind arith
-  element_kinds (AtTexts c) j q kind onward h e l = grind arith
-  element_kinds (AtTables k c) j q kind onward h e l = grind arith
-  element_kinds (AtUnions u t c) j q kind onward h e l = grind arith
+  element_kinds (AtScalars s c) j q kind onward h e l = let i : kind ≡ Scalars s = cc in element_kind_at _ j _ q (AScalar s) onward refl l (rw i at e)
+  element_kinds (AtStructs k c) j q kind onward h e l = let i : kind ≡ Structs k = cc in element_kind_at _ j _ q (Struct k) onward refl l (rw i at e)
+  element_kinds (AtScalarArray s m p) j q kind onward h e l = let i : kind ≡ Scalars s = cc in element_kind_at _ j _ q (AScalar s) onward refl l (rw i at e)
+  element_kinds (AtStructArray k m p) j q kind onward h e l = let i : kind ≡ Structs k = cc in element_kind_at _ j _ q (Struct k) onward refl l (rw i at e)
+  element_kinds (AtTexts c) j q kind onward h e l = let i : kind ≡ Texts = cc in element_kind_at _ j _ q Text onward refl l (rw i at e)
+  element_kinds (AtTables k c) j q kind onward h e l = let i : kind ≡ Tables k = cc in element_kind_at _ j _ q (Table k) onward refl l (rw i at e)
+  element_kinds (AtUnions u t c) j q kind onward h e l = let i : kind ≡ Unions u = cc in element_kind_at _ j _ q (Union u) onward refl l (rw i at e)
   element_kinds p j q kind onward h e l = absurd cc
 
+  -- a member is of its kind, or another is there
+  member_kind_at : (y m p : ℕ) (o : Option Kind) (q : Spot) (onward : Kind) → o ≡ Some onward → option_map (λ kind. if y == m then member_spot b p kind else AtOtherMember) o ≡ Some q → IsOfKind q onward
+  member_kind_at y m p None q onward e l = absurd cc
+  member_kind_at y m p (Some kind) q onward e l = along (if y == m then member_spot b p kind else AtOtherMember) q kind onward (chosen (y == m) (member_spot b p kind) AtOtherMember kind (member_here b p kind) refl) l e
+
   member_kinds : (p : Spot) (m : ℕ) (q : Spot) (kind onward : Kind) → IsHere p kind → next_kind S kind (Member m) ≡ Some onward → spot_of_member b S p m ≡ Some q → IsOfKind q onward
-  unfolding next_kind member_spot
-  member_kinds p m q kind onward h e l = grind arith
+  unfolding next_kind
+  member_kinds (AtUnion u y p) m q kind onward h e l = let i : kind ≡ Union u = cc in member_kind_at y m p (member_of S u m) q onward (rw i at e) l
+  member_kinds p m q kind onward h e l = absurd cc
 
   own_kinds : (p : Spot) (s : Step) (q : Spot) (kind onward : Kind) → IsHere p kind → next_kind S kind s ≡ Some onward → Leads b S p s q → IsOfKind q onward
   unfolding next_spot

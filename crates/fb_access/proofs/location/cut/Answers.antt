@@ -4,3 +4,6 @@ use Rattle.fb_access.proofs.location.cut.Goals as goal
 
 pub returns-else-len-gt-MOST : goal.returns-else-len-gt-MOST
 returns-else-len-gt-MOST c = search (rules, told_whole, told_cut)
+
+pub returns-then-len-gt-MOST : goal.returns-then-len-gt-MOST
+returns-then-len-gt-MOST c = search (rules, told_whole, told_cut)

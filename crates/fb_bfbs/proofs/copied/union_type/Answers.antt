@@ -1,4 +1,4 @@
-use Rattle.std.proofs.Common.{inl, refl, sym}
+use Rattle.std.proofs.Common.{inl, inr, refl, sym}
 use Rattle.fb_access.specs.declared.step.Step.TheVariants.{Field as ToField}
 use Rattle.fb_access.specs.Denotes.{table}
 use Rattle.fb_bfbs.proofs.{Sure.table_is_here, Composed.seen_in, Composed.seen_after, Composed.type_within, FixedFields.computing, FixedFields.maybe}
@@ -17,3 +17,6 @@ unfolding computing
 returns-in-Some c =
     let on = c.in-Some.ensures.there 0 (maybe c.requires refl) in
     inl (seen_in c.args.place.now c.in-Some.ty (ToField 3) table on.same on.leads (sym (table_is_here c.in-Some.ty on.at)), type_within _ _ _ (seen_after c.args.place.now c.in-Some.ty (ToField 3) on.same on.leads) c.type_row.ensures)
+
+pub returns-in-None : goal.returns-in-None
+returns-in-None c = inr (c.in-None.ensures.absent, refl)

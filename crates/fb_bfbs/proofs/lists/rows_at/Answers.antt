@@ -1,4 +1,4 @@
-use Rattle.std.proofs.Common.{◌∷◌, refl, arith, rules}
+use Rattle.std.proofs.Common.{[], ◌∷◌, length-append, refl, arith, rules}
 use Rattle.fb_access.specs.declared.step.Step.TheVariants.{Element}
 use Rattle.fb_bfbs.specs.Seen.{seen, behind}
 use Rattle.fb_bfbs.proofs.Sure.{element_allowed, at_element}
@@ -26,10 +26,10 @@ loop-j-init g c = record {
 pub loop-j-preserved : goal.loop-j-preserved
 loop-j-preserved g c = record {
   place = refl;
-  count = search rules;
+  count = rw c.in_ok-push.ensures.items (omega (arith, length-append c.loop-j.rows.items (c.in_ok-row.row ∷ []), c.loop-j.invariant.count));
   within = omega arith;
-  rows = λ p way more. one_row_more g.R.FromTable.is_row (behind (seen p) way) c.loop-j.rows.items c.in_ok-row.row _ c.loop-j.j (search rules) c.loop-j.invariant.count (c.loop-j.invariant.rows p way more) (c.in_ok-row.ensures.row p (Element c.loop-j.j ∷ way) (said_after (behind (seen p) way) c.args.place.now c.go-element.result (Element c.loop-j.j) more c.go-element.ensures.same c.go-element.ensures.leads));
-  few = one_more_few g.R.FromTable.listed c.loop-j.rows.items c.in_ok-row.row _ (search rules) c.loop-j.invariant.few (rw c.go-element.ensures.same at c.in_ok-row.ensures.few);
+  rows = λ p way more. one_row_more g.R.FromTable.is_row (behind (seen p) way) c.loop-j.rows.items c.in_ok-row.row _ c.loop-j.j c.in_ok-push.ensures.items c.loop-j.invariant.count (c.loop-j.invariant.rows p way more) (c.in_ok-row.ensures.row p (Element c.loop-j.j ∷ way) (said_after (behind (seen p) way) c.args.place.now c.go-element.result (Element c.loop-j.j) more c.go-element.ensures.same c.go-element.ensures.leads));
+  few = one_more_few g.R.FromTable.listed c.loop-j.rows.items c.in_ok-row.row _ c.in_ok-push.ensures.items c.loop-j.invariant.few (rw c.go-element.ensures.same at c.in_ok-row.ensures.few);
 }
 
 pub returns-clause-rows : goal.returns-clause-rows
