@@ -1,0 +1,38 @@
+use Rattle.std.proofs.Common.{◌≡◌, refl, ℕ, ◌<◌, ◌≤◌, nat_lt, true, false, Option, Some, arith}
+use Rattle.std.proofs.lemmas.Bool.Decides.{nat_tests}
+use Rattle.fb_rules.specs.declared.{fault.Fault.Fault, site.Site.Site}
+use Rattle.fb_rules.specs.declared.fault.Reason.TheVariants.{TooDeep, TooManyTables}
+use Rattle.fb_rules.specs.{Bounds.Bounds, Stops.budget_failure, Told.told, Told.stopped, Told.way_at, Order.◌▷◌}
+use Rattle.fb_verify.proofs.stack.Walk.open_table.Goals as goal
+
+le_of : {a b x : ℕ} → x ≡ a → x ≤ b → a ≤ b
+le_of e h = omega arith
+
+lt_of : {a b x : ℕ} → x ≡ a → b < x → b < a
+lt_of e h = omega arith
+
+-- as many tables are open as may be
+too_deep : (L : Bounds) (site : Site) (links passed deepest paid at : ℕ) (rest : Option Fault) → L.depth ≤ links
+    → told site paid (budget_failure L (way_at links passed deepest paid site) at) ▷ rest ≡ Some (stopped (record { refusal = record { at = at; reason = TooDeep }; site = site }) paid)
+too_deep L site links passed deepest paid at rest h =
+    let t : nat_lt links L.depth ≡ false = grind (arith, nat_tests) in
+    rw t (grind arith)
+
+-- or as many were opened as may be
+too_many : (L : Bounds) (site : Site) (links passed deepest paid at : ℕ) (rest : Option Fault) → links < L.depth → L.tables ≤ passed
+    → told site paid (budget_failure L (way_at links passed deepest paid site) at) ▷ rest ≡ Some (stopped (record { refusal = record { at = at; reason = TooManyTables }; site = site }) paid)
+too_many L site links passed deepest paid at rest l h =
+    let t : nat_lt links L.depth ≡ true = grind (arith, nat_tests) in
+    let u : nat_lt passed L.tables ≡ false = grind (arith, nat_tests) in
+    rw (t, u) (grind arith)
+
+pub returns-then-links-depth-clause-err : goal.returns-then-links-depth-clause-err
+returns-then-links-depth-clause-err c =
+    too_deep c.args.self.now.limits c.args.site c.args.links c.args.self.now.tables c.args.self.now.deepest c.args.loan.now.count c.args.child.at _ (le_of c.depth.ensures.value c.if-links-depth.true)
+
+pub returns-then-self-tables_of-clause-err : goal.returns-then-self-tables_of-clause-err
+returns-then-self-tables_of-clause-err c =
+    too_many c.args.self.now.limits c.args.site c.args.links c.args.self.now.tables c.args.self.now.deepest c.args.loan.now.count c.args.child.at _ (lt_of c.depth.ensures.value c.if-links-depth.false) (le_of c.tables_of.ensures c.if-self-tables_of.true)
+
+pub returns-clause-opened : goal.returns-clause-opened
+returns-clause-opened c = rw c.max-self.ensures refl
