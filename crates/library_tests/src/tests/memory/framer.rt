@@ -43,21 +43,30 @@ struct Fed {
     fault: Option<StreamFault>,
 }
 
+/// Whether a whole message is held, of these bytes.
+fn holds<A: Allocator>(framer: &Framer<A>, bytes: Option<&[u8]>) -> bool {
+    let message = framer.message();
+    message.is_some() && message == bytes
+}
+
 /// Feeds a stream, at most so many bytes at a time, up to the first fault, and gives up each message once it is whole.
 /// A message counts where its bytes are those of the stream.
 fn feed_all<A: Allocator>(framer: &mut Framer<A>, stream: &[u8], most: usize) -> Fed {
     let mut messages = 0u32;
     let (mut begin, mut end) = (0usize, 0usize);
-    for _ in stream {
-        let rest = stream.get(end..).unwrap_or(&[]);
+    let mut rest = stream;
+    for _ in 0..stream.len() {
         match framer.feed(&rest[..most.min(rest.len())]) {
-            Ok(taken) => end = end.saturating_add(taken.used),
+            Ok(taken) => {
+                rest = &rest[taken.used..];
+                end = end.saturating_add(taken.used);
+            }
             Err(fault) => {
                 let fault = Some(fault);
                 return Fed { messages, fault };
             }
         }
-        if framer.message().is_some() && framer.message() == stream.get(begin..end) {
+        if holds(framer, stream.get(begin..end)) {
             messages = messages.saturating_add(1);
             begin = end;
         }
