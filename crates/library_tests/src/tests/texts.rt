@@ -74,6 +74,18 @@ fn is_told<T: Display>(
     Ok(())
 }
 
+/// Asserts the text of each of these faults.
+fn all_told<T: Display>(
+    rt: &impl Abort,
+    alloc: Global,
+    cases: &[(T, &str)],
+) -> Result<(), AllocError> {
+    for (fault, want) in cases {
+        is_told(rt, alloc, fault, want)?;
+    }
+    Ok(())
+}
+
 /// Asserts the text of a fault with this reason.
 fn reason_is_told(
     rt: &impl Abort,
@@ -97,14 +109,7 @@ fn each_fault_has_its_text(rt: HostRuntime) -> Result<(), Fail> {
     for (reason, name) in REASONS {
         reason_is_told(&rt, rt.alloc(), reason, name)?;
     }
-    for (fault, want) in OF_FILES {
-        is_told(&rt, rt.alloc(), &fault, want)?;
-    }
-    for (fault, want) in OF_PATHS {
-        is_told(&rt, rt.alloc(), &fault, want)?;
-    }
-    for (fault, want) in OF_STREAMS {
-        is_told(&rt, rt.alloc(), &fault, want)?;
-    }
-    Ok(())
+    all_told(&rt, rt.alloc(), &OF_FILES)?;
+    all_told(&rt, rt.alloc(), &OF_PATHS)?;
+    Ok(all_told(&rt, rt.alloc(), &OF_STREAMS)?)
 }
