@@ -673,11 +673,22 @@ class LibraryForC(LibraryCase):
             ]:
                 told = verifier.verify(given, python.Options(**asked))
                 self.same(name, (told.status, told.reason), want)
+        unbounded = {"max_reads": 2**64 - 1, "reads_per_byte": 2**32 - 1}
         with python.Verifier(schemas.M) as verifier:
+            for asked, most in [
+                ({}, 84_000_004), ({"max_tables": 0}, 4), ({"max_reads": 0}, 7), ({"max_reads": 10}, 17),
+                ({"max_reads": 83_999_996}, 84_000_003),
+            ]:
+                told = verifier.most_reads(32, python.Options(**{**unbounded, **asked}))
+                self.same(f"32 bytes with {asked}: all that a check may make, or the budget and 7", told, most)
             for reads, length, most in [(64, 32, 6_144), (0, 32, 4_096), (64, 1_562_435, 99_999_936),
                                         (64, 1_562_437, 100_000_000), (2**32 - 1, 2_147_483_647, 100_000_000)]:
                 told = verifier.most_reads(length, python.Options(reads_per_byte=reads))
                 self.same(f"{length} bytes at {reads} reads each: the budget and 7", told, most + 7)
+        with python.Verifier(schemas.schema([], [])) as verifier:
+            for length in 0, 32, 0x7FFF_FFFF:
+                told = verifier.most_reads(length, python.Options(max_tables=7, **unbounded))
+                self.same(f"{length} bytes by a schema without tables", told, 32)
 
     def test_examples(self):
         """The programs of examples/c, and the module for Python, on the messages of the example."""

@@ -5,9 +5,10 @@ import re
 import subprocess
 
 from tests.support import schemas
-from tests.support.case_text import bytes_of
+from tests.support.case_text import bytes_of, rows_of
 from tests.support.library import LibraryCase, module
-from tests.support.program import Ran, built
+from tests.support.listing import built_in
+from tests.support.program import TOP, Ran, built
 from tests.support.told import line
 
 # What flatc 2.0.8 writes for this schema:
@@ -87,6 +88,18 @@ class Loading(LibraryCase):
     def test_a_file_that_is_no_schema_is_refused(self):
         for shows, text, want in REFUSED:
             self.same(f"{shows}: {text}", self.told(text), Ran(0, f"fault {want}\n", b""))
+
+    def test_the_built_in_table_is_the_one_typed_anew(self):
+        """Everything that is told of each table and its live fields."""
+        ran = subprocess.run([self.probe, "built-in"], capture_output=True, timeout=60)
+        self.same("the listing", (ran.returncode, ran.stdout.decode().splitlines(), ran.stderr), (0, built_in(), b""))
+
+    def test_the_schema_of_the_tests_in_the_crate(self):
+        """It is the file of the rows that stand beside it."""
+        text = (TOP / "crates/library_tests/src/tests/unions.rt").read_text()
+        rows = " ".join(re.search(r"```text\n(.*?)/// ```", text, re.S)[1].replace("///", "").split())
+        given = re.search(r'FILE: &\[u8\] = b"(.*?)";', text, re.S)[1]
+        self.same("the file", bytes.fromhex(re.sub(r"[\\x\s]", "", given)).hex(), schemas.schema(*rows_of(rows)).hex())
 
     def refusal(self, python, **limits):
         """Why the library doesn't load FILE within these limits, or None."""

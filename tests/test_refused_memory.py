@@ -3,13 +3,14 @@ tells its own want of memory and nothing else."""
 
 import dataclasses
 
-from tests.support.builder import messages_of
-from tests.support.buffers import POST
+from tests.support.buffers import POST, levels
+from tests.support.builder import messages_of, prefixed
 from tests.support.cases import Case
 from tests.support.preloaded import (
     ALONE, WHOLE, WITH_LATER, Plan, is_front, is_front_of_messages, is_nothing, refusing, sweep,
 )
-from tests.support.program import PROGRAM, TOP, built, oversize
+from tests.support.program import PROGRAM, TOP, Ran, built, file_of, lines, oversize, run
+from tests.support.schemas import CHAIN
 
 EXAMPLES = TOP / "examples"
 SCHEMA = EXAMPLES / "deliveries.bfbs"
@@ -19,25 +20,28 @@ SCHEMA = EXAMPLES / "deliveries.bfbs"
 class Call:
     """A call of `probe calls`: how it tells that it came to its end, and that memory was refused.
 
-    `leads` says whether the calls below it are made where it was refused.
+    `leads` says whether the calls below it are made where it was refused, and `asks` whether it makes a request.
     """
 
     name: str
     well: str
     refused: str
     leads: bool = True
+    asks: bool = True
 
 
 # The calls in their order.
-SHORT_PATH, LONG_PATH = "any@Leaf.size", "next.next.next.next.next.next.name"
+LONG_PATH = ".".join(["next"] * 8 + ["name"])
+STEPS = {"any@Leaf.size": 3, "many[0]@Text": 3, "many_type[0]": 2, "many": 1, LONG_PATH: 9}
 CALLS = [
     Call("reflection", "ok", "out of memory"),
     Call("load", "ok", "L4 OutOfMemory"),
-    Call("scratch", "ok", "out of memory"),
+    Call("scratch 0", "ok, 0 levels", "", asks=False),
+    *[Call(f"scratch {depth}", f"ok, {depth} levels", "out of memory") for depth in (1, 64, 4096)],
+    Call("scratch 4097", "limit out of range", "", asks=False),
     Call("rows", "ok", "out of memory", leads=False),
-    Call("build", "ok", "C9 OutOfMemory", leads=False),
-    Call(f"resolve {SHORT_PATH}", "ok, 3 steps", "P7 OutOfMemory"),
-    Call(f"resolve {LONG_PATH}", "ok, 7 steps", "P7 OutOfMemory"),
+    Call("build", "ok, 3 objects", "OutOfMemory owner=0 part=-", leads=False),
+    *[Call(f"resolve {path}", f"ok, {steps} steps", "P7 OutOfMemory") for path, steps in STEPS.items()],
 ]
 
 
@@ -45,7 +49,7 @@ def told_of_calls(given, refused_at, extent):
     """The lines of `probe calls` where the call numbered `refused_at` meets the first refusal."""
     lines = [f"input: {len(given)} bytes"]
     for number, call in enumerate(CALLS):
-        meets = number == refused_at or (number > refused_at and extent == WITH_LATER)
+        meets = number == refused_at or (number > refused_at and extent == WITH_LATER and call.asks)
         lines.append(f"{call.name}: {call.refused if meets else call.well}")
         if meets and not call.leads:
             break
@@ -107,8 +111,10 @@ class RefusedMemory(Case):
         whole = refusing(words, given)
         self.same("without a refusal", (whole.lines(), whole.status), (told_of_calls(given, len(CALLS), ALONE), 0))
         until = whole.asked_before()
-        self.holds("each call makes a request, and none is made after them",
-                   all(before != after for before, after in zip(until, until[1:])) and until[-1] == whole.asked, until)
+        self.same("the calls that make requests", [before != after for before, after in zip(until, until[1:])],
+                  [call.asks for call in CALLS])
+        self.same("none is made after them", until[-1], whole.asked)
+        self.holds("a long path asks more than once", until[-1] - until[-2] > 1, until)
         for extent in ALONE, WITH_LATER:
             for first, run in enumerate(sweep(words, given, extent), 1):
                 told = run.status, run.lines(), run.err, run.refused > 0
@@ -117,6 +123,8 @@ class RefusedMemory(Case):
                 else:
                     call = next(number for number, last in enumerate(until[1:]) if first <= last)
                     want = 0, told_of_calls(given, call, extent), b"", True
+                    self.same(f"request {first}, {extent}: the call asks for nothing more",
+                              run.asked_before()[call + 1], first)
                 self.same(f"request {first}, {extent}", told, want)
 
     def test_each_run(self):
@@ -134,6 +142,33 @@ class RefusedMemory(Case):
         ]:
             run = refusing([PROGRAM, *words], given)
             self.same(words, (run.status, run.reads[:1]), (status, [run.asked]))
+
+    def test_a_walk_takes_no_memory(self):
+        """Deep and flat lists in one piece, in order and back: all that is asked for comes before the first read, but
+        for the line of a bad one. So a walk serves where what came before it took the last byte."""
+        by = "--schema", file_of("chain.bfbs", CHAIN), "--delimited"
+        deep, flat = prefixed(levels(4096)), prefixed(levels(64))
+        for depth, wants in [
+            (4096, {deep: "ok tables=4096 depth=4096 reads=16383", flat: "ok tables=64 depth=64 reads=255"}),
+            (4095, {deep: "bad V6 TooDeep at=32776 object=0 field=0 reads=16381",
+                    flat: "ok tables=64 depth=64 reads=255"}),
+            (64, {deep: "bad V6 TooDeep at=528 object=0 field=0 reads=257", flat: "ok tables=64 depth=64 reads=255"}),
+        ]:
+            words = *by, "--max-depth", str(depth)
+            given = [deep, flat, flat, deep]
+            status = int(any(want.startswith("bad") for want in wants.values()))
+            told = run(*words, given=b"".join(given))
+            self.same(f"{depth} levels", told, Ran(status, lines(*[
+                f"{number} {wants[message]}" for number, message in enumerate(given, 1)]), b""))
+            quiet = [PROGRAM, *map(str, words), "--quiet"]
+            # what the line of a message takes that is refused before any walk
+            line = status and refusing(quiet, file_of("lists", flat + prefixed(b"")))
+            told = status and line.asked - line.reads[0]
+            for piece in file_of("deep first", deep + flat), file_of("flat first", flat + deep):
+                alone = refusing(quiet, piece)
+                self.same(f"{depth} levels, requests", (alone.status, alone.asked - alone.reads[0]), (status, told))
+                later = refusing(quiet, piece, alone.asked + 1, WITH_LATER)
+                self.same(f"{depth} levels, none left", (later.status, later.refused), (status, 0))
 
     def test_an_oversize_prefix(self):
         """A prefix that declares too much makes no request: the same requests are made without it."""

@@ -2,8 +2,8 @@
 under every choice of the checks; within each budget of reads and within small limits; with identifiers.
 
 The library tells the same in every number, the same way to a fault in words, which is a path that resolves, and where
-it says yes the same value at the end of every path. It reads no more than it tells in advance, nor than 7 past a
-budget.
+it says yes the same value at the end of every path, and the counts on the tree of tables, built whole. It reads no more
+than it tells in advance, nor than 7 past a budget.
 """
 
 import collections
@@ -21,6 +21,8 @@ PARTS = 4
 SMALL = [*itertools.product(range(4), [1_000_000]), *itertools.product([64], range(4)),
          *itertools.product(range(4), range(4))]
 BUDGETS = [None, 0, 1, 2, 3, 5, 8, 12]
+# Depth, tables and budgets, of which each ends a walk in another place under each choice of the checks.
+MIXED = [(1, 1_000_000, None), (2, 2, None), (3, 6, None), (0, 0, None), (64, 3, 8), (64, 0, 3)]
 REASONS = range(1, 14)
 PYTHON = None
 
@@ -80,6 +82,17 @@ def of_limits(name):
     return yes, beside.wrong[:3]
 
 
+def of_mixed(name):
+    """Every front of the buffer within limits that are mixed, under every choice of the checks."""
+    beside = Beside(PYTHON, SWEPT[name])
+    for checks, (depth, tables, reads), data in itertools.product(CHECKS, MIXED, cuts(SWEPT[name].data)):
+        beside.ask(data, **within(reads, depth=depth, tables=tables, **checks))
+    for checks, reads, data in itertools.product(CHECKS, BUDGETS, cuts(SWEPT[name].data)):
+        beside.ask(data, **within(reads, **checks))
+        beside.ask(data, b"BFBS", **within(reads, **checks))
+    return beside.wrong[:3]
+
+
 def of_identifiers(name):
     """Every front of the buffer with the identifier that it has, which changes no yes to a no where it may be read, and
     with another."""
@@ -124,6 +137,10 @@ class Sweeps(LibraryCase):
     def test_small_limits(self):
         for name, (yes, wrong) in zip(SWEPT, each(of_limits, SWEPT)):
             self.same(f"{name}: what is told otherwise within small limits, with what should be", wrong, [])
+
+    def test_mixed_limits(self):
+        for name, wrong in zip(SWEPT, each(of_mixed, SWEPT)):
+            self.same(f"{name}: what is told otherwise within mixed limits, with what should be", wrong, [])
 
     def test_identifiers(self):
         for name, wrong in zip(SWEPT, each(of_identifiers, SWEPT)):

@@ -8,6 +8,7 @@ from tests.support.paths import names_in, text_of, told, ways
 from tests.support.swept import SCHEMAS
 from tests.support.told import line
 from tests.support.told import text_of as value_text
+from tests.support.tree import Builder
 
 PAST_BUDGET = 7
 
@@ -43,11 +44,20 @@ class Beside:
         verdict = self.verifier.verify(data, options)
         walk = Walk(self.schema, self.root, data, **limits)
         pairs = [(line(verdict), walk.verdict(ident, self.prefixed))]
-        pairs += self.of_values(data, options) if verdict.ok else self.of_place(data, options, verdict, walk)
+        if verdict.ok:
+            counts = self.on_tree(data, ident, limits.get("inline_size", False))
+            pairs += [((verdict.tables, verdict.depth, verdict.reads), counts), *self.of_values(data, options)]
+        else:
+            pairs += self.of_place(data, options, verdict, walk)
         most = min(self.verifier.most_reads(len(data), options), limits.get("reads", 2**64) + PAST_BUDGET)
         pairs.append((verdict.reads <= most, True))
         self.wrong += [(got, want, data.hex(), ident, limits) for got, want in pairs if got != want]
         return verdict
+
+    def on_tree(self, data, ident, inline_size):
+        """The counts of a good buffer on its tree, which is built whole before."""
+        tree = Builder(self.schema, self.root, data, self.prefixed, 2 + inline_size).built()
+        return tree.tables(), tree.depth(), tree.reads() + 1 + self.prefixed + (ident is not None)
 
     def of_values(self, data, options):
         """Pairs of the values at the ends of all paths in a good buffer: what the library tells, and what it should."""

@@ -1,4 +1,4 @@
-"""Rows of schemas and bytes of buffers as text, as the tests in crates have them.
+"""Rows of schemas and bytes of buffers as text.
 
     A table: a@4 int, b@4 [obj]#0 gone far; S struct 8/4: ; U union: m=1 string, n=2 none
 

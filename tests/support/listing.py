@@ -2,6 +2,7 @@
 JSON as flatc writes it.
 """
 
+from tests.support import schemas
 from tests.support.naive import number_at
 
 # What a base type holds one of, from number 1 on, and its bytes.
@@ -121,3 +122,9 @@ def described(row):
     told = {"objects": [described_object(row) for row in row[0]], "enums": [{"values": each} for each in values]}
     told |= {"file_ident": escaped(row[2])} if 2 in row else {}
     return told | ({"root_table": {"name": escaped(row[4][0])}} if 4 in row else {})
+
+
+def built_in():
+    """The lines of the built-in table by its rows that were typed anew. Each table may stand anywhere."""
+    listing = Listing(described({0: [{**row, 3: ("i", 1)} for row in schemas.reflection()], 1: []}))
+    return [line for number in range(len(listing.objects)) for line in listing.object(number)]

@@ -78,7 +78,7 @@ class Run:
 
 def refusing(words, given, first=0, extent=ALONE, most=WHOLE):
     """A run in which the request numbered `first` is refused; none where it is 0. `most` is how many bytes a read of
-    standard input gives."""
+    standard input gives. What is given by the path of a file comes in whole pieces, and by a pipe maybe in smaller ones."""
     with tempfile.NamedTemporaryFile("r", dir=FOLDER) as report:
         settings = {
             "LD_PRELOAD": f"{shared_library('ends/narrow.c')} {shared_library('memory/refuse.c')}",
@@ -87,7 +87,11 @@ def refusing(words, given, first=0, extent=ALONE, most=WHOLE):
             "REFUSE_LATER": "1" if extent == WITH_LATER else "0",
             "REFUSE_REPORT": report.name,
         }
-        ran = subprocess.run(words, input=given, capture_output=True, env=settings, timeout=SECONDS)
+        if isinstance(given, bytes):
+            ran = subprocess.run(words, input=given, capture_output=True, env=settings, timeout=SECONDS)
+        else:
+            with open(given, "rb") as file:
+                ran = subprocess.run(words, stdin=file, capture_output=True, env=settings, timeout=SECONDS)
         *calls, (end, asked, refused) = [line.split() for line in report]
     assert end == "end", calls
     reads = [int(before) for call, before, _ in calls if call == "read"]

@@ -1,9 +1,9 @@
 mod access;
-mod bfbs;
 mod bytes;
 mod compare;
 mod memory;
 mod reader;
-mod rows;
 mod schema;
+mod texts;
+mod unions;
 mod verify;

@@ -3,15 +3,25 @@
 //! Each answer is written before the next call is made, so it is known which call met a request that was refused.
 
 use crate::hand::{NODE, hand_rows};
+use crate::texts::Maybe;
 use fb_access::Path;
 use fb_bfbs::{load, reflection};
-use fb_schema::{Code, Schema, SchemaFault};
+use fb_schema::Schema;
 use fb_verify::{Limits, Scratch, ScratchFault};
 use std::alloc::Global;
 use std::io;
 
-/// A path of one growth of its steps, and one of more.
-const PATHS: [&str; 2] = ["any@Leaf.size", "next.next.next.next.next.next.name"];
+/// Paths of one growth of their steps, and one of more.
+const PATHS: [&str; 5] = [
+    "any@Leaf.size",
+    "many[0]@Text",
+    "many_type[0]",
+    "many",
+    "next.next.next.next.next.next.next.next.name",
+];
+
+/// Depths of scratches, of which the first takes no memory, and the last is too deep.
+const DEPTHS: [u32; 5] = [0, 1, 64, 4096, 4097];
 
 /// What is told of a call.
 fn told<T: Drop, E: Drop>(answer: Result<T, E>) -> &'static str {
@@ -32,11 +42,11 @@ fn call_load(rt: HostRuntime, bytes: &[u8]) -> io::Result<()> {
     }
 }
 
-fn call_scratch(rt: HostRuntime) -> io::Result<()> {
-    match Scratch::new(rt.alloc(), 4096) {
-        Ok(_) => println!(rt; "scratch: ok"),
-        Err(ScratchFault::OutOfMemory) => println!(rt; "scratch: out of memory"),
-        Err(ScratchFault::LimitOutOfRange) => println!(rt; "scratch: limit out of range"),
+fn call_scratch(rt: HostRuntime, depth: u32) -> io::Result<()> {
+    match Scratch::new(rt.alloc(), depth) {
+        Ok(scratch) => println!(rt; "scratch {depth}: ok, {} levels", scratch.depth()),
+        Err(ScratchFault::OutOfMemory) => println!(rt; "scratch {depth}: out of memory"),
+        Err(ScratchFault::LimitOutOfRange) => println!(rt; "scratch {depth}: limit out of range"),
     }
 }
 
@@ -50,13 +60,6 @@ fn call_resolve(rt: HostRuntime, schema: &Schema<'_>, text: &str) -> io::Result<
     }
 }
 
-fn tell_refusal(rt: HostRuntime, fault: SchemaFault) -> io::Result<()> {
-    match fault.code {
-        Code::OutOfMemory => println!(rt; "build: C9 OutOfMemory"),
-        code => println!(rt; "build: {code:?}"),
-    }
-}
-
 fn call_build(rt: HostRuntime, alloc: Global) -> io::Result<()> {
     let Ok(rows) = hand_rows(alloc) else {
         return println!(rt; "rows: out of memory");
@@ -64,13 +67,16 @@ fn call_build(rt: HostRuntime, alloc: Global) -> io::Result<()> {
     println!(rt; "rows: ok")?;
     match Schema::build(alloc, rows.objects, rows.enums) {
         Ok(schema) => {
-            println!(rt; "build: ok")?;
+            println!(rt; "build: ok, {} objects", schema.object_count())?;
             for text in PATHS {
                 call_resolve(rt, &schema, text)?;
             }
             Ok(())
         }
-        Err(fault) => tell_refusal(rt, fault),
+        Err(fault) => {
+            let part = Maybe(fault.part);
+            println!(rt; "build: {:?} owner={} part={part}", fault.code, fault.owner)
+        }
     }
 }
 
@@ -80,6 +86,8 @@ pub fn make_calls(rt: HostRuntime, bytes: &[u8]) -> io::Result<()> {
     println!(rt; "input: {} bytes", bytes.len())?;
     call_reflection(rt)?;
     call_load(rt, bytes)?;
-    call_scratch(rt)?;
+    for depth in DEPTHS {
+        call_scratch(rt, depth)?;
+    }
     call_build(rt, rt.alloc())
 }

@@ -4,7 +4,7 @@ ghost use Rattle.std.specs.Prelude.{◌≡◌, ◌<◌, ◌^◌, length, vec_len
 ghost use Rattle.fb_schema.specs.Rows.{AreFew};
 
 use fb_schema::base_type::{NONE, OBJ, SHORT, STRING, UNION, UTYPE};
-use fb_schema::builders::{field, member, one, structure, table, union};
+use fb_schema::builders::{field, member, one, structure, table, union, vector};
 use fb_schema::{EnumRow, ObjectRow};
 use std::alloc::{AllocError, Global};
 
@@ -31,16 +31,18 @@ fn place(alloc: Global) -> Result<ObjectRow<'static>, AllocError>
     structure(alloc, b"Place", 4, 2, &fields)
 }
 
-/// `table Node { at: Place; next: Node; any: Any; name: string; }`.
+/// `table Node { at: Place; next: Node; any: Any; many: [Any]; name: string; }`.
 fn node(alloc: Global) -> Result<ObjectRow<'static>, AllocError>
-    ensures { IfOk result (λ t. vec_len t.fields ≡ 5) }
+    ensures { IfOk result (λ t. vec_len t.fields ≡ 7) }
 {
     let fields = [
         field(b"at", 4, one(OBJ).naming(PLACE)),
         field(b"next", 6, one(OBJ).naming(NODE as i32)),
         field(b"any_type", 8, one(UTYPE)),
         field(b"any", 10, one(UNION).naming(0)),
-        field(b"name", 12, one(STRING)),
+        field(b"many_type", 12, vector(UTYPE)),
+        field(b"many", 14, vector(UNION).naming(0)),
+        field(b"name", 16, one(STRING)),
     ];
     table(alloc, b"Node", &fields)
 }

@@ -74,6 +74,14 @@ fn list_object(rt: HostRuntime, schema: &Schema<'_>, number: u32) -> io::Result<
     Ok(())
 }
 
+/// Each object of a schema.
+pub fn list_objects(rt: HostRuntime, schema: &Schema<'_>) -> io::Result<()> {
+    for number in 0..schema.object_count() {
+        list_object(rt, schema, number)?;
+    }
+    Ok(())
+}
+
 /// Everything that was loaded: the root, the identifier, and then each object.
 pub fn list(rt: HostRuntime, loaded: &Loaded<'_>) -> io::Result<()> {
     println!(rt; "root={}", Maybe(loaded.root))?;
@@ -81,8 +89,5 @@ pub fn list(rt: HostRuntime, loaded: &Loaded<'_>) -> io::Result<()> {
         Some(ident) => println!(rt; "ident={}", Name(ident))?,
         None => println!(rt; "no ident")?,
     }
-    for number in 0..loaded.schema.object_count() {
-        list_object(rt, &loaded.schema, number)?;
-    }
-    Ok(())
+    list_objects(rt, &loaded.schema)
 }

@@ -1,7 +1,7 @@
 //! `probe` reads a schema file from standard input, and tells what the libraries answer: a listing of what `load`
-//! gives, or the answer of each call that takes memory.
+//! gives or of the table that is built in, or the answer of each call that takes memory.
 //!
-//! The tests from outside ask it: `probe list` and `probe calls`. The exit status is 0 where it came to its end,
+//! The tests from outside ask it: `probe list`, `probe built-in` and `probe calls`. The exit status is 0 where it came to its end,
 //! whatever was answered, 2 for other words, and 3 where its own reading failed.
 #![tactic(auto)]
 
@@ -12,9 +12,9 @@ mod mode;
 mod texts;
 
 use calls::make_calls;
-use fb_bfbs::load;
+use fb_bfbs::{load, reflection};
 use fb_verify::Limits;
-use listing::list;
+use listing::{list, list_objects};
 use mode::{Mode, mode_of};
 use std::io;
 use std::io::{ErrorKind, Read};
@@ -44,15 +44,22 @@ fn list_file(rt: HostRuntime, bytes: &[u8]) -> io::Result<()> {
     }
 }
 
+/// Lists the table of schema files that is built in.
+fn list_built_in(rt: HostRuntime) -> io::Result<()> {
+    let schema = reflection(rt.alloc())?;
+    list_objects(rt, &schema)
+}
+
 /// Does what the word asks for; answers the exit status.
 fn start(rt: HostRuntime) -> io::Result<u8> {
     let Some(mode) = read_mode(rt)? else {
-        eprintln!(rt; "usage: probe list|calls <FILE.bfbs")?;
+        eprintln!(rt; "usage: probe list|built-in|calls <FILE.bfbs")?;
         return Ok(2);
     };
     let bytes = read_input(rt)?;
     match mode {
         Mode::List => list_file(rt, &bytes)?,
+        Mode::BuiltIn => list_built_in(rt)?,
         Mode::Calls => make_calls(rt, &bytes)?,
     }
     Ok(0)

@@ -1,13 +1,15 @@
 //! What the probe is asked for.
 
 ghost use Rattle.std.specs.Prelude.{◌≡◌, ◌↔◌, Some, codes};
-ghost use Rattle.probe.specs.declared.mode.Mode.TheVariants.{List as AList, Calls as SomeCalls};
+ghost use Rattle.probe.specs.declared.mode.Mode.TheVariants.{List as AList, BuiltIn as TheBuiltIn, Calls as SomeCalls};
 
 /// What the probe is asked for.
 #[derive(Clone, Copy, Debug, PartialEq, Eq)]
 pub enum Mode {
     /// A listing of what a schema file describes.
     List,
+    /// A listing of the table of schema files that is built in.
+    BuiltIn,
     /// The answer of each call that takes memory.
     Calls,
 }
@@ -15,10 +17,12 @@ pub enum Mode {
 /// The mode that a word names.
 pub fn mode_of(word: &str) -> Option<Mode>
     ensures list { (result ≡ Some AList) ↔ (word.now ≡ codes "list") }
+    ensures built_in { (result ≡ Some TheBuiltIn) ↔ (word.now ≡ codes "built-in") }
     ensures calls { (result ≡ Some SomeCalls) ↔ (word.now ≡ codes "calls") }
 {
     match word {
         "list" => Some(Mode::List),
+        "built-in" => Some(Mode::BuiltIn),
         "calls" => Some(Mode::Calls),
         _ => None,
     }

@@ -5,8 +5,6 @@
 #![tactic(auto)]
 
 mod plans;
-#[cfg(test)]
-mod tests;
 
 pub use plans::Plan;
 use std::alloc::{AllocError, Allocator};

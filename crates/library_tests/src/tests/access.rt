@@ -1,5 +1,3 @@
-mod cases;
 mod fixtures;
 mod locations;
-mod path_faults;
 mod worked;

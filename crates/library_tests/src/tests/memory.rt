@@ -1,4 +1,1 @@
-mod build;
 mod framer;
-mod paths;
-mod walks;

@@ -1,7 +1,7 @@
 //! The README's example over a good buffer, and bad ones.
 
+use crate::tests::compare::same;
 use name_reader::name_in;
-use std::test::Fail;
 
 /// What flatc 2.0.8 writes for `table Person { name: string; } table Delivery { to: Person; } root_type Delivery;`.
 const SCHEMA: &[u8] = b"\
@@ -29,19 +29,17 @@ const DELIVERY: [u8; 44] = [
 ];
 
 #[test]
-fn the_name_of_a_good_buffer_is_read(rt: HostRuntime) -> Result<(), Fail> {
-    let name = name_in(rt.alloc(), SCHEMA, DELIVERY.as_slice()).ok_or("no name")?;
-    assert!(rt; name == b"Ada".as_slice());
-    Ok(())
+fn the_name_of_a_good_buffer_is_read(rt: HostRuntime) {
+    let name = name_in(rt.alloc(), SCHEMA, DELIVERY.as_slice());
+    same(&rt, name, Some(b"Ada".as_slice()));
 }
 
 #[test]
 fn no_name_is_read_of_a_buffer_that_is_cut_off_or_has_no_good_schema(rt: HostRuntime) {
     for end in 0..DELIVERY.len() {
-        assert!(rt;
-            name_in(rt.alloc(), SCHEMA, &DELIVERY[..end]).is_none(),
-            "at {end}"
-        );
+        let name = name_in(rt.alloc(), SCHEMA, &DELIVERY[..end]);
+        same(&rt, (end, name), (end, None));
     }
-    assert!(rt; name_in(rt.alloc(), &SCHEMA[1..], DELIVERY.as_slice()).is_none());
+    let name = name_in(rt.alloc(), &SCHEMA[1..], DELIVERY.as_slice());
+    same(&rt, name, None);
 }

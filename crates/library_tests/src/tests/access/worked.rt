@@ -1,69 +1,75 @@
 //! Which steps are allowed, and what those lead to that no path has. What paths lead to is asked from outside
 //! (`tests/test_worked_cases.py`).
 
-use super::cases::all_answered;
-use super::fixtures::{Reading, answer_at};
+use super::fixtures::answer_at;
 use crate::tests::compare::same;
-use crate::tests::rows::{MONSTERS, UNIONS};
-use case_text::buffer::bytes_of;
+use crate::tests::unions::{Q, R};
 use fb_access::Answer;
-use fb_access::step::Step::Field;
-use std::alloc::Global;
-use std::process::Abort;
+use fb_access::step::Step;
+use fb_access::step::Step::{Element, Field, Member};
 use std::test::Fail;
 
-/// The root is the first table.
-const MONSTER: Reading<'static> = Reading {
-    rows: MONSTERS,
-    root: 0,
-};
+/// From `R`: a table whose vtable has no slot.
+const EMPTY: &[u8] = b"\x08\0\0\0\x04\0\x04\0\x04\0\0\0";
 
-/// The name in these bytes.
-fn name_of<'b>(rt: &impl Abort, alloc: Global, bytes: &'b [u8]) -> Result<Answer<'b>, Fail> {
-    let name = answer_at(rt, alloc, MONSTER, bytes, &[Field(1)])?;
-    Ok(name.expect(rt, "an allowed step"))
-}
-
-#[test]
-fn a_text_outlives_all_but_the_bytes(rt: HostRuntime) -> Result<(), Fail> {
-    let bytes = bytes_of(rt.alloc(), "ORC")?;
-    let name = name_of(&rt, rt.alloc(), &bytes)?;
-    same(&rt, name, Answer::Text(b"Orc"));
-    Ok(())
-}
-
-const NOTHING_ALLOWS: &str = "\
-                 | Table\n\
-    .1 .7 [9] @0 | Absent\n\
+/// From `R`: its type byte 1 at 20, its offset word at 16, the table with a 5 at 32.
+const PICKED: &[u8] = b"\
+    \x0c\0\0\0\x08\0\x0c\0\x08\0\x04\0\x08\0\0\0\x10\0\0\0\x01\0\0\0\
+    \x06\0\x08\0\x04\0\0\0\x08\0\0\0\x05\0\0\0\
 ";
 
-const ONE_MEMBER_ALLOWS: &str = "\
-    .1       | Union(1)\n\
-    .2       | not allowed\n\
-    [0]      | not allowed\n\
-    @1       | not allowed\n\
-    .1 @3    | OtherMember\n\
-    .1 @0    | not allowed\n\
-    .1 @9    | not allowed\n\
-    .1 .0    | not allowed\n\
-    .0       | UInt(1)\n\
-    .0 [0]   | not allowed\n\
-    .1 @3 .9 | OtherMember\n\
+/// From `Q`: the text `hi` and nothing; the types' vector at 24, the values' at 32.
+const HI: &[u8] = b"\
+    \x0c\0\0\0\x08\0\x0c\0\x04\0\x08\0\x08\0\0\0\x08\0\0\0\x0c\0\0\0\
+    \x02\0\0\0\x03\0\0\0\x02\0\0\0\x08\0\0\0\0\0\0\0\x02\0\0\0hi\0\0\
 ";
 
-const UNIONS_ALLOW: &str = "\
-    .1 [4294967295] | NoElement\n\
-    .1 @1           | not allowed\n\
-    .1 [0] @3       | Text(\"hi\")\n\
-    .1 [0] @3 [0]   | not allowed\n\
-";
+/// The root, the buffer, and steps with what they lead to; none where one of them isn't allowed.
+const ALLOWED: [(u32, &[u8], &[Step], Option<Answer<'static>>); 17] = [
+    (R, EMPTY, &[], Some(Answer::Table)),
+    (
+        R,
+        EMPTY,
+        &[Field(1), Field(7), Element(9), Member(0)],
+        Some(Answer::Absent),
+    ),
+    (R, PICKED, &[Field(1)], Some(Answer::Union(1))),
+    (R, PICKED, &[Field(2)], None),
+    (R, PICKED, &[Element(0)], None),
+    (R, PICKED, &[Member(1)], None),
+    (R, PICKED, &[Field(1), Member(3)], Some(Answer::OtherMember)),
+    (R, PICKED, &[Field(1), Member(0)], None),
+    (R, PICKED, &[Field(1), Member(9)], None),
+    (R, PICKED, &[Field(1), Field(0)], None),
+    (R, PICKED, &[Field(0)], Some(Answer::UInt(1))),
+    (R, PICKED, &[Field(0), Element(0)], None),
+    (
+        R,
+        PICKED,
+        &[Field(1), Member(3), Field(9)],
+        Some(Answer::OtherMember),
+    ),
+    (
+        Q,
+        HI,
+        &[Field(1), Element(u32::MAX)],
+        Some(Answer::NoElement),
+    ),
+    (Q, HI, &[Field(1), Member(1)], None),
+    (
+        Q,
+        HI,
+        &[Field(1), Element(0), Member(3)],
+        Some(Answer::Text(b"hi")),
+    ),
+    (Q, HI, &[Field(1), Element(0), Member(3), Element(0)], None),
+];
 
 #[test]
 fn what_is_here_allows_its_own_steps_alone(rt: HostRuntime) -> Result<(), Fail> {
-    all_answered(&rt, rt.alloc(), MONSTER, "EMPTY", NOTHING_ALLOWS)?;
-    for (root, buffer, cases) in [(2, "PICKED", ONE_MEMBER_ALLOWS), (3, "HI", UNIONS_ALLOW)] {
-        let reading = Reading { rows: UNIONS, root };
-        all_answered(&rt, rt.alloc(), reading, buffer, cases)?;
+    for (root, bytes, steps, want) in ALLOWED {
+        let answer = answer_at(&rt, rt.alloc(), root, bytes, steps)?;
+        same(&rt, (steps, answer), (steps, want));
     }
     Ok(())
 }

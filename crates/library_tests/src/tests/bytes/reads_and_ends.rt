@@ -94,10 +94,9 @@ impl Write for Fails {
 #[test]
 fn a_read_is_little_endian_and_counts_one(rt: HostRuntime) -> Result<(), Fail> {
     let mut meter = Meter::new(&NUMBERS)?;
-    same(&rt, meter.len(), 8);
-    same(&rt, of_each_width!(meter), OF_EACH_WIDTH);
-    same(&rt, meter.i32_at(4), -1);
-    same(&rt, meter.reads(), 5);
+    let told = (of_each_width!(meter), meter.i32_at(4));
+    same(&rt, told, (OF_EACH_WIDTH, -1));
+    same(&rt, (meter.len(), meter.reads()), (8, 5));
     Ok(())
 }
 
@@ -128,23 +127,28 @@ fn what_is_lent_is_read_and_settled(rt: HostRuntime) -> Result<(), Fail> {
     let mut loan: Loan = meter.lend();
     let mut reads = loan.lend();
     // Of what is lent out nothing is left to read, and what was read is told once it is settled.
-    same(&rt, loan.lend().len(), 0);
+    let left = (loan.lend().len(), reads.len());
+    let fits = (reads.fits(4, 4), reads.fits(5, 4));
+    let told = of_each_width!(reads);
     same(
         &rt,
-        (reads.len(), reads.fits(4, 4), reads.fits(5, 4)),
-        (8, true, false),
+        (left, fits, told),
+        ((0, 8), (true, false), OF_EACH_WIDTH),
     );
-    same(&rt, of_each_width!(reads), OF_EACH_WIDTH);
     let mut on = reads.lend();
-    same(&rt, (reads.len(), on.u8_at(1)), (0, 0x02));
+    let lent = (reads.len(), on.u8_at(1));
     reads.settle(on);
-    same(&rt, (reads.len(), reads.count()), (8, 6));
+    let settled = (reads.len(), reads.count());
     loan.settle(reads);
-    same(&rt, (loan.reads(), meter.reads()), (6, u128::MAX));
+    let at_last = (loan.reads(), meter.reads());
     meter.settle(loan);
-    same(&rt, (meter.len(), meter.reads()), (8, 6));
-    same(&rt, meter.i32_at(4), -1);
-    same(&rt, meter.reads(), 7);
+    same(
+        &rt,
+        (lent, settled, at_last),
+        ((0, 0x02), (8, 6), (6, u128::MAX)),
+    );
+    let told = (meter.len(), meter.reads(), meter.i32_at(4), meter.reads());
+    same(&rt, told, (8, 6, -1, 7));
     Ok(())
 }
 
@@ -154,12 +158,13 @@ fn reads_are_counted_whoever_takes_them_back(rt: HostRuntime) -> Result<(), Fail
     let mut other = Meter::new(&[])?;
     let mut loan = meter.lend();
     let mut reads = loan.lend();
-    same(&rt, reads.u8_at(28), b'O');
+    let first = reads.u8_at(28);
     let mut passer = other.lend();
     passer.settle(reads);
     let mut again = passer.lend();
-    same(&rt, again.u8_at(28), b'O');
+    let second = again.u8_at(28);
     loan.settle(again);
+    same(&rt, (first, second), (b'O', b'O'));
     same(&rt, (loan.reads(), passer.reads()), (2, 1));
     Ok(())
 }
@@ -169,12 +174,15 @@ fn a_window_lends_what_its_meter_read(rt: HostRuntime) -> Result<(), Fail> {
     same(&rt, name_of(&ORC), Some(b"Orc".as_slice()));
     let meter = Meter::new(&ORC)?;
     let window: Window = meter.seal();
-    same(&rt, window.len(), 32);
-    same(&rt, window.u8_at(28), b'O');
-    same(&rt, window.u16_at(20), 300);
-    same(&rt, window.u32_at(24), 3);
-    same(&rt, window.i32_at(12), 8);
-    same(&rt, window.u64_at(20), 0x0000_0003_0000_012c);
+    let told = (
+        window.len(),
+        window.u8_at(28),
+        window.u16_at(20),
+        window.u32_at(24),
+        window.i32_at(12),
+        window.u64_at(20),
+    );
+    same(&rt, told, (32, b'O', 300, 3, 8, 0x0000_0003_0000_012c));
     Ok(())
 }
 
@@ -183,22 +191,18 @@ fn a_source_tells_calls_failures_and_end(rt: HostRuntime) -> Result<(), Fail> {
     let mut source = Counted::new(Falters { calls: 0 });
     let mut piece = [0u8; 4];
     let mut nothing = [0u8; 0];
-    same(&rt, source.pull(&mut piece).ok(), Some(1));
-    same(&rt, source.pull(&mut piece).is_err(), true);
+    let pulled = (source.pull(&mut piece).ok(), source.pull(&mut piece).ok());
+    let told = (source.calls(), source.failures(), source.ended());
+    same(&rt, (pulled, told), ((Some(1), None), (2, 1, false)));
+    let pulled = source.pull(&mut nothing).ok();
+    same(&rt, (pulled, source.ended()), (Some(0), false));
+    let pulled = source.pull(&mut piece).ok();
+    let told = (source.calls(), source.failures(), source.ended());
     same(
         &rt,
-        (source.calls(), source.failures(), source.ended()),
-        (2, 1, false),
+        (pulled, told, source.get_ref().calls),
+        (Some(0), (4, 1, true), 4),
     );
-    same(&rt, source.pull(&mut nothing).ok(), Some(0));
-    same(&rt, source.ended(), false);
-    same(&rt, source.pull(&mut piece).ok(), Some(0));
-    same(
-        &rt,
-        (source.calls(), source.failures(), source.ended()),
-        (4, 1, true),
-    );
-    same(&rt, source.get_ref().calls, 4);
     Ok(())
 }
 
@@ -206,12 +210,13 @@ fn a_source_tells_calls_failures_and_end(rt: HostRuntime) -> Result<(), Fail> {
 fn a_sink_that_takes_nothing_has_failed(rt: HostRuntime) -> Result<(), Fail> {
     let mut room = [0u8; 2];
     let mut sink = Counted::new(room.as_mut_slice());
-    same(&rt, sink.push(b"ab").ok(), Some(2));
-    same(&rt, sink.push(b"").ok(), Some(0));
-    same(&rt, (sink.calls(), sink.failures()), (2, 0));
-    same(&rt, sink.push(b"c").ok(), Some(0));
-    same(&rt, (sink.calls(), sink.failures()), (3, 1));
-    same(&rt, sink.into_inner().len(), 0);
+    let pushed = (sink.push(b"ab").ok(), sink.push(b"").ok());
+    let told = (sink.calls(), sink.failures());
+    same(&rt, (pushed, told), ((Some(2), Some(0)), (2, 0)));
+    let pushed = sink.push(b"c").ok();
+    let told = (sink.calls(), sink.failures());
+    let left = sink.into_inner().len();
+    same(&rt, (pushed, told, left), (Some(0), (3, 1), 0));
     Ok(())
 }
 
@@ -219,16 +224,12 @@ fn a_sink_that_takes_nothing_has_failed(rt: HostRuntime) -> Result<(), Fail> {
 fn a_call_that_fails_was_passed_on_once(rt: HostRuntime) -> Result<(), Fail> {
     let mut source = Counted::new(Fails { calls: 0 });
     let mut piece = [0u8; 4];
-    same(&rt, source.pull(&mut piece).is_err(), true);
-    same(&rt, source.pull(&mut piece).is_err(), true);
-    same(
-        &rt,
-        (Source::failures(&source), source.get_ref().calls),
-        (2, 2),
-    );
+    let pulled = (source.pull(&mut piece).ok(), source.pull(&mut piece).ok());
+    let told = (Source::failures(&source), source.get_ref().calls);
+    same(&rt, (pulled, told), ((None, None), (2, 2)));
     let mut sink = Counted::new(Fails { calls: 0 });
-    same(&rt, sink.push(b"ab").is_err(), true);
-    same(&rt, sink.push(b"ab").is_err(), true);
-    same(&rt, (Sink::failures(&sink), sink.get_ref().calls), (2, 2));
+    let pushed = (sink.push(b"ab").ok(), sink.push(b"ab").ok());
+    let told = (Sink::failures(&sink), sink.get_ref().calls);
+    same(&rt, (pushed, told), ((None, None), (2, 2)));
     Ok(())
 }

@@ -1,6 +1,6 @@
-//! Framers, with each request for memory refused in turn, and over little heaps.
+//! Framers, with each request for memory refused in turn, and over a little heap.
 
-use crate::tests::bytes::framer::{LONG_SEVEN, taken, twice};
+use crate::tests::bytes::framer::{LONG_SEVEN, TWICE};
 use crate::tests::compare::same;
 use fb_bytes::{Framer, StreamFault};
 use linked_list_allocator::LocalHeap;
@@ -28,54 +28,6 @@ fn memory_is_asked_for_with_the_first_byte_of_a_body(rt: HostRuntime) -> Result<
     Ok(())
 }
 
-#[test]
-fn a_prefix_past_the_limit_takes_no_memory(rt: HostRuntime) -> Result<(), Fail> {
-    let heap = LocalHeap::new(rt.alloc(), 4096)?;
-    let mut framer = Framer::new(&heap, 32)?;
-    same(
-        &rt,
-        framer.feed([29, 0, 0, 0, 1].as_slice()),
-        Err(StreamFault::Oversize { declared: 29 }),
-    );
-    same(&rt, heap.used(), 0);
-    Ok(())
-}
-
-/// Asserts that so many bytes are held, none of them of a whole message.
-fn holds<A: Allocator>(rt: &impl Abort, framer: &Framer<A>, bytes: u64) {
-    same(rt, (framer.held(), framer.message()), (bytes, None));
-}
-
-/// Asserts that a framer that failed behind a prefix holds this and stays as it is.
-fn stays_failed<A: Allocator>(rt: &impl Abort, framer: &mut Framer<A>, piece: &[u8]) {
-    holds(rt, framer, 4);
-    same(rt, framer.feed(piece), Err(StreamFault::Failed));
-    framer.next();
-    same(rt, framer.finish(), Err(StreamFault::Failed));
-    holds(rt, framer, 4);
-}
-
-/// Asserts that a framer whose heap has no more than 48 bytes fails at a body of 60.
-fn fails_at_the_second<A: Allocator>(rt: &impl Abort, framer: &mut Framer<A>) {
-    same(rt, framer.feed(LONG_SEVEN.as_slice()), taken(32, true));
-    framer.next();
-    same(rt, framer.feed([60, 0, 0, 0].as_slice()), taken(4, false));
-    same(
-        rt,
-        framer.feed([1].as_slice()),
-        Err(StreamFault::OutOfMemory),
-    );
-}
-
-#[test]
-fn refused_memory_fails_the_framer(rt: HostRuntime) -> Result<(), Fail> {
-    let heap = LocalHeap::new(rt.alloc(), 48)?;
-    let mut framer = Framer::new(&heap, 64)?;
-    fails_at_the_second(&rt, &mut framer);
-    stays_failed(&rt, &mut framer, [1].as_slice());
-    Ok(())
-}
-
 /// A message of 32 bytes, and one of 64.
 fn longer() -> [u8; 96] {
     let mut stream = [7; 96];
@@ -84,43 +36,59 @@ fn longer() -> [u8; 96] {
     stream
 }
 
-/// What a framer answered of a stream.
+/// What a framer answered of a stream: how many of its messages were whole, and the first fault.
 #[derive(Clone, Copy, Debug, PartialEq, Eq)]
 struct Fed {
     messages: u32,
     fault: Option<StreamFault>,
 }
 
+/// Whether a whole message is held, of these bytes.
+fn holds<A: Allocator>(framer: &Framer<A>, bytes: Option<&[u8]>) -> bool {
+    let message = framer.message();
+    message.is_some() && message == bytes
+}
+
 /// Feeds a stream, at most so many bytes at a time, up to the first fault, and gives up each message once it is whole.
+/// A message counts where its bytes are those of the stream.
 fn feed_all<A: Allocator>(framer: &mut Framer<A>, stream: &[u8], most: usize) -> Fed {
     let mut messages = 0u32;
+    let (mut begin, mut end) = (0usize, 0usize);
     let mut rest = stream;
     for _ in 0..stream.len() {
         match framer.feed(&rest[..most.min(rest.len())]) {
-            Ok(taken) => rest = &rest[taken.used..],
+            Ok(taken) => {
+                rest = &rest[taken.used..];
+                end = end.saturating_add(taken.used);
+            }
             Err(fault) => {
                 let fault = Some(fault);
                 return Fed { messages, fault };
             }
         }
-        if framer.message().is_some() {
+        if holds(framer, stream.get(begin..end)) {
             messages = messages.saturating_add(1);
+            begin = end;
         }
         framer.next();
     }
-    Fed {
-        messages,
-        fault: None,
-    }
+    let fault = framer.finish().err();
+    Fed { messages, fault }
 }
 
-/// Asserts that a framer ends as it should after what it answered: a framer that failed stays so.
-fn ends_so<A: Allocator>(rt: &impl Abort, framer: &mut Framer<A>, fed: Fed, stream: &[u8]) {
-    if fed.fault.is_some() {
-        stays_failed(rt, framer, stream);
-    } else {
-        same(rt, framer.finish(), Ok(()));
-    }
+/// Asserts that a framer that failed behind a prefix holds this and stays as it is.
+fn stays_failed<A: Allocator>(rt: &impl Abort, framer: &mut Framer<A>, piece: &[u8]) {
+    let held = framer.held();
+    let fed = framer.feed(piece);
+    framer.next();
+    let ended = framer.finish();
+    let failed = Err(StreamFault::Failed);
+    same(
+        rt,
+        (held, fed, ended),
+        (4, Err(StreamFault::Failed), failed),
+    );
+    same(rt, (framer.held(), framer.message()), (4, None));
 }
 
 /// What a framer of limit 64 answers of a stream under a plan, and how many requests that took. A framer that failed
@@ -136,7 +104,9 @@ fn fed_under(
     let mut framer = Framer::new(&heap, 64)?;
     let fed = feed_all(&mut framer, stream, most);
     let asked = heap.asked();
-    ends_so(rt, &mut framer, fed, stream);
+    if fed.fault.is_some() {
+        stays_failed(rt, &mut framer, stream);
+    }
     same(rt, heap.asked(), asked);
     Ok((fed, asked))
 }
@@ -181,27 +151,11 @@ fn refused_in_turn(
 
 #[test]
 fn each_request_of_a_framer_is_refused_in_turn(rt: HostRuntime) -> Result<(), Fail> {
-    let (equal, longer) = (twice(), longer());
-    for most in [1, 3, 4, 5, 31, 32, 33, 64, 96] {
-        refused_in_turn(&rt, rt.alloc(), (&equal, most), 1)?;
+    let longer = longer();
+    for most in 1..=96 {
+        refused_in_turn(&rt, rt.alloc(), (&TWICE, most), 1)?;
         refused_in_turn(&rt, rt.alloc(), (&longer, most), 2)?;
     }
-    Ok(())
-}
-
-/// Asserts that a stream is refused behind so many messages, for a prefix that declares so much, and that no more
-/// requests are made than for these.
-fn is_oversize(
-    rt: &impl Abort,
-    alloc: Global,
-    (stream, most): (&[u8], usize),
-    messages: u32,
-    declared: u32,
-) -> Result<(), Fail> {
-    let asked = u64::from(messages);
-    let answer = fed_under(rt, alloc, Plan::RefuseFrom(asked), stream, most)?;
-    let fault = Some(StreamFault::Oversize { declared });
-    same(rt, (most, answer), (most, (Fed { messages, fault }, asked)));
     Ok(())
 }
 
@@ -209,10 +163,19 @@ fn is_oversize(
 fn a_prefix_past_the_limit_makes_no_request(rt: HostRuntime) -> Result<(), Fail> {
     let mut behind = [255; 36];
     behind[..32].copy_from_slice(&LONG_SEVEN);
-    for most in [1, 2, 3, 4, 31, 32, 35, 36] {
-        is_oversize(&rt, rt.alloc(), (&[255; 4], most), 0, u32::MAX)?;
-        is_oversize(&rt, rt.alloc(), (&[61, 0, 0, 0, 1], most), 0, 61)?;
-        is_oversize(&rt, rt.alloc(), (&behind, most), 1, u32::MAX)?;
+    let streams: [(&[u8], u32, u32); 3] = [
+        (&[255; 4], 0, u32::MAX),
+        (&[61, 0, 0, 0, 1], 0, 61),
+        (&behind, 1, u32::MAX),
+    ];
+    for (stream, messages, declared) in streams {
+        let asked = u64::from(messages);
+        let plans = [Plan::GrantAll, Plan::RefuseFrom(asked)];
+        let fault = Some(StreamFault::Oversize { declared });
+        let want = (Fed { messages, fault }, asked);
+        for most in 1..=36 {
+            each_answers(&rt, rt.alloc(), plans, (stream, most), want)?;
+        }
     }
     Ok(())
 }

@@ -5,7 +5,7 @@ use crate::tests::compare::same;
 use fb_verify::Limits;
 
 #[test]
-fn depths_up_to_4096(rt: HostRuntime) {
+fn depths_are_up_to_4096(rt: HostRuntime) {
     for (depth, allowed) in [
         (0, true),
         (64, true),
@@ -13,25 +13,17 @@ fn depths_up_to_4096(rt: HostRuntime) {
         (4096, true),
         (4097, false),
     ] {
-        same(
-            &rt,
-            (depth, Limits::new(depth, 7).is_ok()),
-            (depth, allowed),
-        );
+        let made = Limits::new(depth, 7).is_ok();
+        same(&rt, (depth, made), (depth, allowed));
     }
 }
 
 #[test]
-fn published_limits(rt: HostRuntime) {
-    same(&rt, Limits::published().depth(), 64);
-    same(&rt, Limits::published().reads(), None);
-}
-
-#[test]
 fn reads_are_bounded_where_a_budget_says_so(rt: HostRuntime) {
+    let published = Limits::published();
+    same(&rt, (published.depth(), published.reads()), (64, None));
     for most in [0, 1, 1_000_000_000, u64::MAX] {
-        let limits = Limits::published().with_reads(most);
-        same(&rt, limits.reads(), Some(most));
-        same(&rt, limits.depth(), 64);
+        let limits = published.with_reads(most);
+        same(&rt, (limits.depth(), limits.reads()), (64, Some(most)));
     }
 }

@@ -1,2 +1,0 @@
-mod fixed_table;
-mod texts;
