@@ -1,6 +1,6 @@
 //! The handle by which a caller in C owns a schema or room for a check.
 
-ghost use Rattle.std.specs.Prelude.{◌≡◌, None, Option, Some, option_map};
+ghost use Rattle.std.specs.Prelude.{◌≡◌, MatchResult, None, Option, Some, option_map};
 ghost use Rattle.std.specs.Ptr.{null_ptr};
 ghost use Rattle.fbcheck_calls.specs.Answered.{IsRoomMade, IsTaken};
 ghost use Rattle.fbcheck_calls.specs.declared.held.Held.{Held};
@@ -12,7 +12,7 @@ use crate::held::{Held, Room};
 use crate::options::Options;
 use fb_bfbs::LoadFault;
 use fb_verify::ScratchFault;
-use std::alloc::Global;
+use std::alloc::{AllocError, Global};
 use std::marker::Model;
 use std::ptr::null_mut;
 
@@ -115,6 +115,16 @@ impl Handle {
         *self = Handle::of(held);
     }
 
+    /// Has the handle hold this, and frees what it held; where there is no memory for it, it holds what it held.
+    fn hold(&mut self, alloc: Global, held: Held) -> Result<(), AllocError>
+        ensures { MatchResult result (λ _. self.new.inside ≡ Some held) (λ _. self.new.inside ≡ self.old.inside) }
+    {
+        let held = Box::new(alloc, held)?;
+        self.free(alloc);
+        self.put(held);
+        Ok(())
+    }
+
     /// Loads a schema file, as [`open`] does. Where that was done the handle holds it, and what it held is freed; else
     /// the handle holds what it held.
     pub fn load(&mut self, alloc: Global, file: &'static [u8], options: &Options) -> Answer
@@ -124,12 +134,10 @@ impl Handle {
             Ok(loaded) => loaded,
             Err(answer) => return answer,
         };
-        let Ok(held) = Box::new(alloc, Held::Schema(loaded)) else {
-            return Answer::NoSchema(LoadFault::OutOfMemory);
-        };
-        self.free(alloc);
-        self.put(held);
-        Answer::Done
+        match self.hold(alloc, Held::Schema(loaded)) {
+            Ok(()) => Answer::Done,
+            Err(_) => Answer::NoSchema(LoadFault::OutOfMemory),
+        }
     }
 
     /// Makes room for so many open tables. Where that was done the handle holds it, and what it held is freed; else the
@@ -142,12 +150,10 @@ impl Handle {
             Err(ScratchFault::LimitOutOfRange) => return Answer::OutOfRange,
             Err(ScratchFault::OutOfMemory) => return Answer::NoSchema(LoadFault::OutOfMemory),
         };
-        let Ok(held) = Box::new(alloc, Held::Room(room)) else {
-            return Answer::NoSchema(LoadFault::OutOfMemory);
-        };
-        self.free(alloc);
-        self.put(held);
-        Answer::Done
+        match self.hold(alloc, Held::Room(room)) {
+            Ok(()) => Answer::Done,
+            Err(_) => Answer::NoSchema(LoadFault::OutOfMemory),
+        }
     }
 
     /// Frees what is held, and leaves nothing.

@@ -79,7 +79,12 @@ pub fn check_each(
 fn are_good(verdicts: &[Verdict]) -> bool
     ensures { result ≡ list_all (λ v. v.status == 0) verdicts.now }
 {
-    verdicts.iter().all(|verdict| verdict.status == 0)
+    for verdict in verdicts {
+        if verdict.status != 0 {
+            return false;
+        }
+    }
+    true
 }
 
 /// 0 where each of the first verdicts, so many, is that of a good buffer, else 1.

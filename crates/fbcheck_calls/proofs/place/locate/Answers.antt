@@ -12,3 +12,6 @@ returns-clause-told c =
       | in-Room w ↦ (w.locate_in-status.ensures.told.0, rw w.verdict-is w.locate_in-status.ensures.told.1, rw w.text-is (rw w.written-is (search rules)))
       | in-Schema-inside w ↦ (w.locate_shallow-status.ensures.told.0, rw w.verdict-is w.locate_shallow-status.ensures.told.1, rw w.text-is (rw w.written-is (search rules)))
     ]
+
+pub returns-clause-kept : goal.returns-clause-kept
+returns-clause-kept c = search rules

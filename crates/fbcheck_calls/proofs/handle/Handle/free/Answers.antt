@@ -1,5 +1,4 @@
-use Rattle.std.proofs.Common.{rules}
 use Rattle.fbcheck_calls.proofs.handle.Handle.free.Goals as goal
 
 pub returns : goal.returns
-returns c = search rules
+returns c = c.take.ensures.left
