@@ -4,7 +4,7 @@ use crate::tests::compare::same;
 use name_reader::name_in;
 
 /// What flatc 2.0.8 writes for `table Person { name: string; } table Delivery { to: Person; } root_type Delivery;`.
-const SCHEMA: &[u8] = b"\
+pub const SCHEMA: &[u8] = b"\
     \x18\x00\x00\x00\x42\x46\x42\x53\x10\x00\x1c\x00\x04\x00\x08\x00\x0c\x00\x10\x00\x14\x00\x18\x00\
     \x10\x00\x00\x00\x30\x00\x00\x00\x28\x00\x00\x00\x1c\x00\x00\x00\x10\x00\x00\x00\x2c\x00\x00\x00\
     \x04\x00\x00\x00\x00\x00\x00\x00\x00\x00\x00\x00\x00\x00\x00\x00\x00\x00\x00\x00\x00\x00\x00\x00\
@@ -23,7 +23,7 @@ const SCHEMA: &[u8] = b"\
 ";
 
 /// What flatc 2.0.8 writes for `{ to: { name: "Ada" } }` by this schema.
-const DELIVERY: [u8; 44] = [
+pub const DELIVERY: [u8; 44] = [
     12, 0, 0, 0, 0, 0, 6, 0, 10, 0, 4, 0, 6, 0, 0, 0, 12, 0, 0, 0, 0, 0, 6, 0, 8, 0, 4, 0, 6, 0, 0,
     0, 4, 0, 0, 0, 3, 0, 0, 0, 65, 100, 97, 0,
 ];

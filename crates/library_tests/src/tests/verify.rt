@@ -1,3 +1,4 @@
 mod calls;
 mod limits;
 pub mod question;
+mod sweep;

@@ -1,0 +1,94 @@
+//! The engine, asked of one buffer after another.
+
+use fb_bytes::Meter;
+use fb_schema::Schema;
+use fb_verify::{Checks, Ident, Limits, Link, Located, Report, Scratch, Start, verify_and_locate};
+use std::alloc::Global;
+use std::process::Abort;
+use std::test::Fail;
+
+/// What is asked of a buffer.
+#[derive(Clone, Copy)]
+pub struct Question {
+    pub ident: Ident,
+    pub depth: u32,
+    pub tables: u32,
+    /// The budget: the most counted reads, where there is a most.
+    pub reads: Option<u64>,
+    pub checks: Checks,
+}
+
+/// The engine with what it needs for one buffer after another.
+#[derive(Drop)]
+pub struct Engine<'s> {
+    schema: &'s Schema<'static>,
+    root: u32,
+    scratch: Scratch,
+    links: Vec<Link>,
+}
+
+/// The greatest depth limit that is asked, which is the published one.
+const DEPTH: u32 = 64;
+
+/// What no fault has left.
+const BLANK: Link = Link {
+    object: 0,
+    field: 0,
+    element: None,
+    member: None,
+};
+
+impl<'s> Engine<'s> {
+    /// An engine for depth limits up to the published one.
+    pub fn new(alloc: Global, schema: &'s Schema<'static>, root: u32) -> Result<Self, Fail> {
+        let scratch = Scratch::new(alloc, DEPTH)?;
+        let mut links = Vec::new(alloc);
+        links.resize(DEPTH as usize, BLANK)?;
+        Ok(Engine {
+            schema,
+            root,
+            scratch,
+            links,
+        })
+    }
+
+    /// What `verify_and_locate` answers.
+    pub fn answer(
+        &mut self,
+        rt: &impl Abort,
+        question: &Question,
+        bytes: &[u8],
+    ) -> Result<Report, Located> {
+        let meter = Meter::new(bytes).ok().expect(rt, "a short buffer");
+        let limits = limits_of(rt, question);
+        assert!(rt; self.schema.is_table(self.root));
+        assert!(rt; limits.depth() <= self.scratch.depth());
+        assert!(rt; limits.depth() as usize <= self.links.len());
+        let answer = verify_and_locate(
+            meter,
+            self.schema,
+            self.root,
+            Start::Bare,
+            question.ident,
+            limits,
+            question.checks,
+            &mut self.scratch,
+            &mut self.links,
+        );
+        answer.map(|verified| verified.report())
+    }
+
+    /// The way to a fault.
+    pub fn way(&self, located: Located) -> &[Link] {
+        self.links.get(..located.links as usize).unwrap_or(&[])
+    }
+}
+
+/// The limits that a question has.
+fn limits_of(rt: &impl Abort, question: &Question) -> Limits {
+    let limits = Limits::new(question.depth, question.tables).expect(rt, "a depth in range");
+    match question.reads {
+        Some(most) => limits.with_reads(most),
+        None => limits,
+    }
+}
