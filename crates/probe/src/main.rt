@@ -1,8 +1,8 @@
 //! `probe` reads a schema file from standard input, and tells what the libraries answer: a listing of what `load`
 //! gives or of the table that is built in, or the answer of each call that takes memory.
 //!
-//! The tests from outside ask it: `probe list`, `probe built-in` and `probe calls`. The exit status is 0 where it came to its end,
-//! whatever was answered, 2 for other words, and 3 where its own reading failed.
+//! The tests from outside ask it: `probe list`, `probe built-in` and `probe calls`. The exit status is 0 where it came
+//! to its end, whatever was answered, 2 for other words, and 3 where its own reading failed.
 #![tactic(auto)]
 
 mod calls;
