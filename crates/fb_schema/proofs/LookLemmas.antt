@@ -1,6 +1,6 @@
 -- What the look-ups read.
-use Rattle.std.proofs.Common.{◌≡◌, Bool, ℕ, ℤ, pos, negsuc, Bor, Option, option_map, zero, suc, ◌<◌, ◌≤◌, ◌^◌, List, [], ◌∷◌, length, get_or, slice_get, map, Some, IsTrue, sym, subst, ◌∙◌, ap, arith}
-use Rattle.std.proofs.lemmas.{Option.slice_get-map, List.length-map}
+use Rattle.std.proofs.Common.{◌≡◌, Bool, ℕ, ℤ, pos, negsuc, Bor, Option, None, option_map, zero, suc, ◌<◌, ◌≤◌, ◌^◌, List, [], ◌∷◌, length, get_or, slice_get, map, Some, IsTrue, sym, subst, ◌∙◌, ap, arith}
+use Rattle.std.proofs.lemmas.{Option.slice_get-map, Option.slice_get_past, List.length-map}
 use Rattle.fb_schema.specs.declared.views.Step.{Step}
 use Rattle.fb_schema.specs.Live.{Live, live_of, live_in, live_rows, live_fields, widest, widest_of}
 use Rattle.fb_schema.specs.Rows.{Rows, Object, entry_at, is_table, is_some_table, Enum, is_union, is_some_union}
@@ -71,3 +71,7 @@ union_within f enums rows seen n made same u =
     let lt = union_in rows.enums n (subst (λ r. IsTrue (is_union r n)) (sym same) u) in
     let as_long = ap length made ∙ length-map enums f in
     omega (arith, lt, as_long)
+
+-- nothing is made of items past the last
+pub past_mapped : {X Y : Type 0} (f : X → Y) (xs : List X) (n : ℕ) → length xs ≤ n → slice_get (map f xs) n ≡ None
+past_mapped f xs n le = slice_get-map f xs n ∙ ap (option_map f) (slice_get_past xs n le)
