@@ -1,8 +1,8 @@
-use Rattle.std.proofs.Common.{◌≡◌, IsTrue, Some, map, position, sym, ap, subst, ◌∙◌, arith, bytes_eq}
-use Rattle.std.proofs.lemmas.Option.{slice_get_within}
+use Rattle.std.proofs.Common.{◌≡◌, IsTrue, Some, map, length, position, sym, ap, subst, ◌∙◌, arith, bytes_eq}
+use Rattle.std.proofs.lemmas.{Option.slice_get_within, List.length-map}
 use Rattle.fb_schema.specs.{FlatLists.lists_of, Index.view_name, Sorting.name_cmp, FlatRows.flat_rows, FlatRows.object_in, Rows.Rows, Rows.is_table}
 use Rattle.fb_schema.specs.Live.{Live, live_in, live_fields, live_of_view}
-use Rattle.fb_schema.proofs.{LookLemmas.live_read, NameLemmas.table_at, NameLemmas.view_not_again, Numbers.slice_get_some, PlaceLemmas.place_position}
+use Rattle.fb_schema.proofs.{LookLemmas.live_read, LookLemmas.table_listed, NameLemmas.table_at, NameLemmas.view_not_again, Numbers.slice_get_some, PlaceLemmas.place_position}
 use Rattle.fb_schema.proofs.WalkLemmas.{mapped_at, names_agree, names_total}
 use Rattle.fb_schema.proofs.schema.Schema.field_named.Goals as goal
 
@@ -27,3 +27,11 @@ returns g c =
     (view_not_again rows n s.rows.fields.items t.0 c.self.invariant.legal at t.2 views.0 same) c.place_of.result found
     ∙ ap (position (λ (f : Live). bytes_eq f.name name.now)) value
     ∙ ap (λ r. position (λ (f : Live). bytes_eq f.name name.now) (live_fields r n)) c.self.view_is
+
+pub get-requires : goal.get-requires
+get-requires g c =
+    let s = c.self.inside in
+    let rows = flat_rows s.rows in
+    let lists = lists_of s.live.fields in
+    let long = sym (length-map lists (map live_of_view)) ∙ ap length c.self.invariant.fields.live ∙ length-map rows.objects (λ o. live_in rows (Some o)) in
+    table_listed (lists_of s.live.names) rows c.args.self.now c.args.n (c.self.invariant.fields.names.long ∙ long) c.self.view_is c.requires

@@ -1,7 +1,7 @@
-use Rattle.std.proofs.Common.{◌≡◌, ◌≤◌, length, map, ◌∙◌, ap, arith}
+use Rattle.std.proofs.Common.{◌≡◌, ◌≤◌, length, map, ◌∙◌, ap, sym, Some, arith}
 use Rattle.std.proofs.lemmas.List.{length-map}
-use Rattle.fb_schema.specs.{FlatLists.lists_of, Live.live_fields, Live.live_of_view, Live.widest, FlatRows.flat_rows}
-use Rattle.fb_schema.proofs.{LookLemmas.live_read, LookLemmas.within_widest, LookLemmas.few_read, WalkLemmas.mapped_at}
+use Rattle.fb_schema.specs.{FlatLists.lists_of, Live.live_fields, Live.live_in, Live.live_of_view, Live.widest, FlatRows.flat_rows}
+use Rattle.fb_schema.proofs.{LookLemmas.live_read, LookLemmas.table_listed, LookLemmas.within_widest, LookLemmas.few_read, WalkLemmas.mapped_at}
 use Rattle.fb_schema.proofs.schema.Schema.fields_of.Goals as goal
 use Rattle.fb_schema.proofs.schema.Schema.fields_of.Goals.{After-get}
 
@@ -27,3 +27,10 @@ pub returns-clause-few : goal.returns-clause-few
 returns-clause-few g c =
     let s = c.self.inside in
     few_read (flat_rows s.rows) c.args.self.now s.live.widest (length c.get.result.now) c.self.invariant.fields.widest c.self.invariant.fields.few c.self.view_is (counted g (goal.at.returns-clause-few g c).After-get)
+
+pub get-requires : goal.get-requires
+get-requires g c =
+    let s = c.self.inside in
+    let rows = flat_rows s.rows in
+    let lists = lists_of s.live.fields in
+    table_listed lists rows c.args.self.now c.args.n (sym (length-map lists (map live_of_view)) ∙ ap length c.self.invariant.fields.live ∙ length-map rows.objects (λ o. live_in rows (Some o))) c.self.view_is c.requires

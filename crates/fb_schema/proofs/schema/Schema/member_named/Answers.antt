@@ -2,10 +2,10 @@ use Rattle.std.proofs.Common.{◌≡◌, ◌<◌, ℕ, Option, Some, None, List,
 use Rattle.std.proofs.lemmas.{Int.to_z-of_z, List.length-map, List.get_or-map}
 use Rattle.fb_schema.specs.declared.{flat.EnumPart.EnumPart, rows.MemberRow.MemberRow}
 use Rattle.fb_schema.specs.{Demands.first_code, Demands.members_asked, Flat.part, Index.kept_members, Members.member_named, Members.is_member_value}
-use Rattle.fb_schema.specs.FlatRows.{flat_rows}
+use Rattle.fb_schema.specs.FlatRows.{flat_rows, enum_in}
 use Rattle.fb_schema.specs.Sorting.{IsOrderOf, IsPlaceOf, member_cmp, member_key}
 use Rattle.fb_schema.specs.Rows.{Rows, Member, is_union, member_of_row}
-use Rattle.fb_schema.proofs.{Blank.blank_member, UnionLemmas.union_at, UnionLemmas.members_clear}
+use Rattle.fb_schema.proofs.{Blank.blank_member, UnionLemmas.union_at, LookLemmas.union_within, UnionLemmas.members_clear}
 use Rattle.fb_schema.proofs.MemberNames.{member_named_is, real_at, small_value, fits_small, name_place}
 use Rattle.fb_schema.proofs.schema.Schema.member_named.Goals as goal
 use Rattle.fb_schema.proofs.{schema.Schema.member_named.Goals.After-place_of, WalkLemmas.mapped_at}
@@ -80,3 +80,15 @@ pub returns-in-Some : goal.returns-in-Some
 returns-in-Some g c =
     let d = (goal.at.returns-in-Some g c).After-place_of in
     (read_value g d c.in-Some.place c.in-Some.is _ c.unsigned_abs.result (c.members_at.ensures (union_row g d).0 (union_row g d).1) c.unsigned_abs.ensures.value).1
+
+-- the union is one of the enums
+pub get-names-requires : goal.get-names-requires
+get-names-requires g c =
+    let s = c.self.inside in
+    let lt = union_within (enum_in s.rows.members.items) s.rows.enums.items (flat_rows s.rows) c.args.self.now c.args.e refl c.self.view_is c.requires in
+    omega (arith, lt, c.self.invariant.kinds.names.long)
+
+pub members_at-requires-clause-here : goal.members_at-requires-clause-here
+members_at-requires-clause-here g c =
+    let s = c.self.inside in
+    union_within (enum_in s.rows.members.items) s.rows.enums.items (flat_rows s.rows) c.args.self.now c.args.e refl c.self.view_is c.requires

@@ -1,6 +1,7 @@
 use Rattle.std.proofs.Common.{IsTrue, sym, subst}
 use Rattle.fb_schema.specs.{FlatLists.lists_of, Index.AreNextRequired, Live.live_fields, FlatRows.flat_rows, Rows.is_table}
 use Rattle.fb_schema.proofs.NextRequired.{item_lent, no_item_lent, next_found, next_missed, next_past, next_read}
+use Rattle.fb_schema.proofs.LookLemmas.{table_listed}
 use Rattle.fb_schema.proofs.schema.Schema.next_required.Goals as goal
 use Rattle.fb_schema.proofs.schema.Schema.next_required.Goals.{After-get-places}
 
@@ -25,3 +26,8 @@ returns-in_default g c =
 
 pub returns-in_default-2 : goal.returns-in_default-2
 returns-in_default-2 g c = next_past _ _ _ (places g (goal.at.returns-in_default-2 g c).After-get-places) (no_item_lent _ _ _ c.get.ensures.lookup c.in_default.is)
+
+pub get-places-requires : goal.get-places-requires
+get-places-requires g c =
+    let s = c.self.inside in
+    table_listed (lists_of s.live.next_required) (flat_rows s.rows) c.args.self.now c.args.n c.self.invariant.fields.next_required.long c.self.view_is c.requires

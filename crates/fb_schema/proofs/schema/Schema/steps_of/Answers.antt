@@ -1,7 +1,7 @@
-use Rattle.std.proofs.Common.{◌≡◌, ◌≤◌, length, map, ◌∙◌, ap, arith}
+use Rattle.std.proofs.Common.{◌≡◌, ◌≤◌, length, map, ◌∙◌, ap, Some, arith}
 use Rattle.std.proofs.lemmas.List.{length-map}
-use Rattle.fb_schema.specs.{FlatLists.lists_of, Live.live_fields, Live.widest, FlatRows.flat_rows, Steps.step_of}
-use Rattle.fb_schema.proofs.LookLemmas.{steps_read, within_widest, few_read}
+use Rattle.fb_schema.specs.{FlatLists.lists_of, Live.live_fields, Live.live_in, Live.widest, FlatRows.flat_rows, Steps.step_of}
+use Rattle.fb_schema.proofs.LookLemmas.{steps_read, table_listed, within_widest, few_read}
 use Rattle.fb_schema.proofs.schema.Schema.steps_of.Goals as goal
 use Rattle.fb_schema.proofs.schema.Schema.steps_of.Goals.{After-get}
 
@@ -21,3 +21,9 @@ pub returns-clause-few : goal.returns-clause-few
 returns-clause-few g c =
     let s = c.self.inside in
     few_read (flat_rows s.rows) c.args.self.now s.live.widest (length c.get.result.now) c.self.invariant.fields.widest c.self.invariant.fields.few c.self.view_is (counted g (goal.at.returns-clause-few g c).After-get)
+
+pub get-requires : goal.get-requires
+get-requires g c =
+    let s = c.self.inside in
+    let rows = flat_rows s.rows in
+    table_listed (lists_of s.live.steps) rows c.args.self.now c.args.n (ap length c.self.invariant.fields.steps ∙ length-map rows.objects (λ o. map step_of (live_in rows (Some o)))) c.self.view_is c.requires
