@@ -12,7 +12,7 @@ loop-name-init g c =
     let begun = seen_of g.S.Input g.S.Explains g.K.Sink g.N.Sink c.args.reader.now c.args.writer.now c.args.notes.now in
     record {
       passes = ([], refl, ap (λ (course : Course). stand begun course) c.new-course.ensures);
-      job = ((job_of c.args.schema.now c.args.options.now).label, refl);
+      job = ((job_of c.args.schema.now c.args.options.now).label, refl {a = job_of c.args.schema.now c.args.options.now});
       serves = c.requires.serves;
       places = ap (λ (course : Course). length course.tally.reasons) c.new-course.ensures;
       noted = search rules;
@@ -98,3 +98,7 @@ returns-clause-serves g c =
     let (front, are, passes) = c.loop-name.invariant.passes in
     front_all (folder_of g.F.Files g.F.Opened.Source g.F.Opened.Explains c.args.files.now) (job_of c.args.schema.now c.args.options.now) _ (map string_bytes c.args.names.now) front _ _ _ are
     (ap (λ l. map string_bytes l) (drop_of_length-le c.args.names.now c.loop-name-test.false)) passes
+
+pub returns-in-Err-clause-turns : goal.returns-in-Err-clause-turns
+returns-in-Err-clause-turns g c = turns_on g.S.Input.calls c.loop-name.course.standard c.pass_file-passed.new.course.standard c.args.reader.now c.loop-name.reader c.pass_file-passed.new.reader
+    c.loop-name.invariant.unread c.pass_file-passed.ensures.spent c.pass_file-passed.ensures.turns c.loop-name.invariant.turns
