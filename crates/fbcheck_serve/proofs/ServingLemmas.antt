@@ -3,18 +3,19 @@ use Rattle.std.proofs.Common.{◌≡◌, ◌≢◌, ◌==◌, ◌≤◌, ◌^◌
 use mathlib.Core.Logic.{◌⊎◌, inl, inr}
 use Rattle.std.specs.{Borrow.Bor, Io.KnownBytes.Appends}
 use Rattle.std.specs.declared.io.ErrorKind.{ErrorKind}
-use Rattle.std.specs.Prelude.{String, Vec, map, option_map, string_bytes, vec_items}
+use Rattle.std.specs.Prelude.{if◌then◌else◌, IfSome, String, Vec, map, option_map, string_bytes, vec_items}
 use Rattle.std.proofs.{KnownBytes.Keeps-refl, Math.Seq.take-length}
 use Rattle.std.proofs.lemmas.{Bool.eq-eqb, Bool.eqb-true, List.length-map, List.nil_from_length}
 use Rattle.clap.specs.Walk.{Text}
 use Rattle.fbcheck_words.specs.{Refusal.Refuses, Given.AreGiven}
+use Rattle.fbcheck_serve.specs.Asked.{form_of}
 use Rattle.fbcheck_serve.specs.Checking.{IsPromptAmongAsked, IsPromptAsAsked, IsPromptOverAsked, names_in}
 use Rattle.fbcheck_texts.specs.{Faults.IsFile}
 use Rattle.fbcheck_texts.specs.declared.{framing.By.By, framing.Manner.Manner}
 use Rattle.fbcheck_serve.specs.Inputs.{Folder, IsPromptAmong, IsPromptOver, Seen, with_cause}
 use Rattle.fb_run.specs.{Job.Job, Faults.End, JsonSums.summary_in}
 use Rattle.fb_run.specs.Ends.{Ends, Reader, Writer, beside}
-use Rattle.fbcheck_serve.specs.Serving.{ChecksAsGiven, ComesBy, ComesTo, HoldsAsGiven, IsPromptAsGiven, IsCrowded, PassesAsGiven, SumsUp, Unserved, files_ending, lent_bytes, run_ending, words_of}
+use Rattle.fbcheck_serve.specs.Serving.{ChecksAsGiven, ComesBy, ComesTo, HoldsAsGiven, IsPromptAsGiven, IsCrowded, PassesAsGiven, SumsUp, Unserved, files_ending, lent_bytes, run_ending, summed, words_of}
 use Rattle.fbcheck_words.specs.declared.{choices.Settings.Settings, choices.SettingsFault.SettingsFault}
 use Rattle.fb_run.specs.declared.fault.RunFault.{RunFault}
 use Rattle.fb_run.specs.declared.fault.RunFault.TheVariants as run
@@ -107,3 +108,20 @@ pub halted_crowded : (writes notes more : ℕ) (end : End) (fault : RunFault) �
     → IsCrowded writes more (Err (stop.Halted fault))
 halted_crowded writes notes more end run.TooManyTurns is le many = elim (many is) [ inl enough ↦ inl enough | inr enough ↦ inr (omega arith) ]
 halted_crowded writes notes more end _ is le many = tt
+
+-- the words gave no settings: no file was begun
+pub unserved_crowded : (fault : SettingsFault) (writer writer' : Writer) (outcome : Result Ending Stop) → Unserved fault writer writer' outcome → (writes notes : ℕ) → IsCrowded writes notes outcome
+unserved_crowded fault writer writer' (Ok done) unserved writes notes = tt
+unserved_crowded fault writer writer' (Err (stop.Usage text)) unserved writes notes = tt
+unserved_crowded fault writer writer' (Err (stop.Settings why)) unserved writes notes = tt
+unserved_crowded fault writer writer' (Err (stop.CutOff written)) unserved writes notes = tt
+unserved_crowded fault writer writer' _ never writes notes = absurd never
+
+-- the numbers to be told have a place for each kind of fault
+places_if : (told : Sums) (asked : Bool) → length told.tally.reasons ≡ 13 → IfSome (if asked then Some told else None) (λ (sums : Sums). length sums.tally.reasons ≡ 13)
+places_if told true are = are
+places_if told false are = tt
+
+pub summed_places : (settings : Settings) (tally : Tally) (sums : Option Sums) → sums ≡ summed settings tally → length tally.reasons ≡ 13 → IfSome sums (λ (told : Sums). length told.tally.reasons ≡ 13)
+summed_places settings tally sums is are = subst (λ (o : Option Sums). IfSome o (λ (told : Sums). length told.tally.reasons ≡ 13)) (sym is)
+    (places_if (record { form = form_of settings.form; tally = tally }) settings.summary are)

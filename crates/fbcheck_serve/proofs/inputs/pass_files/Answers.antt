@@ -12,7 +12,7 @@ loop-name-init g c =
     let begun = seen_of g.S.Input g.S.Explains g.K.Sink g.N.Sink c.args.reader.now c.args.writer.now c.args.notes.now in
     record {
       passes = ([], refl, ap (λ (course : Course). stand begun course) c.new-course.ensures);
-      job = ((job_of c.args.schema.now c.args.options.now).label, refl);
+      job = ((job_of c.args.schema.now c.args.options.now).label, refl {a = job_of c.args.schema.now c.args.options.now});
       serves = c.requires.serves;
       places = ap (λ (course : Course). length course.tally.reasons) c.new-course.ensures;
       noted = search rules;
@@ -29,7 +29,7 @@ pass_file-passed-requires-clause-leave g c standard unread now prompt unended =
     let (old, is) = c.loop-name.invariant.job in
     let named : c.are_named-named.result ≡ are_named (job_of c.args.schema.now c.args.options.now).label texts = c.are_named-named.ensures in
     let asked = relabelled c.args.schema.now c.loop-name.options (job_of c.args.schema.now c.args.options.now) c.in-Ok.label old (label_of (are_named (job_of c.args.schema.now c.args.options.now).label texts) text) is
-    (c.in-Ok.ensures ∙ ap (λ b. label_of b text) named) in
+    (◌∙◌ {b = label_of c.are_named-named.result text} c.in-Ok.ensures (ap (λ b. label_of b text) named)) in
     c.requires.leave now (record {
       front = front;
       name = text;
@@ -55,7 +55,7 @@ loop-name-preserved g c =
     let (old, is) = c.loop-name.invariant.job in
     let serves = c.loop-name.invariant.serves in
     let named : c.are_named-named.result ≡ are_named (job_of c.args.schema.now c.args.options.now).label texts = c.are_named-named.ensures in
-    let asked = relabelled c.args.schema.now c.loop-name.options job c.in-Ok.label old (label_of (are_named (job_of c.args.schema.now c.args.options.now).label texts) text) is (c.in-Ok.ensures ∙ ap (λ b. label_of b text) named) in
+    let asked = relabelled c.args.schema.now c.loop-name.options job c.in-Ok.label old (label_of (are_named (job_of c.args.schema.now c.args.options.now).label texts) text) is (◌∙◌ {b = label_of c.are_named-named.result text} c.in-Ok.ensures (ap (λ b. label_of b text) named)) in
     record {
       passes = front_more folder job (are_named (job_of c.args.schema.now c.args.options.now).label texts) texts front _ _ text _ before after are
           (next_text c.args.names.now c.loop-name.name-index c.name-item.result text c.loop-name-test.true c.name-item.is c.as_str-name.ensures.value) passes
@@ -88,7 +88,7 @@ returns-in-Err-clause-serves g c =
     let (front, are, passes) = c.loop-name.invariant.passes in
     let (old, is) = c.loop-name.invariant.job in
     let named : c.are_named-named.result ≡ are_named (job_of c.args.schema.now c.args.options.now).label texts = c.are_named-named.ensures in
-    let asked = relabelled c.args.schema.now c.loop-name.options job c.in-Ok.label old (label_of (are_named (job_of c.args.schema.now c.args.options.now).label texts) text) is (c.in-Ok.ensures ∙ ap (λ b. label_of b text) named) in
+    let asked = relabelled c.args.schema.now c.loop-name.options job c.in-Ok.label old (label_of (are_named (job_of c.args.schema.now c.args.options.now).label texts) text) is (◌∙◌ {b = label_of c.are_named-named.result text} c.in-Ok.ensures (ap (λ b. label_of b text) named)) in
     halts_among folder job texts front _ _ text _ before after c.in-Err.fault are
     (next_text c.args.names.now c.loop-name.name-index c.name-item.result text c.loop-name-test.true c.name-item.is c.as_str-name.ensures.value) passes
     (subst (λ (j : Job). Tries folder j text before after (Err c.in-Err.fault)) asked c.in-Err.ensures.tries)
@@ -98,3 +98,7 @@ returns-clause-serves g c =
     let (front, are, passes) = c.loop-name.invariant.passes in
     front_all (folder_of g.F.Files g.F.Opened.Source g.F.Opened.Explains c.args.files.now) (job_of c.args.schema.now c.args.options.now) _ (map string_bytes c.args.names.now) front _ _ _ are
     (ap (λ l. map string_bytes l) (drop_of_length-le c.args.names.now c.loop-name-test.false)) passes
+
+pub returns-in-Err-clause-turns : goal.returns-in-Err-clause-turns
+returns-in-Err-clause-turns g c = turns_on g.S.Input.calls c.loop-name.course.standard c.pass_file-passed.new.course.standard c.args.reader.now c.loop-name.reader c.pass_file-passed.new.reader
+    c.loop-name.invariant.unread c.pass_file-passed.ensures.spent c.pass_file-passed.ensures.turns c.loop-name.invariant.turns
