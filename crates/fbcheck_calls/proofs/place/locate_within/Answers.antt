@@ -1,6 +1,7 @@
-use Rattle.std.proofs.Common.{rules}
+use Rattle.std.proofs.Common.{◌<◌, ◌^◌, ap, length, rules}
+use Rattle.fb_bytes.specs.Word.{Metered}
 use Rattle.fbcheck_calls.specs.declared.answer.Answer.TheVariants.{Good, Bad, TooLong}
-use Rattle.fbcheck_calls.proofs.PlaceLemmas.{located}
+use Rattle.fbcheck_calls.proofs.PlaceLemmas.{located_met}
 use Rattle.fbcheck_calls.proofs.place.locate_within.Goals as goal
 
 pub returns-in_default-new-clause-told : goal.returns-in_default-new-clause-told
@@ -10,8 +11,10 @@ pub returns-in-Ok-verify_and_locate-clause-told : goal.returns-in-Ok-verify_and_
 returns-in-Ok-verify_and_locate-clause-told c = (Good _, c.tell_good.ensures.told, search rules)
 
 pub returns-in-Err-clause-told : goal.returns-in-Err-clause-told
-returns-in-Err-clause-told c = (
-  Bad c.in-Err.located.fault,
-  c.tell_bad.ensures.told,
-  located c.args.loaded.now c.args.levels c.args.options.now c.args.buffer.now c.in-Some.begun (search rules) c.in-Err.located.fault _ (search rules) (search rules) (search rules) _ _ 0 _ (search rules) c.write_place.ensures,
-)
+returns-in-Err-clause-told c =
+    let short : length c.args.buffer.now < 2 ^ 31 = search rules in (
+      Bad c.in-Err.located.fault,
+      c.tell_bad.ensures.told,
+      located_met c.args.loaded.now c.args.levels c.args.options.now c.args.buffer.now c.in-Some.begun c.in-Some.ensures c.start.result c.checks.result c.in-Ok.meter.bytes c.in-Err.located.fault _
+          c.start.ensures c.checks.ensures (ap (λ (m : Metered). m.bytes) c.in-Ok.ensures.meter) c.in-Err.ensures.none c.in-Err.ensures.no c.in-Err.ensures.along _ _ 0 _ short c.write_place.ensures,
+    )
