@@ -1,8 +1,11 @@
 -- What a framer holds once its prefix is whole.
-use Rattle.std.proofs.Common.{◌≡◌, ℕ, Bool, true, false, ◌+◌, ◌<◌, ◌≤◌, List, [], ◌∷◌, ◌++◌, length, take, drop, refl, sym, ap, ◌∙◌, arith, append-nil, append_assoc, length-append, length-take, take-append-drop, take_all}
+use Rattle.std.proofs.Common.{◌≡◌, ℕ, Bool, true, false, IsTrue, Result, Ok, Err, eqb, eqb-true, eq-eqb, rules, ◌+◌, ◌-◌, ◌<◌, ◌≤◌, List, [], ◌∷◌, ◌++◌, length, take, drop, refl, sym, ap, ◌∙◌, arith, true≢false, append-nil, append_assoc, length-append, length-drop, length-take, take-append-drop, take_all}
+use mathlib.Core.Logic.{inl, inr}
+use Rattle.std.specs.{Bool.◌==◌, Result.OnErr}
+use Rattle.std.proofs.lemmas.Bool.Decides.{eqb_tells}
 use Rattle.std.proofs.Math.Seq.{take-add}
 use Rattle.std.proofs.lemmas.List.{take-append-le, drop-take}
-use Rattle.fb_bytes.specs.{Messages.declared, Messages.IsMessage, Messages.IsOversize, Framing.Framing, Framing.Feeds, Framing.held_bytes}
+use Rattle.fb_bytes.specs.{Messages.declared, Messages.IsMessage, Messages.IsOversize, Framing.Framing, Framing.Feeds, Framing.IsFramed, Framing.held_bytes}
 use Rattle.fb_bytes.proofs.MessageLemmas.{declared_append}
 
 pub held_bytes-some : (prefix : List ℕ) (filled : ℕ) (body : List ℕ) → 0 < length body → held_bytes prefix filled body ≡ body
@@ -80,6 +83,47 @@ completed-grown prefix prefix' body body' piece filled used more w grown =
       ap (take 4) at4 ∙ take-append-le 4 before next (completed-long prefix prefix' body piece filled used w) ∙ completed-front prefix prefix' body piece filled used w,
     )
 
+framed-long : (prefix prefix' body piece : List ℕ) (filled used : ℕ) → Completes prefix prefix' body piece filled used → (0 < length body → length body ≤ 4 + declared prefix) → length (held_bytes prefix' 4 body) ≤ 4 + declared prefix'
+framed-long prefix prefix' [] piece filled used w fits = omega (arith, length-take 4 prefix', w.four')
+framed-long prefix prefix' (x ∷ xs) piece filled used w fits =
+    omega (arith, fits (omega arith), ap declared (same-prefix prefix prefix' (x ∷ xs) piece filled used w (w.full (omega arith))))
+
+-- What the framer's fields keep then.
+module _ (limit : ℕ) (prefix prefix' body piece : List ℕ) (filled used : ℕ) (failed : Bool) (w : Completes prefix prefix' body piece filled used) (h : IsFramed limit filled prefix body failed) where
+  -- what is held is no longer than the prefix tells
+  pub framed-room : length (held_bytes prefix' 4 body) ≤ 4 + declared prefix'
+  framed-room = framed-long prefix prefix' body piece filled used w h.fits
+
+  -- with a body within the limit behind that prefix
+  pub framed-within : (body' : List ℕ) (failed' : Bool) → declared prefix' ≤ limit - 4 → take 4 (held_bytes prefix' 4 body') ≡ prefix' → length (held_bytes prefix' 4 body') ≤ 4 + declared prefix' → IsFramed limit (filled + used) prefix' body' failed'
+  framed-within body' failed' all front fits = record {
+    low = h.low;
+    high = h.high;
+    part = omega (arith, w.sum);
+    four = w.four';
+    within = λ _ _. omega (arith, all, h.low);
+    full = λ _. w.sum;
+    front = λ some. sym (ap (take 4) (held_bytes-some prefix' 4 body' some)) ∙ front;
+    fits = λ some. omega (arith, ap length (held_bytes-some prefix' 4 body' some), fits);
+    most = omega (arith, ap (λ n. length (held_bytes prefix' n body')) w.sum, fits, all, h.low);
+  }
+
+  -- where that prefix tells too much
+  pub framed-over : failed ≡ false → limit < 4 + declared prefix' → IsFramed limit (filled + used) prefix' body true
+  framed-over fine over =
+      let alone : held_bytes prefix' (filled + used) body ≡ prefix' = completed-oversize limit prefix prefix' body piece filled used w (h.within fine) over in
+      record {
+        low = h.low;
+        high = h.high;
+        part = omega (arith, w.sum);
+        four = w.four';
+        within = λ e _. absurd (true≢false e);
+        full = λ _. w.sum;
+        front = λ some. sym (ap (take 4) (held_bytes-some prefix' 4 body some)) ∙ completed-front prefix prefix' body piece filled used w;
+        fits = λ some. omega (arith, ap length (held_bytes-some prefix' (filled + used) body some), ap length alone, w.four');
+        most = omega (arith, ap length alone, w.four', h.low);
+      }
+
 -- what is shorter than its prefix tells was no message before
 pub completed-unfinished : (limit : ℕ) (held piece : List ℕ) (used : ℕ) → length (held ++ take used piece) < 4 + declared (held ++ piece) → IsMessage limit held → ⊥
 completed-unfinished limit held piece used short is =
@@ -105,3 +149,26 @@ front_rest bytes prefix front = sym (take-append-drop 4 bytes) ∙ ap (λ l. l +
 -- what follows the first bytes of a piece
 pub drop_take : (at used : ℕ) (piece : List ℕ) → drop at (take (at + used) piece) ≡ take used (drop at piece)
 drop_take at used piece = drop-take at used piece
+
+-- the length of what is held before bytes of a piece are added, and after
+pub held-empty : (prefix body : List ℕ) (n : ℕ) → n ≡ length body → length prefix ≡ 4 → true ≡ (n == 0) → length (held_bytes prefix 4 body) ≡ 4
+held-empty prefix [] n same four e = omega (arith, length-take 4 prefix, four)
+held-empty prefix (x ∷ xs) n same four e = absurd (omega (arith, same, eqb-true n 0 (sym e)))
+
+pub held-body : (prefix body : List ℕ) (n : ℕ) → n ≡ length body → false ≡ (n == 0) → length (held_bytes prefix 4 body) ≡ n
+held-body prefix [] n same e = absurd (true≢false (sym (eq-eqb n 0 same) ∙ sym e))
+held-body prefix (x ∷ xs) n same e = sym same
+
+pub grown-length : (old new piece : List ℕ) (at used : ℕ) → new ≡ old ++ take used (drop at piece) → used ≤ length piece - at → length new ≡ length old + used
+grown-length old new piece at used e within = omega (arith, ap length e, length-append old (take used (drop at piece)), length-take used (drop at piece), length-drop at piece)
+
+-- it is whole where all that was left came
+pub told-whole : (used left n total : ℕ) → (used ≡ left → n ≡ total) → (n ≡ total → used ≡ left) → (IsTrue (eqb used left) → n ≡ total) × (n ≡ total → IsTrue (eqb used left))
+told-whole used left n total f g = elim (eqb_tells used left) [
+  | inl h ↦ (λ _. f h.1, λ _. rw h.0 (search rules))
+  | inr h ↦ (λ t. absurd (true≢false (search (rules, rw h.0 at t))), λ e. absurd (h.1 (g e)))
+]
+
+pub on-err : {A E : Type 0} {X : Type 0} (r : Result A E) → X → OnErr r X
+on-err (Ok a) h = tt
+on-err (Err e) h = h

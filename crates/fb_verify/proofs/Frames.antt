@@ -1,5 +1,5 @@
 -- What frames keep, and what work is left to them.
-use Rattle.std.proofs.Common.{◌≡◌, ℕ, ◌+◌, ◌*◌, ◌^◌, ◌<◌, ◌≤◌, IsTrue, List, length, map, option_map, sym, ◌∙◌, ap, subst, arith, Option, Some, Result, Ok, Err, IfErr}
+use Rattle.std.proofs.Common.{◌≡◌, ℕ, ◌+◌, ◌*◌, ◌^◌, ◌<◌, ◌≤◌, IsTrue, List, length, map, option_map, sym, ◌∙◌, ap, subst, arith, Option, Some, Result, Ok, Err, IfOk, IfErr}
 use Rattle.std.specs.{Prelude.slice_get, Result.IsErrAnd, Borrow.Bor, Slice.IsItemAt}
 use Rattle.std.proofs.lemmas.{List.length-map, Option.slice_get-get_or, Option.slice_get-map, Option.slice_get_within}
 use Rattle.fb_schema.specs.{Rows.Rows, Rows.is_table, Live.live_fields, Served.IsServed}
@@ -14,6 +14,15 @@ use Rattle.fb_rules.proofs.Words.{row_on}
 pub if_err_exit : {A E : Type 0} (r : Result A E) (x : E) (P : E → Type 0) → IsErrAnd r (λ e. e ≡ x) → P x → IfErr r P
 if_err_exit (Ok a) x P h p = tt
 if_err_exit (Err e) x P h p = subst P (sym h) p
+
+-- what holds of an answer, for what it tells
+pub if_ok_map : {A E : Type 0} {P Q : A → Type 0} (r : Result A E) → ((a : A) → P a → Q a) → IfOk r P → IfOk r Q
+if_ok_map (Ok a) f h = f a h
+if_ok_map (Err e) f h = tt
+
+pub if_err_map : {A E : Type 0} {P Q : E → Type 0} (r : Result A E) → ((e : E) → P e → Q e) → IfErr r P → IfErr r Q
+if_err_map (Ok a) f h = tt
+if_err_map (Err e) f h = f e h
 
 -- The fields that a schema lends are the live fields.
 

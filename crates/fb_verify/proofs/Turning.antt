@@ -1,14 +1,15 @@
 -- A turn of the top, over the frames in which it stands.
-use Rattle.std.proofs.Common.{◌≡◌, ℕ, ◌+◌, ◌-◌, ◌≤◌, ◌<◌, List, [], ◌∷◌, ◌++◌, length, take, get_or, refl, sym, ◌∙◌, ap, arith}
+use Rattle.std.proofs.Common.{◌≡◌, ℕ, ◌+◌, ◌-◌, ◌≤◌, ◌<◌, List, [], ◌∷◌, ◌++◌, length, take, get_or, refl, sym, ◌∙◌, ap, subst, arith, Option, Some, None, Result, Ok, Err, IfOk, IfSome, MatchOption}
 use Rattle.std.proofs.Math.ListN.{set, length-set}
 use Rattle.std.proofs.lemmas.List.{take-take, length-take, length-append}
 use Rattle.fb_bytes.specs.Word.{Lent}
 use Rattle.fb_schema.specs.Live.{live_fields}
-use Rattle.fb_rules.specs.declared.table.Child.{Child}
+use Rattle.fb_rules.specs.declared.{table.Child.Child, site.Halt.Halt}
 use Rattle.fb_verify.specs.declared.{scratch.Frame.Frame, stack.Turn.Turn, stack.Walk.Walk}
 use Rattle.fb_verify.specs.declared.stack.Turn.TheVariants.{Down, Up, Slowly, Halt as Halted}
-use Rattle.fb_verify.specs.Stack.{blank, Origin, frame_work, work, Waiting, IsWalking}
-use Rattle.fb_verify.specs.Turns.{GoesOn, GoesDown, Halts, WentOver, Opened, Turned, FramesTurned, RootTurned, PassedField, FieldTurned}
+use Rattle.fb_verify.specs.Stack.{blank, Origin, frame_work, work, Waiting, HaltsIn, IsWalking, IsOver}
+use Rattle.fb_verify.specs.Walked.{ended, TableWalked}
+use Rattle.fb_verify.specs.Turns.{GoesOn, GoesDown, Halts, WentOver, Opened, Turned, FramesTurned, RootTurned, PassedField, FieldTurned, Walked, IsUnderWayOver, GoneOn}
 use Rattle.fb_verify.proofs.Stacks.{last_is, sum_last, below_joined, grown_joined, top_joined, next_joined}
 use Rattle.fb_verify.proofs.{Standings.close_last, Walking.table_closed}
 
@@ -114,3 +115,50 @@ root_kept w then m new s Down up halt h = absurd h
 root_kept w then m new s Up up halt h = absurd (up refl)
 root_kept w then m new s Slowly up halt h = h
 root_kept w then m new s Halted up halt h = absurd (halt refl)
+
+-- A walk that went on from where it came to before.
+module _ (w mid then : Walk) (m been new : Lent) (s : Origin) (tables deepest : ℕ) (kept : mid ≡ record w { tables = tables; deepest = deepest }) (bytes : been.bytes ≡ m.bytes) where
+  pub over_from : WentOver mid then been new s → WentOver w then m new s
+  over_from h =
+      let k : WentOver (record w { tables = tables; deepest = deepest }) then been new s = subst (λ (x : Walk). WentOver x then been new s) kept h in
+      record { same = k.same; over = k.over; within = k.within; shallow = k.shallow; reads = k.reads; bytes = k.bytes ∙ bytes }
+
+  pub halts_from : (frames : List Frame) (h : Halt) (n : ℕ) → HaltsIn mid been s frames h n → HaltsIn w m s frames h n
+  halts_from frames h n e =
+      let k : HaltsIn (record w { tables = tables; deepest = deepest }) been s frames h n = subst (λ (x : Walk). HaltsIn x been s frames h n) kept e in
+      rw bytes at k
+
+  went_from : (P : ℕ → Type 0) (r : Result (Option ℕ) Halt) → IfOk r (λ o. MatchOption o (WentOver mid then been new s) P) → IfOk r (λ o. MatchOption o (WentOver w then m new s) P)
+  went_from P (Ok None) h = over_from h
+  went_from P (Ok (Some n)) h = h
+  went_from P (Err e) h = tt
+
+  pub gone_from : (frames : List Frame) (r : Result (Option ℕ) Halt) → GoneOn mid then been new s frames r → GoneOn w then m new s frames r
+  gone_from frames r h =
+      let k : GoneOn (record w { tables = tables; deepest = deepest }) then been new s frames r = subst (λ (x : Walk). GoneOn x then been new s frames r) kept h in
+      record { went = went_from _ r h.went; used = k.used; bytes = k.bytes ∙ bytes; deep = k.deep; err = rw bytes at k.err }
+
+-- slowly, after it went on quickly
+pub gone_on : (w mid then : Walk) (m been new : Lent) (s : Origin) (old now last : List Frame) (waiting left : ℕ) (turn : Turn) (r : Result (Option ℕ) Halt) → (turn ≡ Up → ⊥) → (turn ≡ Halted → ⊥)
+    → Walked w mid m been s old waiting now left turn → GoneOn mid then been new s last r → GoneOn w then m new s last r
+gone_on w mid then m been new s old now last waiting left Down r up halt h g = absurd h
+gone_on w mid then m been new s old now last waiting left Up r up halt h g = absurd (up refl)
+gone_on w mid then m been new s old now last waiting left Slowly r up halt h g = gone_from w mid then m been new s mid.tables mid.deepest h.same h.bytes last r g
+gone_on w mid then m been new s old now last waiting left Halted r up halt h g = absurd (halt refl)
+
+-- a walk that is over has walked its first table
+pub walked_over : (w then : Walk) (m new : Lent) (s : Origin) → WentOver w then m new s → TableWalked w.checks m.bytes w.schema.now s.object s.position s.way (ended s.way then.tables then.deepest new.count)
+walked_over w then m new s h =
+    let k : IsOver (record w { tables = then.tables; deepest = then.deepest }) new s = subst (λ (x : Walk). IsOver x new s) h.same h.over in
+    rw h.bytes at k
+
+-- what a walk that went on tells: it is over, or these frames are used up
+module _ (w then : Walk) (m new : Lent) (s : Origin) (frames : List Frame) (o : Option ℕ) (h : GoneOn w then m new s frames (Ok o)) where
+  pub over_where : o ≡ None → WentOver w then m new s
+  over_where e = subst (λ (x : Option ℕ). MatchOption x (WentOver w then m new s) (λ n. IsUnderWayOver then new s frames n)) e h.went
+
+  pub on_where : {n : ℕ} → o ≡ Some n → IsUnderWayOver then new s frames n
+  on_where e = subst (λ (x : Option ℕ). MatchOption x (WentOver w then m new s) (λ n. IsUnderWayOver then new s frames n)) e h.went
+
+  pub used_where : {n : ℕ} → o ≡ Some n → (length frames < (w.limits).depth) × (then ≡ record w { tables = then.tables; deepest = then.deepest })
+  used_where e = subst (λ (x : Option ℕ). IfSome x (λ _. (length frames < (w.limits).depth) × (then ≡ record w { tables = then.tables; deepest = then.deepest }))) e h.used

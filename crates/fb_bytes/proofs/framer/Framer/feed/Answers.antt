@@ -1,7 +1,7 @@
 use Rattle.std.proofs.Common.{rules, ◌≡◌, ◌+◌, ◌-◌, ◌<◌, ◌≤◌, true, ◌++◌, length, take, drop, sym, ap, ap₂, ◌∙◌, refl, arith, length-append, length-drop, length-take}
 use Rattle.fb_bytes.specs.{Messages.declared, Framing.Framing, Framing.held_bytes}
 use Rattle.fb_bytes.proofs.MessageLemmas.{declared_front}
-use Rattle.fb_bytes.proofs.FramingLemmas.{Completes, completed-held, completed-front, completed-long, completed-stream, completed-oversize, completed-grown, completed-unfinished, fed-fits}
+use Rattle.fb_bytes.proofs.FramingLemmas.{Completes, completed-held, completed-front, completed-long, completed-stream, completed-oversize, completed-grown, completed-unfinished, fed-fits, framed-room, framed-within, framed-over}
 use Rattle.fb_bytes.proofs.framer.Framer.feed.Goals as goal
 use Rattle.fb_bytes.proofs.framer.Framer.feed.Goals.{After-number_in-declared}
 
@@ -138,3 +138,43 @@ pub returns-in-Err-clause-oversize : goal.returns-in-Err-clause-oversize
 returns-in-Err-clause-oversize g c = λ fine over.
     let starved = returns-in-Err-clause-fault g c fine in
     absurd (omega (arith, starved.fits, over.1))
+
+-- What the fields keep.
+
+pub invariant_of-self-in-Ok : goal.invariant_of-self-in-Ok
+invariant_of-self-in-Ok g c =
+    let f = c.self.inside in
+    let used = c.fill_prefix-used.result in
+    let prefix' = c.fill_prefix-used.new.prefix in
+    let w = completes g (goal.at.invariant_of-self-in-Ok g c).After-number_in-declared in
+    let told : c.number_in-declared.result ≡ declared prefix' = c.number_in-declared.ensures in
+    let grown = completed-grown f.prefix prefix' f.body.items c.grow.new.body.items c.args.piece.now f.filled used c.in-Ok.more.used w c.in-Ok.ensures.held in
+    let front = ap (λ n. take 4 (held_bytes prefix' n c.grow.new.body.items)) (sym w.sum) ∙ grown.1 in
+    framed-within f.limit f.prefix prefix' f.body.items c.args.piece.now f.filled used f.failed w c.self.invariant c.grow.new.body.items _ (omega (arith, told, c.if-declared-self.false)) front (omega (arith, told, c.in-Ok.ensures.fits))
+
+pub invariant_of-self-in-Err : goal.invariant_of-self-in-Err
+invariant_of-self-in-Err g c =
+    let f = c.self.inside in
+    let used = c.fill_prefix-used.result in
+    let prefix' = c.fill_prefix-used.new.prefix in
+    let w = completes g (goal.at.invariant_of-self-in-Err g c).After-number_in-declared in
+    let told : c.number_in-declared.result ≡ declared prefix' = c.number_in-declared.ensures in
+    let same = c.in-Err.ensures.err in
+    let front = ap (take 4) same ∙ completed-front f.prefix prefix' f.body.items c.args.piece.now f.filled used w in
+    framed-within f.limit f.prefix prefix' f.body.items c.args.piece.now f.filled used f.failed w c.self.invariant c.grow.new.body.items _ (omega (arith, told, c.if-declared-self.false)) front (omega (arith, told, ap length same, c.in-Err.ensures.short))
+
+pub invariant_of-self-then-declared-self : goal.invariant_of-self-then-declared-self
+invariant_of-self-then-declared-self g c =
+    let f = c.self.inside in
+    let prefix' = c.fill_prefix-used.new.prefix in
+    let w = completes g (goal.at.invariant_of-self-then-declared-self g c).After-number_in-declared in
+    let told : c.number_in-declared.result ≡ declared prefix' = c.number_in-declared.ensures in
+    framed-over f.limit f.prefix prefix' f.body.items c.args.piece.now f.filled c.fill_prefix-used.result f.failed w c.self.invariant c.if-self.false (omega (arith, told, c.if-declared-self.true))
+
+pub grow-requires-clause-fits : goal.grow-requires-clause-fits
+grow-requires-clause-fits g c =
+    let f = c.self.inside in
+    let prefix' = c.fill_prefix-used.new.prefix in
+    let w = completes g (goal.at.grow-requires-clause-fits g c).After-number_in-declared in
+    let told : c.number_in-declared.result ≡ declared prefix' = c.number_in-declared.ensures in
+    omega (arith, told, framed-room f.limit f.prefix prefix' f.body.items c.args.piece.now f.filled c.fill_prefix-used.result f.failed w c.self.invariant)

@@ -88,3 +88,20 @@ returns-clause-falls g c =
     let waits = below_joined c.args.frames.now c.split_at_mut-low.result.0.now c.split_at_mut-low.result.1.now c.args.waiting c.pass_children.new.top c.split_at_mut-low.ensures.value c.split_at_mut-low.ensures.front_len c.pass_children.new.room blank in
     let top = top_joined c.args.frames.now c.split_at_mut-low.result.0.now c.split_at_mut-low.result.1.now c.args.waiting c.pass_children.new.top c.split_at_mut-low.ensures.value c.split_at_mut-low.ensures.front_len c.pass_children.new.room blank in
     rw (waits, top, sym c.requires.0) (omega (arith, (came g (goal.at.returns-clause-falls g c).Joined-top-eq0).2, c.in_ok-pass_children.ensures.least c.if-branch.false))
+
+pub returns-then-branch-clause-walking : goal.returns-then-branch-clause-walking
+returns-then-branch-clause-walking g c =
+    let d = goal.at.returns-then-branch-clause-walking g c in
+    let next = next_joined c.args.frames.now c.split_at_mut-low.result.0.now c.split_at_mut-low.result.1.now c.args.waiting c.pass_children.new.top c.split_at_mut-low.ensures.value c.split_at_mut-low.ensures.front_len c.pass_children.new.room blank in
+    rw (grown g d.After-pass_children, next, sym c.requires.0) (c.in_ok-pass_children.ensures.leads c.if-branch.true)
+
+pub returns-clause-walking : goal.returns-clause-walking
+returns-clause-walking g c =
+    let waits = below_joined c.args.frames.now c.split_at_mut-low.result.0.now c.split_at_mut-low.result.1.now c.args.waiting c.pass_children.new.top c.split_at_mut-low.ensures.value c.split_at_mut-low.ensures.front_len c.pass_children.new.room blank in
+    let top = top_joined c.args.frames.now c.split_at_mut-low.result.0.now c.split_at_mut-low.result.1.now c.args.waiting c.pass_children.new.top c.split_at_mut-low.ensures.value c.split_at_mut-low.ensures.front_len c.pass_children.new.room blank in
+    rw (waits, top, sym c.requires.0) (c.in_ok-pass_children.ensures.over c.if-branch.false)
+
+pub returns-in-Err-clause-err : goal.returns-in-Err-clause-err
+returns-in-Err-clause-err g c =
+    let waits = below_joined c.args.frames.now c.split_at_mut-low.result.0.now c.split_at_mut-low.result.1.now c.args.waiting c.pass_each.new.top c.split_at_mut-low.ensures.value c.split_at_mut-low.ensures.front_len c.split_at_mut-low.result.1.now blank in
+    rw (c.halt.ensures, waits, sym c.requires.0) c.in-Err.ensures.err
