@@ -2,12 +2,13 @@
 use Rattle.std.proofs.Common.{◌≡◌, ℕ, ◌≤◌, List, length, subst}
 use Rattle.std.specs.Io.KnownBytes.{Appends, Consumes}
 use Rattle.std.proofs.KnownBytes.{Appends-trans, Keeps-refl}
-use Rattle.fb_run.specs.Ends.{Ends, Outs, Reader, Takes, Writer, beside}
-use Rattle.fb_run.specs.{Job.Job, Sums.no_tally, Bare.FailsBare, Bare.PassesBare, Bare.WritesPart}
-use Rattle.fb_run.specs.Texts.{Texts, no_bytes, silent}
-use Rattle.fb_run.specs.Lines.{AddsTold, AddsThrough, StopsBehind, WritesFronts}
-use Rattle.fb_run.specs.declared.{tally.Tally.Tally, fault.RunFault.RunFault}
-use Rattle.fb_run.specs.declared.fault.RunFault.TheVariants as run
+use Rattle.fb_lines.specs.Ends.{Ends, Outs, Reader, Takes, Writer, beside}
+use Rattle.fb_lines.specs.{Job.Job, Sums.no_tally}
+use Rattle.fb_run.specs.Bare.{FailsBare, PassesBare, WritesPart}
+use Rattle.fb_lines.specs.Texts.{Texts, no_bytes, silent}
+use Rattle.fb_lines.specs.Lines.{AddsTold, AddsThrough, StopsBehind, WritesFronts}
+use Rattle.fb_lines.specs.declared.{tally.Tally.Tally, fault.RunFault.RunFault}
+use Rattle.fb_lines.specs.declared.fault.RunFault.TheVariants as run
 use Rattle.fb_run.proofs.TextsLemmas.{same_texts}
 
 writes_part : (job : Job) (bytes : List ℕ) (before after : Outs) (text : Texts) (tally : Tally) (fault : RunFault) → AddsTold job 1 bytes silent no_tally text tally

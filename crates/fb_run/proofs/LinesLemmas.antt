@@ -1,8 +1,9 @@
 -- Lines after lines.
 use Rattle.std.proofs.Common.{◌≡◌, ℕ, ◌+◌, List, [], ◌∷◌, ◌++◌, length, refl, sym, ap, subst, ◌∙◌, arith}
-use Rattle.fb_run.specs.{Job.Job, Job.Verdict, Line.IsTold, Lines.AreTold, Sums.tally_with, Texts.Texts, Texts.followed, Texts.silent}
-use Rattle.fb_run.specs.declared.tally.Tally.{Tally}
-use Rattle.fb_run.proofs.{SumsLemmas.counts_one, SumsLemmas.with_both, TextsLemmas.followed_assoc, TextsLemmas.followed_silent}
+use Rattle.fb_lines.specs.{Job.Job, Job.Verdict, Line.IsTold, Lines.AreTold, Sums.tally_with, Texts.Texts, Texts.followed, Texts.silent}
+use Rattle.fb_lines.specs.declared.tally.Tally.{Tally}
+use Rattle.fb_lines.proofs.SumsLemmas.{counts_one, with_both}
+use Rattle.fb_run.proofs.TextsLemmas.{followed_assoc, followed_silent}
 
 -- each message has one verdict
 pub lines_count : (job : Job) (k : ℕ) (messages : List (List ℕ)) (text : Texts) (tally : Tally) → AreTold job k messages text tally → length messages ≡ tally.yes + tally.no

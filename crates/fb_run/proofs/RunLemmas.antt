@@ -2,14 +2,15 @@
 use Rattle.std.proofs.Common.{◌≡◌, ℕ, ◌+◌, ◌-◌, Bool, true, false, List, [], ◌++◌, take, drop, refl, sym, ap, subst, ◌∙◌, arith, append-nil, append_assoc, length-append, length-take-le, take-append-drop, Result, Ok, Err, IsErrAnd}
 use Rattle.std.specs.Io.KnownBytes.{Consumes}
 use Rattle.std.proofs.KnownBytes.{Consumes-nil, Appends-kept, Appends-trans, Keeps-refl}
-use Rattle.fb_run.specs.{Ends.Ends, Ends.Outs, Ends.Takes, Job.Job, Sums.no_tally, Lines.WritesFronts}
-use Rattle.fb_run.specs.Faults.{End, EndsBeside, EndsWith, IsCaused, IsCausedOut, IsUnfailedOut, end_of, failed}
+use Rattle.fb_lines.specs.{Ends.Ends, Ends.Outs, Ends.Takes, Job.Job, Sums.no_tally, Lines.WritesFronts}
+use Rattle.fb_lines.specs.Faults.{End, EndsBeside, EndsWith, IsCaused, IsCausedOut, IsUnfailedOut, end_of, failed}
 use Rattle.fb_run.specs.Run.{answer_by, IsRunBeside, IsRunFrom}
-use Rattle.fb_run.specs.Texts.{Sizes, Texts, followed, no_bytes, silent, to_notes}
+use Rattle.fb_lines.specs.Texts.{Sizes, Texts, followed, no_bytes, silent, to_notes}
 use Rattle.fb_run.specs.Stream.{FailsStream, Standing, Tells, TellsSome, WhyStream, Writes, at_first}
-use Rattle.fb_run.specs.declared.fault.RunFault.{RunFault}
-use Rattle.fb_run.specs.declared.fault.RunFault.TheVariants as run
-use Rattle.fb_run.specs.declared.{run.Ran.Ran, tally.Tally.Tally}
+use Rattle.fb_lines.specs.declared.fault.RunFault.{RunFault}
+use Rattle.fb_lines.specs.declared.fault.RunFault.TheVariants as run
+use Rattle.fb_lines.specs.declared.tally.Tally.{Tally}
+use Rattle.fb_run.specs.declared.run.Ran.{Ran}
 use Rattle.fb_run.proofs.{StreamLemmas.rests_memory, StreamLemmas.tells_nothing, TakesLemmas.takes_nothing, TakesLemmas.writes_nothing}
 use Rattle.fb_run.proofs.TextsLemmas.{followed_silent, same_texts}
 

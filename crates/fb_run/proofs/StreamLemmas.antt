@@ -1,45 +1,18 @@
 -- What was read and told, and then more of the stream.
-use Rattle.std.proofs.Common.{◌≡◌, ℕ, ◌+◌, ◌-◌, ◌⊎◌, Bool, List, [], ◌∷◌, ◌++◌, length, take, drop, refl, sym, ap, subst, ◌∙◌, arith, Result, Ok, Err, IfOk, IfErr, append-nil, append_assoc, length-append, take-append-drop}
+use Rattle.std.proofs.Common.{◌≡◌, ℕ, ◌+◌, ◌-◌, Bool, List, [], ◌∷◌, ◌++◌, length, take, drop, refl, sym, ap, subst, ◌∙◌, arith, Result, Ok, Err, IfOk, IfErr, append-nil, append_assoc, length-append, take-append-drop}
 use mathlib.Core.Logic.{inl, inr}
-use Rattle.std.specs.List.{concat}
-use Rattle.std.proofs.lemmas.{List.Elements.All-nil, List.Elements.All-cons, List.Elements.All-append, List.Folds.concat-append}
 use Rattle.std.proofs.Math.Seq.{take-append_seam}
-use Rattle.fb_bytes.specs.Messages.{declared, IsMessage, IsPartial, IsOversize, Splits}
+use Rattle.fb_bytes.specs.Messages.{declared, IsMessage, IsOversize, Splits}
 use Rattle.fb_bytes.specs.Framing.{Framing, Feeds, FeedFails}
 use Rattle.fb_bytes.specs.declared.stream_fault.StreamFault.{StreamFault}
 use Rattle.fb_bytes.specs.declared.stream_fault.StreamFault.TheVariants as stream
 use Rattle.fb_bytes.proofs.MessageLemmas.{readings_some}
-use Rattle.fb_run.specs.{Job.Job, Lines.AreTold, Lines.AddsTold, Texts.Texts, Texts.followed, Texts.silent, Sums.no_tally, Faults.feed_fault}
+use Rattle.fb_lines.specs.{Job.Job, Lines.AreTold, Lines.AddsTold, Texts.Texts, Texts.followed, Texts.silent, Sums.no_tally, Faults.feed_fault}
 use Rattle.fb_run.specs.Stream.{Gathers, Halts, IsFeedFault, Onward, Rests, Standing, Tells, TellsSome}
-use Rattle.fb_run.specs.declared.{tally.Tally.Tally, fault.RunFault.RunFault}
-use Rattle.fb_run.specs.declared.fault.RunFault.TheVariants as run
-use Rattle.fb_run.proofs.{LinesLemmas.lines_more, Pieces.front-more, TextsLemmas.followed_assoc, TextsLemmas.same_texts}
-
--- the rest with more bytes is split further
-pub splits_then : (limit : ℕ) (bytes more held rest : List ℕ) (xs ys : List (List ℕ))
-    → Splits limit bytes xs held → Splits limit (held ++ more) ys rest → Splits limit (bytes ++ more) (xs ++ ys) rest
-splits_then limit bytes more held rest xs ys first second = record {
-  joined =
-      ap (λ l. l ++ more) first.joined ∙ append_assoc (concat xs) held more ∙ ap (λ l. concat xs ++ l) second.joined
-      ∙ sym (append_assoc (concat xs) (concat ys) rest) ∙ sym (ap (λ l. l ++ rest) (concat-append xs ys));
-  each = All-append (IsMessage limit) xs ys first.each second.each;
-  last = second.last;
-}
-
--- no message, and a rest
-pub splits_rest : (limit : ℕ) (rest : List ℕ) → IsPartial limit rest ⊎ IsOversize limit rest → Splits limit rest [] rest
-splits_rest limit rest last = record { joined = refl; each = All-nil (IsMessage limit); last = last }
-
-pub empty_partial : (limit : ℕ) → IsPartial limit []
-empty_partial limit = λ four. absurd (omega arith)
-
--- one message, and nothing behind it
-pub splits_one : (limit : ℕ) (m : List ℕ) → IsMessage limit m → Splits limit m (m ∷ []) []
-splits_one limit m is = record {
-  joined = sym (append-nil (m ++ []) ∙ append-nil m);
-  each = All-cons (IsMessage limit) m [] is (All-nil (IsMessage limit));
-  last = inl (empty_partial limit);
-}
+use Rattle.fb_lines.specs.declared.{tally.Tally.Tally, fault.RunFault.RunFault}
+use Rattle.fb_lines.specs.declared.fault.RunFault.TheVariants as run
+use Rattle.fb_lines.proofs.{Pieces.front-more, Splitting.empty_partial, Splitting.splits_one, Splitting.splits_rest, Splitting.splits_then}
+use Rattle.fb_run.proofs.{LinesLemmas.lines_more, TextsLemmas.followed_assoc, TextsLemmas.same_texts}
 
 pub tells_nothing : (job : Job) → Tells job [] silent no_tally []
 tells_nothing job = ([], splits_rest job.limit [] (inl (empty_partial job.limit)), (refl, refl))

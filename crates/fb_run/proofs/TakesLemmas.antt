@@ -1,8 +1,9 @@
 -- What a writer and notes take, one text after another.
 use Rattle.std.proofs.{Common.arith, Common.length-append, KnownBytes.Appends-kept, KnownBytes.Appends-nil, KnownBytes.Appends-trans}
 use Rattle.std.specs.Prelude.{[]}
-use Rattle.fb_run.specs.{Ends.Outs, Ends.Takes, Ends.Unwritten, Stream.Writes}
-use Rattle.fb_run.specs.Texts.{Sizes, Texts, followed, silent}
+use Rattle.fb_lines.specs.Ends.{Outs, Takes, Unwritten}
+use Rattle.fb_run.specs.Stream.{Writes}
+use Rattle.fb_lines.specs.Texts.{Sizes, Texts, followed, silent}
 
 pub takes_nothing : (o : Outs) → Takes o o silent
 takes_nothing o = record { wrote = Appends-nil o.writer.bytes; noted = Appends-nil o.notes.bytes }

@@ -1,6 +1,6 @@
 -- What is told, one after another.
 use Rattle.std.proofs.Common.{◌≡◌, List, ℕ, ap, ◌∙◌, append-nil, append_assoc}
-use Rattle.fb_run.specs.Texts.{Texts, followed, silent}
+use Rattle.fb_lines.specs.Texts.{Texts, followed, silent}
 
 abbrev both : List ℕ → List ℕ → Texts
 both out notes = record { out = out; notes = notes }

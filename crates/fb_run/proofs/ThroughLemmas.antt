@@ -5,14 +5,15 @@ use Rattle.std.proofs.KnownBytes.{Appends-nil, Consumes-trans}
 use mathlib.Core.Logic.{inl, inr}
 use Rattle.fb_bytes.specs.{Framing.Framing, Framing.Feeds, Messages.IsMessage}
 use Rattle.fb_bytes.specs.declared.stream_fault.StreamFault.TheVariants as stream
-use Rattle.fb_run.specs.Ends.{Ends, Outs, Reader, Writer, beside}
-use Rattle.fb_run.specs.{Faults.IsCausedWriting, Job.Job}
-use Rattle.fb_run.specs.Lines.{AddsTold, AddsThrough, StopsBehind, WritesFront, WritesFronts}
+use Rattle.fb_lines.specs.Ends.{Ends, Outs, Reader, Writer, beside}
+use Rattle.fb_lines.specs.{Faults.IsCausedWriting, Job.Job}
+use Rattle.fb_lines.specs.Lines.{AddsTold, AddsThrough, StopsBehind, WritesFront, WritesFronts}
 use Rattle.fb_run.specs.Stream.{FailsStream, Gathers, Halts, HaltsThrough, IsFeedFault, Onward, OnwardThrough, PassesPiece, Rests, Standing, StopsAmid, Tells, TellsSome, Writes, with_written}
-use Rattle.fb_run.specs.Texts.{Sizes, Texts, followed, no_bytes, silent, to_out}
-use Rattle.fb_run.specs.declared.{tally.Tally.Tally, fault.RunFault.RunFault}
-use Rattle.fb_run.specs.declared.fault.RunFault.TheVariants as run
-use Rattle.fb_run.proofs.{Pieces.front-more, RunLemmas.Sofar, RunLemmas.fails_write, RunLemmas.told_empty}
+use Rattle.fb_lines.specs.Texts.{Sizes, Texts, followed, no_bytes, silent, to_out}
+use Rattle.fb_lines.specs.declared.{tally.Tally.Tally, fault.RunFault.RunFault}
+use Rattle.fb_lines.specs.declared.fault.RunFault.TheVariants as run
+use Rattle.fb_lines.proofs.Pieces.{front-more}
+use Rattle.fb_run.proofs.RunLemmas.{Sofar, fails_write, told_empty}
 use Rattle.fb_run.proofs.TextsLemmas.{followed_assoc, followed_silent}
 use Rattle.fb_run.proofs.StreamLemmas.{gathers_front, halts_memory, onward_line, onward_none}
 use Rattle.fb_run.proofs.TakesLemmas.{takes_none, takes_nothing, takes_then, writes_nothing, writes_then}

@@ -1,10 +1,10 @@
 -- What a run over one bare input has read and written, and how it ends.
 use Rattle.std.specs.Prelude.{◌≡◌, ℕ, ◌<◌, ◌≤◌, List, length}
 use Rattle.std.specs.Io.KnownBytes.{Consumes}
-use Rattle.fb_run.specs.Ends.{Ends, Outs, Takes, Unwritten}
-use Rattle.fb_run.specs.{Job.Job, Job.Verdict, Texts.Texts, Texts.no_bytes, Line.IsTold, Sums.no_tally, Sums.tally_with, Lines.WritesFronts}
-use Rattle.fb_run.specs.declared.{tally.Tally.Tally, fault.RunFault.RunFault}
-use Rattle.fb_run.specs.declared.fault.RunFault.TheVariants.{WriteFault, NoteFault, Stream, BareTooLong}
+use Rattle.fb_lines.specs.Ends.{Ends, Outs, Takes, Unwritten}
+use Rattle.fb_lines.specs.{Job.Job, Job.Verdict, Texts.Texts, Texts.no_bytes, Line.IsTold, Sums.no_tally, Sums.tally_with, Lines.WritesFronts}
+use Rattle.fb_lines.specs.declared.{tally.Tally.Tally, fault.RunFault.RunFault}
+use Rattle.fb_lines.specs.declared.fault.RunFault.TheVariants.{WriteFault, NoteFault, Stream, BareTooLong}
 
 -- the whole input was read, is within the limit, and what is told of it was written
 pub record PassesBare (job : Job) (before after : Ends) (tally : Tally) : Type 0 where

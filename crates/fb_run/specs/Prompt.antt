@@ -2,7 +2,7 @@
 use Rattle.std.specs.Prelude.{ℕ, ◌≤◌, Bool, true, false, List, length}
 use Rattle.std.specs.Io.KnownBytes.{Consumes}
 use Rattle.fb_bytes.specs.Messages.{IsPartial, Splits}
-use Rattle.fb_run.specs.{Ends.Ends, Ends.Takes, Ends.Unwritten, Job.Job, Lines.TextsOf, Texts.Texts}
+use Rattle.fb_lines.specs.{Ends.Ends, Ends.Takes, Ends.Unwritten, Job.Job, Lines.TextsOf, Texts.Texts}
 
 -- over a stream: messages and the part of one were read, and what is told of all these messages was written and noted
 pub record IsStreamPrompt (job : Job) (before now : Ends) : Type 0 where

@@ -4,11 +4,12 @@ use Rattle.std.specs.Io.KnownBytes.{Consumes, Appends, Keeps}
 use Rattle.fb_bytes.specs.Framing.{Framing}
 use Rattle.fb_bytes.specs.Messages.{declared, IsPartial, IsOversize, Splits}
 use Rattle.fb_bytes.specs.declared.stream_fault.StreamFault.TheVariants as stream
-use Rattle.fb_run.specs.{Ends.Ends, Ends.Outs, Ends.Takes, Job.Beside, Job.HasRoom, Job.Job, Lines.AreTold, Lines.WritesFront, Lines.WritesFronts}
-use Rattle.fb_run.specs.Sums.{no_tally}
-use Rattle.fb_run.specs.Texts.{Sizes, Texts, followed, no_bytes, silent, to_notes, to_out, waiting, written_by}
-use Rattle.fb_run.specs.declared.{stream.Carried.Carried, tally.Tally.Tally, fault.RunFault.RunFault}
-use Rattle.fb_run.specs.declared.fault.RunFault.TheVariants.{ReadFault, WriteFault, NoteFault, Stream, TooManyTurns, OutOfMemory, BareTooLong}
+use Rattle.fb_lines.specs.{Ends.Ends, Ends.Outs, Ends.Takes, Job.Beside, Job.HasRoom, Job.Job, Lines.AreTold, Lines.WritesFront, Lines.WritesFronts}
+use Rattle.fb_lines.specs.Sums.{no_tally}
+use Rattle.fb_lines.specs.Texts.{Sizes, Texts, followed, no_bytes, silent, to_notes, to_out, waiting, written_by}
+use Rattle.fb_lines.specs.declared.{tally.Tally.Tally, fault.RunFault.RunFault}
+use Rattle.fb_run.specs.declared.stream.Carried.{Carried}
+use Rattle.fb_lines.specs.declared.fault.RunFault.TheVariants.{ReadFault, WriteFault, NoteFault, Stream, TooManyTurns, OutOfMemory, BareTooLong}
 
 -- these bytes are messages of which this is told, and the rest is held
 abbrev pub Tells : Job → List ℕ → Texts → Tally → List ℕ → Type 0

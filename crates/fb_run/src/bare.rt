@@ -2,14 +2,12 @@
 
 ghost use Rattle.std.specs.Prelude.{◌≡◌, ◌+◌, ◌<◌, ◌≤◌, ◌^◌, length, true, ℕ};
 ghost use Rattle.std.specs.Io.KnownBytes.{Consumes};
-ghost use Rattle.fb_run.specs.{Ends.Reader, Ends.beside, Ends.outs_of, Faults.EndsWith, Faults.failed, Job.HasRoom, Run.IsBareRun, Sums.no_tally};
-ghost use Rattle.fb_run.specs.Texts.{no_bytes, silent, waiting, written_by};
+ghost use Rattle.fb_lines.specs.{Ends.Reader, Ends.beside, Ends.outs_of, Faults.EndsWith, Faults.failed, Job.HasRoom, Sums.no_tally};
+ghost use Rattle.fb_run.specs.Run.{IsBareRun};
+ghost use Rattle.fb_lines.specs.Texts.{no_bytes, silent, waiting, written_by};
 
-use crate::checker::Checker;
-use crate::fault::RunFault;
-use crate::output::Output;
-use crate::room::Room;
 use fb_bytes::Sink;
+use fb_lines::{Checker, Output, Room, RunFault};
 use std::alloc::Allocator;
 
 /// Writes what is told of the whole input, and counts its verdict.

@@ -1,14 +1,13 @@
 //! Reading from a source, a piece at a time.
 
-ghost use Rattle.std.specs.Prelude.{Err, IfOk, IfErr, OnOk, OnErr, ◌≡◌, ◌+◌, ◌<◌, ◌≤◌, ◌^◌, length, take, true, false};
+ghost use Rattle.std.specs.Prelude.{IfOk, OnErr, ◌≡◌, ◌+◌, ◌<◌, ◌≤◌, ◌^◌, length, take, true, false};
 ghost use Rattle.std.specs.Io.KnownBytes.{Consumes, Keeps};
 ghost use Rattle.fb_bytes.specs.Ends.{failed};
-ghost use Rattle.fb_run.specs.{Bare.FailsBare, Faults.EndsBeside, Job.Job, Prompt.IsBarePrompt, Ends.HasLeave, Ends.MayAsk, Ends.ends_of};
-ghost use Rattle.fb_run.specs.Sums.{no_tally};
+ghost use Rattle.fb_run.specs.{Leave.HasLeave, Leave.MayAsk, Leave.ends_of, Prompt.IsBarePrompt, Whole.ReadsBy};
 
-use crate::fault::RunFault;
 use crate::input::Input;
 use fb_bytes::Sink;
+use fb_lines::RunFault;
 use std::alloc::{AllocError, Allocator};
 use std::io;
 
@@ -65,14 +64,8 @@ pub fn read_whole<A: Allocator, B: Allocator, S: Input<K, N>, K: Sink, N: Sink>(
     requires room { length piece.old.items ≡ PIECE }
     requires calls { S.calls source.old + turns < 2 ^ 100 }
     requires leave { HasLeave S.Input (ends_of S.Input K.Sink N.Sink source.old writer.now notes.now) (IsBarePrompt limit) }
-    ensures ok { IfOk result (λ whole. Consumes (S.remaining source.old) (S.remaining source.new) whole.items) }
-    ensures within { IfOk result (λ whole. length whole.items ≤ limit) }
-    ensures end { OnOk result (S.ended source.new ≡ true) }
-    ensures unfailed { OnOk result (S.failures source.new ≡ S.failures source.old) }
-    ensures fault { IfErr result (λ fault. (job : Job) → job.limit ≡ limit → FailsBare job
-        (ends_of S.Input K.Sink N.Sink source.old writer.now notes.now) (ends_of S.Input K.Sink N.Sink source.new writer.now notes.now) no_tally fault) }
-    ensures cause { IfErr result (λ fault. EndsBeside
-        (ends_of S.Input K.Sink N.Sink source.old writer.now notes.now) (ends_of S.Input K.Sink N.Sink source.new writer.now notes.now) turns (Err fault)) }
+    ensures reads { ReadsBy limit turns (ends_of S.Input K.Sink N.Sink source.old writer.now notes.now)
+        (ends_of S.Input K.Sink N.Sink source.new writer.now notes.now) result }
     ensures turns { S.calls source.new ≤ S.calls source.old + turns }
 {
     let mut whole = Vec::new(alloc);

@@ -1,24 +1,21 @@
 //! A run over an input, by a schema.
 
 ghost use Rattle.std.specs.Prelude.{◌≡◌, length, ◌+◌, ◌<◌, ◌≤◌, ◌^◌};
-ghost use Rattle.fb_run.specs.{Faults.EndsBeside, Faults.end_of, Job.Serves, Job.job_of, Prompt.IsPrompt, Run.IsRun, Run.IsRunBeside, Run.answer_by};
-ghost use Rattle.fb_run.specs.Sums.{no_tally};
-ghost use Rattle.fb_run.specs.Ends.{HasCallsLeft, HasLeave, ends_of, noteless};
+ghost use Rattle.fb_lines.specs.{Faults.EndsBeside, Faults.end_of, Job.Serves, Job.job_of};
+ghost use Rattle.fb_run.specs.{Prompt.IsPrompt, Run.IsRun, Run.IsRunBeside, Run.answer_by};
+ghost use Rattle.fb_lines.specs.Sums.{no_tally};
+ghost use Rattle.fb_run.specs.Leave.{HasCallsLeft, HasLeave, ends_of, noteless};
 
-use crate::checker::Checker;
-use crate::fault::RunFault;
 use crate::input::Input;
-use crate::options::Options;
 use crate::reading::{MOST_TURNS, read_buffer};
 use crate::stream::Carried;
-use crate::tally::Tally;
-use crate::writing::Nowhere;
 use fb_bytes::Sink;
+use fb_lines::{Checker, Nowhere, Options, RunFault, Tally};
 use fb_schema::Schema;
 use std::alloc::Allocator;
 
 /// What a run came to: what was counted in it, and how it ended.
-#[derive(Clone, Copy, Debug)]
+#[derive(Clone, Copy)]
 pub struct Ran {
     pub tally: Tally,
     pub end: Result<(), RunFault>,
@@ -99,7 +96,7 @@ pub fn run_beside<A: Allocator, S: Input<K, N>, K: Sink, N: Sink>(
     Ran { tally, end }
 }
 
-/// The same without notes: what would be noted is dropped, and only [`Filter`](crate::options::Mode::Filter) notes
+/// The same without notes: what would be noted is dropped, and only [`Filter`](crate::Mode::Filter) notes
 /// anything.
 pub fn run_within<A: Allocator, S: Input<K, Nowhere>, K: Sink>(
     alloc: A,

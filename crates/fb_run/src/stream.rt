@@ -1,20 +1,19 @@
 //! A run over a stream of size-prefixed buffers, or over one bare buffer.
 
 ghost use Rattle.std.specs.Prelude.{IfOk, IfErr, OnOk, ◌≡◌, ◌+◌, ◌*◌, ◌<◌, ◌≤◌, ◌^◌, length, take};
-ghost use Rattle.fb_run.specs.Faults.{EndsBeside, IsCausedOut, IsCausedWriting, IsUnfailedOut};
-ghost use Rattle.fb_run.specs.{Prompt.IsPrompt, Run.IsRunBeside, Sums.count_of, Texts.silent, Texts.waiting};
-ghost use Rattle.fb_run.specs.Ends.{GrowsBy, HasCallsLeft, HasLeave, IsBelow, ends_of, load_of, outs_of, writer_of};
+ghost use Rattle.fb_lines.specs.Faults.{EndsBeside, IsCausedOut, IsCausedWriting, IsUnfailedOut};
+ghost use Rattle.fb_lines.specs.{Sums.count_of, Texts.silent, Texts.waiting};
+ghost use Rattle.fb_run.specs.{Prompt.IsPrompt, Run.IsRunBeside};
+ghost use Rattle.fb_lines.specs.Ends.{GrowsBy, IsBelow, load_of, outs_of, writer_of};
+ghost use Rattle.fb_run.specs.Leave.{HasCallsLeft, HasLeave, ends_of};
 ghost use Rattle.fb_run.specs.Stream.{Halts, HaltsThrough, IsFeedFault, IsReady, Onward, OnwardThrough, PassesPiece, StopsAmid, at_first, standing};
 
 use crate::bare::tell_whole;
-use crate::checker::Checker;
-use crate::fault::RunFault;
 use crate::front::front_message;
 use crate::input::Input;
-use crate::output::Output;
 use crate::reading::{MOST_TURNS, PIECE, pull_piece, read_whole};
-use crate::room::Room;
 use fb_bytes::{Framer, Sink};
+use fb_lines::{Checker, Output, Room, RunFault};
 use std::alloc::{AllocError, Allocator};
 
 /// What a run carries: over a stream from piece to piece, over one bare input from its start to its end.

@@ -6,8 +6,8 @@ use Rattle.std.specs.Global.{Global}
 use Rattle.std.specs.Prelude.{String, Vec, map, option_map, string_bytes, vec_items}
 use Rattle.fb_schema.specs.Rows.{Rows}
 use mathlib.Core.Logic.{inl}
-use Rattle.fb_run.specs.{Faults.End, Job.Job, Job.job_of}
-use Rattle.fb_run.specs.declared.{options.Options.Options, fault.RunFault.RunFault}
+use Rattle.fb_lines.specs.{Faults.End, Job.Job, Job.job_of}
+use Rattle.fb_lines.specs.declared.{options.Options.Options, fault.RunFault.RunFault}
 use Rattle.fbcheck_serve.specs.Inputs.{Folder, HaltsAmong, Passes, PassesAll, Stand, Tries, label_of, with_label, sum_of_counts, sums, are_named}
 use Rattle.fbcheck_serve.specs.declared.{inputs.Standard.Standard, inputs.Standard.TheVariants.Unread, inputs.Standard.TheVariants.Spent}
 

@@ -6,7 +6,7 @@ use Rattle.std.proofs.{KnownBytes.Appends-trans, Math.Nat.eq-or-lt_of_le, Math.S
 use Rattle.std.proofs.Common.{Err, refl, codes}
 use Rattle.std.proofs.lemmas.List.{length-append}
 use Rattle.fbcheck_texts.specs.declared.causes.Causes.{Causes}
-use Rattle.fb_run.specs.Ends.{Writer}
+use Rattle.fb_lines.specs.Ends.{Writer}
 use Rattle.fbcheck_serve.specs.{Inputs.IsNoted, Serving.Complains, Serving.behind, Serving.stop_text}
 use Rattle.fbcheck_serve.specs.declared.stop.Stop.{Stop}
 use Rattle.fbcheck_serve.specs.declared.stop.Stop.TheVariants as stop

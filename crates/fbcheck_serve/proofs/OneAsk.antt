@@ -7,13 +7,13 @@ use Rattle.fb_access.specs.declared.{step.Step.Step, path_fault.PathFault.PathFa
 use Rattle.fb_access.specs.Resolving.{IsFault, Resolves}
 use Rattle.fb_access.proofs.OneAnswer.{one_answer}
 use Rattle.fb_rules.specs.declared.start.Ident.{Ident}
-use Rattle.fb_run.specs.Wanted.{Wanted}
+use Rattle.fb_lines.specs.Wanted.{Wanted}
 use Rattle.fb_bfbs.proofs.OneLoad.{one_answer as one_load}
 use Rattle.fb_bfbs.specs.declared.load_fault.LoadFault.{LoadFault}
 use Rattle.fb_bfbs.specs.declared.load_fault.LoadFault.TheVariants as load
 use Rattle.fb_bfbs.specs.LoadLaws.{Applies, IsSameLoad, ident_bytes}
 use Rattle.fb_bfbs.specs.declared.loading.Loaded.{Loaded}
-use Rattle.fb_run.specs.Job.{Job, job_of}
+use Rattle.fb_lines.specs.Job.{Job, job_of}
 use Rattle.fbcheck_serve.specs.Asked.{ArePaths, AsksBy, IsAsked, IsPath, IsPathFault, HasPathFault, Own, asked_root, options_of, own_label, path_texts}
 use Rattle.fbcheck_serve.specs.Inputs.{with_label}
 use Rattle.fbcheck_serve.specs.Checking.{Asks, IsSchema, IsNoSchema, own_of, schema_limits}

@@ -9,8 +9,8 @@ use Rattle.fb_access.specs.Resolving.{IsFault, IsMisfitAt}
 use Rattle.fb_access.specs.declared.path_fault.PathFault.{PathFault}
 use Rattle.fb_schema.specs.declared.kinds.Kind.{Kind}
 use Rattle.fb_schema.specs.Rows.{Rows}
-use Rattle.fb_run.specs.Wanted.{Wanted}
-use Rattle.fb_run.proofs.FoundLemmas.{both_more}
+use Rattle.fb_lines.specs.Wanted.{Wanted}
+use Rattle.fb_lines.proofs.FoundLemmas.{both_more}
 use Rattle.fbcheck_serve.specs.Asked.{ArePaths, IsPath, IsPathFault, PathFails}
 use Rattle.fbcheck_serve.specs.{Checking.IsPathless, Inputs.are_several, Inputs.label_of}
 use Rattle.fbcheck_texts.specs.Hints.{hint_text, path_hint, with_hint}

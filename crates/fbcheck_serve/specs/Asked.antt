@@ -6,14 +6,14 @@ use Rattle.fb_access.specs.declared.{step.Step.Step, path_fault.PathFault.PathFa
 use Rattle.fb_access.specs.Resolving.{Resolves, IsFault}
 use Rattle.fb_rules.specs.declared.{start.Ident.Ident, start.Ident.TheVariants.Any, start.Ident.TheVariants.Want}
 use Rattle.fb_bfbs.specs.LoadLaws.{own_ident}
-use Rattle.fb_run.specs.{Job.Job, Job.job_of, Job.start_of, Wanted.Wanted}
+use Rattle.fb_lines.specs.{Job.Job, Job.job_of, Job.start_of, Wanted.Wanted}
 use Rattle.fbcheck_words.specs.declared.choices.Form as asked
 use Rattle.fbcheck_words.specs.declared.choices.Form.TheVariants as words
 use Rattle.fbcheck_words.specs.declared.choices.Settings.{Settings}
-use Rattle.fb_run.specs.declared.{options.Form.Form, options.Form.TheVariants.Plain, options.Form.TheVariants.Json, options.Mode.Mode}
-use Rattle.fb_run.specs.declared.options.Mode.TheVariants.{Lines, BadLines, Filter}
-use Rattle.fb_run.specs.declared.{options.Places.Places, options.Places.TheVariants.Numbers, options.Places.TheVariants.Words, options.Prefix.Prefix}
-use Rattle.fb_run.specs.declared.{options.Prefix.TheVariants.Part, options.Prefix.TheVariants.Apart, options.Options.Options}
+use Rattle.fb_lines.specs.declared.{options.Form.Form, options.Form.TheVariants.Plain, options.Form.TheVariants.Json, options.Mode.Mode}
+use Rattle.fb_lines.specs.declared.options.Mode.TheVariants.{Lines, BadLines, Filter}
+use Rattle.fb_lines.specs.declared.{options.Places.Places, options.Places.TheVariants.Numbers, options.Places.TheVariants.Words, options.Prefix.Prefix}
+use Rattle.fb_lines.specs.declared.{options.Prefix.TheVariants.Part, options.Prefix.TheVariants.Apart, options.Options.Options}
 use Rattle.fbcheck_texts.specs.Framing.{by_of, framing_of}
 use Rattle.fbcheck_texts.specs.declared.{framing.Framing.Framing, framing.Manner.Manner, fault.AskFault.AskFault}
 use Rattle.fbcheck_serve.specs.Inputs.{label_of, with_label}

@@ -13,14 +13,16 @@ use Rattle.fb_bfbs.specs.LoadLaws.{ident_bytes}
 use Rattle.fbcheck_serve.specs.Asked.{ArePaths, AsksBy, Own, asked_root, path_texts}
 use Rattle.fbcheck_texts.specs.Hints.{hint_text, path_hint, root_hint, schema_hint}
 use Rattle.fbcheck_serve.specs.Inputs.{Folder, IsPromptAmong, IsPromptOver, Seen, ServesEach, are_several, at_first, label_of, stand}
-use Rattle.fb_run.specs.{Ends.Ends, Ends.Unwritten, Job.Job, Prompt.IsPrompt, Run.IsRunBeside, Wanted.Wanted}
+use Rattle.fb_lines.specs.{Ends.Ends, Ends.Unwritten, Job.Job, Wanted.Wanted}
+use Rattle.fb_run.specs.{Prompt.IsPrompt, Run.IsRunBeside}
 use Rattle.fbcheck_words.specs.declared.choices.Settings.{Settings}
 use Rattle.fbcheck_texts.specs.declared.{fault.AskFault.AskFault, hint.Unasked.Unasked, fault.CheckFault.CheckFault}
 use Rattle.fbcheck_texts.specs.declared.fault.AskFault.TheVariants.{Load, NoRoot, Path, OutOfMemory}
 use Rattle.fbcheck_serve.specs.declared.{inputs.Course.Course, inputs.Passed.Passed}
 use Rattle.fbcheck_texts.specs.declared.fault.CheckFault.TheVariants as check
-use Rattle.fb_run.specs.Faults.{End, EndsBeside, IsUnfailed, failures_of}
-use Rattle.fb_run.specs.declared.{run.Ran.Ran, tally.Tally.Tally}
+use Rattle.fb_lines.specs.Faults.{End, EndsBeside, IsUnfailed, failures_of}
+use Rattle.fb_lines.specs.declared.tally.Tally.{Tally}
+use Rattle.fb_run.specs.declared.run.Ran.{Ran}
 
 -- the limits by which a schema file of so many bytes is verified: the published ones, with a budget of 100,000,000
 -- reads, and of 64 a byte and 4,096 beside (one too long for offsets is refused by its length)

@@ -1,7 +1,8 @@
 -- Files as inputs, by example.
 use Rattle.std.specs.Prelude.{◌≡◌, [], ◌∷◌, Some, None, Ok, Err, codes}
-use Rattle.fb_run.specs.Sums.{no_tally}
-use Rattle.fb_run.specs.declared.{fault.RunFault.TheVariants.ReadFault, run.Ran.Ran}
+use Rattle.fb_lines.specs.Sums.{no_tally}
+use Rattle.fb_lines.specs.declared.fault.RunFault.TheVariants.{ReadFault}
+use Rattle.fb_run.specs.declared.run.Ran.{Ran}
 use Rattle.fbcheck_serve.specs.Inputs.{are_named, course_with, fault_line, label_of}
 use Rattle.fbcheck_serve.specs.declared.{inputs.Course.Course, inputs.Standard.TheVariants.Unread, inputs.Standard.TheVariants.Spent}
 use Rattle.fbcheck_serve.specs.declared.inputs.Missed.TheVariants.{Again}

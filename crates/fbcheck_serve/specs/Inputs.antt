@@ -1,14 +1,17 @@
 -- Files as inputs, one behind another.
 use Rattle.std.specs.Prelude.{◌≡◌, ℕ, ◌+◌, ◌⊎◌, Bool, true, false, ◌||◌, is_some, min, max, nat_lt, length, List, [], ◌∷◌, ◌++◌, IfSome, Option, Some, None, Result, Ok, Err, bytes_eq, codes}
 use Rattle.std.specs.{List.flat_map, Io.KnownBytes.Appends}
-use Rattle.fb_run.specs.{AnswerText.byte_text, Faults.End, Faults.EndsBeside, Faults.status_of}
-use Rattle.fb_run.specs.Ends.{Ends, Reader, Writer, beside, ends_of, with_notes}
+use Rattle.fb_lines.specs.{AnswerText.byte_text, Faults.End, Faults.EndsBeside, Faults.status_of}
+use Rattle.fb_lines.specs.Ends.{Ends, Reader, Writer, beside, with_notes}
+use Rattle.fb_run.specs.Leave.{ends_of}
 use Rattle.fb_bytes.specs.declared.ends.Sink as sink
 use Rattle.fb_bytes.specs.declared.ends.Source as source
 use Rattle.fb_run.specs.declared.input.Input as input
-use Rattle.fb_run.specs.{Job.Job, Lines.WritesFront, Prompt.IsPrompt, Run.IsRunBeside, Run.answer_by, Sums.no_tally}
-use Rattle.fb_run.specs.declared.{fault.RunFault.RunFault, run.Ran.Ran, tally.Tally.Tally}
-use Rattle.fb_run.specs.declared.fault.RunFault.TheVariants.{WriteFault, NoteFault, TooManyTurns, OutOfMemory}
+use Rattle.fb_lines.specs.{Job.Job, Lines.WritesFront, Sums.no_tally}
+use Rattle.fb_run.specs.{Prompt.IsPrompt, Run.IsRunBeside, Run.answer_by}
+use Rattle.fb_lines.specs.declared.{fault.RunFault.RunFault, tally.Tally.Tally}
+use Rattle.fb_run.specs.declared.run.Ran.{Ran}
+use Rattle.fb_lines.specs.declared.fault.RunFault.TheVariants.{WriteFault, NoteFault, TooManyTurns, OutOfMemory}
 use Rattle.std.specs.declared.io.ErrorKind.{ErrorKind}
 use Rattle.fbcheck_texts.specs.{Hints.reason_text, Texts.of_read, Texts.run_text, Framing.end_hint, Framing.framing_of, Framing.run_hint}
 use Rattle.fbcheck_texts.specs.declared.{framing.By.TheVariants.Named, framing.Framing.Framing}

@@ -11,8 +11,8 @@ use Rattle.fbcheck_texts.specs.Framing.{by_hint, by_of, end_hint, run_hint}
 use Rattle.fbcheck_texts.specs.declared.{framing.By.By, framing.Manner.Manner}
 use Rattle.fbcheck_serve.specs.Inputs.{Folder, IsNoted, Seen, renoted}
 use Rattle.fbcheck_words.specs.{CommandLine.program, Refusal.Refuses, Refusal.refusal_status, Refusal.refusal_text, Given.AreGiven, Values.text_of}
-use Rattle.fb_run.specs.{Ends.Ends, Ends.Writer, Ends.with_notes, Lines.WritesFront, JsonSums.summary_in}
-use Rattle.fb_run.specs.Faults.{End, EndsBeside, IsUnfailed, failures_of, status_of}
+use Rattle.fb_lines.specs.{Ends.Ends, Ends.Writer, Ends.with_notes, Lines.WritesFront, JsonSums.summary_in}
+use Rattle.fb_lines.specs.Faults.{End, EndsBeside, IsUnfailed, failures_of, status_of}
 use Rattle.fbcheck_words.specs.declared.{choices.Settings.Settings, choices.SettingsFault.SettingsFault}
 use Rattle.fbcheck_words.specs.declared.choices.SettingsFault.TheVariants as refusal
 use Rattle.fbcheck_texts.specs.declared.fault.FileFault.{FileFault}
@@ -20,7 +20,7 @@ use Rattle.fbcheck_texts.specs.declared.fault.FileFault.TheVariants as file_faul
 use Rattle.fbcheck_serve.specs.declared.{inputs.Course.Course, stop.Ending.Ending}
 use Rattle.fbcheck_serve.specs.declared.stop.Ending.TheVariants.{Helped, Checked, Passed}
 use Rattle.fbcheck_serve.specs.declared.{stop.Stop.Stop, stop.Sums.Sums}
-use Rattle.fb_run.specs.declared.{fault.RunFault.TheVariants.TooManyTurns, fault.RunFault.TheVariants.WriteFault, tally.Tally.Tally}
+use Rattle.fb_lines.specs.declared.{fault.RunFault.TheVariants.TooManyTurns, fault.RunFault.TheVariants.WriteFault, tally.Tally.Tally}
 use Rattle.fbcheck_texts.specs.declared.causes.Causes.{Causes}
 use Rattle.fbcheck_serve.specs.declared.stop.Stop.TheVariants as stop
 use Rattle.fbcheck_texts.specs.declared.fault.WordsFault.{WordsFault}

@@ -9,7 +9,7 @@ ghost use Rattle.fbcheck_serve.specs.Inputs.{label_of};
 ghost use Rattle.fbcheck_serve.specs.Checking.{Asks, IsPathless, IsSchema, IsUntold, LacksSchema, own_of, schema_limits};
 ghost use Rattle.fbcheck_words.specs.Ranges.{AreInRange};
 ghost use Rattle.fbcheck_words.specs.declared.choices.Settings.{Settings};
-ghost use Rattle.fb_run.specs.Job.{PathsFit, Serves, job_of};
+ghost use Rattle.fb_lines.specs.Job.{PathsFit, Serves, job_of};
 ghost use Rattle.fb_access.specs.Fitting.{StepsFit};
 ghost use Rattle.fb_schema.specs.declared.kinds.Kind.TheVariants.{Table};
 

@@ -4,9 +4,9 @@ ghost use Rattle.std.specs.Prelude.{Err, IfErr, IfOk, OnErr, length, ◌≡◌, 
 ghost use Rattle.fbcheck_words.specs.Ranges.{AreInRange};
 ghost use Rattle.fbcheck_serve.specs.Checking.{EndsChecked, IsChecked, IsCheckedBeside, IsPromptAmongAsked, IsPromptAsAsked, IsServedEach, IsUnasked};
 ghost use Rattle.fbcheck_serve.specs.Inputs.{folder_of, seen_of};
-ghost use Rattle.fb_run.specs.Faults.{EndsBeside};
-ghost use Rattle.fb_run.specs.declared.fault.RunFault.TheVariants.{TooManyTurns};
-ghost use Rattle.fb_run.specs.Ends.{HasCallsLeft, HasLeave, ends_of, noteless};
+ghost use Rattle.fb_lines.specs.Faults.{EndsBeside};
+ghost use Rattle.fb_lines.specs.declared.fault.RunFault.TheVariants.{TooManyTurns};
+ghost use Rattle.fb_run.specs.Leave.{HasCallsLeft, HasLeave, ends_of, noteless};
 
 use crate::asked::{Asked, asked_of};
 use crate::files::Files;

@@ -1,9 +1,11 @@
 //! Files as inputs, one behind another.
 
 ghost use Rattle.std.specs.Prelude.{Err, IfOk, true, false, ◌≡◌, ◌≢◌, ◌⊎◌, ◌+◌, ◌<◌, ◌≤◌, ◌^◌, length, map, option_map, string_bytes, vec_items};
-ghost use Rattle.fb_run.specs.Ends.{HasCallsLeft, HasLeave, ends_of, writer_of};
-ghost use Rattle.fb_run.specs.{Sums.no_tally, Job.Serves, Job.job_of, Prompt.IsPrompt};
-ghost use Rattle.fb_run.specs.declared.fault.RunFault.TheVariants.{TooManyTurns};
+ghost use Rattle.fb_lines.specs.Ends.{writer_of};
+ghost use Rattle.fb_run.specs.Leave.{HasCallsLeft, HasLeave, ends_of};
+ghost use Rattle.fb_lines.specs.{Sums.no_tally, Job.Serves, Job.job_of};
+ghost use Rattle.fb_run.specs.Prompt.{IsPrompt};
+ghost use Rattle.fb_lines.specs.declared.fault.RunFault.TheVariants.{TooManyTurns};
 ghost use Rattle.fbcheck_serve.specs.Inputs.{ComesOf, IsBehind, IsBehindEnd, IsBehindRun, IsNotedOf, IsPromptAmong, ServesEach, Tries, at_first, course_with, fault_line, folder_of, is_final, is_standard, label_of, seen_of, stand, standard_after, sum_of, sums, are_named};
 ghost use Rattle.fbcheck_serve.specs.declared.inputs.Standard.TheVariants.{Unread, Spent};
 

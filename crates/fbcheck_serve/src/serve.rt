@@ -1,9 +1,10 @@
 //! What the program does, from its words to its exit status.
 
 ghost use Rattle.std.specs.Prelude.{Err, IfOk, IfSome, ◌≡◌, ◌⊎◌, ◌+◌, ◌<◌, ◌≤◌, ◌^◌, ℕ, length, string_len};
-ghost use Rattle.fb_run.specs.Faults.{EndsBeside};
-ghost use Rattle.fb_run.specs.declared.fault.RunFault.TheVariants.{TooManyTurns};
-ghost use Rattle.fb_run.specs.Ends.{Ends, HasCallsLeft, HasLeave, Reader, Writer, beside, ends_of, writer_of};
+ghost use Rattle.fb_lines.specs.Faults.{EndsBeside};
+ghost use Rattle.fb_lines.specs.declared.fault.RunFault.TheVariants.{TooManyTurns};
+ghost use Rattle.fb_lines.specs.Ends.{Ends, Reader, Writer, beside, writer_of};
+ghost use Rattle.fb_run.specs.Leave.{HasCallsLeft, HasLeave, ends_of};
 ghost use Rattle.fbcheck_serve.specs.Inputs.{folder_of, seen_of};
 ghost use Rattle.fbcheck_serve.specs.Serving.{ComesTo, EndsSo, IsCrowded, IsPromptAsGiven, IsServed, Unserved, files_ending, run_ending, summed, words_of};
 

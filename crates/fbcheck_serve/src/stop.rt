@@ -1,7 +1,7 @@
 //! How the program comes to its end: well, or for a cause.
 
 ghost use Rattle.std.specs.Prelude.{IfSome, ◌≡◌, ◌++◌, ◌+◌, ◌<◌, ◌≤◌, ◌^◌, length, option_map};
-ghost use Rattle.fb_run.specs.Ends.{writer_of};
+ghost use Rattle.fb_lines.specs.Ends.{writer_of};
 ghost use Rattle.fbcheck_serve.specs.Inputs.{IsNoted};
 ghost use Rattle.fbcheck_serve.specs.Serving.{behind, Complains, IsHinted, SumsUp, ending_hint, exit_status, stop_status, stop_text};
 ghost use Rattle.fbcheck_words.specs.declared.choices.SettingsFault.TheVariants as refusal;

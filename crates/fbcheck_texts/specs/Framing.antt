@@ -4,8 +4,8 @@ use Rattle.std.specs.{Int.to_le_bytes, Int.w32, List.list_all, List.slice_index}
 use Rattle.fb_bytes.specs.declared.stream_fault.StreamFault.TheVariants.{Oversize}
 use Rattle.fb_rules.specs.declared.start.Start.{Start}
 use Rattle.fb_rules.specs.declared.start.Start.TheVariants as start
-use Rattle.fb_run.specs.declared.{fault.RunFault.RunFault, fault.RunFault.TheVariants.BareTooLong, fault.RunFault.TheVariants.Stream}
-use Rattle.fb_run.specs.declared.tally.Tally.{Tally}
+use Rattle.fb_lines.specs.declared.{fault.RunFault.RunFault, fault.RunFault.TheVariants.BareTooLong, fault.RunFault.TheVariants.Stream}
+use Rattle.fb_lines.specs.declared.tally.Tally.{Tally}
 use Rattle.fbcheck_texts.specs.Hints.{is_plain, opens, past_blanks}
 use Rattle.fbcheck_texts.specs.declared.{framing.By.By, framing.By.TheVariants.Fixed, framing.By.TheVariants.Named, framing.Framing.Framing}
 use Rattle.fbcheck_texts.specs.declared.framing.Framing.TheVariants.{Bare, Delimited, Prefixed}

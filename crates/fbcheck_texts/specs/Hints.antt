@@ -6,7 +6,7 @@ use Rattle.std.specs.declared.io.ErrorKind.{ErrorKind}
 use Rattle.std.specs.declared.io.ErrorKind.TheVariants as kind
 use Rattle.fb_access.specs.declared.path_fault.PathFault.{PathFault}
 use Rattle.fb_access.specs.declared.path_fault.PathFault.TheVariants.{BadText, NoSuchField, OutOfMemory as NoRoom}
-use Rattle.fb_run.specs.AnswerText.{byte_text}
+use Rattle.fb_lines.specs.AnswerText.{byte_text}
 use Rattle.fb_schema.specs.declared.kinds.Kind.{Kind}
 use Rattle.fb_schema.specs.declared.kinds.Kind.TheVariants.{Scalar, Struct, Table, Text, Union}
 use Rattle.fb_schema.specs.declared.kinds.Scalar as scalars

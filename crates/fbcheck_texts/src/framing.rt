@@ -1,7 +1,7 @@
 //! How messages stand in an input, and what is told where that seems to be otherwise than was asked.
 
 ghost use Rattle.std.specs.Prelude.{◌≡◌, ◌≤◌, length, option_map, slice_get};
-ghost use Rattle.fb_run.specs.Job.{start_of};
+ghost use Rattle.fb_lines.specs.Job.{start_of};
 ghost use Rattle.fbcheck_texts.specs.Framing.{all_misaligned, are_all, by_hint, end_hint, framing_of, is_length, long_stray, misread, over_hint, over_stray, run_hint, shifted, stray, text_look, turned_stray};
 
 use crate::hint::{are_plain, opens, past_blanks};

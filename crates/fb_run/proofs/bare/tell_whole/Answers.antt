@@ -1,7 +1,9 @@
 use Rattle.std.proofs.Common.{ap, refl, subst, sym, true, ◌∙◌}
-use Rattle.fb_run.specs.declared.tally.Tally.{Tally}
-use Rattle.fb_run.specs.{Bare.FailsBare, Ends.beside, Ends.outs_of, Ends.writer_of, Texts.Sizes, Texts.Texts, Texts.no_bytes, Texts.written_by}
-use Rattle.fb_run.proofs.{BareLemmas.fails_part, BareLemmas.fails_through, BareLemmas.passes_through, BehindLemmas.fronts_behind}
+use Rattle.fb_lines.specs.declared.tally.Tally.{Tally}
+use Rattle.fb_lines.specs.{Ends.beside, Ends.outs_of, Ends.writer_of, Texts.Sizes, Texts.Texts, Texts.no_bytes, Texts.written_by}
+use Rattle.fb_run.specs.Bare.{FailsBare}
+use Rattle.fb_lines.proofs.BehindLemmas.{fronts_behind}
+use Rattle.fb_run.proofs.BareLemmas.{fails_part, fails_through, passes_through}
 use Rattle.fb_run.proofs.RunLemmas.{caused_then, err_is}
 use Rattle.fb_run.proofs.bare.tell_whole.Goals as goal
 

@@ -1,28 +1,40 @@
-use Rattle.std.proofs.Common.{rules, refl, sym, take, ◌++◌, ◌≤◌, ◌<◌, ◌+◌, length}
+use Rattle.std.proofs.Common.{arith, rules, refl, sym, take, ◌++◌, ◌≤◌, ◌<◌, ◌+◌, length}
 use Rattle.std.proofs.KnownBytes.{Consumes-trans, Keeps-refl}
-use Rattle.fb_run.specs.Ends.{ends_of}
-use Rattle.fb_run.proofs.Pieces.{length-with}
+use Rattle.fb_lines.proofs.Pieces.{length-with}
+use Rattle.fb_run.specs.Leave.{ends_of}
 use Rattle.fb_run.proofs.reading.read_whole.Goals as goal
 
-pub returns-then-read-limit-clause-fault : goal.returns-then-read-limit-clause-fault
-returns-then-read-limit-clause-fault g c job same =
+pub returns-then-read-limit-clause-reads : goal.returns-then-read-limit-clause-reads
+returns-then-read-limit-clause-reads g c =
     let read = c.in-Ok.ensures in
     let long = length-with c.loop-left.whole.items c.pull_piece.new.piece.items c.in-Ok.read read.fits in
-    let over : c.args.limit < length c.loop-left.whole.items + c.in-Ok.read = search rules in (
-      c.loop-left.whole.items ++ take c.in-Ok.read c.pull_piece.new.piece.items,
-      Consumes-trans _ _ _ _ _ c.loop-left.invariant.read read.ok,
-      (sym same, search rules, ((Keeps-refl _, Keeps-refl _), refl)),
-    )
+    let over : c.args.limit < length c.loop-left.whole.items + c.in-Ok.read = search rules in
+    let bytes = c.loop-left.whole.items ++ take c.in-Ok.read c.pull_piece.new.piece.items in
+    let reads = Consumes-trans _ _ _ _ _ c.loop-left.invariant.read read.ok in
+    record {
+      fails = λ job same. (
+        bytes,
+        reads,
+        (sym same, rw same (omega (arith, long, over)), ((Keeps-refl _, Keeps-refl _), refl)),
+      );
+      cause = search rules;
+    }
 
-pub returns-in_default-clause-fault : goal.returns-in_default-clause-fault
-returns-in_default-clause-fault g c job same =
+pub returns-in_default-clause-reads : goal.returns-in_default-clause-reads
+returns-in_default-clause-reads g c =
     let read = c.in-Ok.ensures in
     let long = length-with c.loop-left.whole.items c.pull_piece.new.piece.items c.in-Ok.read read.fits in
-    let under : length c.loop-left.whole.items + c.in-Ok.read ≤ c.args.limit = search rules in (
-      c.loop-left.whole.items ++ take c.in-Ok.read c.pull_piece.new.piece.items,
-      Consumes-trans _ _ _ _ _ c.loop-left.invariant.read read.ok,
-      (search rules, ((Keeps-refl _, Keeps-refl _), refl)),
-    )
+    let under : length c.loop-left.whole.items + c.in-Ok.read ≤ c.args.limit = search rules in
+    let bytes = c.loop-left.whole.items ++ take c.in-Ok.read c.pull_piece.new.piece.items in
+    let reads = Consumes-trans _ _ _ _ _ c.loop-left.invariant.read read.ok in
+    record {
+      fails = λ job same. (
+        bytes,
+        reads,
+        (rw same (omega (arith, long, under)), ((Keeps-refl _, Keeps-refl _), refl)),
+      );
+      cause = search rules;
+    }
 
 pub pull_piece-requires-clause-leave : goal.pull_piece-requires-clause-leave
 pull_piece-requires-clause-leave g c =

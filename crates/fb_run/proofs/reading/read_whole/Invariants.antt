@@ -1,6 +1,6 @@
 use Rattle.std.proofs.Common.{length, ◌≡◌, ◌+◌, ◌≤◌}
 use Rattle.std.specs.Io.KnownBytes.{Consumes}
-use Rattle.fb_run.specs.Ends.{IsUnended, reader_of}
+use Rattle.fb_run.specs.Leave.{IsUnended, reader_of}
 use Rattle.fb_run.proofs.reading.read_whole.Given as goal
 
 abbrev pub invariant-loop-left : goal.invariant-loop-left

@@ -1,4 +1,4 @@
-use Rattle.fb_run.specs.Ends.{noteless}
+use Rattle.fb_run.specs.Leave.{noteless}
 use Rattle.fb_run.proofs.RunLemmas.{ends_answer}
 use Rattle.fb_run.proofs.run.run_within.Goals as goal
 

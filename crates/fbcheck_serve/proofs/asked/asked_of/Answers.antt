@@ -2,7 +2,7 @@ use Rattle.std.proofs.Common.{IfErr, List, Option, Result, ap, ℕ, refl, rules,
 use Rattle.fbcheck_serve.specs.declared.asked.Asked.{Asked}
 use Rattle.fbcheck_texts.specs.declared.hint.Unasked.{Unasked}
 use Rattle.fbcheck_serve.specs.{Asked.LacksIdent, Asked.options_of, Inputs.with_label, Checking.IsUntold, Checking.own_of}
-use Rattle.fb_run.specs.Job.{job_of}
+use Rattle.fb_lines.specs.Job.{job_of}
 use Rattle.fb_run.proofs.RunLemmas.{err_exit}
 use Rattle.fbcheck_serve.proofs.AskedLemmas.{path_untold}
 use Rattle.fbcheck_serve.proofs.asked.asked_of.Goals as goal

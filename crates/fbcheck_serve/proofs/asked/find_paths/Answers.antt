@@ -3,7 +3,7 @@ use Rattle.std.specs.Prelude.{string_bytes}
 use Rattle.std.proofs.lemmas.{List.length-map, List.length_push, List.Elements.All-push, Result.IfOk-weaker}
 use Rattle.fb_access.specs.Fitting.{StepsFit}
 use Rattle.fb_schema.specs.declared.kinds.Kind.TheVariants.{Table}
-use Rattle.fb_run.specs.{Job.PathsFit, Wanted.Wanted}
+use Rattle.fb_lines.specs.{Job.PathsFit, Wanted.Wanted}
 use Rattle.fbcheck_texts.specs.Hints.{path_hint}
 use Rattle.fbcheck_serve.specs.Inputs.{are_several, label_of}
 use Rattle.fbcheck_serve.proofs.PathLemmas.{hinted, path_told, paths_more}

@@ -1,5 +1,6 @@
 use Rattle.std.proofs.Common.{map, string_bytes, subst}
-use Rattle.fb_run.specs.{Ends.ends_of, Job.job_of}
+use Rattle.fb_lines.specs.Job.{job_of}
+use Rattle.fb_run.specs.Leave.{ends_of}
 use Rattle.fbcheck_serve.specs.Inputs.{IsPromptAmong, ServesEach, at_first, folder_of, seen_of, stand}
 use Rattle.fbcheck_serve.proofs.check.check_files.Goals as goal
 

@@ -1,7 +1,8 @@
 use Rattle.std.proofs.Common.{◌≡◌, ◌∙◌, ◌+◌, ◌++◌, [], length, Ok, Err, ap, drop, map, refl, rules, string_bytes, subst}
 use mathlib.Core.Logic.{inr}
 use Rattle.std.proofs.Math.ListN.{drop_of_length-le}
-use Rattle.fb_run.specs.{Ends.IsUnended, Ends.reader_of, Job.Job, Job.job_of, Prompt.IsPrompt}
+use Rattle.fb_lines.specs.Job.{Job, job_of}
+use Rattle.fb_run.specs.{Leave.IsUnended, Leave.reader_of, Prompt.IsPrompt}
 use Rattle.fbcheck_serve.specs.Inputs.{Tries, folder_of, label_of, seen_of, stand, are_named}
 use Rattle.fbcheck_serve.specs.declared.inputs.Course.{Course}
 use Rattle.fbcheck_serve.proofs.InputsLemmas.{front_all, front_more, halts_among, next_text, relabelled, turns_on}

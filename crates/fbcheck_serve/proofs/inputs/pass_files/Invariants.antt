@@ -1,5 +1,5 @@
 use Rattle.std.proofs.Common.{◌≡◌, ◌++◌, ◌+◌, ◌<◌, ◌≤◌, ◌^◌, List, Option, drop, length, map, string_bytes, ℕ}
-use Rattle.fb_run.specs.Job.{Serves, job_of}
+use Rattle.fb_lines.specs.Job.{Serves, job_of}
 use Rattle.fbcheck_serve.specs.Inputs.{PassesAll, at_first, folder_of, seen_of, with_label, stand, are_named}
 use Rattle.fbcheck_serve.specs.declared.inputs.Standard.TheVariants.{Unread}
 use Rattle.fbcheck_serve.proofs.inputs.pass_files.Given as goal

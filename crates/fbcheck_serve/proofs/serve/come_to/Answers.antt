@@ -2,7 +2,8 @@ use Rattle.std.proofs.Common.{Err, None, Option, ap, refl, subst}
 use Rattle.std.specs.Prelude.{map, string_bytes}
 use Rattle.std.proofs.KnownBytes.{Keeps-refl}
 use Rattle.clap.specs.Walk.{Text}
-use Rattle.fb_run.specs.Ends.{ends_of, reader_of, writer_of}
+use Rattle.fb_lines.specs.Ends.{writer_of}
+use Rattle.fb_run.specs.Leave.{ends_of, reader_of}
 use Rattle.fbcheck_serve.specs.Serving.{ComesTo, EndsSo, IsCrowded, IsFileFault, words_of}
 use Rattle.fbcheck_words.specs.declared.choices.SettingsFault.TheVariants as refusal
 use Rattle.fbcheck_serve.specs.declared.stop.Stop.TheVariants as stop

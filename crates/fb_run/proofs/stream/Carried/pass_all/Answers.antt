@@ -1,5 +1,6 @@
 use Rattle.std.proofs.Common.{rules, ap, sym, true, false}
-use Rattle.fb_run.specs.{Ends.ends_of, Ends.outs_of, Ends.reader_of, Stream.Standing, Stream.standing}
+use Rattle.fb_lines.specs.Ends.{outs_of}
+use Rattle.fb_run.specs.{Leave.ends_of, Leave.reader_of, Stream.Standing, Stream.standing}
 use Rattle.fb_run.proofs.{ThroughLemmas.fails_piece, ThroughLemmas.sofar_piece}
 use Rattle.fb_run.proofs.RunLemmas.{caused_then, ends_told, err_is, runs_from, sofar_nothing}
 use Rattle.fb_run.proofs.stream.Carried.pass_all.Goals as goal
@@ -13,22 +14,22 @@ returns-in_err-whole-clause-run g c =
     let first = ends_of g.S.Input g.K.Sink g.N.Sink c.args.reader.now c.args.writer.now c.args.notes.now in
     let now = ends_of g.S.Input g.K.Sink g.N.Sink c.read_whole.new.source c.args.writer.now c.args.notes.now in
     rw (err_is _ _ c.from_residual.ensures.1, ap (λ (s : Standing). s.tally) c.requires.start)
-    (runs_from c.args.checker.now first now _ _ _ true c.is_bare.ensures c.if-is_bare.true (c.in_err-whole.ensures.fault c.args.checker.now (sym c.limit-limit.ensures.value)))
+    (runs_from c.args.checker.now first now _ _ _ true c.is_bare.ensures c.if-is_bare.true (c.in_err-whole.ensures.reads.fails c.args.checker.now (sym c.limit-limit.ensures.value)))
 
 pub returns-in_err-whole-clause-end : goal.returns-in_err-whole-clause-end
-returns-in_err-whole-clause-end g c = rw (err_is _ _ c.from_residual.ensures.1) c.in_err-whole.ensures.cause
+returns-in_err-whole-clause-end g c = rw (err_is _ _ c.from_residual.ensures.1) c.in_err-whole.ensures.reads.cause
 
 pub returns-then-is_bare-clause-run : goal.returns-then-is_bare-clause-run
 returns-then-is_bare-clause-run g c =
     let first = ends_of g.S.Input g.K.Sink g.N.Sink c.args.reader.now c.args.writer.now c.args.notes.now in
     let now = ends_of g.S.Input g.K.Sink g.N.Sink c.read_whole.new.source c.tell_whole.new.writer c.tell_whole.new.notes in
-    runs_from c.args.checker.now first now _ _ _ true c.is_bare.ensures c.if-is_bare.true (c.tell_whole.ensures.run first.reader now.reader (rw c.as_slice.ensures.value c.in_ok-whole.ensures.ok))
+    runs_from c.args.checker.now first now _ _ _ true c.is_bare.ensures c.if-is_bare.true (c.tell_whole.ensures.run first.reader now.reader (rw c.as_slice.ensures.value c.in_ok-whole.ensures.reads.read))
 
 pub returns-then-is_bare-clause-end : goal.returns-then-is_bare-clause-end
 returns-then-is_bare-clause-end g c =
     let first = ends_of g.S.Input g.K.Sink g.N.Sink c.args.reader.now c.args.writer.now c.args.notes.now in
     let now = ends_of g.S.Input g.K.Sink g.N.Sink c.read_whole.new.source c.tell_whole.new.writer c.tell_whole.new.notes in
-    ends_told first now c.args.turns c.tell_whole.result c.in_ok-whole.ensures.unfailed c.in_ok-whole.ensures.end c.tell_whole.ensures.end
+    ends_told first now c.args.turns c.tell_whole.result c.in_ok-whole.ensures.reads.unfailed c.in_ok-whole.ensures.reads.ended c.tell_whole.ensures.end
 
 pub pull_piece-requires-clause-leave : goal.pull_piece-requires-clause-leave
 pull_piece-requires-clause-leave g c =

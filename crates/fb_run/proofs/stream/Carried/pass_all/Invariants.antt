@@ -1,6 +1,8 @@
 use Rattle.std.proofs.Common.{length, ◌≡◌, ◌+◌, ◌-◌, ◌*◌, ◌^◌, ◌≤◌}
-use Rattle.fb_run.specs.Ends.{GrowsBy, IsUnended, ends_of, load_of, outs_of, reader_of}
-use Rattle.fb_run.specs.{Faults.IsUnfailedOut, Stream.IsReady, Stream.standing, Texts.silent, Texts.waiting}
+use Rattle.fb_lines.specs.Ends.{GrowsBy, load_of, outs_of}
+use Rattle.fb_run.specs.Leave.{IsUnended, ends_of, reader_of}
+use Rattle.fb_lines.specs.{Faults.IsUnfailedOut, Texts.silent, Texts.waiting}
+use Rattle.fb_run.specs.Stream.{IsReady, standing}
 use Rattle.fb_run.proofs.RunLemmas.{Sofar}
 use Rattle.fb_run.proofs.stream.Carried.pass_all.Given as goal
 

@@ -1,6 +1,7 @@
 use Rattle.std.proofs.Common.{inr, rules}
 use Rattle.fb_verify.proofs.Frames.{if_err_exit}
-use Rattle.fb_run.specs.{Stream.standing, Texts.waiting}
+use Rattle.fb_lines.specs.Texts.{waiting}
+use Rattle.fb_run.specs.Stream.{standing}
 use Rattle.fb_run.proofs.{StreamLemmas.gathers_used, ThroughLemmas.stops_flush}
 use Rattle.fb_run.proofs.stream.Carried.pass_front.Goals as goal
 

@@ -1,7 +1,8 @@
 use Rattle.std.proofs.{Common.ap, Common.refl, KnownBytes.Keeps-refl}
 use Rattle.fb_verify.proofs.Frames.{if_err_exit}
 use Rattle.fb_bytes.specs.Framing.{Framing}
-use Rattle.fb_run.specs.{Ends.writer_of, Stream.standing}
+use Rattle.fb_lines.specs.Ends.{writer_of}
+use Rattle.fb_run.specs.Stream.{standing}
 use Rattle.fb_run.proofs.StreamLemmas.{feed_kind, halts_feed}
 use Rattle.fb_run.proofs.ThroughLemmas.{feed_caused, through_halts, through_line, through_stops}
 use Rattle.fb_run.proofs.stream.Carried.pass_held.Goals as goal

@@ -1,7 +1,8 @@
 use Rattle.std.proofs.KnownBytes.{Keeps-refl}
 use Rattle.std.proofs.lemmas.{List.take_rest, Result.IfErr-weaker, Result.on_ok_weaker}
 use Rattle.fb_verify.proofs.Frames.{if_err_exit}
-use Rattle.fb_run.specs.{Ends.writer_of, Stream.standing}
+use Rattle.fb_lines.specs.Ends.{writer_of}
+use Rattle.fb_run.specs.Stream.{standing}
 use Rattle.fb_run.proofs.ThroughLemmas.{passes_rest, stops_held, stops_rest, written_held}
 use Rattle.fb_run.proofs.stream.Carried.pass_piece.Goals as goal
 

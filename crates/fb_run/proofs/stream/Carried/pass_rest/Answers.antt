@@ -1,7 +1,8 @@
 use Rattle.std.proofs.Common.{refl, rules}
 use Rattle.std.proofs.lemmas.List.{length-drop, take_all, take_rest}
 use Rattle.fb_verify.proofs.Frames.{if_err_exit}
-use Rattle.fb_run.specs.{Ends.outs_of, Stream.standing}
+use Rattle.fb_lines.specs.Ends.{outs_of}
+use Rattle.fb_run.specs.Stream.{standing}
 use Rattle.fb_run.proofs.RunLemmas.{caused_then}
 use Rattle.fb_run.proofs.ThroughLemmas.{passes_rest, stops_rest, written_more, written_none}
 use Rattle.fb_run.proofs.stream.Carried.pass_rest.Goals as goal

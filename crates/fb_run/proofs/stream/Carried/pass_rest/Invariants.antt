@@ -1,5 +1,6 @@
 use Rattle.std.proofs.Common.{length, ◌+◌, ◌-◌, ◌*◌, ◌^◌, ◌≤◌}
-use Rattle.fb_run.specs.{Faults.IsUnfailedOut, Ends.GrowsBy, Ends.load_of, Ends.outs_of, Stream.IsReady, Stream.standing}
+use Rattle.fb_lines.specs.{Faults.IsUnfailedOut, Ends.GrowsBy, Ends.load_of, Ends.outs_of}
+use Rattle.fb_run.specs.Stream.{IsReady, standing}
 use Rattle.fb_run.proofs.ThroughLemmas.{HasWritten}
 use Rattle.fb_run.proofs.stream.Carried.pass_rest.Given as goal
 

@@ -2,7 +2,8 @@ use Rattle.std.proofs.Common.{◌≡◌, ◌++◌, ◌∙◌, ℕ, List, [], ari
 use Rattle.std.proofs.lemmas.List.{nil_from_length}
 use Rattle.fb_bytes.specs.{Framing.Framing, Messages.IsMessage}
 use Rattle.fb_verify.proofs.Frames.{if_err_exit}
-use Rattle.fb_run.specs.{Stream.standing, Texts.no_bytes}
+use Rattle.fb_lines.specs.Texts.{no_bytes}
+use Rattle.fb_run.specs.Stream.{standing}
 use Rattle.fb_run.proofs.StreamLemmas.{halts_feed, halts_memory, onward_line, onward_message}
 use Rattle.fb_run.proofs.stream.Carried.pass_some.Goals as goal
 

@@ -1,0 +1,16 @@
+-- The text of values.
+use Rattle.std.proofs.Common.{◌≡◌, ℕ, List, [], ◌∷◌, ◌++◌, map, refl, sym, ap}
+use Rattle.std.specs.List.{flat_map}
+use Rattle.std.proofs.lemmas.List.{flat_map_more}
+use Rattle.fb_access.specs.Denotes.{shown}
+use Rattle.fb_access.specs.declared.answer.Answer.{Answer}
+use Rattle.fb_lines.specs.AnswerText.{answers_text, byte_text, spaced_answer}
+
+-- one byte more
+pub texts_more : (xs : List ℕ) (b : ℕ) → flat_map byte_text (xs ++ b ∷ []) ≡ flat_map byte_text xs ++ byte_text b
+texts_more xs b = sym (flat_map_more byte_text [] xs b)
+
+-- answers behind spaces, one after another, as their values
+pub answers_each : (answers : List Answer) → flat_map spaced_answer answers ≡ answers_text (map shown answers)
+answers_each [] = refl
+answers_each (answer ∷ answers) = ap (λ l. spaced_answer answer ++ l) (answers_each answers)

@@ -1,0 +1,56 @@
+-- What a filter passes on, filtered again.
+use Rattle.std.proofs.Common.{◌≡◌, ℕ, ◌+◌, ◌∙◌, ◌++◌, List, [], ◌∷◌, Ok, Err, All, refl, sym, ap, subst}
+use mathlib.Core.Logic.{inl}
+use Rattle.std.proofs.lemmas.List.Elements.{All-head, All-tail}
+use Rattle.fb_bytes.specs.Messages.{IsMessage, Splits}
+use Rattle.fb_lines.specs.{FilterLaws.PassesAgain, Job.Job, Line.line_of, Line.told_of, Lines.AreTold, Sums.no_tally, Sums.tally_with}
+use Rattle.fb_lines.specs.Texts.{Texts, to_out}
+use Rattle.fb_lines.specs.declared.{tally.Tally.Tally, options.Mode.TheVariants.Filter}
+use Rattle.fb_lines.proofs.Splitting.{empty_partial, splits_one, splits_rest, splits_then}
+
+-- what was told of messages that are numbered from k, as what is told of those that were passed on, numbered from j
+again : (job : Job) (limit k j : ℕ) (messages : List (List ℕ)) (text : Texts) (tally : Tally) → job.mode ≡ Filter → All (IsMessage limit) messages → AreTold job k messages text tally
+    → (passed : List (List ℕ)) × (good : Tally) × Splits limit text.out passed [] × AreTold job j passed (to_out text.out) good × (good.yes ≡ tally.yes) × (good.no ≡ 0)
+again job limit k j [] text tally filter each (e, none) = (
+  [],
+  no_tally,
+  subst (λ (l : List ℕ). Splits limit l [] []) (sym (ap (λ t. t.out) e)) (splits_rest limit [] (inl (empty_partial limit))),
+  (ap (λ t. to_out t.out) e, refl),
+  sym (ap (λ (t : Tally). t.yes) none),
+  refl,
+)
+again job limit k j (m ∷ ms) text tally filter each (Ok found, line, rest, others, is, e, told, sums) =
+    let more = again job limit (k + 1) (j + 1) ms rest others filter (All-tail (IsMessage limit) m ms each) told in
+    let line_is : line ≡ to_out m = is.text ∙ ap (λ o. told_of o (line_of job k (Ok found)) m (Ok found)) filter in
+    let out_is : text.out ≡ m ++ rest.out = ap (λ t. t.out) e ∙ ap (λ t. t.out ++ rest.out) line_is in (
+      m ∷ more.0,
+      tally_with m (Ok found) more.1,
+      subst (λ (l : List ℕ). Splits limit l (m ∷ more.0) []) (sym out_is)
+          (splits_then limit m rest.out [] [] (m ∷ []) more.0 (splits_one limit m (All-head (IsMessage limit) m ms each)) more.2),
+      (
+        Ok found,
+        to_out m,
+        to_out rest.out,
+        more.1,
+        record { verdict_is = is.verdict_is; text = ap (λ o. told_of o (line_of job j (Ok found)) m (Ok found)) (sym filter) },
+        ap to_out out_is,
+        more.3,
+        refl,
+      ),
+      ap (λ (n : ℕ). n + 1) more.4 ∙ sym (ap (λ (t : Tally). t.yes) sums),
+      more.5,
+    )
+again job limit k j (m ∷ ms) text tally filter each (Err fault, line, rest, others, is, e, told, sums) =
+    let more = again job limit (k + 1) j ms rest others filter (All-tail (IsMessage limit) m ms each) told in
+    let line_is = is.text ∙ ap (λ o. told_of o (line_of job k (Err fault)) m (Err fault)) filter in
+    let out_is : text.out ≡ rest.out = ap (λ t. t.out) e ∙ ap (λ t. t.out ++ rest.out) line_is in (
+      more.0,
+      more.1,
+      subst (λ (l : List ℕ). Splits limit l more.0 []) (sym out_is) more.2,
+      subst (λ (l : List ℕ). AreTold job j more.0 (to_out l) more.1) (sym out_is) more.3,
+      more.4 ∙ sym (ap (λ (t : Tally). t.yes) sums),
+      more.5,
+    )
+
+pub passes_again : PassesAgain
+passes_again job limit bytes rest messages text tally filter splits told = again job limit 1 1 messages text tally filter splits.each told

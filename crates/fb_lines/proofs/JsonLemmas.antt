@@ -1,0 +1,221 @@
+-- The text of JSON by its parts.
+use Rattle.std.proofs.Common.{◌≡◌, ℕ, suc, ◌+◌, ◌<◌, ◌≤◌, ◌/◌, ◌%◌, ◌^◌, Bool, true, false, cond, List, [], ◌∷◌, ◌++◌, Option}
+use Rattle.std.proofs.Common.{Some, None, codes, decimal, length, fold, get_or, drop, Fits, w8, refl, sym, ap, ◌∙◌, arith, rules, append_assoc, append-nil, inl, inr, min}
+use Rattle.std.specs.{Prelude.nat_lt, Str.is_utf8, Str.IsUtf8, List.All}
+use Rattle.std.proofs.lemmas.{Bool.cases_lt, Bool.false_from_ne_true, Bool.Decides.nat_tests, List.drop_more, List.drop_all, List.flat_map_more, List.Elements.All-get_or}
+use Rattle.std.proofs.lemmas.{Str.IsUtf8-from_is_utf8, Str.is_utf8-from_IsUtf8, List.Sums.fold-append}
+use Rattle.hex.specs.Hex.{encode_lower, encode_with, lower_digits}
+use Rattle.std.proofs.Math.Facts.{Fits-lt-pow}
+use Rattle.json.specs.{Token.Token, Tree.json_tokens, Tree.items_tokens, Tree.members_tokens}
+use Rattle.json.specs.Json.{Json, null, boolean, number, string, array, object, Items, no_items, item, Members, no_members, member}
+use Rattle.json.specs.Print.{print_from, ends, escape, escape_byte, quoted}
+use Rattle.json.proofs.Printed.Tokens.{print_from-append}
+use Rattle.fb_schema.specs.Rows.{Rows}
+use Rattle.fb_rules.specs.declared.{fault.Fault.Fault, fault.Report.Report}
+use Rattle.fb_access.specs.Denotes.{Shown, nothing, no_element, other_member, table}
+use Rattle.fb_lines.specs.Json.{json_text, text_json, value_json, labelled, digits_json, line_json, values_member, yes_members, no_members_of}
+use Rattle.fb_lines.specs.Json.{place_member, values_members, members_text, member_part, following, begin_part, counts_part, reason_part, names_part, end_part, json_yes, json_no}
+
+-- a comma, behind a value
+abbrev comma : Bool → List ℕ
+comma after = cond after (44 ∷ []) []
+
+-- whether a value ended behind these tokens
+abbrev ended : Bool → List Token → Bool
+ended after ts = fold (λ _ t. ends t) after ts
+
+mutual
+  ends_json : (j : Json) (after : Bool) → ended after (json_tokens j) ≡ true
+  ends_json null after = refl
+  ends_json (boolean b) after = refl
+  ends_json (number s) after = refl
+  ends_json (string s) after = refl
+  ends_json (array js) after = ends_items js false
+  ends_json (object ms) after = ends_members ms false
+
+  ends_items : (js : Items) (after : Bool) → ended after (items_tokens js) ≡ true
+  ends_items no_items after = refl
+  ends_items (item j js) after = fold-append (λ _ t. ends t) after (json_tokens j) (items_tokens js) ∙ ends_items js (ended after (json_tokens j))
+
+  ends_members : (ms : Members) (after : Bool) → ended after (members_tokens ms) ≡ true
+  ends_members no_members after = refl
+  ends_members (member k j ms) after = fold-append (λ _ t. ends t) false (json_tokens j) (members_tokens ms) ∙ ends_members ms (ended false (json_tokens j))
+
+-- a value behind another has a comma before it
+begins_json : (after : Bool) (j : Json) → print_from after (json_tokens j) ≡ comma after ++ json_text j
+unfolding print_from json_text
+begins_json true null = refl
+begins_json true (boolean b) = refl
+begins_json true (number s) = refl
+begins_json true (string s) = refl
+begins_json true (array js) = refl
+begins_json true (object ms) = refl
+begins_json false j = refl
+
+-- a value, and what stands behind it
+value_then : (after : Bool) (j : Json) (ts : List Token) → print_from after (json_tokens j ++ ts) ≡ comma after ++ (json_text j ++ print_from true ts)
+value_then after j ts =
+    print_from-append after (json_tokens j) ts
+    ∙ ap (λ a. print_from after (json_tokens j) ++ print_from a ts) (ends_json j after)
+    ∙ ap (λ l. l ++ print_from true ts) (begins_json after j)
+    ∙ append_assoc (comma after) (json_text j) (print_from true ts)
+
+-- the text of a number, and of a string
+pub number_text : (s : List ℕ) → json_text (number s) ≡ s
+unfolding print_from json_text
+number_text s = append-nil s
+
+pub string_text : (s : List ℕ) → json_text (string s) ≡ quoted s
+unfolding print_from json_text
+string_text s = append-nil (quoted s)
+
+-- a member, and what stands behind it
+member_then : (behind : Bool) (key : List ℕ) (j : Json) (ms : Members)
+    → members_text behind (member key j ms) ≡ comma behind ++ (quoted key ++ (58 ∷ (json_text j ++ following ms)))
+unfolding members_text print_from
+member_then true key j ms = ap (λ l. 44 ∷ ((quoted key ++ 58 ∷ []) ++ l)) (value_then false j (members_tokens ms)) ∙ ap (λ l. 44 ∷ l) (append_assoc (quoted key) (58 ∷ []) _)
+member_then false key j ms = ap (λ l. (quoted key ++ 58 ∷ []) ++ l) (value_then false j (members_tokens ms)) ∙ append_assoc (quoted key) (58 ∷ []) _
+
+pub next_member : (key : List ℕ) (j : Json) (ms : Members) → following (member key j ms) ≡ 44 ∷ (quoted key ++ (58 ∷ (json_text j ++ following ms)))
+next_member key j ms = member_then true key j ms
+
+-- the same by what is written
+part_then : (behind : Bool) (key : List ℕ) (j : Json) (ms : Members) → members_text behind (member key j ms) ≡ member_part behind key j ++ following ms
+part_then behind key j ms = member_then behind key j ms ∙ simp (string_text, append_assoc)
+
+-- the end of an object
+none_left : (behind : Bool) → members_text behind no_members ≡ codes "}"
+unfolding members_text print_from
+none_left true = refl
+none_left false = refl
+
+pub no_more : following no_members ≡ codes "}"
+no_more = none_left true
+
+-- an object
+pub object_text : (ms : Members) → json_text (object ms) ≡ codes "{" ++ members_text false ms
+unfolding members_text print_from json_text
+object_text ms = refl
+
+pub first_member : (key : List ℕ) (j : Json) (ms : Members) → json_text (object (member key j ms)) ≡ 123 ∷ (quoted key ++ (58 ∷ (json_text j ++ following ms)))
+first_member key j ms = object_text (member key j ms) ∙ ap (λ l. 123 ∷ l) (member_then false key j ms)
+
+-- what is always told alike
+pub fixed_texts : (json_text null ≡ codes "null") × (json_text (boolean true) ≡ codes "true") × (json_text (boolean false) ≡ codes "false")
+    × (json_text (value_json no_element) ≡ codes "{\"absent\":\"no-element\"}") × (json_text (value_json other_member) ≡ codes "{\"absent\":\"other-member\"}")
+    × (json_text (value_json table) ≡ codes "{\"table\":true}")
+unfolding print_from json_text escape_byte
+fixed_texts = (refl, refl, refl, refl, refl, refl)
+
+-- an object of one member
+pub labelled_text : (key : List ℕ) (j : Json) → json_text (labelled key j) ≡ 123 ∷ (quoted key ++ (58 ∷ (json_text j ++ codes "}")))
+labelled_text key j = first_member key j no_members ∙ ap (λ l. 123 ∷ (quoted key ++ (58 ∷ (json_text j ++ l)))) no_more
+
+-- hexadecimal digits stand in a string as they are
+abbrev StaysAs : ℕ → Type 0
+StaysAs b = escape_byte b ≡ b ∷ []
+
+sixteen : All StaysAs lower_digits
+unfolding escape_byte
+sixteen = search rules
+
+digits_stay : (bytes : List ℕ) → ((k : ℕ) → Fits w8 (get_or bytes k 0)) → escape (encode_lower bytes) ≡ encode_lower bytes
+unfolding encode_with
+digits_stay [] h = refl
+digits_stay (b ∷ bytes) h =
+    let small : b < 2 ^ 8 = Fits-lt-pow (h 0) in
+    let high = All-get_or StaysAs lower_digits (b / 16) 0 (omega arith) sixteen in
+    let low = All-get_or StaysAs lower_digits (b % 16) 0 (omega arith) sixteen in
+    λ i. high i ++ (low i ++ digits_stay bytes (λ k. h (suc k)) i)
+
+-- an object of one member whose value is digits, and one whose value is a number
+pub labelled_digits : (key bytes : List ℕ) → ((k : ℕ) → Fits w8 (get_or bytes k 0))
+    → json_text (labelled key (digits_json bytes)) ≡ codes "{" ++ (json_text (string key) ++ ((codes ":\"" ++ encode_lower bytes) ++ codes "\"}"))
+labelled_digits key bytes h = labelled_text key (digits_json bytes) ∙ simp (string_text, digits_stay bytes h, append_assoc)
+
+pub labelled_number : (key s : List ℕ) → json_text (labelled key (number s)) ≡ codes "{" ++ (json_text (string key) ++ ((codes ":" ++ s) ++ codes "}"))
+labelled_number key s = labelled_text key (number s) ∙ simp (string_text, number_text)
+
+-- a text that is UTF-8, and one that isn't
+pub text_is_string : (bytes : List ℕ) → IsUtf8 bytes → text_json bytes ≡ string bytes
+text_is_string bytes h = rw (is_utf8-from_IsUtf8 bytes h)
+
+pub text_is_bytes : (bytes : List ℕ) → (IsUtf8 bytes → ⊥) → text_json bytes ≡ labelled (codes "bytes") (digits_json bytes)
+text_is_bytes bytes h = rw (false_from_ne_true (is_utf8 bytes) (λ e. h (IsUtf8-from_is_utf8 bytes e)))
+
+-- one byte more of a string
+pub escape_more : (xs : List ℕ) (b : ℕ) → escape (xs ++ b ∷ []) ≡ escape xs ++ escape_byte b
+escape_more xs b = sym (flat_map_more escape_byte [] xs b)
+
+-- a line by its beginning and the rest
+pub begun : (file : Option (List ℕ)) (k : ℕ) (rest : Members) → json_text (line_json file k rest) ≡ begin_part file k ++ following rest
+unfolding escape_byte
+begun None k rest = simp (first_member, number_text)
+begun (Some file) k rest = simp (first_member, next_member, number_text, append_assoc)
+
+-- the place in words, where there is one
+pub place_parts : (place : List ℕ) → following (place_member (Some place)) ≡ codes ",\"place\":" ++ (json_text (text_json place) ++ codes "}")
+unfolding escape_byte
+place_parts place = simp (next_member, no_more)
+
+-- the values of some paths up to the one with this number, and then one more
+nat_lt_next : (i : ℕ) → nat_lt 0 (i + 1) ≡ true
+nat_lt_next i = grind (arith, nat_tests)
+
+pub one_value_more : (paths : List (List ℕ)) (values : List Shown) (i : ℕ) (text text' whole : List ℕ) → i < length paths → i < length values
+    → text ++ members_text (nat_lt 0 i) (values_members (drop i paths) (drop i values)) ≡ whole
+    → text' ≡ text ++ member_part (nat_lt 0 i) (get_or paths i []) (value_json (get_or values i nothing))
+    → text' ++ members_text (nat_lt 0 (i + 1)) (values_members (drop (i + 1) paths) (drop (i + 1) values)) ≡ whole
+one_value_more paths values i text text' whole few enough before more =
+    let next = rw (drop_more paths i [] few, drop_more values i nothing enough, part_then (nat_lt 0 i)) at before in
+    rw (nat_lt_next i, more, append_assoc text) next
+
+-- where paths or values end, so do members
+none_valued : (paths : List (List ℕ)) → values_members paths [] ≡ no_members
+none_valued [] = refl
+none_valued (path ∷ paths) = refl
+
+-- and the object is closed
+pub values_end : (paths : List (List ℕ)) (values : List Shown) (i : ℕ) (text text' whole : List ℕ) → min (length paths) (length values) ≤ i
+    → text ++ members_text (nat_lt 0 i) (values_members (drop i paths) (drop i values)) ≡ whole → text' ≡ text ++ codes "}" → text' ≡ whole
+values_end paths values i text text' whole over before more =
+    let ended : values_members (drop i paths) (drop i values) ≡ no_members = elim (cases_lt i (length paths)) [
+      | inl fewer ↦ rw (drop_all i values (omega arith)) (none_valued (drop i paths))
+      | inr few ↦ rw (drop_all i paths few)
+    ] in
+    rw (more, ← none_left (nat_lt 0 i), ← ended) before
+
+-- what a line has of values, where paths are asked for, and where none are
+pub asked_parts : (paths : List (List ℕ)) (values : List Shown) → 0 < length paths
+    → following (values_member paths values) ≡ codes ",\"values\":{" ++ (members_text false (values_members paths values) ++ codes "}")
+unfolding escape_byte
+asked_parts [] values some = absurd (omega arith)
+asked_parts (path ∷ paths) values some = simp (next_member, object_text, no_more)
+
+pub none_asked : (paths : List (List ℕ)) (values : List Shown) → length paths ≡ 0 → following (values_member paths values) ≡ codes "}"
+none_asked [] values none = no_more
+none_asked (path ∷ paths) values none = absurd (omega arith)
+
+-- the lines by what is written
+pub yes_line : (file : Option (List ℕ)) (k : ℕ) (report : Report) (paths : List (List ℕ)) (values : List Shown)
+    → json_yes file k report paths values ≡ begin_part file k ++ (counts_part report ++ (following (values_member paths values) ++ codes "\n"))
+unfolding escape_byte
+yes_line file k report paths values =
+    ap (λ l. l ++ codes "\n") (begun file k (yes_members report paths values)) ∙ simp (next_member, fixed_texts.1, number_text, append_assoc)
+
+pub no_line : (file : Option (List ℕ)) (k : ℕ) (rows : Rows) (fault : Fault) (place : Option (List ℕ))
+    → json_no file k rows fault place
+    ≡ begin_part file k ++ (reason_part fault.reason ++ ((codes ",\"at\":" ++ decimal fault.at) ++ (names_part rows fault ++ (end_part fault.reads place ++ codes "\n"))))
+unfolding escape_byte
+no_line file k rows fault place =
+    ap (λ l. l ++ codes "\n") (begun file k (no_members_of rows fault place)) ∙ simp (next_member, fixed_texts.2, number_text, append_assoc)
+
+-- a line that is put by its six parts, one behind the other
+pub six_parts : (text t1 t2 t3 t4 t5 t6 a b c d e f whole : List ℕ) → whole ≡ a ++ (b ++ (c ++ (d ++ (e ++ f))))
+    → t1 ≡ text ++ a → t2 ≡ t1 ++ b → t3 ≡ t2 ++ c → t4 ≡ t3 ++ d → t5 ≡ t4 ++ e → t6 ≡ t5 ++ f → t6 ≡ text ++ whole
+six_parts text t1 t2 t3 t4 t5 t6 a b c d e f whole is p1 p2 p3 p4 p5 p6 = rw (p6, p5, p4, p3, p2, p1, is) (simp append_assoc)
+
+-- and one that is put by four
+pub four_parts : (text t1 t2 t3 t4 a b c d whole : List ℕ) → whole ≡ a ++ (b ++ (c ++ d))
+    → t1 ≡ text ++ a → t2 ≡ t1 ++ b → t3 ≡ t2 ++ c → t4 ≡ t3 ++ d → t4 ≡ text ++ whole
+four_parts text t1 t2 t3 t4 a b c d whole is p1 p2 p3 p4 = rw (p4, p3, p2, p1, is) (simp append_assoc)

@@ -1,0 +1,16 @@
+pub mod AnswerLemmas
+pub mod PlaceLemmas
+pub mod BehindLemmas
+pub mod FilterLemmas
+pub mod FoundLemmas
+pub mod LineLemmas
+pub mod JsonLemmas
+pub mod JsonReads
+pub mod JsonSumsLemmas
+pub mod LongLemmas
+pub mod Pieces
+pub mod PutsLemmas
+pub mod Shown
+pub mod ShownJson
+pub mod Splitting
+pub mod SumsLemmas

@@ -1,0 +1,178 @@
+-- What the buffers of a run are checked by, and what a verdict on one of them says.
+use Rattle.std.specs.Prelude.{◌≡◌, ℕ, ◌<◌, ◌≤◌, ◌^◌, All, IsTrue, Bool, true, false, List, [], drop, length, map, Option, Some, None, Result, Ok, Err, option_map}
+use Rattle.std.specs.{Borrow.Bor, List.AllZip}
+use Rattle.fb_schema.specs.Rows.{Rows, is_table}
+use Rattle.fb_rules.specs.{Bounds.Bounds, Bounds.limits_of_length, Question.Question, Question.question, Stops.Stops, Links.StopsAlong}
+use Rattle.fb_rules.specs.Verdict.{Reports}
+use Rattle.fb_verify.specs.Sealed.{Sealed}
+use Rattle.fb_rules.specs.declared.{link.Link.Link, checks.Checks.Checks, fault.Fault.Fault, fault.Report.Report, start.Ident.Ident}
+use Rattle.fb_rules.specs.declared.{start.Start.Start, start.Start.TheVariants.Bare, start.Start.TheVariants.Prefixed}
+use Rattle.fb_schema.specs.declared.kinds.Kind.TheVariants.{Table}
+use Rattle.fb_access.specs.{Denotes.Denotes, Denotes.Shown, Denotes.shown, Fitting.StepsFit, Location.location_text, Location.place_text}
+use Rattle.fb_lines.specs.{AnswerText.label_text, Wanted.Wanted}
+use Rattle.fb_lines.specs.declared.{checker.Found.Found, checker.Wrong.Wrong, options.Form.Form}
+use Rattle.fb_lines.specs.declared.{options.Form.TheVariants.Plain, options.Form.TheVariants.Json, options.Mode.Mode, options.Places.Places}
+use Rattle.fb_lines.specs.declared.{options.Places.TheVariants.Numbers, options.Places.TheVariants.Words, options.Prefix.Prefix}
+use Rattle.fb_lines.specs.declared.{options.Prefix.TheVariants.Part, options.Prefix.TheVariants.Apart, options.Options.Options}
+
+-- a schema with its root, whether the input is one bare buffer, how many bytes of a message stand before the buffer, how
+-- the buffer starts, the identifier, the limits, the reads that each byte of a buffer allows, the checks, the values
+-- that are asked for, the most bytes that a message may have, what is told of messages, how of the places of faults,
+-- the name of the input, where lines tell it, and how they are written
+pub record Job : Type 0 where
+  pub rows : Rows
+  pub root : ℕ
+  pub bare : Bool
+  pub skip : ℕ
+  pub start : Start
+  pub ident : Ident
+  pub limits : Bounds
+  pub per_byte : ℕ
+  pub checks : Checks
+  pub paths : List Wanted
+  pub limit : ℕ
+  pub mode : Mode
+  pub names : Places
+  pub label : Option (List ℕ)
+  pub form : Form
+
+-- the buffer in a message
+abbrev pub buffer_in : Job → List ℕ → List ℕ
+buffer_in job message = drop job.skip message
+
+-- the limits of a buffer, by its length
+abbrev pub limits_for : Job → List ℕ → Bounds
+limits_for job bytes = limits_of_length job.limits job.per_byte (length bytes)
+
+-- what is asked of a buffer
+abbrev pub asked_of : Job → List ℕ → Question
+asked_of job bytes = question job.rows job.root job.start job.ident (limits_for job bytes) job.checks
+
+-- a yes: what was counted, and the values that were asked for
+pub record Yes : Type 0 where
+  pub report : Report
+  pub answers : List Shown
+
+-- a no: the fault, and where it is in words, if these were asked for
+pub record No : Type 0 where
+  pub fault : Fault
+  pub place : Option (List ℕ)
+
+-- a yes or a no
+abbrev pub Verdict : Type 0
+Verdict = Result Yes No
+
+-- each value is the one to which the path in its place leads in these bytes, and there are no others
+abbrev pub AreAnswers : List ℕ → Rows → Start → ℕ → List Wanted → List Shown → Type 0
+AreAnswers bytes rows start root = AllZip (λ (wanted : Wanted) value. Denotes bytes rows start root wanted.steps value)
+
+-- the place of a fault in words: in a line of JSON, which tells the names of its object and field itself, its path alone
+abbrev pub place_told : Form → Rows → Fault → List Link → List ℕ
+place_told Plain rows fault links = location_text rows fault links
+place_told Json rows fault links = place_text rows links
+
+-- where words are asked for, they tell the place to which links lead, the links of the trail at whose end the fault is;
+-- where none are, there are none
+abbrev pub IsPlace : Job → List ℕ → Fault → Option (List ℕ) → Type 0
+IsPlace job bytes fault None = job.names ≡ Numbers
+IsPlace job bytes fault (Some text) =
+    (job.names ≡ Words) × (links : List Link) × StopsAlong (asked_of job bytes) bytes fault links × (text ≡ place_told job.form job.rows fault links)
+
+-- what a verdict on these bytes says: a yes counts a tree that is well formed and within the limits, and has the values
+-- that are asked for; a no is the one fault that stops, with its place
+abbrev pub IsVerdict : Job → List ℕ → Verdict → Type 0
+IsVerdict job bytes (Ok found) = Reports (asked_of job bytes) bytes found.report × AreAnswers bytes job.rows job.start job.root job.paths found.answers
+IsVerdict job bytes (Err bad) = Stops (asked_of job bytes) bytes bad.fault × IsPlace job bytes bad.fault bad.place
+
+-- a verdict without where the bytes of its values or place lie in memory
+abbrev pub verdict_of : Result Found Wrong → Verdict
+verdict_of (Ok found) = Ok (record { report = found.report; answers = map shown found.answers })
+verdict_of (Err wrong) = Err (record { fault = wrong.fault; place = option_map (λ (text : Bor (List ℕ)). text.now) wrong.place })
+
+-- the words of a place, where they are asked for
+abbrev pub place_beside : Places → List ℕ → Option (List ℕ)
+place_beside Numbers text = None
+place_beside Words text = Some text
+
+-- a verdict, where these are the words of a fault's place
+abbrev pub verdict_beside : Job → List ℕ → Result Found Fault → Verdict
+verdict_beside job text (Ok found) = Ok (record { report = found.report; answers = map shown found.answers })
+verdict_beside job text (Err fault) = Err (record { fault = fault; place = place_beside job.names text })
+
+-- whether no more is asked of a buffer than what was counted, or its fault by numbers: neither a value, nor words, nor a
+-- name, nor JSON
+abbrev pub asks_little : List Wanted → Places → Option (List ℕ) → Form → Bool
+asks_little [] Numbers None Plain = true
+asks_little _ _ _ _ = false
+
+abbrev pub is_brief : Job → Bool
+is_brief job = asks_little job.paths job.names job.label job.form
+
+-- a verdict where no more is asked
+abbrev pub brief_verdict : Result Report Fault → Verdict
+brief_verdict (Ok report) = Ok (record { report = report; answers = [] })
+brief_verdict (Err fault) = Err (record { fault = fault; place = None })
+
+-- a buffer that is well formed by a job, or its fault with these words
+abbrev pub IsVerified : Job → List ℕ → List ℕ → Result Sealed Fault → Type 0
+IsVerified job bytes text (Ok v) =
+    Reports (asked_of job bytes) bytes v.report
+    × (v ≡ record { bytes = bytes; schema = job.rows; root = job.root; start = job.start; checks = job.checks; report = v.report })
+IsVerified job bytes text (Err fault) = IsVerdict job bytes (Err (record { fault = fault; place = place_beside job.names text }))
+
+-- whether a buffer begins bare or with its size: by whether the input is one bare buffer, and what a prefix is
+abbrev pub start_of : Bool → Prefix → Start
+start_of false Part = Prefixed
+start_of _ _ = Bare
+
+-- how many bytes of a message stand before the buffer
+abbrev pub skip_of : Bool → Prefix → ℕ
+skip_of false Apart = 4
+skip_of _ _ = 0
+
+-- what the options of a run ask of each buffer
+abbrev pub job_of : Rows → Options → Job
+job_of rows options = record {
+  rows = rows;
+  root = options.root;
+  bare = options.bare;
+  skip = skip_of options.bare options.prefix;
+  start = start_of options.bare options.prefix;
+  ident = options.ident;
+  limits = options.limits;
+  per_byte = options.reads_per_byte;
+  checks = options.checks;
+  paths = options.paths.items;
+  limit = options.max_bytes;
+  mode = options.mode;
+  names = options.names;
+  label = option_map (λ name. name.items) options.label;
+  form = options.form;
+}
+
+-- the steps of each path fit from this table on
+abbrev pub PathsFit : Rows → ℕ → List Wanted → Type 0
+PathsFit rows root = All (λ (wanted : Wanted). StepsFit rows (Table root) wanted.steps)
+
+-- the options serve the schema: the root is a table of it, at most 16 paths fit from there, and a framer may have the
+-- limit
+pub record Serves (rows : Rows) (options : Options) : Type 0 where
+  pub table : IsTrue (is_table rows options.root)
+  pub fits : PathsFit rows options.root options.paths.items
+  pub few : length options.paths.items ≤ 16
+  pub least : 8 ≤ options.max_bytes
+  pub most : options.max_bytes < 2 ^ 31
+
+-- what a checker needs beside a buffer: so many levels for open tables, so many links, the words of the last place, and
+-- what lines begin with
+pub record Beside : Type 0 where
+  pub levels : ℕ
+  pub links : ℕ
+  pub text : List ℕ
+  pub label : List ℕ
+
+-- the levels suffice for a job, where it asks for words the links do, and lines begin with the name that it gives
+pub record HasRoom (job : Job) (room : Beside) : Type 0 where
+  pub deep : job.limits.depth ≤ room.levels
+  pub long : job.names ≡ Words → job.limits.depth ≤ room.links
+  pub label_is : room.label ≡ label_text job.label

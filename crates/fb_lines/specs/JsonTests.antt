@@ -1,0 +1,47 @@
+-- Lines of JSON by example.
+use Rattle.std.specs.Prelude.{◌≡◌, ℕ, List, [], ◌∷◌, map, pos, codes, Some, None}
+use Rattle.fb_schema.specs.Rows.{Rows}
+use Rattle.fb_rules.specs.Samples.{short, field, table as table_row}
+use Rattle.fb_rules.specs.declared.{fault.Fault.Fault, fault.Reason.TheVariants.Misaligned, fault.Reason.TheVariants.NoTerminator}
+use Rattle.fb_rules.specs.declared.fault.Report.{Report}
+use Rattle.fb_access.specs.Denotes.{signed, text}
+use Rattle.fb_lines.specs.Json.{json_no, json_text, json_yes, text_json, value_json}
+use Rattle.fb_lines.specs.LineTests.{of_each_kind}
+
+-- one table, eight reads
+abbrev pub counts : Report
+counts = record { tables = 1; depth = 1; reads = 8 }
+
+-- a table with one field, and a string in it without its last byte
+abbrev pub deliveries : Rows
+deliveries = record { objects = table_row (codes "post.Delivery") (field (codes "items") 4 short ∷ []) ∷ []; enums = [] }
+
+abbrev pub unended : Fault
+unended = record { at = 314; object = 0; field = Some 0; reads = 63; reason = NoTerminator }
+
+pub record JsonLines : Type 0 where
+  pub yes : json_yes None 7 counts [] [] ≡ codes "{\"message\":7,\"ok\":true,\"tables\":1,\"depth\":1,\"reads\":8}\n"
+  pub values : json_yes None 1 counts (codes "hp" ∷ codes "name" ∷ []) (signed (pos 300) ∷ text (codes "Orc") ∷ [])
+      ≡ codes "{\"message\":1,\"ok\":true,\"tables\":1,\"depth\":1,\"reads\":8,\"values\":{\"hp\":300,\"name\":\"Orc\"}}\n"
+  pub of_a_file : json_yes (Some (codes "a b.bin")) 7 counts [] [] ≡ codes "{\"file\":\"a b.bin\",\"message\":7,\"ok\":true,\"tables\":1,\"depth\":1,\"reads\":8}\n"
+  pub no : json_no None 5 deliveries unended (Some (codes "items[1]@Note"))
+      ≡ codes "{\"message\":5,\"ok\":false,\"code\":\"V10\",\"reason\":\"NoTerminator\",\"at\":314,\"object\":\"post.Delivery\",\"field\":\"items\",\"reads\":63,\"place\":\"items[1]@Note\"}\n"
+  pub no_field : json_no None 100 deliveries (record unended { field = None; reason = Misaligned }) None
+      ≡ codes "{\"message\":100,\"ok\":false,\"code\":\"V3\",\"reason\":\"Misaligned\",\"at\":314,\"object\":\"post.Delivery\",\"field\":null,\"reads\":63}\n"
+
+-- values of each kind are told so
+abbrev pub JsonValues : Type 0
+JsonValues = map (λ row. json_text (value_json row.0)) of_each_kind ≡ map (λ row. row.2) of_each_kind
+
+-- what is escaped, and what beside it isn't; a letter of two bytes; a byte that no text has, one that lacks the next, a
+-- letter that is longer than it need be, and half of a pair
+abbrev pub texts : List (List ℕ × List ℕ)
+texts =
+    ([], codes "\"\"") ∷ (33 ∷ 34 ∷ 35 ∷ [], codes "\"!\\\"#\"") ∷ (91 ∷ 92 ∷ 93 ∷ [], codes "\"[\\\\]\"") ∷ (0 ∷ 31 ∷ 32 ∷ [], codes "\"\\u0000\\u001f \"")
+    ∷ (8 ∷ 9 ∷ 10 ∷ 11 ∷ 12 ∷ 13 ∷ [], codes "\"\\b\\t\\n\\u000b\\f\\r\"") ∷ (126 ∷ 127 ∷ [], 34 ∷ 126 ∷ 127 ∷ 34 ∷ [])
+    ∷ (195 ∷ 188 ∷ [], 34 ∷ 195 ∷ 188 ∷ 34 ∷ []) ∷ (74 ∷ 255 ∷ [], codes "{\"bytes\":\"4aff\"}") ∷ (195 ∷ [], codes "{\"bytes\":\"c3\"}")
+    ∷ (192 ∷ 128 ∷ [], codes "{\"bytes\":\"c080\"}") ∷ (237 ∷ 160 ∷ 128 ∷ [], codes "{\"bytes\":\"eda080\"}") ∷ []
+
+-- texts of these bytes are told so
+abbrev pub JsonTexts : Type 0
+JsonTexts = map (λ row. json_text (text_json row.0)) texts ≡ map (λ row. row.1) texts

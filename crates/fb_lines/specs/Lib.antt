@@ -1,0 +1,20 @@
+-- What public contracts say, in reading order.
+pub mod Wanted
+pub mod Job
+pub mod JobTests
+pub mod AnswerText
+pub mod Texts
+pub mod Ends
+pub mod Sums
+pub mod Json
+pub mod JsonSums
+pub mod Line
+pub mod Lines
+pub mod LineTests
+pub mod JsonTests
+pub mod JsonLaws
+pub mod Faults
+pub mod FaultText
+pub mod FilterLaws
+-- What proofs alone need.
+pub mod Puts

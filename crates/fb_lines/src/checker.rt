@@ -1,0 +1,379 @@
+//! The verifier, with what a run hands it for every buffer.
+
+ghost use Rattle.std.specs.Prelude.{IfOk, IfErr, OnOk, IsTrue, ◌≡◌, ◌++◌, ◌<◌, ◌≤◌, ◌^◌, length, map};
+ghost use Rattle.fb_access.specs.Denotes.{shown};
+ghost use Rattle.fb_lines.specs.declared.options.Places.TheVariants.{Words};
+ghost use Rattle.fb_lines.specs.Job.{AreAnswers, HasRoom, IsVerdict, IsVerified, PathsFit, Serves, Verdict, brief_verdict, buffer_in, is_brief, job_of, limits_for, place_told, skip_of, start_of, verdict_beside, verdict_of};
+ghost use Rattle.fb_schema.specs.Rows.{Rows};
+ghost use Rattle.fb_lines.specs.Line.{json_line};
+
+use crate::answers::{Answers, MOST_PATHS};
+use crate::json_line::{put_no, put_yes};
+use crate::options::{AskedPath, Form, Mode, Options, Places, Prefix};
+use crate::room::Room;
+use fb_access::{get, place_of, put_location};
+use fb_bytes::Meter;
+use fb_schema::Schema;
+use fb_verify::{
+    Fault, Limits, Link, Located, Report, Start, Verified, verify, verify_and_locate, walk,
+};
+use std::alloc::{AllocError, Allocator};
+use std::marker::Model;
+
+/// How many bytes a message's prefix has.
+const PREFIX: usize = 4;
+
+/// What is found in a buffer that is well formed.
+#[derive(Drop)]
+pub struct Found<'b> {
+    /// What was counted.
+    pub report: Report,
+    /// The values at the ends of the paths of the options.
+    pub answers: Answers<'b>,
+}
+
+/// What is wrong in a buffer.
+#[derive(Clone, Copy)]
+pub struct Wrong<'t> {
+    /// The first fault.
+    pub fault: Fault,
+    /// Where it is in words, where the options ask for these.
+    pub place: Option<&'t [u8]>,
+}
+
+/// A schema and the options by which a run checks its buffers: the root is a table, and the paths fit from there. A
+/// clause sees the job that they make.
+#[derive(Drop)]
+pub struct Checker<'s, 'n, 'o> {
+    schema: &'s Schema<'n>,
+    options: &'o Options,
+    /// What the options say for every buffer, asked once: how it begins, how many bytes of its message stand before it,
+    /// and whether no more is asked of it than a report.
+    start: Start,
+    skip: usize,
+    brief: bool,
+}
+
+impl<'s, 'n, 'o> Model for Checker<'s, 'n, 'o> {
+    ghost use Rattle.std.specs.Prelude.{◌≡◌};
+    ghost use Rattle.fb_lines.specs.Job.{Job, Serves, is_brief, job_of, skip_of, start_of};
+
+    ghost Value = { Job };
+
+    ghost view = { λ c. job_of c.schema.now c.options.now };
+
+    ghost invariant = { λ c. Serves c.schema.now c.options.now × (c.start ≡ start_of c.options.now.bare c.options.now.prefix)
+        × (c.skip ≡ skip_of c.options.now.bare c.options.now.prefix) × (c.brief ≡ is_brief (job_of c.schema.now c.options.now)) };
+}
+
+impl<'s, 'n, 'o> Checker<'s, 'n, 'o> {
+    /// The checker by this schema and these options.
+    pub fn new(schema: &'s Schema<'n>, options: &'o Options) -> Checker<'s, 'n, 'o>
+        requires { Serves schema.now options.now }
+        ensures { result ≡ job_of schema.now options.now }
+    {
+        Checker {
+            schema,
+            options,
+            start: start(options),
+            skip: skip(options),
+            brief: is_brief(options),
+        }
+    }
+
+    /// The most bytes of a message, prefix included, or of a bare input.
+    pub fn limit(&self) -> u32
+        ensures value { result ≡ self.now.limit }
+        ensures least { 8 ≤ self.now.limit }
+        ensures most { self.now.limit < 2 ^ 31 }
+    {
+        self.options.max_bytes
+    }
+
+    /// What is told of the buffers.
+    pub fn mode(&self) -> Mode
+        ensures { result ≡ self.now.mode }
+    {
+        self.options.mode
+    }
+
+    /// How lines are written.
+    pub fn form(&self) -> Form
+        ensures { result ≡ self.now.form }
+    {
+        self.options.form
+    }
+
+    /// Adds the line of this verdict on message number `number` as JSON.
+    pub fn put_json<A: Allocator>(
+        &self,
+        text: &mut Vec<u8, A>,
+        number: u64,
+        verdict: &Result<Found<'_>, Wrong<'_>>,
+    ) -> Result<(), AllocError>
+        ensures { OnOk result (text.new.items ≡ text.old.items ++ json_line self.now number (verdict_of verdict.now)) }
+    {
+        let Options { label, paths, .. } = self.options;
+        match verdict {
+            Ok(found) => put_yes(
+                text,
+                label,
+                number,
+                &found.report,
+                paths.as_slice(),
+                found.answers.as_slice(),
+            ),
+            Err(wrong) => put_no(text, label, number, self.schema, &wrong.fault, wrong.place),
+        }
+    }
+
+    /// Room for as many open tables as the limits allow, and for as many links where words are asked for.
+    pub fn room<'a, A: Allocator>(&self, alloc: &'a A) -> Result<Room<&'a A>, AllocError>
+        ensures { IfOk result (HasRoom self.now) }
+    {
+        let Options {
+            names,
+            ref label,
+            ..
+        } = *self.options;
+        Room::new(alloc, self.options.limits.depth(), names, label)
+    }
+
+    /// The verdict on the buffer in a message: what is found in it, with the values at the ends of the paths, or the
+    /// fault, whose place in words is left in the room where the options ask for it.
+    ///
+    /// # Errors
+    ///
+    /// `AllocError` where there was no memory for these words, and only where they are asked for.
+    pub fn verdict<'b, A: Allocator>(
+        &self,
+        room: &mut Room<A>,
+        message: &'b [u8],
+    ) -> Result<Result<Found<'b>, Fault>, AllocError>
+        requires room { HasRoom self.now room.old }
+        requires short { length message.now < 2 ^ 31 }
+        ensures verdict { IfOk result (λ verdict. IsVerdict self.now (buffer_in self.now message.now) (verdict_beside self.now room.new.text verdict)) }
+        ensures refused { IfErr result (λ _. (verdict : Verdict) × IsVerdict self.now (buffer_in self.now message.now) verdict) }
+        ensures asked { IfErr result (λ _. self.now.names ≡ Words) }
+        ensures room { HasRoom self.now room.new }
+    {
+        match self.verified(room, self.buffer(message))? {
+            Ok(verified) => {
+                let report = verified.report();
+                let answers = answers_in(&verified, self.options.paths.as_slice());
+                Ok(Ok(Found { report, answers }))
+            }
+            Err(fault) => Ok(Err(fault)),
+        }
+    }
+
+    /// Whether no more is asked of a buffer than a report, or a fault by its numbers.
+    #[inline(always)]
+    pub fn is_brief(&self) -> bool
+        ensures { result ≡ is_brief self.now }
+    {
+        self.brief
+    }
+
+    /// The verdict on the buffer in a message, where no more is asked: the report, or the fault.
+    #[inline(always)]
+    pub fn report<A: Allocator>(&self, room: &mut Room<A>, message: &[u8]) -> Result<Report, Fault>
+        requires brief { IsTrue (is_brief self.now) }
+        requires room { HasRoom self.now room.old }
+        requires short { length message.now < 2 ^ 31 }
+        ensures verdict { IsVerdict self.now (buffer_in self.now message.now) (brief_verdict result) }
+        ensures room { HasRoom self.now room.new }
+    {
+        let bytes = self.buffer(message);
+        let Ok(mut meter) = Meter::new(bytes) else {
+            unreachable!()
+        };
+        let Options { root, ident, .. } = *self.options;
+        walk(
+            &mut meter,
+            self.schema,
+            root,
+            self.start,
+            ident,
+            self.limits_for(bytes),
+            self.options.checks,
+            &mut room.scratch,
+        )
+    }
+
+    /// Whether the input is one bare buffer.
+    pub fn is_bare(&self) -> bool
+        ensures { result ≡ self.now.bare }
+    {
+        self.options.bare
+    }
+
+    /// How each buffer begins.
+    fn start(&self) -> Start
+        ensures { result ≡ self.now.start }
+    {
+        self.start
+    }
+
+    /// The buffer in a message: all of it, or what stands behind a prefix that is no part of it.
+    #[inline(always)]
+    fn buffer<'b>(&self, message: &'b [u8]) -> &'b [u8]
+        ensures buffer { result.now ≡ buffer_in self.now message.now }
+        ensures within { length result.now ≤ length message.now }
+    {
+        if self.skip <= message.len() {
+            &message[self.skip..]
+        } else {
+            &[]
+        }
+    }
+
+    /// The limits of a buffer, by its length.
+    #[tactic(auto, using(std::proofs::lemmas::Grind::common_steps))]
+    fn limits_for(&self, bytes: &[u8]) -> Limits
+        requires short { length bytes.now < 2 ^ 31 }
+        ensures { result ≡ limits_for self.now bytes.now }
+    {
+        let Options {
+            limits,
+            reads_per_byte,
+            ..
+        } = *self.options;
+        limits.of_length(reads_per_byte, bytes.len() as u64)
+    }
+
+    /// The buffer, where it is well formed, or its fault.
+    #[tactic(auto, using(std::proofs::lemmas::Grind::common_steps))]
+    fn verified<'b, A: Allocator>(
+        &self,
+        room: &mut Room<A>,
+        bytes: &'b [u8],
+    ) -> Result<Result<Verified<'b, 's, 'n>, Fault>, AllocError>
+        requires room { HasRoom self.now room.old }
+        requires short { length bytes.now < 2 ^ 31 }
+        ensures verdict { IfOk result (IsVerified self.now bytes.now room.new.text) }
+        ensures refused { IfErr result (λ _. (verdict : Verdict) × IsVerdict self.now bytes.now verdict) }
+        ensures asked { IfErr result (λ _. self.now.names ≡ Words) }
+        ensures room { HasRoom self.now room.new }
+    {
+        let Ok(meter) = Meter::new(bytes) else {
+            unreachable!()
+        };
+        let schema = self.schema;
+        let Options { root, ident, .. } = *self.options;
+        let limits = self.limits_for(bytes);
+        let start = self.start();
+        let checks = self.options.checks;
+        let scratch = &mut room.scratch;
+        let links = &mut room.links;
+        match self.options.names {
+            Places::Numbers => Ok(verify(
+                meter, schema, root, start, ident, limits, checks, scratch,
+            )),
+            Places::Words => match verify_and_locate(
+                meter, schema, root, start, ident, limits, checks, scratch, links,
+            ) {
+                Ok(verified) => Ok(Ok(verified)),
+                Err(Located { fault, links }) => {
+                    room.text.clear();
+                    let links = &room.links[..links as usize];
+                    match put_place(&mut room.text, self.options.form, schema, &fault, links) {
+                        Ok(()) => Ok(Err(fault)),
+                        Err(refused) => Err(refused),
+                    }
+                }
+            },
+        }
+    }
+
+    /// The verdict, where a fault has its place in words from the room if the options ask for them, and what its line
+    /// begins with.
+    pub fn told<'b, 't, A: Allocator>(
+        &self,
+        room: &'t Room<A>,
+        verdict: Result<Found<'b>, Fault>,
+    ) -> (Result<Found<'b>, Wrong<'t>>, &'t [u8])
+        ensures verdict { verdict_of result.0 ≡ verdict_beside self.now room.now.text verdict.entry }
+        ensures begin { result.1.now ≡ room.now.label }
+    {
+        let begin = room.label.as_slice();
+        match verdict {
+            Ok(found) => (Ok(found), begin),
+            Err(fault) => {
+                let place = match self.options.names {
+                    Places::Numbers => None,
+                    Places::Words => Some(room.text.as_slice()),
+                };
+                (Err(Wrong { fault, place }), begin)
+            }
+        }
+    }
+}
+
+/// How each buffer begins.
+fn start(options: &Options) -> Start
+    ensures { result ≡ start_of options.now.bare options.now.prefix }
+{
+    match options.prefix {
+        Prefix::Part if !options.bare => Start::Prefixed,
+        _ => Start::Bare,
+    }
+}
+
+/// How many bytes of a message stand before the buffer.
+#[tactic(auto, using(std::proofs::lemmas::Grind::common_steps))]
+fn skip(options: &Options) -> usize
+    ensures { result ≡ skip_of options.now.bare options.now.prefix }
+{
+    match options.prefix {
+        Prefix::Apart if !options.bare => PREFIX,
+        _ => 0,
+    }
+}
+
+/// Whether no more is asked of a buffer than a report, or a fault by its numbers: neither values, nor words, nor a
+/// name, nor JSON.
+fn is_brief(options: &Options) -> bool
+    ensures { (rows : Rows) → result ≡ is_brief (job_of rows options.now) }
+{
+    let Options {
+        paths,
+        names,
+        label,
+        form,
+        ..
+    } = options;
+    match (names, form) {
+        (Places::Numbers, Form::Plain) => paths.is_empty() && label.is_none(),
+        _ => false,
+    }
+}
+
+/// Adds the place of a fault in words.
+fn put_place<A: Allocator>(
+    text: &mut Vec<u8, A>,
+    form: Form,
+    schema: &Schema<'_>,
+    fault: &Fault,
+    links: &[Link],
+) -> Result<(), AllocError>
+    ensures ok { OnOk result (text.new.items ≡ text.old.items ++ place_told form schema.now fault.now links.now) }
+{
+    match form {
+        Form::Plain => put_location(text, schema, fault, links),
+        Form::Json => text.extend_from_slice(place_of(schema, links).as_slice()),
+    }
+}
+
+/// The values at the ends of the paths.
+fn answers_in<'b>(verified: &Verified<'b, '_, '_>, paths: &[AskedPath]) -> Answers<'b>
+    requires fit { PathsFit (verified.now).schema (verified.now).root paths.now }
+    requires few { length paths.now ≤ MOST_PATHS }
+    ensures { AreAnswers (verified.now).bytes (verified.now).schema (verified.now).start (verified.now).root paths.now (map shown result) }
+{
+    let mut answers = Answers::new();
+    for asked in paths {
+        answers.push(get(verified, asked.path()));
+    }
+    answers
+}

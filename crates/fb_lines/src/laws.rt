@@ -1,0 +1,48 @@
+//! What follows from the definitions of what is told alone. These functions have no body: their contracts are the
+//! theorems.
+
+ghost use Rattle.fb_schema.specs.Rows.{Rows};
+ghost use Rattle.fb_lines.specs.{FilterLaws.PassesAgain, JobTests.Buffers, JsonLaws.NoReadsBack, JsonLaws.YesReadsBack, JsonSums.Summaries};
+ghost use Rattle.fb_lines.specs.JsonTests.{JsonLines, JsonTexts, JsonValues};
+ghost use Rattle.fb_lines.specs.LineTests.{Lines, Names, Values, Texts};
+ghost use Rattle.fb_lines.specs.declared.options.Options.{Options};
+
+/// The lines of some verdicts, how values of each kind and names are written, and texts at the bounds of what is
+/// escaped.
+#[tactic(auto, using(crate::proofs::Shown::lines_shown, crate::proofs::Shown::values_shown, crate::proofs::Shown::names_shown, crate::proofs::Shown::texts_shown))]
+pub fn lines_by_example()
+    ensures lines { Lines }
+    ensures values { Values }
+    ensures names { Names }
+    ensures texts { Texts }
+{}
+
+/// Lines of JSON, how values of each kind stand in them, and texts: what is escaped, and what is no UTF-8. Lines of
+/// sums.
+#[tactic(auto, using(crate::proofs::ShownJson::lines_shown, crate::proofs::ShownJson::values_shown, crate::proofs::ShownJson::texts_shown, crate::proofs::ShownJson::summaries_shown))]
+pub fn json_by_example()
+    ensures lines { JsonLines }
+    ensures values { JsonValues }
+    ensures texts { JsonTexts }
+    ensures sums { Summaries }
+{}
+
+/// Whoever reads a line of JSON without values by the grammar gets the object that it is.
+#[tactic(auto, using(crate::proofs::JsonReads::yes_reads, crate::proofs::JsonReads::no_reads))]
+pub fn json_reads_back()
+    ensures yes { YesReadsBack }
+    ensures no { NoReadsBack }
+{}
+
+/// The buffer in a message, and how it starts, by what its prefix is.
+#[tactic(auto, using(crate::proofs::Shown::buffers_shown))]
+pub fn buffers()
+    ensures { (rows : Rows) (options : Options) → Buffers rows options }
+{}
+
+/// What a filter passes on of a stream is itself a stream of whole messages: it ends with one. A filter that checks it
+/// the same way passes all of it on and notes nothing. So what reads behind a filter reads a stream of which each
+/// message has a yes.
+pub fn passed_on_passes_again()
+    ensures { PassesAgain }
+{}

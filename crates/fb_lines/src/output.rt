@@ -1,0 +1,381 @@
+//! What a run tells: gathered, counted, and written together.
+
+ghost use Rattle.std.specs.Prelude.{Err, IfErr, IsTrue, Ok, OnOk, OnErr, ◌≡◌, ◌⊎◌, ◌+◌, ◌<◌, ◌≤◌, ◌^◌, ◌++◌, length, true, false};
+ghost use Rattle.fb_lines.specs.Ends.{GrowsBy, IsBelow, Takes, load_of, outs_of, writer_of};
+ghost use Rattle.fb_lines.specs.{Faults.IsCausedOut, Faults.IsCausedWriting, Faults.IsUnfailedOut, AnswerText.label_text};
+ghost use Rattle.fb_lines.specs.{Line.line_of, Line.told_of, Line.verdict_line, Sums.count_of, Sums.no_tally};
+ghost use Rattle.fb_lines.specs.Job.{HasRoom, brief_verdict, is_brief, verdict_of};
+ghost use Rattle.fb_lines.specs.Lines.{Adds, AddsThrough, AddsTold, ComesBehind, StopsBehind, StopsIn, WritesFronts};
+ghost use Rattle.fb_lines.specs.Texts.{silent, size, waiting, written_by};
+
+use crate::checker::{Checker, Found, Wrong};
+use crate::counter::Counter;
+use crate::fault::RunFault;
+use crate::line::Line;
+use crate::long_line::{long_answers, put_line};
+use crate::options::{Form, Mode};
+use crate::room::Room;
+use crate::tally::Tally;
+use crate::value_text::put_asked;
+use crate::writing::{MOST_WAITING, Pending, Unwritten};
+use fb_bytes::Sink;
+use fb_verify::{Fault, Report};
+use std::alloc::{AllocError, Allocator};
+
+/// What a run has told so far: the verdicts, and what waits to be written to the writer and to the notes.
+#[derive(Drop)]
+pub struct Output<A: Allocator> {
+    pub counter: Counter,
+    /// Whole lines, or whole messages that are passed on.
+    pub out: Pending<A>,
+    /// Whole lines.
+    pub notes: Pending<A>,
+    /// A plain line that is being made, but for what it begins with, values, and a place in words.
+    line: Line,
+    /// A whole line.
+    made: Vec<u8, A>,
+}
+
+impl<'a, A: Allocator> Output<&'a A> {
+    /// Nothing is told.
+    pub fn new(alloc: &'a A) -> Self
+        ensures text { waiting result ≡ silent }
+        ensures counted { result.counter ≡ no_tally }
+        ensures written { result.out.written ≡ 0 }
+        ensures noted { result.notes.written ≡ 0 }
+    {
+        Output {
+            counter: Counter::new(),
+            out: Pending::new(alloc),
+            notes: Pending::new(alloc),
+            line: Line::new(),
+            made: Vec::new(alloc),
+        }
+    }
+}
+
+impl<A: Allocator> Output<A> {
+    /// Adds what is told of the next message, and counts its verdict. Where memory is refused, nothing is told of it.
+    #[inline(always)]
+    pub fn add<B: Allocator>(
+        &mut self,
+        checker: &Checker<'_, '_, '_>,
+        room: &mut Room<B>,
+        message: &[u8],
+    ) -> Result<(), AllocError>
+        requires room { HasRoom checker.now room.old }
+        requires few { count_of self.old.counter < 2 ^ 63 }
+        requires short { length message.now < 2 ^ 31 }
+        ensures ok { OnOk result (AddsTold checker.now (1 + count_of self.old.counter) message.now
+            (waiting self.old) self.old.counter (waiting self.new) self.new.counter) }
+        ensures one { OnOk result (count_of self.new.counter ≡ count_of self.old.counter + 1) }
+        ensures err_text { OnErr result (waiting self.new ≡ waiting self.old) }
+        ensures err_counted { OnErr result (self.new.counter ≡ self.old.counter) }
+        ensures written { self.new.out.written ≡ self.old.out.written }
+        ensures noted { self.new.notes.written ≡ self.old.notes.written }
+        ensures room { HasRoom checker.now room.new }
+    {
+        if checker.is_brief() {
+            return match checker.report(room, message) {
+                Ok(report) => self.add_yes(checker.mode(), message, &report),
+                Err(fault) => self.add_no(checker, message, fault),
+            };
+        }
+        self.add_at_length(checker, room, message)
+    }
+
+    /// Adds what the mode tells of the next message with this report, where no more is asked, and counts it.
+    #[inline(always)]
+    fn add_yes(&mut self, mode: Mode, message: &[u8], report: &Report) -> Result<(), AllocError>
+        requires few { count_of self.old.counter < 2 ^ 63 }
+        requires short { length message.now < 2 ^ 31 }
+        ensures ok { OnOk result (Adds mode (verdict_line (1 + count_of self.old.counter) (brief_verdict (Ok report.now))) message.now (brief_verdict (Ok report.now))
+            (waiting self.old) self.old.counter (waiting self.new) self.new.counter) }
+        ensures err_text { OnErr result (waiting self.new ≡ waiting self.old) }
+        ensures err_counted { OnErr result (self.new.counter ≡ self.old.counter) }
+        ensures written { self.new.out.written ≡ self.old.out.written }
+        ensures noted { self.new.notes.written ≡ self.old.notes.written }
+    {
+        match mode {
+            Mode::Lines => {
+                self.line.set_yes(1 + self.counter.messages(), report);
+                self.out.bytes.extend_from_slice(self.line.bytes())?;
+            }
+            Mode::BadLines => {}
+            Mode::Filter => self.out.bytes.extend_from_slice(message)?,
+        }
+        self.counter.count_yes(message, report);
+        Ok(())
+    }
+
+    /// Adds what is told of the next message with this fault, where no more is asked, and counts it.
+    #[inline(never)]
+    fn add_no(
+        &mut self,
+        checker: &Checker<'_, '_, '_>,
+        message: &[u8],
+        fault: Fault,
+    ) -> Result<(), AllocError>
+        requires brief { IsTrue (is_brief checker.now) }
+        requires few { count_of self.old.counter < 2 ^ 63 }
+        requires short { length message.now < 2 ^ 31 }
+        ensures ok { OnOk result (Adds checker.now.mode (verdict_line (1 + count_of self.old.counter) (brief_verdict (Err fault))) message.now (brief_verdict (Err fault))
+            (waiting self.old) self.old.counter (waiting self.new) self.new.counter) }
+        ensures err_text { OnErr result (waiting self.new ≡ waiting self.old) }
+        ensures err_counted { OnErr result (self.new.counter ≡ self.old.counter) }
+        ensures written { self.new.out.written ≡ self.old.out.written }
+        ensures noted { self.new.notes.written ≡ self.old.notes.written }
+    {
+        let verdict = Err(Wrong { fault, place: None });
+        let number = 1 + self.counter.messages();
+        self.tell(checker, b"", number, message, &verdict)?;
+        self.counter.count(message, &verdict);
+        Ok(())
+    }
+
+    /// Adds what is told of the next message, also where a value or words are asked for, and counts its verdict.
+    #[inline(never)]
+    fn add_at_length<B: Allocator>(
+        &mut self,
+        checker: &Checker<'_, '_, '_>,
+        room: &mut Room<B>,
+        message: &[u8],
+    ) -> Result<(), AllocError>
+        requires room { HasRoom checker.now room.old }
+        requires few { count_of self.old.counter < 2 ^ 63 }
+        requires short { length message.now < 2 ^ 31 }
+        ensures ok { OnOk result (AddsTold checker.now (1 + count_of self.old.counter) message.now
+            (waiting self.old) self.old.counter (waiting self.new) self.new.counter) }
+        ensures one { OnOk result (count_of self.new.counter ≡ count_of self.old.counter + 1) }
+        ensures err_text { OnErr result (waiting self.new ≡ waiting self.old) }
+        ensures err_counted { OnErr result (self.new.counter ≡ self.old.counter) }
+        ensures written { self.new.out.written ≡ self.old.out.written }
+        ensures noted { self.new.notes.written ≡ self.old.notes.written }
+        ensures room { HasRoom checker.now room.new }
+    {
+        let verdict = checker.verdict(room, message)?;
+        let (verdict, begin) = checker.told(room, verdict);
+        let number = 1 + self.counter.messages();
+        self.tell(checker, begin, number, message, &verdict)?;
+        self.counter.count(message, &verdict);
+        Ok(())
+    }
+
+    /// Adds what is told of the next message, and counts its verdict. Where its line ends with a long value, the line
+    /// is written while it is made, and takes no memory; where that can't be written, the verdict is counted too. Where
+    /// memory is refused, nothing is told of the message, nor is it counted.
+    pub fn add_through<B: Allocator, K: Sink>(
+        &mut self,
+        checker: &Checker<'_, '_, '_>,
+        room: &mut Room<B>,
+        message: &[u8],
+        writer: &mut K,
+    ) -> Result<(), RunFault>
+        requires room { HasRoom checker.now room.old }
+        requires few { count_of self.old.counter < 2 ^ 63 }
+        requires short { length message.now < 2 ^ 31 }
+        requires writes { K.calls writer.old < 2 ^ 99 + 2 ^ 97 }
+        requires written { self.old.out.written < 2 ^ 99 + 2 ^ 97 }
+        ensures ok { OnOk result (AddsThrough checker.now (1 + count_of self.old.counter) message.now
+            (waiting self.old) self.old.counter (waiting self.new) self.new.counter
+            (K.contents writer.old) (K.contents writer.new) self.old.out.written self.new.out.written) }
+        ensures one { OnOk result (count_of self.new.counter ≡ count_of self.old.counter + 1) }
+        ensures err { IfErr result (λ fault. StopsBehind checker.now (1 + count_of self.old.counter) message.now
+            (waiting self.old) self.old.counter self.new.counter (K.contents writer.old) (K.contents writer.new) self.old.out.written fault) }
+        ensures failed { IfErr result (IsCausedWriting (writer_of K.Sink writer.old) (writer_of K.Sink writer.new)) }
+        ensures unfailed { OnOk result (K.failures writer.new ≡ K.failures writer.old) }
+        ensures little { OnOk result (self.new.out.written ≤ self.old.out.written + 2 ^ 67) }
+        ensures calls { OnOk result (K.calls writer.new ≤ K.calls writer.old + 2 ^ 67) }
+        ensures noted { self.new.notes.written ≡ self.old.notes.written }
+        ensures room { HasRoom checker.now room.new }
+    {
+        let verdict = checker.verdict(room, message)?;
+        let (verdict, begin) = checker.told(room, verdict);
+        let number = 1 + self.counter.messages();
+        let told = self.tell_through(checker, begin, number, message, &verdict, writer);
+        if let Err(RunFault::OutOfMemory) = told {
+            return told;
+        }
+        self.counter.count(message, &verdict);
+        told
+    }
+
+    /// Adds what is told of message number `number` by this verdict, where plain lines begin so. A plain line with a
+    /// long value is written while it is made.
+    fn tell_through<K: Sink>(
+        &mut self,
+        checker: &Checker<'_, '_, '_>,
+        begin: &[u8],
+        number: u64,
+        message: &[u8],
+        verdict: &Result<Found<'_>, Wrong<'_>>,
+        writer: &mut K,
+    ) -> Result<(), RunFault>
+        requires begin { begin.now ≡ label_text checker.now.label }
+        requires writes { K.calls writer.old < 2 ^ 99 + 2 ^ 97 }
+        requires written { self.old.out.written < 2 ^ 99 + 2 ^ 97 }
+        ensures ok { OnOk result (ComesBehind (waiting self.old).out (told_of checker.now.mode (line_of checker.now number (verdict_of verdict.now)) message.now (verdict_of verdict.now)).out
+            (waiting self.new).out (K.contents writer.old) (K.contents writer.new) self.old.out.written self.new.out.written) }
+        ensures notes { OnOk result ((waiting self.new).notes ≡ (waiting self.old).notes ++ (told_of checker.now.mode (line_of checker.now number (verdict_of verdict.now)) message.now (verdict_of verdict.now)).notes) }
+        ensures err { IfErr result (λ fault. StopsIn ((waiting self.old).out ++ (told_of checker.now.mode (line_of checker.now number (verdict_of verdict.now)) message.now (verdict_of verdict.now)).out)
+            (K.contents writer.old) (K.contents writer.new) self.old.out.written fault) }
+        ensures failed { IfErr result (IsCausedWriting (writer_of K.Sink writer.old) (writer_of K.Sink writer.new)) }
+        ensures unfailed { OnOk result (K.failures writer.new ≡ K.failures writer.old) }
+        ensures little { OnOk result (self.new.out.written ≤ self.old.out.written + 2 ^ 67) }
+        ensures calls { OnOk result (K.calls writer.new ≤ K.calls writer.old + 2 ^ 67) }
+        ensures counted { self.new.counter ≡ self.old.counter }
+        ensures noted { self.new.notes.written ≡ self.old.notes.written }
+    {
+        if let Form::Json = checker.form() {
+            return Ok(self.tell(checker, begin, number, message, verdict)?);
+        }
+        let Some(answers) = long_answers(checker.mode(), verdict) else {
+            return Ok(self.tell(checker, begin, number, message, verdict)?);
+        };
+        self.line.set(number, verdict);
+        let line = self.line.bytes();
+        if let Err(Unwritten { written }) = put_line(&mut self.out, writer, begin, line, answers) {
+            return Err(RunFault::WriteFault { written });
+        }
+        Ok(())
+    }
+
+    /// The same in memory.
+    #[tactic(auto, using(std::proofs::lemmas::Grind::common_steps))]
+    fn tell(
+        &mut self,
+        checker: &Checker<'_, '_, '_>,
+        begin: &[u8],
+        number: u64,
+        message: &[u8],
+        verdict: &Result<Found<'_>, Wrong<'_>>,
+    ) -> Result<(), AllocError>
+        requires begin { begin.now ≡ label_text checker.now.label }
+        ensures out { OnOk result ((waiting self.new).out ≡ (waiting self.old).out ++ (told_of checker.now.mode (line_of checker.now number (verdict_of verdict.now)) message.now (verdict_of verdict.now)).out) }
+        ensures notes { OnOk result ((waiting self.new).notes ≡ (waiting self.old).notes ++ (told_of checker.now.mode (line_of checker.now number (verdict_of verdict.now)) message.now (verdict_of verdict.now)).notes) }
+        ensures err_text { OnErr result (waiting self.new ≡ waiting self.old) }
+        ensures counted { self.new.counter ≡ self.old.counter }
+        ensures written { self.new.out.written ≡ self.old.out.written }
+        ensures noted { self.new.notes.written ≡ self.old.notes.written }
+    {
+        match verdict {
+            Ok(_) => match checker.mode() {
+                Mode::Lines => self.put_line(checker, begin, number, verdict),
+                Mode::BadLines => Ok(()),
+                Mode::Filter => self.out.bytes.extend_from_slice(message),
+            },
+            Err(_) => match checker.mode() {
+                Mode::Lines | Mode::BadLines => self.put_line(checker, begin, number, verdict),
+                Mode::Filter => self.note_line(checker, begin, number, verdict),
+            },
+        }
+    }
+
+    /// Adds the line of this verdict on message number `number` to what waits for the writer. Plain lines begin so.
+    fn put_line(
+        &mut self,
+        checker: &Checker<'_, '_, '_>,
+        begin: &[u8],
+        number: u64,
+        verdict: &Result<Found<'_>, Wrong<'_>>,
+    ) -> Result<(), AllocError>
+        requires begin { begin.now ≡ label_text checker.now.label }
+        ensures ok { OnOk result (self.new.out.bytes.items ≡ self.old.out.bytes.items ++ line_of checker.now number (verdict_of verdict.now)) }
+        ensures err_text { OnErr result (self.new.out.bytes.items ≡ self.old.out.bytes.items) }
+        ensures notes { self.new.notes ≡ self.old.notes }
+        ensures counted { self.new.counter ≡ self.old.counter }
+        ensures written { self.new.out.written ≡ self.old.out.written }
+    {
+        self.make_line(checker, begin, number, verdict)?;
+        self.out.bytes.extend_from_slice(self.made.as_slice())
+    }
+
+    /// The same of what waits for the notes.
+    fn note_line(
+        &mut self,
+        checker: &Checker<'_, '_, '_>,
+        begin: &[u8],
+        number: u64,
+        verdict: &Result<Found<'_>, Wrong<'_>>,
+    ) -> Result<(), AllocError>
+        requires begin { begin.now ≡ label_text checker.now.label }
+        ensures ok { OnOk result (self.new.notes.bytes.items ≡ self.old.notes.bytes.items ++ line_of checker.now number (verdict_of verdict.now)) }
+        ensures err_text { OnErr result (self.new.notes.bytes.items ≡ self.old.notes.bytes.items) }
+        ensures out { self.new.out ≡ self.old.out }
+        ensures counted { self.new.counter ≡ self.old.counter }
+        ensures noted { self.new.notes.written ≡ self.old.notes.written }
+    {
+        self.make_line(checker, begin, number, verdict)?;
+        self.notes.bytes.extend_from_slice(self.made.as_slice())
+    }
+
+    /// Makes the line of this verdict on message number `number`. Plain ones begin so.
+    fn make_line(
+        &mut self,
+        checker: &Checker<'_, '_, '_>,
+        begin: &[u8],
+        number: u64,
+        verdict: &Result<Found<'_>, Wrong<'_>>,
+    ) -> Result<(), AllocError>
+        requires begin { begin.now ≡ label_text checker.now.label }
+        ensures line { OnOk result (self.new.made.items ≡ line_of checker.now number (verdict_of verdict.now)) }
+        ensures out { self.new.out ≡ self.old.out }
+        ensures notes { self.new.notes ≡ self.old.notes }
+        ensures counted { self.new.counter ≡ self.old.counter }
+    {
+        self.made.clear();
+        match checker.form() {
+            Form::Plain => {
+                self.line.set(number, verdict);
+                self.made.extend_from_slice(begin)?;
+                self.made.extend_from_slice(self.line.bytes())?;
+                put_asked(&mut self.made, verdict)?;
+                self.made.extend_from_slice(b"\n")
+            }
+            Form::Json => checker.put_json(&mut self.made, number, verdict),
+        }
+    }
+
+    /// Whether so much waits that it is written before the next message is checked. (Where it were 2^40 bytes, they
+    /// would wait on; no line and no message has as many.)
+    #[tactic(auto, using(std::proofs::lemmas::Grind::common_steps))]
+    pub fn is_much(&self) -> bool
+        ensures much { result ≡ true → 65536 ≤ size (waiting self.now) × (size (waiting self.now) < 2 ^ 40) }
+        ensures little { result ≡ false → size (waiting self.now) < 65536 ⊎ 2 ^ 40 ≤ size (waiting self.now) }
+    {
+        let waits = self.out.bytes.len() + self.notes.bytes.len();
+        (MOST_WAITING..1 << 40).contains(&waits)
+    }
+
+    /// Writes what waits, first for the writer and then for the notes.
+    #[tactic(auto, using(std::proofs::lemmas::Grind::common_steps))]
+    pub fn flush<K: Sink, N: Sink>(&mut self, writer: &mut K, notes: &mut N) -> Result<(), RunFault>
+        requires load { IsBelow (load_of K.Sink N.Sink writer.old notes.old self.old) (2 ^ 99 + 2 ^ 98) }
+        ensures takes { OnOk result (Takes (outs_of K.Sink N.Sink writer.old notes.old) (outs_of K.Sink N.Sink writer.new notes.new) (waiting self.old)) }
+        ensures empty { OnOk result (waiting self.new ≡ silent) }
+        ensures written { OnOk result (self.new.out.written ≡ self.old.out.written + length (waiting self.old).out) }
+        ensures noted { OnOk result (self.new.notes.written ≡ self.old.notes.written + length (waiting self.old).notes) }
+        ensures err { IfErr result (WritesFronts (waiting self.old) (outs_of K.Sink N.Sink writer.old notes.old) (outs_of K.Sink N.Sink writer.new notes.new) (written_by self.old)) }
+        ensures failed { IfErr result (IsCausedOut (outs_of K.Sink N.Sink writer.old notes.old) (outs_of K.Sink N.Sink writer.new notes.new)) }
+        ensures unfailed { OnOk result (IsUnfailedOut (outs_of K.Sink N.Sink writer.old notes.old) (outs_of K.Sink N.Sink writer.new notes.new)) }
+        ensures counted { self.new.counter ≡ self.old.counter }
+        ensures load { GrowsBy (load_of K.Sink N.Sink writer.old notes.old self.old) (load_of K.Sink N.Sink writer.new notes.new self.new) (2 ^ 63) }
+        ensures pushes { K.calls writer.new ≤ K.calls writer.old + length (waiting self.old).out }
+        ensures mentions { N.calls notes.new ≤ N.calls notes.old + length (waiting self.old).notes }
+    {
+        if let Err(Unwritten { written }) = self.out.flush(writer) {
+            return Err(RunFault::WriteFault { written });
+        }
+        if let Err(Unwritten { written }) = self.notes.flush(notes) {
+            return Err(RunFault::NoteFault { written });
+        }
+        Ok(())
+    }
+
+    /// What was counted so far.
+    pub fn tally(&self) -> Tally
+        ensures { result ≡ self.now.counter }
+    {
+        self.counter.tally()
+    }
+}

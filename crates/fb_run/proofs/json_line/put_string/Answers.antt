@@ -1,6 +1,0 @@
-use Rattle.std.proofs.Common.{append_assoc}
-use Rattle.fb_run.proofs.JsonLemmas.{string_text}
-use Rattle.fb_run.proofs.json_line.put_string.Goals as goal
-
-pub returns : goal.returns
-returns g c = rw (string_text c.args.bytes.now, c.in_ok-put-2.ensures, c.in_ok-put_escaped.ensures, c.in_ok-put.ensures) (simp append_assoc)
