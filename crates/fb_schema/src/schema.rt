@@ -309,7 +309,7 @@ fn indexed<'n, A: Allocator + Copy>(
     ensures kinds { IfOk result (λ made. IsMemberIndex (borrowed_rows rows.now) rows.now.members.now rows.now.enums.now made.2) }
     ensures refused { IfErr result (Refuses (borrowed_rows rows.now)) }
 {
-    let order = in_order(alloc, rows.objects, |object| object.name)?;
+    let order = in_order(alloc, rows.objects)?;
     legal(alloc, rows, &order)?;
     let live = live_index(alloc, rows)?;
     let members = member_index(alloc, rows)?;

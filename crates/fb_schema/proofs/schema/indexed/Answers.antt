@@ -1,12 +1,10 @@
-use Rattle.std.proofs.Common.{rules}
-use Rattle.fb_schema.specs.Sorting.{object_name}
 use Rattle.fb_schema.proofs.schema.indexed.Goals as goal
 
 pub legal-requires-clause-order : goal.legal-requires-clause-order
-legal-requires-clause-order g c = rw c.deref.ensures.value (c.in_ok-order.ensures object_name (λ x k r. search rules))
+legal-requires-clause-order g c = rw c.deref.ensures.value c.in_ok-order.ensures
 
 pub returns-clause-names : goal.returns-clause-names
-returns-clause-names g c = c.in_ok-order.ensures object_name (λ x k r. search rules)
+returns-clause-names g c = c.in_ok-order.ensures
 
 pub returns-clause-fields : goal.returns-clause-fields
 returns-clause-fields g c = c.in_ok-live.ensures
