@@ -1,4 +1,5 @@
 pub mod Numbers
+pub mod FewLemmas
 pub mod DemandLaws
 pub mod Judged
 pub mod Shown

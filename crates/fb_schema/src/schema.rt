@@ -321,8 +321,12 @@ fn named(fields: &[FieldRow], name: &[u8]) -> Option<u32>
     requires { length fields.now < 2 ^ 31 }
     ensures { result ≡ position (λ (f : FieldRow). bytes_eq f.name.now name.now) fields.now }
 {
-    let place = fields.iter().position(|field| field.name == name)?;
-    Some(place as u32)
+    for (place, field) in fields.iter().enumerate() {
+        if field.name == name {
+            return Some(place as u32);
+        }
+    }
+    None
 }
 
 /// The name of the member with this value.
