@@ -7,6 +7,7 @@ pub mod OrderLemmas
 pub mod KeyLemmas
 pub mod Blank
 pub mod Search
+pub mod SlotLemmas
 pub mod WalkLemmas
 pub mod MemberLemmas
 pub mod OwnerLemmas
