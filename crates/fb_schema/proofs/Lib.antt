@@ -1,4 +1,5 @@
 pub mod Numbers
+pub mod FewLemmas
 pub mod DemandLaws
 pub mod Judged
 pub mod Shown
@@ -6,6 +7,7 @@ pub mod OrderLemmas
 pub mod KeyLemmas
 pub mod Blank
 pub mod Search
+pub mod SlotLemmas
 pub mod WalkLemmas
 pub mod MemberLemmas
 pub mod OwnerLemmas

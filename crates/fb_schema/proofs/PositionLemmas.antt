@@ -2,7 +2,7 @@
 use Rattle.std.proofs.Common.{◌≡◌, ℕ, ◌<◌, ◌≤◌, inl, inr, Bool, true, false, not, cond, ◌+◌, List, [], ◌∷◌, length, get_or, map, Option, Some, None, refl, sym, ◌∙◌, ap, arith, position}
 use Rattle.std.proofs.lemmas.{List.length-map, List.Quantifiers.position-Some, List.Sums.fails_before_first, Grind.common_steps}
 use Rattle.std.specs.List.{position_or_len}
-use Rattle.fb_schema.proofs.Numbers.{le_or_lt, slice_get_some}
+use Rattle.fb_schema.proofs.Numbers.{le_or_lt, lt_or_eq, slice_get_some, get_or_default}
 
 pub found_position : {X : Type 0} (p : X → Bool) (xs : List X) (k : ℕ) (d : X) → k < length xs → p (get_or xs k d) ≡ true → ((j : ℕ) → j < length xs → p (get_or xs j d) ≡ true → j ≡ k) → position p xs ≡ Some k
 found_position p xs k d lt passes only =
@@ -11,6 +11,14 @@ found_position p xs k d lt passes only =
     let at : position p xs ≡ Some i = let inside : i < length xs = omega arith in grind (arith, common_steps) in
     let w = position-Some p xs i d at in
     at ∙ ap Some (only i w.0 w.1)
+
+-- the first that passes
+pub first_position : {X : Type 0} (p : X → Bool) (xs : List X) (k : ℕ) (d : X) → k < length xs → p (get_or xs k d) ≡ true → ((j : ℕ) (e : X) → j < k → p (get_or xs j e) ≡ false) → position p xs ≡ Some k
+first_position p xs k d lt passes before =
+    let i = position_or_len p xs in
+    let upto : i ≤ k = elim (le_or_lt i k) [ inl le ↦ le | inr beyond ↦ absurd (let w : true ≡ false = sym passes ∙ fails_before_first p xs k d beyond in cc) ] in
+    let at : position p xs ≡ Some i = let inside : i < length xs = omega arith in grind (arith, common_steps) in
+    at ∙ ap Some (elim (lt_or_eq i k upto) [ inl low ↦ absurd (let w : true ≡ false = sym (position-Some p xs i d at).1 ∙ before i d low in cc) | inr same ↦ same ])
 
 pub no_position : {X : Type 0} (p : X → Bool) (xs : List X) → ((j : ℕ) (d : X) → j < length xs → p (get_or xs j d) ≡ true → ⊥) → position p xs ≡ None
 no_position p xs never = go (position p xs) refl where
@@ -25,3 +33,7 @@ len_mapped f p (x ∷ xs) = ap (λ n. cond (not (p (f x))) (1 + n) 0) (len_mappe
 
 pub position_mapped : {X Y : Type 0} (f : X → Y) (p : Y → Bool) (xs : List X) → position p (map f xs) ≡ position (λ x. p (f x)) xs
 position_mapped f p xs = rw (len_mapped f p xs) (rw length-map refl)
+
+-- one item more of which a test answers the same
+pub below_same : {X : Type 0} (p : X → Bool) (xs : List X) (i : ℕ) (d : X) (b : Bool) → i < length xs → ((k : ℕ) (e : X) → k < i → p (get_or xs k e) ≡ b) → p (get_or xs i d) ≡ b → (k : ℕ) (e : X) → k < i + 1 → p (get_or xs k e) ≡ b
+below_same p xs i d b lt before here k e low = elim (lt_or_eq k i (omega (arith, low))) [ inl less ↦ before k e less | inr same ↦ ap (λ n. p (get_or xs n e)) same ∙ ap p (get_or_default xs i e d lt) ∙ here ]

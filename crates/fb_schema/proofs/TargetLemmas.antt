@@ -6,7 +6,8 @@ use Rattle.fb_schema.specs.declared.{flat.EnumPart.EnumPart, views.Target.Target
 use Rattle.fb_schema.specs.{Flat.part, Kinds.kind_of, Rows.Rows, Rows.Member, Rows.member_of_row}
 use Rattle.fb_schema.specs.Targets.{nothing, target_at, target_of, kind_among, AreTargets, HaveTargets}
 use Rattle.fb_schema.proofs.{IndexLemmas.slice_get_end, UnionLemmas.none_for_zero}
-use Rattle.std.proofs.lemmas.List.{get_or_past}
+use Rattle.std.proofs.lemmas.List.{get_or_past, get_or-take, length-take-le}
+use Rattle.fb_schema.proofs.Numbers.{le_or_lt}
 
 pub first_place : (places : List ℕ) → places ≡ 0 ∷ [] → (k : ℕ) → get_or places k 0 ≡ 0
 first_place places e zero = ap (λ ps. get_or ps 0 0) e
@@ -63,3 +64,18 @@ have_step rows all enums i row places places' targets targets' ps ts lt is h e f
     subst (λ es. HaveTargets rows all es places' targets') more
     (subst (λ x. HaveTargets rows all (take i enums ++ row ∷ []) x targets') (sym e)
     (subst (HaveTargets rows all (take i enums ++ row ∷ []) (places ++ ps ∷ [])) (sym f) (have_more rows all (take i enums) places targets row ps ts h r)))
+
+-- what stands behind the end of the places leads to nothing, so they may be cut there
+pub cut_places : (places : List ℕ) (end : ℕ) → end ≤ length places → ((k : ℕ) → end ≤ k → get_or places k 0 ≡ 0) → (k : ℕ) → get_or (take end places) k 0 ≡ get_or places k 0
+cut_places places end within behind k = elim (le_or_lt end k) [
+  | inl past ↦ get_or_past (take end places) k 0 (let long = length-take-le end places within in omega (arith, long, past)) ∙ sym (behind k past)
+  | inr low ↦ get_or-take end places k 0 low
+]
+
+pub all_put : (rows : Rows) (members : List Member) (places cut : List ℕ) (targets : List Target) (end value : ℕ) → length places ≡ value → 256 ≤ value → end ≤ value → cut ≡ take end places → ((k : ℕ) → end ≤ k → get_or places k 0 ≡ 0)
+    → ((k : ℕ) → k < value → target_at places targets k ≡ target_of rows (kind_among rows members k)) → AreTargets rows members cut targets
+all_put rows members places cut targets end value long many upto e behind found = record {
+  at = λ k low. ap (λ ps. get_or targets (get_or ps k 0) nothing) e
+      ∙ ap (λ n. get_or targets n nothing) (cut_places places end (omega (arith, long, upto)) behind k)
+      ∙ found k (omega (arith, low, many));
+}

@@ -1,6 +1,6 @@
 -- Keys in order, each with its place in the list that it comes from.
 use Rattle.std.specs.Prelude.{◌≡◌, ◌==◌, ◌+◌, ℕ, ℤ, pos, Bool, suc, ◌<◌, List, [], ◌∷◌, length, slice_index_or, IsPermutation, Option, MatchOption, IsSorted}
-use Rattle.std.specs.{Borrow.Bor, Fn.Shared, Fn.FnReturnsAt, Cmp.Lexicographic.slice_cmp, List.list_any}
+use Rattle.std.specs.{Borrow.Bor, Cmp.Lexicographic.slice_cmp, List.list_any}
 use Rattle.std.specs.Ordering.{nat_cmp, bool_cmp, int_eq, ordering_then}
 use Rattle.std.specs.declared.{cmp.Ordering.Ordering, cmp.Ordering.TheVariants.Equal}
 use Rattle.fb_schema.specs.declared.{kinds.TypeField.TypeField, flat.ObjectPart.ObjectPart, rows.FieldRow.FieldRow, rows.MemberRow.MemberRow}
@@ -30,10 +30,6 @@ pub record IsAgain {K : Type 0} (R : K → K → Ordering) (keys : List K) (k : 
 -- the first place with a key like one before it
 abbrev pub IsFirstAgain : {K : Type 0} → (K → K → Ordering) → List K → Option ℕ → Type 0
 IsFirstAgain R keys first = MatchOption first ((k : ℕ) → IsAgain R keys k → ⊥) (λ k. IsAgain R keys k × ((j : ℕ) → j < k → IsAgain R keys j → ⊥))
-
--- what the call returns for an item is its key
-abbrev pub GivesKeys : {F X K : Type 0} → Shared F (Bor X × Unit {0}) K → F → (X → K) → Type 0
-GivesKeys {F} {X} {K} calls f key = (x : X) (k : K) → FnReturnsAt calls f x k → k ≡ key x
 
 -- names in memory by their bytes
 abbrev pub name_cmp : Bor (List ℕ) → Bor (List ℕ) → Ordering

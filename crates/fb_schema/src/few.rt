@@ -11,13 +11,23 @@ const MANY: usize = 0x8000_0000;
 fn are_fields_few(objects: &[ObjectRow]) -> bool
     ensures { IsTrue result ↔ All (λ o. vec_len o.fields < 2 ^ 31) objects.now }
 {
-    objects.iter().all(|object| object.fields.len() < MANY)
+    for object in objects {
+        if object.fields.len() >= MANY {
+            return false;
+        }
+    }
+    true
 }
 
 fn are_members_few(enums: &[EnumRow]) -> bool
     ensures { IsTrue result ↔ All (λ e. vec_len e.members < 2 ^ 31) enums.now }
 {
-    enums.iter().all(|row| row.members.len() < MANY)
+    for row in enums {
+        if row.members.len() >= MANY {
+            return false;
+        }
+    }
+    true
 }
 
 /// Whether there are fewer than 2^31 objects and enums, and each has fewer than 2^31 fields or members: what

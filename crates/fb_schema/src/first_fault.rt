@@ -40,7 +40,7 @@ pub fn struct_fields_fault<A: Allocator + Copy>(
     requires { length fields.now < 2 ^ 31 }
     ensures { IfOk result (λ first. IsFirstOf (struct_asked (borrowed_rows rows.now) object.now.bytesize (map field_of fields.now)) first) }
 {
-    let again = again_of(alloc, fields, |field| field.name)?;
+    let again = again_of::<FieldRow, &[u8], A>(alloc, fields)?;
     for (p, field) in fields.iter().enumerate() {
         let named = is_at(again, p);
         if let Some(code) = struct_field_fault(rows, object, field, named) {
@@ -90,8 +90,8 @@ pub fn table_fields_fault<A: Allocator + Copy>(
     requires { length fields.now < 2 ^ 31 }
     ensures { IfOk result (λ first. IsFirstOf (table_asked (borrowed_rows rows.now) (map field_of fields.now)) first) }
 {
-    let name_again = again_of(alloc, fields, |field| field.name)?;
-    let slot_again = again_of(alloc, fields, |field| field.slot)?;
+    let name_again = again_of::<FieldRow, &[u8], A>(alloc, fields)?;
+    let slot_again = again_of::<FieldRow, u16, A>(alloc, fields)?;
     let bytes = type_slots(alloc, TypeField::ForUnion, fields)?;
     let vectors = type_slots(alloc, TypeField::ForUnions, fields)?;
     Ok(first_table_fault(rows, fields, name_again, slot_again, &bytes, &vectors))
@@ -113,8 +113,8 @@ pub fn members_fault<A: Allocator + Copy>(
     requires { length members.now < 2 ^ 31 }
     ensures { IfOk result (λ first. IsFirstOf (members_asked (borrowed_rows rows.now) (map member_of_row members.now)) first) }
 {
-    let value_again = again_of(alloc, members, |member| member.value)?;
-    let name_again = again_of(alloc, members, |member| (is_none(member), member.name))?;
+    let value_again = again_of::<MemberRow, i64, A>(alloc, members)?;
+    let name_again = again_of::<MemberRow, (bool, &[u8]), A>(alloc, members)?;
     for (p, member) in members.iter().enumerate() {
         let taken = is_at(value_again, p);
         let named = is_named(member, name_again, p);

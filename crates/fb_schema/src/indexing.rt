@@ -9,7 +9,7 @@ ghost use Rattle.fb_schema.specs.Index.{kept_members, AreNextRequired, IsLiveInd
 
 use crate::flat::RowLists;
 use crate::index::{LiveIndex, MemberIndex};
-use crate::keys::{in_order, is_none};
+use crate::keys::in_order;
 use crate::kinds::Kind;
 use crate::lists::Lists;
 use crate::live::table_views;
@@ -93,8 +93,7 @@ impl<'n, A: Allocator + Copy> LiveIndex<'n, A> {
     {
         self.widest = self.widest.max(fields.len() as u32);
         self.plain.push(are_plain(fields))?;
-        self.names
-            .push_made(in_order(alloc, fields, |field| field.name))?;
+        self.names.push_made(in_order(alloc, fields))?;
         self.steps.push_made(field_steps(alloc, fields))?;
         self.next_required.push_made(next_required(alloc, fields))?;
         self.fields.push(fields)
@@ -124,7 +123,7 @@ fn member_targets<A: Allocator + Copy>(
     ensures { IfOk result (λ found. is_union ≡ true → ((q : ℕ) → first_code (members_asked (borrowed_rows rows.now) (map member_of_row members.now) q) ≡ None) → AreTargets (borrowed_rows rows.now) (map member_of_row members.now) found.places.items found.targets.items) }
 {
     let kinds = member_kinds(alloc, rows, members)?;
-    let values = in_order(alloc, members, |member| member.value)?;
+    let values = in_order(alloc, members)?;
     enum_targets(alloc, rows, is_union, &values, &kinds)
 }
 
@@ -171,7 +170,7 @@ impl<'n, A: Allocator + Copy> MemberIndex<'n, A> {
         let members = kept_members(row.is_union, rows.members_of(row));
         let found = member_targets(alloc, rows, row.is_union, members)?;
         self.push_targets(found)?;
-        self.names.push_made(in_order(alloc, members, |member| (is_none(member), member.name)))
+        self.names.push_made(in_order(alloc, members))
     }
 }
 

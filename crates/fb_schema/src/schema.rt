@@ -8,8 +8,7 @@ ghost use Rattle.fb_schema.specs.Rows.{AreFew, rows_of, is_table, is_union, tabl
 ghost use Rattle.fb_schema.specs.{Heads.head_of, Heads.head_of_view, Members.member_of, Members.member_named, Members.member_name};
 ghost use Rattle.fb_schema.specs.{Demands.IsLegal, Demands.Refuses, Parts.part_at, Parts.part_named, Parts.parts_of};
 ghost use Rattle.fb_schema.specs.{Served.IsServed, Served.HaveKinds, Steps.is_plain, Steps.step_of, Targets.target_at, Targets.target_of};
-ghost use Rattle.fb_schema.specs.{FlatRows.borrowed_rows, FlatRows.AreParts, Index.IsLiveIndex, Index.IsMemberIndex};
-ghost use Rattle.fb_schema.specs.Sorting.{IsOrderOf, name_cmp, object_name};
+ghost use Rattle.fb_schema.specs.{FlatRows.borrowed_rows, FlatRows.AreParts, Indexed.AreIndexed};
 ghost use Rattle.fb_schema.specs.Live.{live_fields, live_of_view, field_named, next_required, widest};
 
 use crate::fault::SchemaFault;
@@ -303,13 +302,10 @@ fn indexed<'n, A: Allocator + Copy>(
     SchemaFault,
 >
     requires { AreParts rows.now.objects.now rows.now.fields.now rows.now.enums.now rows.now.members.now }
-    ensures legal { OnOk result (IsLegal (borrowed_rows rows.now)) }
-    ensures names { IfOk result (λ made. IsOrderOf name_cmp (map object_name rows.now.objects.now) made.0.items) }
-    ensures fields { IfOk result (λ made. IsLiveIndex (borrowed_rows rows.now) (borrowed_rows rows.now).objects made.1) }
-    ensures kinds { IfOk result (λ made. IsMemberIndex (borrowed_rows rows.now) rows.now.members.now rows.now.enums.now made.2) }
+    ensures made { IfOk result (λ made. AreIndexed rows.now made.0.items made.1 made.2) }
     ensures refused { IfErr result (Refuses (borrowed_rows rows.now)) }
 {
-    let order = in_order(alloc, rows.objects, |object| object.name)?;
+    let order = in_order(alloc, rows.objects)?;
     legal(alloc, rows, &order)?;
     let live = live_index(alloc, rows)?;
     let members = member_index(alloc, rows)?;
@@ -321,8 +317,12 @@ fn named(fields: &[FieldRow], name: &[u8]) -> Option<u32>
     requires { length fields.now < 2 ^ 31 }
     ensures { result ≡ position (λ (f : FieldRow). bytes_eq f.name.now name.now) fields.now }
 {
-    let place = fields.iter().position(|field| field.name == name)?;
-    Some(place as u32)
+    for (place, field) in fields.iter().enumerate() {
+        if field.name == name {
+            return Some(place as u32);
+        }
+    }
+    None
 }
 
 /// The name of the member with this value.

@@ -276,13 +276,13 @@ impl<'r, 'n> RowLists<'r, 'n> {
     }
 
     /// The kind of a type, none where tables can't have it or its object or enum isn't there.
-    #[tactic(auto, unfolding(crate::specs::Kinds::kind_of), using(crate::proofs::KindLemmas::vector_kind))]
+    #[tactic(auto, unfolding(crate::specs::Kinds::kind_of))]
     pub fn kind_of(&self, ty: TypeRow) -> Option<Kind>
         ensures { result ≡ kind_of (borrowed_rows self.now) ty }
     {
         match shape_of(ty)? {
             Shape::One(element) => self.element_kind(element, ty.index),
-            Shape::Vector(element) => self.element_kind(element, ty.index).map(vector_of),
+            Shape::Vector(element) => self.vector_kind(element, ty.index),
             Shape::Array(_) => None,
         }
     }
@@ -312,13 +312,12 @@ impl<'r, 'n> RowLists<'r, 'n> {
     }
 
     /// The kind of what a struct's field of this shape holds: an array has that of a vector of its elements.
-    #[tactic(auto, using(crate::proofs::KindLemmas::vector_kind))]
     fn part_kind(&self, shape: Option<Shape>, index: i32) -> Option<Kind>
         ensures { result ≡ part_kind (borrowed_rows self.now) index shape }
     {
         match shape {
             Some(Shape::One(element)) => self.element_kind(element, index),
-            Some(Shape::Array(element)) => self.element_kind(element, index).map(vector_of),
+            Some(Shape::Array(element)) => self.vector_kind(element, index),
             _ => None,
         }
     }
@@ -333,6 +332,15 @@ impl<'r, 'n> RowLists<'r, 'n> {
             Element::Object => self.object_kind(index),
             Element::Union => self.union_kind(index),
         }
+    }
+
+    /// The kind of a vector of such values, likewise.
+    #[tactic(auto, using(crate::proofs::KindLemmas::vector_kind))]
+    fn vector_kind(&self, element: Element, index: i32) -> Option<Kind>
+        ensures { result ≡ shape_kind (borrowed_rows self.now) index (Some (Shape.Vector element)) }
+    {
+        let kind = self.element_kind(element, index)?;
+        Some(vector_of(kind))
     }
 
     fn object_kind(&self, index: i32) -> Option<Kind>

@@ -1,6 +1,5 @@
-use Rattle.std.proofs.Common.{◌≡◌, map, get_or, sym, ◌∙◌, below_more, rules, int_cmp, refl}
+use Rattle.std.proofs.Common.{◌≡◌, map, get_or, sym, ◌∙◌, below_more, refl}
 use Rattle.std.proofs.lemmas.Option.{slice_get-get_or}
-use Rattle.fb_schema.specs.Sorting.{IsFirstAgain, member_cmp, member_value, member_key}
 use Rattle.fb_schema.specs.{FlatRows.borrowed_rows, Rows.member_of_row, Demands.first_code, Demands.members_asked}
 use Rattle.fb_schema.proofs.{Blank.blank_member, MemberLemmas.member_code}
 use Rattle.fb_schema.proofs.first_fault.members_fault.Goals as goal
@@ -12,10 +11,8 @@ found : (g : _) (c : After-member_fault g) → c.member_fault.result ≡ first_c
 found g c =
     let members = c.args.members.now in
     let p = c.loop-p.p in
-    let values : IsFirstAgain int_cmp (map member_value members) c.in_ok-value_again.value_again = c.in_ok-value_again.ensures member_value (λ x k r. search rules) in
-    let names : IsFirstAgain member_cmp (map member_key members) c.in_ok-name_again.name_again = c.in_ok-name_again.ensures member_key (λ x k r. search rules) in
     c.member_fault.ensures
-    ∙ member_code (borrowed_rows c.args.rows.now) members p (get_or members p blank_member) c.in_ok-value_again.value_again c.in_ok-name_again.name_again c.is_at-taken.result c.is_named-named.result (slice_get-get_or members p blank_member c.loop-p-test.true) values names c.loop-p.invariant
+    ∙ member_code (borrowed_rows c.args.rows.now) members p (get_or members p blank_member) c.in_ok-value_again.value_again c.in_ok-name_again.name_again c.is_at-taken.result c.is_named-named.result (slice_get-get_or members p blank_member c.loop-p-test.true) c.in_ok-value_again.ensures c.in_ok-name_again.ensures c.loop-p.invariant
     c.is_at-taken.ensures c.is_named-named.ensures
 
 pub returns-in-Some : goal.returns-in-Some

@@ -1,6 +1,6 @@
-use Rattle.std.proofs.Common.{◌≡◌, map, get_or, sym, ◌∙◌, below_more, rules}
+use Rattle.std.proofs.Common.{◌≡◌, map, get_or, sym, ◌∙◌, below_more}
 use Rattle.std.proofs.lemmas.Option.{slice_get-get_or}
-use Rattle.fb_schema.specs.{Sorting.IsFirstAgain, Sorting.name_cmp, Sorting.field_name, FlatRows.borrowed_rows, Rows.field_of}
+use Rattle.fb_schema.specs.{FlatRows.borrowed_rows, Rows.field_of}
 use Rattle.fb_schema.specs.Demands.{first_code, struct_asked}
 use Rattle.fb_schema.proofs.{Blank.blank_field, WalkLemmas.struct_code}
 use Rattle.fb_schema.proofs.first_fault.struct_fields_fault.Goals as goal
@@ -10,9 +10,8 @@ found : (g : _) (c : After-struct_field_fault g) → c.struct_field_fault.result
 found g c =
     let fields = c.args.fields.now in
     let p = c.loop-p.p in
-    let first : IsFirstAgain name_cmp (map field_name fields) c.in_ok-again.again = c.in_ok-again.ensures field_name (λ x k r. search rules) in
     c.struct_field_fault.ensures
-    ∙ struct_code (borrowed_rows c.args.rows.now) c.args.object.now.bytesize fields p (get_or fields p blank_field) c.in_ok-again.again c.is_at-named.result (slice_get-get_or fields p blank_field c.loop-p-test.true) first c.loop-p.invariant c.is_at-named.ensures
+    ∙ struct_code (borrowed_rows c.args.rows.now) c.args.object.now.bytesize fields p (get_or fields p blank_field) c.in_ok-again.again c.is_at-named.result (slice_get-get_or fields p blank_field c.loop-p-test.true) c.in_ok-again.ensures c.loop-p.invariant c.is_at-named.ensures
 
 pub returns-in-Some : goal.returns-in-Some
 returns-in-Some g c = (sym (found g (goal.at.returns-in-Some g c).After-struct_field_fault) ∙ c.in-Some.is, c.loop-p.invariant)

@@ -1,4 +1,4 @@
-use Rattle.std.proofs.Common.{◌<◌, ◌^◌, ◌∙◌, ◌++◌, length, vec_len, ap, sym, subst, arith}
+use Rattle.std.proofs.Common.{◌<◌, ◌^◌, ◌∙◌, ◌++◌, length, vec_len, map, take_all, ap, sym, subst, arith}
 use Rattle.fb_schema.specs.declared.rows.EnumRow.{EnumRow}
 use Rattle.fb_schema.specs.{FlatRows.enum_with, Rows.enum_of}
 use Rattle.fb_schema.proofs.{FlatLemmas.pushed, FlatLemmas.parts_step, IndexLemmas.value_step}
@@ -18,3 +18,9 @@ loop-row-preserved g c =
           (pushed (λ e. e.members) enum_with members row.members.items _ c.loop-row.parts.items _ _ (λ k d lt. let p = parts k d lt in (p.ordered, p.within)) more c.in_ok-push.ensures.items range) (c.enum_part.ensures.same);
       parts = parts_step (λ e. e.members) members row.members.items _ c.loop-row.parts.items _ _ parts more c.in_ok-push.ensures.items range few;
     }
+
+pub returns-clause-value : goal.returns-clause-value
+returns-clause-value g c = c.loop-row.invariant.value ∙ ap (map enum_of) (take_all c.loop-row.row-index c.args.enums.now c.loop-row-test.false)
+
+pub returns-clause-parts : goal.returns-clause-parts
+returns-clause-parts g c = c.loop-row.invariant.parts

@@ -1,4 +1,4 @@
-use Rattle.std.proofs.Common.{◌<◌, ◌^◌, ◌∙◌, ◌++◌, length, vec_len, ap, sym, subst, arith}
+use Rattle.std.proofs.Common.{◌<◌, ◌^◌, ◌∙◌, ◌++◌, length, vec_len, map, take_all, ap, sym, subst, arith}
 use Rattle.fb_schema.specs.declared.rows.ObjectRow.{ObjectRow}
 use Rattle.fb_schema.specs.{FlatRows.object_with, Rows.object_of}
 use Rattle.fb_schema.proofs.{FlatLemmas.pushed, FlatLemmas.parts_step, IndexLemmas.value_step}
@@ -18,3 +18,9 @@ loop-object-preserved g c =
           (pushed (λ o. o.fields) object_with fields object.fields.items _ c.loop-object.parts.items _ _ (λ k d lt. let p = parts k d lt in (p.ordered, p.within)) more c.in_ok-push.ensures.items range) (c.object_part.ensures.same);
       parts = parts_step (λ o. o.fields) fields object.fields.items _ c.loop-object.parts.items _ _ parts more c.in_ok-push.ensures.items range few;
     }
+
+pub returns-clause-value : goal.returns-clause-value
+returns-clause-value g c = c.loop-object.invariant.value ∙ ap (map object_of) (take_all c.loop-object.object-index c.args.objects.now c.loop-object-test.false)
+
+pub returns-clause-parts : goal.returns-clause-parts
+returns-clause-parts g c = c.loop-object.invariant.parts

@@ -1,4 +1,4 @@
-use Rattle.std.proofs.Common.{map, get_or, Some, IsSome, option_map, sym, ap, subst, ◌∙◌, rules}
+use Rattle.std.proofs.Common.{map, filter_map, take_all, get_or, Some, IsSome, option_map, sym, ap, subst, ◌∙◌, rules}
 use Rattle.std.proofs.lemmas.Option.{slice_get-get_or}
 use Rattle.fb_schema.specs.{Live.live_as, Live.live_of, Live.live_of_view, FlatRows.borrowed_rows, Rows.field_of}
 use Rattle.fb_schema.proofs.{Blank.blank_field, IndexLemmas.few_step, Kept.kept_step, WalkLemmas.mapped_at}
@@ -23,3 +23,6 @@ loop-field-preserved g c =
       long = search rules;
       few = few_step live i blank_field c.requires.spaced lt c.view_of.ensures.slot;
     }
+
+pub returns-clause-value : goal.returns-clause-value
+returns-clause-value g c = c.loop-field.invariant.value ∙ ap (λ fs. filter_map (live_of (borrowed_rows c.args.rows.now) (map field_of c.args.live.now)) (map field_of fs)) (take_all c.loop-field.field-index c.args.live.now c.loop-field-test.false)

@@ -1,15 +1,18 @@
-use Rattle.std.proofs.Common.{rules}
-use Rattle.fb_schema.specs.Sorting.{object_name}
 use Rattle.fb_schema.proofs.schema.indexed.Goals as goal
 
 pub legal-requires-clause-order : goal.legal-requires-clause-order
-legal-requires-clause-order g c = rw c.deref.ensures.value (c.in_ok-order.ensures object_name (λ x k r. search rules))
+legal-requires-clause-order g c = rw c.deref.ensures.value c.in_ok-order.ensures
 
-pub returns-clause-names : goal.returns-clause-names
-returns-clause-names g c = c.in_ok-order.ensures object_name (λ x k r. search rules)
+pub live_index-requires-clause-parts : goal.live_index-requires-clause-parts
+live_index-requires-clause-parts g c = c.requires.fields
 
-pub returns-clause-fields : goal.returns-clause-fields
-returns-clause-fields g c = c.in_ok-live.ensures
+pub member_index-requires-clause-parts : goal.member_index-requires-clause-parts
+member_index-requires-clause-parts g c = c.requires.members
 
-pub returns-clause-kinds : goal.returns-clause-kinds
-returns-clause-kinds g c = c.in_ok-members.ensures
+pub returns-clause-made : goal.returns-clause-made
+returns-clause-made g c = record {
+  legal = c.in_ok-legal.ensures.legal;
+  names = c.in_ok-order.ensures;
+  fields = c.in_ok-live.ensures;
+  kinds = c.in_ok-members.ensures;
+}

@@ -1,14 +1,13 @@
-use Rattle.std.proofs.Common.{◌≡◌, rules, tests, position, bytes_eq}
-use Rattle.std.proofs.lemmas.{Iterator.YieldsList-from_slice, Iterator.Search.position_from_yields_List}
+use Rattle.std.proofs.Common.{◌≡◌, true, false, bytes_eq, sym, ◌∙◌, arith}
 use Rattle.fb_schema.specs.declared.rows.FieldRow.{FieldRow}
+use Rattle.fb_schema.proofs.PositionLemmas.{first_position, no_position, below_same}
 use Rattle.fb_schema.proofs.schema.named.Goals as goal
-use Rattle.fb_schema.proofs.schema.named.Goals.{After-position}
 
-found : (c : After-position) → c.position.result ≡ position (λ (f : FieldRow). bytes_eq f.name.now c.args.name.now) c.args.fields.now
-found c = position_from_yields_List (λ f. bytes_eq f.name.now c.args.name.now) _ _ c.position.result c.position.ensures.ran (YieldsList-from_slice _ c.iter.ensures.rest) (λ x b q k. search (rules, tests))
+pub returns-then-eq : goal.returns-then-eq
+returns-then-eq c = sym (first_position (λ (f : FieldRow). bytes_eq f.name.now c.args.name.now) c.args.fields.now c.loop-place.place _ c.loop-place-test.true (sym c.eq.ensures ∙ c.if-eq.true) c.loop-place.invariant)
 
-pub returns-in_err-place : goal.returns-in_err-place
-returns-in_err-place c = search (rules, found (goal.at.returns-in_err-place c).After-position)
+pub loop-place-preserved : goal.loop-place-preserved
+loop-place-preserved c = below_same (λ (f : FieldRow). bytes_eq f.name.now c.args.name.now) c.args.fields.now c.loop-place.place _ false c.loop-place-test.true c.loop-place.invariant (sym c.eq.ensures ∙ c.if-eq.false)
 
 pub returns : goal.returns
-returns c = search (rules, found (goal.at.returns c).After-position)
+returns c = sym (no_position (λ (f : FieldRow). bytes_eq f.name.now c.args.name.now) c.args.fields.now (λ j d lt passes. let w : true ≡ false = sym passes ∙ c.loop-place.invariant j d (let past = c.loop-place-test.false in omega (arith, lt, past)) in cc))

@@ -1,7 +1,7 @@
 use Rattle.std.proofs.Common.{◌≡◌, ◌+◌, ◌≤◌, ◌<◌, ◌∷◌, [], map, length, get_or, ap, subst, sym, ◌∙◌, arith, ◌++◌}
 use Rattle.fb_schema.specs.{FlatRows.borrowed_rows, Rows.member_of_row}
 use Rattle.fb_schema.specs.Targets.{nothing, target_at, target_of, kind_among}
-use Rattle.fb_schema.proofs.TargetLemmas.{first_place, zero_target, long_step, within_step, behind_step, found_step}
+use Rattle.fb_schema.proofs.TargetLemmas.{first_place, zero_target, long_step, within_step, behind_step, found_step, all_put}
 use Rattle.fb_schema.proofs.targets.put_targets.Goals as goal
 use Rattle.fb_schema.proofs.targets.put_targets.Goals.{then-place-ne0, else-place-ne0}
 
@@ -51,3 +51,8 @@ loop-value-preserved g c =
           ∙ found_step places place value i.long old new (λ v. target_of rows (kind_among rows (map member_of_row members) v)) i.within e.kept (i.found members h)
           (e.target ∙ ap (target_of rows) (c.kind_at.ensures rows members h)) k lt;
     }
+
+pub returns : goal.returns
+returns g c = λ members h.
+    let i = c.loop-value.invariant in
+    all_put (borrowed_rows c.args.rows.now) (map member_of_row members) c.loop-value.places.items _ c.loop-value.targets.items c.loop-value.end c.loop-value.value i.long c.loop-value-test.false i.end c.truncate.ensures.items i.behind (i.found members h)

@@ -1,4 +1,4 @@
-use Rattle.std.proofs.Common.{Some, map, length, max, refl, ap, subst, sym, ◌∙◌, arith, rules}
+use Rattle.std.proofs.Common.{Some, map, length, max, refl, ap, subst, sym, ◌∙◌, arith}
 use Rattle.fb_schema.specs.{Index.view_name, Index.AreNextRequired, FlatLists.lists_of, Sorting.IsOrderOf, Sorting.name_cmp}
 use Rattle.fb_schema.specs.{Steps.step_of, Steps.are_plain, Live.live_in, Live.live_of_view, Live.widest_of}
 use Rattle.fb_schema.proofs.IndexLemmas.{on_ok, with_made, matched_pushed, lists_more, value_more, widest_end, mapped_twice}
@@ -9,7 +9,7 @@ returns g c = λ rows all o before live long.
     let fields = c.args.fields.now in
     on_ok c.push-2.result _ _ (λ pushed. record {
       live = lists_more (map live_of_view) (λ o. live_in rows (Some o)) all o (lists_of c.args.self.now.fields) _ fields before.live pushed live;
-      names = with_made c.in_order.result _ _ _ c.in_ok-push_made.ensures (c.in_order.ensures view_name (λ x k r. search rules))
+      names = with_made c.in_order.result _ _ _ c.in_ok-push_made.ensures c.in_order.ensures
           (λ order more is. matched_pushed (λ fields order. IsOrderOf name_cmp (map view_name fields) order) (lists_of c.args.self.now.fields) _ (lists_of c.args.self.now.names) _ fields order.items before.names pushed more is);
       steps = with_made c.field_steps.result _ _ _ c.in_ok-push_made-2.ensures c.field_steps.ensures
           (λ steps more is. value_more (λ o. map step_of (live_in rows (Some o))) all o (lists_of c.args.self.now.steps) _ steps.items before.steps more (is ∙ mapped_twice step_of live_of_view fields ∙ ap (map step_of) live));

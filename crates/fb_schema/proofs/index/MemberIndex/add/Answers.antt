@@ -1,4 +1,4 @@
-use Rattle.std.proofs.Common.{◌≡◌, ◌∷◌, [], ◌++◌, ℕ, slice_index_or, slice_get, Some, None, map, refl, subst, ◌∙◌, ap, rules}
+use Rattle.std.proofs.Common.{◌≡◌, ◌∷◌, [], ◌++◌, ℕ, slice_index_or, slice_get, Some, None, map, refl, subst, ◌∙◌, ap}
 use Rattle.fb_schema.specs.{Flat.part, FlatLists.lists_of, Index.kept_members, FlatRows.borrowed_rows, Rows.member_of_row}
 use Rattle.fb_schema.specs.{Targets.AreTargets, Demands.first_code, Demands.members_asked}
 use Rattle.std.proofs.lemmas.Option.{slice_get-get_or}
@@ -25,7 +25,7 @@ returns g c =
       targets = have_step rows all enums i row (lists_of index.places) _ (lists_of index.targets) _ found.places.items found.targets.items lt is c.requires.before.targets c.in_ok-push_targets.ensures.places c.in_ok-push_targets.ensures.targets
           (λ union. subst (λ ms. ((q : ℕ) → first_code (members_asked rows (map member_of_row ms) q) ≡ None) → AreTargets rows (map member_of_row ms) found.places.items found.targets.items) (kept ∙ ap (λ b. kept_members b list) union)
           (c.in_ok-found.ensures union) (members_clear rows all enums refl c.requires.legal i row there union));
-      names = with_made c.in_order.result _ _ _ made (c.in_order.ensures member_key (λ x k r. search rules))
+      names = with_made c.in_order.result _ _ _ made c.in_order.ensures
           (λ order more are. matched_step (λ row order. IsOrderOf member_cmp (map member_key (kept_members row.is_union (part all row.members))) order) enums i row (lists_of index.names) _ order.items lt is c.requires.before.names
           (more ∙ ap (λ ls. lists_of ls ++ order.items ∷ []) c.in_ok-push_targets.ensures.names) (subst (λ ms. IsOrderOf member_cmp (map member_key ms) order.items) kept are));
     }) c.push_made.ensures
