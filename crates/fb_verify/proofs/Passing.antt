@@ -49,7 +49,7 @@ free_until fs i j f low lt at = grind (arith, get_or-drop i fs (j - i) f, get_or
 none_past : (fs : List Live) (i : ℕ) → next_required_of fs i ≡ None → length fs ≤ i + first_from fs i
 none_past fs i e = grind (arith, nat_tests, length-drop i fs)
 
-some_past : (fs : List Live) (i place : ℕ) → next_required_of fs i ≡ Some place → (place < length fs) × (place ≡ i + first_from fs i)
+pub some_past : (fs : List Live) (i place : ℕ) → next_required_of fs i ≡ Some place → (place < length fs) × (place ≡ i + first_from fs i)
 some_past fs i place e = grind (arith, nat_tests, length-drop i fs)
 
 -- it is one of them, at that place or behind it, and required

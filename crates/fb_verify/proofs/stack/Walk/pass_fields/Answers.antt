@@ -1,4 +1,4 @@
-use Rattle.std.proofs.Common.{◌≡◌, ℕ, List, map, Some, get_or, ◌+◌, ◌-◌, ◌<◌, ◌≤◌, length, sym, ◌∙◌, ap, arith}
+use Rattle.std.proofs.Common.{◌≡◌, ℕ, List, map, Some, get_or, ◌+◌, ◌-◌, ◌<◌, ◌≤◌, length, refl, sym, ◌∙◌, ap, arith}
 use Rattle.fb_schema.specs.{Live.Live, Live.live_fields, Steps.step_of}
 use Rattle.std.specs.Prelude.{slice_get}
 use Rattle.fb_schema.specs.declared.views.Step.{Step}
@@ -77,6 +77,40 @@ at_step {w} {m} {under} {waiting} {top} {place} steps d its within field =
     let found = step_at fs top.next (get_or steps top.next d) (ap (λ xs. slice_get xs top.next) (sym its) ∙ slice_get-get_or steps top.next d many) in
     (found.0, field found.0 found.1, found.2)
 
+-- On numbers.
+
+within_steps : (S : List Live) (steps : List Step) (n : ℕ) → steps ≡ map step_of S → n < length S → n < length steps
+within_steps S steps n its within = omega (arith, within, ap length its, length_map step_of S)
+
+nearer : {a b d n m : ℕ} → d ≡ b + 1 → a ≤ b → b < m → m ≡ n → n - d < n - a
+nearer x y z u = omega arith
+
+-- the steps are those of the top's fields
+its : (g : _) (c : In-Ok-true g) → c.steps_of-steps.result.now ≡ map step_of (live_fields c.loop-steps.self.schema.now (c.pass_plain.new.top.table).object)
+its g c =
+    let i = c.loop-steps.invariant.0 in
+    rw (ap (λ (x : Walk). x.schema.now) i.same, ap (λ (x : Frame). x.table) c.pass_plain.ensures.same ∙ i.table) c.steps_of-steps.ensures.value
+
+pub bounds-steps-top : goal.bounds-steps-top
+bounds-steps-top g c =
+    let d = (goal.at.bounds-steps-top g c).In-Ok-true in
+    within_steps _ c.steps_of-steps.result.now c.pass_plain.new.top.next (its g d) ((comes g d).field).within
+
+pub pass_plain-requires : goal.pass_plain-requires
+pass_plain-requires g c =
+    let i = c.loop-steps.invariant in
+    let checks = ap (λ (x : Walk). x.checks) (i.0).same in
+    (rw (ap (λ (x : Walk). x.schema.now) (i.0).same, (i.0).table) c.steps_of-steps.ensures.value, (refl, (refl, (record { walking = (i.0).walking; rests = i.1 }, ((c.has_room.ensures c.loop-steps-test.true).room, c.requires.1.1.1.1 ∙ sym checks)))))
+
+pub loop-steps-smaller : goal.loop-steps-smaller
+loop-steps-smaller g c =
+    let d = (goal.at.loop-steps-smaller g c).In-Ok-true in
+    let i = c.loop-steps.invariant.0 in
+    let e = comes g d in
+    let S = c.args.self.now.schema.now in
+    let long = ap (λ (x : Frame). length (live_fields S (x.table).object)) c.pass_plain.ensures.same ∙ ap (λ (x : Table). length (live_fields S x.object)) i.table in
+    nearer c.in-Up.ensures.next e.forth (rw (ap (λ (x : Walk). x.schema.now) i.same) at (e.field).within) long
+
 pub go_into-requires : goal.go_into-requires
 go_into-requires g c =
     let d = (goal.at.go_into-requires g c).In-Ok-true in
@@ -87,10 +121,9 @@ go_into-requires g c =
     let schema = ap (λ (x : Walk). x.schema.now) i.same in
     let table = ap (λ x. x.table) p.same in
     let steps = c.steps_of-steps.result.now in
-    let its : steps ≡ map step_of (live_fields S (c.pass_plain.new.top.table).object) = rw (schema, table ∙ i.table) c.steps_of-steps.ensures.value in
     let long = ap (λ x. length (live_fields S (x.table).object)) p.same in
     let room = c.has_room.ensures c.loop-steps-test.true in (
-      at_step steps _ its (e.field).within (λ f here.
+      at_step steps _ (its g d) (e.field).within (λ f here.
           record {
             many = c.requires.0;
             at = e.field;
