@@ -1,5 +1,5 @@
-use Rattle.std.proofs.Common.{◌≡◌, ℕ, ◌-◌, List, map, take, drop, length, option_map, slice_get, refl, sym, ◌∙◌, ap, arith, Some}
-use Rattle.std.proofs.lemmas.{List.length-map, List.length-drop, List.take_all, Option.slice_get-map}
+use Rattle.std.proofs.Common.{◌≡◌, ℕ, ◌-◌, List, map, take, drop, length, option_map, slice_get, refl, sym, ◌∙◌, ap, arith, Some, None, Ok, [], false}
+use Rattle.std.proofs.lemmas.{List.length-map, List.length-drop, List.take_all, List.drop_all, List.Elements.All-nil, Option.slice_get-map}
 use Rattle.fb_bytes.specs.Word.{Lent}
 use Rattle.fb_schema.specs.declared.views.Step.{Step}
 use Rattle.fb_schema.specs.{Rows.Rows, Live.Live, Live.live_fields, Live.next_required, Steps.step_of}
@@ -7,7 +7,8 @@ use Rattle.fb_schema.proofs.Numbers.{slice_get_some}
 use Rattle.fb_rules.specs.declared.{fault.Reason.Reason, plain.Came.Came, table.Table.Table}
 use Rattle.fb_verify.specs.declared.{scratch.Frame.Frame, stack.Walk.Walk}
 use Rattle.fb_rules.specs.declared.plain.Came.TheVariants.{Past, ToEnd, ToField, ToFault}
-use Rattle.fb_verify.specs.{PassesOn.EndsBehind, PassesOn.CameTo, Stack.Waiting}
+use Rattle.fb_rules.specs.Plain.{plain_failure, steps_reads}
+use Rattle.fb_verify.specs.{PassesOn.EndsBehind, PassesOn.CameTo, PassesOn.PassesOn, Stack.Waiting}
 use Rattle.fb_verify.proofs.Passing.{rest_holds, rest_free}
 use Rattle.fb_verify.proofs.Passing.{AtStep, rest_absent, required_within, required_stops}
 use Rattle.fb_verify.proofs.flat.pass_steps.Goals as goal
@@ -92,4 +93,30 @@ returns-in-Some g c =
     let some = sym (looks g d) ∙ c.in-Some.is in
     let next = required_within s c.in-Some.needed some in
     let err = rw e.bytes at (required_stops s (e.behind _ (first g d).1) c.in-Some.needed some) in
-    rw c.requires.1.1.1.1.0 (search (arith, next, err, e))
+    rw c.requires.1.1.1.1.0 (record { comes = record { next = next; err = err }; same = refl; grows = e.grows; bytes = e.bytes })
+
+-- no field is left
+ends_all : (w : Walk) (m new : Lent) (under : Waiting) (top : Frame) (at left : ℕ) → left ≡ 0 → EndsBehind w m new under top (record top { next = length (live_fields w.schema.now (top.table).object) - left })
+    → PassesOn w m new under top (record top { next = length (live_fields w.schema.now (top.table).object) - left }) at (Ok false)
+ends_all w m new under top at left zero e =
+    let fs = live_fields w.schema.now (top.table).object in
+    let none : drop (length fs - left) (map step_of fs) ≡ [] = drop_all (length fs - left) (map step_of fs) (omega (arith, zero, length-map fs step_of)) in
+    record {
+      comes = record {
+        walking = (e.between).walking;
+        forth = e.forth;
+        within = e.within;
+        all = omega (arith, zero);
+        ends = e.paid;
+        hold = (e.steps).hold (rw none (All-nil (λ s. plain_failure w.checks m.bytes (top.table).at s ≡ None)));
+        counted = omega (arith, (e.steps).counted, ap (steps_reads m.bytes (top.table).at) none);
+      };
+      same = refl;
+      grows = e.grows;
+      bytes = e.bytes;
+    }
+
+pub returns-then-left-eq0 : goal.returns-then-left-eq0
+returns-then-left-eq0 g c =
+    let behind = ends _ _ _ _ _ _ _ c.pass_by-came.result c.in_default.not-ToField c.in_default.not-ToFault c.pass_by-came.ensures.came in
+    rw (all_steps (g.of).walk.schema.now c.args.table (g.of).top c.requires.1.1.1.1.0 c.requires.1.1.1.1.1.1.0) (ends_all _ _ _ _ _ _ _ c.if-left-eq0.true behind)

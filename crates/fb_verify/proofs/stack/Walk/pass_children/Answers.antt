@@ -27,6 +27,9 @@ few_then x y z = omega arith
 at_most : {a b c d e : ℕ} (n : ℕ) → a ≤ b → b ≤ c → d ≡ c + n → d ≤ e → a ≤ e
 at_most n x y z u = omega arith
 
+less_with : (a b : ℕ) {d : ℕ} → a + b ≤ d → a ≤ d
+less_with a b h = omega arith
+
 -- there is a frame for a table below the top
 has_frame : (waiting : ℕ) {d e n m : ℕ} → waiting + 1 < d → d ≡ e → min e (waiting + 2) ≤ waiting + 1 + n → m ≡ n → 0 < m
 has_frame waiting deep same room long = omega arith
@@ -115,7 +118,7 @@ loop-top-preserved-in-Ok-false g c =
     let t = c.in-Ok-open_table.ensures in
     let less = closing_falls (ap (λ (x : Walk). x.schema.now) i.same) (ap (λ (x : Walk). x.limits) i.same) c.loop-top.loan.count c.loop-top.top e.top e.fewer (rw c.in-Some.is at e.table)
     (c.args.waiting + 1) (ap (λ n. n + 1) c.requires.0) c.advance.new.self c.advance.ensures c.in-Ok-open_table.table t.table t.ok t.allowed.fewer t.allowed.deep t.allowed.low
-    c.pass_below.new.loan.count (omega (arith, rw (t.opened, t.counted) at c.in-Ok-false.ensures.falls)) in
+    c.pass_below.new.loan.count (less_with _ _ (rw (t.opened, t.counted) at c.in-Ok-false.ensures.falls)) in
     record {
       bytes = c.in-Ok-false.ensures.bytes ∙ t.bytes ∙ e.bytes ∙ i.bytes;
       same = counted_on c.args.self.now c.loop-top.self c.open_table.new.self _ _ i.same t.opened;
