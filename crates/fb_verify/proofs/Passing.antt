@@ -49,7 +49,7 @@ free_until fs i j f low lt at = grind (arith, get_or-drop i fs (j - i) f, get_or
 none_past : (fs : List Live) (i : ℕ) → next_required_of fs i ≡ None → length fs ≤ i + first_from fs i
 none_past fs i e = grind (arith, nat_tests, length-drop i fs)
 
-some_past : (fs : List Live) (i place : ℕ) → next_required_of fs i ≡ Some place → (place < length fs) × (place ≡ i + first_from fs i)
+pub some_past : (fs : List Live) (i place : ℕ) → next_required_of fs i ≡ Some place → (place < length fs) × (place ≡ i + first_from fs i)
 some_past fs i place e = grind (arith, nat_tests, length-drop i fs)
 
 -- it is one of them, at that place or behind it, and required
@@ -408,10 +408,15 @@ module _ {w : Walk} {start m : Lent} {under : Waiting} {first : Frame} {next : �
       let bytes = ap (λ (x : Lent). x.bytes) e.counted in
       let field = rw (sym bytes) at (at_field h at e.there e.slot e.near new.count count) in
       let leads = leads_open h e.open-step in
-      search (arith, field, leads, g, count, bytes)
+      record {
+        comes = record { field = field; open-field = leads; forth = g.forth; within = omega (arith, within); paid = omega (arith, g.paid, count, few) };
+        same = refl;
+        grows = omega (arith, g.grows, count);
+        bytes = bytes ∙ g.bytes;
+      }
   came_to (ToFault reason) n e =
       let within = next_within h in
       let room = fewer_reads (w.limits).reads (m.count + 6) (start.count + 6 * fields_left w.schema.now first) (omega (arith, g.paid, within)) (g.room).allowed in
       let err = rw g.bytes at (step_stops h e.plain at m.count new.count (Some reason) (e.tested).told {reason = reason} refl refl room) in
       let grows = told_grows _ (e.tested).told in
-      search (arith, within, err, grows, g, e)
+      record { comes = record { next = omega (arith, within); err = err }; same = refl; grows = omega (arith, grows, g.grows); bytes = (e.tested).bytes ∙ g.bytes }

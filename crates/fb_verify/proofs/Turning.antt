@@ -1,5 +1,5 @@
 -- A turn of the top, over the frames in which it stands.
-use Rattle.std.proofs.Common.{◌≡◌, ℕ, ◌+◌, ◌-◌, ◌≤◌, ◌<◌, List, [], ◌∷◌, ◌++◌, length, take, get_or, refl, sym, ◌∙◌, ap, subst, arith, Option, Some, None, Result, Ok, Err, IfOk, IfSome, MatchOption}
+use Rattle.std.proofs.Common.{◌≡◌, ℕ, ◌+◌, ◌-◌, ◌^◌, ◌≤◌, ◌<◌, List, [], ◌∷◌, ◌++◌, length, take, get_or, refl, sym, ◌∙◌, ap, subst, arith, Option, Some, None, Result, Ok, Err, IfOk, IfSome, MatchOption}
 use Rattle.std.proofs.Math.ListN.{set, length-set}
 use Rattle.std.proofs.lemmas.List.{take-take, length-take, length-append}
 use Rattle.fb_bytes.specs.Word.{Lent}
@@ -9,7 +9,7 @@ use Rattle.fb_verify.specs.declared.{scratch.Frame.Frame, stack.Turn.Turn, stack
 use Rattle.fb_verify.specs.declared.stack.Turn.TheVariants.{Down, Up, Slowly, Halt as Halted}
 use Rattle.fb_verify.specs.Stack.{blank, Origin, frame_work, work, Waiting, HaltsIn, IsWalking, IsOver}
 use Rattle.fb_verify.specs.Walked.{ended, TableWalked}
-use Rattle.fb_verify.specs.Turns.{GoesOn, GoesDown, Halts, WentOver, Opened, Turned, FramesTurned, RootTurned, PassedField, FieldTurned, Walked, IsUnderWayOver, GoneOn}
+use Rattle.fb_verify.specs.Turns.{GoesOn, GoesDown, Halts, WentOn, WentOver, WentWrong, Opened, Turned, FramesTurned, RootTurned, PassedField, FieldTurned, Walked, IsUnderWayOver, GoneOn}
 use Rattle.fb_verify.proofs.Stacks.{last_is, sum_last, below_joined, grown_joined, top_joined, next_joined}
 use Rattle.fb_verify.proofs.{Standings.close_last, Walking.table_closed}
 
@@ -128,6 +128,11 @@ module _ (w mid then : Walk) (m been new : Lent) (s : Origin) (tables deepest : 
       let k : HaltsIn (record w { tables = tables; deepest = deepest }) been s frames h n = subst (λ (x : Walk). HaltsIn x been s frames h n) kept e in
       rw bytes at k
 
+  pub wrong_from : (frames : List Frame) → WentWrong mid then been new s frames → WentWrong w then m new s frames
+  wrong_from frames h =
+      let k : WentWrong (record w { tables = tables; deepest = deepest }) then been new s frames = subst (λ (x : Walk). WentWrong x then been new s frames) kept h in
+      record { deep = k.deep; err = rw bytes at k.err; bytes = k.bytes ∙ bytes }
+
   went_from : (P : ℕ → Type 0) (r : Result (Option ℕ) Halt) → IfOk r (λ o. MatchOption o (WentOver mid then been new s) P) → IfOk r (λ o. MatchOption o (WentOver w then m new s) P)
   went_from P (Ok None) h = over_from h
   went_from P (Ok (Some n)) h = h
@@ -137,6 +142,33 @@ module _ (w mid then : Walk) (m been new : Lent) (s : Origin) (tables deepest : 
   gone_from frames r h =
       let k : GoneOn (record w { tables = tables; deepest = deepest }) then been new s frames r = subst (λ (x : Walk). GoneOn x then been new s frames r) kept h in
       record { went = went_from _ r h.went; used = k.used; bytes = k.bytes ∙ bytes; deep = k.deep; err = rw bytes at k.err }
+
+module _ (w then : Walk) (m new : Lent) (s : Origin) where
+  -- before the first turn
+  pub begins : (frames : List Frame) (waiting : ℕ) → IsWalking w m s (take waiting frames) (get_or frames waiting blank) → waiting < length frames → WentOn w w m m s frames waiting frames waiting 0
+  begins frames waiting h top = record { same = refl; walking = h; top = top; falls = omega arith; grows = omega arith; bytes = refl }
+
+  -- what a quick walk leaves that isn't over and didn't stop
+  pub walked_on : (old rows : List Frame) (waiting left : ℕ) (turn : Turn) → (turn ≡ Up → ⊥) → (turn ≡ Halted → ⊥) → Walked w then m new s old waiting rows left turn → WentOn w then m new s old waiting rows left 0
+  walked_on old rows waiting left Down up halt h = absurd h
+  walked_on old rows waiting left Up up halt h = absurd (up refl)
+  walked_on old rows waiting left Slowly up halt h = h
+  walked_on old rows waiting left Halted up halt h = absurd (halt refl)
+
+  -- a count holds the work that is left
+  pub under_way : (old frames : List Frame) (waiting left : ℕ) → WentOn w then m new s old waiting frames left 0 → m.count + work w.schema.now w.limits (take waiting old) (get_or old waiting blank) w.tables ≤ 2 ^ 94 → IsUnderWayOver then new s frames left
+  under_way old frames waiting left h few = record {
+    walking = h.walking;
+    top = h.top;
+    few = rw (ap (λ (x : Walk). x.schema) h.same, ap (λ (x : Walk). x.limits) h.same) (omega (arith, h.falls, few));
+  }
+
+  -- what it tells
+  pub gone_over : (rows : List Frame) → WentOver w then m new s → GoneOn w then m new s rows (Ok None)
+  gone_over rows h = record { went = h; used = tt; bytes = h.bytes; deep = tt; err = tt }
+
+  pub gone_wrong : (rows : List Frame) → WentWrong w then m new s rows → GoneOn w then m new s rows (Err then.halt)
+  gone_wrong rows h = record { went = tt; used = tt; bytes = h.bytes; deep = h.deep; err = h.err }
 
 -- slowly, after it went on quickly
 pub gone_on : (w mid then : Walk) (m been new : Lent) (s : Origin) (old now last : List Frame) (waiting left : ℕ) (turn : Turn) (r : Result (Option ℕ) Halt) → (turn ≡ Up → ⊥) → (turn ≡ Halted → ⊥)

@@ -1,10 +1,13 @@
 -- From the walk of the root table to the verdict.
-use Rattle.std.proofs.Common.{◌≡◌, ℕ, ◌+◌, ◌≤◌, inl, inr, List, [], length, refl, sym, ◌∙◌, ap, arith, Some, None}
-use Rattle.fb_rules.specs.declared.{fault.Fault.Fault, fault.Report.Report, site.LastLink.LastLink, site.Site.Site, link.Link.Link}
+use Rattle.std.proofs.Common.{◌≡◌, ℕ, ◌+◌, ◌^◌, ◌<◌, ◌≤◌, IsTrue, inl, inr, List, [], length, refl, sym, ◌∙◌, ap, arith, Some, None}
+use Rattle.fb_schema.specs.Rows.{is_table}
+use Rattle.fb_rules.specs.declared.{start.Ident.Ident, fault.Fault.Fault, fault.Report.Report, site.LastLink.LastLink, site.Site.Site, link.Link.Link}
 use Rattle.fb_verify.specs.declared.scratch.Frame.{Frame}
 use Rattle.fb_rules.specs.{Bounds.AreAllowed, Question.Question, Places.target, Tree.size, Tree.depth, Cost.tree_cost}
 use Rattle.fb_rules.specs.{WellFormed.base, WellFormed.start_reads, Way.way_to_start, Way.way_to_root, Links.LeadsAlong, Links.StopsAlong}
 use Rattle.fb_rules.specs.{Told.told, Told.way_at, MostReads.most_reads}
+use Rattle.fb_verify.specs.Sealed.{Sealed, IsUnfolded, asked_of}
+use Rattle.fb_rules.specs.Bounds.{Bounds}
 use Rattle.fb_verify.specs.{Walked.TableWalked, Walked.ended, Stack.HaltsAlong}
 use Rattle.fb_rules.specs.{Verdict.Reports, Verdict.HasNone, Stops.reads_failure, Stops.fault_at, Stops.Stops}
 use Rattle.fb_rules.specs.Order.{◌▷◌, start_failure}
@@ -64,3 +67,22 @@ module _ {q : Question} {b : List ℕ} where
 
   pub price_of_yes : {r : Report} → Reports q b r → r.reads ≤ most_reads q.rows q.limits (length b)
   price_of_yes h = omega (arith, h.reads, cost_is_bounded q b h.found h.well_formed h.within)
+
+-- what is sealed is what was verified
+module _ (v : Sealed) {b m : List ℕ} (same : v.bytes ≡ m) (kept : m ≡ b) where
+  pub sealed_kept : v ≡ record v { bytes = b }
+  sealed_kept = ap (λ (x : List ℕ). record v { bytes = x }) (same ∙ kept)
+
+  -- and it unfolds, where a report tells so
+  pub unfolded : (ident : Ident) (L : Bounds) → length m < 2 ^ 31 → IsTrue (is_table v.schema v.root) → Reports (asked_of v ident L) b v.report → IsUnfolded v
+  unfolded ident L short table h = record {
+    short = rw same short;
+    root_is_table = table;
+    ident = ident;
+    limits = L;
+    found = h.found;
+    well_formed = rw (same ∙ kept) h.well_formed;
+    tables = h.tables;
+    depth = h.depth;
+    reads = rw (same ∙ kept) h.reads;
+  }

@@ -48,7 +48,17 @@ module _ {c : Checks} {b : List ℕ} {S : Rows} {L : Bounds} {s : Origin} {below
       let walked = close c b S L s below top n d r g rests all in
       let on = resumed c b S (above.table).object (above.table).at p.0 above.next above.number (words_of b S above.row) (top.table).object (top.table).at g.v (ended g.v n d r) p.2 walked in
       let standing : Standing c b S s rest above n d r = record { v = p.0; root = g.root; under = p.1; at = inr (rw (goes_way c b S above p.0 (top.table).object (top.table).at g.v n d r p.2) at on) } in
-      search (arith, h, frames, standing, ap length e, length-append rest (above ∷ []))
+      record {
+        served = h.served;
+        tables = h.tables;
+        deepest = h.deepest;
+        reads = h.reads;
+        links = omega (arith, h.links, ap length e, length-append rest (above ∷ []));
+        low = omega (arith, h.low, ap length e, length-append rest (above ∷ []));
+        frames = frames.0;
+        frame = frames.1;
+        standing = standing;
+      }
 
   -- an offset word that leads to no table is passed
   pub leaf_passed : (row : Row) (q : ℕ) → row ≡ past_first top.row → 0 < (top.row).left → element_failure c b (first_word b S top.row) ≡ None → q ≡ r + (first_word b S top.row).reads + lead_reads (first_word b S top.row).lead

@@ -1,6 +1,6 @@
 use Rattle.std.proofs.Common.{refl}
 use Rattle.fb_verify.specs.Flat.{PassesFlat}
-use Rattle.fb_verify.proofs.Flats.{flat_between, flat_room, flat_came, reason_of}
+use Rattle.fb_verify.proofs.Flats.{flat_between, flat_room, flat_came, head_flat, reason_of}
 use Rattle.fb_verify.proofs.flat.pass_flat.Goals as goal
 use Rattle.fb_verify.proofs.flat.pass_flat.Goals.{In_default, After-pass_steps}
 
@@ -21,3 +21,8 @@ returns-in-Ok g c = rw c.in-Ok.is at (came g (goal.at.returns-in-Ok g c).After-p
 
 pub returns-in-Err : goal.returns-in-Err
 returns-in-Err g c = rw c.in-Err.is at (came g (goal.at.returns-in-Err g c).After-pass_steps)
+
+pub returns-in-Some : goal.returns-in-Some
+returns-in-Some g c =
+    let e = rw c.requires.same at c.test_head-failed.ensures.tested in
+    head_flat (rw c.in-Some.is at e.told) e.bytes

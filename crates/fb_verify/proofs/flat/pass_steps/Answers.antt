@@ -1,12 +1,14 @@
-use Rattle.std.proofs.Common.{◌≡◌, ℕ, ◌-◌, map, length, option_map, slice_get, refl, sym, ◌∙◌, ap, arith, Some}
-use Rattle.std.proofs.lemmas.{List.length-map, List.length-drop, Option.slice_get-map}
+use Rattle.std.proofs.Common.{◌≡◌, ℕ, ◌-◌, List, map, take, drop, length, option_map, slice_get, refl, sym, ◌∙◌, ap, arith, Some, None, Ok, [], false}
+use Rattle.std.proofs.lemmas.{List.length-map, List.length-drop, List.take_all, List.drop_all, List.Elements.All-nil, Option.slice_get-map}
 use Rattle.fb_bytes.specs.Word.{Lent}
-use Rattle.fb_schema.specs.{Live.Live, Live.live_fields, Live.next_required, Steps.step_of}
+use Rattle.fb_schema.specs.declared.views.Step.{Step}
+use Rattle.fb_schema.specs.{Rows.Rows, Live.Live, Live.live_fields, Live.next_required, Steps.step_of}
 use Rattle.fb_schema.proofs.Numbers.{slice_get_some}
-use Rattle.fb_rules.specs.declared.{fault.Reason.Reason, plain.Came.Came}
+use Rattle.fb_rules.specs.declared.{fault.Reason.Reason, plain.Came.Came, table.Table.Table}
 use Rattle.fb_verify.specs.declared.{scratch.Frame.Frame, stack.Walk.Walk}
 use Rattle.fb_rules.specs.declared.plain.Came.TheVariants.{Past, ToEnd, ToField, ToFault}
-use Rattle.fb_verify.specs.{PassesOn.EndsBehind, PassesOn.CameTo, Stack.Waiting}
+use Rattle.fb_rules.specs.Plain.{plain_failure, steps_reads}
+use Rattle.fb_verify.specs.{PassesOn.EndsBehind, PassesOn.CameTo, PassesOn.PassesOn, Stack.Waiting}
 use Rattle.fb_verify.proofs.Passing.{rest_holds, rest_free}
 use Rattle.fb_verify.proofs.Passing.{AtStep, rest_absent, required_within, required_stops}
 use Rattle.fb_verify.proofs.flat.pass_steps.Goals as goal
@@ -18,6 +20,26 @@ ends w m new under top past at Past leads fails h = absurd h
 ends w m new under top past at ToEnd leads fails h = h
 ends w m new under top past at ToField leads fails h = absurd (leads refl)
 ends w m new under top past at (ToFault reason) leads fails h = absurd (fails reason refl)
+
+-- as many steps as fields of the top's object
+all_steps : {steps : List Step} (S : Rows) (table : Table) (top : Frame) → table ≡ top.table → steps ≡ map step_of (live_fields S table.object) → length steps ≡ length (live_fields S (top.table).object)
+all_steps S table top same its = ap length its ∙ length-map (live_fields S table.object) step_of ∙ ap (λ (x : Table). length (live_fields S x.object)) same
+
+left_of : (steps : List Step) (n : ℕ) → take (length steps - n) (drop n steps) ≡ drop n steps
+left_of steps n = take_all (length steps - n) (drop n steps) (omega (arith, length-drop n steps))
+
+pub pass_by-came-requires : goal.pass_by-came-requires
+pass_by-came-requires g c =
+    let S = (g.of).walk.schema.now in
+    let steps = c.requires.1.1.1.1.1.1.0 ∙ ap (λ (x : Table). map step_of (live_fields S x.object)) c.requires.1.1.1.1.0 in
+    let left = left_of c.args.steps.now c.args.next.now ∙ ap (λ n. drop n c.args.steps.now) c.requires.1.1.1.1.1.0 ∙ ap (drop (g.of).top.next) steps in
+    (c.requires.0, (c.requires.1.0, (c.requires.1.1.0, (c.requires.1.1.1.1.0, left))))
+
+pub returns-in-ToField : goal.returns-in-ToField
+returns-in-ToField g c = rw (all_steps (g.of).walk.schema.now c.args.table (g.of).top c.requires.1.1.1.1.0 c.requires.1.1.1.1.1.1.0) c.in-ToField.ensures.came
+
+pub returns-in-ToFault : goal.returns-in-ToFault
+returns-in-ToFault g c = rw (all_steps (g.of).walk.schema.now c.args.table (g.of).top c.requires.1.1.1.1.0 c.requires.1.1.1.1.1.1.0) c.in-ToFault.ensures.came
 
 -- the steps are those of the top's fields
 steps_are : (g : _) (c : After-next_required g) → c.args.steps.now ≡ map step_of (live_fields (g.of).walk.schema.now ((g.of).top.table).object)
@@ -71,4 +93,30 @@ returns-in-Some g c =
     let some = sym (looks g d) ∙ c.in-Some.is in
     let next = required_within s c.in-Some.needed some in
     let err = rw e.bytes at (required_stops s (e.behind _ (first g d).1) c.in-Some.needed some) in
-    rw c.requires.1.1.1.1.0 (search (arith, next, err, e))
+    rw c.requires.1.1.1.1.0 (record { comes = record { next = next; err = err }; same = refl; grows = e.grows; bytes = e.bytes })
+
+-- no field is left
+ends_all : (w : Walk) (m new : Lent) (under : Waiting) (top : Frame) (at left : ℕ) → left ≡ 0 → EndsBehind w m new under top (record top { next = length (live_fields w.schema.now (top.table).object) - left })
+    → PassesOn w m new under top (record top { next = length (live_fields w.schema.now (top.table).object) - left }) at (Ok false)
+ends_all w m new under top at left zero e =
+    let fs = live_fields w.schema.now (top.table).object in
+    let none : drop (length fs - left) (map step_of fs) ≡ [] = drop_all (length fs - left) (map step_of fs) (omega (arith, zero, length-map fs step_of)) in
+    record {
+      comes = record {
+        walking = (e.between).walking;
+        forth = e.forth;
+        within = e.within;
+        all = omega (arith, zero);
+        ends = e.paid;
+        hold = (e.steps).hold (rw none (All-nil (λ s. plain_failure w.checks m.bytes (top.table).at s ≡ None)));
+        counted = omega (arith, (e.steps).counted, ap (steps_reads m.bytes (top.table).at) none);
+      };
+      same = refl;
+      grows = e.grows;
+      bytes = e.bytes;
+    }
+
+pub returns-then-left-eq0 : goal.returns-then-left-eq0
+returns-then-left-eq0 g c =
+    let behind = ends _ _ _ _ _ _ _ c.pass_by-came.result c.in_default.not-ToField c.in_default.not-ToFault c.pass_by-came.ensures.came in
+    rw (all_steps (g.of).walk.schema.now c.args.table (g.of).top c.requires.1.1.1.1.0 c.requires.1.1.1.1.1.1.0) (ends_all _ _ _ _ _ _ _ c.if-left-eq0.true behind)

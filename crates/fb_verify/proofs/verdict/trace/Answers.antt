@@ -1,10 +1,11 @@
-use Rattle.std.proofs.Common.{List, None, ap, [], rules, arith}
+use Rattle.std.proofs.Common.{ℕ, ◌≡◌, ◌+◌, ◌^◌, ◌<◌, ◌≤◌, List, None, ap, refl, ◌∙◌, [], arith}
 use Rattle.std.proofs.lemmas.List.Elements.{All-nil}
 use Rattle.fb_verify.specs.Stack.{HaltsAlong, IsLinked, Origin, StopsIn, last_link}
-use Rattle.fb_rules.specs.{Question.question, Told.stopped, Told.way_at, Verdict.Reports}
+use Rattle.fb_rules.specs.{Question.question, Told.stopped, Told.way_at, Verdict.Reports, WellFormed.start_reads}
+use Rattle.fb_rules.specs.declared.start.{Ident.Ident, Start.Start}
 use Rattle.fb_rules.specs.declared.site.LastLink.TheVariants.{Behind}
 use Rattle.fb_verify.specs.declared.scratch.Frame.{Frame}
-use Rattle.fb_verify.proofs.Frames.{if_err_exit}
+use Rattle.fb_verify.proofs.Frames.{if_err_exit, if_ok_exit}
 use Rattle.fb_verify.proofs.Verdicts.{stops_at_start, stops_below_start, fault_along, none_along, price_of_no, reports, price_of_yes}
 use Rattle.fb_verify.proofs.verdict.trace.Goals as goal
 use Rattle.fb_verify.proofs.verdict.trace.Goals.{In-Err, In_err-run, After-reads}
@@ -43,10 +44,13 @@ tells c =
     reports (question a.schema.now a.root a.start a.ident a.limits a.checks) a.loan.now.bytes c.in-Ok.at c.read_start.new.loan.count c.run.new.self.tables c.run.new.self.deepest c.run.new.loan.count
     c.reads.result c.in-Ok.ensures.asked.ok c.in-Ok.ensures.value (omega (arith, c.requires.fresh, ap (λ m. m.count) c.in-Ok.ensures.asked.counted)) (rw (ap (λ m. m.bytes) c.in-Ok.ensures.asked.counted) at ran.ok) ran.within ran.shallow ran.reads c.reads.ensures.count
 
+none_open : (n : ℕ) → 0 + 0 ≤ n
+none_open n = omega arith
+
 pub returns-in-Err : goal.returns-in-Err
 returns-in-Err c =
     let start = fails_at_start (goal.at.returns-in-Err c).In-Err in
-    record { yes = search rules; none = none_along start; deep = search rules; no = rw c.halt.ensures (fault_along start); along = λ _. rw c.halt.ensures start; price = price_of_no start; read = search rules; bytes = search rules }
+    record { yes = tt; none = none_along start; deep = rw c.halt.ensures (none_open c.args.limits.depth); no = rw c.halt.ensures (fault_along start); along = λ _. rw c.halt.ensures start; price = price_of_no start; read = tt; bytes = c.in-Err.ensures.asked.bytes }
 
 pub returns-in_err-run : goal.returns-in_err-run
 returns-in_err-run c =
@@ -54,14 +58,14 @@ returns-in_err-run c =
     let e = d.in_err-run.ensures.err in
     let some = halts d e.0 (rw (ap (λ m. m.bytes) d.in-Ok.ensures.asked.counted) at e.1) in
     record {
-      yes = search rules;
+      yes = if_ok_exit _ _ _ c.from_residual.ensures.1;
       none = if_err_exit _ _ _ c.from_residual.ensures.1 (none_along some);
-      deep = search rules;
+      deep = if_err_exit _ _ _ c.from_residual.ensures.1 d.in_err-run.ensures.deep;
       no = if_err_exit _ _ _ c.from_residual.ensures.1 (fault_along some);
       along = if_err_exit _ _ _ c.from_residual.ensures.1 (λ enough. halts d _ (rw (ap (λ m. m.bytes) d.in-Ok.ensures.asked.counted) at (d.in_err-run.ensures.along enough)));
       price = price_of_no some;
-      read = search rules;
-      bytes = search rules;
+      read = if_ok_exit _ _ _ c.from_residual.ensures.1;
+      bytes = d.in_err-run.ensures.bytes ∙ d.in-Ok.ensures.asked.bytes;
     }
 
 pub returns-clause-yes : goal.returns-clause-yes
@@ -69,3 +73,15 @@ returns-clause-yes c = tells (goal.at.returns-clause-yes c).After-reads
 
 pub returns-clause-price : goal.returns-clause-price
 returns-clause-price c = omega (arith, price_of_yes (tells (goal.at.returns-clause-price c).After-reads), c.reads.ensures.count)
+
+few_words : (start : Start) (ident : Ident) → start_reads start ident ≤ 3
+few_words start ident = grind arith
+
+few_start : (n m : ℕ) {k : ℕ} → k ≤ 3 → m ≡ 0 → n ≡ m + k → n < 2 ^ 90
+few_start n m few fresh counted = omega arith
+
+pub run-requires : goal.run-requires
+run-requires c =
+    let e = c.in-Ok.ensures in
+    let few = few_start _ _ (few_words c.args.start c.args.ident) c.requires.fresh (ap (λ m. m.count) e.asked.counted) in
+    (refl, (c.lawful.ensures.served, (c.requires.table, (e.near, (c.requires.some, (c.requires.room, (none_open _, (none_open _, ((e.asked).reads, few)))))))))

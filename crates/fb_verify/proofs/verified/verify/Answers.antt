@@ -1,5 +1,5 @@
 use Rattle.std.proofs.Common.{◌≡◌, ℕ, ◌≤◌, arith}
-use Rattle.fb_verify.proofs.Frames.{if_err_exit}
+use Rattle.fb_verify.proofs.{Frames.if_err_exit, Verdicts.sealed_kept, Verdicts.unfolded}
 use Rattle.fb_verify.proofs.verified.verify.Goals as goal
 
 le_of : {a b x : ℕ} → x ≡ a → x ≤ b → a ≤ b
@@ -19,3 +19,9 @@ returns-clause-yes g c = c.in_ok-report.ensures.yes
 
 pub returns-clause-price_of_yes : goal.returns-clause-price_of_yes
 returns-clause-price_of_yes g c = le_of c.in_ok-report.ensures.read c.walk.ensures.price
+
+pub invariant_of-result : goal.invariant_of-result
+invariant_of-result g c = unfolded _ c.seal.ensures.bytes c.walk.ensures.bytes c.args.ident c.args.limits c.seal.ensures.short c.requires.table c.in_ok-report.ensures.yes
+
+pub returns-clause-kept : goal.returns-clause-kept
+returns-clause-kept g c = sealed_kept _ c.seal.ensures.bytes c.walk.ensures.bytes

@@ -1,11 +1,13 @@
-use Rattle.std.proofs.Common.{◌≡◌, ◌+◌, ◌<◌, map, length, option_map, refl, sym, ◌∙◌, ap, arith}
-use Rattle.std.proofs.lemmas.{Bool.ltb-true, Option.slice_get-map}
-use Rattle.fb_schema.specs.{Live.live_fields, Live.live_of_view, Steps.step_of}
+use Rattle.std.proofs.Common.{◌≡◌, ℕ, ◌+◌, ◌<◌, ◌≤◌, false, List, ltb, map, length, option_map, refl, sym, ◌∙◌, ap, arith}
+use Rattle.std.proofs.lemmas.{Bool.false≢true, Bool.ltb-false, Bool.ltb-true, Option.slice_get-map}
+use Rattle.fb_schema.specs.declared.views.FieldView.{FieldView}
+use Rattle.fb_rules.specs.declared.table.Table.{Table}
+use Rattle.fb_schema.specs.{Live.Live, Live.live_fields, Live.live_of_view, Steps.step_of}
 use Rattle.fb_rules.specs.Places.{vtable_size}
 use Rattle.fb_verify.specs.PassesOn.{PassesFields}
 use Rattle.fb_verify.proofs.Frames.{item_some, field_at, length_map}
 use Rattle.fb_verify.proofs.Walking.{err_exit, AtNext, askable, next_stops, stops_at_field, next_leads, next_over}
-use Rattle.fb_verify.proofs.Passing.{AtStep, long, rest_absent, required_stops}
+use Rattle.fb_verify.proofs.Passing.{AtStep, long, rest_absent, required_stops, some_past}
 use Rattle.fb_verify.proofs.stack.Walk.pass_each.Goals as goal
 use Rattle.fb_verify.proofs.stack.Walk.pass_each.Goals.{In-Some}
 
@@ -84,3 +86,16 @@ loop-field-preserved g c =
     let e = c.in_ok-pass_field.ensures.asked in
     let none = c.in_ok-pass_field.ensures.leads.none c.if-branch.false in
     rw (e.counted, none.1) (next_over h e.ok refl (rw e.counted at e.reads) i.falls (omega (arith, i.grows)) i.bytes i.table none.0)
+
+pub stop_at-requires-clause-next : goal.stop_at-requires-clause-next
+stop_at-requires-clause-next g c = (some_past (live_fields c.args.self.now.schema.now (c.loop-field.top.table).object) c.loop-field.top.next c.in-Some-next_required.needed (sym c.next_required.ensures ∙ c.in-Some-next_required.is)).0
+
+all_passed : (xs : List FieldView) (fs : List Live) (n : ℕ) → map live_of_view xs ≡ fs → false ≡ ltb n (length xs) → length fs ≤ n
+all_passed xs fs n its past = omega (arith, ltb-false n (length xs) (sym past), ap length its, length_map live_of_view xs)
+
+pub returns : goal.returns
+returns g c =
+    let i = c.loop-field.invariant in
+    let its = c.fields_of-fields.ensures.value ∙ ap (λ (x : Table). live_fields c.args.self.now.schema.now x.object) (sym i.table) in
+    let all = all_passed c.fields_of-fields.result.now _ c.loop-field.top.next its c.in_default.ensures.lookup.0 in
+    record { walking = (i.between).walking; leads = λ e. absurd (false≢true e); rests = λ _. (i.between).rests; all = λ _. all; falls = i.falls; grows = i.grows; bytes = i.bytes; err = tt }

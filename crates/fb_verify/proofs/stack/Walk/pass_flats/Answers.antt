@@ -1,8 +1,8 @@
-use Rattle.std.proofs.Common.{◌≡◌, ◌≤◌, ◌+◌, ◌*◌, max, length, refl, sym, ◌∙◌, ap, arith}
+use Rattle.std.proofs.Common.{◌≡◌, ℕ, ◌<◌, ◌≤◌, ◌^◌, ◌+◌, ◌*◌, max, length, refl, sym, ◌∙◌, ap, arith}
 use Rattle.fb_schema.specs.{Live.live_fields, Steps.step_of}
 use Rattle.fb_rules.specs.declared.{offset_row.Row.Row, offset_row.Leads.TheVariants.All, offset_row.Referent.TheVariants.Table as ATable}
 use Rattle.fb_verify.specs.declared.stack.Walk.{Walk}
-use Rattle.fb_rules.specs.{Fields.to_table, Order.after, Order.lead_failure, OffsetRows.leads_after, Plain.tested_by}
+use Rattle.fb_rules.specs.{Fields.to_table, Order.after, Order.lead_failure, OffsetRows.leads_after, OffsetRows.past_first, Plain.tested_by}
 use Rattle.fb_rules.proofs.Budgets.{fewer_reads}
 use Rattle.fb_verify.proofs.{Flats.at_flat, Flats.word_tells, Frames.length_map}
 use Rattle.fb_verify.proofs.RowTurns.{two, Counts, counted_same, flat_comes, table_passed, table_halts, word_halts}
@@ -91,3 +91,26 @@ loop-schema-preserved g c =
       kept = rw (sym p.bytes, c.steps_of-steps.ensures.value) at (c.pass_alike-came.ensures.kept none);
       leads = ap (λ (x : Row). x.leads) c.advance_all.ensures ∙ ap leads_after (leads g (goal.at.After-count_table g d).After-test_lead-failed) ∙ sym (c.requires.0).leads;
     }
+
+-- On numbers.
+
+few_tables : {n m : ℕ} → n < m → m < 2 ^ 32 → n < 4294967295
+few_tables fewer small = omega arith
+
+fewer_left : (row past : Row) → past ≡ past_first row → 0 < row.left → past.left < row.left
+fewer_left row past same more = omega (arith, ap (λ (x : Row). x.left) same)
+
+pub loop-schema-smaller : goal.loop-schema-smaller
+loop-schema-smaller g c = fewer_left _ _ c.advance_all.ensures (c.has_flat.ensures.more c.loop-schema-test.true)
+
+pub stop_at_word-stop-requires-clause-more : goal.stop_at_word-stop-requires-clause-more
+stop_at_word-stop-requires-clause-more g c = c.has_flat.ensures.more c.loop-schema-test.true
+
+pub advance_all-requires-clause-more : goal.advance_all-requires-clause-more
+advance_all-requires-clause-more g c = c.has_flat.ensures.more c.loop-schema-test.true
+
+pub count_table-requires : goal.count_table-requires
+count_table-requires g c = record { few = few_tables (c.has_flat.ensures.fewer c.loop-schema-test.true) (c.has_flat.ensures.small c.loop-schema-test.true) }
+
+pub stop_in_flat-requires-clause-next : goal.stop_in_flat-requires-clause-next
+stop_in_flat-requires-clause-next g c = c.in-Some-came.ensures.passes.within

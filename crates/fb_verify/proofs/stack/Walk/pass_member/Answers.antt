@@ -146,3 +146,6 @@ returns-in_default-referent g c =
       same = refl;
       word = c.advance.ensures;
     }
+
+pub stop_in_flat-requires-clause-next : goal.stop_in_flat-requires-clause-next
+stop_in_flat-requires-clause-next g c = c.in-Some-came.ensures.within

@@ -1,10 +1,12 @@
-use Rattle.std.proofs.Common.{◌≡◌, ℕ, true, false, Bool, [], refl, arith, Ok}
+use Rattle.std.proofs.Common.{◌≡◌, ℕ, ◌+◌, ◌*◌, ◌^◌, ◌<◌, true, false, Bool, List, [], map, length, refl, sym, ◌∙◌, ap, subst, arith, Ok}
 use Rattle.fb_bytes.specs.Word.{Lent}
-use Rattle.fb_schema.specs.Steps.{is_plain}
+use Rattle.fb_schema.specs.declared.views.Step.{Step}
+use Rattle.fb_schema.specs.{Live.live_fields, Steps.is_plain, Steps.step_of}
+use Rattle.fb_rules.specs.Bounds.{AreAllowed}
 use Rattle.fb_rules.specs.declared.table.Table.{Table}
 use Rattle.fb_verify.specs.declared.stack.Walk.{Walk}
-use Rattle.fb_verify.specs.{PassesOn.PassesOn, Stack.opened, Stack.Waiting, Turns.WentOver}
-use Rattle.fb_verify.proofs.{Flats.never_on, Turning.went_over}
+use Rattle.fb_verify.specs.{PassesOn.fields_left, PassesOn.HasRoom, PassesOn.IsBetween, PassesOn.PassesOn, Stack.IsWalking, Stack.opened, Stack.Waiting, Turns.WentOver}
+use Rattle.fb_verify.proofs.{Flats.never_on, Frames.length_map, Turning.went_over}
 use Rattle.fb_verify.proofs.stack.Walk.pass_root.Goals as goal
 
 -- a root table of which no field leads on is passed whole
@@ -32,4 +34,33 @@ returns-in-Err g c =
         bytes = p.bytes;
       },
       e.links,
+    )
+
+-- the walk is between two fields of the root table, of which the budget allows whatever they cost
+module _ (w v : Walk) (m n : Lent) (walk : v ≡ w) (count : n.count ≡ m.count) (table : Table) where
+  between_at : (under : Waiting) → under.frames ≡ [] → n.bytes ≡ m.bytes → IsWalking w m under.start [] (opened table) → IsBetween v n under (opened table)
+  between_at under root bytes h = record { walking = rw (walk, root, bytes, count) h; rests = refl }
+
+  room_at : (steps : List Step) (r k : ℕ) → r ≡ m.count → k ≡ 6 * length steps → steps ≡ map step_of (live_fields w.schema.now table.object) → AreAllowed (w.limits).reads (r + k) → r + k < 2 ^ 56 → HasRoom v n (opened table)
+  room_at steps r k same most its allowed short =
+      let long : r + k ≡ n.count + 6 * fields_left w.schema.now (opened table) = omega (arith, same, most, count, ap length its, length_map step_of (live_fields w.schema.now table.object)) in
+      rw walk (record { allowed = subst (λ (x : ℕ). AreAllowed (w.limits).reads x) long allowed; short = rw long at short })
+
+pub pass_steps-passed-requires : goal.pass_steps-passed-requires
+pass_steps-passed-requires g c =
+    let w = c.args.self.now in
+    let walk = c.requires.0 in
+    let lent = c.lend-reads.ensures.lent in
+    let count = ap (λ (x : Lent). x.count) lent in
+    let test = c.if-not-allows_short.false in
+    let steps = c.steps_of-steps in (
+      between_at w (g.going).walk c.args.loan.now c.lend-reads.result walk count c.args.table (g.going).under c.requires.1.1.0 (ap (λ (x : Lent). x.bytes) lent) c.requires.1.0,
+      (
+        room_at w (g.going).walk c.args.loan.now c.lend-reads.result walk count c.args.table steps.result.now c.reads.result c.from.result c.reads.ensures.count c.from.ensures steps.ensures.value (c.allows_short.ensures.allowed test)
+            (c.allows_short.ensures.short test),
+        (
+          sym (ap (λ (x : Walk). x.checks) walk ∙ c.are_published.ensures c.if-not-are_published.false),
+          (sym (ap (λ (x : Walk). x.schema.now) walk), (refl, (refl, (steps.ensures.value ∙ ap (λ (x : Walk). map step_of (live_fields x.schema.now c.args.table.object)) (sym walk), steps.ensures.few)))),
+        ),
+      ),
     )

@@ -9,7 +9,7 @@ use Rattle.fb_verify.specs.Turns.{GoneOn, WentOver}
 use Rattle.fb_verify.specs.Stack.{blank, links_left, opened, IsFrame, IsLinked, IsUnderWay, Origin, StopsIn, work}
 use Rattle.fb_rules.proofs.Few.{head_few}
 use Rattle.fb_verify.proofs.{Frames.frame_opened, Frames.if_err_exit, Frames.if_err_map, Frames.if_ok_map, Frames.work_opened, Standings.begin, Standings.stop_at_root, Turning.gone_from, Turning.halts_from, Turning.on_where, Turning.over_from, Turning.over_where, Turning.root_kept, Turning.used_where, Turning.walked_over}
-use Rattle.fb_verify.proofs.stack.Walk.run.Goals.{After-from_residual, After-go_deeper, In-Err, In-None, In-Ok, Joined-is_plain, then-is_plain+in_default, else-is_plain}
+use Rattle.fb_verify.proofs.stack.Walk.run.Goals.{After-from_residual, After-go_deeper, In-Err, In-None, In-Ok, Joined-is_plain, then-is_plain+in_default, else-is_plain, In-Up}
 use Rattle.fb_verify.proofs.stack.Walk.run.Goals as goal
 
 -- where the root table can't be opened, no frame leads there
@@ -169,3 +169,26 @@ go_deeper-requires g c =
     let kept = c.go_on.auto.frames in
     let set = length-set c.args.frames.now 0 c.opened.result in
     (on_where _ _ _ _ _ _ _ e c.in-Some.is, (omega (arith, u.0, c.requires.1.1.1.1.1.0, kept, set), omega (arith, limits, u.0, c.requires.1.1.1.1.1.0, kept, set)))
+
+-- Where the root table is passed whole.
+
+rooted : (g : _) (c : In-Up g) → WentOver c.args.self.now c.pass_root.new.self c.args.loan.now c.pass_root.new.loan g.start
+rooted g c = over_from c.args.self.now c.open_table.new.self c.pass_root.new.self c.args.loan.now c.open_table.new.loan c.pass_root.new.loan g.start _ _ c.in-Ok.ensures.opened c.in-Ok.ensures.bytes c.in-Up.ensures
+
+pub returns-in-Up-clause-ok : goal.returns-in-Up-clause-ok
+returns-in-Up-clause-ok g c = walked_over _ _ _ _ _ (rooted g c)
+
+pub returns-in-Up-clause-within : goal.returns-in-Up-clause-within
+returns-in-Up-clause-within g c = (rooted g c).within
+
+pub returns-in-Up-clause-shallow : goal.returns-in-Up-clause-shallow
+returns-in-Up-clause-shallow g c = (rooted g c).shallow
+
+pub returns-in-Up-clause-reads : goal.returns-in-Up-clause-reads
+returns-in-Up-clause-reads g c = (rooted g c).reads
+
+pub returns-in-None-clause-bytes : goal.returns-in-None-clause-bytes
+returns-in-None-clause-bytes g c = (over g c).bytes
+
+pub returns-in-Some-clause-bytes : goal.returns-in-Some-clause-bytes
+returns-in-Some-clause-bytes g c = c.go_deeper.ensures.bytes ∙ (went g c).bytes

@@ -1,9 +1,43 @@
-use Rattle.std.proofs.Common.{◌<◌, length, ap, get_or, arith}
+use Rattle.std.proofs.Common.{◌≡◌, ℕ, ◌+◌, ◌<◌, List, [], ◌∷◌, ◌++◌, length, take, sym, ◌∙◌, ap, subst, get_or, arith}
 use Rattle.std.proofs.Math.ListN.{set, length-set}
-use Rattle.std.proofs.lemmas.List.{get_or-set_same, length-take}
-use Rattle.fb_verify.specs.Stack.{blank}
-use Rattle.fb_verify.proofs.{Stacks.top_is, Turning.frames_down}
+use Rattle.std.proofs.lemmas.List.{get_or-set_same, length-append, length-take}
+use Rattle.fb_verify.specs.declared.{scratch.Frame.Frame, stack.Walk.Walk}
+use Rattle.fb_verify.specs.Stack.{blank, IsWalking}
+use Rattle.fb_verify.proofs.{Stacks.top_is, Turning.frames_down, Turning.frames_turned}
 use Rattle.fb_verify.proofs.stack.Walk.turn.Goals as goal
+
+-- so many frames wait
+many : (waiting : ℕ) (below frames : List Frame) → below ≡ take waiting frames → waiting < length frames → waiting ≡ length below
+many waiting below frames same top = omega (arith, ap length same, length-take waiting frames)
+
+pushed : {waiting : ℕ} (below : List Frame) (top : Frame) → waiting ≡ length below → waiting + 1 ≡ length (below ++ top ∷ [])
+pushed below top same = ap (λ n. n + 1) same ∙ sym (length-append below (top ∷ []))
+
+pub pass_top-requires : goal.pass_top-requires
+pass_top-requires g c =
+    let s = c.split_at_mut-low.ensures in
+    let low = c.split_at_mut-low.result.0.now in
+    let top = top_is c.args.frames.now low c.split_at_mut-low.result.1.now c.args.waiting blank s.value s.front_len blank in (
+      many c.args.waiting (g.under).frames c.args.frames.now c.requires.0 c.requires.1.1.1.0,
+      (subst (λ (x : Frame). IsWalking c.args.self.now c.args.reads.now (g.under).start (g.under).frames x) (sym top) c.requires.1.0, (c.requires.1.1.1.1.0, (c.requires.1.1.1.1.1.0, c.requires.1.1.1.1.1.1))),
+    )
+
+pub open_child-requires : goal.open_child-requires
+open_child-requires g c =
+    let d = c.in-Down.ensures in
+    let checks = ap (λ (x : Walk). x.checks) d.same in (
+      pushed (g.under).frames c.pass_top.new.top (many c.args.waiting (g.under).frames c.args.frames.now c.requires.0 c.requires.1.1.1.0),
+      (d.down, (d.short, c.requires.1.1.1.1.1.1 ∙ sym checks)),
+    )
+
+pub returns-in_default : goal.returns-in_default
+returns-in_default g c =
+    let s = c.split_at_mut-low.ensures in
+    let low = c.split_at_mut-low.result.0.now in
+    let high = c.split_at_mut-low.result.1.now in
+    let n = c.args.waiting in
+    frames_turned c.args.self.now c.pass_top.new.self c.args.reads.now c.pass_top.new.reads g.under c.args.frames.now low high n
+    (get_or low n blank) c.pass_top.new.top c.pass_top.new.child s.value s.front_len c.requires.0 (top_is c.args.frames.now low high n c.pass_top.new.top s.value s.front_len blank) high c.pass_top.result c.in_default.not-Down c.pass_top.ensures
 
 pub returns-in-Down : goal.returns-in-Down
 returns-in-Down g c =

@@ -1,10 +1,10 @@
-use Rattle.std.proofs.Common.{◌≡◌, ◌+◌, ◌-◌, ◌<◌, ◌≤◌, List, [], ◌∷◌, ◌++◌, take, length, get_or, refl, sym, ◌∙◌, ap, arith}
+use Rattle.std.proofs.Common.{◌≡◌, ℕ, ◌^◌, ◌+◌, ◌-◌, ◌<◌, ◌≤◌, List, [], ◌∷◌, ◌++◌, take, length, get_or, refl, sym, ◌∙◌, ap, subst, arith}
 use Rattle.std.proofs.Math.ListN.{set, length-set}
-use Rattle.std.proofs.lemmas.{List.length-append, List.length-take, List.Sums.sum_by_push}
+use Rattle.std.proofs.lemmas.{Option.none-some, List.length-append, List.length-take, List.Sums.sum_by_push}
 use Rattle.std.specs.List.{sum_by}
 use Rattle.fb_verify.specs.declared.scratch.Frame.{Frame}
 use Rattle.fb_verify.specs.Stack.{blank, IsWalking, work, frame_work}
-use Rattle.fb_verify.proofs.{Frames.if_err_exit, Walking.table_closed}
+use Rattle.fb_verify.proofs.{Frames.if_err_exit, Turning.went_over, Walking.table_closed}
 use Rattle.fb_verify.proofs.Stacks.{last_is, top_is, below_joined, grown_joined, top_joined, next_joined}
 use Rattle.fb_verify.proofs.stack.Walk.turn_by_units.Goals.{Else-waiting-eq0, Joined-top-eq0, After-pass_children, then-top-eq0+in-Ok+else-not-leads, else-top-eq0}
 use Rattle.fb_verify.proofs.stack.Walk.turn_by_units.Goals as goal
@@ -105,3 +105,47 @@ pub returns-in-Err-clause-err : goal.returns-in-Err-clause-err
 returns-in-Err-clause-err g c =
     let waits = below_joined c.args.frames.now c.split_at_mut-low.result.0.now c.split_at_mut-low.result.1.now c.args.waiting c.pass_each.new.top c.split_at_mut-low.ensures.value c.split_at_mut-low.ensures.front_len c.split_at_mut-low.result.1.now blank in
     rw (c.halt.ensures, waits, sym c.requires.0) c.in-Err.ensures.err
+
+-- On numbers.
+
+few_of : (a b : ℕ) → a + b ≤ 2 ^ 95 → a < 2 ^ 96
+few_of a b h = omega arith
+
+as_it_was : (n : ℕ) → n ≤ n
+as_it_was n = omega arith
+
+on_from : {a b d : ℕ} → a ≤ b → b ≤ d → a ≤ d
+on_from x y = omega arith
+
+pub pass_each-requires : goal.pass_each-requires
+pass_each-requires g c =
+    let s = c.split_at_mut-low.ensures in
+    let top = top_is c.args.frames.now c.split_at_mut-low.result.0.now c.split_at_mut-low.result.1.now c.args.waiting blank s.value s.front_len blank in
+    (record { walking = subst (λ (x : Frame). IsWalking c.args.self.now c.args.loan.now (g.under).start (g.under).frames x) (sym top) c.requires.1.0; rests = c.if-top-eq0.true }, few_of _ _ c.requires.1.1.1)
+
+pub returns-then-waiting-eq0-clause-over : goal.returns-then-waiting-eq0-clause-over
+returns-then-waiting-eq0-clause-over g c _ =
+    let e = c.in-Ok.ensures in
+    let none = c.if-not-leads.true in
+    went_over g.under c.pass_each.new.top refl e.walking (c.requires.0 ∙ rw c.if-waiting-eq0.true refl) (e.rests none) (e.all none) e.bytes
+
+pub returns-then-not-leads-clause-over : goal.returns-then-not-leads-clause-over
+returns-then-not-leads-clause-over g c e = absurd (none-some _ (sym e))
+
+pub returns-then-branch-clause-over : goal.returns-then-branch-clause-over
+returns-then-branch-clause-over g c e = absurd (none-some _ (sym e))
+
+pub returns-clause-over : goal.returns-clause-over
+returns-clause-over g c e = absurd (none-some _ (sym e))
+
+grew : (g : _) (c : Joined-top-eq0 g) → c.args.loan.now.count ≤ c.if-top-eq0.loan.count
+grew g c = elim c.if-top-eq0.branch [
+  | then-top-eq0+in-Ok+else-not-leads w ↦ rw w.loan-is w.in-Ok.ensures.grows
+  | else-top-eq0 w ↦ rw w.loan-is (as_it_was c.args.loan.now.count)
+]
+
+pub returns-then-branch-clause-grows : goal.returns-then-branch-clause-grows
+returns-then-branch-clause-grows g c = on_from (grew g (goal.at.returns-then-branch-clause-grows g c).Joined-top-eq0) c.in_ok-pass_children.ensures.grows
+
+pub returns-clause-grows : goal.returns-clause-grows
+returns-clause-grows g c = on_from (grew g (goal.at.returns-clause-grows g c).Joined-top-eq0) c.in_ok-pass_children.ensures.grows

@@ -1,23 +1,26 @@
-use Rattle.std.proofs.Common.{◌≡◌, ℕ, ◌+◌, ◌<◌, ◌≤◌, List, take, get_or, ◌∙◌, ap, arith}
+use Rattle.std.proofs.Common.{◌≡◌, ℕ, ◌+◌, ◌<◌, ◌≤◌, List, take, get_or, refl, sym, ◌∙◌, ap, subst, arith}
 use Rattle.fb_bytes.specs.Word.{Lent}
 use Rattle.fb_verify.specs.declared.{scratch.Frame.Frame, stack.Walk.Walk}
-use Rattle.fb_verify.specs.{Stack.blank, Stack.Origin, Stack.work, Turns.WentOn}
+use Rattle.fb_verify.specs.declared.stack.Turn.{Turn}
+use Rattle.fb_verify.specs.declared.stack.Turn.TheVariants.{Down, Up, Slowly, Halt as Halted}
+use Rattle.fb_verify.specs.{Stack.blank, Stack.Origin, Stack.work, Turns.FramesTurned, Turns.IsBrim, Turns.Walked, Turns.WentOn}
+use Rattle.fb_verify.proofs.Turning.{begins, over_from, wrong_from}
 use Rattle.fb_verify.proofs.stack.Walk.walk_by.Goals as goal
 
 module _ (w now then : Walk) (m been new : Lent) (s : Origin) (old frames past : List Frame) (waiting at left : ℕ)
-    (before : WentOn w now m been s old waiting frames at 0) (turn : WentOn now then been new s frames at past left 1) where
+    (before : WentOn w now m been s old waiting frames at 0) (fewer : ℕ) (turn : WentOn now then been new s frames at past left fewer) where
   schema : now.schema ≡ w.schema
   schema = ap (λ (x : Walk). x.schema) before.same
 
   limits : now.limits ≡ w.limits
   limits = ap (λ (x : Walk). x.limits) before.same
 
-  falls : 1 + new.count + work w.schema.now w.limits (take left past) (get_or past left blank) then.tables ≤ been.count + work w.schema.now w.limits (take at frames) (get_or frames at blank) now.tables
+  falls : fewer + new.count + work w.schema.now w.limits (take left past) (get_or past left blank) then.tables ≤ been.count + work w.schema.now w.limits (take at frames) (get_or frames at blank) now.tables
   falls = rw (schema, limits) at turn.falls
 
   -- a turn leaves less work
-  less : work w.schema.now w.limits (take left past) (get_or past left blank) then.tables < work w.schema.now w.limits (take at frames) (get_or frames at blank) now.tables
-  less = omega (arith, falls, turn.grows)
+  less : 0 < fewer → work w.schema.now w.limits (take left past) (get_or past left blank) then.tables < work w.schema.now w.limits (take at frames) (get_or frames at blank) now.tables
+  less some = omega (arith, falls, turn.grows)
 
   -- and the walk went on by it
   goes_on : WentOn w then m new s old waiting past left 0
@@ -30,17 +33,66 @@ module _ (w now then : Walk) (m been new : Lent) (s : Origin) (old frames past :
     bytes = turn.bytes ∙ before.bytes;
   }
 
+-- it stops, or goes on where it was
+ends_turn : (w now then : Walk) (m been new : Lent) (s : Origin) (old frames past : List Frame) (waiting at : ℕ) → WentOn w now m been s old waiting frames at 0
+    → (turn : Turn) → (turn ≡ Down → ⊥) → (turn ≡ Up → ⊥) → FramesTurned now then been new s frames past at turn → Walked w then m new s old waiting past at turn
+ends_turn w now then m been new s old frames past waiting at before Down down up h = absurd (down refl)
+ends_turn w now then m been new s old frames past waiting at before Up down up h = absurd (up refl)
+ends_turn w now then m been new s old frames past waiting at before Slowly down up h = goes_on w now then m been new s old frames past waiting at at before 0 h
+ends_turn w now then m been new s old frames past waiting at before Halted down up h = wrong_from w now then m been new s now.tables now.deepest before.same before.bytes past h
+
+one : 0 < 1
+one = omega arith
+
 pub loop-has_below-smaller : goal.loop-has_below-smaller
 loop-has_below-smaller g c =
     let up = c.in-Up.ensures.above (omega (arith, c.if-at-eq0.false)) in
-    less _ _ _ _ _ _ _ _ _ _ _ _ _ c.loop-has_below.invariant.on up.0
+    less _ _ _ _ _ _ _ _ _ _ _ _ _ c.loop-has_below.invariant.on 1 up.0 one
 
 pub loop-has_below-preserved : goal.loop-has_below-preserved
 loop-has_below-preserved g c =
     let up = c.in-Up.ensures.above (omega (arith, c.if-at-eq0.false)) in
     record {
-      on = goes_on _ _ _ _ _ _ _ _ _ _ _ _ _ c.loop-has_below.invariant.on up.0;
+      on = goes_on _ _ _ _ _ _ _ _ _ _ _ _ _ c.loop-has_below.invariant.on 1 up.0;
       short = up.1;
       below = λ more. omega (arith, c.loop-has_below.invariant.below more, c.turn.auto.frames);
       length = c.turn.auto.frames ∙ c.loop-has_below.invariant.length;
     }
+
+pub loop-has_below-init : goal.loop-has_below-init
+loop-has_below-init g c = record {
+  on = begins c.args.self.now c.args.self.now c.args.reads.now c.args.reads.now g.start c.args.frames.now c.args.waiting.now c.requires.0 c.requires.1.0;
+  short = c.requires.1.1.0;
+  below = λ more. rw c.depth-depth.ensures.value at (c.has_frame_below-has_below.ensures more);
+  length = refl;
+}
+
+pub turn-requires : goal.turn-requires
+turn-requires g c =
+    let i = c.loop-has_below.invariant in
+    let checks = ap (λ (x : Walk). x.checks) i.on.same in
+    let depth = ap (λ (x : Walk). (x.limits).depth) i.on.same in (
+      refl,
+      (i.on.walking, (rw depth (i.below c.loop-has_below-test.true), (i.on.top, (i.short, (subst (λ (x : Walk). IsBrim x c.brim-brim.result) (sym i.on.same) c.brim-brim.ensures, c.requires.1.1.1 ∙ sym checks))))),
+    )
+
+pub loop-has_below-smaller-in-Down : goal.loop-has_below-smaller-in-Down
+loop-has_below-smaller-in-Down g c = less _ _ _ _ _ _ _ _ _ _ _ _ _ c.loop-has_below.invariant.on 1 c.in-Down.ensures.0 one
+
+pub loop-has_below-preserved-in-Down : goal.loop-has_below-preserved-in-Down
+loop-has_below-preserved-in-Down g c = record {
+  on = goes_on _ _ _ _ _ _ _ _ _ _ _ _ _ c.loop-has_below.invariant.on 1 c.in-Down.ensures.0;
+  short = c.in-Down.ensures.1;
+  below = λ more. rw c.depth-depth.ensures.value at (c.has_frame_below-has_below-in-Down.ensures more);
+  length = c.turn.auto.frames ∙ c.loop-has_below.invariant.length;
+}
+
+pub returns-then-at-eq0-clause-goes : goal.returns-then-at-eq0-clause-goes
+returns-then-at-eq0-clause-goes g c =
+    let i = c.loop-has_below.invariant.on in
+    over_from c.args.self.now c.loop-has_below.self c.turn.new.self c.args.reads.now c.loop-has_below.reads c.turn.new.reads g.start _ _ i.same i.bytes (c.in-Up.ensures.over c.if-at-eq0.true)
+
+pub returns-in_default-clause-goes : goal.returns-in_default-clause-goes
+returns-in_default-clause-goes g c =
+    ends_turn c.args.self.now c.loop-has_below.self c.turn.new.self c.args.reads.now c.loop-has_below.reads c.turn.new.reads g.start c.args.frames.now c.loop-has_below.frames c.turn.new.frames c.args.waiting.now c.loop-has_below.at
+    c.loop-has_below.invariant.on c.turn.result c.in_default.not-Down c.in_default.not-Up c.turn.ensures

@@ -1,0 +1,77 @@
+use Rattle.std.proofs.Common.{◌≡◌, ℕ, ◌<◌, ◌≤◌, refl, sym, ◌∙◌, ap, subst, arith}
+use Rattle.fb_bytes.specs.Word.{Lent}
+use Rattle.fb_schema.specs.declared.targets.Targets.{Targets}
+use Rattle.fb_schema.specs.Rows.{Rows}
+use Rattle.fb_rules.specs.declared.{table.Child.Child, offset_row.Leads.Leads, offset_row.Row.Row}
+use Rattle.fb_rules.specs.declared.offset_row.Leads.TheVariants.{All, ByType}
+use Rattle.fb_rules.specs.OffsetRows.{AreTargetsOf, leads_after, past_first}
+use Rattle.fb_verify.specs.declared.{scratch.Frame.Frame, stack.Turn.Turn, stack.Walk.Walk}
+use Rattle.fb_verify.specs.declared.stack.Turn.TheVariants.{Down, Up, Slowly, Halt as Halted}
+use Rattle.fb_verify.specs.Stack.{Waiting}
+use Rattle.fb_verify.specs.Turns.{GoesOn, MemberTurned, RowTurned}
+use Rattle.fb_verify.proofs.{RowTurns.stays, Turning.goes_on, Turning.goes_down, Turning.halts_on}
+use Rattle.fb_verify.proofs.stack.Walk.pass_members.Goals as goal
+
+grown : {a b c : ℕ} → a ≤ b → b ≤ c → a ≤ c
+grown x y = omega arith
+
+fewer_left : (row past : Row) → past ≡ past_first row → 0 < row.left → past.left < row.left
+fewer_left row past same more = omega (arith, ap (λ (x : Row). x.left) same)
+
+targets_after : (S : Rows) (targets : Targets) (leads : Leads) → AreTargetsOf S targets leads → AreTargetsOf S targets (leads_after leads)
+targets_after S targets (All referent) h = h
+targets_after S targets (ByType union types) h = h
+
+-- a turn past a word, from where the walk came to before
+module _ (w mid then : Walk) (m been new : Lent) (under : Waiting) (top t past : Frame) (row left : Row) (on : GoesOn w mid m been under top (record t { row = row })) where
+  word_turned : (child : Child) (turn : Turn) → (turn ≡ Up → ⊥) → MemberTurned mid then been new under t past row left child turn → RowTurned w then m new under top past child turn
+  word_turned child Down up h = goes_down w mid then m been new under on.same on.bytes on.table on.falls (grown on.grows h.grows) h
+  word_turned child Up up h = absurd (up refl)
+  word_turned child Slowly up h = absurd h
+  word_turned child Halted up h = halts_on w mid then m been new under on.same on.bytes h
+
+pub loop-targets-init : goal.loop-targets-init
+loop-targets-init g c =
+    let w = c.args.self.now in
+    let m = c.args.reads.now in
+    let top = c.args.top.now in
+    let row = (c.requires.0).row in
+    record {
+      on = subst (λ (x : Leads). GoesOn w w m m g.under top (record top { row = record top.row { leads = x } })) c.requires.1.0 (stays w m g.under top row.walking row.short);
+      next = refl;
+      targets = c.targets_of-targets.ensures;
+    }
+
+pub pass_member-requires : goal.pass_member-requires
+pass_member-requires g c =
+    let i = c.loop-targets.invariant in
+    let has = c.has_member.ensures in
+    let test = c.loop-targets-test.true in
+    let limits = ap (λ (x : Walk). x.limits) (i.on).same in (
+      record {
+        in-row = record { many = ((c.requires.0).row).many; walking = (i.on).walking; more = has.more test; short = (i.on).short };
+        limits = record { deep = rw limits (c.requires.0).deep; low = (c.requires.0).low; fewer = has.fewer test; small = has.small test };
+        few = has.room test;
+        allowed = rw limits c.short_of-room.ensures.allowed;
+        short = c.short_of-room.ensures.short;
+      },
+      (rw (ap (λ (x : Walk). x.schema) (i.on).same) i.targets, c.requires.1.1 ∙ sym (ap (λ (x : Walk). x.checks) (i.on).same)),
+    )
+
+pub loop-targets-smaller : goal.loop-targets-smaller
+loop-targets-smaller g c = fewer_left _ _ c.in-Up.ensures.word (c.has_member.ensures.more c.loop-targets-test.true)
+
+pub loop-targets-preserved : goal.loop-targets-preserved
+loop-targets-preserved g c =
+    let i = c.loop-targets.invariant in
+    let e = c.in-Up.ensures in
+    record {
+      on = rw e.same (goes_on c.args.self.now c.loop-targets.self c.pass_member.new.self c.args.reads.now c.loop-targets.reads c.pass_member.new.reads g.under (i.on).same (i.on).bytes (i.on).table (i.on).falls (grown (i.on).grows (e.on).grows) e.on);
+      next = ap (λ (x : Frame). x.next) e.same ∙ i.next;
+      targets = rw e.word (targets_after c.args.self.now.schema.now c.targets_of-targets.result c.loop-targets.row.leads i.targets);
+    }
+
+pub returns-in_default : goal.returns-in_default
+returns-in_default g c =
+    word_turned c.args.self.now c.loop-targets.self c.pass_member.new.self c.args.reads.now c.loop-targets.reads c.pass_member.new.reads g.under c.args.top.now c.loop-targets.top c.pass_member.new.top c.loop-targets.row c.pass_member.new.row
+    c.loop-targets.invariant.on c.pass_member.new.child c.pass_member.result c.in_default.not-Up c.pass_member.ensures
