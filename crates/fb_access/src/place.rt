@@ -3,8 +3,8 @@
 ghost use Rattle.std.specs.Prelude.{◌≡◌, ℕ, ◌+◌, ◌*◌, ◌≤◌, length, IfSome, IsTrue};
 ghost use Rattle.fb_schema.specs.declared.kinds.Kind.TheVariants.{Table as TableKind, Tables};
 ghost use Rattle.fb_rules.specs.WellFormed.{base};
-ghost use Rattle.fb_access.specs.{Fitting.StepsFit, Extents.extent};
-ghost use Rattle.fb_access.specs.Denotes.{Leads, allows, root_spot, Denotes, value, shown, vector};
+ghost use Rattle.fb_access.specs.{Fitting.StepsFit, Extents.extent, Held.IsSpot};
+ghost use Rattle.fb_access.specs.Denotes.{Leads, allows, next_spot, root_spot, Denotes, value, shown, vector};
 ghost use Rattle.fb_access.specs.Here.{KindsGoOn, HereGoesOn, IsNarrow, IsHere};
 
 use crate::answer::Answer;
@@ -59,14 +59,46 @@ pub fn at_root<'v, 'b, 's, 'n>(verified: &'v Verified<'b, 's, 'n>) -> Place<'v, 
     }
 }
 
+/// The spot to which a step leads from this one, none where it isn't allowed.
+#[inline(always)]
+fn next_of(verified: &Verified<'_, '_, '_>, spot: Spot, step: Step) -> Option<Spot>
+    requires { IsSpot (verified.now).bytes (verified.now).schema spot }
+    ensures value { result ≡ next_spot (verified.now).bytes (verified.now).schema spot step }
+    ensures spot { IfSome result (λ q. IsSpot (verified.now).bytes (verified.now).schema q) }
+    ensures here { IfSome result (λ q. HereGoesOn (verified.now).schema spot step q) }
+{
+    let schema = verified.schema();
+    schema.lawful();
+    next_spot(verified.window(), schema, spot, step)
+}
+
+/// What is at a spot.
+#[inline(always)]
+fn value_of<'b>(verified: &Verified<'b, '_, '_>, spot: Spot) -> Answer<'b>
+    requires { IsSpot (verified.now).bytes (verified.now).schema spot }
+    ensures shown { shown result ≡ value (verified.now).bytes (verified.now).schema spot }
+    ensures narrow { IsNarrow spot result }
+{
+    value_at(verified.window(), verified.schema(), spot)
+}
+
+/// Where the bytes of what is at a spot stand.
+#[inline(always)]
+fn extent_of(verified: &Verified<'_, '_, '_>, spot: Spot) -> Option<Extent>
+    requires { IsSpot (verified.now).bytes (verified.now).schema spot }
+    ensures value { result ≡ extent (verified.now).bytes (verified.now).schema spot }
+    ensures within { IfSome result (λ e. e.at + e.size ≤ length (verified.now).bytes) }
+{
+    extent_at(verified.window(), verified.schema(), spot)
+}
+
 impl<'v, 'b, 's, 'n> Place<'v, 'b, 's, 'n> {
     /// Whether what is here has this step: a table its live fields, a vector every element's number, a union the
     /// members of its enum. Where nothing is, every step is allowed.
     pub fn allows(&self, step: Step) -> bool
         ensures { result ≡ allows ((self.now).sealed).schema (self.now).spot step }
     {
-        let verified = self.verified;
-        next_spot(verified.window(), verified.schema(), self.spot, step).is_some()
+        next_of(self.verified, self.spot, step).is_some()
     }
 
     /// One step on. An absent field without a default, an element past the count and a member of another type lead to
@@ -81,8 +113,7 @@ impl<'v, 'b, 's, 'n> Place<'v, 'b, 's, 'n> {
         ensures here { HereGoesOn ((self.now).sealed).schema (self.now).spot step result.spot }
     {
         let verified = self.verified;
-        verified.schema().lawful();
-        match next_spot(verified.window(), verified.schema(), self.spot, step) {
+        match next_of(verified, self.spot, step) {
             Some(spot) => Place { verified, spot },
             None => unreachable!(),
         }
@@ -96,8 +127,7 @@ impl<'v, 'b, 's, 'n> Place<'v, 'b, 's, 'n> {
         // There are no more tables in a vector than their offset words have room.
         ensures tables { (k n : ℕ) → IsHere (self.now).spot (Tables k) → shown result ≡ vector n → 4 * n ≤ length ((self.now).sealed).bytes }
     {
-        let verified = self.verified;
-        value_at(verified.window(), verified.schema(), self.spot)
+        value_of(self.verified, self.spot)
     }
 
     /// Where the bytes of what is here stand in the buffer: of a float, a string, a struct, and of the elements of a
@@ -106,8 +136,7 @@ impl<'v, 'b, 's, 'n> Place<'v, 'b, 's, 'n> {
         ensures value { result ≡ extent ((self.now).sealed).bytes ((self.now).sealed).schema (self.now).spot }
         ensures within { IfSome result (λ e. e.at + e.size ≤ length ((self.now).sealed).bytes) }
     {
-        let verified = self.verified;
-        extent_at(verified.window(), verified.schema(), self.spot)
+        extent_of(self.verified, self.spot)
     }
 }
 

@@ -1,5 +1,5 @@
 -- From what was read to what is answered.
-use Rattle.std.proofs.Common.{◌≡◌, ℕ, List, length, Option, Some, None, option_map, IfSome, true, false, refl, sym, ◌∙◌, ap, subst, inl, inr}
+use Rattle.std.proofs.Common.{◌≡◌, ℕ, List, length, Option, Some, None, option_map, is_some, IfSome, MatchOption, true, false, refl, sym, ◌∙◌, ap, subst, inl, inr}
 use Rattle.std.specs.Option.{IsSome}
 use Rattle.fb_schema.specs.declared.{fault.Code.Code, fault.Code.TheVariants.OutOfMemory as NoMemory, fault.SchemaFault.SchemaFault}
 use Rattle.fb_schema.specs.{Rows.Rows, Demands.Refuses}
@@ -7,7 +7,7 @@ use Rattle.fb_rules.specs.declared.start.Start.TheVariants.{Bare}
 use Rattle.fb_rules.specs.Bounds.{Bounds}
 use Rattle.fb_verify.specs.Sealed.{Sealed}
 use Rattle.fb_access.specs.Denotes.{Denotes}
-use Rattle.fb_bfbs.specs.{Fixed.fixed, Says.Says, Describes.Describes, Sums.IsPaid, Sums.ArePaid}
+use Rattle.fb_bfbs.specs.{Fixed.fixed, Says.Says, Describes.Describes, Sums.IsPaid, Sums.ArePaid, Sums.IsOver}
 use Rattle.fb_bfbs.specs.Loads.{ArePaidFor, IsSchemaFile, IsLoadFault, build_fault, schema_number, told}
 use Rattle.fb_bfbs.proofs.{Counts.paid_rows, OneLoad.file_is_single}
 
@@ -25,7 +25,7 @@ module _ (b : List ℕ) (L : Bounds) (v : Sealed) (same : v.bytes ≡ b) (by_fix
   abbrev said : Says
   said = Denotes v.bytes v.schema v.start v.root
 
-  told_too : (P : Says → Type 0) → P said → P (told b)
+  pub told_too : (P : Says → Type 0) → P said → P (told b)
   told_too P p = rw (same, by_fixed, bare, root) at p
 
   pub paid_for : (rows : Rows) (n : ℕ) (paying : Option ℕ) → n ≡ length b → paying ≡ option_map (λ _. n) L.reads → Describes said rows → IfSome paying (ArePaid said rows) → ArePaidFor b L rows
@@ -36,3 +36,13 @@ module _ (b : List ℕ) (L : Bounds) (v : Sealed) (same : v.bytes ≡ b) (by_fix
         let pays : paying ≡ Some (length b) = is ∙ ap (option_map (λ _. n)) e ∙ ap Some len in
         let p : ArePaid said rows (length b) = subst (λ (o : Option ℕ). IfSome o (ArePaid said rows)) pays paid in
         paid_rows (told b) rows (length b) (file_is_single b) (told_too (λ D. Describes D rows) described) (told_too (λ D. ArePaid D rows (length b)) p)
+
+  -- rows that were not paid for are more than the file's length pays for
+  pub over_of : (n : ℕ) (paying : Option ℕ) → n ≡ length b → paying ≡ option_map (λ _. n) L.reads → MatchOption paying ⊥ (IsOver said) → IsSome L.reads × IsOver (told b) (length b)
+  over_of n paying len is over = go L.reads refl where
+    go : (o : Option ℕ) → L.reads ≡ o → IsSome L.reads × IsOver (told b) (length b)
+    go None e = absurd (subst (λ (p : Option ℕ). MatchOption p ⊥ (IsOver said)) (is ∙ ap (option_map (λ _. n)) e) over)
+    go (Some m) e = (
+      ap is_some e,
+      told_too (λ D. IsOver D (length b)) (subst (λ (p : Option ℕ). MatchOption p ⊥ (IsOver said)) (is ∙ ap (option_map (λ _. n)) e ∙ ap Some len) over),
+    )

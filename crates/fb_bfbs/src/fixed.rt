@@ -1,33 +1,30 @@
 // The fixed table as a schema.
 
 ghost use Rattle.std.specs.Prelude.{◌≡◌, map, IfOk};
-ghost use Rattle.fb_schema.specs.Rows.{object_of};
+ghost use Rattle.fb_schema.specs.{Rows.field_of, Rows.object_of, Builders.plain_table};
 ghost use Rattle.fb_bfbs.specs.Fixed.{fixed};
 
-use crate::tables::{
-    call_table, enum_table, enum_val_table, field_table, file_table, key_value_table, object_table,
-    schema_table, service_table, type_table,
-};
+use crate::tables::{TABLES, Table};
+use fb_schema::builders::table;
 use fb_schema::{Code, ObjectRow, Schema};
 use std::alloc::{AllocError, Global};
 
+/// These tables.
+fn made(alloc: Global, tables: &[Table]) -> Result<Vec<ObjectRow<'static>>, AllocError>
+    ensures { IfOk result (λ v. map object_of v.items ≡ map (λ t. plain_table t.0.now (map field_of t.1.now)) tables.now) }
+{
+    let mut rows = Vec::with_capacity(alloc, tables.len())?;
+    for &(name, fields) in tables {
+        rows.push(table(alloc, name, fields)?)?;
+    }
+    Ok(rows)
+}
+
 /// The ten tables in the order of their numbers.
-#[tactic(auto, unfolding(crate::specs::Fixed::fixed))]
 pub fn objects(alloc: Global) -> Result<Vec<ObjectRow<'static>>, AllocError>
     ensures { IfOk result (λ v. map object_of v.items ≡ fixed.objects) }
 {
-    Ok(vec![in alloc;
-        type_table(alloc)?,
-        key_value_table(alloc)?,
-        enum_val_table(alloc)?,
-        enum_table(alloc)?,
-        field_table(alloc)?,
-        object_table(alloc)?,
-        call_table(alloc)?,
-        service_table(alloc)?,
-        file_table(alloc)?,
-        schema_table(alloc)?,
-    ]?)
+    made(alloc, &TABLES)
 }
 
 /// The fixed table: what a schema file (`.bfbs`) is verified and read by.

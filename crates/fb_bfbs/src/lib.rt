@@ -10,7 +10,6 @@ mod lists;
 mod load_fault;
 pub mod load_laws;
 mod loading;
-mod rows;
 mod tables;
 mod taking;
 mod values;

@@ -1,7 +1,9 @@
 pub mod AnswerLemmas
+pub mod BegunLemmas
 pub mod FaultNames
 pub mod FitLemmas
 pub mod FramerLemmas
+pub mod HandleLemmas
 pub mod MemberLemmas
 pub mod NameLemmas
 pub mod Owned

@@ -6,6 +6,7 @@ use Rattle.fb_access.specs.Location.{location_text}
 use Rattle.fb_bfbs.specs.declared.loading.Loaded.{Loaded}
 use Rattle.fbcheck_calls.specs.declared.{answer.Answer.TheVariants.Bad, checking.Begun.Begun, options.Options.Options}
 use Rattle.fbcheck_calls.specs.{Answered.Begins, Answered.IsBadFrom, Answered.Serves, Asked.checks_asked, Asked.ident_asked, Asked.start_asked}
+use Rattle.fbcheck_calls.proofs.BegunLemmas.{serve}
 use Rattle.fbcheck_calls.specs.Placed.{IsLocated, IsPlaceTold, IsTextTold}
 
 -- what a check asks once it has begun
@@ -13,22 +14,16 @@ abbrev pub question_begun : Loaded → Options → Begun → Question
 question_begun l o begun = question l.schema begun.root (start_asked o) begun.ident begun.limits (checks_asked o)
 
 module _ (l : Loaded) (n : ℕ) (o : Options) (b : List ℕ) (begun : Begun) (begins : Begins l n o (length b) begun) where
-  -- what holds of the root and the identifier with which a check begins
-  serve : (P : ℕ → Ident → Type 0) → P begun.root begun.ident → Serves l n o P
-  serve P h =
-      let inner : IsSomeAnd (ident_asked l o) (P begun.root) = subst (λ v. IsSomeAnd v (P begun.root)) (sym begins.ident_is) h in
-      (begins.has, subst (λ v. IsSomeAnd v (λ r. IsSomeAnd (ident_asked l o) (P r))) (sym begins.root_is) inner)
-
   module _ (f : Fault) (links : List Link)
       (none : HasNone (question_begun l o begun) b)
       (stops : Stops (question_begun l o begun) b f)
       (along : StopsAlong (question_begun l o begun) b f links)
       (room room' : List ℕ) (told told' : ℕ) where
     is_bad : Serves l n o (IsBadFrom l o b f)
-    is_bad = serve (IsBadFrom l o b f) (record { none = rw begins.limits_are at none; stops = rw begins.limits_are at stops })
+    is_bad = serve l n o b begun begins (IsBadFrom l o b f) (record { none = rw begins.limits_are at none; stops = rw begins.limits_are at stops })
 
     pub located : length b < 2 ^ 31 → IsTextTold (location_text l.schema f links) room room' told' → IsLocated l n o b room room' told told' (Bad f)
-    located short w = ((short, is_bad), serve (IsPlaceTold l o b f room room' told') (links, (rw begins.limits_are at along), w))
+    located short w = ((short, is_bad), serve l n o b begun begins (IsPlaceTold l o b f room room' told') (links, (rw begins.limits_are at along), w))
 
   -- the same where the check was asked by these, which are what the options ask
   pub located_met : (start : Start) (checks : Checks) (bytes : List ℕ) (f : Fault) (links : List Link) → start ≡ start_asked o → checks ≡ checks_asked o → bytes ≡ b

@@ -1,9 +1,6 @@
 use Rattle.std.proofs.Common.{◌∙◌, ap, is_some}
-use Rattle.fb_access.specs.Denotes.{allows}
 use Rattle.fb_access.proofs.StepKinds.{leads_where_allowed}
 use Rattle.fb_access.proofs.place.Place.allows.Goals as goal
 
 pub returns : goal.returns
-returns c =
-    rw (← c.self.view_is)
-    (c.is_some.ensures ∙ ap is_some c.next_spot.ensures.value ∙ leads_where_allowed _ _ _ _ ∙ ap (λ S. allows S c.self.inside.spot c.args.step) c.schema.ensures.value)
+returns c = rw (← c.self.view_is) (c.is_some.ensures ∙ ap is_some c.next_of.ensures.value ∙ leads_where_allowed _ _ _ _)

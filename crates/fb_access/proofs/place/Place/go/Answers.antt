@@ -1,18 +1,13 @@
 use Rattle.std.proofs.Common.{sym}
-use Rattle.fb_access.proofs.{StepKinds.allowed_leads, StepKinds.kinds_go_on, Sure.here_goes_on}
+use Rattle.fb_access.proofs.StepKinds.{allowed_leads, kinds_go_on}
 use Rattle.fb_access.proofs.place.Place.go.Goals as goal
 
 pub unreachable-requires : goal.unreachable-requires
 unreachable-requires c =
-    let l = rw (c.window.ensures.value, c.schema-2.ensures.value, c.in-None.is) at c.next_spot.ensures.value in
+    let l = rw c.in-None.is at c.next_of.ensures.value in
     allowed_leads _ _ _ _ (rw (← c.self.view_is) at c.requires) (sym l)
 
 pub returns-clause-kinds : goal.returns-clause-kinds
 returns-clause-kinds c =
-    let l = rw (c.window.ensures.value, c.schema-2.ensures.value, c.in-Some.is) at c.next_spot.ensures.value in
+    let l = rw c.in-Some.is at c.next_of.ensures.value in
     rw (← c.self.view_is) (kinds_go_on _ _ _ _ _ (sym l))
-
-pub returns-clause-here : goal.returns-clause-here
-returns-clause-here c =
-    let l = rw (c.window.ensures.value, c.schema-2.ensures.value, c.in-Some.is) at c.next_spot.ensures.value in
-    rw (← c.self.view_is) (here_goes_on _ _ _ _ _ (rw c.schema.ensures.value at c.lawful.ensures.served) c.self.invariant.spot (sym l))
