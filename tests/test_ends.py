@@ -6,7 +6,7 @@ from tests.support.builder import spelled
 from tests.support.cases import Case
 from tests.support.preloaded import counted, narrowed
 from tests.support.program import (
-    NO_BYTES, Ran, bad, failed, fieldless, good, lines, overlong, oversize, rootless, run, schemaless,
+    NO_BYTES, Ran, astray, bad, failed, fieldless, good, lines, overlong, oversize, rootless, run, schemaless,
 )
 
 FILES = schemas.files()
@@ -21,6 +21,10 @@ class Ends(Case):
         for most in range(1, len(stream) + 1):
             want = good(*SEVENS), -(-len(stream) // most) + 1
             self.same(f"a stream by {most}", counted(*BY_N, given=stream, read=most, write=1), want)
+            limited = narrowed(*BY_N, "--max-bytes", "32", given=stream, read=most)
+            self.same(f"a stream of the longest messages by {most}", limited, want[0])
+            limited = narrowed(*BY_N, "--max-bytes", "31", given=stream, read=most)
+            self.same(f"a byte past the limit, by {most}", limited, failed(astray("stream: S1 Oversize declared=28")))
         for most in range(1, len(ORC) + 1):
             want = good("1 ok tables=1 depth=1 reads=8"), -(-len(ORC) // most) + 1
             self.same(f"a bare input by {most}", counted(*BY_M, given=ORC, read=most, write=1), want)
@@ -72,3 +76,17 @@ class Ends(Case):
                 for limits in [{"read": 1}, {"write": 1}, {"read": 1, "write": 1, "full": 1}]:
                     self.same(f"{name}, {room} bytes, {limits}", narrowed(*words, given=given, room=room, **limits),
                               told)
+
+    def test_writes_that_fail_once(self):
+        """Byte by byte: the write with this number fails, and is the last."""
+        stream, no = SEVEN + SEVEN, bad("1 bad V4 ZeroOffset at=0 object=0 field=- reads=1")
+        for name, words, given, whole in [
+            ("the lines", BY_N, stream, good(*SEVENS)),
+            ("a bare input's no", BY_M, bytes(8), no),
+            ("the messages of a filter", (*BY_N, "--filter"), stream, Ran(0, stream, b"")),
+        ]:
+            for stops in range(1, len(whole.out) + 1):
+                self.same(f"{name}, write {stops}", narrowed(*words, given=given, write=1, stops=stops),
+                          Ran(3, whole.out[:stops - 1], lines(f"fbcheck: write failed after {stops - 1} bytes")))
+            self.same(f"{name}, a write behind the last",
+                      narrowed(*words, given=given, write=1, stops=len(whole.out) + 1), whole)

@@ -142,6 +142,13 @@ class Filter(Case):
             self.same("the second can't be written", (talk.run.stderr.read(), talk.run.wait(SECONDS)),
                       (b"fbcheck: write failed after 32 bytes: broken pipe\n", 3))
         with Talk(*BY_N) as talk:
+            talk.say(ODD)
+            self.same("the first note comes", talk.run.stderr.readline(), lines(odd(1)))
+            talk.run.stderr.close()
+            talk.run.stdin.write(SEVEN + NOTHING)
+            talk.run.stdin.close()
+            self.same("the second can't be written", (talk.run.stdout.read(), talk.run.wait(SECONDS)), (SEVEN, 3))
+        with Talk(*BY_N) as talk:
             talk.run.stderr.close()
             talk.run.stdin.write(SEVEN + ODD + SEVEN)
             talk.run.stdin.close()

@@ -213,6 +213,8 @@ class Names(Case):
             ("one of unions", tree(**of_types((3, "a"), (3, ENDLESS))), "V10", "anys[1]@Text [zoo.Tree.anys]", ()),
             ("one of unions, of type 0", tree(**of_types((0, None), (1, HEADLESS))), "V8", "anys[1]@Leaf [zoo.Leaf]",
              ()),
+            ("a field of one of many unions", tree(**of_types(*[(0, None)] * 10, (1, leaf))), "V10",
+             "anys[10]@Leaf.t [zoo.Leaf.t]", ()),
             ("a field of one of unions", tree(**of_types((9, None), (1, leaf))), "V10", "anys[1]@Leaf.t [zoo.Leaf.t]",
              ()),
             ("one of unions without offset", tree(**of_types((1, None))), "V4", "anys[0]@Leaf [zoo.Tree.anys]", ()),
@@ -268,7 +270,7 @@ class Names(Case):
     def test_names_of_any_bytes(self):
         """No name of a schema begins a line, or looks like the end of a place."""
         strange = "x [y]\n2 ok"
-        plain = bytes(range(1, 256))
+        plain = bytes(range(256))
         known = bytes(c if chr(c).isascii() and (chr(c).isalnum() or chr(c) in "_.") else 63 for c in plain)
         for name, table_name, field_name, want in [
             ("a name of lines", "a.b\n3 ok", strange, b"x??y??2?ok [a.b?3?ok.x??y??2?ok]"),
@@ -365,6 +367,8 @@ class Names(Case):
             told = f"in . [{name}]" if length <= 4_096 else f"in . [{name}"[:4_096] + ".."
             ran = run("--schema", path, "--names", given=NOTHING)
             self.same(f"a place of {length} bytes", ran, bad(f"1 {NO[NOTHING].partition(' in ')[0]} {told}"))
+            most = refusing([PROGRAM, "--schema", path, "--names"], NOTHING).most
+            self.holds(f"a place of {length} bytes takes no more than twice its line", most <= 2 * len(ran.out), most)
 
     def test_places_of_many_steps(self):
         """A place is as long as its names and the depth make it, up to 4,096 bytes."""

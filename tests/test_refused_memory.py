@@ -3,8 +3,9 @@ tells its own want of memory and nothing else."""
 
 import dataclasses
 
-from tests.support.buffers import POST, levels
-from tests.support.builder import messages_of, prefixed
+from tests.support import schemas
+from tests.support.buffers import POST, SEVEN, levels
+from tests.support.builder import messages_of, prefixed, spelled
 from tests.support.cases import Case
 from tests.support.preloaded import (
     ALONE, WHOLE, WITH_LATER, Plan, is_front, is_front_of_messages, is_nothing, refusing, sweep,
@@ -103,6 +104,28 @@ FILTERS = [
 ]
 
 
+# A run that tells nothing of good messages but their number.
+FRAMED = [PROGRAM, "--schema", schemas.files()["N"], "--quiet", "--summary", "--max-bytes", "64"]
+
+
+def summed(count):
+    """The summary of so many messages of one table and 32 bytes each."""
+    return f"summary: messages={count} yes={count} no=0 bytes={32 * count} tables={count} reads={5 * count}".encode()
+
+
+def asked_by(messages, most):
+    """The messages that ask for memory where one read gives so many bytes: the number of each, and behind how many
+    bytes of the stream."""
+    begin, room, asking = 0, 0, []
+    for number, message in enumerate(messages):
+        end = begin + len(message)
+        if begin // most != (end - 1) // most and len(message) > room:
+            asking.append((number, begin + 4))
+            room = len(message)
+        begin = end
+    return asking
+
+
 class RefusedMemory(Case):
     def test_each_call(self):
         """Each request of `probe calls` over a schema file."""
@@ -170,6 +193,25 @@ class RefusedMemory(Case):
                 later = refusing(quiet, piece, alone.asked + 1, WITH_LATER)
                 self.same(f"{depth} levels, none left", (later.status, later.refused), (status, 0))
 
+    def test_each_request_of_a_framer(self):
+        """A message that comes in several pieces asks once for as many bytes as it has, with the first one behind its
+        prefix, where none before it had as many. Where that is refused, the messages before it are told."""
+        longer = prefixed(SEVEN[4:] + bytes(32))
+        for name, messages in ("of one length", [SEVEN, SEVEN]), ("that grow", [SEVEN, longer]):
+            given = file_of(name, b"".join(messages))
+            for most in range(1, len(b"".join(messages)) + 1):
+                whole, asking = refusing(FRAMED, given, most=most), asked_by(messages, most)
+                self.same(f"messages {name}, by {most}: requests before each read, and the most bytes",
+                          (whole.status, [asked - whole.reads[0] for asked in whole.reads], whole.most),
+                          (0, [sum(at < read * most for _, at in asking) for read, _ in enumerate(whole.reads)],
+                           max([len(messages[number]) for number, _ in asking], default=0)))
+                for place, (number, _) in enumerate(asking):
+                    for extent in ALONE, WITH_LATER:
+                        ran = refusing(FRAMED, given, whole.reads[0] + place + 1, extent, most)
+                        self.same(f"messages {name}, by {most}: message {number} is refused {extent}",
+                                  (ran.status, ran.err.splitlines(), ran.asked),
+                                  (3, [summed(number), b"fbcheck: out of memory"], whole.reads[0] + place + 1))
+
     def test_an_oversize_prefix(self):
         """A prefix that declares too much makes no request: the same requests are made without it."""
         words = [PROGRAM, *LOADED]
@@ -180,3 +222,13 @@ class RefusedMemory(Case):
             told = too_long.status, too_long.err, too_long.out, too_long.asked
             self.same(f"with the prefix, by {most} bytes", told,
                       (3, f"fbcheck: {oversize(4294967295)}\n".encode(), alone.out, alone.asked))
+        for name, messages, prefix in [
+            ("alone", [], b"\xff" * 4), ("a byte past the limit", [], spelled("3d000000 01")),
+            ("behind a message", [SEVEN], b"\xff" * 4),
+        ]:
+            given = file_of("oversize", b"".join(messages) + prefix)
+            for most in range(1, 37):
+                ran = refusing(FRAMED, given, most=most)
+                told = ran.status, ran.err.splitlines()[0], b" S1 " in ran.err, ran.asked - ran.reads[0]
+                self.same(f"{name}, by {most}: requests", told, (3, summed(len(messages)), True,
+                                                                len(asked_by(messages, most))))

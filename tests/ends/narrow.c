@@ -4,6 +4,7 @@
    NARROW_READ     the most bytes that one read gives
    NARROW_FAILS    the number of the read that fails, from 1 on
    NARROW_WRITE    the most bytes that one write takes
+   NARROW_STOPS    the number of the write that fails, from 1 on; later ones don't
    NARROW_ROOM     how many bytes are taken in all; from then on a write fails
    NARROW_FULL     1: such a write doesn't fail, but takes nothing
    NARROW_REPORT   the file to which the number of reads goes at the end
@@ -20,7 +21,7 @@
 
 static ssize_t (*read_on)(int, void *, size_t);
 static ssize_t (*write_on)(int, const void *, size_t);
-static unsigned long most_read, fails, reads, most_written, room;
+static unsigned long most_read, fails, reads, most_written, stops, writes, room;
 static int full;
 
 static unsigned long number_in(const char *name, unsigned long otherwise) {
@@ -36,6 +37,7 @@ __attribute__((constructor)) static void start(void) {
     most_read = number_in("NARROW_READ", ULONG_MAX);
     fails = number_in("NARROW_FAILS", 0);
     most_written = number_in("NARROW_WRITE", ULONG_MAX);
+    stops = number_in("NARROW_STOPS", 0);
     room = number_in("NARROW_ROOM", ULONG_MAX);
     full = number_in("NARROW_FULL", 0) == 1;
 }
@@ -57,7 +59,7 @@ ssize_t read(int from, void *bytes, size_t count) {
 
 ssize_t write(int to, const void *bytes, size_t count) {
     if (to != STDOUT_FILENO) return write_on(to, bytes, count);
-    if (count > 0 && room == 0 && !full) {
+    if (++writes == stops || (count > 0 && room == 0 && !full)) {
         errno = EIO;
         return -1;
     }

@@ -5,7 +5,8 @@
    REFUSE_LATER   1: every later request is refused too
    REFUSE_REPORT  the file that the report goes to: a line `read A N` before each read of up to N bytes of standard
                   input and `write A N` before each write of N bytes to standard output, where A is the number of
-                  requests made so far, and at the end `end A R`, where R is the number of those refused
+                  requests made so far, and at the end `most B 0`, where B is the most bytes that one asked for since
+                  standard input was read first, and `end A R`, where R is the number of those refused
 
    Requests that the loader makes before the program starts aren't counted, and neither are releases. */
 #define _GNU_SOURCE
@@ -22,8 +23,8 @@ extern void *__libc_calloc(size_t count, size_t size);
 extern void *__libc_realloc(void *old, size_t size);
 extern void *__libc_memalign(size_t alignment, size_t size);
 
-static unsigned long asked, refused, first;
-static int later, report = -1, counting;
+static unsigned long asked, refused, first, most;
+static int later, report = -1, counting, reads;
 
 static unsigned long number_in(const char *name) {
     const char *text = getenv(name);
@@ -47,24 +48,26 @@ __attribute__((constructor)) static void start(void) {
 
 __attribute__((destructor)) static void end(void) {
     counting = 0;
+    tell("most", most, 0);
     tell("end", asked, refused);
 }
 
-/* Counts a request, and says whether it is refused. */
-static int is_refused(void) {
+/* Counts a request for so many bytes, and says whether it is refused. */
+static int is_refused(size_t bytes) {
     if (!counting) return 0;
     asked++;
+    if (reads && bytes > most) most = bytes;
     if (first == 0 || asked < first || (asked > first && !later)) return 0;
     refused++;
     errno = ENOMEM;
     return 1;
 }
 
-void *malloc(size_t size) { return is_refused() ? NULL : __libc_malloc(size); }
+void *malloc(size_t size) { return is_refused(size) ? NULL : __libc_malloc(size); }
 
-void *calloc(size_t count, size_t size) { return is_refused() ? NULL : __libc_calloc(count, size); }
+void *calloc(size_t count, size_t size) { return is_refused(count * size) ? NULL : __libc_calloc(count, size); }
 
-void *realloc(void *old, size_t size) { return is_refused() ? NULL : __libc_realloc(old, size); }
+void *realloc(void *old, size_t size) { return is_refused(size) ? NULL : __libc_realloc(old, size); }
 
 void *reallocarray(void *old, size_t count, size_t size) {
     size_t bytes;
@@ -75,7 +78,7 @@ void *reallocarray(void *old, size_t count, size_t size) {
     return realloc(old, bytes);
 }
 
-void *memalign(size_t alignment, size_t size) { return is_refused() ? NULL : __libc_memalign(alignment, size); }
+void *memalign(size_t alignment, size_t size) { return is_refused(size) ? NULL : __libc_memalign(alignment, size); }
 
 void *aligned_alloc(size_t alignment, size_t size) { return memalign(alignment, size); }
 
@@ -89,7 +92,10 @@ int posix_memalign(void **made, size_t alignment, size_t size) {
 }
 
 ssize_t read(int from, void *bytes, size_t count) {
-    if (from == STDIN_FILENO) tell("read", asked, count);
+    if (from == STDIN_FILENO) {
+        reads = 1;
+        tell("read", asked, count);
+    }
     return syscall(SYS_read, from, bytes, count);
 }
 

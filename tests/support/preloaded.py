@@ -56,6 +56,8 @@ class Run:
     reads: list
     # the requests made before each write to standard output, and the bytes of the write
     writes: list
+    # the most bytes that one request asked for since the first read
+    most: int
     asked: int
     refused: int
 
@@ -92,11 +94,11 @@ def refusing(words, given, first=0, extent=ALONE, most=WHOLE):
         else:
             with open(given, "rb") as file:
                 ran = subprocess.run(words, stdin=file, capture_output=True, env=settings, timeout=SECONDS)
-        *calls, (end, asked, refused) = [line.split() for line in report]
-    assert end == "end", calls
+        *calls, (most, largest, _), (end, asked, refused) = [line.split() for line in report]
+    assert (most, end) == ("most", "end"), calls
     reads = [int(before) for call, before, _ in calls if call == "read"]
     writes = [(int(before), int(length)) for call, before, length in calls if call == "write"]
-    return Run(ran.returncode, ran.stdout, ran.stderr, reads, writes, int(asked), int(refused))
+    return Run(ran.returncode, ran.stdout, ran.stderr, reads, writes, int(largest), int(asked), int(refused))
 
 
 def sweep(words, given, extent, most=WHOLE):

@@ -2,10 +2,11 @@
 use Rattle.std.proofs.Common.{◌≡◌, ◌∙◌, ℕ, zero, suc, ◌+◌, List, [], ◌∷◌, ◌++◌, Option, Some, None, OnOk, Result, refl, sym, ap, drop, option_map, slice_get, add-one, append_assoc, drop-cons, arith, codes, ◌-◌, ◌<◌, append-nil, length, map}
 use Rattle.std.proofs.lemmas.{Option.get_or_from_slice_get, Option.slice_get-map, Option.slice_get_within, Option.slice_get_past, Option.slice_get_read, Result.on_ok_weaker}
 use Rattle.std.specs.{Borrow.Bor, List.cons_option, List.filter_map, List.range_with_len, Slice.IsItemAt}
-use Rattle.std.specs.Prelude.{Ok, Err, is_ok, if◌then◌else◌}
+use Rattle.std.specs.Prelude.{Bool, Ok, Err, is_ok, if◌then◌else◌, ◌==◌, ◌||◌, true, false}
+use Rattle.std.specs.Str.{bytes_eq}
 use Rattle.fb_schema.specs.{Heads.Head, Heads.head_of, Heads.head_of_view, Members.member_name, Rows.Object, Rows.Rows}
 use Rattle.fb_schema.specs.declared.views.ObjectView.{ObjectView}
-use Rattle.fbcheck_texts.specs.Hints.{front_hint, listed, members_from, named, tables_in}
+use Rattle.fbcheck_texts.specs.Hints.{begins, front_hint, has_ident, ident_hint, ident_in, listed, members_from, named, other_ident, tables_in, word_hint}
 
 -- the text after a name that was added, of those of which so many more are told
 pub name_told : (text text' all name : List ℕ) (names rest : List (List ℕ)) (left : ℕ) → names ≡ name ∷ rest → 0 < left → text' ≡ text ++ named name
@@ -81,3 +82,82 @@ pub look_told : {E : Type 0} (r : Result (Unit {0}) E) (text mid behind new name
 look_told (Ok done) text mid behind new name front start named looked same told =
     told ∙ ap (λ (t : List ℕ). t ++ codes "\n") (looked ∙ ap (λ (t : List ℕ). t ++ front_hint front) named ∙ ap (λ (f : List ℕ). text ++ name ++ front_hint f) same)
 look_told (Err none) text mid behind new name front start named looked same told = tt
+
+-- what was added where memory was granted
+pub told_whole : {E : Type 0} (r : Result (Unit {0}) E) (text new bytes want : List ℕ) → new ≡ (if is_ok r then text ++ bytes else text) → bytes ≡ want → OnOk r (new ≡ text ++ want)
+told_whole (Ok done) text new bytes want told same = told ∙ ap (λ (b : List ℕ). text ++ b) same
+told_whole (Err none) text new bytes want told same = tt
+
+-- what is told of a file with no bytes, and of one that has no identifier
+pub empty_front : (front : List ℕ) → (length front == 0) ≡ true → codes "; this is empty" ≡ front_hint front
+empty_front front none = rw none refl
+
+pub no_ident : (front ident published : List ℕ) → ident ≡ ident_in front → published ≡ codes "BFBS" → bytes_eq ident published ≡ false → has_ident front ≡ false
+    → codes "; this is no binary schema, which flatc --binary --schema makes" ≡ ident_hint front
+no_ident front ident published is are other none = let unlike = rw (is, are) at other in rw (unlike, none) refl
+
+pub ident_told : {E : Type 0} (r : Result (Unit {0}) E) (text new front ident published : List ℕ) → ident ≡ ident_in front → published ≡ codes "BFBS" → bytes_eq ident published ≡ false
+    → has_ident front ≡ true → OnOk r (new ≡ text ++ other_ident ident) → OnOk r (new ≡ text ++ ident_hint front)
+ident_told r text new front ident published is are other there told =
+    let unlike = rw (is, are) at other in
+    let of_front = rw is at told in
+    rw (unlike, there) of_front
+
+-- a word that is no text, and what stands behind it
+pub word_told : (start first behind rest all asked word : List ℕ) → start ≡ [] → first ≡ start ++ codes "," → behind ≡ first ++ named asked → asked ≡ word
+    → rest ≡ behind ++ codes "; nothing was checked: words must be UTF-8, and a file of any name can be standard input" → all ≡ rest ++ codes "\n" → all ≡ word_hint word
+word_told start first behind rest all asked word none one two same more end = rw (end, more, two, same, one, none) refl
+
+-- and the end of a line alone
+pub end_told : (start text all : List ℕ) → start ≡ [] → text ≡ start → all ≡ text ++ codes "\n" → all ≡ codes "\n"
+end_told start text all none same end = rw (end, same, none) refl
+
+-- all that is told, where memory was granted for the last of it
+pub told_all : {E : Type 0} (r : Result (Unit {0}) E) (text new bytes all : List ℕ) → new ≡ (if is_ok r then text ++ bytes else text) → text ++ bytes ≡ all → OnOk r (new ≡ all)
+told_all (Ok done) text new bytes all told same = told ∙ same
+told_all (Err none) text new bytes all told same = tt
+
+-- a name between two texts
+pub named_between : {E : Type 0} (r : Result (Unit {0}) E) (text one two new front name behind : List ℕ) → one ≡ text ++ front → two ≡ one ++ named name
+    → new ≡ (if is_ok r then two ++ behind else two) → OnOk r (new ≡ text ++ (front ++ named name ++ behind))
+named_between (Ok done) text one two new front name behind first second last =
+    last ∙ ap (λ (t : List ℕ). t ++ behind) (second ∙ ap (λ (t : List ℕ). t ++ named name) first ∙ append_assoc text front (named name)) ∙ append_assoc text (front ++ named name) behind
+named_between (Err none) text one two new front name behind first second last = tt
+
+-- one of two things, of which the second is asked where the first isn't so
+pub or_then : (first both a b : Bool) → first ≡ a → first ≡ true → both ≡ first → both ≡ (a || b)
+or_then first both a b is so same = let front = sym is ∙ so in rw front (same ∙ so)
+
+pub or_else : (first second both a b : Bool) → first ≡ a → first ≡ false → second ≡ b → both ≡ second → both ≡ (a || b)
+or_else first second both a b is not_so behind same = let front = sym is ∙ not_so in rw front (same ∙ behind)
+
+-- a text begins with one of the first so many words of a schema's
+abbrev pub begins_2 : List ℕ → Bool
+begins_2 text = begins text (codes "//") || begins text (codes "/*")
+
+abbrev pub begins_3 : List ℕ → Bool
+begins_3 text = begins_2 text || begins text (codes "namespace ")
+
+abbrev pub begins_4 : List ℕ → Bool
+begins_4 text = begins_3 text || begins text (codes "table ")
+
+abbrev pub begins_5 : List ℕ → Bool
+begins_5 text = begins_4 text || begins text (codes "struct ")
+
+abbrev pub begins_6 : List ℕ → Bool
+begins_6 text = begins_5 text || begins text (codes "enum ")
+
+abbrev pub begins_7 : List ℕ → Bool
+begins_7 text = begins_6 text || begins text (codes "union ")
+
+abbrev pub begins_8 : List ℕ → Bool
+begins_8 text = begins_7 text || begins text (codes "include ")
+
+abbrev pub begins_9 : List ℕ → Bool
+begins_9 text = begins_8 text || begins text (codes "root_type ")
+
+abbrev pub begins_10 : List ℕ → Bool
+begins_10 text = begins_9 text || begins text (codes "attribute ")
+
+abbrev pub begins_11 : List ℕ → Bool
+begins_11 text = begins_10 text || begins text (codes "file_")

@@ -1,4 +1,5 @@
 mod AlikeLemmas
+mod FramingLemmas
 mod HintLemmas
 mod TextLemmas
 pub mod ShownTexts

@@ -1,7 +1,6 @@
 mod access;
 mod bytes;
 mod compare;
-mod memory;
 mod reader;
 mod schema;
 mod texts;

@@ -1,3 +1,2 @@
 mod fixtures;
-mod locations;
 mod worked;

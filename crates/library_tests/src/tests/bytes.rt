@@ -1,2 +1,2 @@
-pub mod framer;
+mod framer;
 mod reads_and_ends;

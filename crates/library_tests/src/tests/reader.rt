@@ -29,16 +29,15 @@ pub const DELIVERY: [u8; 44] = [
 ];
 
 #[test]
-fn the_name_of_a_good_buffer_is_read(rt: HostRuntime) {
-    let name = name_in(rt.alloc(), SCHEMA, DELIVERY.as_slice());
-    same(&rt, name, Some(b"Ada".as_slice()));
-}
-
-#[test]
-fn no_name_is_read_of_a_buffer_that_is_cut_off_or_has_no_good_schema(rt: HostRuntime) {
-    for end in 0..DELIVERY.len() {
+fn the_name_of_a_whole_buffer_is_read_by_a_good_schema(rt: HostRuntime) {
+    for end in 0..=DELIVERY.len() {
+        let want = if end < DELIVERY.len() {
+            None
+        } else {
+            Some(b"Ada".as_slice())
+        };
         let name = name_in(rt.alloc(), SCHEMA, &DELIVERY[..end]);
-        same(&rt, (end, name), (end, None));
+        same(&rt, (end, name), (end, want));
     }
     let name = name_in(rt.alloc(), &SCHEMA[1..], DELIVERY.as_slice());
     same(&rt, name, None);

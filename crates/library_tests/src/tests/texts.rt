@@ -11,25 +11,73 @@ use std::fmt::Display;
 use std::process::Abort;
 use std::test::Fail;
 
-/// The reasons of the verifier, with their texts.
-const REASONS: [(Reason, &str); 13] = [
-    (Reason::WrongPrefix, "V1 WrongPrefix"),
-    (Reason::OutOfBuffer, "V2 OutOfBuffer"),
-    (Reason::Misaligned, "V3 Misaligned"),
-    (Reason::ZeroOffset, "V4 ZeroOffset"),
-    (Reason::WrongIdentifier, "V5 WrongIdentifier"),
-    (Reason::TooDeep, "V6 TooDeep"),
-    (Reason::TooManyTables, "V7 TooManyTables"),
-    (Reason::BadVtable, "V8 BadVtable"),
-    (Reason::MissingRequired, "V9 MissingRequired"),
-    (Reason::NoTerminator, "V10 NoTerminator"),
-    (Reason::LengthsDiffer, "V11 LengthsDiffer"),
-    (Reason::PastTable, "V12 PastTable"),
-    (Reason::TooManyReads, "V13 TooManyReads"),
-];
+/// A fault of a schema file, with this reason of the verifier.
+macro_rules! not_well_formed {
+    ($reason:ident) => {
+        LoadFault::NotWellFormed(Fault {
+            at: 31,
+            object: 4,
+            field: Some(1),
+            reason: Reason::$reason,
+            reads: 8,
+        })
+    };
+}
 
-/// The faults of schema files that are neither the verifier's nor those of rows.
-const OF_FILES: [(LoadFault, &str); 3] = [
+/// The faults of schema files but for those of rows, with each reason of the verifier.
+const OF_FILES: [(LoadFault, &str); 16] = [
+    (
+        not_well_formed!(WrongPrefix),
+        "L1 V1 WrongPrefix at=31 object=4 field=1 reads=8",
+    ),
+    (
+        not_well_formed!(OutOfBuffer),
+        "L1 V2 OutOfBuffer at=31 object=4 field=1 reads=8",
+    ),
+    (
+        not_well_formed!(Misaligned),
+        "L1 V3 Misaligned at=31 object=4 field=1 reads=8",
+    ),
+    (
+        not_well_formed!(ZeroOffset),
+        "L1 V4 ZeroOffset at=31 object=4 field=1 reads=8",
+    ),
+    (
+        not_well_formed!(WrongIdentifier),
+        "L1 V5 WrongIdentifier at=31 object=4 field=1 reads=8",
+    ),
+    (
+        not_well_formed!(TooDeep),
+        "L1 V6 TooDeep at=31 object=4 field=1 reads=8",
+    ),
+    (
+        not_well_formed!(TooManyTables),
+        "L1 V7 TooManyTables at=31 object=4 field=1 reads=8",
+    ),
+    (
+        not_well_formed!(BadVtable),
+        "L1 V8 BadVtable at=31 object=4 field=1 reads=8",
+    ),
+    (
+        not_well_formed!(MissingRequired),
+        "L1 V9 MissingRequired at=31 object=4 field=1 reads=8",
+    ),
+    (
+        not_well_formed!(NoTerminator),
+        "L1 V10 NoTerminator at=31 object=4 field=1 reads=8",
+    ),
+    (
+        not_well_formed!(LengthsDiffer),
+        "L1 V11 LengthsDiffer at=31 object=4 field=1 reads=8",
+    ),
+    (
+        not_well_formed!(PastTable),
+        "L1 V12 PastTable at=31 object=4 field=1 reads=8",
+    ),
+    (
+        not_well_formed!(TooManyReads),
+        "L1 V13 TooManyReads at=31 object=4 field=1 reads=8",
+    ),
     (LoadFault::OutOfMemory, "L4 OutOfMemory"),
     (LoadFault::TooLong, "L5 TooLong"),
     (LoadFault::TooMuchShared, "L6 TooMuchShared"),
@@ -62,18 +110,6 @@ const OF_STREAMS: [(StreamFault, &str); 4] = [
     (StreamFault::Failed, "S4 Failed"),
 ];
 
-/// Asserts the text of a fault.
-fn is_told<T: Display>(
-    rt: &impl Abort,
-    alloc: Global,
-    fault: &T,
-    want: &str,
-) -> Result<(), AllocError> {
-    let told = format!(in alloc; "{fault}")?;
-    same(rt, told.as_str(), want);
-    Ok(())
-}
-
 /// Asserts the text of each of these faults.
 fn all_told<T: Display>(
     rt: &impl Abort,
@@ -81,34 +117,14 @@ fn all_told<T: Display>(
     cases: &[(T, &str)],
 ) -> Result<(), AllocError> {
     for (fault, want) in cases {
-        is_told(rt, alloc, fault, want)?;
+        let told = format!(in alloc; "{fault}")?;
+        same(rt, told.as_str(), *want);
     }
     Ok(())
 }
 
-/// Asserts the text of a fault with this reason.
-fn reason_is_told(
-    rt: &impl Abort,
-    alloc: Global,
-    reason: Reason,
-    name: &str,
-) -> Result<(), AllocError> {
-    let fault = Fault {
-        at: 31,
-        object: 4,
-        field: Some(1),
-        reason,
-        reads: 8,
-    };
-    let want = format!(in alloc; "L1 {name} at=31 object=4 field=1 reads=8")?;
-    is_told(rt, alloc, &LoadFault::NotWellFormed(fault), want.as_str())
-}
-
 #[test]
 fn each_fault_has_its_text(rt: HostRuntime) -> Result<(), Fail> {
-    for (reason, name) in REASONS {
-        reason_is_told(&rt, rt.alloc(), reason, name)?;
-    }
     all_told(&rt, rt.alloc(), &OF_FILES)?;
     all_told(&rt, rt.alloc(), &OF_PATHS)?;
     Ok(all_told(&rt, rt.alloc(), &OF_STREAMS)?)

@@ -1,4 +1,3 @@
 mod calls;
-mod limits;
 pub mod question;
 mod sweep;

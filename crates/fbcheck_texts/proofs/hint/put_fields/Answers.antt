@@ -1,6 +1,6 @@
-use Rattle.std.proofs.Common.{◌≡◌, ◌+◌, ◌-◌, arith, rules, sym, ◌∙◌}
+use Rattle.std.proofs.Common.{◌≡◌, ◌+◌, ◌-◌, arith, codes, sym}
 use Rattle.fbcheck_texts.specs.Hints.{fields_at}
-use Rattle.fbcheck_texts.proofs.HintLemmas.{more_told, name_told, no_more, none_told, one_more}
+use Rattle.fbcheck_texts.proofs.HintLemmas.{more_told, name_told, no_more, none_told, one_more, told_all}
 use Rattle.fbcheck_texts.proofs.hint.put_fields.Goals as goal
 
 pub returns-in_default : goal.returns-in_default
@@ -19,7 +19,7 @@ returns-in-Some-field_name c =
     let all : c.loop-place.place ≡ 10 = omega (arith, c.loop-place-test.false, c.loop-place.auto.place-end) in
     let next = one_more (fields_at c.args.schema.now c.args.kind) c.loop-place.place c.in-Some-field_name.field-0.now (rw all (sym c.in-Some-field_name.ensures)) in
     let told = more_told _ _ _ _ _ (10 - c.loop-place.place) next (omega (arith, all)) c.loop-place.invariant in
-    search (rules, told, sym, ◌∙◌)
+    told_all c.extend_from_slice.result c.loop-place.text.items c.extend_from_slice.new.self.items (codes " ..") _ c.extend_from_slice.ensures.items told
 
 pub returns-in-None : goal.returns-in-None
 returns-in-None c =

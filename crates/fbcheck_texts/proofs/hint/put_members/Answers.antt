@@ -1,5 +1,5 @@
-use Rattle.std.proofs.Common.{arith, rules, sym, ◌∙◌}
-use Rattle.fbcheck_texts.proofs.HintLemmas.{more_told, name_told, named_next, nameless_next, none_from, none_told}
+use Rattle.std.proofs.Common.{arith, codes, sym}
+use Rattle.fbcheck_texts.proofs.HintLemmas.{more_told, name_told, named_next, nameless_next, none_from, none_told, told_all}
 use Rattle.fbcheck_texts.proofs.hint.put_members.Goals as goal
 
 pub loop-value-preserved-in_default : goal.loop-value-preserved-in_default
@@ -10,7 +10,7 @@ pub returns-then-left-eq0 : goal.returns-then-left-eq0
 returns-then-left-eq0 c =
     let next = named_next c.args.schema.now c.args.union c.loop-value.value c.in-Some.name.now c.loop-value-test.true (sym c.in-Some.ensures) in
     let told = more_told _ _ _ _ _ c.loop-value.left next c.if-left-eq0.true c.loop-value.invariant in
-    search (rules, told, sym, ◌∙◌)
+    told_all c.extend_from_slice.result c.loop-value.text.items c.extend_from_slice.new.self.items (codes " ..") _ c.extend_from_slice.ensures.items told
 
 pub loop-value-preserved : goal.loop-value-preserved
 loop-value-preserved c =

@@ -1,5 +1,5 @@
-use Rattle.std.proofs.Common.{rules, arith, sym, ◌∙◌}
-use Rattle.fbcheck_texts.proofs.HintLemmas.{more_told, name_told, next_object}
+use Rattle.std.proofs.Common.{arith, codes}
+use Rattle.fbcheck_texts.proofs.HintLemmas.{more_told, name_told, next_object, told_all}
 use Rattle.fbcheck_texts.proofs.hint.put_tables.Goals as goal
 
 pub loop-number-preserved-then-object : goal.loop-number-preserved-then-object
@@ -11,7 +11,7 @@ pub returns-then-left-eq0 : goal.returns-then-left-eq0
 returns-then-left-eq0 c =
     let table = rw c.if-object.false at (next_object c.args.schema.now.objects c.loop-number.number c.object-object.result c.object-object.ensures) in
     let told = more_told _ _ _ _ _ c.loop-number.left table c.if-left-eq0.true c.loop-number.invariant in
-    search (rules, told, sym, ◌∙◌)
+    told_all c.extend_from_slice.result c.loop-number.text.items c.extend_from_slice.new.self.items (codes " ..") _ c.extend_from_slice.ensures.items told
 
 pub loop-number-preserved : goal.loop-number-preserved
 loop-number-preserved c =

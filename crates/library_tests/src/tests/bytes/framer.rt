@@ -1,11 +1,13 @@
+//! Framers, asked as only a caller in Rattle may. What takes memory, and which limits there are, is asked from outside
+//! (`tests/test_refused_memory.py`, `tests/test_ends.py`).
+
 use crate::tests::compare::same;
-use fb_bytes::{Framer, LimitOutOfRange, StreamFault, Taken};
+use fb_bytes::{Framer, StreamFault, Taken};
 use std::alloc::Global;
-use std::process::Abort;
 use std::test::Fail;
 
 /// A prefix of 28 and as many bytes: a size-prefixed buffer whose one field, a long, is 7.
-pub const LONG_SEVEN: [u8; 32] = [
+const LONG_SEVEN: [u8; 32] = [
     28, 0, 0, 0, 16, 0, 0, 0, 6, 0, 12, 0, 4, 0, 0, 0, 0, 0, 0, 0, 12, 0, 0, 0, 7, 0, 0, 0, 0, 0,
     0, 0,
 ];
@@ -16,7 +18,7 @@ const MOST_OF_IT: &[u8] = &[
 ];
 
 /// Two of them.
-pub const TWICE: [u8; 64] = [
+const TWICE: [u8; 64] = [
     28, 0, 0, 0, 16, 0, 0, 0, 6, 0, 12, 0, 4, 0, 0, 0, 0, 0, 0, 0, 12, 0, 0, 0, 7, 0, 0, 0, 0, 0,
     0, 0, 28, 0, 0, 0, 16, 0, 0, 0, 6, 0, 12, 0, 4, 0, 0, 0, 0, 0, 0, 0, 12, 0, 0, 0, 7, 0, 0, 0,
     0, 0, 0, 0,
@@ -124,30 +126,4 @@ fn a_framer_answers_each_call(rt: HostRuntime) -> Result<(), Fail> {
         }
     }
     Ok(())
-}
-
-/// What a framer with this limit says to the message of 32 bytes.
-fn fed(alloc: Global, limit: u32) -> Result<Result<Taken, StreamFault>, LimitOutOfRange> {
-    Ok(Framer::new(alloc, limit)?.feed(&LONG_SEVEN))
-}
-
-#[test]
-fn the_limit_counts_the_prefix(rt: HostRuntime) {
-    let oversize = Ok(Err(StreamFault::Oversize { declared: 28 }));
-    let taken = Ok(Ok(Taken {
-        used: 32,
-        whole: true,
-    }));
-    for (limit, want) in [
-        (0, Err(LimitOutOfRange)),
-        (7, Err(LimitOutOfRange)),
-        (8, oversize),
-        (31, oversize),
-        (32, taken),
-        (2_147_483_647, taken),
-        (2_147_483_648, Err(LimitOutOfRange)),
-        (4_294_967_295, Err(LimitOutOfRange)),
-    ] {
-        same(&rt, (limit, fed(rt.alloc(), limit)), (limit, want));
-    }
 }

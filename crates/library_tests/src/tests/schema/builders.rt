@@ -4,23 +4,32 @@ use crate::tests::compare::same;
 use fb_schema::TypeRow;
 use fb_schema::base_type::{INT, LONG, OBJ, UNION};
 use fb_schema::builders::{array, one, vector};
-use std::process::Abort;
 
-/// Asserts that a type is this row in full.
-fn is_row(rt: &impl Abort, ty: TypeRow, base: i8, element: i8, index: i32, fixed_length: u16) {
-    let row = TypeRow {
-        base,
-        element,
-        index,
-        fixed_length,
+/// A row by its base, element, index and length.
+macro_rules! row {
+    ($base:literal, $element:literal, $index:expr, $fixed_length:literal) => {
+        TypeRow {
+            base: $base,
+            element: $element,
+            index: $index,
+            fixed_length: $fixed_length,
+        }
     };
-    same(rt, ty, row);
 }
 
 #[test]
 fn types_in_few_words_are_these_rows(rt: HostRuntime) {
-    is_row(&rt, one(INT), 7, 0, -1, 0);
-    is_row(&rt, one(UNION).naming(3), 16, 0, 3, 0);
-    is_row(&rt, vector(LONG), 14, 9, -1, 0);
-    is_row(&rt, array(OBJ, 65_535).naming(1), 17, 15, 1, 65_535);
+    let made = (
+        one(INT),
+        one(UNION).naming(3),
+        vector(LONG),
+        array(OBJ, 65_535).naming(1),
+    );
+    let want = (
+        row!(7, 0, -1, 0),
+        row!(16, 0, 3, 0),
+        row!(14, 9, -1, 0),
+        row!(17, 15, 1, 65_535),
+    );
+    same(&rt, made, want);
 }
