@@ -7,8 +7,7 @@ from tests.support import schemas
 from tests.support.naive import Reader, Schema, Walk
 from tests.support.paths import names_in, text_of, told, ways
 from tests.support.swept import SCHEMAS
-from tests.support.told import line
-from tests.support.told import text_of as value_text
+from tests.support.told import line, texts_of
 from tests.support.tree import Builder
 
 PAST_BUDGET = 7
@@ -37,7 +36,8 @@ class Beside:
         words = {f"max_{name}": asked[name] for name in ("depth", "tables", "reads") if name in asked}
         return self.verifier.asked(self.python.Options(
             ident, prefixed=int(self.prefixed), reads_per_byte=2**32 - 1,
-            no_alignment=int(not asked.get("alignment", True)), inline_size=int(asked.get("inline_size", False)), **words))
+            no_alignment=int(not asked.get("alignment", True)), inline_size=int(asked.get("inline_size", False)),
+            **words))
 
     @functools.cache
     def most_reads(self, length, ident, limits):
@@ -68,9 +68,9 @@ class Beside:
         return tables, depth, reads + 1 + self.prefixed + (ident is not None)
 
     def of_values(self, data, options):
-        """Pairs of the values at the ends of all paths in a good buffer: what the library tells, and what it should. There
-        are none where all values are the same."""
-        told = [value_text(*value) for value in self.verifier.read_each(data, self.paths, options)]
+        """Pairs of the values at the ends of all paths in a good buffer: what the library tells, and what it should.
+        There are none where all values are the same."""
+        told = texts_of(self.verifier.read_each(data, self.paths, options))
         wanted = Reader(self.schema, self.root, data, self.prefixed).values(self.ways)
         return [] if told == wanted else itertools.zip_longest(told, wanted)
 

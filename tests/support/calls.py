@@ -234,17 +234,13 @@ def _done(status: int, declared: int | None = None) -> int:
     return status
 
 
-_KINDS = list(Kind)
-_OF_BYTES, _INT = (Kind.FLOAT, Kind.TEXT, Kind.STRUCT), Kind.INT
+_KINDS, _INT, _OF_BYTES = list(Kind), Kind.INT.value, (Kind.FLOAT.value, Kind.TEXT.value, Kind.STRUCT.value)
 
 
 def _shown(values: ctypes.Array, data: bytes) -> list:
     """The kind of each of these values, and the value: a number or bytes."""
-    told = []
-    for kind, _, number, integer, at, size in _VALUE.iter_unpack(values):
-        value = data[at : at + size] if kind in _OF_BYTES else integer if kind == _INT else number
-        told.append((_KINDS[kind], value))
-    return told
+    return [(_KINDS[kind], data[at : at + size] if kind in _OF_BYTES else integer if kind == _INT else number)
+            for kind, _, number, integer, at, size in _VALUE.iter_unpack(values)]
 
 
 def _name(call, *words) -> str | None:

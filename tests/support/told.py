@@ -6,8 +6,9 @@ REASONS = {number: f"V{number} {NAMES[f'V{number}']}" for number in range(1, len
 
 # How the values of each kind are written, in the order of the kinds' numbers.
 WRITTEN = [
-    lambda _: "absent", lambda _: "no-element", lambda _: "other-member", lambda value: "true" if value == 1 else "false",
-    str, str, lambda value: f"float:{value.hex()}", quoted, lambda value: f"struct:{value.hex()}",
+    lambda _: "absent", lambda _: "no-element", lambda _: "other-member",
+    lambda value: "true" if value == 1 else "false", str, str,
+    lambda value: f"float:{value.hex()}", quoted, lambda value: f"struct:{value.hex()}",
     lambda value: f"vector:{value}", lambda _: "table", lambda value: f"union:{value}",
 ]
 
@@ -23,3 +24,8 @@ def line(verdict):
 def text_of(kind, value):
     """The text of a value."""
     return WRITTEN[kind](value)
+
+
+def texts_of(values):
+    """The texts of values, each with its kind."""
+    return [WRITTEN[kind](value) for kind, value in values]
