@@ -148,6 +148,7 @@ class BesideNaive(Case):
         walk = lambda given: Walk(ALL, 0, prefixed(given), tables=500, alignment=False)
         given = [bent for bent in variants(data, [1, 4, 252]) if walk(bent).verdict().startswith("ok")]
         self.holds("most buffers are good", len(given) > 400, len(given))
+        verdicts = [walk(bent).verdict() for bent in given]
         for path in PATHS:
             ran = run(*by, "--path", path, given=b"".join(map(prefixed, given)))
             got = [line.split(" ", 5)[-1] for line in ran.out.decode().splitlines()]
@@ -155,7 +156,7 @@ class BesideNaive(Case):
             differing = [(bent.hex(), value, want) for bent, value, want in zip(given, got, wants) if value != want]
             self.same(f"{path} of each", (len(got), differing[:2]), (len(given), []))
             ran = run(*by, "--json", "--path", path, given=b"".join(map(prefixed, given)))
-            told = [f"{walk(bent).verdict()} {want}" for bent, want in zip(given, wants)]
+            told = [f"{verdict} {want}" for verdict, want in zip(verdicts, wants)]
             self.as_json(f"{path} of each", ALL, ran, told, [path])
 
     def test_values_by_many_paths(self):

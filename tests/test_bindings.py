@@ -85,6 +85,7 @@ class Binding:
     closed = "the schema is closed"
     quoted = ' ("{}")'  # what was asked for, behind the text of an error
     names_files = False  # whether a schema file is loaded by its name, which an error tells too
+    briefly = ()  # the driver's words, behind the first, by which a short run costs less
 
     @classmethod
     def setUpClass(cls):
@@ -104,9 +105,10 @@ class Binding:
             raise AssertionError(f"{' '.join(map(str, words))}:\n{told.stdout}")
 
     def told(self, *commands, seconds=120):
-        """What the driver answers to each command."""
-        status, out, err = ran(*self.driver, given="".join(f"{line}\n" for line in commands).encode(), seconds=seconds,
-                               **FOUND)
+        """What the driver answers to each command. A run of more than two minutes is a long one."""
+        words = [self.driver[0], *(self.briefly if seconds <= 120 else ()), *self.driver[1:]]
+        given = "".join(f"{line}\n" for line in commands).encode()
+        status, out, err = ran(*words, given=given, seconds=seconds, **FOUND)
         answers = re.findall(r"(.*?)^\.\n", out, re.S | re.M)
         self.same("the driver ends well", (status, err, len(answers)), (0, "", len(commands)))
         return [answer.strip() for answer in answers] + ["no answer"] * (len(commands) - len(answers))
@@ -451,6 +453,8 @@ class Java(Binding, LibraryCase):
     words = ["--enable-native-access=ALL-UNNAMED", f"-Dfbcheck.library={OUT}/libfbcheck.so.1", "-Xms64m", "-Xmx64m",
              "-XX:+AlwaysPreTouch", "-cp"]
     driver = [jdk / "bin/java", *words, f"{TOP}/bindings/java/fbcheck.jar:{FOLDER}/java", "Driver"] if jdk else []
+    briefly = ("-XX:TieredStopAtLevel=1", "-XX:+UseSerialGC")
+    of_tools = [f"-J{word}" for word in briefly]
 
     @classmethod
     def missing(cls):
@@ -463,13 +467,13 @@ class Java(Binding, LibraryCase):
 
     @classmethod
     def compiled_java(cls, source, folder):
-        cls.made(cls.jdk / "bin/javac", "-Xlint:all", "-Werror", "-cp", TOP / "bindings/java/fbcheck.jar", "-d", folder,
-                 source)
+        cls.made(cls.jdk / "bin/javac", *cls.of_tools, "-Xlint:all", "-Werror", "-cp",
+                 TOP / "bindings/java/fbcheck.jar", "-d", folder, source)
 
     def test_jar(self):
         """A module that Java 22 takes, with its sources beside it; and what is told where the library isn't found."""
         jar = TOP / "bindings/java/fbcheck.jar"
-        told = ran(self.jdk / "bin/javap", "-v", "-cp", jar, "fbcheck.Schema")[1]
+        told = ran(self.jdk / "bin/javap", *self.of_tools, "-v", "-cp", jar, "fbcheck.Schema")[1]
         self.holds("its classes are of Java 22", "major version: 66" in told)
         told = ran(self.jdk / "bin/java", "-p", jar, "--describe-module", "fbcheck")[1]
         self.holds("a module", "exports fbcheck" in told, told)

@@ -572,7 +572,7 @@ class LibraryForC(LibraryCase):
             for name, verifier, data, want in [("a union's table is too deep", unions, MEMBER, (status.BAD, 6)),
                                                ("a table is not", monsters, ORC, (status.OK, 0))]:
                 for depth, told in [(1, want), (2, (status.OUT_OF_RANGE, 0))]:
-                    asked = verifier._asked(python.Options(max_depth=depth, max_tables=7))
+                    asked = verifier.asked(python.Options(max_depth=depth, max_tables=7))
                     got = calls.fbcheck_verify(verifier._schema, scratch, asked, data, len(data), verdict)
                     self.same(f"{name}, within {depth}", (got, verdict.reason), told)
         calls.fbcheck_scratch_free(scratch)

@@ -93,5 +93,6 @@ class Delimited(Case):
                 talk.say(given[at:])
                 self.same(f"cut at {at}", talk.end(), want)
         many = dump(*[ORC, PLAIN] * 20_000)
-        wants = lines(*(f"{number} {(YES, alone(PLAIN))[number % 2 == 0]}" for number in range(1, 40_001)))
+        plain = alone(PLAIN)
+        wants = lines(*(f"{number} {(YES, plain)[number % 2 == 0]}" for number in range(1, 40_001)))
         self.same("40,000 in one stream", run(*DELIMITED, given=many), Ran(0, wants, b""))

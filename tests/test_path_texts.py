@@ -76,10 +76,10 @@ class Asked:
         """The steps of a path from this root, or why it's none."""
         self.verifier.choose_root(root)
         path, verdict = self.python._Path(), self.python._Verdict()
-        words = self.verifier._schema, self.verifier._asked(None), text, len(text), path, verdict
+        words = self.verifier._schema, self.verifier.asked(None), text, len(text), path, verdict
         status = self.verifier._calls.fbcheck_resolve(*words)
         if status == self.python.Status.OK:
-            return " ".join(MARKS[step.kind].format(step.number) for step in path)
+            return " ".join(MARKS[kind].format(number) for kind, number in path.numbers())
         name = self.verifier.fault_name(status, verdict.reason)
         return f"{name} {'at' if verdict.reason == 1 else 'step'}={verdict.at}"
 

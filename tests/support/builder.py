@@ -1,6 +1,7 @@
 """The bytes of buffers: as digits spell them, and as values make them."""
 
 import dataclasses
+import functools
 import struct
 
 
@@ -39,6 +40,10 @@ class Plain:
     data: bytes
     alignment: int
     count: int | None = None
+
+
+# A format of struct.pack in little endian, without padding.
+form_of = functools.cache(lambda letter: struct.Struct(f"<{letter}"))
 
 
 class Buffer:
@@ -97,14 +102,16 @@ class Buffer:
         self.align(8)
         at = len(self.data)
         self.data += struct.pack("<i", at - vtable)
-        for number, value in sorted(fields.items()):
+        fields = sorted(fields.items())
+        for number, value in fields:
             letter, scalar = value if isinstance(value, tuple) else ("I", 0)
-            self.align(struct.calcsize(f"<{letter}"))
+            form = form_of(letter)
+            self.align(form.size)
             slots[number] = len(self.data) - at
-            self.data += struct.pack(f"<{letter}", scalar)
+            self.data += form.pack(scalar)
         words = [4 + 2 * len(slots), len(self.data) - at, *slots]
-        struct.pack_into(f"<{len(words)}H", self.data, vtable, *words)
-        for number, value in sorted(fields.items()):
+        form_of(f"{len(words)}H").pack_into(self.data, vtable, *words)
+        for number, value in fields:
             if not isinstance(value, tuple):
                 self.refer(at + slots[number], value)
         return at

@@ -5,7 +5,9 @@ The library is the file that the variable FBCHECK_LIBRARY names, and else it is 
 
 import ctypes
 import enum
+import functools
 import os
+import struct
 import typing
 
 VERSION = 1
@@ -99,13 +101,13 @@ class Options(ctypes.Structure):
         ("reserved", _U32 * 7),
     ]
 
+    _first = {"version": VERSION, "root": NONE, "max_reads": 100_000_000, "max_depth": DEEP, "max_tables": 1_000_000,
+              "reads_per_byte": 64, "ident_from": 0, "prefixed": 0, "no_alignment": 0, "inline_size": 0}
+
     def __init__(self, ident: bytes | None = None, **words):
-        first = {"version": VERSION, "root": NONE, "max_reads": 100_000_000, "max_depth": DEEP, "max_tables": 1_000_000}
-        super().__init__(**first, reads_per_byte=64)
-        for name, value in words.items():
-            if name not in dict(self._fields_) or name in ("ident", "reserved"):
-                raise TypeError(f"no option {name}")
-            setattr(self, name, value)
+        for name in words.keys() - self._first.keys():
+            raise TypeError(f"no option {name}")
+        super().__init__(**{**self._first, **words})
         if ident is not None:
             given = _bytes(ident)
             if len(given) != 4:
@@ -133,8 +135,9 @@ class _Step(ctypes.Structure):
 class _Path(ctypes.Structure):
     _fields_ = [*_fields(_U32, "count reserved"), ("steps", _Step * STEPS)]
 
-    def __iter__(self):
-        return iter(self.steps[: self.count])
+    def numbers(self) -> list:
+        """The kind and the number of each step."""
+        return list(struct.iter_unpack("2I", bytes(self.steps)[: 8 * self.count]))
 
 
 class _Value(ctypes.Structure):
@@ -148,6 +151,15 @@ class _Value(ctypes.Structure):
 
 class _Framer(ctypes.Structure):
     _fields_ = [("held", _SIZE), *_fields(_U32, "failed declared")]
+
+
+def _numbers(of) -> struct.Struct:
+    """What takes the numbers of such a structure out of it, all at once and in their order."""
+    return struct.Struct("".join(kind._type_ for _, kind in of._fields_ if isinstance(kind._type_, str)))
+
+
+_VERDICT, _VALUE = _numbers(_Verdict), _numbers(_Value)
+_Place = ctypes.c_char * PLACE
 
 
 class Verdict(typing.NamedTuple):
@@ -176,10 +188,11 @@ class Error(Exception):
 
 
 def _told(verdict: _Verdict) -> Verdict:
-    values = {name: getattr(verdict, name) for name in Verdict._fields}
-    return Verdict(**{**values, "field": None if verdict.field == NONE else verdict.field})
+    status, reason, owner, field, *rest = _VERDICT.unpack_from(verdict)
+    return Verdict(status, reason, owner, None if field == NONE else field, *rest)
 
 
+@functools.cache
 def _library():
     found = ctypes.CDLL(os.environ.get("FBCHECK_LIBRARY") or "libfbcheck.so.1")
     options, verdict, span, framer, path, value, byte, size, reads = (
@@ -221,12 +234,13 @@ def _done(status: int, declared: int | None = None) -> int:
     return status
 
 
-def _shown(value: _Value, data: bytes):
-    """The kind of a value, and the value: a number or bytes."""
-    kind = Kind(value.kind)
-    if kind in (Kind.FLOAT, Kind.TEXT, Kind.STRUCT):
-        return kind, data[value.at : value.at + value.size]
-    return kind, value.integer if kind == Kind.INT else value.number
+_KINDS, _INT, _OF_BYTES = list(Kind), Kind.INT.value, (Kind.FLOAT.value, Kind.TEXT.value, Kind.STRUCT.value)
+
+
+def _shown(values: ctypes.Array, data: bytes) -> list:
+    """The kind of each of these values, and the value: a number or bytes."""
+    return [(_KINDS[kind], data[at : at + size] if kind in _OF_BYTES else integer if kind == _INT else number)
+            for kind, _, number, integer, at, size in _VALUE.iter_unpack(values)]
 
 
 def _name(call, *words) -> str | None:
@@ -246,7 +260,7 @@ class Verifier:
         self._schema = self._calls.fbcheck_schema_new(file, len(file), options, why)
         if self._schema is None:
             raise Error(_told(why))
-        self._root = NONE
+        self._root, self._own = NONE, Options()
         if root is not None:
             self.choose_root(root)
 
@@ -255,21 +269,22 @@ class Verifier:
         text = name.encode(errors="surrogateescape")
         number = self._calls.fbcheck_table(self._schema, text, len(text))
         _done(Status.NO_ROOT if number == NO_TABLE else Status.OK)
-        self._root = number
+        self._root, self._own = number, Options(root=number)
 
-    def _asked(self, options: Options | None) -> Options:
+    def asked(self, options: Options | None) -> Options:
         """The options, from this root."""
-        asked = Options()
-        if options is not None:
-            ctypes.pointer(asked)[0] = options
-        if asked.root == NONE:
-            asked.root = self._root
+        if options is None:
+            return self._own
+        if options.root != NONE:
+            return options
+        asked = Options.from_buffer_copy(options)
+        asked.root = self._root
         return asked
 
     def verify(self, buffer, options: Options | None = None) -> Verdict:
         """The verdict on a buffer: status OK or BAD."""
         data, verdict = _bytes(buffer), _Verdict()
-        asked = self._asked(options)
+        asked = self.asked(options)
         if self._calls.fbcheck_verify(self._schema, None, asked, data, len(data), verdict) > Status.BAD:
             raise Error(_told(verdict))
         return _told(verdict)
@@ -278,14 +293,14 @@ class Verifier:
         """The verdict on each buffer of a block, by its first byte's place and its length; of any status."""
         data, spans = _bytes(block), list(spans)
         given, verdicts = (_Span * len(spans))(*spans), (_Verdict * len(spans))()
-        words = (self._schema, None, self._asked(options), data, len(data), given, verdicts, len(spans))
+        words = (self._schema, None, self.asked(options), data, len(data), given, verdicts, len(spans))
         self._calls.fbcheck_verify_each(*words)
         return [_told(verdict) for verdict in verdicts]
 
     def resolve(self, path: str) -> _Path:
         """A path, which serves every buffer that is checked from this root."""
         text, resolved, verdict = path.encode(), _Path(), _Verdict()
-        asked = self._asked(None)
+        asked = self.asked(None)
         if self._calls.fbcheck_resolve(self._schema, asked, text, len(text), resolved, verdict) != Status.OK:
             raise Error(_told(verdict))
         return resolved
@@ -294,22 +309,27 @@ class Verifier:
         """The kind of the value at the end of a path in a good buffer, and the value: a number or bytes."""
         return self.read_each(buffer, [path], options)[0]
 
-    def read_each(self, buffer, paths: list[_Path], options: Options | None = None) -> list:
-        """The kind of the value at the end of each of these paths, and the value."""
+    @staticmethod
+    def row(paths: list[_Path]):
+        """These paths one behind another, as read_each hands them to the library."""
+        return (_Path * len(paths))(*paths)
+
+    def read_each(self, buffer, paths, options: Options | None = None) -> list:
+        """The kind of the value at the end of each of these paths, and the value. They are a list or a row of it."""
         data, values, verdict = _bytes(buffer), (_Value * len(paths))(), _Verdict()
-        given = (_Path * len(paths))(*paths)
-        words = (self._schema, None, self._asked(options), data, len(data), given, values, len(paths), verdict)
+        given = self.row(paths) if isinstance(paths, list) else paths
+        words = (self._schema, None, self.asked(options), data, len(data), given, values, len(paths), verdict)
         if self._calls.fbcheck_read(*words) != Status.OK:
             raise Error(_told(verdict))
-        return [_shown(value, data) for value in values]
+        return _shown(values, data)
 
     def locate(self, buffer, options: Options | None = None):
         """The verdict on a buffer, and where the fault of a bad one is, in words."""
-        data, verdict, room, length = _bytes(buffer), _Verdict(), ctypes.create_string_buffer(PLACE), _SIZE()
-        words = (self._schema, None, self._asked(options), data, len(data), room, PLACE, length, verdict)
+        data, verdict, room, length = _bytes(buffer), _Verdict(), _Place(), _SIZE()
+        words = (self._schema, None, self.asked(options), data, len(data), room, PLACE, length, verdict)
         if self._calls.fbcheck_locate(*words) > Status.BAD:
             raise Error(_told(verdict))
-        return _told(verdict), room.raw[: length.value].decode()
+        return _told(verdict), room[: length.value].decode()
 
     def most_reads(self, length: int, options: Options | None = None) -> int:
         """How many reads a check of so many bytes makes at most."""

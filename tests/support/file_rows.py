@@ -20,13 +20,14 @@ class FileReader(Reader):
 
     def row(self, at, number):
         """The row of a table of this object there: what is there, and each default that isn't 0."""
-        row = {}
+        row, vtable = {}, at - self.read("i", at)
+        size = self.read("H", vtable)
         for field in self.schema.tables[number]:
-            here = self.slot(at, field.slot)
-            if here is not None:
-                row[(field.slot - 4) // 2] = self.held(field, here)
+            word = self.read("H", vtable + field.slot) if field.slot + 2 <= size else 0
+            if word:
+                row[field.number] = self.held(field, at + word)
             elif field.default:
-                row[(field.slot - 4) // 2] = LETTERS[field.base], field.default
+                row[field.number] = LETTERS[field.base], field.default
         return row
 
     def held(self, field, here):

@@ -4,13 +4,18 @@ Its schemas are the rows that schemas.py makes schema files of.
 """
 
 import functools
+import itertools
 import re
 import struct
 
 SIZES = [0, 1, 1, 1, 1, 2, 2, 4, 4, 8, 8, 4, 8]
 LETTERS = " BBbBhHiIqQfd"
+# How the numbers that these letters stand for are unpacked, and the four bytes of an identifier.
+UNPACK = {letter: struct.Struct(f"<{letter}").unpack_from for letter in [*"BbHhIiQqfd", "4s"]}
 BOOL, FLOAT = 2, 11
 TEXT, VECTOR, OBJECT, UNION, ARRAY = 13, 14, 15, 16, 17
+# How the bytes of a text are written that don't stand for themselves.
+MARKS = {byte: f"\\x{byte:02x}" for byte in range(256) if not 0x20 <= byte <= 0x7E} | {0x22: '\\"', 0x5C: "\\\\"}
 # What a piece of a path is: a field or a union's member by its name, an element by its number.
 FIELD, ELEMENT, MEMBER = 1, 2, 3
 NAMES = {
@@ -35,6 +40,7 @@ class Field:
     def __init__(self, row):
         kind = row[1]
         self.name, self.slot, self.required = row[0], number_at(row, 3), number_at(row, 7)
+        self.number = (self.slot - 4) // 2
         self.base, self.element, self.index = number_at(kind, 0), number_at(kind, 1), number_at(kind, 2)
         self.default, self.optional = number_at(row, 4), number_at(row, 11)
         self.length = number_at(kind, 3)
@@ -60,10 +66,16 @@ class Schema:
         self.tables = [None if number_at(row, 2) else live_fields(row) for row in objects]
         self.structs = [(number_at(row, 4), number_at(row, 3)) if number_at(row, 2) else None for row in objects]
         self.parts = [[Field(field) for field in row[1]] if number_at(row, 2) else None for row in objects]
+        self.named = [
+            {field.name: field for field in (parts if fields is None else fields)}
+            for fields, parts in zip(self.tables, self.parts)
+        ]
         self.unions = [
             {number_at(row, 1): Field({0: row[0], 1: row.get(3, {})}) for row in union[1] if number_at(row, 1)}
             for union in enums
         ]
+        for field in itertools.chain(*filter(None, self.tables)):
+            field.is_inline, field.takes = self.is_inline(field), self.size(field.base, field.index)
 
     def is_inline(self, kind):
         """Whether values of this type stand where they belong, and not behind an offset."""
@@ -81,26 +93,33 @@ class Walk:
     """One check of one buffer: what was read so far, and which tables are open."""
 
     def __init__(self, schema, root, data, depth=64, tables=1_000_000, reads=10**9, alignment=True, inline_size=False):
-        self.schema, self.root, self.data = schema, root, data
+        self.schema, self.root, self.data, self.end = schema, root, data, len(data)
         self.depth_limit, self.table_limit, self.read_limit = depth, tables, reads
         self.alignment, self.inline_size = alignment, inline_size
         self.reads = self.tables = self.open = self.deepest = 0
         self.where = root, None
-        # what is under check, step by step from the root table: in words, and the numbers of the object, the field, the
-        # element and the member
-        self.steps, self.links = [], []
+        # what is under check, step by step from the root table: the number of the table, the field, the number of the
+        # element and the type of the union
+        self.way = []
 
     def fits(self, at, size, place):
-        if at < 0 or at + size > len(self.data):
+        if at < 0 or at + size > self.end:
             raise Fault("V2", place)
 
     def aligned(self, at, size):
         if self.alignment and at % size:
             raise Fault("V3", at)
 
+    def stands(self, at, size, alignment):
+        """What an offset leads to, or a field, is all there, and then it is aligned."""
+        if at + size > self.end:
+            raise Fault("V2", at)
+        if self.alignment and at % alignment:
+            raise Fault("V3", at)
+
     def read(self, letter, at):
         self.reads += 1
-        return struct.unpack_from(f"<{letter}", self.data, at)[0]
+        return UNPACK[letter](self.data, at)[0]
 
     def passed(self, at):
         """The start, a table's head, a field by itself or an element that is no table was passed."""
@@ -118,16 +137,31 @@ class Walk:
             return f"bad {code} {NAMES[code]} at={at} object={owner} field={field} reads={self.reads}"
         return f"ok tables={self.tables} depth={self.deepest} reads={self.reads}"
 
+    @property
+    def steps(self):
+        """The way to what is under check in words."""
+        told = []
+        for _, field, number, kind in self.way:
+            member = None if kind is None else self.schema.unions[field.index].get(kind)
+            element = "" if number is None else f"[{number}]"
+            told.append(f"{field.name}{element}{f'@{member.name}' if member else ''}")
+        return told
+
+    @property
+    def links(self):
+        """The same in numbers: of the table, the field, the element and the member of each step."""
+        return [(owner, field.number, number, kind) for owner, field, number, kind in self.way]
+
     def place(self):
         """What stands behind the line of a buffer whose verdict was a no, with --names."""
         owner, number = self.where
-        names = [field.name for field in self.schema.tables[owner] if (field.slot - 4) // 2 == number]
+        names = [field.name for field in self.schema.tables[owner] if field.number == number]
         return f" in {'.'.join(self.steps) or '.'} [{'.'.join([self.schema.names[owner], *names])}]"
 
     def start(self, ident, base):
         if base:
             self.fits(0, 4, 0)
-            if self.read("I", 0) != len(self.data) - 4:
+            if self.read("I", 0) != self.end - 4:
                 raise Fault("V1", 0)
         if ident:
             self.fits(base + 4, 4, base + 4)
@@ -152,19 +186,23 @@ class Walk:
         vtable, size = self.head(at)
         inline = self.read("H", vtable + 2) if self.inline_size else None
         self.passed(at)
+        self.way.append(None)
         for field in self.schema.tables[number]:
-            self.where = number, (field.slot - 4) // 2
-            self.steps.append(field.name)
-            self.links.append((*self.where, None, None))
-            self.field(at, vtable, size, inline, field)
-            self.steps.pop()
-            self.links.pop()
+            self.where = number, field.number
+            self.way[-1] = number, field, None, None
+            word = self.read("H", vtable + field.slot) if field.slot + 2 <= size else 0
+            if word:
+                self.field(at, vtable, word, inline, field)
+            elif field.required:
+                raise Fault("V9", at)
+            else:
+                self.passed(at)
+        self.way.pop()
         self.where = before
         self.open -= 1
 
     def head(self, at):
-        self.fits(at, 4, at)
-        self.aligned(at, 4)
+        self.stands(at, 4, 4)
         vtable = at - self.read("i", at)
         self.fits(vtable, 2, at)
         self.aligned(vtable, 2)
@@ -174,36 +212,28 @@ class Walk:
         self.fits(vtable, size, vtable)
         return vtable, size
 
-    def field(self, at, vtable, size, inline, field):
-        word = self.read("H", vtable + field.slot) if field.slot + 2 <= size else 0
-        if not word:
-            if field.required:
-                raise Fault("V9", at)
+    def field(self, at, vtable, word, inline, field):
+        """A field that is present."""
+        is_union, is_unions = field.base == UNION, field.base == VECTOR and field.element == UNION
+        types = self.types_of(at, vtable, field, is_unions) if is_union or is_unions else None
+        member = self.schema.unions[field.index].get(types) if is_union else None
+        if is_union and not member:
             self.passed(at)
             return
-        is_unions = field.base == VECTOR and field.element == UNION
-        types = self.types_of(at, vtable, field, is_unions) if is_unions or field.base == UNION else None
-        if field.base == UNION:
-            member = self.schema.unions[field.index].get(types)
-            if not member:
-                self.passed(at)
-                return
         place = at + word
-        length, alignment = self.schema.size(field.base, field.index)
+        length, alignment = field.takes
         if inline is not None and word + length > inline:
             raise Fault("V12", place)
-        if self.schema.is_inline(field):
-            self.fits(place, length, place)
-            self.aligned(place, alignment)
+        if field.is_inline:
+            self.stands(place, length, alignment)
             self.passed(at)
         elif field.base == VECTOR:
             self.vector(self.offset(place), at, field, types)
         else:
             self.passed(at)
-            if field.base == UNION:
-                self.steps[-1] += f"@{member.name}"
-                self.links[-1] = (*self.where, None, types)
-            self.value(place, member if field.base == UNION else field)
+            if is_union:
+                self.way[-1] = *self.way[-1][:2], None, types
+            self.value(place, member or field)
 
     def types_of(self, at, vtable, field, is_unions):
         """The type of a union, or the place and the count of a vector of unions' types, which were checked before."""
@@ -216,8 +246,8 @@ class Walk:
         return types, self.read("I", types)
 
     def offset(self, at):
-        self.fits(at, 4, at)
-        self.aligned(at, 4)
+        """Where the offset word there leads."""
+        self.stands(at, 4, 4)
         offset = self.read("I", at)
         if not offset:
             raise Fault("V4", at)
@@ -232,22 +262,18 @@ class Walk:
         if kind.base == TEXT:
             self.text(target)
         else:
-            size, alignment = self.schema.structs[kind.index]
-            self.fits(target, size, target)
-            self.aligned(target, alignment)
+            self.stands(target, *self.schema.structs[kind.index])
         self.passed(at)
 
     def text(self, at):
-        self.fits(at, 4, at)
-        self.aligned(at, 4)
+        self.stands(at, 4, 4)
         count = self.read("I", at)
         self.fits(at + 4, count + 1, at + 4)
         if self.read("B", at + 4 + count):
             raise Fault("V10", at + 4 + count)
 
     def vector(self, at, table, field, types):
-        self.fits(at, 4, at)
-        self.aligned(at, 4)
+        self.stands(at, 4, 4)
         count = self.read("I", at)
         size, alignment = self.schema.size(field.element, field.index)
         self.fits(at + 4, count * size, at + 4)
@@ -260,17 +286,17 @@ class Walk:
             self.unions(at, count, field, types[0])
         elif field.element == TEXT or field.element == OBJECT and not self.schema.structs[field.index]:
             kind = kind_of(field.element, field.index)
+            owner, _ = self.where
             for number in range(count):
-                self.steps[-1] = f"{field.name}[{number}]"
-                self.links[-1] = (*self.where, number, None)
+                self.way[-1] = owner, field, number, None
                 self.value(at + 4 + 4 * number, kind)
 
     def unions(self, at, count, field, types):
+        owner, _ = self.where
         for number in range(count):
             kind = self.read("B", types + 4 + number)
             member = self.schema.unions[field.index].get(kind)
-            self.links[-1] = (*self.where, number, kind)
-            self.steps[-1] = f"{field.name}[{number}]" + (f"@{member.name}" if member else "")
+            self.way[-1] = owner, field, number, kind
             if member:
                 self.value(at + 4 + 4 * number, member)
             else:
@@ -283,10 +309,6 @@ def pieces_in(path):
         yield (FIELD, name) if name else (ELEMENT, int(number)) if number else (MEMBER, member)
 
 
-class End(Exception):
-    """Nothing more is there, on a path: why, or the default that stands for it."""
-
-
 class Reader:
     """Reads values of a buffer that is good.
 
@@ -297,7 +319,7 @@ class Reader:
         self.schema, self.root, self.data, self.base = schema, root, data, 4 if prefix else 0
 
     def read(self, letter, at):
-        return struct.unpack_from(f"<{letter}", self.data, at)[0]
+        return UNPACK[letter](self.data, at)[0]
 
     def behind(self, at):
         return at + self.read("I", at)
@@ -309,10 +331,9 @@ class Reader:
     def step(self, place, piece):
         """Where a piece of a path leads from a place, or the text of what stands there where nothing more does."""
         what, word = piece
-        try:
-            return {FIELD: self.field, ELEMENT: self.element, MEMBER: self.member}[what](place, word)
-        except End as end:
-            return end.args[0]
+        if what == FIELD:
+            return self.field(place, word)
+        return self.element(place, word) if what == ELEMENT else self.member(place, word)
 
     def values(self, ways):
         """The texts of the values at the ends of paths. A path is told by the number of the one that it goes on from,
@@ -335,29 +356,25 @@ class Reader:
 
     def field(self, place, name):
         kind, at, _ = place
+        field = self.schema.named[kind.index][name]
         if self.schema.structs[kind.index]:
-            part = next(part for part in self.schema.parts[kind.index] if part.name == name)
-            return part, at + part.slot, None
-        field = next(field for field in self.schema.tables[kind.index] if field.name == name)
+            return field, at + field.slot, None
         here = self.slot(at, field.slot)
         if here is None:
-            raise End("absent" if field.optional or field.base >= FLOAT else self.default(field))
-        types = self.slot(at, field.slot - 2)
+            return "absent" if field.optional or field.base >= FLOAT else default_text(field.base, field.default)
         if field.base == UNION:
+            types = self.slot(at, field.slot - 2)
             return field, here, self.read("B", types) if types else 0
         if field.base == VECTOR and field.element == UNION:
+            types = self.slot(at, field.slot - 2)
             return field, self.behind(here), self.behind(types) if types else None
-        return field, here if self.schema.is_inline(field) else self.behind(here), None
-
-    def default(self, field):
-        low = struct.pack("<q", field.default)[: SIZES[field.base]]
-        return number_text(field.base, low)
+        return field, here if field.is_inline else self.behind(here), None
 
     def element(self, place, number):
         kind, at, types = place
         count, first = (kind.length, at) if kind.base == ARRAY else (self.read("I", at), at + 4)
         if number >= count:
-            raise End("no-element")
+            return "no-element"
         element = kind_of(kind.element, kind.index)
         here = first + number * self.schema.size(element.base, element.index)[0]
         if element.base == UNION:
@@ -366,34 +383,38 @@ class Reader:
 
     def member(self, place, name):
         kind, at, value = place
-        members = self.schema.unions[kind.index]
-        if value not in members or members[value].name != name:
-            raise End("other-member")
-        return members[value], self.behind(at), None
+        member = self.schema.unions[kind.index].get(value)
+        if member is None or member.name != name:
+            return "other-member"
+        return member, self.behind(at), None
 
     def shown(self, kind, at, value):
-        if kind.base < TEXT:
-            return number_text(kind.base, self.data[at : at + SIZES[kind.base]])
-        if kind.base == TEXT:
+        base = kind.base
+        if base < TEXT:
+            return number_text(base, self.data[at : at + SIZES[base]])
+        if base == TEXT:
             return quoted(self.data[at + 4 : at + 4 + self.read("I", at)])
-        if kind.base == VECTOR:
+        if base == VECTOR:
             return f"vector:{self.read('I', at)}"
-        if kind.base == ARRAY:
+        if base == ARRAY:
             return f"vector:{kind.length}"
-        if kind.base == UNION:
+        if base == UNION:
             return f"union:{value}"
         sizes = self.schema.structs[kind.index]
         return f"struct:{self.data[at : at + sizes[0]].hex()}" if sizes else "table"
 
 
+@functools.cache
+def default_text(base, default):
+    return number_text(base, struct.pack("<q", default)[: SIZES[base]])
+
+
 def number_text(base, data):
     if base >= FLOAT:
         return f"float:{data.hex()}"
-    number = struct.unpack(f"<{LETTERS[base]}", data)[0]
+    number = UNPACK[LETTERS[base]](data)[0]
     return str(number != 0).lower() if base == BOOL else str(number)
 
 
 def quoted(data):
-    marks = {0x22: '\\"', 0x5C: "\\\\"}
-    text = "".join(marks.get(byte, chr(byte) if 0x20 <= byte <= 0x7E else f"\\x{byte:02x}") for byte in data)
-    return f'"{text}"'
+    return f'"{data.decode("latin-1").translate(MARKS)}"'

@@ -17,10 +17,14 @@ def names_in(objects, enums):
     return sorted({row[0] for owner in [*objects, *enums] for row in owner[1]} - {""})
 
 
+def piece_text(piece):
+    kind, word = piece
+    return f".{word}" if kind == FIELD else f"@{word}" if kind == MEMBER else f"[{word}]"
+
+
 def text_of(pieces):
     """The path that these pieces make, of which the first is a field's name."""
-    written = {FIELD: ".{}", MEMBER: "@{}", ELEMENT: "[{}]"}
-    return "".join(written[kind].format(word) for kind, word in pieces)[1:]
+    return "".join(map(piece_text, pieces))[1:]
 
 
 def next_step(schema, kind, piece):
@@ -46,20 +50,24 @@ def next_step(schema, kind, piece):
 
 def resolved(schema, root, pieces):
     """The steps of a path from this table; or the number of the first fault, and that of its step."""
-    kind, steps = kind_of(OBJECT, root), []
-    for place, piece in enumerate(pieces):
+    return walked(schema, kind_of(OBJECT, root), [], pieces)[0]
+
+
+def walked(schema, kind, steps, pieces):
+    """The same where these steps lead to this type, and the type to which all lead, None where there is a fault."""
+    for piece in pieces:
         found = next_step(schema, kind, piece)
         if isinstance(found, int):
-            return found, place
-        steps.append(found[0])
-        kind = found[1]
-    return steps
+            return (found, len(steps)), None
+        step, kind = found
+        steps = [*steps, step]
+    return steps, kind
 
 
 def told(python, verifier, text):
     """What the library tells of a path, in the same words."""
     try:
-        return [(step.kind, step.number) for step in verifier.resolve(text)]
+        return verifier.resolve(text).numbers()
     except python.Error as error:
         verdict = error.verdict
         return (verdict.reason, verdict.at) if verdict.status == python.Status.BAD_PATH else error
@@ -70,19 +78,20 @@ def ways(python, verifier, schema, root, names, longest):
 
     Each path that resolves is asked with each piece behind it.
     """
-    found, differing, front = [], [], [([], None)]
-    pieces = pieces_of(names)
+    found, differing, front = [], [], [([], [], kind_of(OBJECT, root))]
+    pieces = [(piece, piece_text(piece)) for piece in pieces_of(names)]
     for length in range(longest):
         following = []
-        for before, _ in front:
-            for piece in pieces if length else pieces[: len(names)]:
-                path = [*before, piece]
-                text, want = text_of(path), resolved(schema, root, path)
+        for before, steps, kind in front:
+            text_before = text_of(before)
+            for piece, text in pieces if length else pieces[: len(names)]:
+                text = text_before + text if length else text[1:]
+                want, end = walked(schema, kind, steps, [piece])
                 got = told(python, verifier, text)
                 if got != want:
                     differing.append((text, got, want))
-                elif isinstance(want, list):
-                    following.append((path, want))
-        found += following
+                elif end is not None:
+                    following.append(([*before, piece], want, end))
+        found += [(path, steps) for path, steps, _ in following]
         front = following
     return found, differing

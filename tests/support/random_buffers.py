@@ -1,31 +1,26 @@
 """Buffers at random that are mostly well formed by a schema, and what may be done to their bytes."""
 
-import dataclasses
 import struct
 
-from tests.support.naive import OBJECT, TEXT, UNION, VECTOR, Field
+from tests.support.naive import OBJECT, TEXT, UNION, VECTOR
 
 MOST_TABLES = 16
 
 
-@dataclasses.dataclass
 class Entry:
-    """A field that is present: the size and alignment of its value or of one element, and its place in the table."""
+    """A field that is present: the size and alignment of its value or of one element, and its place in the table.
 
-    field: Field
-    size: int
-    alignment: int
-    at: int = 0
+    `inline` has the size and alignment of what stands in the table itself, and whether that's the value.
+    """
 
-    @property
-    def inline(self):
-        """The size and alignment of what stands in the table itself, and whether that's the value."""
-        is_value = self.field.base < TEXT or self.field.base == OBJECT and self.size != 0
-        return (self.size, self.alignment, True) if is_value else (4, 4, False)
+    def __init__(self, field, size, alignment):
+        self.field, self.size, self.alignment, self.at = field, size, alignment, 0
+        is_value = field.base < TEXT or field.base == OBJECT and size != 0
+        self.inline = (size, alignment, True) if is_value else (4, 4, False)
 
 
 def round_up(at, alignment):
-    return at + -at % max(alignment, 1)
+    return at + -at % (alignment or 1)
 
 
 class Builder:
@@ -35,18 +30,18 @@ class Builder:
         self.dice, self.schema = dice, schema
         self.data, self.pending, self.vtables = bytearray(), [], []
 
-    def put(self, letter, number):
-        self.data += struct.pack(f"<{letter}", number)
+    def put(self, number):
+        self.data += number.to_bytes(4, "little")
 
     def noise(self, count):
         """Bytes at random, of which half are 0."""
-        zeros, more = self.dice.randbytes(count), self.dice.randbytes(count)
-        self.data += bytes(byte if zero < 128 else 0 for zero, byte in zip(zeros, more))
+        if count:
+            zeros, more = self.dice.randbytes(count), self.dice.randbytes(count)
+            self.data += bytes([byte if zero < 128 else 0 for zero, byte in zip(zeros, more)])
 
     def pad(self, alignment, ahead=0):
         """Zeros up to a multiple of this alignment, counted from so many bytes behind the next."""
-        end = len(self.data) + ahead
-        self.data += bytes(round_up(end, alignment) - end)
+        self.data += bytes(-(len(self.data) + ahead) % (alignment or 1))
 
     def lead(self, word):
         """Lets the offset word at a position lead to what is written next."""
@@ -62,11 +57,11 @@ class Builder:
     def entries(self, fields, depth):
         """The fields that are present, in any order."""
         found = []
-        for field in self.dice.sample(fields, len(fields)):
-            absent = self.dice.once_in(60 if field.required else 4)
+        for field in self.dice.shuffled(fields):
+            if self.dice.once_in(60 if field.required else 4):
+                continue
             size, alignment = self.sizes(field)
-            too_deep = depth == 0 and field.base == OBJECT and size == 0
-            if not absent and not too_deep:
+            if depth or field.base != OBJECT or size:
                 found.append(Entry(field, size, alignment))
         return found
 
@@ -100,8 +95,8 @@ class Builder:
     def text(self, word):
         self.pad(4)
         self.lead(word)
-        count = self.dice.randrange(6)
-        self.put("I", count)
+        count = self.dice.below(6)
+        self.put(count)
         self.noise(count)
         self.data.append(0)
 
@@ -109,7 +104,7 @@ class Builder:
         """A vector of so many elements, of which the first stands at the answer."""
         self.pad(max(alignment, 4), 4)
         self.lead(word)
-        self.put("I", count)
+        self.put(count)
         first = len(self.data)
         self.noise(count * size)
         return first
@@ -120,7 +115,7 @@ class Builder:
     def union_type(self, number):
         """A type of a union, mostly one that it has."""
         values = list(self.schema.unions[number])
-        return self.dice.choice(values) if values and not self.dice.once_in(12) else self.dice.randrange(256)
+        return self.dice.choice(values) if values and not self.dice.once_in(12) else self.dice.below(256)
 
     def union_value(self, word, number, value, depth):
         """What stands behind the offset word of a union's value."""
@@ -139,7 +134,7 @@ class Builder:
 
     def union_vector(self, word, types, number, depth):
         """A vector of unions, and the vector of their types behind the other offset word."""
-        count = 0 if types is None else self.dice.randrange(4)
+        count = 0 if types is None else self.dice.below(4)
         first_type = None if types is None else self.vector(types, count, 1, 1)
         first = self.vector(word, count + self.dice.once_in(15), 4, 4)
         for place in range(count):
@@ -152,7 +147,7 @@ class Builder:
         field = entry.field
         is_tables = field.element == OBJECT and entry.size == 0
         size, alignment = (4, 4) if is_tables or field.element == TEXT else (entry.size, entry.alignment)
-        count = self.dice.randrange(4) if not is_tables else self.dice.randrange(3) if depth else 0
+        count = self.dice.below(4) if not is_tables else self.dice.below(3) if depth else 0
         first = self.vector(word, count, size, alignment)
         for at in range(first, first + 4 * count, 4):
             if field.element == TEXT:
@@ -160,12 +155,16 @@ class Builder:
             elif is_tables:
                 self.later(at, field.index, depth)
 
+    def types_of(self, table, field, entries):
+        """The position of the type of a union, or of a vector of types, None where it's absent."""
+        below = [table + other.at for other in entries if other.field.slot + 2 == field.slot]
+        return below[0] if below else None
+
     def fill(self, table, entry, entries, depth):
         """What a field of a table at a position leads to."""
         field, word = entry.field, table + entry.at
         is_union = field.base == UNION or field.base == VECTOR and field.element == UNION
-        below = [table + other.at for other in entries if other.field.slot + 2 == field.slot and is_union]
-        types = below[0] if below else None
+        types = self.types_of(table, field, entries) if is_union else None
         if field.base == UNION:
             if types is not None:
                 value = self.union_type(field.index)
@@ -188,7 +187,7 @@ class Builder:
         self.pad(alignment)
         at = len(self.data)
         self.lead(word)
-        self.put("i", at - vtable)
+        self.put((at - vtable) % 2**32)
         self.noise(size - 4)
         for entry in entries:
             self.fill(at, entry, entries, depth)
@@ -197,7 +196,7 @@ class Builder:
         """A buffer with this root, behind a size where that's asked for, with an identifier where there is one."""
         word = 4 if prefixed else 0
         self.data += bytes(word + 4) + (ident or b"")
-        self.later(word, root, self.dice.randrange(5))
+        self.later(word, root, self.dice.below(5))
         for _ in range(MOST_TABLES):
             if self.pending:
                 self.table(*self.pending.pop())
@@ -209,6 +208,6 @@ class Builder:
 def damaged(dice, data):
     """Up to three bytes changed, and now and then the end cut off."""
     data = bytearray(data)
-    for _ in range(dice.randrange(4)):
-        data[dice.randrange(len(data))] = dice.choice([dice.randrange(256), dice.randrange(16), 0])
-    return bytes(data[: dice.randrange(len(data)) if dice.once_in(10) else None])
+    for _ in range(dice.below(4)):
+        data[dice.below(len(data))] = dice.choice([dice.below(256), dice.below(16), 0])
+    return bytes(data[: dice.below(len(data)) if dice.once_in(10) else None])

@@ -28,6 +28,24 @@ class Random(random.Random):
         """True once in so many times."""
         return self.random() * times < 1
 
+    def below(self, count):
+        """A number below this one, as randrange chooses it."""
+        bits = count.bit_length()
+        number = self.getrandbits(bits)
+        while number >= count:
+            number = self.getrandbits(bits)
+        return number
+
+    def shuffled(self, items):
+        """These items in any order, as sample chooses it."""
+        rest, chosen = list(items), []
+        while rest:
+            place = self.below(len(rest))
+            chosen.append(rest[place])
+            rest[place] = rest[-1]
+            rest.pop()
+        return chosen
+
 
 class Maker:
     """Makes rows of which one choice of so many is a wrong one; none where that is 0."""

@@ -2,22 +2,30 @@
 
 from tests.support.naive import NAMES, quoted
 
+REASONS = {number: f"V{number} {NAMES[f'V{number}']}" for number in range(1, len(NAMES) + 1)}
+
+# How the values of each kind are written, in the order of the kinds' numbers.
+WRITTEN = [
+    lambda _: "absent", lambda _: "no-element", lambda _: "other-member",
+    lambda value: "true" if value == 1 else "false", str, str,
+    lambda value: f"float:{value.hex()}", quoted, lambda value: f"struct:{value.hex()}",
+    lambda value: f"vector:{value}", lambda _: "table", lambda value: f"union:{value}",
+]
+
 
 def line(verdict):
     """What stands behind the number in the line of a buffer."""
     if verdict.ok:
         return f"ok tables={verdict.tables} depth={verdict.depth} reads={verdict.reads}"
-    field, code = "-" if verdict.field is None else verdict.field, f"V{verdict.reason}"
-    return f"bad {code} {NAMES[code]} at={verdict.at} object={verdict.object} field={field} reads={verdict.reads}"
+    _, reason, owner, field, _, _, at, reads = verdict
+    return f"bad {REASONS[reason]} at={at} object={owner} field={'-' if field is None else field} reads={reads}"
 
 
 def text_of(kind, value):
     """The text of a value."""
-    name = kind.name.lower()
-    if name in ("float", "struct"):
-        return f"{name}:{value.hex()}"
-    if name == "text":
-        return quoted(value)
-    if name in ("vector", "union"):
-        return f"{name}:{value}"
-    return {"bool": str(value == 1).lower(), "int": str(value), "uint": str(value)}.get(name, name.replace("_", "-"))
+    return WRITTEN[kind](value)
+
+
+def texts_of(values):
+    """The texts of values, each with its kind."""
+    return [WRITTEN[kind](value) for kind, value in values]

@@ -9,14 +9,13 @@ class Node:
     def __init__(self, cost):
         self.cost, self.below = cost, []
 
-    def tables(self):
-        return 1 + sum(node.tables() for node in self.below)
-
-    def depth(self):
-        return 1 + max((node.depth() for node in self.below), default=0)
-
-    def reads(self):
-        return self.cost + sum(node.reads() for node in self.below)
+    def counts(self):
+        """The tables from here on, how many of them stand one below another, and the reads."""
+        tables, depth, reads = 1, 0, self.cost
+        for below in self.below:
+            more = below.counts()
+            tables, depth, reads = tables + more[0], max(depth, more[1]), reads + more[2]
+        return tables, depth + 1, reads
 
 
 class Builder(Reader):
@@ -32,12 +31,14 @@ class Builder(Reader):
 
     def table(self, at, number):
         node = Node(self.head)
-        size = self.read("H", at - self.read("i", at))
+        vtable = at - self.read("i", at)
+        size = self.read("H", vtable)
         for field in self.schema.tables[number]:
-            node.cost += field.slot + 2 <= size
-            here = self.slot(at, field.slot)
-            if here is not None and not self.schema.is_inline(field):
-                self.add(node, at, field, here)
+            if field.slot + 2 <= size:
+                node.cost += 1
+                word = self.read("H", vtable + field.slot)
+                if word and not field.is_inline:
+                    self.add(node, at, field, at + word)
         return node
 
     def add(self, node, at, field, here):
