@@ -3,12 +3,13 @@
 ghost use Rattle.std.specs.Prelude.{All, IfSome, true, ◌≡◌, ◌+◌, ◌*◌, ◌<◌, ◌≤◌, ◌^◌, ◌++◌, ℕ, List, codes, length};
 ghost use Rattle.std.specs.List.{flat_map};
 ghost use Rattle.hex.specs.Hex.{encode_lower};
+ghost use Rattle.fb_lines.specs.declared.options.Form.TheVariants.{Plain};
 ghost use Rattle.fb_lines.specs.AnswerText.{lent, quoted, spaced_answer, spelled};
 ghost use Rattle.fb_lines.specs.{Job.verdict_of, Line.short_line, Line.told_of, Line.verdict_line, Texts.to_out};
 ghost use Rattle.fb_lines.specs.Puts.{IsUnder, PutsBy, queue_of};
 
 use crate::checker::{Found, Wrong};
-use crate::options::Mode;
+use crate::options::{Form, Mode};
 use crate::value_text::{Spelling, spell};
 use crate::writing::{MOST_WAITING, Pending, Unwritten};
 use fb_access::Answer;
@@ -19,20 +20,22 @@ use std::alloc::Allocator;
 /// More bytes than any value has.
 const TOO_MANY: usize = 1 << 40;
 
-/// The values that the line of this verdict ends with, where it is told to the writer and one of them has more than
-/// 65,536 bytes.
+/// The values that the line of this verdict ends with, where it is a plain one that is told to the writer, and one of
+/// them has more than 65,536 bytes.
 #[tactic(auto, using(crate::proofs::LongLemmas::told_with))]
 pub fn long_answers<'v, 'b>(
+    form: Form,
     mode: Mode,
     verdict: &'v Result<Found<'b>, Wrong<'_>>,
 ) -> Option<&'v [Answer<'b>]>
+    ensures plain { IfSome result (λ _. form ≡ Plain) }
     ensures told { IfSome result (λ answers. (begin : List ℕ) (number : ℕ) (message : List ℕ) → told_of mode (begin ++ verdict_line number (verdict_of verdict.now)) message (verdict_of verdict.now)
         ≡ to_out (begin ++ (short_line number (verdict_of verdict.now) ++ (flat_map spaced_answer answers.now ++ codes "\n")))) }
     ensures few { IfSome result (λ answers. length answers.now ≤ 16) }
     ensures short { IfSome result (λ answers. All (λ answer. length (lent answer) < 2 ^ 40) answers.now) }
 {
-    match (mode, verdict) {
-        (Mode::Lines, Ok(found)) => {
+    match (form, mode, verdict) {
+        (Form::Plain, Mode::Lines, Ok(found)) => {
             let answers = found.answers.as_slice();
             if has_long(answers) {
                 Some(answers)

@@ -226,10 +226,7 @@ impl<A: Allocator> Output<A> {
         ensures counted { self.new.counter ≡ self.old.counter }
         ensures noted { self.new.notes.written ≡ self.old.notes.written }
     {
-        if let Form::Json = checker.form() {
-            return Ok(self.tell(checker, begin, number, message, verdict)?);
-        }
-        let Some(answers) = long_answers(checker.mode(), verdict) else {
+        let Some(answers) = long_answers(checker.form(), checker.mode(), verdict) else {
             return Ok(self.tell(checker, begin, number, message, verdict)?);
         };
         self.line.set(number, verdict);

@@ -63,7 +63,6 @@ impl Ran {
 /// `NoteFault` is the same of the notes.
 /// - `OutOfMemory` where memory was refused: what is told of the first messages is written, of a bare input nothing.
 /// - `BareTooLong` where more than `max_bytes` bytes of a bare input were read: nothing is written.
-#[tactic(auto, using(crate::proofs::RunLemmas::runs_none, crate::proofs::RunLemmas::ends_none))]
 pub fn run_beside<A: Allocator, S: Input<K, N>, K: Sink, N: Sink>(
     alloc: A,
     reader: &mut S,

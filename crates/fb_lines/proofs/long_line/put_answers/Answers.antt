@@ -8,12 +8,12 @@ loop-answer-init g c = puts_none (queue_of g.K.Sink c.args.out.now c.args.sink.n
 
 pub loop-answer-preserved : goal.loop-answer-preserved
 loop-answer-preserved g c =
-    puts_within (omega arith) (puts_each spaced_answer c.args.answers.now c.loop-answer.answer-index _ (search rules) refl c.loop-answer.invariant c.in_ok-put_answer.ensures)
+    puts_within (omega arith) (puts_each spaced_answer c.args.answers.now c.loop-answer.answer-index _ c.loop-answer-test.true refl c.loop-answer.invariant c.in_ok-put_answer.ensures)
 
 pub returns-in_err-put_answer : goal.returns-in_err-put_answer
 returns-in_err-put_answer g c =
     by_exit _ _ _ c.from_residual.ensures.1
-    (part_each spaced_answer c.args.answers.now c.loop-answer.answer-index _ (search rules) refl c.loop-answer.invariant c.in_err-put_answer.ensures)
+    (part_each spaced_answer c.args.answers.now c.loop-answer.answer-index _ c.loop-answer-test.true refl c.loop-answer.invariant c.in_err-put_answer.ensures)
 
 pub returns : goal.returns
-returns g c = puts_all spaced_answer c.args.answers.now c.loop-answer.answer-index (search rules) (search rules) c.loop-answer.invariant
+returns g c = puts_all spaced_answer c.args.answers.now c.loop-answer.answer-index c.loop-answer-test.false (search rules) c.loop-answer.invariant

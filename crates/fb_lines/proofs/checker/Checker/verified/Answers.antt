@@ -18,3 +18,10 @@ returns-after-put_place-clause-refused g c =
       | in-Ok-put_place w ↦ rw w.result-is tt
       | in-Err-put_place w ↦ rw w.result-is (has_place job bytes fault links (rw (sym c.self.view_is) c.in-Words.is) stops along)
     ]
+
+pub returns-in-Ok-verify_and_locate-clause-verdict : goal.returns-in-Ok-verify_and_locate-clause-verdict
+returns-in-Ok-verify_and_locate-clause-verdict g c =
+    let meter = ap (λ m. m.bytes) c.in-Ok.ensures.meter in (
+      rw (sym c.limits_for-limits.ensures, sym c.start-start.ensures, sym c.self.view_is) (rw meter at c.in-Ok-verify_and_locate.ensures.yes),
+      rw (sym c.start-start.ensures, sym c.self.view_is) (rw meter at c.in-Ok-verify_and_locate.ensures.kept),
+    )

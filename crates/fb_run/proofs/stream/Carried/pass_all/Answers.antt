@@ -1,4 +1,5 @@
-use Rattle.std.proofs.Common.{rules, ap, sym, true, false}
+use Rattle.std.proofs.Common.{arith, rules, ap, sym, true, false, ◌∙◌}
+use mathlib.Core.Logic.{inl}
 use Rattle.fb_lines.specs.Ends.{outs_of}
 use Rattle.fb_run.specs.{Leave.ends_of, Leave.reader_of, Stream.Standing, Stream.standing}
 use Rattle.fb_run.proofs.{ThroughLemmas.fails_piece, ThroughLemmas.sofar_piece}
@@ -50,7 +51,27 @@ loop-left-preserved g c =
     let now = ends_of g.S.Input g.K.Sink g.N.Sink c.loop-left.reader c.loop-left.writer c.loop-left.notes in
     let told = sofar_piece _ (standing c.loop-left.self) _ _ _ first now (reader_of g.S.Input c.pull_piece.new.source) (outs_of g.K.Sink g.N.Sink c.pass_piece.new.writer c.pass_piece.new.notes)
     c.as_slice-in-loop-left.ensures.value before.empty before.told c.in-Ok.ensures.ok _ c.in_ok-pass_piece.ensures.passes in
-    search rules
+    let read = c.in-Ok.ensures in
+    let passed = c.in_ok-pass_piece.ensures in
+    let more = c.loop-left-test.true in
+    record {
+      room = read.room ∙ before.room;
+      ready = passed.ready;
+      empty = passed.empty;
+      told = told;
+      fewer = omega (arith, before.fewer);
+      calls = omega (arith, before.calls, read.counted, more);
+      few = omega (arith, before.few, passed.few, more);
+      load = (
+        omega (arith, before.load.0, passed.load.0, before.fewer, more),
+        omega (arith, before.load.1, passed.load.1, before.fewer, more),
+        omega (arith, before.load.2, passed.load.2, before.fewer, more),
+        omega (arith, before.load.3, passed.load.3, before.fewer, more),
+      );
+      tells = omega (arith, before.tells, passed.tells, more);
+      asks = (omega (arith, read.failure, before.asks.0), inl (search rules));
+      unfailed = (passed.unfailed.0 ∙ before.unfailed.0, passed.unfailed.1 ∙ before.unfailed.1);
+    }
 
 pub returns-in_err-pass_piece-clause-run : goal.returns-in_err-pass_piece-clause-run
 returns-in_err-pass_piece-clause-run g c =
@@ -67,4 +88,43 @@ returns-in_err-pass_piece-clause-end g c =
     let first = ends_of g.S.Input g.K.Sink g.N.Sink c.args.reader.now c.args.writer.now c.args.notes.now in
     let now = ends_of g.S.Input g.K.Sink g.N.Sink c.pull_piece.new.source c.pass_piece.new.writer c.pass_piece.new.notes in
     rw (err_is _ _ c.from_residual-in_err-pass_piece.ensures.1) (caused_then first.reader.failures now.reader.failures _ _ first.outs (outs_of g.K.Sink g.N.Sink c.loop-left.writer c.loop-left.notes) now.outs c.in_err-pass_piece.field-0.0
-    (search rules) before.unfailed c.in_err-pass_piece.ensures.failed)
+    (omega (arith, c.in-Ok.ensures.failure, before.asks.0)) before.unfailed c.in_err-pass_piece.ensures.failed)
+
+pub returns-in_err-whole-clause-turns : goal.returns-in_err-whole-clause-turns
+returns-in_err-whole-clause-turns g c = c.read_whole.ensures.turns
+
+pub returns-then-is_bare-clause-turns : goal.returns-then-is_bare-clause-turns
+returns-then-is_bare-clause-turns g c = c.read_whole.ensures.turns
+
+pub returns-then-is_bare-clause-pushes : goal.returns-then-is_bare-clause-pushes
+returns-then-is_bare-clause-pushes g c = omega (arith, c.tell_whole.ensures.pushes)
+
+pub returns-in-Ok-eq0-clause-turns : goal.returns-in-Ok-eq0-clause-turns
+returns-in-Ok-eq0-clause-turns g c = omega (arith, c.loop-left.invariant.calls, c.pull_piece.ensures.counted, c.loop-left-test.true)
+
+pub returns-in_err-finish-in-Ok-eq0-clause-turns : goal.returns-in_err-finish-in-Ok-eq0-clause-turns
+returns-in_err-finish-in-Ok-eq0-clause-turns g c = omega (arith, c.loop-left.invariant.calls, c.pull_piece.ensures.counted, c.loop-left-test.true)
+
+pub returns-in-Err-clause-turns : goal.returns-in-Err-clause-turns
+returns-in-Err-clause-turns g c = omega (arith, c.loop-left.invariant.calls, c.pull_piece.ensures.counted, c.loop-left-test.true)
+
+pub returns-in_err-pass_piece-clause-turns : goal.returns-in_err-pass_piece-clause-turns
+returns-in_err-pass_piece-clause-turns g c = omega (arith, c.loop-left.invariant.calls, c.pull_piece.ensures.counted, c.loop-left-test.true)
+
+pub returns-in-Ok-eq0-clause-pushes : goal.returns-in-Ok-eq0-clause-pushes
+returns-in-Ok-eq0-clause-pushes g c = omega (arith, c.loop-left.invariant.tells, c.requires.turns)
+
+pub returns-in_err-finish-in-Ok-eq0-clause-pushes : goal.returns-in_err-finish-in-Ok-eq0-clause-pushes
+returns-in_err-finish-in-Ok-eq0-clause-pushes g c = omega (arith, c.loop-left.invariant.tells, c.requires.turns)
+
+pub returns-in-Err-clause-pushes : goal.returns-in-Err-clause-pushes
+returns-in-Err-clause-pushes g c = omega (arith, c.loop-left.invariant.tells, c.requires.turns)
+
+pub returns-in_err-pass_piece-clause-pushes : goal.returns-in_err-pass_piece-clause-pushes
+returns-in_err-pass_piece-clause-pushes g c = omega (arith, c.loop-left.invariant.tells, c.pass_piece.ensures.tells, c.requires.turns, c.loop-left-test.true)
+
+pub returns-clause-turns : goal.returns-clause-turns
+returns-clause-turns g c = omega (arith, c.loop-left.invariant.calls)
+
+pub returns-clause-pushes : goal.returns-clause-pushes
+returns-clause-pushes g c = omega (arith, c.loop-left.invariant.tells, c.requires.turns)

@@ -1,8 +1,9 @@
-use Rattle.std.proofs.KnownBytes.{Keeps-refl}
+use Rattle.std.proofs.{Common.refl, KnownBytes.Keeps-refl}
 use Rattle.std.proofs.lemmas.{List.take_rest, Result.IfErr-weaker, Result.on_ok_weaker}
 use Rattle.fb_verify.proofs.Frames.{if_err_exit}
-use Rattle.fb_lines.specs.Ends.{writer_of}
+use Rattle.fb_lines.specs.Ends.{Outs, outs_of, writer_of}
 use Rattle.fb_run.specs.Stream.{standing}
+use Rattle.fb_run.proofs.RunLemmas.{caused_then}
 use Rattle.fb_run.proofs.ThroughLemmas.{passes_rest, stops_held, stops_rest, written_held}
 use Rattle.fb_run.proofs.stream.Carried.pass_piece.Goals as goal
 
@@ -26,3 +27,11 @@ returns-clause-stops g c =
     let front = written_held _ (standing c.args.self.now) _ c.in_ok-held.held _ _ (writer_of g.K.Sink c.args.writer.now) (writer_of g.K.Sink c.pass_held.new.writer) (writer_of g.N.Sink c.args.notes.now)
     (take_rest c.args.piece.now c.in_ok-held.held) c.pass_held.ensures.noted c.in_ok-held.ensures.onward in
     IfErr-weaker c.pass_rest.result _ _ (λ fault stops. stops_rest _ (standing c.args.self.now) _ _ _ _ _ _ front _ fault stops) c.pass_rest.ensures.stops
+
+pub returns-clause-failed : goal.returns-clause-failed
+returns-clause-failed g c =
+    let notes = writer_of g.N.Sink c.args.notes.now in
+    let first : Outs = record { writer = writer_of g.K.Sink c.args.writer.now; notes = notes } in
+    let between : Outs = record { writer = writer_of g.K.Sink c.pass_held.new.writer; notes = notes } in
+    let last = outs_of g.K.Sink g.N.Sink c.pass_rest.new.writer c.pass_rest.new.notes in
+    IfErr-weaker c.pass_rest.result _ _ (λ fault caused reads left ended. caused_then reads reads left ended first between last fault refl (c.in_ok-held.ensures.unfailed, refl) caused) c.pass_rest.ensures.failed

@@ -1,4 +1,4 @@
-use Rattle.std.proofs.Common.{refl, rules}
+use Rattle.std.proofs.Common.{arith, refl, rules, ◌∙◌}
 use Rattle.std.proofs.lemmas.List.{length-drop, take_all, take_rest}
 use Rattle.fb_verify.proofs.Frames.{if_err_exit}
 use Rattle.fb_lines.specs.Ends.{outs_of}
@@ -17,7 +17,15 @@ fronts-preserved g c =
     let front = c.in_ok-used.ensures in
     let left = length-drop c.in_ok-used.used c.fronts.rest.now in
     let passed = written_more _ _ _ _ c.in_ok-used.used _ c.fronts.rest.now _ _ _ _ (take_rest c.fronts.rest.now c.in_ok-used.used) front.empty c.fronts.invariant.passed front.passes in
-    search rules
+    let before = c.fronts.invariant in
+    record {
+      ready = front.ready;
+      passed = passed;
+      within = omega (arith, left, before.within);
+      few = omega (arith, left, front.within, front.few, before.few);
+      load = search rules;
+      unfailed = (front.unfailed.0 ∙ before.unfailed.0, front.unfailed.1 ∙ before.unfailed.1);
+    }
 
 pub returns-in_err-used-clause-stops : goal.returns-in_err-used-clause-stops
 returns-in_err-used-clause-stops g c =
