@@ -30,7 +30,6 @@ pub fn is_at(again: Option<u32>, place: usize) -> bool
 }
 
 /// The first demand that a field of a struct breaks, with the field's place.
-#[tactic(auto, using(crate::proofs::WalkLemmas::past_struct))]
 pub fn struct_fields_fault<A: Allocator + Copy>(
     alloc: A,
     rows: &RowLists,

@@ -13,12 +13,14 @@ pub struct Lists<T: Drop, A: Allocator> {
     ghost within: { AreWithin rows.items ranges.items },
 }
 
-impl<T: Copy, A: Allocator + Copy> Lists<T, A> {
-    ghost use Rattle.std.specs.Prelude.{◌≡◌, ◌<◌, [], ◌∷◌, ◌++◌, OnOk, IsOkAnd, slice_get, Some};
+impl<T: Drop, A: Allocator> Lists<T, A> {
+    ghost use Rattle.std.specs.Prelude.{◌≡◌, ◌<◌, [], slice_get, Some};
     ghost use Rattle.fb_schema.specs.FlatLists.{lists_of};
 
     /// No lists.
     pub fn new(alloc: A) -> Lists<T, A>
+    where
+        A: Copy,
         ensures { lists_of result ≡ [] }
     {
         Lists {
@@ -34,6 +36,20 @@ impl<T: Copy, A: Allocator + Copy> Lists<T, A> {
         self.ranges.reserve_exact(lists)?;
         self.rows.reserve_exact(items)
     }
+
+    /// The list at `n`.
+    pub fn get(&self, n: usize) -> &[T]
+        requires { n < length (lists_of self.now) }
+        ensures { slice_get (lists_of self.now) n ≡ Some result.now }
+    {
+        let (start, end) = self.ranges[n];
+        &self.rows[start..end]
+    }
+}
+
+impl<T: Copy, A: Allocator + Copy> Lists<T, A> {
+    ghost use Rattle.std.specs.Prelude.{◌≡◌, [], ◌∷◌, ◌++◌, OnOk, IsOkAnd};
+    ghost use Rattle.fb_schema.specs.FlatLists.{lists_of};
 
     /// Adds a list at the end.
     pub fn push(&mut self, list: &[T]) -> Result<(), AllocError>
@@ -51,14 +67,5 @@ impl<T: Copy, A: Allocator + Copy> Lists<T, A> {
     {
         let list = made?;
         self.push(&list)
-    }
-
-    /// The list at `n`.
-    pub fn get(&self, n: usize) -> &[T]
-        requires { n < length (lists_of self.now) }
-        ensures { slice_get (lists_of self.now) n ≡ Some result.now }
-    {
-        let (start, end) = self.ranges[n];
-        &self.rows[start..end]
     }
 }

@@ -10,6 +10,12 @@ use crate::rows::FieldRow;
 use crate::views::FieldView;
 use std::alloc::{AllocError, Allocator};
 
+fn slot_of(field: &FieldRow) -> u16
+    ensures { result ≡ field.now.slot }
+{
+    field.slot
+}
+
 /// The rows of live fields in rising slot.
 fn live_rows<'n, A: Allocator>(
     alloc: A,
@@ -26,7 +32,7 @@ fn live_rows<'n, A: Allocator>(
             live.push(*field)?;
         }
     }
-    live.sort_unstable_by_key(|f| f.slot);
+    live.sort_unstable_by_key(slot_of);
     Ok(live)
 }
 
@@ -39,7 +45,7 @@ fn place_below(live: &[FieldRow], slot: u16) -> Option<u32>
     if slot < 2 {
         return None;
     }
-    match live.binary_search_by_key(&(slot - 2), |f| f.slot) {
+    match live.binary_search_by_key(&(slot - 2), slot_of) {
         Ok(at) => Some(at as u32),
         Err(_) => None,
     }

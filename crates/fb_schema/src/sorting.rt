@@ -36,11 +36,17 @@ pub fn first_again<K: Ord>(order: &[(K, u32)]) -> Option<u32>
     first
 }
 
+fn key_of<K: Copy>(entry: &(K, u32)) -> K
+    ensures { result ≡ entry.now.0 }
+{
+    entry.0
+}
+
 /// The place of a key.
 pub fn place_of<K: Ord + Copy>(order: &[(K, u32)], key: &K) -> Option<u32>
     ensures { (keys : List K) → IsOrderOf K.cmp keys order.now → IsPlaceOf K.cmp keys key.now result }
 {
-    match order.binary_search_by_key(key, |entry| entry.0) {
+    match order.binary_search_by_key(key, key_of) {
         Ok(at) => Some(order[at].1),
         Err(_) => None,
     }

@@ -182,7 +182,6 @@ fn entry_at<T>(entries: &[T], index: i32) -> Option<&T>
 
 impl<'r, 'n> RowLists<'r, 'n> {
     /// The object that an index names.
-    #[tactic(auto, using(crate::proofs::LookLemmas::entry_found))]
     pub fn object_at(&self, index: i32) -> Option<&'r ObjectPart<'n>>
         ensures { found_object self.now.fields.now result ≡ entry_at (borrowed_rows self.now).objects index }
     {
@@ -190,7 +189,6 @@ impl<'r, 'n> RowLists<'r, 'n> {
     }
 
     /// The enum that an index names.
-    #[tactic(auto, using(crate::proofs::LookLemmas::entry_found))]
     pub fn enum_at(&self, index: i32) -> Option<&'r EnumPart<'n>>
         ensures { found_enum self.now.members.now result ≡ entry_at (borrowed_rows self.now).enums index }
     {

@@ -2,7 +2,7 @@ use Rattle.std.proofs.Common.{◌≡◌, map, get_or, sym, ◌∙◌, below_more
 use Rattle.std.proofs.lemmas.Option.{slice_get-get_or}
 use Rattle.fb_schema.specs.{FlatRows.borrowed_rows, Rows.field_of}
 use Rattle.fb_schema.specs.Demands.{first_code, struct_asked}
-use Rattle.fb_schema.proofs.{Blank.blank_field, WalkLemmas.struct_code}
+use Rattle.fb_schema.proofs.{Blank.blank_field, WalkLemmas.struct_code, WalkLemmas.past_struct}
 use Rattle.fb_schema.proofs.first_fault.struct_fields_fault.Goals as goal
 use Rattle.fb_schema.proofs.first_fault.struct_fields_fault.Goals.{After-struct_field_fault}
 
@@ -18,3 +18,6 @@ returns-in-Some g c = (sym (found g (goal.at.returns-in-Some g c).After-struct_f
 
 pub loop-p-preserved : goal.loop-p-preserved
 loop-p-preserved g c = below_more _ _ c.loop-p.invariant (sym (found g (goal.at.loop-p-preserved g c).After-struct_field_fault) ∙ c.in_default.is)
+
+pub returns : goal.returns
+returns g c = past_struct (borrowed_rows c.args.rows.now) c.args.object.now.bytesize c.args.fields.now c.loop-p.p c.loop-p-test.false c.loop-p.invariant

@@ -14,3 +14,6 @@ returns g c =
     let rows = borrowed_rows c.args.rows.now in
     let past : length rows.objects ≤ c.loop-n.n = rw length-map (omega arith) in
     subst (λ os. IsLiveIndex rows os c.loop-n.index) (take_all c.loop-n.n rows.objects past) c.loop-n.invariant
+
+pub add-requires-clause-parts : goal.add-requires-clause-parts
+add-requires-clause-parts g c = c.requires.parts

@@ -14,3 +14,6 @@ pub returns : goal.returns
 returns g c =
     let past : length c.args.rows.now.enums.now ≤ c.loop-n.n = omega arith in
     subst (λ es. IsMemberIndex (borrowed_rows c.args.rows.now) c.args.rows.now.members.now es c.loop-n.index) (take_all c.loop-n.n c.args.rows.now.enums.now past) c.loop-n.invariant
+
+pub add-requires-clause-parts : goal.add-requires-clause-parts
+add-requires-clause-parts g c = c.requires.parts

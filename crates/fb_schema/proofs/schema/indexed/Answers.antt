@@ -16,3 +16,9 @@ returns-clause-made g c = record {
   fields = c.in_ok-live.ensures;
   kinds = c.in_ok-members.ensures;
 }
+
+pub live_index-requires-clause-legal : goal.live_index-requires-clause-legal
+live_index-requires-clause-legal g c = c.in_ok-legal.ensures.legal
+
+pub member_index-requires-clause-legal : goal.member_index-requires-clause-legal
+member_index-requires-clause-legal g c = c.in_ok-legal.ensures.legal
