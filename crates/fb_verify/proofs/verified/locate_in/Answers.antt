@@ -58,3 +58,9 @@ put_links-links-requires-clause-linked c =
     let a = c.args in
     let bytes = c.seal-window.ensures.bytes ∙ ap (λ m. m.bytes) c.settle.ensures.count ∙ ap (λ m. m.bytes) c.lend-loan.ensures.untold ∙ sym (ap (λ m. m.bytes) c.lend-loan.ensures.lent) in
     subst (λ (b : List ℕ). All (IsLinked a.checks b a.schema.now) (take c.in-Err.halt.links c.trace-answer.new.frames)) (sym bytes) (c.in-Err.ensures.along (enough c.requires.room c.trace-answer.auto.frames)).linked
+
+pub returns-in-Err-clause-along : goal.returns-in-Err-clause-along
+returns-in-Err-clause-along c =
+    let fault = c.fault-fault.ensures ∙ ap (λ m. stopped c.in-Err.halt.stop m.count) c.settle.ensures.count in
+    let bytes = c.seal-window.ensures.bytes ∙ ap (λ m. m.bytes) c.settle.ensures.count ∙ ap (λ m. m.bytes) c.lend-loan.ensures.untold in
+    rw (c.put_links-links.ensures.links, fault, bytes) (rw (ap (λ m. m.bytes) c.lend-loan.ensures.lent) at (c.in-Err.ensures.along (enough c.requires.room c.trace-answer.auto.frames)).along)

@@ -166,3 +166,6 @@ returns-in_default g c =
     let p = c.pass_plain.ensures in
     field_turned c.args.self.now c.loop-steps.self c.go_into.new.self c.args.reads.now c.pass_plain.new.reads c.go_into.new.reads g.under i.same (p.bytes ∙ i.bytes) c.args.top.now c.pass_plain.new.top c.go_into.new.top c.go_into.new.child
     (ap (λ x. x.table) p.same ∙ i.table) (onto i.grows p.grows) (falls g d) c.go_into.result c.in_default.not-Up c.go_into.ensures
+
+pub stop_in_field-requires-clause-next : goal.stop_in_field-requires-clause-next
+stop_in_field-requires-clause-next g c = rw (ap (λ (x : Frame). x.table) c.pass_plain.ensures.same) (c.in-Err.ensures.comes).next

@@ -64,3 +64,6 @@ pass_steps-passed-requires g c =
         ),
       ),
     )
+
+pub stop_in_field-requires-clause-next : goal.stop_in_field-requires-clause-next
+stop_in_field-requires-clause-next g c = rw c.requires.0 at (c.in-Err.ensures.comes).next

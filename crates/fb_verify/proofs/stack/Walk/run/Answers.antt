@@ -8,7 +8,7 @@ use Rattle.fb_verify.specs.declared.{scratch.Frame.Frame, stack.Walk.Walk}
 use Rattle.fb_verify.specs.Turns.{GoneOn, WentOver}
 use Rattle.fb_verify.specs.Stack.{blank, links_left, opened, IsFrame, IsLinked, IsUnderWay, Origin, StopsIn, work}
 use Rattle.fb_rules.proofs.Few.{head_few}
-use Rattle.fb_verify.proofs.{Frames.frame_opened, Frames.if_err_exit, Frames.if_err_map, Frames.if_ok_map, Frames.work_opened, Standings.begin, Standings.stop_at_root, Turning.gone_from, Turning.halts_from, Turning.on_where, Turning.over_from, Turning.over_where, Turning.root_kept, Turning.used_where, Turning.walked_over}
+use Rattle.fb_verify.proofs.{Frames.frame_opened, Frames.if_err_exit, Frames.if_err_map, Frames.if_ok_map, Frames.work_opened, Standings.begin, Standings.stop_at_root, Turning.gone_from, Turning.halts_from, Turning.on_where, Turning.over_from, Turning.over_where, Turning.root_kept, Turning.used_where, Turning.walked_over, Turning.wrong_from}
 use Rattle.fb_verify.proofs.stack.Walk.run.Goals.{After-from_residual, After-go_deeper, In-Err, In-None, In-Ok, Joined-is_plain, then-is_plain+in_default, else-is_plain, In-Up}
 use Rattle.fb_verify.proofs.stack.Walk.run.Goals as goal
 
@@ -192,3 +192,20 @@ returns-in-None-clause-bytes g c = (over g c).bytes
 
 pub returns-in-Some-clause-bytes : goal.returns-in-Some-clause-bytes
 returns-in-Some-clause-bytes g c = c.go_deeper.ensures.bytes ∙ (went g c).bytes
+
+-- or stops in it
+
+pub returns-in-Halt-clause-deep : goal.returns-in-Halt-clause-deep
+returns-in-Halt-clause-deep g c =
+    let stops = wrong_from c.args.self.now c.open_table.new.self c.pass_root.new.self c.args.loan.now c.open_table.new.loan c.pass_root.new.loan g.start _ _ c.in-Ok.ensures.opened c.in-Ok.ensures.bytes [] c.in-Halt.ensures.0 in
+    stops.deep
+
+pub returns-in-Halt-clause-err : goal.returns-in-Halt-clause-err
+returns-in-Halt-clause-err g c =
+    let stops = wrong_from c.args.self.now c.open_table.new.self c.pass_root.new.self c.args.loan.now c.open_table.new.loan c.pass_root.new.loan g.start _ _ c.in-Ok.ensures.opened c.in-Ok.ensures.bytes [] c.in-Halt.ensures.0 in
+    (_, stops.err)
+
+pub returns-in-Halt-clause-along : goal.returns-in-Halt-clause-along
+returns-in-Halt-clause-along g c _ =
+    let stops = wrong_from c.args.self.now c.open_table.new.self c.pass_root.new.self c.args.loan.now c.open_table.new.loan c.pass_root.new.loan g.start _ _ c.in-Ok.ensures.opened c.in-Ok.ensures.bytes [] c.in-Halt.ensures.0 in
+    rw c.in-Halt.ensures.1 (rw c.in-Halt.ensures.1 at stops.err)
