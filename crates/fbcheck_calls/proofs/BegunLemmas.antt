@@ -1,5 +1,5 @@
 -- What is answered of a buffer once its check has begun.
-use Rattle.std.proofs.Common.{◌≡◌, ℕ, ◌<◌, ◌≤◌, ◌^◌, arith, ◌↔◌, List, length, Result, Ok, Err, sym, subst, ap, refl, IsErr, IsSomeAnd}
+use Rattle.std.proofs.Common.{◌≡◌, ℕ, ◌<◌, ◌≤◌, ◌^◌, arith, ◌↔◌, List, length, Result, Ok, Err, sym, subst, refl, IsErr, IsSomeAnd}
 use Rattle.fb_verify.specs.Sealed.{Sealed}
 use Rattle.fb_rules.specs.{Question.Question, Question.question, Stops.Stops, Verdict.HasNone, Verdict.Reports}
 use Rattle.fb_rules.specs.declared.{checks.Checks.Checks, fault.Fault.Fault, fault.Report.Report, start.Ident.Ident, start.Start.Start}
@@ -7,7 +7,7 @@ use Rattle.fb_bfbs.specs.declared.loading.Loaded.{Loaded}
 use Rattle.fbcheck_calls.specs.declared.{checking.Begun.Begun, options.Options.Options, steps.PlainPath.PlainPath, values.Value.Value}
 use Rattle.fbcheck_calls.specs.declared.answer.Answer.TheVariants.{Good, Bad, TooLong}
 use Rattle.fbcheck_calls.specs.Answered.{Begins, IsBadFrom, IsChecked, IsGoodFrom, Serves}
-use Rattle.fbcheck_calls.specs.Asked.{checks_asked, ident_asked, question_of, root_asked, start_asked}
+use Rattle.fbcheck_calls.specs.Asked.{checks_asked, ident_asked, question_of, start_asked}
 use Rattle.fbcheck_calls.specs.{Reached.AllFitAsked, Reached.IsRead, Steps.AllFit, Steps.IsFirstMisfit, Values.AreValues}
 
 -- what was counted anew is short

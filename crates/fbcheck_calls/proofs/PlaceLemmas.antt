@@ -1,11 +1,11 @@
 -- The place of a fault is written where its way was found.
-use Rattle.std.proofs.Common.{◌≡◌, ℕ, ◌<◌, ◌^◌, List, length, sym, subst, IsSomeAnd}
+use Rattle.std.proofs.Common.{◌≡◌, ℕ, ◌<◌, ◌^◌, List, length, subst}
 use Rattle.fb_rules.specs.{Links.StopsAlong, Question.Question, Question.question, Stops.Stops, Verdict.HasNone}
-use Rattle.fb_rules.specs.declared.{checks.Checks.Checks, fault.Fault.Fault, link.Link.Link, start.Ident.Ident, start.Start.Start}
+use Rattle.fb_rules.specs.declared.{checks.Checks.Checks, fault.Fault.Fault, link.Link.Link, start.Start.Start}
 use Rattle.fb_access.specs.Location.{location_text}
 use Rattle.fb_bfbs.specs.declared.loading.Loaded.{Loaded}
 use Rattle.fbcheck_calls.specs.declared.{answer.Answer.TheVariants.Bad, checking.Begun.Begun, options.Options.Options}
-use Rattle.fbcheck_calls.specs.{Answered.Begins, Answered.IsBadFrom, Answered.Serves, Asked.checks_asked, Asked.ident_asked, Asked.start_asked}
+use Rattle.fbcheck_calls.specs.{Answered.Begins, Answered.IsBadFrom, Answered.Serves, Asked.checks_asked, Asked.start_asked}
 use Rattle.fbcheck_calls.proofs.BegunLemmas.{serve}
 use Rattle.fbcheck_calls.specs.Placed.{IsLocated, IsPlaceTold, IsTextTold}
 

@@ -1,4 +1,4 @@
-use Rattle.std.proofs.Common.{◌≡◌, ◌<◌, ◌^◌, length, ap, refl, sym, subst, rules}
+use Rattle.std.proofs.Common.{◌≡◌, ◌<◌, ◌^◌, length, ap, refl, sym, subst}
 use Rattle.fb_bytes.specs.Word.{Metered}
 use Rattle.fb_verify.specs.Sealed.{Sealed}
 use Rattle.fbcheck_calls.specs.{Steps.AllFit}
