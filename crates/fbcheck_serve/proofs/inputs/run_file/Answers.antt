@@ -1,8 +1,8 @@
-use Rattle.std.proofs.Common.{◌∙◌, refl, sym}
+use Rattle.std.proofs.Common.{◌∙◌, refl, rules, sym}
 use Rattle.fb_run.specs.Job.{job_of}
 use Rattle.fbcheck_serve.specs.Inputs.{folder_of, seen_of}
 use Rattle.fbcheck_serve.specs.declared.inputs.Missed.TheVariants as missed
-use Rattle.fbcheck_serve.proofs.InputsLemmas.{comes_missed, comes_opened, comes_standard}
+use Rattle.fbcheck_serve.proofs.InputsLemmas.{comes_missed, comes_opened}
 use Rattle.fbcheck_serve.proofs.inputs.run_file.Goals as goal
 
 pub returns-in-Ok-clause-comes : goal.returns-in-Ok-clause-comes
@@ -28,12 +28,4 @@ returns-in-Err-clause-comes g c =
     c.missed-in-Err.result.what c.missed-in-Err.result.cause (missed.File c.in-Err.fault) c.missed-in-Err.ensures (sym c.eq.ensures ∙ c.if-eq.false, c.in-Err.ensures.fault)
 
 pub returns-in-Unread-clause-comes : goal.returns-in-Unread-clause-comes
-returns-in-Unread-clause-comes g c =
-    comes_standard (folder_of g.F.Files g.F.Opened.Source g.F.Opened.Explains c.args.files.now) (job_of c.args.schema.now c.args.options.now) c.args.name.now c.args.standard (seen_of g.S.Input g.S.Explains g.K.Sink g.N.Sink c.args.reader.now c.args.writer.now c.args.notes.now)
-    (seen_of g.S.Input g.S.Explains g.K.Sink g.N.Sink c.run_beside-ran.new.reader c.run_beside-ran.new.writer c.run_beside-ran.new.notes)
-    c.by.result.what c.by.result.cause c.run_beside-ran.result c.by.ensures.what (sym c.eq.ensures ∙ c.if-eq.true) (record {
-      first = c.in-Unread.is;
-      run = c.run_beside-ran.ensures.run;
-      end = c.run_beside-ran.ensures.end;
-      cause_is = c.by.ensures.cause;
-    })
+returns-in-Unread-clause-comes g c = search rules
