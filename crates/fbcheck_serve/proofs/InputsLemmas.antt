@@ -1,5 +1,5 @@
 -- Files that are gone through one behind another.
-use Rattle.std.proofs.Common.{◌≡◌, ◌∙◌, ℕ, zero, suc, ◌+◌, ◌<◌, ◌≤◌, List, [], ◌∷◌, ◌++◌, Bool, Option, Ok, Err, length, take, take_all, drop, drop_of_length-le, drop-cons, get_or, append_assoc, add-one, arith, refl, sym, ap, subst}
+use Rattle.std.proofs.Common.{◌≡◌, ◌∙◌, ℕ, zero, suc, ◌+◌, ◌<◌, ◌≤◌, List, [], ◌∷◌, ◌++◌, Bool, Option, Result, Ok, Err, false, length, take, take_all, drop, drop_of_length-le, drop-cons, get_or, append_assoc, add-one, arith, refl, sym, ap, subst}
 use Rattle.std.proofs.Math.ListN.{set}
 use Rattle.std.proofs.lemmas.List.{append-nil}
 use Rattle.std.specs.Global.{Global}
@@ -7,9 +7,11 @@ use Rattle.std.specs.Prelude.{String, Vec, map, option_map, string_bytes, vec_it
 use Rattle.fb_schema.specs.Rows.{Rows}
 use mathlib.Core.Logic.{inl}
 use Rattle.fb_lines.specs.{Faults.End, Job.Job, Job.job_of}
+use Rattle.std.specs.declared.io.ErrorKind.{ErrorKind}
 use Rattle.fb_lines.specs.declared.{options.Options.Options, fault.RunFault.RunFault}
-use Rattle.fbcheck_serve.specs.Inputs.{Folder, HaltsAmong, Passes, PassesAll, Stand, Tries, label_of, with_label, sum_of_counts, sums, are_named}
-use Rattle.fbcheck_serve.specs.declared.{inputs.Standard.Standard, inputs.Standard.TheVariants.Unread, inputs.Standard.TheVariants.Spent}
+use Rattle.fb_run.specs.declared.run.Ran.{Ran}
+use Rattle.fbcheck_serve.specs.Inputs.{ComesOf, Folder, HaltsAmong, IsMissed, Passes, PassesAll, RunsOpened, Seen, Stand, Tries, is_standard, label_of, with_label, sum_of_counts, sums, are_named}
+use Rattle.fbcheck_serve.specs.declared.{inputs.Missed.Missed, inputs.Standard.Standard, inputs.Standard.TheVariants.Unread, inputs.Standard.TheVariants.Spent}
 
 -- the counts up to a place are added; then those up to the next are
 sums_on : (some more : List ℕ) (i : ℕ) → i < length some → length some ≡ length more
@@ -86,3 +88,12 @@ pub relabelled : (rows : Rows) (options : Options) (job : Job) (label : Option (
     → option_map vec_items label ≡ text → job_of rows (record options { label = label }) ≡ with_label text job
 relabelled rows options job label old text is same =
     ap (λ (j : Job). with_label (option_map vec_items label) j) is ∙ ap (λ (t : Option (List ℕ)). with_label t job) same
+
+-- what a file came to: a run over what was opened, or none
+pub comes_opened : (folder : Folder) (job : Job) (name : List ℕ) (standard : Standard) (before after : Seen) (what : Result Ran Missed) (cause : Option ErrorKind) (ran : Ran) → what ≡ Ok ran
+    → is_standard name ≡ false → RunsOpened folder job name before after ran cause → ComesOf folder job name standard before after what cause
+comes_opened folder job name standard before after what cause ran is other runs = subst (λ w. ComesOf folder job name standard before after w cause) (sym is) (rw other runs)
+
+pub comes_missed : (folder : Folder) (job : Job) (name : List ℕ) (standard : Standard) (seen : Seen) (what : Result Ran Missed) (cause : Option ErrorKind) (missed : Missed) → what ≡ Err missed
+    → IsMissed folder name standard missed → ComesOf folder job name standard seen seen what cause
+comes_missed folder job name standard seen what cause missed is why = subst (λ w. ComesOf folder job name standard seen seen w cause) (sym is) (why, refl)

@@ -42,7 +42,6 @@ fn schema_limits(length: u64) -> Limits
 
 /// The schema of a schema file with its root table and identifier; without a file the fixed table, with its table
 /// `Schema` and the identifier of schema files.
-#[tactic(auto, using(crate::proofs::AskedLemmas::schema_is_table))]
 fn schema_of(alloc: Global, schema_bytes: Option<&[u8]>) -> Result<Loaded<'_>, AskFault>
     ensures schema { IfOk result (λ loaded. IsSchema schema_bytes.entry loaded.schema (own_of loaded)) }
     ensures table { IfOk result (λ loaded. IfSome loaded.root (λ n. IsTrue (is_table loaded.schema n))) }

@@ -21,7 +21,6 @@ pub fn files()
 {}
 
 /// The texts of faults, by example.
-#[tactic(auto, using(fbcheck_texts::proofs::ShownTexts::run_texts_shown, fbcheck_texts::proofs::ShownTexts::load_texts_shown, fbcheck_texts::proofs::ShownTexts::ask_texts_shown, fbcheck_texts::proofs::ShownTexts::hint_texts_shown, crate::proofs::ShownStops::stop_texts_shown))]
 pub fn fault_texts()
     ensures run { RunTexts }
     ensures load { LoadTexts }

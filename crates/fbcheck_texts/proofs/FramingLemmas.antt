@@ -3,7 +3,7 @@ use Rattle.std.proofs.Common.{◌≡◌, ◌<◌, ◌≤◌, ℕ, inl, inr, zero
 use Rattle.std.proofs.lemmas.Bool.Decides.{eqb_tells}
 use Rattle.std.specs.Prelude.{◌==◌, false, true}
 use Rattle.std.specs.Int.{to_le_bytes, w32}
-use Rattle.fb_run.specs.declared.tally.Tally.{Tally}
+use Rattle.fb_lines.specs.declared.tally.Tally.{Tally}
 use Rattle.fbcheck_texts.specs.declared.framing.Framing.{Framing}
 use Rattle.fbcheck_texts.specs.Framing.{misread, over_hint, over_stray}
 

@@ -2,9 +2,9 @@ use Rattle.std.proofs.Common.{IfErr, List, Option, Result, ap, ℕ, refl, rules,
 use Rattle.fbcheck_serve.specs.declared.asked.Asked.{Asked}
 use Rattle.fbcheck_texts.specs.declared.hint.Unasked.{Unasked}
 use Rattle.fbcheck_serve.specs.{Asked.LacksIdent, Asked.options_of, Inputs.with_label, Checking.IsUntold, Checking.own_of}
-use Rattle.fb_lines.specs.Job.{job_of}
+use Rattle.fb_lines.specs.Job.{Serves, job_of}
 use Rattle.fb_run.proofs.RunLemmas.{err_exit}
-use Rattle.fbcheck_serve.proofs.AskedLemmas.{path_untold}
+use Rattle.fbcheck_serve.proofs.AskedLemmas.{path_untold, rootless_untold}
 use Rattle.fbcheck_serve.proofs.asked.asked_of.Goals as goal
 
 pub returns-clause-job : goal.returns-clause-job
@@ -48,3 +48,22 @@ returns-in_err-paths-clause-none c =
     (let (lacks, hint) = path_untold c.args.schema_bytes c.args.settings.now loaded.schema (own_of loaded) c.in-Some.root _ _ c.in-Ok.ensures.schema
     (sym c.find_root.ensures.number ∙ c.in-Some.is) (rw c.as_slice.ensures.value at c.in_err-paths.ensures.none) in
     record { lacks = lacks; hint = hint })
+
+pub returns-in_default-clause-none : goal.returns-in_default-clause-none
+returns-in_default-clause-none c =
+    rootless_untold c.args.schema_bytes c.args.settings.now c.in-Ok.loaded.schema (own_of c.in-Ok.loaded) c.root_hint-hint.result c.new.result c.in-Ok.ensures.schema
+    (sym c.find_root.ensures.number ∙ c.in_default.is) c.root_hint-hint.ensures c.new.ensures
+
+pub returns-in_default-label-clause-none : goal.returns-in_default-label-clause-none
+returns-in_default-label-clause-none c =
+    subst (IsUntold c.args.schema_bytes c.args.settings.now) (sym c.plain-in_default-label.ensures) (record { lacks = tt; hint = refl })
+
+pub returns-clause-serves : goal.returns-clause-serves
+returns-clause-serves c =
+    subst (Serves c.in-Ok.loaded.schema) (sym c.options-options.ensures) (record {
+      table = c.in-Some.ensures.table;
+      fits = c.in_ok-paths.ensures.fits;
+      few = rw (c.in_ok-paths.ensures.count, c.as_slice.ensures.value) c.requires.few;
+      least = c.requires.least;
+      most = c.requires.most;
+    })

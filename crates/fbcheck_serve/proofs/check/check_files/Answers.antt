@@ -1,6 +1,9 @@
 use Rattle.std.proofs.Common.{map, string_bytes, subst}
 use Rattle.fb_lines.specs.Job.{job_of}
 use Rattle.fb_run.specs.Leave.{ends_of}
+use Rattle.fb_run.proofs.RunLemmas.{err_exit}
+use Rattle.fbcheck_serve.specs.Checking.{IsServedEach}
+use Rattle.fbcheck_serve.proofs.AskedLemmas.{idle}
 use Rattle.fbcheck_serve.specs.Inputs.{IsPromptAmong, ServesEach, at_first, folder_of, seen_of, stand}
 use Rattle.fbcheck_serve.proofs.check.check_files.Goals as goal
 
@@ -24,3 +27,9 @@ pass_files-requires-clause-leave g c now prompt unended =
       c.in_ok-asked.ensures.job,
       subst (λ names. IsPromptAmong (folder_of g.F.Files g.F.Opened.Source g.F.Opened.Explains c.args.files.now) job (map string_bytes names) before now) c.as_slice.ensures.value prompt,
     ) unended
+
+pub returns-in_err-asked-clause-served : goal.returns-in_err-asked-clause-served
+returns-in_err-asked-clause-served g c =
+    let seen = seen_of g.S.Input g.S.Explains g.K.Sink g.N.Sink c.args.reader.now c.args.writer.now c.args.notes.now in
+    err_exit c.from_residual.result _ (IsServedEach (folder_of g.F.Files g.F.Opened.Source g.F.Opened.Explains c.args.files.now) c.args.schema_bytes c.args.settings.now seen seen)
+    c.from_residual.ensures.1 (c.in_err-asked.ensures.none, idle seen.ends)
