@@ -31,13 +31,17 @@ class Beside:
 
     @functools.cache
     def options(self, ident, limits):
-        """The library's options for what the naive checker is asked, from this root."""
+        """The library's options for what the naive checker is asked."""
         asked = dict(limits)
         words = {f"max_{name}": asked[name] for name in ("depth", "tables", "reads") if name in asked}
-        return self.verifier.asked(self.python.Options(
-            ident, prefixed=int(self.prefixed), reads_per_byte=2**32 - 1,
-            no_alignment=int(not asked.get("alignment", True)), inline_size=int(asked.get("inline_size", False)),
-            **words))
+        return self.python.Options(ident, prefixed=int(self.prefixed), reads_per_byte=2**32 - 1,
+                                   no_alignment=int(not asked.get("alignment", True)),
+                                   inline_size=int(asked.get("inline_size", False)), **words)
+
+    @functools.cache
+    def from_root(self, ident, limits):
+        """The same, from this root."""
+        return self.verifier.asked(self.options(ident, limits))
 
     @functools.cache
     def most_reads(self, length, ident, limits):
@@ -48,7 +52,7 @@ class Beside:
     def ask(self, data, ident=None, **limits):
         """Asks of one buffer, and answers its verdict."""
         asked = ident, tuple(limits.items())
-        options = self.options(*asked)
+        options = self.from_root(*asked)
         verdict = self.verifier.verify(data, options)
         walk = Walk(self.schema, self.root, data, **limits)
         pairs = [(line(verdict), walk.verdict(ident, self.prefixed))]

@@ -105,8 +105,9 @@ class Options(ctypes.Structure):
               "reads_per_byte": 64, "ident_from": 0, "prefixed": 0, "no_alignment": 0, "inline_size": 0}
 
     def __init__(self, ident: bytes | None = None, **words):
-        for name in words.keys() - self._first.keys():
-            raise TypeError(f"no option {name}")
+        for name in words:
+            if name not in self._first:
+                raise TypeError(f"no option {name}")
         super().__init__(**{**self._first, **words})
         if ident is not None:
             given = _bytes(ident)

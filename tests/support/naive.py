@@ -111,7 +111,7 @@ class Walk:
             raise Fault("V3", at)
 
     def stands(self, at, size, alignment):
-        """What an offset leads to, or a field, is all there, and then it is aligned."""
+        """What stands where an unsigned offset leads is all there, and then it is aligned."""
         if at + size > self.end:
             raise Fault("V2", at)
         if self.alignment and at % alignment:
@@ -232,7 +232,7 @@ class Walk:
         else:
             self.passed(at)
             if is_union:
-                self.way[-1] = *self.way[-1][:2], None, types
+                self.way[-1] = self.where[0], field, None, types
             self.value(place, member or field)
 
     def types_of(self, at, vtable, field, is_unions):
