@@ -47,12 +47,11 @@ fn test_prefix(reads: &mut Reads<'_>, start: Start) -> Option<Reason>
 }
 
 /// The number that four bytes are, the lowest first.
-#[tactic(auto, unfolding(fb_bytes::specs::Word::word))]
+#[tactic(auto, using(fb_bytes::proofs::MessageLemmas::declared_le_bytes))]
 fn number_of(name: [u8; 4]) -> u32
     ensures { result ≡ word name 0 4 }
 {
-    let [a, b, c, d] = name;
-    u32::from(a) + 256 * (u32::from(b) + 256 * (u32::from(c) + 256 * u32::from(d)))
+    u32::from_le_bytes(name)
 }
 
 /// Tests the identifier at a position, if one is wanted.

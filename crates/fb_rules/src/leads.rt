@@ -12,7 +12,7 @@ ghost use Rattle.fb_rules.specs.declared.offset_row.Leads.TheVariants.{All, ByTy
 
 use crate::checks::Checks;
 use crate::fault::Reason;
-use crate::offset_row::{Leads, Referent, Row, referent_at};
+use crate::offset_row::{Leads, Referent, Row, referent_among};
 use crate::plain::{fails, test_end, test_vector_field};
 use crate::table::Table;
 use fb_bytes::Reads;
@@ -159,7 +159,7 @@ pub fn put_union(
 {
     schema.lawful();
     let value = type_of(reads, table, slot);
-    let referent = referent_at(schema, union, value);
+    let referent = referent_among(schema.targets_of(union), schema, union, value);
     if let Referent::Nothing = referent {
         return None;
     }

@@ -113,14 +113,3 @@ pub fn referent_among(targets: Targets<'_>, schema: &Schema<'_>, union: u32, val
     let _union = union;
     referent_to(targets.get(value))
 }
-
-/// The same, where the targets are looked up for this word alone.
-#[inline(always)]
-pub fn referent_at(schema: &Schema<'_>, union: u32, value: u8) -> Referent
-    requires served { IsServed schema.now }
-    requires union { IsTrue (is_union schema.now union) }
-    ensures lead { lead_to result ≡ lead_of schema.now (member_of schema.now union value) }
-    ensures referent { IsReferent schema.now result }
-{
-    referent_among(schema.targets_of(union), schema, union, value)
-}

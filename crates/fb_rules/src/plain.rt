@@ -17,7 +17,7 @@ ghost use Rattle.fb_rules.specs.Plain.{tested_by, vtable_failure, vtable_reads, 
 use crate::checks::Checks;
 use crate::fault::Reason;
 use crate::offset_row::Referent;
-use crate::site::{is_aligned, is_multiple};
+use crate::site::is_aligned;
 use crate::table::{Head, Table};
 use fb_bytes::Reads;
 use fb_schema::Step;
@@ -147,24 +147,9 @@ fn test_vector(
     None
 }
 
-/// Reads where the vtable of the table at a position stands, none where that is negative.
-#[inline(always)]
-#[tactic(auto, unfolding(crate::specs::Places::has_vtable, crate::specs::Places::vtable))]
-fn vtable_at(reads: &mut Reads<'_>, at: u64) -> Option<u64>
-    requires fits { at + 4 ≤ length reads.old.bytes }
-    requires near { at < 2 ^ 31 }
-    requires few { reads.old.count < reads.old.base + 2 ^ 62 }
-    ensures place { MatchOption result (has_vtable reads.old.bytes at ≡ false) (λ v. (has_vtable reads.old.bytes at ≡ true) × (v ≡ vtable reads.old.bytes at)) }
-    ensures near { IfSome result (λ v. v < 2 ^ 32) }
-    ensures counted { reads.new ≡ record reads.old { count = reads.old.count + 1 } }
-{
-    let place = at as i64 - i64::from(reads.i32_at(at));
-    if place < 0 { None } else { Some(place as u64) }
-}
-
 /// Tests the first word of the table at a position, and reads where its vtable stands.
 #[inline(always)]
-#[tactic(auto, using(crate::proofs::Alignments::four), unfolding(crate::specs::Plain::first_word_failure, crate::specs::Order::inline_failure))]
+#[tactic(auto, using(crate::proofs::Alignments::four), unfolding(crate::specs::Plain::first_word_failure, crate::specs::Order::inline_failure, crate::specs::Places::has_vtable, crate::specs::Places::vtable))]
 pub fn test_first_word(reads: &mut Reads<'_>, checks: Checks, at: u64) -> Result<u64, Reason>
     requires few { reads.old.count < reads.old.base + 2 ^ 61 }
     requires near { at < 2 ^ 33 }
@@ -174,10 +159,11 @@ pub fn test_first_word(reads: &mut Reads<'_>, checks: Checks, at: u64) -> Result
     if let Some(reason) = word {
         return Err(reason);
     }
-    match vtable_at(reads, at) {
-        Some(vtable) => Ok(vtable),
-        None => Err(Reason::OutOfBuffer),
+    let place = at as i64 - i64::from(reads.i32_at(at));
+    if place < 0 {
+        return Err(Reason::OutOfBuffer);
     }
+    Ok(place as u64)
 }
 
 /// Tests the vtable, at this place, of the table at a position, and writes the table's head. Where it fails, the
@@ -497,7 +483,7 @@ fn is_free_small(checks: Checks, step: &Step) -> bool
 /// its table, or is absent. Where it is absent the tests are made all the same, of the table's own position, since
 /// processors can't predict a jump by whether a field is there; that is asked only where a test fails.
 #[inline(always)]
-#[tactic(auto, using(crate::proofs::Alignments::small), unfolding(crate::specs::Places::is_aligned, crate::specs::Order::inline_failure, crate::specs::Order::table_failure, crate::specs::Places::ends_in_table))]
+#[tactic(auto, using(crate::proofs::Alignments::small), unfolding(crate::specs::Order::inline_failure, crate::specs::Order::table_failure, crate::specs::Places::ends_in_table))]
 fn pass_small(
     reads: &Reads<'_>,
     checks: Checks,
@@ -513,7 +499,7 @@ fn pass_small(
     ensures there { 0 < distance → IsCame place reads.now.count (inline_field_failure checks reads.now.bytes table.at place size size) result }
 {
     let is_held = is_inside(reads, place, u64::from(size));
-    if !is_held || checks.alignment && !is_multiple(place, size) {
+    if !is_held || !is_aligned(checks, place, size) {
         return past(small_failure(reads.len(), place, size, distance));
     }
     Came::Past

@@ -1,6 +1,6 @@
 // Why a test refuses a buffer, and where a walk stops.
 
-ghost use Rattle.std.specs.Prelude.{◌≡◌, ◌<◌, ◌%◌, ◌==◌};
+ghost use Rattle.std.specs.Prelude.{◌≡◌, ◌<◌};
 ghost use Rattle.fb_rules.specs.{Places.is_aligned, Told.stopped};
 ghost use Rattle.fb_schema.specs.Served.{IsAlignment};
 
@@ -89,22 +89,13 @@ impl Stop {
     }
 }
 
-/// Whether a position is a multiple of an alignment. That is a power of two, so that no division is needed, and no jump
-/// depends on which it is.
+/// Whether a position is a multiple of its alignment, where that is checked. That is a power of two, so that no division
+/// is needed, and no jump depends on which it is.
 #[inline(always)]
-#[tactic(auto, using(crate::proofs::Alignments::low_bits))]
-pub fn is_multiple(at: u64, align: u32) -> bool
-    requires { IsAlignment align }
-    ensures { result ≡ (at % align == 0) }
-{
-    at & u64::from(align - 1) == 0
-}
-
-/// Whether a position is a multiple of its alignment, where that is checked.
-#[tactic(auto, unfolding(crate::specs::Places::is_aligned))]
+#[tactic(auto, using(crate::proofs::Alignments::low_bits), unfolding(crate::specs::Places::is_aligned))]
 pub fn is_aligned(checks: Checks, at: u64, align: u32) -> bool
     requires { IsAlignment align }
     ensures { result ≡ is_aligned checks at align }
 {
-    !checks.alignment || is_multiple(at, align)
+    !checks.alignment || at & u64::from(align - 1) == 0
 }
