@@ -68,10 +68,10 @@ pub links_found : LinksFound
 unfolding linking empty twice to_third
 links_found = record {
   at_the_start = inl (search rules, refl);
-  at_the_root = inr (search shown, (at_head, search rules, refl));
-  in_a_type = inr (search shown, (at_field no_kids at_own, (_, past refl tt refl, search rules), refl));
-  in_the_head_of_a_vector = inr (search shown, (at_field no_kids at_own, (_, past refl tt refl, search rules), refl));
-  in_a_third_table = inr (search shown, (to_third at_head, (_, past refl (search shown) refl, (_, among refl tt refl, (_, refl, search shown, (_, past refl tt refl, (_, among refl (search shown) refl, (_, refl, search shown, search rules)))))), refl));
-  in_its_field = inr (search shown, (to_third (at_field no_kids (at_element no_elements at_lead)), (_, past refl (search shown) refl, (_, among refl tt refl, (_, refl, search shown, (_, past refl tt refl, (_, among refl (search shown) refl, (_, refl, search shown, (_, past refl tt refl, (_, among refl tt refl, search rules)))))))), refl));
-  one_table_too_many = inr (search shown, (to_third at_head, (_, past refl (search shown) refl, (_, among refl tt refl, (_, refl, search shown, (_, past refl tt refl, (_, among refl (search shown) refl, (_, refl, search shown, search rules)))))), refl));
+  at_the_root = inr (start refl, (at_head, search rules, refl));
+  in_a_type = inr (start refl, (at_field no_kids at_own, (_, past refl tt refl, search rules), refl));
+  in_the_head_of_a_vector = inr (start refl, (at_field no_kids at_own, (_, past refl tt refl, search rules), refl));
+  in_a_third_table = inr (start refl, (to_third at_head, (_, past refl (search shown) refl, (_, among refl tt refl, (_, refl, search shown, (_, past refl tt refl, (_, among refl (search shown) refl, (_, refl, search shown, search rules)))))), refl));
+  in_its_field = inr (start refl, (to_third (at_field no_kids (at_element no_elements at_lead)), (_, past refl (search shown) refl, (_, among refl tt refl, (_, refl, search shown, (_, past refl tt refl, (_, among refl (search shown) refl, (_, refl, search shown, (_, past refl tt refl, (_, among refl tt refl, search rules)))))))), refl));
+  one_table_too_many = inr (start refl, (to_third at_head, (_, past refl (search shown) refl, (_, among refl tt refl, (_, refl, search shown, (_, past refl tt refl, (_, among refl (search shown) refl, (_, refl, search shown, search rules)))))), refl));
 }

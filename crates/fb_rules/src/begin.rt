@@ -93,14 +93,12 @@ fn test_start(
 {
     let base = base_of(start);
     *at = 0;
-    let prefix = test_prefix(reads, start);
-    if prefix.is_some() {
-        return prefix;
+    if let Some(reason) = test_prefix(reads, start) {
+        return Some(reason);
     }
     *at = base + 4;
-    let identifier = test_ident(reads, *at, ident);
-    if identifier.is_some() {
-        return identifier;
+    if let Some(reason) = test_ident(reads, *at, ident) {
+        return Some(reason);
     }
     *at = base;
     test_offset(reads, checks, at)

@@ -189,9 +189,8 @@ pub fn put_unions(
 {
     let types = types_of(reads, table, slot);
     let mut count = 0;
-    let failed = test_vector_field(reads, checks, table, at, 4, 4, &mut count);
-    if failed.is_some() {
-        return failed;
+    if let Some(reason) = test_vector_field(reads, checks, table, at, 4, 4, &mut count) {
+        return Some(reason);
     }
     if count != types.count {
         *at -= 4;

@@ -76,9 +76,8 @@ pub fn test_offset(reads: &mut Reads<'_>, checks: Checks, at: &mut u64) -> Optio
     ensures value { result ≡ None → at.new ≡ target reads.old.bytes at.old }
     ensures near { result ≡ None → at.new < 2 ^ 33 }
 {
-    let word = test_inline(reads, checks, *at, 4, 4);
-    if word.is_some() {
-        return word;
+    if let Some(reason) = test_inline(reads, checks, *at, 4, 4) {
+        return Some(reason);
     }
     let offset = u64::from(reads.u32_at(*at));
     if offset == 0 {
@@ -96,9 +95,8 @@ fn test_string(reads: &mut Reads<'_>, checks: Checks, at: &mut u64) -> Option<Re
     requires near { at.old < 2 ^ 35 }
     ensures { IsTested reads.old reads.new at.new (string_failure checks reads.old.bytes at.old) 2 result }
 {
-    let word = test_inline(reads, checks, *at, 4, 4);
-    if word.is_some() {
-        return word;
+    if let Some(reason) = test_inline(reads, checks, *at, 4, 4) {
+        return Some(reason);
     }
     let count = u64::from(reads.u32_at(*at));
     *at += 4;
@@ -127,13 +125,10 @@ fn test_vector(
     requires near { at.old < 2 ^ 35 }
     requires align { IsAlignment align }
     ensures tested { IsTested reads.old reads.new at.new (vector_failure checks reads.old.bytes at.old size align) 1 result }
-    ensures first { result ≡ None → at.new ≡ at.old + 4 }
-    ensures many { result ≡ None → many.new ≡ word reads.old.bytes at.old 4 }
-    ensures within { result ≡ None → at.new + many.new * size < 2 ^ 31 }
+    ensures first { result ≡ None → (at.new ≡ at.old + 4) × (many.new ≡ word reads.old.bytes at.old 4) × (at.new + many.new * size < 2 ^ 31) }
 {
-    let word = test_inline(reads, checks, *at, 4, 4);
-    if word.is_some() {
-        return word;
+    if let Some(reason) = test_inline(reads, checks, *at, 4, 4) {
+        return Some(reason);
     }
     let count = reads.u32_at(*at);
     *at += 4;
@@ -155,8 +150,7 @@ pub fn test_first_word(reads: &mut Reads<'_>, checks: Checks, at: u64) -> Result
     requires near { at < 2 ^ 33 }
     ensures { FindsVtable checks reads.old reads.new at result }
 {
-    let word = test_inline(reads, checks, at, 4, 4);
-    if let Some(reason) = word {
+    if let Some(reason) = test_inline(reads, checks, at, 4, 4) {
         return Err(reason);
     }
     let place = at as i64 - i64::from(reads.i32_at(at));
@@ -285,9 +279,8 @@ pub fn test_inline_field(
     requires align { IsAlignment align }
     ensures told { tested_by place reads.now.count result ≡ after reads.now.count (inline_field_failure checks reads.now.bytes table.at place size align) }
 {
-    let end = test_end(reads, checks, table, place, size);
-    if end.is_some() {
-        return end;
+    if let Some(reason) = test_end(reads, checks, table, place, size) {
+        return Some(reason);
     }
     test_inline(reads, checks, place, size, align)
 }
@@ -312,13 +305,11 @@ pub fn test_vector_field(
     ensures many { result ≡ None → many.new ≡ word reads.old.bytes (target reads.old.bytes at.old) 4 }
     ensures within { result ≡ None → at.new + many.new * size < 2 ^ 31 }
 {
-    let end = test_end(reads, checks, table, *at, 4);
-    if end.is_some() {
-        return end;
+    if let Some(reason) = test_end(reads, checks, table, *at, 4) {
+        return Some(reason);
     }
-    let offset = test_offset(reads, checks, at);
-    if offset.is_some() {
-        return offset;
+    if let Some(reason) = test_offset(reads, checks, at) {
+        return Some(reason);
     }
     test_vector(reads, checks, at, size, align, many)
 }
@@ -330,9 +321,8 @@ fn test_text(reads: &mut Reads<'_>, checks: Checks, at: &mut u64) -> Option<Reas
     requires near { at.old < 2 ^ 35 }
     ensures { IsTested reads.old reads.new at.new (lead_failure checks reads.old.bytes at.old to_string) 3 result }
 {
-    let offset = test_offset(reads, checks, at);
-    if offset.is_some() {
-        return offset;
+    if let Some(reason) = test_offset(reads, checks, at) {
+        return Some(reason);
     }
     test_string(reads, checks, at)
 }
@@ -361,9 +351,8 @@ pub fn test_lead(
         Referent::Text => test_text(reads, checks, at),
         Referent::Table(_) => test_offset(reads, checks, at),
         Referent::Struct(size, align) => {
-            let offset = test_offset(reads, checks, at);
-            if offset.is_some() {
-                return offset;
+            if let Some(reason) = test_offset(reads, checks, at) {
+                return Some(reason);
             }
             test_inline(reads, checks, *at, size, align)
         }
@@ -382,9 +371,8 @@ fn test_text_field(
     requires placed { IsPlaced checks reads.old.bytes table.at table.head at.old }
     ensures { IsTested reads.old reads.new at.new (table_failure checks reads.old.bytes table.at at.old 4 ▷ lead_failure checks reads.old.bytes at.old to_string) 3 result }
 {
-    let end = test_end(reads, checks, table, *at, 4);
-    if end.is_some() {
-        return end;
+    if let Some(reason) = test_end(reads, checks, table, *at, 4) {
+        return Some(reason);
     }
     test_text(reads, checks, at)
 }
