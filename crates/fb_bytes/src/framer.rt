@@ -1,6 +1,6 @@
 //! A framer holds the message that is coming, however the stream is cut into pieces.
 
-ghost use Rattle.std.specs.Prelude.{IfOk, IfErr, IfSome, IsSome, OnOk, OnErr, IsOk, IsTrue, IsErrOf, Ok, Err, ◌≡◌, ◌↔◌, ◌⊎◌, ◌+◌, ◌-◌, ◌<◌, ◌≤◌, ℕ, true, false, [], ◌++◌, length, take, drop, min};
+ghost use Rattle.std.specs.Prelude.{IfOk, IfErr, MatchResult, IfSome, IsSome, OnOk, OnErr, IsOk, IsTrue, IsErrOf, Ok, Err, ◌≡◌, ◌↔◌, ◌⊎◌, ◌+◌, ◌-◌, ◌<◌, ◌≤◌, ℕ, true, false, [], ◌++◌, length, take, drop, min};
 ghost use Rattle.fb_bytes.specs.Messages.{declared, IsMessage, IsOversize};
 ghost use Rattle.fb_bytes.specs.Framing.{Framing, IsHeld, Feeds, FeedFails, held_bytes};
 
@@ -249,9 +249,9 @@ fn append<A: Allocator>(
     requires four { length prefix.now ≡ 4 }
     requires within { at ≤ length bytes.now }
     requires front { at ≡ 4 → take 4 bytes.now ≡ prefix.now }
-    ensures ok { OnOk result (held_bytes prefix.now 4 body.new.items ≡ held_bytes prefix.now 4 body.old.items ++ drop at bytes.now) }
-    ensures err { OnErr result (held_bytes prefix.now 4 body.new.items ≡ held_bytes prefix.now 4 body.old.items) }
-    ensures some { OnErr result (at < length bytes.now) }
+    ensures { MatchResult result
+        (λ _. held_bytes prefix.now 4 body.new.items ≡ held_bytes prefix.now 4 body.old.items ++ drop at bytes.now)
+        (λ _. (held_bytes prefix.now 4 body.new.items ≡ held_bytes prefix.now 4 body.old.items) × (at < length bytes.now)) }
 {
     if at == bytes.len() {
         return Ok(());

@@ -87,12 +87,11 @@ impl<'a> Window<'a> {
     }
 
     /// The number in the four bytes at `at`, in two's complement.
-    #[tactic(auto, using(crate::proofs::Words::word_rest_4))]
     pub fn i32_at(&self, at: u64) -> i32
         requires { at + 4 ≤ length self.now }
         ensures { result ≡ signed_word self.now at }
     {
-        LittleEndian::read_i32(&self.bytes[at as usize..])
+        self.u32_at(at).cast_signed()
     }
 
     /// The number in the eight bytes at `at`.

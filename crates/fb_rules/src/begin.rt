@@ -87,9 +87,8 @@ fn test_start(
     at: &mut u64,
 ) -> Option<Reason>
     requires few { reads.old.count < reads.old.base + 2 ^ 58 }
-    ensures tested { IsTested reads.old reads.new at.new (start_failure checks reads.old.bytes start ident) (start_reads start ident) result }
-    ensures value { result ≡ None → at.new ≡ target reads.old.bytes (base start) }
-    ensures near { result ≡ None → at.new < 2 ^ 33 }
+    ensures { IsTested reads.old reads.new at.new (start_failure checks reads.old.bytes start ident) (start_reads start ident) result
+        × (result ≡ None → (at.new ≡ target reads.old.bytes (base start)) × (at.new < 2 ^ 33)) }
 {
     let base = base_of(start);
     *at = 0;

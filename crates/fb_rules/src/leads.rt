@@ -13,27 +13,10 @@ ghost use Rattle.fb_rules.specs.declared.offset_row.Leads.TheVariants.{All, ByTy
 use crate::checks::Checks;
 use crate::fault::Reason;
 use crate::offset_row::{Leads, Referent, Row, referent_among};
-use crate::plain::{fails, test_end, test_vector_field};
+use crate::plain::{distance_of, fails, test_end, test_vector_field};
 use crate::table::Table;
 use fb_bytes::Reads;
 use fb_schema::Schema;
-
-/// Reads the distance of the field with this slot from its table, 0 where it is absent.
-#[inline(always)]
-#[tactic(auto, using(std::proofs::lemmas::Bool::Decides::nat_tests), unfolding(crate::specs::Places::field_place))]
-fn distance_of(reads: &mut Reads<'_>, table: Table, slot: u16) -> u64
-    requires few { reads.old.count < reads.old.base + 2 ^ 60 }
-    requires near { table.at < 2 ^ 33 }
-    requires head { IsVtable reads.old.bytes table.at table.head }
-    ensures value { place_from table.at (table.at + result) ≡ field_place reads.old.bytes table.at slot }
-    ensures near { result < 2 ^ 16 }
-    ensures counted { reads.new ≡ record reads.old { count = reads.old.count + slot_reads reads.old.bytes table.at slot } }
-{
-    if table.head.ends_before(slot) {
-        return 0;
-    }
-    u64::from(reads.u16_at(table.head.vtable + u64::from(slot)))
-}
 
 /// Reads the type of a union again, whose field has this slot: 0 where its type field is absent.
 #[inline(always)]
@@ -43,10 +26,10 @@ fn type_of(reads: &mut Reads<'_>, table: Table, slot: u16) -> u8
     requires head { IsVtable reads.old.bytes table.at table.head }
     requires present { IsTrue (has_slot reads.old.bytes table.at slot) }
     requires typed { TypeFits reads.old.bytes table.at slot }
-    ensures value { result ≡ type_of_slot reads.old.bytes table.at slot }
-    ensures counted { reads.new ≡ record reads.old { count = reads.old.count + type_reads reads.old.bytes table.at slot } }
+    ensures { (result ≡ type_of_slot reads.old.bytes table.at slot)
+        × (reads.new ≡ record reads.old { count = reads.old.count + type_reads reads.old.bytes table.at slot }) }
 {
-    match distance_of(reads, table, slot - 2) {
+    match distance_of(reads, table.at, table.head, slot - 2) {
         0 => 0,
         distance => reads.u8_at(table.at + distance),
     }
@@ -68,13 +51,12 @@ fn types_of(reads: &mut Reads<'_>, table: Table, slot: u16) -> Types
     requires head { IsVtable reads.old.bytes table.at table.head }
     requires present { IsTrue (has_slot reads.old.bytes table.at slot) }
     requires typed { TypesFit reads.old.bytes table.at slot }
-    ensures at { result.at ≡ types_begin reads.old.bytes (type_place reads.old.bytes table.at slot) }
-    ensures count { result.count ≡ type_count reads.old.bytes (type_place reads.old.bytes table.at slot) }
-    ensures within { result.at + result.count ≤ length reads.old.bytes }
-    ensures near { result.at + result.count < 2 ^ 36 }
-    ensures counted { reads.new ≡ record reads.old { count = reads.old.count + types_reads reads.old.bytes table.at slot } }
+    ensures { (result.at ≡ types_begin reads.old.bytes (type_place reads.old.bytes table.at slot))
+        × (result.count ≡ type_count reads.old.bytes (type_place reads.old.bytes table.at slot))
+        × (result.at + result.count ≤ length reads.old.bytes) × (result.at + result.count < 2 ^ 36)
+        × (reads.new ≡ record reads.old { count = reads.old.count + types_reads reads.old.bytes table.at slot }) }
 {
-    match distance_of(reads, table, slot - 2) {
+    match distance_of(reads, table.at, table.head, slot - 2) {
         0 => Types { at: 0, count: 0 },
         distance => {
             let place = table.at + distance;

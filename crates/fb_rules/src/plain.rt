@@ -124,8 +124,8 @@ fn test_vector(
     requires few { reads.old.count < reads.old.base + 2 ^ 62 }
     requires near { at.old < 2 ^ 35 }
     requires align { IsAlignment align }
-    ensures tested { IsTested reads.old reads.new at.new (vector_failure checks reads.old.bytes at.old size align) 1 result }
-    ensures first { result ≡ None → (at.new ≡ at.old + 4) × (many.new ≡ word reads.old.bytes at.old 4) × (at.new + many.new * size < 2 ^ 31) }
+    ensures { IsTested reads.old reads.new at.new (vector_failure checks reads.old.bytes at.old size align) 1 result
+        × (result ≡ None → (at.new ≡ at.old + 4) × (many.new ≡ word reads.old.bytes at.old 4) × (at.new + many.new * size < 2 ^ 31)) }
 {
     if let Some(reason) = test_inline(reads, checks, *at, 4, 4) {
         return Some(reason);
@@ -228,9 +228,25 @@ pub fn test_head(
     }
 }
 
-/// Reads where the field with this slot stands, the table's own position where it is absent.
+/// Reads the distance of the field with this slot from its table, 0 where it is absent.
 #[inline(always)]
 #[tactic(auto, using(std::proofs::lemmas::Bool::Decides::nat_tests), unfolding(crate::specs::Places::field_place))]
+pub fn distance_of(reads: &mut Reads<'_>, at: u64, head: Head, slot: u16) -> u64
+    requires few { reads.old.count < reads.old.base + 2 ^ 60 }
+    requires near { at < 2 ^ 33 }
+    requires head { IsVtable reads.old.bytes at head }
+    ensures { (place_from at (at + result) ≡ field_place reads.old.bytes at slot)
+        × IfSome (place_from at (at + result)) (λ _. IsTrue (has_slot reads.old.bytes at slot)) × (result < 2 ^ 16)
+        × (reads.new ≡ record reads.old { count = reads.old.count + slot_reads reads.old.bytes at slot }) }
+{
+    if head.ends_before(slot) {
+        return 0;
+    }
+    u64::from(reads.u16_at(head.vtable + u64::from(slot)))
+}
+
+/// Reads where the field with this slot stands, the table's own position where it is absent.
+#[inline(always)]
 pub fn slot_at(reads: &mut Reads<'_>, at: u64, head: Head, slot: u16) -> u64
     requires few { reads.old.count < reads.old.base + 2 ^ 60 }
     requires near { at < 2 ^ 33 }
@@ -240,10 +256,7 @@ pub fn slot_at(reads: &mut Reads<'_>, at: u64, head: Head, slot: u16) -> u64
     ensures near { result < 2 ^ 34 }
     ensures counted { reads.new ≡ record reads.old { count = reads.old.count + slot_reads reads.old.bytes at slot } }
 {
-    if head.ends_before(slot) {
-        return at;
-    }
-    at + u64::from(reads.u16_at(head.vtable + u64::from(slot)))
+    at + distance_of(reads, at, head, slot)
 }
 
 /// Tests that what stands inline for a field ends within the inline size of its table, where that is checked.

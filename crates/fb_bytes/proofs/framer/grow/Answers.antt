@@ -9,7 +9,7 @@ pub append-requires-clause-front : goal.append-requires-clause-front
 append-requires-clause-front g c = λ four. take-take 4 (c.args.at + c.min-used.result) c.args.piece.now (omega arith) ∙ c.requires.front four
 
 pub returns-clause-held : goal.returns-clause-held
-returns-clause-held g c = c.in_ok-append.ensures.ok ∙ ap (λ l. held_bytes c.args.prefix.now 4 c.args.body.now.items ++ l) (drop_take c.args.at c.min-used.result c.args.piece.now)
+returns-clause-held g c = c.in_ok-append.ensures ∙ ap (λ l. held_bytes c.args.prefix.now 4 c.args.body.now.items ++ l) (drop_take c.args.at c.min-used.result c.args.piece.now)
 
 before : (g : _) (c : Joined-is_empty g) → c.if-is_empty.before ≡ length (held_bytes c.args.prefix.now 4 c.args.body.now.items)
 before g c =
@@ -37,4 +37,4 @@ returns-clause-whole g c =
 pub returns-in_err-append-clause-short : goal.returns-in_err-append-clause-short
 returns-in_err-append-clause-short g c =
     let b = before g (goal.at.returns-in_err-append-clause-short g c).Joined-is_empty in
-    on-err c.from_residual.result (omega (arith, c.in_err-append.ensures.some, length-take (c.args.at + c.min-used.result) c.args.piece.now, b, c.min-used.ensures))
+    on-err c.from_residual.result (omega (arith, c.in_err-append.ensures.1, length-take (c.args.at + c.min-used.result) c.args.piece.now, b, c.min-used.ensures))

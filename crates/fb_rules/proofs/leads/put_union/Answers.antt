@@ -11,11 +11,11 @@ none : (c : goal.In-Nothing) → member_of c.args.schema.now c.args.union (type_
 none c =
     let member = member_of c.args.schema.now c.args.union c.type_of-value.result in
     let lead = (c.referent_among-referent.ensures).lead in
-    ap (member_of c.args.schema.now c.args.union) (sym c.type_of-value.ensures.value) ∙ no_member c.args.schema.now member (told_of c.args.schema.now c.lawful.ensures.legal c.args.union c.type_of-value.result) (rw c.in-Nothing.is at lead)
+    ap (member_of c.args.schema.now c.args.union) (sym c.type_of-value.ensures.0) ∙ no_member c.args.schema.now member (told_of c.args.schema.now c.lawful.ensures.legal c.args.union c.type_of-value.result) (rw c.in-Nothing.is at lead)
 
 pub returns-in-Nothing-clause-tested : goal.returns-in-Nothing-clause-tested
 returns-in-Nothing-clause-tested c =
-    let counted = c.type_of-value.ensures.counted in
+    let counted = c.type_of-value.ensures.1 in
     record { told = rw (none c) refl; counted = λ _. ap (λ m. m.count) counted; bytes = ap (λ m. m.bytes) counted; base = ap (λ m. m.base) counted }
 
 pub returns-in-Nothing-clause-leads : goal.returns-in-Nothing-clause-leads
@@ -25,9 +25,9 @@ returns-in-Nothing-clause-leads c =
 
 pub returns : goal.returns
 returns c =
-    let value = c.type_of-value.ensures.value in
+    let value = c.type_of-value.ensures.0 in
     let e = c.referent_among-referent.ensures in
-    let counted = c.type_of-value.ensures.counted in
+    let counted = c.type_of-value.ensures.1 in
     let some = some_member c.args.schema.now (member_of c.args.schema.now c.args.union c.type_of-value.result) c.referent_among-referent.result e.lead c.in_default.not-Nothing in
     let lead : lead_to c.referent_among-referent.result ≡ lead_of c.args.schema.now (Some some.0) = rw some.1 at e.lead in
     let failure = table_failure c.args.checks c.args.reads.now.bytes c.args.table.at c.args.at 4 in

@@ -1,4 +1,5 @@
-use Rattle.std.proofs.Common.{rules, ◌≡◌, ◌+◌, ◌-◌, ◌<◌, ◌≤◌, true, ◌++◌, length, take, drop, sym, ap, ap₂, ◌∙◌, refl, arith, length-append, length-drop, length-take}
+use Rattle.std.proofs.Common.{rules, ◌≡◌, ◌+◌, ◌-◌, ◌<◌, ◌≤◌, true, Err, ◌++◌, length, take, drop, sym, ap, ap₂, ◌∙◌, refl, arith, length-append, length-drop, length-take}
+use Rattle.fb_bytes.specs.declared.stream_fault.StreamFault.TheVariants.{Oversize}
 use Rattle.fb_bytes.specs.{Messages.declared, Framing.Framing, Framing.held_bytes}
 use Rattle.fb_bytes.proofs.MessageLemmas.{declared_front}
 use Rattle.fb_bytes.proofs.FramingLemmas.{Completes, completed-held, completed-front, completed-long, completed-stream, completed-oversize, completed-grown, completed-unfinished, fed-fits, framed-room, framed-within, framed-over}
@@ -53,9 +54,7 @@ returns-then-declared-self-clause-fault g c = λ fine.
 
 pub returns-then-declared-self-clause-oversize : goal.returns-then-declared-self-clause-oversize
 returns-then-declared-self-clause-oversize g c = λ fine over.
-    let refused = returns-then-declared-self-clause-fault g c fine in
-    let number = refused.number in
-    cc
+    ap (λ n. Err (Oversize n)) (returns-then-declared-self-clause-fault g c fine).number
 
 pub returns-in-Ok-clause-ok : goal.returns-in-Ok-clause-ok
 returns-in-Ok-clause-ok g c =
