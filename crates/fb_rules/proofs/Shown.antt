@@ -67,11 +67,11 @@ to_third s = at_field one_field (at_element no_elements (through (at_field no_ki
 pub links_found : LinksFound
 unfolding linking empty twice to_third
 links_found = record {
-  at_the_start = inl (search rules, refl);
-  at_the_root = inr (start refl, (at_head, search rules, refl));
-  in_a_type = inr (start refl, (at_field no_kids at_own, (_, past refl tt refl, search rules), refl));
-  in_the_head_of_a_vector = inr (start refl, (at_field no_kids at_own, (_, past refl tt refl, search rules), refl));
-  in_a_third_table = inr (start refl, (to_third at_head, (_, past refl (search shown) refl, (_, among refl tt refl, (_, refl, search shown, (_, past refl tt refl, (_, among refl (search shown) refl, (_, refl, search shown, search rules)))))), refl));
-  in_its_field = inr (start refl, (to_third (at_field no_kids (at_element no_elements at_lead)), (_, past refl (search shown) refl, (_, among refl tt refl, (_, refl, search shown, (_, past refl tt refl, (_, among refl (search shown) refl, (_, refl, search shown, (_, past refl tt refl, (_, among refl tt refl, search rules)))))))), refl));
-  one_table_too_many = inr (start refl, (to_third at_head, (_, past refl (search shown) refl, (_, among refl tt refl, (_, refl, search shown, (_, past refl tt refl, (_, among refl (search shown) refl, (_, refl, search shown, search rules)))))), refl));
+  at_the_start = inl (record { within = search rules; first = refl }, refl);
+  at_the_root = inr (start refl, (at_head, record { within = search rules; first = refl }, refl));
+  in_a_type = inr (start refl, (at_field no_kids at_own, (_, past refl tt refl, record { within = search rules; first = refl }), refl));
+  in_the_head_of_a_vector = inr (start refl, (at_field no_kids at_own, (_, past refl tt refl, record { within = search rules; first = refl }), refl));
+  in_a_third_table = inr (start refl, (to_third at_head, (_, past refl (search shown, tt, tt) refl, (_, among refl tt refl, (_, refl, search shown, (_, past refl tt refl, (_, among refl (search shown) refl, (_, refl, search shown, record { within = search rules; first = refl })))))), refl));
+  in_its_field = inr (start refl, (to_third (at_field no_kids (at_element no_elements at_lead)), (_, past refl (search shown, tt, tt) refl, (_, among refl tt refl, (_, refl, search shown, (_, past refl tt refl, (_, among refl (search shown) refl, (_, refl, search shown, (_, past refl tt refl, (_, among refl tt refl, record { within = search rules; first = refl })))))))), refl));
+  one_table_too_many = inr (start refl, (to_third at_head, (_, past refl (search shown, tt, tt) refl, (_, among refl tt refl, (_, refl, search shown, (_, past refl tt refl, (_, among refl (search shown) refl, (_, refl, search shown, record { within = search rules; first = refl })))))), refl));
 }

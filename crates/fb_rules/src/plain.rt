@@ -426,10 +426,9 @@ fn pass_field(
     step: &Step,
     at: &mut u64,
 ) -> Came
-    requires few { reads.old.count < reads.old.base + 2 ^ 60 }
     requires step { IsStep step.now (step.now).act }
     requires bit { HasBit step.now (step.now).act }
-    requires placed { IsPlaced checks reads.old.bytes table.at table.head at.old }
+    requires placed { (reads.old.count < reads.old.base + 2 ^ 60) × IsPlaced checks reads.old.bytes table.at table.head at.old }
     ensures { Filled checks reads.old reads.new table.at step.now at.old at.new result }
 {
     let bit = step.bit;
@@ -496,8 +495,8 @@ fn pass_small(
     requires placed { IsPlaced checks reads.now.bytes table.at table.head place }
     requires small { IsSmall size }
     requires cut { checks.inline_size ≡ false }
-    ensures absent { distance ≡ 0 → result ≡ Past }
-    ensures there { 0 < distance → IsCame place reads.now.count (inline_field_failure checks reads.now.bytes table.at place size size) result }
+    ensures { (distance ≡ 0 → result ≡ Past)
+        × (0 < distance → IsCame place reads.now.count (inline_field_failure checks reads.now.bytes table.at place size size) result) }
 {
     let is_held = is_inside(reads, place, u64::from(size));
     if !is_held || !is_aligned(checks, place, size) {
