@@ -74,9 +74,11 @@ impl<I: Read> Source for Counted<I> {
         if answer.is_err() {
             self.failures += 1;
         }
-        if !piece.is_empty() {
-            self.ended = matches!(answer, Ok(0));
-        }
+        self.ended = if piece.is_empty() {
+            self.ended
+        } else {
+            matches!(answer, Ok(0))
+        };
         answer
     }
 

@@ -1,5 +1,5 @@
 use Rattle.std.proofs.Common.{rules}
 use Rattle.fb_bytes.proofs.counted.CountedSource.pull.Goals as goal
 
-pub returns-after-matches-clause-end : goal.returns-after-matches-clause-end
-returns-after-matches-clause-end g c = search rules
+pub returns-clause-end : goal.returns-clause-end
+returns-clause-end g c = search rules

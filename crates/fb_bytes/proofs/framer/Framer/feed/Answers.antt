@@ -1,6 +1,6 @@
-use Rattle.std.proofs.Common.{rules, ◌≡◌, ◌+◌, ◌-◌, ◌<◌, ◌≤◌, true, Err, ◌++◌, length, take, drop, sym, ap, ap₂, ◌∙◌, refl, arith, length-append, length-drop, length-take}
+use Rattle.std.proofs.Common.{rules, ◌≡◌, ℕ, List, min, ◌+◌, ◌-◌, ◌<◌, ◌≤◌, true, Err, ◌++◌, length, take, drop, sym, ap, ap₂, ◌∙◌, refl, arith, true≢false, length-append, length-drop, length-take}
 use Rattle.fb_bytes.specs.declared.stream_fault.StreamFault.TheVariants.{Oversize}
-use Rattle.fb_bytes.specs.{Messages.declared, Framing.Framing, Framing.held_bytes}
+use Rattle.fb_bytes.specs.{Messages.declared, Messages.IsMessage, Framing.Framing, Framing.held_bytes}
 use Rattle.fb_bytes.proofs.MessageLemmas.{declared_front}
 use Rattle.fb_bytes.proofs.FramingLemmas.{Completes, completed-held, completed-front, completed-long, completed-stream, completed-oversize, completed-grown, completed-unfinished, fed-fits, framed-room, framed-within, framed-over}
 use Rattle.fb_bytes.proofs.framer.Framer.feed.Goals as goal
@@ -23,6 +23,14 @@ held_before g c = ap (λ (v : Framing). v.held) c.self.view_is
 
 limit_before : (g : _) (c : After-number_in-declared g) → c.self.inside.limit ≡ c.args.self.now.limit
 limit_before g c = ap (λ (v : Framing). v.limit) c.self.view_is
+
+-- On numbers, and what is as long as its prefix tells.
+
+no_more : (more room used n : ℕ) → more ≡ min room (n - used) → used ≤ n → used + more ≤ n
+no_more more room used n e h = omega arith
+
+whole_message : (limit told : ℕ) (bytes prefix : List ℕ) → length bytes ≡ 4 + told → told ≡ declared prefix → declared bytes ≡ declared prefix → declared prefix ≤ limit - 4 → 8 ≤ limit → IsMessage limit bytes
+whole_message limit told bytes prefix long is number all low = record { prefixed = omega arith; whole = omega arith; within = omega arith }
 
 -- the stream begins with that prefix, and tells its number
 front_of : (g : _) (c : After-number_in-declared g) → take 4 (c.args.self.now.held ++ c.args.piece.now) ≡ c.fill_prefix-used.new.prefix
@@ -74,20 +82,17 @@ returns-in-Ok-clause-ok g c =
     let at4 : length now ≡ length (held_bytes prefix' 4 body') = ap (λ n. length (held_bytes prefix' n body')) w.sum in
     let number : declared now ≡ declared prefix' = declared_front now prefix' grown.1 in
     let told : c.number_in-declared.result ≡ declared prefix' = c.number_in-declared.ensures in
-    let long : 4 ≤ length now = omega (arith, length-take 4 now, ap length grown.1, w.four') in
-    let fits : length (held_bytes prefix' 4 body') ≤ 4 + c.number_in-declared.result = c.in-Ok.ensures.fits in
-    let all : declared prefix' ≤ f.limit - 4 = search rules in
+    let all : declared prefix' ≤ f.limit - 4 = rw (← told) c.if-declared-self.false in
     let low = c.self.invariant.low in
     record {
       limit = limit;
-      fine = search rules;
-      within = search rules;
+      fine = (sym (ap (λ (v : Framing). v.failed) c.self.view_is) ∙ c.if-self.false, c.if-self.false);
+      within = no_more _ _ _ _ c.in-Ok.ensures.used w.within;
       held = grown.0 ∙ ap (λ l. l ++ take (used + more) piece) held;
-      message = λ whole.
-          let sized : length (held_bytes prefix' 4 body') ≡ 4 + c.number_in-declared.result = c.in-Ok.ensures.whole.0 (search rules) in
-          record { prefixed = long; whole = omega arith; within = omega arith };
+      message = λ whole. whole_message _ _ _ _ (at4 ∙ c.in-Ok.ensures.whole.0 whole) told number all low;
       partial = λ part.
-          let short : length (held_bytes prefix' 4 body') ≡ 4 + c.number_in-declared.result → ⊥ = λ e. let sure = c.in-Ok.ensures.whole.1 e in search rules in
+          let short : length (held_bytes prefix' 4 body') ≡ 4 + c.number_in-declared.result → ⊥ = λ e. true≢false (sym (c.in-Ok.ensures.whole.1 e) ∙ part) in
+          let fits : length (held_bytes prefix' 4 body') ≤ 4 + c.number_in-declared.result = c.in-Ok.ensures.fits in
           let grew = ap length c.in-Ok.ensures.held in
           let room = c.in-Ok.ensures.used in
           let least = length-append (held_bytes prefix' 4 body) (take more (drop used piece)) in
