@@ -148,10 +148,11 @@ pub fn put_union(
     put_word(reads, checks, table, at, referent, row)
 }
 
-/// Tests a present vector of unions by itself, and puts its offset words, if there are any.
+/// Tests a present vector of unions by itself, and puts its offset words, if there are any: what they are comes in one
+/// clause, which is proved once for each way out.
 #[inline(always)]
 #[tactic(auto, using(crate::proofs::Alignments::four))]
-pub fn put_unions(
+fn put_typed(
     reads: &mut Reads<'_>,
     checks: Checks,
     table: Table,
@@ -164,10 +165,10 @@ pub fn put_unions(
     requires typed { TypesFit reads.old.bytes table.at slot }
     requires few { reads.old.count < reads.old.base + 2 ^ 58 }
     requires placed { IsPlaced checks reads.old.bytes table.at table.head at.old }
-    ensures tested { IsTested reads.old reads.new at.new (after (types_reads reads.old.bytes table.at slot) (unions_field_failure checks reads.old.bytes table.at at.old (type_place reads.old.bytes table.at slot))) (types_reads reads.old.bytes table.at slot + 2) result }
-    ensures words { result ≡ None → PutsWords reads.old.bytes at.old (ByType union (types_begin reads.old.bytes (type_place reads.old.bytes table.at slot))) row.old row.new }
-    ensures types { result ≡ None → types_begin reads.old.bytes (type_place reads.old.bytes table.at slot) + word reads.old.bytes (target reads.old.bytes at.old) 4 ≤ length reads.old.bytes }
-    ensures types_near { result ≡ None → types_begin reads.old.bytes (type_place reads.old.bytes table.at slot) + word reads.old.bytes (target reads.old.bytes at.old) 4 < 2 ^ 36 }
+    ensures { IsTested reads.old reads.new at.new (after (types_reads reads.old.bytes table.at slot) (unions_field_failure checks reads.old.bytes table.at at.old (type_place reads.old.bytes table.at slot))) (types_reads reads.old.bytes table.at slot + 2) result
+        × (result ≡ None → PutsWords reads.old.bytes at.old (ByType union (types_begin reads.old.bytes (type_place reads.old.bytes table.at slot))) row.old row.new
+            × (types_begin reads.old.bytes (type_place reads.old.bytes table.at slot) + word reads.old.bytes (target reads.old.bytes at.old) 4 ≤ length reads.old.bytes)
+            × (types_begin reads.old.bytes (type_place reads.old.bytes table.at slot) + word reads.old.bytes (target reads.old.bytes at.old) 4 < 2 ^ 36)) }
 {
     let types = types_of(reads, table, slot);
     let mut count = 0;
@@ -186,4 +187,27 @@ pub fn put_unions(
         };
     }
     None
+}
+
+/// Tests a present vector of unions by itself, and puts its offset words, if there are any.
+#[inline(always)]
+pub fn put_unions(
+    reads: &mut Reads<'_>,
+    checks: Checks,
+    table: Table,
+    at: &mut u64,
+    slot: u16,
+    union: u32,
+    row: &mut Row,
+) -> Option<Reason>
+    requires present { IsTrue (has_slot reads.old.bytes table.at slot) }
+    requires typed { TypesFit reads.old.bytes table.at slot }
+    requires few { reads.old.count < reads.old.base + 2 ^ 58 }
+    requires placed { IsPlaced checks reads.old.bytes table.at table.head at.old }
+    ensures tested { IsTested reads.old reads.new at.new (after (types_reads reads.old.bytes table.at slot) (unions_field_failure checks reads.old.bytes table.at at.old (type_place reads.old.bytes table.at slot))) (types_reads reads.old.bytes table.at slot + 2) result }
+    ensures words { result ≡ None → PutsWords reads.old.bytes at.old (ByType union (types_begin reads.old.bytes (type_place reads.old.bytes table.at slot))) row.old row.new }
+    ensures types { result ≡ None → types_begin reads.old.bytes (type_place reads.old.bytes table.at slot) + word reads.old.bytes (target reads.old.bytes at.old) 4 ≤ length reads.old.bytes }
+    ensures types_near { result ≡ None → types_begin reads.old.bytes (type_place reads.old.bytes table.at slot) + word reads.old.bytes (target reads.old.bytes at.old) 4 < 2 ^ 36 }
+{
+    put_typed(reads, checks, table, at, slot, union, row)
 }
