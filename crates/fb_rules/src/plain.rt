@@ -372,24 +372,6 @@ pub fn test_lead(
     }
 }
 
-/// Tests a field that holds an offset word to a string, with that string.
-#[inline(always)]
-fn test_text_field(
-    reads: &mut Reads<'_>,
-    checks: Checks,
-    table: Table,
-    at: &mut u64,
-) -> Option<Reason>
-    requires few { reads.old.count < reads.old.base + 2 ^ 60 }
-    requires placed { IsPlaced checks reads.old.bytes table.at table.head at.old }
-    ensures { IsTested reads.old reads.new at.new (table_failure checks reads.old.bytes table.at at.old 4 ▷ lead_failure checks reads.old.bytes at.old to_string) 3 result }
-{
-    if let Some(reason) = test_end(reads, checks, table, *at, 4) {
-        return Some(reason);
-    }
-    test_text(reads, checks, at)
-}
-
 /// To where fields were passed by their steps.
 #[derive(Clone, Copy)]
 pub enum Came {
@@ -436,7 +418,10 @@ fn pass_field(
         return past(test_inline_field(reads, checks, table, *at, bit, bit));
     }
     if bit & Step::TEXT != 0 {
-        return past(test_text_field(reads, checks, table, at));
+        if let Some(reason) = test_end(reads, checks, table, *at, 4) {
+            return Came::ToFault(reason);
+        }
+        return past(test_text(reads, checks, at));
     }
     if bit & Step::LEADS_ON != 0 {
         return Came::ToField;
@@ -467,16 +452,6 @@ fn small_failure(length: u64, place: u64, size: u32, distance: u64) -> Option<Re
         return Some(Reason::OutOfBuffer);
     }
     Some(Reason::Misaligned)
-}
-
-/// Whether a step's field is a scalar or struct of one, two, four or eight bytes that may be absent, and its end isn't
-/// checked against its table's inline size.
-#[inline(always)]
-fn is_free_small(checks: Checks, step: &Step) -> bool
-    ensures small { result ≡ true → bit_and (step.now).bit 15 ≡ 0 → ⊥ }
-    ensures cut { result ≡ true → checks.inline_size ≡ false }
-{
-    step.bit & Step::SMALL != 0 && !checks.inline_size
 }
 
 /// Passes a scalar or struct of one, two, four or eight bytes, aligned to as many, that stands at this distance from
@@ -530,7 +505,8 @@ pub fn pass_step(
         return Came::ToEnd;
     }
     let distance = u64::from(reads.u16_at(table.head.vtable + u64::from(step.slot)));
-    if is_free_small(checks, step) {
+    // A scalar or struct of one, two, four or eight bytes that may be absent, and whose end isn't checked.
+    if step.bit & Step::SMALL != 0 && !checks.inline_size {
         *at += distance;
         return pass_small(reads, checks, table, *at, step.bit, distance);
     }
