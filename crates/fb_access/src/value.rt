@@ -23,8 +23,7 @@ pub fn struct_size(schema: &Schema<'_>, object: u32) -> u64
 #[tactic(auto, unfolding(crate::specs::Denotes::number))]
 fn number_of<'b>(scalar: Scalar, bytes: u64) -> Answer<'b>
     requires { bytes < 256 ^ scalar_size scalar }
-    ensures shown { shown result ≡ number scalar bytes }
-    ensures fits { FitsScalar scalar result }
+    ensures { shown result ≡ number scalar bytes }
 {
     match scalar {
         Scalar::Bool => Answer::Bool(bytes != 0),
@@ -54,7 +53,7 @@ fn word_of(window: &Window<'_>, at: u64, scalar: Scalar) -> u64
 }
 
 /// A scalar at a position.
-#[tactic(auto, unfolding(crate::specs::Denotes::inline_value))]
+#[tactic(auto, using(crate::proofs::Counted::number_fits), unfolding(crate::specs::Denotes::inline_value))]
 fn inline_at<'b>(window: &Window<'b>, at: u64, scalar: Scalar) -> Answer<'b>
     requires { at + scalar_size scalar ≤ length window.now }
     ensures shown { shown result ≡ inline_value window.now at scalar }
@@ -68,7 +67,7 @@ fn inline_at<'b>(window: &Window<'b>, at: u64, scalar: Scalar) -> Answer<'b>
 }
 
 /// An absent scalar with this default: its low bytes, as many as the scalar has.
-#[tactic(auto, unfolding(crate::specs::Denotes::default_value))]
+#[tactic(auto, using(crate::proofs::Counted::number_fits), unfolding(crate::specs::Denotes::default_value))]
 fn default_at<'b>(default: i64, scalar: Scalar) -> Answer<'b>
     ensures shown { shown result ≡ default_value scalar default }
     ensures fits { FitsScalar scalar result }

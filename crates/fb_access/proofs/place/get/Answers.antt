@@ -1,5 +1,14 @@
-use Rattle.std.proofs.Common.{rules}
+use Rattle.std.proofs.Common.{arith, ◌∙◌}
+use Rattle.fb_access.proofs.Walks.{walked_allows_at, walked_more_at}
 use Rattle.fb_access.proofs.place.get.Goals as goal
 
-pub returns : goal.returns
-returns g c = search rules
+pub go-place-requires : goal.go-place-requires
+go-place-requires g c =
+    rw c.loop-step.invariant.same (walked_allows_at _ _ _ _ _ _ _ (omega arith) c.loop-step.invariant.walked)
+
+pub loop-step-preserved : goal.loop-step-preserved
+loop-step-preserved g c = record {
+  steps = c.loop-step.invariant.steps;
+  same = c.go-place.ensures.same ∙ c.loop-step.invariant.same;
+  walked = walked_more_at _ _ _ _ _ _ _ _ (omega arith) c.loop-step.invariant.walked (rw c.loop-step.invariant.same at c.go-place.ensures.leads);
+}

@@ -1,5 +1,5 @@
 use Rattle.std.proofs.Common.{sym}
-use Rattle.fb_access.proofs.StepKinds.{allowed_leads, kinds_go_on}
+use Rattle.fb_access.proofs.{StepKinds.allowed_leads, StepKinds.kinds_go_on, Staying.step_stays, Sure.here_goes_on}
 use Rattle.fb_access.proofs.place.Place.go.Goals as goal
 
 pub unreachable-requires : goal.unreachable-requires
@@ -11,3 +11,13 @@ pub returns-clause-kinds : goal.returns-clause-kinds
 returns-clause-kinds c =
     let l = rw c.in-Some.is at c.next_of.ensures.value in
     rw (← c.self.view_is) (kinds_go_on _ _ _ _ _ (sym l))
+
+pub returns-clause-here : goal.returns-clause-here
+returns-clause-here c =
+    let l = rw c.in-Some.is at c.next_of.ensures.value in
+    rw (← c.self.view_is) (here_goes_on _ _ _ _ _ c.next_of.ensures.served c.self.invariant.spot (sym l))
+
+pub invariant_of-result : goal.invariant_of-result
+invariant_of-result c =
+    let l = rw c.in-Some.is at c.next_of.ensures.value in
+    record { unfolds = c.self.invariant.unfolds; spot = step_stays _ _ _ _ _ c.next_of.ensures.served c.self.invariant.spot (sym l) }
