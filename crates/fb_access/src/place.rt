@@ -2,9 +2,8 @@
 
 ghost use Rattle.std.specs.Prelude.{◌≡◌, ℕ, ◌+◌, ◌*◌, ◌≤◌, length, IfSome, IsTrue};
 ghost use Rattle.fb_schema.specs.declared.kinds.Kind.TheVariants.{Table as TableKind, Tables};
-ghost use Rattle.fb_schema.specs.Served.{IsServed};
 ghost use Rattle.fb_rules.specs.WellFormed.{base};
-ghost use Rattle.fb_access.specs.{Fitting.StepsFit, Extents.extent, Held.IsSpot};
+ghost use Rattle.fb_access.specs.{Fitting.StepsFit, Extents.extent};
 ghost use Rattle.fb_access.specs.Denotes.{Leads, allows, next_spot, root_spot, Denotes, value, shown, vector};
 ghost use Rattle.fb_access.specs.Here.{KindsGoOn, HereGoesOn, IsNarrow, IsHere};
 
@@ -60,25 +59,13 @@ pub fn at_root<'v, 'b, 's, 'n>(verified: &'v Verified<'b, 's, 'n>) -> Place<'v, 
     }
 }
 
-/// The spot to which a step leads from this one, none where it isn't allowed.
-#[inline(always)]
-fn next_of(verified: &Verified<'_, '_, '_>, spot: Spot, step: Step) -> Option<Spot>
-    requires { IsSpot (verified.now).bytes (verified.now).schema spot }
-    ensures value { result ≡ next_spot (verified.now).bytes (verified.now).schema spot step }
-    ensures served { IsServed (verified.now).schema }
-{
-    let schema = verified.schema();
-    schema.lawful();
-    next_spot(verified.window(), schema, spot, step)
-}
-
 impl<'v, 'b, 's, 'n> Place<'v, 'b, 's, 'n> {
     /// Whether what is here has this step: a table its live fields, a vector every element's number, a union the
     /// members of its enum. Where nothing is, every step is allowed.
     pub fn allows(&self, step: Step) -> bool
         ensures { result ≡ allows ((self.now).sealed).schema (self.now).spot step }
     {
-        next_of(self.verified, self.spot, step).is_some()
+        next_spot(self.verified.window(), self.verified.schema(), self.spot, step).is_some()
     }
 
     /// One step on. An absent field without a default, an element past the count and a member of another type lead to
@@ -93,7 +80,9 @@ impl<'v, 'b, 's, 'n> Place<'v, 'b, 's, 'n> {
         ensures here { HereGoesOn ((self.now).sealed).schema (self.now).spot step result.spot }
     {
         let verified = self.verified;
-        match next_of(verified, self.spot, step) {
+        let schema = verified.schema();
+        schema.lawful();
+        match next_spot(verified.window(), schema, self.spot, step) {
             Some(spot) => Place { verified, spot },
             None => unreachable!(),
         }
