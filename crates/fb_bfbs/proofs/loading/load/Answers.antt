@@ -5,4 +5,4 @@ use Rattle.fb_bfbs.proofs.loading.load.Goals as goal
 
 pub returns-in_err-schema-clause-no : goal.returns-in_err-schema-clause-no
 returns-in_err-schema-clause-no c =
-    if_err_exit c.from_residual-in_err-schema.result _ (IsLoadFault c.args.bytes.now c.args.limits) c.from_residual-in_err-schema.ensures.1 (refused _ _ _ _ c.in_ok-rows.ensures.file c.in_ok-rows.ensures.told.rows c.in_ok-rows.ensures.paid c.in_err-schema.ensures.refused)
+    if_err_exit c.from_residual-in_err-schema.result _ (IsLoadFault c.args.bytes.now c.args.limits) c.from_residual-in_err-schema.ensures.1 (refused _ _ _ _ c.in_ok-rows.ensures.yes c.in_err-schema.ensures.refused)
