@@ -68,8 +68,12 @@ fn read<'b>(alloc: Global, bytes: &'b [u8], limits: Limits) -> Result<FileRows<'
     ensures yes { IfOk result (IsReadFile bytes.now limits) }
     ensures no { IfErr result (λ fault. IsLoadFault bytes.now limits fault) }
 {
-    let meter = Meter::new(bytes)?;
-    let fixed = reflection(alloc)?;
+    let Ok(meter) = Meter::new(bytes) else {
+        return Err(LoadFault::TooLong);
+    };
+    let Ok(fixed) = reflection(alloc) else {
+        return Err(LoadFault::OutOfMemory);
+    };
     read_by(alloc, &fixed, meter, limits)
 }
 
@@ -125,19 +129,19 @@ pub fn load<'b>(alloc: Global, bytes: &'b [u8], limits: Limits) -> Result<Loaded
 {
     let rows = read(alloc, bytes, limits)?;
     let schema = Schema::build(alloc, rows.objects, rows.enums)?;
-    let Some(name) = rows.root else {
-        return Ok(Loaded {
+    match rows.root {
+        None => Ok(Loaded {
             schema,
             root: None,
             ident: rows.ident,
-        });
-    };
-    match schema.table_named(name) {
-        None => Err(LoadFault::RootNotListed),
-        Some(root) => Ok(Loaded {
-            schema,
-            root: Some(root),
-            ident: rows.ident,
         }),
+        Some(name) => match schema.table_named(name) {
+            None => Err(LoadFault::RootNotListed),
+            Some(root) => Ok(Loaded {
+                schema,
+                root: Some(root),
+                ident: rows.ident,
+            }),
+        },
     }
 }
