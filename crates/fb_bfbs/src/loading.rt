@@ -128,7 +128,10 @@ pub fn load<'b>(alloc: Global, bytes: &'b [u8], limits: Limits) -> Result<Loaded
     ensures no { IfErr result (λ fault. IsLoadFault bytes.now limits fault) }
 {
     let rows = read(alloc, bytes, limits)?;
-    let schema = Schema::build(alloc, rows.objects, rows.enums)?;
+    let schema = match Schema::build(alloc, rows.objects, rows.enums) {
+        Ok(schema) => schema,
+        Err(fault) => return Err(LoadFault::from(fault)),
+    };
     match rows.root {
         None => Ok(Loaded {
             schema,
