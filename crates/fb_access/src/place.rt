@@ -65,7 +65,13 @@ impl<'v, 'b, 's, 'n> Place<'v, 'b, 's, 'n> {
     pub fn allows(&self, step: Step) -> bool
         ensures { result ≡ allows ((self.now).sealed).schema (self.now).spot step }
     {
-        next_spot(self.verified.window(), self.verified.schema(), self.spot, step).is_some()
+        next_spot(
+            self.verified.window(),
+            self.verified.schema(),
+            self.spot,
+            step,
+        )
+        .is_some()
     }
 
     /// One step on. An absent field without a default, an element past the count and a member of another type lead to
