@@ -1,9 +1,13 @@
--- Vectors have no more elements than there is room for.
-use Rattle.std.proofs.Common.{◌≡◌, ℕ, ◌*◌, ◌≤◌, List, length, arith}
+-- Vectors have no more elements than there is room for, what has bytes of its own lies in the buffer, and numbers fit
+-- their scalars.
+use Rattle.std.proofs.Common.{◌≡◌, ℕ, ◌+◌, ◌*◌, ◌≤◌, ◌<◌, ◌^◌, List, length, arith, Option, IfSome}
+use Rattle.std.proofs.Math.Facts.{sfits_to_z}
+use Rattle.fb_schema.specs.declared.kinds.Scalar.{Scalar}
+use Rattle.fb_schema.specs.Kinds.{scalar_size}
 use Rattle.fb_schema.specs.declared.kinds.Kind.TheVariants.{Tables}
 use Rattle.fb_schema.specs.Rows.{Rows}
-use Rattle.fb_access.specs.declared.{spot.Spot.Spot}
-use Rattle.fb_access.specs.{Denotes.vector, Denotes.value, Held.IsSpot, Held.Placed, Held.IsPlaced, Here.IsHere}
+use Rattle.fb_access.specs.declared.{spot.Spot.Spot, extent.Extent.Extent, answer.Answer.Answer}
+use Rattle.fb_access.specs.{Extents.extent, Denotes.vector, Denotes.value, Denotes.number, Denotes.shown, Held.IsSpot, Held.Placed, Held.IsPlaced, Here.IsHere, Here.FitsScalar}
 
 pub tables_fit : (b : List ℕ) (S : Rows) (p : Spot) (k n : ℕ) → IsSpot b S p → IsHere p (Tables k) → vector n ≡ value b S p → 4 * n ≤ length b
 unfolding IsSpot value
@@ -11,3 +15,11 @@ tables_fit b S p k n spot here v = grind arith
 
 pub tables_fit_at : (p : Placed) (k n : ℕ) → IsPlaced p → IsHere p.spot (Tables k) → vector n ≡ value (p.sealed).bytes (p.sealed).schema p.spot → 4 * n ≤ length (p.sealed).bytes
 tables_fit_at p k n placed here v = tables_fit (p.sealed).bytes (p.sealed).schema p.spot k n placed.spot here v
+
+pub extent_within : (b : List ℕ) (S : Rows) (p : Spot) (o : Option Extent) → IsSpot b S p → o ≡ extent b S p → IfSome o (λ e. e.at + e.size ≤ length b)
+unfolding IsSpot extent
+extent_within b S p o spot e = grind arith
+
+pub number_fits : (s : Scalar) (n : ℕ) (a : Answer) → n < 256 ^ scalar_size s → shown a ≡ number s n → FitsScalar s a
+unfolding number
+number_fits s n a less e = grind (arith, sfits_to_z)

@@ -94,7 +94,7 @@ module _ (b : List ℕ) (S : Rows) where
   from_union p m q served h l = absurd cc
 
   -- one step, and all of them
-  step_stays : (p : Spot) (s : Step) (q : Spot) → IsServed S → IsSpot b S p → next_spot b S p s ≡ Some q → IsSpot b S q
+  pub step_stays : (p : Spot) (s : Step) (q : Spot) → IsServed S → IsSpot b S p → next_spot b S p s ≡ Some q → IsSpot b S q
   unfolding next_spot
   step_stays AtAbsent s q served h l = subst (IsSpot b S) (some_same l) h
   step_stays AtNoElement s q served h l = subst (IsSpot b S) (some_same l) h

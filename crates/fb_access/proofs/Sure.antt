@@ -1,7 +1,7 @@
 -- From where something is, certain steps lead to where something is.
 use Rattle.std.proofs.Common.{arith}
 use Rattle.std.proofs.Common.{◌≡◌, ℕ, ◌||◌, if◌then◌else◌, ℤ, Bool, true, IsFalse, List, ◌∙◌, ap, subst, Option, Some, None}
-use Rattle.std.specs.Prelude.{IfSome, option_and_then}
+use Rattle.std.specs.Prelude.{option_and_then}
 use Rattle.fb_schema.specs.declared.{kinds.Kind.Kind}
 use Rattle.fb_schema.specs.declared.kinds.Kind.TheVariants.{Table}
 use Rattle.fb_schema.specs.{Rows.Rows, Live.Live, Served.IsServed}
@@ -65,8 +65,3 @@ module _ (b : List ℕ) (S : Rows) where
       let t = table_here p i.object (h ∙ ap Some i.is_table) in
       let m = subst (λ x. next_spot b S x (Field i.number) ≡ Some q) t.1 (subst (λ x. next_spot b S p x ≡ Some q) i.is_field l) in
       table_leads_here i.object t.0 i.number i.field q onward served (at_table b S p i.object t.0 t.1 holds) i.found i.sure m
-
-  -- the same wherever the step leads
-  pub here_goes_on_where : (p : Spot) (s : Step) (o : Option Spot) → IsServed S → IsSpot b S p → next_spot b S p s ≡ o → IfSome o (HereGoesOn S p s)
-  here_goes_on_where p s None served holds l = tt
-  here_goes_on_where p s (Some q) served holds l = here_goes_on p s q served holds l

@@ -22,8 +22,7 @@ pub struct Extent {
 fn elements_at(window: &Window<'_>, at: u64, size: u64) -> Extent
     requires short { length window.now < 2 ^ 31 }
     requires counted { IsCounted window.now at size }
-    ensures value { result ≡ elements_at window.now at size }
-    ensures within { result.at + result.size ≤ length window.now }
+    ensures { result ≡ elements_at window.now at size }
 {
     Extent {
         at: at + 4,
@@ -33,8 +32,7 @@ fn elements_at(window: &Window<'_>, at: u64, size: u64) -> Extent
 
 /// The bytes of a scalar at a position that is shown by its bytes: a float.
 fn scalar_extent(scalar: Scalar, at: u64) -> Option<Extent>
-    ensures value { result ≡ scalar_extent scalar at }
-    ensures size { IfSome result (λ e. (e.at ≡ at) × (e.size ≡ scalar_size scalar)) }
+    ensures { result ≡ scalar_extent scalar at }
 {
     match scalar {
         Scalar::Float => Some(Extent { at, size: 4 }),
@@ -48,8 +46,7 @@ fn scalar_extent(scalar: Scalar, at: u64) -> Option<Extent>
 pub fn extent_at(window: &Window<'_>, schema: &Schema<'_>, spot: Spot) -> Option<Extent>
     requires short { length window.now < 2 ^ 31 }
     requires spot { IsSpot window.now schema.now spot }
-    ensures value { result ≡ extent window.now schema.now spot }
-    ensures within { IfSome result (λ e. e.at + e.size ≤ length window.now) }
+    ensures { result ≡ extent window.now schema.now spot }
 {
     match spot {
         Spot::AtInline(scalar, at) => scalar_extent(scalar, at),

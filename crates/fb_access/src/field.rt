@@ -5,7 +5,7 @@ ghost use Rattle.fb_bytes.specs.Word.{word};
 ghost use Rattle.fb_schema.specs.{Rows.is_table, Live.live_of_view};
 ghost use Rattle.fb_rules.specs.{Places.target, Places.vtable, Places.field_place, Fields.type_place, Fields.union_type, Fields.types_begin};
 ghost use Rattle.fb_access.specs.{Fitting.numbered, Held.HasVtable, Held.IsReadable};
-ghost use Rattle.fb_access.specs.Spots.{present_spot, absent_spot, default_spot, field_spot};
+ghost use Rattle.fb_access.specs.Spots.{present_spot, absent_spot, field_spot};
 
 use crate::spot::Spot;
 use fb_bytes::Window;
@@ -99,24 +99,16 @@ fn types_at(window: &Window<'_>, place: Option<u64>) -> u64
     }
 }
 
-/// An absent scalar that isn't optional: its default, and nothing for a float.
-#[tactic(auto, unfolding(crate::specs::Spots::default_spot))]
-fn default_of(default: i64, scalar: Scalar) -> Spot
-    ensures { result ≡ default_spot default scalar }
-{
-    match scalar {
-        Scalar::Float | Scalar::Double => Spot::AtAbsent,
-        _ => Spot::AtDefault(scalar, default),
-    }
-}
-
-/// What an absent field is.
-#[tactic(auto, unfolding(crate::specs::Spots::absent_spot))]
+/// What an absent field is: a scalar that isn't optional has its default, and a float none.
+#[tactic(auto, unfolding(crate::specs::Spots::absent_spot, crate::specs::Spots::default_spot))]
 fn absent(field: &FieldView<'_>) -> Spot
     ensures { result ≡ absent_spot (field.now).optional (field.now).default (field.now).kind }
 {
     match field.kind {
-        Kind::Scalar(scalar) if !field.optional => default_of(field.default, scalar),
+        Kind::Scalar(scalar) if !field.optional => match scalar {
+            Scalar::Float | Scalar::Double => Spot::AtAbsent,
+            _ => Spot::AtDefault(scalar, field.default),
+        },
         _ => Spot::AtAbsent,
     }
 }

@@ -3,7 +3,7 @@
 ghost use Rattle.std.specs.Prelude.{◌≡◌, IsTrue};
 ghost use Rattle.fb_schema.specs.Rows.{is_table, is_union};
 ghost use Rattle.fb_access.specs.{Grammar.Part, Cutting.IsPieceOf, Fitting.element_kind, Kept.IsThere};
-ghost use Rattle.fb_access.specs.Resolving.{fitting, field_step, element_step, member_step};
+ghost use Rattle.fb_access.specs.Resolving.{fitting, field_step, member_step};
 
 use crate::pieces::Piece;
 use crate::step::Step;
@@ -77,18 +77,6 @@ fn element_kind(kind: Kind) -> Option<Kind>
     }
 }
 
-fn element_step(kind: Kind, number: u32) -> Result<Fitted, Misfit>
-    ensures { result ≡ element_step kind number }
-{
-    match element_kind(kind) {
-        Some(kind) => Ok(Fitted {
-            step: Step::Element(number),
-            kind,
-        }),
-        None => Err(Misfit::NotIndexable),
-    }
-}
-
 #[tactic(auto, using(crate::proofs::Fits::has_kind))]
 fn member_step(schema: &Schema<'_>, union: u32, name: &[u8]) -> Result<Fitted, Misfit>
     requires { IsTrue (is_union schema.now union) }
@@ -119,7 +107,13 @@ pub fn fit(schema: &Schema<'_>, kind: Kind, piece: Piece<'_>) -> Result<Fitted, 
             Kind::Struct(object) => part_step(schema, object, name),
             _ => Err(Misfit::NotATable),
         },
-        Piece::Element(number) => element_step(kind, number),
+        Piece::Element(number) => match element_kind(kind) {
+            Some(kind) => Ok(Fitted {
+                step: Step::Element(number),
+                kind,
+            }),
+            None => Err(Misfit::NotIndexable),
+        },
         Piece::Member(name) => match kind {
             Kind::Union(union) => member_step(schema, union, name),
             _ => Err(Misfit::NotAUnion),

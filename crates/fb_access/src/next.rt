@@ -18,8 +18,7 @@ use fb_schema::{Kind, Schema};
 fn spot_of_field(window: &Window<'_>, schema: &Schema<'_>, spot: Spot, number: u16) -> Option<Spot>
     requires short { length window.now < 2 ^ 31 }
     requires spot { IsSpot window.now schema.now spot }
-    ensures value { result ≡ spot_of_field window.now schema.now spot number }
-    ensures spot { IfSome result (λ q. IsSpot window.now schema.now q) }
+    ensures { result ≡ spot_of_field window.now schema.now spot number }
 {
     schema.lawful();
     match spot {
@@ -69,8 +68,7 @@ fn place_of_element(window: &Window<'_>, at: u64, size: u64, j: u32) -> Option<u
 fn spot_of_element(window: &Window<'_>, schema: &Schema<'_>, spot: Spot, j: u32) -> Option<Spot>
     requires short { length window.now < 2 ^ 31 }
     requires spot { IsSpot window.now schema.now spot }
-    ensures value { result ≡ spot_of_element window.now schema.now spot j }
-    ensures spot { IfSome result (λ q. IsSpot window.now schema.now q) }
+    ensures { result ≡ spot_of_element window.now schema.now spot j }
 {
     match spot {
         Spot::AtScalars(scalar, at) => {
@@ -117,13 +115,12 @@ fn spot_of_element(window: &Window<'_>, schema: &Schema<'_>, spot: Spot, j: u32)
 }
 
 /// Where the offset word at a position of a union leads, whose type has this member.
-#[tactic(auto, unfolding(crate::specs::Spots::member_spot, crate::specs::Held::IsSpot))]
+#[tactic(auto, unfolding(crate::specs::Spots::member_spot))]
 fn spot_at_member(window: &Window<'_>, schema: &Schema<'_>, place: u64, member: Kind) -> Spot
     requires short { length window.now < 2 ^ 31 }
     requires member { MemberHolds schema.now (Some member) }
     requires led { IsLed window.now schema.now place (lead_of schema.now (Some member)) }
-    ensures value { result ≡ member_spot window.now place member }
-    ensures spot { IsSpot window.now schema.now result }
+    ensures { result ≡ member_spot window.now place member }
 {
     match member {
         Kind::Table(object) => Spot::AtTable(object, target_of(window, place)),
@@ -138,8 +135,7 @@ fn spot_at_member(window: &Window<'_>, schema: &Schema<'_>, place: u64, member: 
 fn spot_of_member(window: &Window<'_>, schema: &Schema<'_>, spot: Spot, value: u8) -> Option<Spot>
     requires short { length window.now < 2 ^ 31 }
     requires spot { IsSpot window.now schema.now spot }
-    ensures value { result ≡ spot_of_member window.now schema.now spot value }
-    ensures spot { IfSome result (λ q. IsSpot window.now schema.now q) }
+    ensures { result ≡ spot_of_member window.now schema.now spot value }
 {
     let Spot::AtUnion(union, type_byte, place) = spot else {
         return None;
@@ -162,8 +158,7 @@ fn spot_of_member(window: &Window<'_>, schema: &Schema<'_>, spot: Spot, value: u
 pub fn next_spot(window: &Window<'_>, schema: &Schema<'_>, spot: Spot, step: Step) -> Option<Spot>
     requires short { length window.now < 2 ^ 31 }
     requires spot { IsSpot window.now schema.now spot }
-    ensures value { result ≡ next_spot window.now schema.now spot step }
-    ensures spot { IfSome result (λ q. IsSpot window.now schema.now q) }
+    ensures { result ≡ next_spot window.now schema.now spot step }
 {
     match spot {
         Spot::AtAbsent | Spot::AtNoElement | Spot::AtOtherMember => Some(spot),

@@ -48,15 +48,16 @@ impl PathFault {
 impl fmt::Display for PathFault {
     fn fmt<W: fmt::Write>(&self, f: &mut fmt::Formatter<W>) -> fmt::Result {
         let name = self.text();
-        match self {
-            PathFault::BadText { at } => write!(f, "{name} at={at}"),
+        let (mark, number) = match *self {
+            PathFault::BadText { at } => ("at", at),
             PathFault::NoSuchField { step }
             | PathFault::NotIndexable { step }
             | PathFault::NotAUnion { step }
             | PathFault::NoSuchMember { step }
-            | PathFault::NotATable { step } => write!(f, "{name} step={step}"),
-            PathFault::OutOfMemory => write!(f, "{name}"),
-        }
+            | PathFault::NotATable { step } => ("step", step),
+            PathFault::OutOfMemory => return f.write_str(name),
+        };
+        write!(f, "{name} {mark}={number}")
     }
 }
 

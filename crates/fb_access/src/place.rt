@@ -3,7 +3,7 @@
 ghost use Rattle.std.specs.Prelude.{◌≡◌, ℕ, ◌+◌, ◌*◌, ◌≤◌, length, IfSome, IsTrue};
 ghost use Rattle.fb_schema.specs.declared.kinds.Kind.TheVariants.{Table as TableKind, Tables};
 ghost use Rattle.fb_rules.specs.WellFormed.{base};
-ghost use Rattle.fb_access.specs.{Fitting.StepsFit, Extents.extent, Held.IsSpot};
+ghost use Rattle.fb_access.specs.{Fitting.StepsFit, Extents.extent};
 ghost use Rattle.fb_access.specs.Denotes.{Leads, allows, next_spot, root_spot, Denotes, value, shown, vector};
 ghost use Rattle.fb_access.specs.Here.{KindsGoOn, HereGoesOn, IsNarrow, IsHere};
 
@@ -59,46 +59,19 @@ pub fn at_root<'v, 'b, 's, 'n>(verified: &'v Verified<'b, 's, 'n>) -> Place<'v, 
     }
 }
 
-/// The spot to which a step leads from this one, none where it isn't allowed.
-#[inline(always)]
-fn next_of(verified: &Verified<'_, '_, '_>, spot: Spot, step: Step) -> Option<Spot>
-    requires { IsSpot (verified.now).bytes (verified.now).schema spot }
-    ensures value { result ≡ next_spot (verified.now).bytes (verified.now).schema spot step }
-    ensures spot { IfSome result (λ q. IsSpot (verified.now).bytes (verified.now).schema q) }
-    ensures here { IfSome result (λ q. HereGoesOn (verified.now).schema spot step q) }
-{
-    let schema = verified.schema();
-    schema.lawful();
-    next_spot(verified.window(), schema, spot, step)
-}
-
-/// What is at a spot.
-#[inline(always)]
-fn value_of<'b>(verified: &Verified<'b, '_, '_>, spot: Spot) -> Answer<'b>
-    requires { IsSpot (verified.now).bytes (verified.now).schema spot }
-    ensures shown { shown result ≡ value (verified.now).bytes (verified.now).schema spot }
-    ensures narrow { IsNarrow spot result }
-{
-    value_at(verified.window(), verified.schema(), spot)
-}
-
-/// Where the bytes of what is at a spot stand.
-#[inline(always)]
-fn extent_of(verified: &Verified<'_, '_, '_>, spot: Spot) -> Option<Extent>
-    requires { IsSpot (verified.now).bytes (verified.now).schema spot }
-    ensures value { result ≡ extent (verified.now).bytes (verified.now).schema spot }
-    ensures within { IfSome result (λ e. e.at + e.size ≤ length (verified.now).bytes) }
-{
-    extent_at(verified.window(), verified.schema(), spot)
-}
-
 impl<'v, 'b, 's, 'n> Place<'v, 'b, 's, 'n> {
     /// Whether what is here has this step: a table its live fields, a vector every element's number, a union the
     /// members of its enum. Where nothing is, every step is allowed.
     pub fn allows(&self, step: Step) -> bool
         ensures { result ≡ allows ((self.now).sealed).schema (self.now).spot step }
     {
-        next_of(self.verified, self.spot, step).is_some()
+        next_spot(
+            self.verified.window(),
+            self.verified.schema(),
+            self.spot,
+            step,
+        )
+        .is_some()
     }
 
     /// One step on. An absent field without a default, an element past the count and a member of another type lead to
@@ -113,7 +86,9 @@ impl<'v, 'b, 's, 'n> Place<'v, 'b, 's, 'n> {
         ensures here { HereGoesOn ((self.now).sealed).schema (self.now).spot step result.spot }
     {
         let verified = self.verified;
-        match next_of(verified, self.spot, step) {
+        let schema = verified.schema();
+        schema.lawful();
+        match next_spot(verified.window(), schema, self.spot, step) {
             Some(spot) => Place { verified, spot },
             None => unreachable!(),
         }
@@ -127,7 +102,7 @@ impl<'v, 'b, 's, 'n> Place<'v, 'b, 's, 'n> {
         // There are no more tables in a vector than their offset words have room.
         ensures tables { (k n : ℕ) → IsHere (self.now).spot (Tables k) → shown result ≡ vector n → 4 * n ≤ length ((self.now).sealed).bytes }
     {
-        value_of(self.verified, self.spot)
+        value_at(self.verified.window(), self.verified.schema(), self.spot)
     }
 
     /// Where the bytes of what is here stand in the buffer: of a float, a string, a struct, and of the elements of a
@@ -136,20 +111,8 @@ impl<'v, 'b, 's, 'n> Place<'v, 'b, 's, 'n> {
         ensures value { result ≡ extent ((self.now).sealed).bytes ((self.now).sealed).schema (self.now).spot }
         ensures within { IfSome result (λ e. e.at + e.size ≤ length ((self.now).sealed).bytes) }
     {
-        extent_of(self.verified, self.spot)
+        extent_at(self.verified.window(), self.verified.schema(), self.spot)
     }
-}
-
-/// What stands at the end of these steps from the root table.
-fn get_steps<'b, 's, 'n>(verified: &Verified<'b, 's, 'n>, steps: &[Step]) -> Answer<'b>
-    requires { StepsFit (verified.now).schema (TableKind (verified.now).root) steps.now }
-    ensures { Denotes (verified.now).bytes (verified.now).schema (verified.now).start (verified.now).root steps.now (shown result) }
-{
-    let mut place = at_root(verified);
-    for step in steps {
-        place = place.go(*step);
-    }
-    place.answer()
 }
 
 /// What a path leads to in a verified buffer.
@@ -159,5 +122,9 @@ pub fn get<'b, A: Allocator>(verified: &Verified<'b, '_, '_>, path: &Path<A>) ->
     requires { StepsFit (verified.now).schema (TableKind (verified.now).root) path.now }
     ensures { Denotes (verified.now).bytes (verified.now).schema (verified.now).start (verified.now).root path.now (shown result) }
 {
-    get_steps(verified, path.steps())
+    let mut place = at_root(verified);
+    for step in path.steps() {
+        place = place.go(*step);
+    }
+    place.answer()
 }

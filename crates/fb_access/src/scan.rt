@@ -97,7 +97,7 @@ fn is_end(seen: Seen) -> bool
 /// # Errors
 ///
 /// Where it is none, the length of its longest beginning that begins a path.
-#[tactic(auto, using(crate::proofs::ScanPlaces::seen_more, crate::proofs::ScanPlaces::wrong_at, crate::proofs::ScanPlaces::wrong_at_end, crate::proofs::ScanPlaces::right_at_end))]
+#[tactic(auto, using(crate::proofs::ScanPlaces::wrong_at, crate::proofs::ScanPlaces::right_at_end))]
 pub fn check_text(text: &[u8]) -> Result<(), u64>
     ensures path { IfOk result (λ _. IsPath text.now) }
     ensures wrong { IfErr result (λ at. IsWrongAt text.now at) }

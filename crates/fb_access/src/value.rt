@@ -1,6 +1,6 @@
 // The value at a spot.
 
-ghost use Rattle.std.specs.Prelude.{◌≡◌, ◌+◌, ◌*◌, ◌^◌, ◌%◌, ◌<◌, ◌≤◌, length, take, drop};
+ghost use Rattle.std.specs.Prelude.{◌≡◌, ◌+◌, ◌*◌, ◌^◌, ◌%◌, ◌<◌, ◌≤◌, length};
 ghost use Rattle.fb_bytes.specs.Word.{word};
 ghost use Rattle.fb_schema.specs.Kinds.{scalar_size, struct_size};
 ghost use Rattle.fb_access.specs.Denotes.{number, inline_value, default_value, value, shown};
@@ -23,8 +23,7 @@ pub fn struct_size(schema: &Schema<'_>, object: u32) -> u64
 #[tactic(auto, unfolding(crate::specs::Denotes::number))]
 fn number_of<'b>(scalar: Scalar, bytes: u64) -> Answer<'b>
     requires { bytes < 256 ^ scalar_size scalar }
-    ensures shown { shown result ≡ number scalar bytes }
-    ensures fits { FitsScalar scalar result }
+    ensures { shown result ≡ number scalar bytes }
 {
     match scalar {
         Scalar::Bool => Answer::Bool(bytes != 0),
@@ -54,7 +53,7 @@ fn word_of(window: &Window<'_>, at: u64, scalar: Scalar) -> u64
 }
 
 /// A scalar at a position.
-#[tactic(auto, unfolding(crate::specs::Denotes::inline_value))]
+#[tactic(auto, using(crate::proofs::Counted::number_fits), unfolding(crate::specs::Denotes::inline_value))]
 fn inline_at<'b>(window: &Window<'b>, at: u64, scalar: Scalar) -> Answer<'b>
     requires { at + scalar_size scalar ≤ length window.now }
     ensures shown { shown result ≡ inline_value window.now at scalar }
@@ -68,7 +67,7 @@ fn inline_at<'b>(window: &Window<'b>, at: u64, scalar: Scalar) -> Answer<'b>
 }
 
 /// An absent scalar with this default: its low bytes, as many as the scalar has.
-#[tactic(auto, unfolding(crate::specs::Denotes::default_value))]
+#[tactic(auto, using(crate::proofs::Counted::number_fits), unfolding(crate::specs::Denotes::default_value))]
 fn default_at<'b>(default: i64, scalar: Scalar) -> Answer<'b>
     ensures shown { shown result ≡ default_value scalar default }
     ensures fits { FitsScalar scalar result }
@@ -83,16 +82,6 @@ fn default_at<'b>(default: i64, scalar: Scalar) -> Answer<'b>
     number_of(scalar, low)
 }
 
-/// The string at a position.
-fn text_at<'b>(window: &Window<'b>, at: u64) -> &'b [u8]
-    requires short { length window.now < 2 ^ 31 }
-    requires count { at + 4 ≤ length window.now }
-    requires within { at + 4 + word window.now at 4 ≤ length window.now }
-    ensures { result.now ≡ take (word window.now at 4) (drop (at + 4) window.now) }
-{
-    window.bytes(at + 4, u64::from(window.u32_at(at)))
-}
-
 /// The value at a spot.
 #[tactic(auto, unfolding(crate::specs::Denotes::value, crate::specs::Held::IsSpot))]
 pub fn value_at<'b>(window: &Window<'b>, schema: &Schema<'_>, spot: Spot) -> Answer<'b>
@@ -105,7 +94,7 @@ pub fn value_at<'b>(window: &Window<'b>, schema: &Schema<'_>, spot: Spot) -> Ans
         Spot::AtTable(_, _) => Answer::Table,
         Spot::AtInline(scalar, at) => inline_at(window, at, scalar),
         Spot::AtStruct(object, at) => Answer::Struct(window.bytes(at, struct_size(schema, object))),
-        Spot::AtText(at) => Answer::Text(text_at(window, at)),
+        Spot::AtText(at) => { Answer::Text(window.bytes(at + 4, u64::from(window.u32_at(at)))) }
         Spot::AtScalars(_, at)
         | Spot::AtStructs(_, at)
         | Spot::AtTexts(at)

@@ -1,12 +1,27 @@
 -- What is read of a schema file.
-use Rattle.std.specs.Prelude.{[], ◌∷◌}
-use Rattle.fb_schema.specs.Rows.{rows_of}
+use Rattle.std.specs.Prelude.{ℕ, List, [], ◌∷◌, Option, Some, None}
+use Rattle.fb_schema.specs.Rows.{AreFew, rows_of}
+use Rattle.fb_rules.specs.Bounds.{Bounds}
 use Rattle.fb_access.specs.declared.step.Step.TheVariants.{Field as ToField}
 use Rattle.fb_bfbs.specs.declared.file.FileRows.{FileRows}
-use Rattle.fb_bfbs.specs.{Says.Says, Says.text_or_nothing, Describes.Describes, Describes.IsRootName}
+use Rattle.fb_bfbs.specs.{Says.Says, Says.text_or_nothing, Describes.Describes, Describes.IsRootName, Sums.IsOver, Sums.ArePaid, Loads.IsSchemaFile, Loads.ArePaidFor, Loads.told}
 
--- the file says that these are its rows, its root table's name and its identifier
+-- the file says that these are its rows, its root table's name and its identifier, and the rows are few
 pub record IsTold (D : Says) (f : FileRows) : Type 0 where
   pub rows : Describes D (rows_of f.objects.items f.enums.items)
   pub root : IsRootName D f.root
   pub ident : D (ToField 2 ∷ []) (text_or_nothing f.ident)
+  pub few : AreFew f.objects.items f.enums.items
+
+-- what is read of it: all, or as far as so many bytes pay for it
+abbrev pub AreRead : Says → Option ℕ → Option FileRows → Type 0
+AreRead D None None = ⊥
+AreRead D None (Some f) = IsTold D f
+AreRead D (Some n) None = IsOver D n
+AreRead D (Some n) (Some f) = IsTold D f × ArePaid D (rows_of f.objects.items f.enums.items) n
+
+-- what is read of the bytes of a schema file within limits
+pub record IsReadFile (b : List ℕ) (L : Bounds) (f : FileRows) : Type 0 where
+  pub file : IsSchemaFile b L
+  pub told : IsTold (told b) f
+  pub paid : ArePaidFor b L (rows_of f.objects.items f.enums.items)

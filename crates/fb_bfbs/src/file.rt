@@ -1,12 +1,9 @@
 // What a schema file says.
 #![tactic(auto, using(crate::proofs::FixedFields::always, crate::proofs::FixedFields::maybe), unfolding(crate::proofs::FixedFields::computing))]
 
-ghost use Rattle.std.specs.Prelude.{◌≡◌, ◌<◌, ◌^◌, [], ◌∷◌, length, IfOk, IfSome, IfNone, MatchOption};
-ghost use Rattle.fb_schema.specs.Rows.{AreFew, rows_of};
-ghost use Rattle.fb_access.specs.declared.step.Step.TheVariants.{Field as ToField};
+ghost use Rattle.std.specs.Prelude.{◌≡◌, ◌<◌, ◌^◌, length, Some, IfOk, IfSome};
 ghost use Rattle.fb_access.specs.Denotes.{Denotes};
-ghost use Rattle.fb_bfbs.specs.{Fixed.fixed, Says.text_or_nothing, Seen.seen, Seen.IsAt, Describes.Describes, Describes.IsRootName, FileRows.IsTold};
-ghost use Rattle.fb_bfbs.specs.Sums.{ArePaid, IsOver, IsToldFew};
+ghost use Rattle.fb_bfbs.specs.{Fixed.fixed, Seen.seen, Seen.IsAt, Describes.IsRootName, FileRows.IsTold, FileRows.AreRead, Sums.IsToldFew};
 
 use crate::counted::{FieldCount, MemberCount};
 use crate::lists::rows_in;
@@ -41,8 +38,7 @@ fn root_name<'b>(place: &Place<'_, 'b, '_, '_>) -> Option<&'b [u8]>
 fn schema_rows<'b>(alloc: Global, place: &Place<'_, 'b, '_, '_>) -> Result<FileRows<'b>, AllocError>
     requires at { IsAt place.now (Kind.Table 9) }
     requires short { length ((place.now).sealed).bytes < 2 ^ 31 }
-    ensures told { IfOk result (λ f. IsTold (seen place.now) f) }
-    ensures few { IfOk result (λ f. AreFew f.objects.items f.enums.items) }
+    ensures { IfOk result (IsTold (seen place.now)) }
 {
     let objects = rows_in(alloc, place, 0)?;
     let enums = rows_in(alloc, place, 1)?;
@@ -79,10 +75,7 @@ fn paid_rows<'b>(
     requires at { IsAt place.now (Kind.Table 9) }
     requires short { length ((place.now).sealed).bytes < 2 ^ 31 }
     requires len { len < 2 ^ 31 }
-    ensures told { IfOk result (λ o. IfSome o (λ f. IsTold (seen place.now) f)) }
-    ensures few { IfOk result (λ o. IfSome o (λ f. AreFew f.objects.items f.enums.items)) }
-    ensures paid { IfOk result (λ o. IfSome o (λ f. ArePaid (seen place.now) (rows_of f.objects.items f.enums.items) len)) }
-    ensures over { IfOk result (λ o. IfNone o (IsOver (seen place.now) len)) }
+    ensures { IfOk result (AreRead (seen place.now) (Some len)) }
 {
     if !has_few_rows(alloc, place, len / 4 + ROWS)? {
         return Ok(None);
@@ -109,10 +102,7 @@ pub fn file_rows<'b>(
     requires root { (verified.now).root ≡ 9 }
     requires short { length (verified.now).bytes < 2 ^ 31 }
     requires len { IfSome paying (λ len. len < 2 ^ 31) }
-    ensures told { IfOk result (λ o. IfSome o (λ f. IsTold (Denotes (verified.now).bytes (verified.now).schema (verified.now).start (verified.now).root) f)) }
-    ensures few { IfOk result (λ o. IfSome o (λ f. AreFew f.objects.items f.enums.items)) }
-    ensures paid { IfOk result (λ o. IfSome o (λ f. IfSome paying (ArePaid (Denotes (verified.now).bytes (verified.now).schema (verified.now).start (verified.now).root) (rows_of f.objects.items f.enums.items)))) }
-    ensures over { IfOk result (λ o. IfNone o (MatchOption paying ⊥ (IsOver (Denotes (verified.now).bytes (verified.now).schema (verified.now).start (verified.now).root)))) }
+    ensures { IfOk result (AreRead (Denotes (verified.now).bytes (verified.now).schema (verified.now).start (verified.now).root) paying) }
 {
     let place = at_root(verified);
     match paying {

@@ -85,38 +85,38 @@ pub fn code_text(code: Code) -> &'static str
     }
 }
 
-/// Writes this number, or `-` where there is none.
-fn write_number<W: fmt::Write>(f: &mut fmt::Formatter<W>, number: Option<u32>) -> fmt::Result {
-    match number {
-        Some(number) => write!(f, "{number}"),
-        None => f.write_str("-"),
+/// A number, or `-` where there is none.
+#[derive(Clone, Copy)]
+struct Number(Option<u32>);
+
+impl fmt::Display for Number {
+    fn fmt<W: fmt::Write>(&self, f: &mut fmt::Formatter<W>) -> fmt::Result {
+        match self.0 {
+            Some(number) => write!(f, "{number}"),
+            None => f.write_str("-"),
+        }
     }
-}
-
-/// Writes why bytes aren't well formed.
-fn write_fault<W: fmt::Write>(f: &mut fmt::Formatter<W>, fault: &Fault) -> fmt::Result {
-    let reason = fault.reason.text();
-    write!(
-        f,
-        "L1 {reason} at={} object={} field=",
-        fault.at, fault.object
-    )?;
-    write_number(f, fault.field.map(u32::from))?;
-    write!(f, " reads={}", fault.reads)
-}
-
-/// Writes why rows are no schema.
-fn write_refused<W: fmt::Write>(f: &mut fmt::Formatter<W>, fault: &SchemaFault) -> fmt::Result {
-    let code = code_text(fault.code);
-    write!(f, "L2 {code} owner={} part=", fault.owner)?;
-    write_number(f, fault.part)
 }
 
 impl fmt::Display for LoadFault {
     fn fmt<W: fmt::Write>(&self, f: &mut fmt::Formatter<W>) -> fmt::Result {
         match self {
-            LoadFault::NotWellFormed(fault) => write_fault(f, fault),
-            LoadFault::BadSchema(fault) => write_refused(f, fault),
+            LoadFault::NotWellFormed(fault) => write!(
+                f,
+                "L1 {} at={} object={} field={} reads={}",
+                fault.reason.text(),
+                fault.at,
+                fault.object,
+                Number(fault.field.map(u32::from)),
+                fault.reads
+            ),
+            LoadFault::BadSchema(fault) => write!(
+                f,
+                "L2 {} owner={} part={}",
+                code_text(fault.code),
+                fault.owner,
+                Number(fault.part)
+            ),
             LoadFault::RootNotListed => f.write_str("L3 RootNotListed"),
             LoadFault::OutOfMemory => f.write_str("L4 OutOfMemory"),
             LoadFault::TooLong => f.write_str("L5 TooLong"),

@@ -1,9 +1,8 @@
 // A schema out of its file.
 
-ghost use Rattle.std.specs.Prelude.{◌≡◌, ◌<◌, ◌≤◌, ◌^◌, length, option_map, IfOk, OnOk, IfErr};
-ghost use Rattle.fb_bfbs.specs.{Fixed.fixed, FileRows.IsTold, LoadLaws.ident_bytes, LoadLaws.own_ident};
-ghost use Rattle.fb_schema.specs.Rows.{AreFew, rows_of};
-ghost use Rattle.fb_bfbs.specs.Loads.{ArePaidFor, IsSchemaFile, HasTableForRoot, IsLoaded, IsLoadFault, told};
+ghost use Rattle.std.specs.Prelude.{◌≡◌, ◌<◌, ◌≤◌, ◌^◌, length, option_map, IfOk, IfErr};
+ghost use Rattle.fb_bfbs.specs.{Fixed.fixed, FileRows.IsReadFile, LoadLaws.ident_bytes, LoadLaws.own_ident};
+ghost use Rattle.fb_bfbs.specs.Loads.{HasTableForRoot, IsLoaded, IsLoadFault};
 
 use crate::file::{FileRows, file_rows};
 use crate::fixed::reflection;
@@ -66,14 +65,15 @@ fn paying(limits: Limits, len: u64) -> Option<u64>
 
 /// Verifies the bytes by the fixed table, and reads the rows.
 fn read<'b>(alloc: Global, bytes: &'b [u8], limits: Limits) -> Result<FileRows<'b>, LoadFault>
-    ensures file { OnOk result (IsSchemaFile bytes.now limits) }
-    ensures told { IfOk result (λ f. IsTold (told bytes.now) f) }
-    ensures few { IfOk result (λ f. AreFew f.objects.items f.enums.items) }
-    ensures paid { IfOk result (λ f. ArePaidFor bytes.now limits (rows_of f.objects.items f.enums.items)) }
+    ensures yes { IfOk result (IsReadFile bytes.now limits) }
     ensures no { IfErr result (λ fault. IsLoadFault bytes.now limits fault) }
 {
-    let meter = Meter::new(bytes)?;
-    let fixed = reflection(alloc)?;
+    let Ok(meter) = Meter::new(bytes) else {
+        return Err(LoadFault::TooLong);
+    };
+    let Ok(fixed) = reflection(alloc) else {
+        return Err(LoadFault::OutOfMemory);
+    };
     read_by(alloc, &fixed, meter, limits)
 }
 
@@ -87,10 +87,7 @@ fn read_by<'b>(
     requires table { table.now ≡ fixed }
     requires unread { meter.count ≡ 0 }
     requires short { length meter.bytes < 2 ^ 31 }
-    ensures file { OnOk result (IsSchemaFile meter.entry.bytes limits) }
-    ensures told { IfOk result (λ f. IsTold (told meter.entry.bytes) f) }
-    ensures few { IfOk result (λ f. AreFew f.objects.items f.enums.items) }
-    ensures paid { IfOk result (λ f. ArePaidFor meter.entry.bytes limits (rows_of f.objects.items f.enums.items)) }
+    ensures yes { IfOk result (IsReadFile meter.entry.bytes limits) }
     ensures no { IfErr result (λ fault. IsLoadFault meter.entry.bytes limits fault) }
 {
     let paying = paying(limits, meter.len());
@@ -131,14 +128,23 @@ pub fn load<'b>(alloc: Global, bytes: &'b [u8], limits: Limits) -> Result<Loaded
     ensures no { IfErr result (λ fault. IsLoadFault bytes.now limits fault) }
 {
     let rows = read(alloc, bytes, limits)?;
-    let schema = Schema::build(alloc, rows.objects, rows.enums)?;
-    let root = match rows.root {
-        None => None,
-        Some(name) => Some(schema.table_named(name).ok_or(LoadFault::RootNotListed)?),
+    let schema = match Schema::build(alloc, rows.objects, rows.enums) {
+        Ok(schema) => schema,
+        Err(fault) => return Err(LoadFault::from(fault)),
     };
-    Ok(Loaded {
-        schema,
-        root,
-        ident: rows.ident,
-    })
+    match rows.root {
+        None => Ok(Loaded {
+            schema,
+            root: None,
+            ident: rows.ident,
+        }),
+        Some(name) => match schema.table_named(name) {
+            None => Err(LoadFault::RootNotListed),
+            Some(root) => Ok(Loaded {
+                schema,
+                root: Some(root),
+                ident: rows.ident,
+            }),
+        },
+    }
 }

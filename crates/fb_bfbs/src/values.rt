@@ -53,7 +53,7 @@ pub fn int_in(place: &Place, number: u16) -> i64
 }
 
 /// A text, which is lent by the bytes.
-#[tactic(auto, using(crate::proofs::Sure::field_here, crate::proofs::Composed::seen_in, fb_access::proofs::Shapes::answers_text))]
+#[tactic(auto, using(crate::proofs::Composed::seen_in))]
 pub fn text_in<'b>(place: &Place<'_, 'b, '_, '_>, number: u16) -> &'b [u8]
     requires { HasField place.now number Kind.Text }
     ensures { seen place.now (ToField number ∷ []) (text result.now) }

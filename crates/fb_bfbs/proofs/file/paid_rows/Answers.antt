@@ -16,26 +16,23 @@ enough objects enums os es t most p q told = rw (sum_mapped object_names object_
 past : (t : Bool) (n most : ℕ) → (IsTrue t ↔ (n ≤ most)) → t ≡ false → most < n
 past t n most told e = let no : n ≤ most → ⊥ = λ le. false≢true (sym e ∙ told.1 le) in omega arith
 
-pub returns-then-not-is_enough_for-clause-over : goal.returns-then-not-is_enough_for-clause-over
-returns-then-not-is_enough_for-clause-over c =
+pub returns-then-not-is_enough_for : goal.returns-then-not-is_enough_for
+returns-then-not-is_enough_for c =
     inr (
       rows_of c.in_ok-rows.rows.objects.items c.in_ok-rows.rows.enums.items,
-      c.in_ok-rows.ensures.told.rows,
+      c.in_ok-rows.ensures.rows,
       past c.is_enough_for.result _ _ (enough _ _ _ _ _ _ c.as_slice.ensures.value c.as_slice-2.ensures.value c.is_enough_for.ensures) c.if-not-is_enough_for.true,
     )
 
-pub returns-clause-told : goal.returns-clause-told
-returns-clause-told c = c.in_ok-rows.ensures.told
-
-pub returns-clause-few : goal.returns-clause-few
-returns-clause-few c = c.in_ok-rows.ensures.few
-
-pub returns-clause-paid : goal.returns-clause-paid
-returns-clause-paid c =
+pub returns : goal.returns
+returns c =
     let few = c.in_ok-has_few_rows.ensures in
-    record {
-      count = few.rows;
-      has = few.has;
-      few = few.told.0 c.if-not-branch.false;
-      names = (enough _ _ _ _ _ _ c.as_slice.ensures.value c.as_slice-2.ensures.value c.is_enough_for.ensures).0 c.if-not-is_enough_for.false;
-    }
+    (
+      c.in_ok-rows.ensures,
+      record {
+        count = few.rows;
+        has = few.has;
+        few = few.told.0 c.if-not-branch.false;
+        names = (enough _ _ _ _ _ _ c.as_slice.ensures.value c.as_slice-2.ensures.value c.is_enough_for.ensures).0 c.if-not-is_enough_for.false;
+      },
+    )

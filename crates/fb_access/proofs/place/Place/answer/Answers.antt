@@ -6,5 +6,5 @@ use Rattle.fb_access.proofs.place.Place.answer.Goals as goal
 pub returns-clause-tables : goal.returns-clause-tables
 returns-clause-tables c = λ k n here v.
     let placed : IsPlaced c.args.self.now = subst IsPlaced c.self.view_is c.self.invariant in
-    let there : shown c.value_of.result ≡ value c.args.self.now.sealed.bytes c.args.self.now.sealed.schema c.args.self.now.spot = search rules in
+    let there : shown c.value_at.result ≡ value c.args.self.now.sealed.bytes c.args.self.now.sealed.schema c.args.self.now.spot = search rules in
     tables_fit_at c.args.self.now k n placed here (sym v ∙ there)
