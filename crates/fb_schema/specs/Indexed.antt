@@ -13,9 +13,8 @@ pub record IsIndexed {A : Type 0} (rows : FlatRows A) (order : List (Bor (List �
   pub fields : IsLiveIndex (flat_rows rows) (flat_rows rows).objects live
   pub kinds : IsMemberIndex (flat_rows rows) rows.members.items rows.enums.items members
 
--- the same of rows that are lent
-pub record AreIndexed {A : Type 0} (rows : RowLists) (order : List (Bor (List ℕ) × ℕ)) (live : LiveIndex A) (members : MemberIndex A) : Type 0 where
+-- rows that are lent are legal, and these are what is kept of them
+pub record AreIndexed {A : Type 0} (rows : RowLists) (live : LiveIndex A) (members : MemberIndex A) : Type 0 where
   pub legal : IsLegal (borrowed_rows rows)
-  pub names : IsOrderOf name_cmp (map object_name rows.objects.now) order
   pub fields : IsLiveIndex (borrowed_rows rows) (borrowed_rows rows).objects live
   pub kinds : IsMemberIndex (borrowed_rows rows) rows.members.now rows.enums.now members

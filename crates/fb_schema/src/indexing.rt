@@ -62,7 +62,7 @@ fn kept_members<'r, 'n>(is_union: bool, members: &'r [MemberRow<'n>]) -> &'r [Me
 
 impl<'n, A: Allocator + Copy> LiveIndex<'n, A> {
     /// No objects.
-    fn new(alloc: A) -> LiveIndex<'n, A>
+    pub fn new(alloc: A) -> LiveIndex<'n, A>
         ensures { (rows : Rows) → IsLiveIndex rows [] result }
     {
         LiveIndex {
@@ -77,7 +77,7 @@ impl<'n, A: Allocator + Copy> LiveIndex<'n, A> {
 
     /// Makes room for so many objects, with so many fields in all.
     fn reserve(&mut self, objects: usize, fields: usize) -> Result<(), AllocError>
-        ensures { (rows : Rows) (all : List Object) → IsLiveIndex rows all self.old → IsLiveIndex rows all self.new }
+        ensures { OnOk result ((rows : Rows) → IsLiveIndex rows [] self.old → IsLiveIndex rows [] self.new) }
     {
         self.fields.reserve(objects, fields)?;
         self.names.reserve(objects, fields)?;
@@ -110,6 +110,20 @@ impl<'n, A: Allocator + Copy> LiveIndex<'n, A> {
         let fields = table_views(alloc, rows, &rows.objects[n])?;
         self.push(alloc, &fields)
     }
+
+    /// Adds what is kept of each object, where nothing is yet.
+    pub fn fill(&mut self, alloc: A, rows: &RowLists<'_, 'n>) -> Result<(), AllocError>
+        requires legal { IsLegal (borrowed_rows rows.now) }
+        requires parts { All (λ o. IsPart (length rows.now.fields.now) o.fields) rows.now.objects.now }
+        requires none { IsLiveIndex (borrowed_rows rows.now) [] self.old }
+        ensures { OnOk result (IsLiveIndex (borrowed_rows rows.now) (borrowed_rows rows.now).objects self.new) }
+    {
+        self.reserve(rows.objects.len(), rows.fields.len())?;
+        for n in 0..rows.objects.len() {
+            self.add(alloc, rows, n)?;
+        }
+        Ok(())
+    }
 }
 
 /// What the types of an enum with these members lead to, none where it is no union.
@@ -129,7 +143,7 @@ fn member_targets<A: Allocator + Copy>(
 
 impl<'n, A: Allocator + Copy> MemberIndex<'n, A> {
     /// No enums.
-    fn new(alloc: A) -> MemberIndex<'n, A>
+    pub fn new(alloc: A) -> MemberIndex<'n, A>
         ensures { (rows : Rows) (members : List MemberRow) → IsMemberIndex rows members [] result }
     {
         MemberIndex {
@@ -141,7 +155,7 @@ impl<'n, A: Allocator + Copy> MemberIndex<'n, A> {
 
     /// Makes room for so many enums, with so many members in all.
     fn reserve(&mut self, enums: usize, members: usize) -> Result<(), AllocError>
-        ensures { (rows : Rows) (all : List MemberRow) (es : List EnumPart) → IsMemberIndex rows all es self.old → IsMemberIndex rows all es self.new }
+        ensures { OnOk result ((rows : Rows) (all : List MemberRow) → IsMemberIndex rows all [] self.old → IsMemberIndex rows all [] self.new) }
     {
         self.places.reserve(enums, members)?;
         self.targets.reserve(enums, members)?;
@@ -172,38 +186,18 @@ impl<'n, A: Allocator + Copy> MemberIndex<'n, A> {
         self.push_targets(found)?;
         self.names.push_made(in_order(alloc, members))
     }
-}
 
-/// The live fields of each object.
-pub fn live_index<'n, A: Allocator + Copy>(
-    alloc: A,
-    rows: &RowLists<'_, 'n>,
-) -> Result<LiveIndex<'n, A>, AllocError>
-    requires legal { IsLegal (borrowed_rows rows.now) }
-    requires parts { All (λ o. IsPart (length rows.now.fields.now) o.fields) rows.now.objects.now }
-    ensures { IfOk result (IsLiveIndex (borrowed_rows rows.now) (borrowed_rows rows.now).objects) }
-{
-    let mut index = LiveIndex::new(alloc);
-    index.reserve(rows.objects.len(), rows.fields.len())?;
-    for n in 0..rows.objects.len() {
-        index.add(alloc, rows, n)?;
+    /// Adds what is kept of each enum, where nothing is yet.
+    pub fn fill(&mut self, alloc: A, rows: &RowLists<'_, 'n>) -> Result<(), AllocError>
+        requires legal { IsLegal (borrowed_rows rows.now) }
+        requires parts { All (λ e. IsPart (length rows.now.members.now) e.members) rows.now.enums.now }
+        requires none { IsMemberIndex (borrowed_rows rows.now) rows.now.members.now [] self.old }
+        ensures { OnOk result (IsMemberIndex (borrowed_rows rows.now) rows.now.members.now rows.now.enums.now self.new) }
+    {
+        self.reserve(rows.enums.len(), rows.members.len())?;
+        for n in 0..rows.enums.len() {
+            self.add(alloc, rows, n)?;
+        }
+        Ok(())
     }
-    Ok(index)
-}
-
-/// The members of each enum.
-pub fn member_index<'n, A: Allocator + Copy>(
-    alloc: A,
-    rows: &RowLists<'_, 'n>,
-) -> Result<MemberIndex<'n, A>, AllocError>
-    requires legal { IsLegal (borrowed_rows rows.now) }
-    requires parts { All (λ e. IsPart (length rows.now.members.now) e.members) rows.now.enums.now }
-    ensures { IfOk result (IsMemberIndex (borrowed_rows rows.now) rows.now.members.now rows.now.enums.now) }
-{
-    let mut index = MemberIndex::new(alloc);
-    index.reserve(rows.enums.len(), rows.members.len())?;
-    for n in 0..rows.enums.len() {
-        index.add(alloc, rows, n)?;
-    }
-    Ok(index)
 }

@@ -1,6 +1,6 @@
 // A legal schema.
 
-ghost use Rattle.std.specs.Prelude.{◌≡◌, ◌<◌, map, length, IfOk, OnOk, IfErr, IfSome, IsTrue, option_map, slice_get, Some};
+ghost use Rattle.std.specs.Prelude.{◌≡◌, ◌<◌, [], map, length, IfOk, OnOk, IfErr, IfSome, IsTrue, option_map, slice_get, Some};
 ghost use Rattle.std.specs.Prelude.{position, ℕ, ◌≤◌, ◌^◌, find, pos};
 ghost use Rattle.std.specs.{Ordering.int_eq, Str.bytes_eq};
 ghost use Rattle.fb_schema.specs.declared.rows.FieldRow.{FieldRow};
@@ -8,13 +8,13 @@ ghost use Rattle.fb_schema.specs.Rows.{AreFew, rows_of, is_table, is_union, tabl
 ghost use Rattle.fb_schema.specs.{Heads.head_of, Heads.head_of_view, Members.member_of, Members.member_named, Members.member_name};
 ghost use Rattle.fb_schema.specs.{Demands.IsLegal, Demands.Refuses, Parts.part_at, Parts.part_named, Parts.parts_of};
 ghost use Rattle.fb_schema.specs.{Served.IsServed, Served.HaveKinds, Steps.is_plain, Steps.step_of, Targets.target_at, Targets.target_of};
-ghost use Rattle.fb_schema.specs.{FlatRows.borrowed_rows, FlatRows.AreParts, Indexed.AreIndexed};
+ghost use Rattle.fb_schema.specs.{FlatRows.borrowed_rows, FlatRows.AreParts, Indexed.AreIndexed, Index.IsLiveIndex, Index.IsMemberIndex};
+ghost use Rattle.fb_schema.specs.Sorting.{IsOrderOf, name_cmp, object_name};
 ghost use Rattle.fb_schema.specs.Live.{live_fields, live_of_view, field_named, next_required, widest};
 
 use crate::fault::SchemaFault;
 use crate::flat::{FlatRows, RowLists};
 use crate::index::{LiveIndex, MemberIndex};
-use crate::indexing::{live_index, member_index};
 use crate::keys::in_order;
 use crate::kinds::Kind;
 use crate::legal::legal;
@@ -62,7 +62,10 @@ impl<'n, A: Allocator + Copy> Schema<'n, A> {
         ensures refused { IfErr result (Refuses (rows_of objects.entry.items enums.entry.items)) }
     {
         let rows = FlatRows::new(alloc, objects, enums)?;
-        let (order, live, members) = indexed(alloc, &rows.lists())?;
+        let order = in_order(alloc, &rows.objects)?;
+        let mut live = LiveIndex::new(alloc);
+        let mut members = MemberIndex::new(alloc);
+        fill(alloc, &rows.lists(), &order, &mut live, &mut members)?;
         Ok(Schema {
             rows,
             order,
@@ -288,28 +291,26 @@ impl<'n, A: Allocator + Copy> Schema<'n, A> {
     }
 }
 
-/// The order of the objects' names, the live fields and the members of rows that are legal. Others are refused by the
-/// first demand that they break.
-fn indexed<'n, A: Allocator + Copy>(
+/// Adds what is kept of rows that are legal, where nothing is yet. Others are refused by the first demand that they
+/// break.
+fn fill<'n, A: Allocator + Copy>(
     alloc: A,
     rows: &RowLists<'_, 'n>,
-) -> Result<
-    (
-        Vec<(&'n [u8], u32), A>,
-        LiveIndex<'n, A>,
-        MemberIndex<'n, A>,
-    ),
-    SchemaFault,
->
-    requires { AreParts rows.now.objects.now rows.now.fields.now rows.now.enums.now rows.now.members.now }
-    ensures made { IfOk result (λ made. AreIndexed rows.now made.0.items made.1 made.2) }
+    order: &[(&[u8], u32)],
+    live: &mut LiveIndex<'n, A>,
+    members: &mut MemberIndex<'n, A>,
+) -> Result<(), SchemaFault>
+    requires parts { AreParts rows.now.objects.now rows.now.fields.now rows.now.enums.now rows.now.members.now }
+    requires order { IsOrderOf name_cmp (map object_name rows.now.objects.now) order.now }
+    requires live { IsLiveIndex (borrowed_rows rows.now) [] live.old }
+    requires members { IsMemberIndex (borrowed_rows rows.now) rows.now.members.now [] members.old }
+    ensures made { OnOk result (AreIndexed rows.now live.new members.new) }
     ensures refused { IfErr result (Refuses (borrowed_rows rows.now)) }
 {
-    let order = in_order(alloc, rows.objects)?;
-    legal(alloc, rows, &order)?;
-    let live = live_index(alloc, rows)?;
-    let members = member_index(alloc, rows)?;
-    Ok((order, live, members))
+    legal(alloc, rows, order)?;
+    live.fill(alloc, rows)?;
+    members.fill(alloc, rows)?;
+    Ok(())
 }
 
 /// The place of the field of this name.
