@@ -2,10 +2,16 @@
 use Rattle.std.proofs.Common.{◌≡◌, Bool, ℕ, ℤ, pos, negsuc, Bor, Option, None, option_map, zero, suc, ◌<◌, ◌≤◌, ◌^◌, List, [], ◌∷◌, length, get_or, slice_get, map, Some, IsTrue, sym, subst, ◌∙◌, ap, arith}
 use Rattle.std.proofs.lemmas.{Option.slice_get-map, Option.slice_get_past, List.length-map}
 use Rattle.fb_schema.specs.declared.views.Step.{Step}
+use Rattle.fb_schema.specs.declared.flat.{FlatRows.FlatRows, RowLists.RowLists}
+use Rattle.fb_schema.specs.FlatRows.{object_in, enum_in, flat_rows, borrowed_rows}
 use Rattle.fb_schema.specs.Live.{Live, live_of, live_in, live_rows, live_fields, widest, widest_of}
 use Rattle.fb_schema.specs.Rows.{Rows, Object, entry_at, is_table, is_some_table, Enum, is_union, is_some_union}
 use Rattle.fb_schema.specs.Steps.{step_of, are_plain, is_plain}
 use Rattle.fb_schema.proofs.Kept.{kept_fewer}
+
+-- rows that are lent are the same
+pub lent_same : {A : Type 0} (flat : FlatRows A) (lent : RowLists) → lent.objects.now ≡ flat.objects.items → lent.fields.now ≡ flat.fields.items → lent.enums.now ≡ flat.enums.items → lent.members.now ≡ flat.members.items → borrowed_rows lent ≡ flat_rows flat
+lent_same flat lent objects fields enums members = λ i. record { objects = map (object_in (fields i)) (objects i); enums = map (enum_in (members i)) (enums i) }
 
 -- what is made of the item that there may be at a place
 read_made : {X Y : Type 0} (g : Option X → Y) (xs : List X) (n : ℕ) (y : Y) → slice_get (map (λ x. g (Some x)) xs) n ≡ Some y → y ≡ g (slice_get xs n)

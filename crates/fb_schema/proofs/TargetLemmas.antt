@@ -24,10 +24,20 @@ put_last xs x d n e = ap (λ k. get_or (xs ++ x ∷ []) k d) e ∙ get_or-append
 pub grown : (places : List ℕ) (place k : ℕ) → (get_or (places ++ place ∷ []) k 0 ≡ get_or places k 0) ⊎ ((k ≡ length places) × (get_or (places ++ place ∷ []) k 0 ≡ place))
 grown places place k = grind (arith, length_push places place, get_or_append_left places (place ∷ []) 0 k, put_last places place 0 k, get_or_past places k 0, get_or_past (places ++ place ∷ []) k 0)
 
-module _ (places : List ℕ) (place n : ℕ) (long : length places ≡ n) where
-  pub long_step : length (places ++ place ∷ []) ≡ n + 1
-  long_step = omega (arith, length_push places place, long)
+pub long_step : {X : Type 0} (xs : List X) (x : X) (n : ℕ) → length xs ≡ n → length (xs ++ x ∷ []) ≡ n + 1
+long_step xs x n long = length_push xs x ∙ ap (λ k. k + 1) long
 
+-- the end of the places, behind the last that leads to something
+pub end_here : (end next place value : ℕ) → end ≤ value → next ≡ value + 1 → (end ≤ next) × (next ≤ value + 1) × (next ≤ value → place ≡ 0)
+end_here end next place value low at = (omega arith, omega arith, λ le. absurd (omega arith))
+
+pub end_before : (end next place value : ℕ) → end ≤ value → next ≡ end → place ≡ 0 → (end ≤ next) × (next ≤ value + 1) × (next ≤ value → place ≡ 0)
+end_before end next place value low at none = (omega arith, omega arith, λ le. none)
+
+pub counts_step : (old new n : ℕ) → 0 < old → old ≤ n → old ≤ new → new ≤ old + 1 → (0 < new) × (new ≤ n + 1)
+counts_step old new n least few longer one = (omega arith, omega arith)
+
+module _ (places : List ℕ) (place n : ℕ) (long : length places ≡ n) where
   pub within_step : (old new : ℕ) → old ≤ new → place < new → ((k : ℕ) → get_or places k 0 < old) → (k : ℕ) → get_or (places ++ place ∷ []) k 0 < new
   within_step old new le lt h k = elim (grown places place k) [ inl e ↦ (let w = h k in omega arith) | inr here ↦ (let w = here.1 in omega arith) ]
 

@@ -1,29 +1,20 @@
 //! The test of what `Schema::build` requires.
 
-ghost use Rattle.std.specs.Prelude.{◌↔◌, ◌<◌, ◌^◌, IsTrue, All, vec_len};
+ghost use Rattle.std.specs.Prelude.{◌↔◌, ◌<◌, ◌^◌, IsTrue, All};
 ghost use Rattle.fb_schema.specs.Rows.{AreFew};
 
+use crate::flat::Owner;
 use crate::rows::{EnumRow, ObjectRow};
 
 /// 2^31: each list of a schema has fewer items.
 const MANY: usize = 0x8000_0000;
 
-fn are_fields_few(objects: &[ObjectRow]) -> bool
-    ensures { IsTrue result ↔ All (λ o. vec_len o.fields < 2 ^ 31) objects.now }
+/// Whether each of these owns few rows.
+fn own_few<O: Owner>(owners: &[O]) -> bool
+    ensures { IsTrue result ↔ All (λ o. O.count o < 2 ^ 31) owners.now }
 {
-    for object in objects {
-        if object.fields.len() >= MANY {
-            return false;
-        }
-    }
-    true
-}
-
-fn are_members_few(enums: &[EnumRow]) -> bool
-    ensures { IsTrue result ↔ All (λ e. vec_len e.members < 2 ^ 31) enums.now }
-{
-    for row in enums {
-        if row.members.len() >= MANY {
+    for owner in owners {
+        if owner.rows().len() >= MANY {
             return false;
         }
     }
@@ -38,5 +29,5 @@ fn are_members_few(enums: &[EnumRow]) -> bool
 pub fn are_few(objects: &[ObjectRow], enums: &[EnumRow]) -> bool
     ensures { IsTrue result ↔ AreFew objects.now enums.now }
 {
-    objects.len() < MANY && enums.len() < MANY && are_fields_few(objects) && are_members_few(enums)
+    objects.len() < MANY && enums.len() < MANY && own_few(objects) && own_few(enums)
 }

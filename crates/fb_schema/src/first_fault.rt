@@ -11,7 +11,7 @@ ghost use Rattle.fb_schema.specs.Demands.{is_at, IsFirstOf, struct_asked, table_
 use crate::demands::{Beside, member_fault, object_fault, struct_field_fault, table_field_fault};
 use crate::fault::Code;
 use crate::flat::{ObjectPart, RowLists};
-use crate::keys::{again_of, is_none};
+use crate::keys::again_of;
 use crate::kinds::TypeField;
 use crate::rows::{FieldRow, MemberRow};
 use crate::type_fields::{stands_below, type_slots};
@@ -100,7 +100,7 @@ pub fn table_fields_fault<A: Allocator + Copy>(
 fn is_named(member: &MemberRow, again: Option<u32>, place: usize) -> bool
     ensures { result ≡ (not (int_eq member.now.value (pos 0)) && is_at again place) }
 {
-    !is_none(member) && is_at(again, place)
+    member.value != 0 && is_at(again, place)
 }
 
 /// The first demand that a member of a union breaks, with the member's place.

@@ -1,16 +1,16 @@
 // The rows of a schema, flat: all fields of all objects in one vector, and all members of all enums in another.
 
-ghost use Rattle.std.specs.Prelude.{◌≡◌, ◌<◌, ◌^◌, [], ◌++◌, map, length, IfOk, OnOk, All, vec_len, slice_get, Some};
+ghost use Rattle.std.specs.Prelude.{◌≡◌, ◌<◌, ◌^◌, ℕ, List, [], ◌++◌, map, length, IfOk, OnOk, All, vec_len, slice_get, Some};
 ghost use Rattle.fb_schema.specs.declared.flat.EnumPart.{EnumPart};
 ghost use Rattle.fb_schema.specs.{Parts.parts_of, Flat.part, Flat.IsPart};
-ghost use Rattle.fb_schema.specs.Rows.{AreFew, field_of, object_of, enum_of, rows_of};
-ghost use Rattle.fb_schema.specs.FlatRows.{object_with, object_in, enum_with, enum_in, flat_rows, AreParts};
+ghost use Rattle.fb_schema.specs.Rows.{AreFew, Object, Enum, field_of, object_of, enum_of, rows_of};
+ghost use Rattle.fb_schema.specs.FlatRows.{object_with, enum_with, flat_rows, AreParts};
 
 use crate::rows::{EnumRow, FieldRow, MemberRow, ObjectRow};
 use std::alloc::{AllocError, Allocator};
 
 /// An object, with the range of its fields among those of all objects.
-#[derive(Drop)]
+#[derive(Clone, Copy)]
 pub struct ObjectPart<'n> {
     pub name: &'n [u8],
     pub fields: (usize, usize),
@@ -20,7 +20,7 @@ pub struct ObjectPart<'n> {
 }
 
 /// An enum, with the range of its members among those of all enums.
-#[derive(Drop)]
+#[derive(Clone, Copy)]
 pub struct EnumPart<'n> {
     pub name: &'n [u8],
     pub members: (usize, usize),
@@ -75,46 +75,102 @@ impl<'r, 'n> RowLists<'r, 'n> {
     }
 }
 
-/// An object, with this range for its fields.
-fn object_part<'n>(object: &ObjectRow<'n>, fields: (usize, usize)) -> ObjectPart<'n>
-    ensures range { result.fields ≡ fields }
-    ensures same { object_with result object.now.fields.items ≡ object_of object.now }
-{
-    ObjectPart {
-        name: object.name,
-        fields,
-        is_struct: object.is_struct,
-        minalign: object.minalign,
-        bytesize: object.bytesize,
+/// A row that owns others, and what is kept of it where those stand flat: a part, with a range in their place.
+pub trait Owner {
+    type Row: Copy;
+
+    type Part: Copy;
+
+    ghost Whole: { Type 0 };
+
+    ghost whole: { Self → Whole };
+
+    ghost rows_of: { Self → List Self.Row };
+
+    ghost count: { Self → ℕ };
+
+    ghost range_of: { Self.Part → ℕ × ℕ };
+
+    ghost with_rows: { Self.Part → List Self.Row → Whole };
+
+    /// The rows that it owns.
+    fn rows(&self) -> &[Self::Row]
+        ensures value { result.now ≡ rows_of self.now }
+        ensures count { length result.now ≡ count self.now };
+
+    /// The part with this range.
+    fn part(&self, range: (usize, usize)) -> Self::Part
+        ensures range { range_of result ≡ range }
+        ensures same { with_rows result (rows_of self.now) ≡ whole self.now };
+}
+
+impl<'n> Owner for ObjectRow<'n> {
+    type Row = FieldRow<'n>;
+
+    type Part = ObjectPart<'n>;
+
+    ghost Whole = { Object };
+
+    ghost whole = { object_of };
+
+    ghost rows_of = { λ o. o.fields.items };
+
+    ghost count = { λ o. vec_len o.fields };
+
+    ghost range_of = { λ p. p.fields };
+
+    ghost with_rows = { object_with };
+
+    fn rows(&self) -> &[FieldRow<'n>] {
+        &self.fields
+    }
+
+    fn part(&self, range: (usize, usize)) -> ObjectPart<'n> {
+        ObjectPart {
+            name: self.name,
+            fields: range,
+            is_struct: self.is_struct,
+            minalign: self.minalign,
+            bytesize: self.bytesize,
+        }
     }
 }
 
-/// An enum, with this range for its members.
-fn enum_part<'n>(row: &EnumRow<'n>, members: (usize, usize)) -> EnumPart<'n>
-    ensures range { result.members ≡ members }
-    ensures same { enum_with result row.now.members.items ≡ enum_of row.now }
-{
-    EnumPart {
-        name: row.name,
-        members,
-        is_union: row.is_union,
+impl<'n> Owner for EnumRow<'n> {
+    type Row = MemberRow<'n>;
+
+    type Part = EnumPart<'n>;
+
+    ghost Whole = { Enum };
+
+    ghost whole = { enum_of };
+
+    ghost rows_of = { λ e. e.members.items };
+
+    ghost count = { λ e. vec_len e.members };
+
+    ghost range_of = { λ p. p.members };
+
+    ghost with_rows = { enum_with };
+
+    fn rows(&self) -> &[MemberRow<'n>] {
+        &self.members
+    }
+
+    fn part(&self, range: (usize, usize)) -> EnumPart<'n> {
+        EnumPart {
+            name: self.name,
+            members: range,
+            is_union: self.is_union,
+        }
     }
 }
 
-/// How many fields these objects have: the room that is asked for them.
-fn count_fields(objects: &[ObjectRow]) -> usize {
+/// How many rows these own: the room that is asked for them.
+fn count_rows<O: Owner>(owners: &[O]) -> usize {
     let mut count: usize = 0;
-    for object in objects {
-        count = count.saturating_add(object.fields.len());
-    }
-    count
-}
-
-/// How many members these enums have, likewise.
-fn count_members(enums: &[EnumRow]) -> usize {
-    let mut count: usize = 0;
-    for row in enums {
-        count = count.saturating_add(row.members.len());
+    for owner in owners {
+        count = count.saturating_add(owner.rows().len());
     }
     count
 }
@@ -132,42 +188,22 @@ fn add_rows<T: Copy, A: Allocator>(
     Ok((start, all.len()))
 }
 
-/// Puts these objects, and their fields one after another, where none are yet.
-fn put_objects<'n, A: Allocator>(
-    objects: &[ObjectRow<'n>],
-    parts: &mut Vec<ObjectPart<'n>, A>,
-    fields: &mut Vec<FieldRow<'n>, A>,
+/// Puts the parts of these owners, and their rows one after another, where none are yet.
+fn put<O: Owner, A: Allocator>(
+    owners: &[O],
+    parts: &mut Vec<O::Part, A>,
+    rows: &mut Vec<O::Row, A>,
 ) -> Result<(), AllocError>
-    requires few { All (λ o. vec_len o.fields < 2 ^ 31) objects.now }
+    requires few { All (λ o. O.count o < 2 ^ 31) owners.now }
     requires none { parts.old.items ≡ [] }
-    ensures value { OnOk result (map (object_in fields.new.items) parts.new.items ≡ map object_of objects.now) }
-    ensures parts { OnOk result (All (λ o. IsPart (length fields.new.items) o.fields) parts.new.items) }
+    ensures value { OnOk result (map (λ p. O.with_rows p (part rows.new.items (O.range_of p))) parts.new.items ≡ map O.whole owners.now) }
+    ensures parts { OnOk result (All (λ p. IsPart (length rows.new.items) (O.range_of p)) parts.new.items) }
 {
-    parts.reserve_exact(objects.len())?;
-    fields.reserve_exact(count_fields(objects))?;
-    for object in objects {
-        let range = add_rows(fields, &object.fields)?;
-        parts.push(object_part(object, range))?;
-    }
-    Ok(())
-}
-
-/// Puts these enums, and their members one after another, where none are yet.
-fn put_enums<'n, A: Allocator>(
-    enums: &[EnumRow<'n>],
-    parts: &mut Vec<EnumPart<'n>, A>,
-    members: &mut Vec<MemberRow<'n>, A>,
-) -> Result<(), AllocError>
-    requires few { All (λ e. vec_len e.members < 2 ^ 31) enums.now }
-    requires none { parts.old.items ≡ [] }
-    ensures value { OnOk result (map (enum_in members.new.items) parts.new.items ≡ map enum_of enums.now) }
-    ensures parts { OnOk result (All (λ e. IsPart (length members.new.items) e.members) parts.new.items) }
-{
-    parts.reserve_exact(enums.len())?;
-    members.reserve_exact(count_members(enums))?;
-    for row in enums {
-        let range = add_rows(members, &row.members)?;
-        parts.push(enum_part(row, range))?;
+    parts.reserve_exact(owners.len())?;
+    rows.reserve_exact(count_rows(owners))?;
+    for owner in owners {
+        let range = add_rows(rows, owner.rows())?;
+        parts.push(owner.part(range))?;
     }
     Ok(())
 }
@@ -201,8 +237,8 @@ impl<'n, A: Allocator + Copy> FlatRows<'n, A> {
         ensures value { OnOk result (flat_rows self.new ≡ rows_of objects.now enums.now) }
         ensures parts { OnOk result (AreParts self.new.objects.items self.new.fields.items self.new.enums.items self.new.members.items) }
     {
-        put_objects(objects, &mut self.objects, &mut self.fields)?;
-        put_enums(enums, &mut self.enums, &mut self.members)
+        put(objects, &mut self.objects, &mut self.fields)?;
+        put(enums, &mut self.enums, &mut self.members)
     }
 
     /// The fields of the struct with this number, none where it is no struct.

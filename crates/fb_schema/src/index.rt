@@ -4,6 +4,14 @@ use crate::lists::Lists;
 use crate::views::{FieldView, Step, Target};
 use std::alloc::Allocator;
 
+/// What is kept beside the rows: the order of the objects' names, the live fields and the members.
+#[derive(Drop)]
+pub struct Index<'n, A: Allocator> {
+    pub order: Vec<(&'n [u8], u32), A>,
+    pub live: LiveIndex<'n, A>,
+    pub members: MemberIndex<'n, A>,
+}
+
 /// The live fields of each object in rising slot, the order of their names, their steps, whether none of them leads to
 /// a table, at each the place of the next required one, and the length of the longest list.
 #[derive(Drop)]

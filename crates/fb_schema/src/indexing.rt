@@ -1,16 +1,19 @@
 // How the index of legal rows is made.
 
-ghost use Rattle.std.specs.Prelude.{◌≡◌, ◌<◌, ◌≤◌, ◌^◌, ◌+◌, ℕ, List, [], ◌∷◌, ◌++◌, map, length, take, IfOk, OnOk, All, Some, None, true};
-ghost use Rattle.fb_schema.specs.declared.{flat.EnumPart.EnumPart, rows.MemberRow.MemberRow};
-ghost use Rattle.fb_schema.specs.{Flat.IsPart, FlatRows.borrowed_rows, Rows.Rows, Rows.Object, Rows.member_of_row, Kinds.kind_of};
-ghost use Rattle.fb_schema.specs.{Demands.IsLegal, Demands.first_code, Demands.members_asked, Targets.AreTargets, FlatLists.lists_of};
+ghost use Rattle.std.specs.Prelude.{◌≡◌, ◌<◌, ◌≤◌, ◌^◌, ◌+◌, ℕ, List, [], ◌∷◌, ◌++◌, map, length, take, IfOk, OnOk, IfErr, All, Some, None, true};
+ghost use Rattle.fb_schema.specs.declared.{flat.EnumPart.EnumPart, flat.RowLists.RowLists, rows.MemberRow.MemberRow};
+ghost use Rattle.fb_schema.specs.{Flat.IsPart, FlatRows.borrowed_rows, FlatRows.AreParts, Rows.Rows, Rows.Object, Rows.member_of_row, Kinds.kind_of};
+ghost use Rattle.fb_schema.specs.{Indexed.IsBlank, Indexed.AreIndexed, Demands.IsLegal, Demands.Refuses, Demands.first_code, Demands.members_asked, Targets.AreTargets};
+ghost use Rattle.fb_schema.specs.Sorting.{IsOrderOf, name_cmp, object_name};
 ghost use Rattle.fb_schema.specs.Live.{live_of_view, live_in, live_rows};
 ghost use Rattle.fb_schema.specs.Index.{kept_members, AreNextRequired, IsLiveIndex, IsMemberIndex};
 
+use crate::fault::SchemaFault;
 use crate::flat::RowLists;
-use crate::index::{LiveIndex, MemberIndex};
+use crate::index::{Index, LiveIndex, MemberIndex};
 use crate::keys::in_order;
 use crate::kinds::Kind;
+use crate::legal::legal;
 use crate::lists::Lists;
 use crate::live::table_views;
 use crate::rows::MemberRow;
@@ -77,7 +80,7 @@ impl<'n, A: Allocator + Copy> LiveIndex<'n, A> {
 
     /// Makes room for so many objects, with so many fields in all.
     fn reserve(&mut self, objects: usize, fields: usize) -> Result<(), AllocError>
-        ensures { (rows : Rows) (all : List Object) → IsLiveIndex rows all self.old → IsLiveIndex rows all self.new }
+        ensures { OnOk result ((rows : Rows) → IsLiveIndex rows [] self.old → IsLiveIndex rows [] self.new) }
     {
         self.fields.reserve(objects, fields)?;
         self.names.reserve(objects, fields)?;
@@ -110,6 +113,20 @@ impl<'n, A: Allocator + Copy> LiveIndex<'n, A> {
         let fields = table_views(alloc, rows, &rows.objects[n])?;
         self.push(alloc, &fields)
     }
+
+    /// Adds what is kept of each object, where nothing is yet.
+    fn fill(&mut self, alloc: A, rows: &RowLists<'_, 'n>) -> Result<(), AllocError>
+        requires legal { IsLegal (borrowed_rows rows.now) }
+        requires parts { All (λ o. IsPart (length rows.now.fields.now) o.fields) rows.now.objects.now }
+        requires none { IsLiveIndex (borrowed_rows rows.now) [] self.old }
+        ensures { OnOk result (IsLiveIndex (borrowed_rows rows.now) (borrowed_rows rows.now).objects self.new) }
+    {
+        self.reserve(rows.objects.len(), rows.fields.len())?;
+        for n in 0..rows.objects.len() {
+            self.add(alloc, rows, n)?;
+        }
+        Ok(())
+    }
 }
 
 /// What the types of an enum with these members lead to, none where it is no union.
@@ -141,21 +158,11 @@ impl<'n, A: Allocator + Copy> MemberIndex<'n, A> {
 
     /// Makes room for so many enums, with so many members in all.
     fn reserve(&mut self, enums: usize, members: usize) -> Result<(), AllocError>
-        ensures { (rows : Rows) (all : List MemberRow) (es : List EnumPart) → IsMemberIndex rows all es self.old → IsMemberIndex rows all es self.new }
+        ensures { OnOk result ((rows : Rows) (all : List MemberRow) → IsMemberIndex rows all [] self.old → IsMemberIndex rows all [] self.new) }
     {
         self.places.reserve(enums, members)?;
         self.targets.reserve(enums, members)?;
         self.names.reserve(enums, members)
-    }
-
-    /// Adds what the types of an enum lead to.
-    fn push_targets(&mut self, found: ByValue<A>) -> Result<(), AllocError>
-        ensures places { OnOk result (lists_of self.new.places ≡ lists_of self.old.places ++ found.places.items ∷ []) }
-        ensures targets { OnOk result (lists_of self.new.targets ≡ lists_of self.old.targets ++ found.targets.items ∷ []) }
-        ensures names { self.new.names ≡ self.old.names }
-    {
-        self.places.push(&found.places)?;
-        self.targets.push(&found.targets)
     }
 
     /// Adds what is kept of the enum with this number, behind those before it.
@@ -168,42 +175,61 @@ impl<'n, A: Allocator + Copy> MemberIndex<'n, A> {
     {
         let row = &rows.enums[n];
         let members = kept_members(row.is_union, rows.members_of(row));
+        self.names.push_made(in_order(alloc, members))?;
         let found = member_targets(alloc, rows, row.is_union, members)?;
-        self.push_targets(found)?;
-        self.names.push_made(in_order(alloc, members))
+        self.places.push(&found.places)?;
+        self.targets.push(&found.targets)
+    }
+
+    /// Adds what is kept of each enum, where nothing is yet.
+    fn fill(&mut self, alloc: A, rows: &RowLists<'_, 'n>) -> Result<(), AllocError>
+        requires legal { IsLegal (borrowed_rows rows.now) }
+        requires parts { All (λ e. IsPart (length rows.now.members.now) e.members) rows.now.enums.now }
+        requires none { IsMemberIndex (borrowed_rows rows.now) rows.now.members.now [] self.old }
+        ensures { OnOk result (IsMemberIndex (borrowed_rows rows.now) rows.now.members.now rows.now.enums.now self.new) }
+    {
+        self.reserve(rows.enums.len(), rows.members.len())?;
+        for n in 0..rows.enums.len() {
+            self.add(alloc, rows, n)?;
+        }
+        Ok(())
     }
 }
 
-/// The live fields of each object.
-pub fn live_index<'n, A: Allocator + Copy>(
-    alloc: A,
-    rows: &RowLists<'_, 'n>,
-) -> Result<LiveIndex<'n, A>, AllocError>
-    requires legal { IsLegal (borrowed_rows rows.now) }
-    requires parts { All (λ o. IsPart (length rows.now.fields.now) o.fields) rows.now.objects.now }
-    ensures { IfOk result (IsLiveIndex (borrowed_rows rows.now) (borrowed_rows rows.now).objects) }
-{
-    let mut index = LiveIndex::new(alloc);
-    index.reserve(rows.objects.len(), rows.fields.len())?;
-    for n in 0..rows.objects.len() {
-        index.add(alloc, rows, n)?;
+impl<'n, A: Allocator + Copy> Index<'n, A> {
+    /// With this order of the objects' names, and nothing else yet.
+    fn new(alloc: A, order: Vec<(&'n [u8], u32), A>) -> Index<'n, A>
+        ensures { (rows : RowLists) → IsOrderOf name_cmp (map object_name rows.objects.now) order.entry.items → IsBlank rows result }
+    {
+        Index {
+            order,
+            live: LiveIndex::new(alloc),
+            members: MemberIndex::new(alloc),
+        }
     }
-    Ok(index)
-}
 
-/// The members of each enum.
-pub fn member_index<'n, A: Allocator + Copy>(
-    alloc: A,
-    rows: &RowLists<'_, 'n>,
-) -> Result<MemberIndex<'n, A>, AllocError>
-    requires legal { IsLegal (borrowed_rows rows.now) }
-    requires parts { All (λ e. IsPart (length rows.now.members.now) e.members) rows.now.enums.now }
-    ensures { IfOk result (IsMemberIndex (borrowed_rows rows.now) rows.now.members.now rows.now.enums.now) }
-{
-    let mut index = MemberIndex::new(alloc);
-    index.reserve(rows.enums.len(), rows.members.len())?;
-    for n in 0..rows.enums.len() {
-        index.add(alloc, rows, n)?;
+    /// Adds the rest, or refuses rows by the first demand that they break.
+    fn fill(&mut self, alloc: A, rows: &RowLists<'_, 'n>) -> Result<(), SchemaFault>
+        requires parts { AreParts rows.now.objects.now rows.now.fields.now rows.now.enums.now rows.now.members.now }
+        requires blank { IsBlank rows.now self.old }
+        ensures made { OnOk result (AreIndexed rows.now self.new) }
+        ensures refused { IfErr result (Refuses (borrowed_rows rows.now)) }
+    {
+        legal(alloc, rows, &self.order)?;
+        self.live.fill(alloc, rows)?;
+        self.members.fill(alloc, rows)?;
+        Ok(())
     }
-    Ok(index)
+
+    /// What is kept of rows that are legal. Others are refused by the first demand that they break.
+    pub fn of(alloc: A, rows: &RowLists<'_, 'n>) -> Result<Index<'n, A>, SchemaFault>
+        requires { AreParts rows.now.objects.now rows.now.fields.now rows.now.enums.now rows.now.members.now }
+        ensures made { IfOk result (AreIndexed rows.now) }
+        ensures refused { IfErr result (Refuses (borrowed_rows rows.now)) }
+    {
+        let order = in_order(alloc, rows.objects)?;
+        let mut index = Index::new(alloc, order);
+        index.fill(alloc, rows)?;
+        Ok(index)
+    }
 }

@@ -1,13 +1,12 @@
 // The keys of a list's items in order, of which no two items may share one: names, slots and values.
 
-ghost use Rattle.std.specs.Prelude.{◌≡◌, ◌<◌, ◌^◌, pos, length, map, IfOk};
-ghost use Rattle.std.specs.Ordering.{int_eq};
+ghost use Rattle.std.specs.Prelude.{◌≡◌, ◌<◌, ◌^◌, length, map, IfOk};
 ghost use Rattle.fb_schema.specs.Sorting.{IsOrderOf, IsFirstAgain, object_name, field_name, field_slot, member_value, member_key};
 ghost use Rattle.fb_schema.specs.{Index.view_name};
 
 use crate::flat::ObjectPart;
 use crate::rows::{FieldRow, MemberRow};
-use crate::sorting::{first_again, put_in_order};
+use crate::sorting::first_again;
 use crate::views::FieldView;
 use std::alloc::{AllocError, Allocator};
 
@@ -64,7 +63,7 @@ impl<'n> Keyed<(bool, &'n [u8])> for MemberRow<'n> {
     ghost key_of = { member_key };
 
     fn key(&self) -> (bool, &'n [u8]) {
-        (is_none(self), self.name)
+        (self.value == 0, self.name)
     }
 }
 
@@ -80,7 +79,7 @@ pub fn in_order<T: Keyed<K>, K: Ord + Copy, A: Allocator>(
     for (n, item) in items.iter().enumerate() {
         order.push((item.key(), n as u32))?;
     }
-    put_in_order(&mut order);
+    order.sort_unstable();
     Ok(order)
 }
 
@@ -94,11 +93,4 @@ pub fn again_of<T: Keyed<K>, K: Ord + Copy, A: Allocator>(
 {
     let order = in_order(alloc, items)?;
     Ok(first_again(&order))
-}
-
-/// Whether a row of a union stands for the union without a value.
-pub fn is_none(member: &MemberRow) -> bool
-    ensures { result ≡ int_eq member.now.value (pos 0) }
-{
-    member.value == 0
 }

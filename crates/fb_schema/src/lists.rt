@@ -7,20 +7,18 @@ use std::alloc::{AllocError, Allocator};
 
 /// Lists, one after another in one vector, with a range for each.
 #[derive(Drop)]
-pub struct Lists<T: Drop, A: Allocator> {
+pub struct Lists<T: Copy, A: Allocator> {
     ranges: Vec<(usize, usize), A>,
     rows: Vec<T, A>,
     ghost within: { AreWithin rows.items ranges.items },
 }
 
-impl<T: Drop, A: Allocator> Lists<T, A> {
-    ghost use Rattle.std.specs.Prelude.{◌≡◌, ◌<◌, [], slice_get, Some};
+impl<T: Copy, A: Allocator + Copy> Lists<T, A> {
+    ghost use Rattle.std.specs.Prelude.{◌≡◌, ◌<◌, [], ◌∷◌, ◌++◌, slice_get, Some, OnOk, IsOkAnd};
     ghost use Rattle.fb_schema.specs.FlatLists.{lists_of};
 
     /// No lists.
     pub fn new(alloc: A) -> Lists<T, A>
-    where
-        A: Copy,
         ensures { lists_of result ≡ [] }
     {
         Lists {
@@ -31,7 +29,7 @@ impl<T: Drop, A: Allocator> Lists<T, A> {
 
     /// Makes room for so many lists, and for so many items in all.
     pub fn reserve(&mut self, lists: usize, items: usize) -> Result<(), AllocError>
-        ensures { lists_of self.new ≡ lists_of self.old }
+        ensures { OnOk result (lists_of self.new ≡ lists_of self.old) }
     {
         self.ranges.reserve_exact(lists)?;
         self.rows.reserve_exact(items)
@@ -45,11 +43,6 @@ impl<T: Drop, A: Allocator> Lists<T, A> {
         let (start, end) = self.ranges[n];
         &self.rows[start..end]
     }
-}
-
-impl<T: Copy, A: Allocator + Copy> Lists<T, A> {
-    ghost use Rattle.std.specs.Prelude.{◌≡◌, [], ◌∷◌, ◌++◌, OnOk, IsOkAnd};
-    ghost use Rattle.fb_schema.specs.FlatLists.{lists_of};
 
     /// Adds a list at the end.
     pub fn push(&mut self, list: &[T]) -> Result<(), AllocError>

@@ -8,16 +8,13 @@ ghost use Rattle.fb_schema.specs.Rows.{AreFew, rows_of, is_table, is_union, tabl
 ghost use Rattle.fb_schema.specs.{Heads.head_of, Heads.head_of_view, Members.member_of, Members.member_named, Members.member_name};
 ghost use Rattle.fb_schema.specs.{Demands.IsLegal, Demands.Refuses, Parts.part_at, Parts.part_named, Parts.parts_of};
 ghost use Rattle.fb_schema.specs.{Served.IsServed, Served.HaveKinds, Steps.is_plain, Steps.step_of, Targets.target_at, Targets.target_of};
-ghost use Rattle.fb_schema.specs.{FlatRows.borrowed_rows, FlatRows.AreParts, Indexed.AreIndexed};
+ghost use Rattle.fb_schema.specs.{FlatRows.borrowed_rows, FlatRows.AreParts};
 ghost use Rattle.fb_schema.specs.Live.{live_fields, live_of_view, field_named, next_required, widest};
 
 use crate::fault::SchemaFault;
-use crate::flat::{FlatRows, RowLists};
-use crate::index::{LiveIndex, MemberIndex};
-use crate::indexing::{live_index, member_index};
-use crate::keys::in_order;
+use crate::flat::FlatRows;
+use crate::index::Index;
 use crate::kinds::Kind;
-use crate::legal::legal;
 use crate::rows::{EnumRow, FieldRow, MemberRow, ObjectRow};
 use crate::sorting::place_of;
 use crate::targets::Targets;
@@ -31,9 +28,7 @@ use std::marker::Model;
 #[derive(Drop)]
 pub struct Schema<'n, A: Allocator = Global> {
     rows: FlatRows<'n, A>,
-    order: Vec<(&'n [u8], u32), A>,
-    live: LiveIndex<'n, A>,
-    members: MemberIndex<'n, A>,
+    index: Index<'n, A>,
 }
 
 impl<'n, A: Allocator> Model for Schema<'n, A> {
@@ -45,7 +40,7 @@ impl<'n, A: Allocator> Model for Schema<'n, A> {
 
     ghost view = { λ s. flat_rows s.rows };
 
-    ghost invariant = { λ s. IsIndexed s.rows s.order.items s.live s.members };
+    ghost invariant = { λ s. IsIndexed s.rows s.index };
 }
 
 impl<'n, A: Allocator + Copy> Schema<'n, A> {
@@ -62,13 +57,8 @@ impl<'n, A: Allocator + Copy> Schema<'n, A> {
         ensures refused { IfErr result (Refuses (rows_of objects.entry.items enums.entry.items)) }
     {
         let rows = FlatRows::new(alloc, objects, enums)?;
-        let (order, live, members) = indexed(alloc, &rows.lists())?;
-        Ok(Schema {
-            rows,
-            order,
-            live,
-            members,
-        })
+        let index = Index::of(alloc, &rows.lists())?;
+        Ok(Schema { rows, index })
     }
 
     /// The rows of a schema are legal, and serve a reader of buffers: each live field has a kind, what kinds name is
@@ -130,7 +120,7 @@ impl<'n, A: Allocator + Copy> Schema<'n, A> {
         ensures within { length result.now ≤ widest self.now }
         ensures few { length result.now < 2 ^ 32 }
     {
-        self.live.fields.get(n as usize)
+        self.index.live.fields.get(n as usize)
     }
 
     /// The steps of a table's live fields: one for each, in rising slot.
@@ -140,14 +130,14 @@ impl<'n, A: Allocator + Copy> Schema<'n, A> {
         ensures value { result.now ≡ map step_of (live_fields self.now n) }
         ensures few { length result.now < 2 ^ 32 }
     {
-        self.live.steps.get(n as usize)
+        self.index.live.steps.get(n as usize)
     }
 
     /// The object of this name.
     pub fn object_named(&self, name: &[u8]) -> Option<u32>
         ensures { result ≡ position (λ o. bytes_eq o.name name.now) self.now.objects }
     {
-        place_of(&self.order, &name)
+        place_of(&self.index.order, &name)
     }
 
     /// The number of the table of this name, none where the object of this name is a struct or isn't there.
@@ -167,7 +157,7 @@ impl<'n, A: Allocator + Copy> Schema<'n, A> {
         requires { IsTrue (is_table self.now n) }
         ensures { result ≡ field_named self.now n name.now }
     {
-        place_of(self.live.names.get(n as usize), &name)
+        place_of(self.index.live.names.get(n as usize), &name)
     }
 
     /// The fields of a struct in the order of the rows, none where the object is no struct.
@@ -215,7 +205,7 @@ impl<'n, A: Allocator + Copy> Schema<'n, A> {
         requires { IsTrue (is_table self.now n) }
         ensures { result ≡ is_plain self.now n }
     {
-        self.live.plain[n as usize]
+        self.index.live.plain[n as usize]
     }
 
     /// The place of the next live field of a table that is required, from place `i` on, none where none is: so fields
@@ -225,7 +215,7 @@ impl<'n, A: Allocator + Copy> Schema<'n, A> {
         requires { IsTrue (is_table self.now n) }
         ensures { result ≡ next_required self.now n i }
     {
-        let places = self.live.next_required.get(n as usize);
+        let places = self.index.live.next_required.get(n as usize);
         match places.get(i as usize) {
             Some(place) if (*place as usize) < places.len() => Some(*place),
             _ => None,
@@ -249,8 +239,8 @@ impl<'n, A: Allocator + Copy> Schema<'n, A> {
         ensures { (value : ℕ) → value < 256 → target_at result.places.now result.targets.now value ≡ target_of self.now (member_of self.now e value) }
     {
         Targets {
-            places: self.members.places.get(e as usize),
-            targets: self.members.targets.get(e as usize),
+            places: self.index.members.places.get(e as usize),
+            targets: self.index.members.targets.get(e as usize),
         }
     }
 
@@ -259,7 +249,7 @@ impl<'n, A: Allocator + Copy> Schema<'n, A> {
         requires { IsTrue (is_union self.now e) }
         ensures { result ≡ member_named self.now e name.now }
     {
-        let names = self.members.names.get(e as usize);
+        let names = self.index.members.names.get(e as usize);
         match place_of(names, &(false, name)) {
             Some(place) => {
                 let value = self.rows.members_at(e as usize)[place as usize].value;
@@ -284,32 +274,8 @@ impl<'n, A: Allocator + Copy> Schema<'n, A> {
     pub fn widest(&self) -> u32
         ensures { result ≡ widest self.now }
     {
-        self.live.widest
+        self.index.live.widest
     }
-}
-
-/// The order of the objects' names, the live fields and the members of rows that are legal. Others are refused by the
-/// first demand that they break.
-fn indexed<'n, A: Allocator + Copy>(
-    alloc: A,
-    rows: &RowLists<'_, 'n>,
-) -> Result<
-    (
-        Vec<(&'n [u8], u32), A>,
-        LiveIndex<'n, A>,
-        MemberIndex<'n, A>,
-    ),
-    SchemaFault,
->
-    requires { AreParts rows.now.objects.now rows.now.fields.now rows.now.enums.now rows.now.members.now }
-    ensures made { IfOk result (λ made. AreIndexed rows.now made.0.items made.1 made.2) }
-    ensures refused { IfErr result (Refuses (borrowed_rows rows.now)) }
-{
-    let order = in_order(alloc, rows.objects)?;
-    legal(alloc, rows, &order)?;
-    let live = live_index(alloc, rows)?;
-    let members = member_index(alloc, rows)?;
-    Ok((order, live, members))
 }
 
 /// The place of the field of this name.

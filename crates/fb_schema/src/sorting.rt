@@ -1,16 +1,7 @@
 // Keys in order, each with its place, by which repeated ones are found without comparing each with all others.
 
 ghost use Rattle.std.specs.Prelude.{◌≡◌, List, MatchOption, min};
-ghost use Rattle.fb_schema.specs.Sorting.{IsOrderOf, IsFirstAgain, IsPlaceOf, numbered};
-
-use std::alloc::Allocator;
-
-/// Puts keys with their places into order.
-pub fn put_in_order<K: Ord, A: Allocator>(order: &mut Vec<(K, u32), A>)
-    ensures { (keys : List K) → order.old.items ≡ numbered 0 keys → IsOrderOf K.cmp keys order.new.items }
-{
-    order.sort_unstable();
-}
+ghost use Rattle.fb_schema.specs.Sorting.{IsOrderOf, IsFirstAgain, IsPlaceOf};
 
 fn least(best: Option<u32>, place: u32) -> u32
     ensures { MatchOption best (result ≡ place) (λ b. result ≡ min b place) }

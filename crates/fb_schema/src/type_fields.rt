@@ -1,7 +1,6 @@
 // The type fields of a table, by whose slots unions are found to have one.
 
-ghost use Rattle.std.specs.Prelude.{◌≡◌, ◌==◌, List, map, IfOk};
-ghost use Rattle.std.specs.{List.list_any, List.Sorted.IsSorted, Ordering.nat_cmp};
+ghost use Rattle.std.specs.Prelude.{◌≡◌, List, map, IfOk};
 ghost use Rattle.fb_schema.specs.{Rows.Field, Rows.field_of, Demands.stands_below, Sorting.AreTypeSlots};
 ghost use Rattle.fb_schema.specs.declared.kinds.TypeField.{TypeField};
 
@@ -28,15 +27,9 @@ pub fn type_slots<A: Allocator>(
     Ok(slots)
 }
 
-fn contains(slots: &[u16], slot: u16) -> bool
-    ensures { IsSorted nat_cmp slots.now → result ≡ list_any (λ s. s == slot) slots.now }
-{
-    slots.binary_search(&slot).is_ok()
-}
-
 /// Whether a live type field has the slot two below.
 pub fn stands_below(slots: &[u16], slot: u16) -> bool
     ensures { (wanted : TypeField) (fields : List Field) → AreTypeSlots wanted fields slots.now → result ≡ stands_below wanted fields slot }
 {
-    slot >= 2 && contains(slots, slot - 2)
+    slot >= 2 && slots.binary_search(&(slot - 2)).is_ok()
 }

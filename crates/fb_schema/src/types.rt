@@ -1,11 +1,11 @@
 // What types are and what they name, read off the rows.
 
 ghost use Rattle.std.specs.Prelude.{◌≡◌, Some, map, slice_get, option_and_then, option_map, ◌^◌, pos, neg_ℤ, ◌*ℤ◌, ◌<ℤ◌};
-ghost use Rattle.fb_schema.specs.Rows.{entry_at, field_of, is_some_table, is_some_union};
-ghost use Rattle.fb_schema.specs.Parts.{part_count, part_kind, part_of};
+ghost use Rattle.fb_schema.specs.Rows.{entry_at, field_of};
+ghost use Rattle.fb_schema.specs.Parts.{part_kind, part_of};
 ghost use Rattle.fb_schema.specs.{FlatRows.borrowed_rows, FlatRows.found_object, FlatRows.found_enum, Vectors.vector_of};
 ghost use Rattle.fb_schema.specs.Kinds.{element_of, shape_of, scalar_size, kind_of, object_kind, union_kind, shape_kind, struct_size, struct_align, kind_size, kind_align};
-ghost use Rattle.fb_schema.specs.Demands.{is_inline, is_supported, is_for_member, is_object, is_union_shape, is_type_field, names_no_object, names_table, names_no_union, inline_bytes, bytes_in, element_bytes};
+ghost use Rattle.fb_schema.specs.Demands.{is_inline, is_supported, is_for_member, is_object, is_union_shape, is_type_field, names_no_object, names_table, names_no_union, inline_bytes, element_bytes};
 ghost use Rattle.fb_schema.specs.declared.{kinds.Kind.Kind, kinds.Shape.Shape};
 
 use crate::base_type;
@@ -150,16 +150,6 @@ fn vector_of(kind: Kind) -> Kind
     }
 }
 
-/// How many values a struct's field of this shape has: an array its length, and all else one.
-fn part_count(length: u16, shape: Option<Shape>) -> u16
-    ensures { result ≡ part_count length shape }
-{
-    match shape {
-        Some(Shape::Array(_)) => length,
-        _ => 1,
-    }
-}
-
 /// The bytes of an array of values of so many bytes each.
 fn array_bytes(length: u16, each: i32) -> i64
     ensures value { result ≡ pos length *ℤ each }
@@ -208,16 +198,11 @@ impl<'r, 'n> RowLists<'r, 'n> {
     pub fn names_table(&self, ty: TypeRow) -> bool
         ensures { result ≡ names_table (borrowed_rows self.now) ty }
     {
-        is_object(shape_of(ty)) && self.is_table_at(ty.index)
-    }
-
-    fn is_table_at(&self, index: i32) -> bool
-        ensures { result ≡ is_some_table (entry_at (borrowed_rows self.now).objects index) }
-    {
-        match self.object_at(index) {
-            Some(object) => !object.is_struct,
-            None => false,
-        }
+        is_object(shape_of(ty))
+            && match self.object_at(ty.index) {
+                Some(object) => !object.is_struct,
+                None => false,
+            }
     }
 
     /// Whether a type, or its element, is a union that isn't there or is no union.
@@ -225,25 +210,11 @@ impl<'r, 'n> RowLists<'r, 'n> {
     pub fn names_no_union(&self, ty: TypeRow) -> bool
         ensures { result ≡ names_no_union (borrowed_rows self.now) ty }
     {
-        is_union(shape_of(ty)) && !self.is_union_at(ty.index)
-    }
-
-    fn is_union_at(&self, index: i32) -> bool
-        ensures { result ≡ is_some_union (entry_at (borrowed_rows self.now).enums index) }
-    {
-        match self.enum_at(index) {
-            Some(row) => row.is_union,
-            None => false,
-        }
-    }
-
-    fn object_bytes(&self, index: i32) -> i32
-        ensures { result ≡ bytes_in (entry_at (borrowed_rows self.now).objects index) }
-    {
-        match self.object_at(index) {
-            Some(object) => object.bytesize,
-            None => 0,
-        }
+        is_union(shape_of(ty))
+            && match self.enum_at(ty.index) {
+                Some(row) => !row.is_union,
+                None => true,
+            }
     }
 
     fn element_bytes(&self, element: Element, index: i32) -> i32
@@ -251,7 +222,10 @@ impl<'r, 'n> RowLists<'r, 'n> {
     {
         match element {
             Element::Scalar(scalar) => scalar.size() as i32,
-            Element::Object => self.object_bytes(index),
+            Element::Object => match self.object_at(index) {
+                Some(object) => object.bytesize,
+                None => 0,
+            },
             Element::Text | Element::Union => 0,
         }
     }
@@ -305,7 +279,10 @@ impl<'r, 'n> RowLists<'r, 'n> {
         Some(PartView {
             place: field.slot,
             kind,
-            count: part_count(ty.fixed_length, shape),
+            count: match shape {
+                Some(Shape::Array(_)) => ty.fixed_length,
+                _ => 1,
+            },
         })
     }
 
@@ -345,7 +322,7 @@ impl<'r, 'n> RowLists<'r, 'n> {
         ensures { result ≡ object_kind index Kind.Struct Kind.Table (entry_at (borrowed_rows self.now).objects index) }
     {
         let object = self.object_at(index)?;
-        let number = index as u32;
+        let number = index.unsigned_abs();
         Some(if object.is_struct {
             Kind::Struct(number)
         } else {
@@ -357,7 +334,7 @@ impl<'r, 'n> RowLists<'r, 'n> {
         ensures { result ≡ union_kind index Kind.Union (entry_at (borrowed_rows self.now).enums index) }
     {
         self.enum_at(index)?;
-        Some(Kind::Union(index as u32))
+        Some(Kind::Union(index.unsigned_abs()))
     }
 
     fn struct_layout(&self, number: u32) -> Layout

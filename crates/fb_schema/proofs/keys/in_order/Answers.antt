@@ -1,4 +1,5 @@
-use Rattle.std.proofs.Common.{◌≡◌, ◌<◌, ◌+◌, ℕ, List, ◌++◌, ◌∷◌, [], get_or, length, map, take, ap, ◌∙◌, take_all}
+use Rattle.std.proofs.Common.{◌≡◌, ◌<◌, ◌+◌, ℕ, List, ◌++◌, ◌∷◌, [], get_or, length, map, take, ap, ◌∙◌, take_all, subst}
+use Rattle.std.specs.Prelude.{IsPermutation}
 use Rattle.fb_schema.specs.Sorting.{numbered}
 use Rattle.fb_schema.proofs.KeyLemmas.{numbered_more}
 use Rattle.fb_schema.proofs.keys.in_order.Goals as goal
@@ -14,4 +15,5 @@ loop-n-preserved g c = more g.T.Keyed.key_of c.args.items.now c.loop-n.n c.index
 pub returns : goal.returns
 returns g c =
     let items = c.args.items.now in
-    c.put_in_order.ensures (map g.T.Keyed.key_of items) (c.loop-n.invariant ∙ ap (λ xs. numbered 0 (map g.T.Keyed.key_of xs)) (take_all c.loop-n.n items c.loop-n-test.false))
+    let all = c.loop-n.invariant ∙ ap (λ xs. numbered 0 (map g.T.Keyed.key_of xs)) (take_all c.loop-n.n items c.loop-n-test.false) in
+    record { same = subst (λ order. IsPermutation order c.sort_unstable.new.self.items) all c.sort_unstable.ensures.permutation; rises = c.sort_unstable.ensures.sorted }

@@ -1,7 +1,7 @@
 use Rattle.std.proofs.Common.{◌≡◌, ◌+◌, ◌≤◌, ◌<◌, ◌∷◌, [], map, length, get_or, ap, subst, sym, ◌∙◌, arith, ◌++◌}
 use Rattle.fb_schema.specs.{FlatRows.borrowed_rows, Rows.member_of_row}
 use Rattle.fb_schema.specs.Targets.{nothing, target_at, target_of, kind_among}
-use Rattle.fb_schema.proofs.TargetLemmas.{first_place, zero_target, long_step, within_step, behind_step, found_step, all_put}
+use Rattle.fb_schema.proofs.TargetLemmas.{first_place, zero_target, long_step, end_here, end_before, counts_step, within_step, behind_step, found_step, all_put}
 use Rattle.fb_schema.proofs.targets.put_targets.Goals as goal
 use Rattle.fb_schema.proofs.targets.put_targets.Goals.{then-place-ne0, else-place-ne0}
 
@@ -36,13 +36,14 @@ loop-value-preserved g c =
     let new = c.add_target.new.targets.items in
     let more = c.in_ok-push-3.ensures.items in
     let ends : (c.loop-value.end ≤ c.if-place-ne0.end) × (c.if-place-ne0.end ≤ value + 1) × (c.if-place-ne0.end ≤ value → place ≡ 0) = elim c.if-place-ne0.branch [
-      | then-place-ne0 w ↦ (let at = w.end-is in let low = i.end in (omega arith, omega arith, λ le. absurd (omega arith)))
-      | else-place-ne0 w ↦ (let at = w.end-is in let low = i.end in (omega arith, omega arith, λ le. w.if-place-ne0.false))
+      | then-place-ne0 w ↦ end_here c.loop-value.end c.if-place-ne0.end place value i.end w.end-is
+      | else-place-ne0 w ↦ end_before c.loop-value.end c.if-place-ne0.end place value i.end w.end-is w.if-place-ne0.false
     ] in
+    let counts = counts_step (length old) (length new) value i.least i.few e.longer e.one in
     record {
       long = ap length more ∙ long_step places place value i.long;
-      least = omega (arith, i.least, e.longer);
-      few = omega (arith, i.few, e.one);
+      least = counts.0;
+      few = counts.1;
       first = e.kept 0 i.least ∙ i.first;
       within = λ k. subst (λ ps. get_or ps k 0 < length new) (sym more) (within_step places place value i.long (length old) (length new) e.longer e.within i.within k);
       end = ends.1;

@@ -21,11 +21,12 @@ returns g c =
     let list = part all row.members in
     let found = c.in_ok-found.found in
     let kept : c.kept_members-members.result.now ≡ kept_members row.is_union list = c.kept_members-members.ensures.value ∙ ap (kept_members row.is_union) c.members_of.ensures.value in
-    on_ok c.push_made.result _ _ (λ made. record {
-      targets = have_step rows all enums i row (lists_of index.places) _ (lists_of index.targets) _ found.places.items found.targets.items lt is c.requires.before.targets c.in_ok-push_targets.ensures.places c.in_ok-push_targets.ensures.targets
+    on_ok c.push-2.result _ _ (λ last. record {
+      targets = have_step rows all enums i row (lists_of index.places) _ (lists_of index.targets) _ found.places.items found.targets.items lt is c.requires.before.targets
+          (c.in_ok-push.ensures ∙ ap (λ xs. lists_of index.places ++ xs ∷ []) c.deref.ensures.value) (last ∙ ap (λ xs. lists_of index.targets ++ xs ∷ []) c.deref-2.ensures.value)
           (λ union. subst (λ ms. ((q : ℕ) → first_code (members_asked rows (map member_of_row ms) q) ≡ None) → AreTargets rows (map member_of_row ms) found.places.items found.targets.items) (kept ∙ ap (λ b. kept_members b list) union)
           (c.in_ok-found.ensures union) (members_clear rows all enums refl c.requires.legal i row there union));
-      names = with_made c.in_order.result _ _ _ made c.in_order.ensures
+      names = with_made c.in_order.result _ _ _ c.in_ok-push_made.ensures c.in_order.ensures
           (λ order more are. matched_step (λ row order. IsOrderOf member_cmp (map member_key (kept_members row.is_union (part all row.members))) order) enums i row (lists_of index.names) _ order.items lt is c.requires.before.names
-          (more ∙ ap (λ ls. lists_of ls ++ order.items ∷ []) c.in_ok-push_targets.ensures.names) (subst (λ ms. IsOrderOf member_cmp (map member_key ms) order.items) kept are));
-    }) c.push_made.ensures
+          more (subst (λ ms. IsOrderOf member_cmp (map member_key ms) order.items) kept are));
+    }) c.push-2.ensures

@@ -14,9 +14,9 @@ returns g c =
     let n = c.args.n in
     let name = c.args.name in
     let t = table_at s.rows.fields.items s.rows.objects.items n (subst (λ (r : Rows). IsTrue (is_table r n)) (sym c.self.view_is) c.requires) in
-    let lists = lists_of s.live.fields in
+    let lists = lists_of s.index.live.fields in
     let long = c.self.invariant.fields.names.long in
-    let in_names = slice_get_within (lists_of s.live.names) n c.get.result.now c.get.ensures in
+    let in_names = slice_get_within (lists_of s.index.live.names) n c.get.result.now c.get.ensures in
     let views = slice_get_some lists n (omega arith) in
     let order = c.self.invariant.fields.names.at n views.0 c.get.result.now views.1 c.get.ensures in
     let value = live_read rows rows.objects (map (map live_of_view) lists) n (map live_of_view views.0) c.self.invariant.fields.live (mapped_at (map live_of_view) lists n views.0 views.1) in
@@ -32,6 +32,6 @@ pub get-requires : goal.get-requires
 get-requires g c =
     let s = c.self.inside in
     let rows = flat_rows s.rows in
-    let lists = lists_of s.live.fields in
+    let lists = lists_of s.index.live.fields in
     let long = sym (length-map lists (map live_of_view)) ∙ ap length c.self.invariant.fields.live ∙ length-map rows.objects (λ o. live_in rows (Some o)) in
-    table_listed (lists_of s.live.names) rows c.args.self.now c.args.n (c.self.invariant.fields.names.long ∙ long) c.self.view_is c.requires
+    table_listed (lists_of s.index.live.names) rows c.args.self.now c.args.n (c.self.invariant.fields.names.long ∙ long) c.self.view_is c.requires

@@ -10,8 +10,8 @@ unfolding live_fields
 value g c =
     let s = c.self.inside in
     let rows = flat_rows s.rows in
-    live_read rows rows.objects (map (map live_of_view) (lists_of s.live.fields)) c.args.n (map live_of_view c.get.result.now) c.self.invariant.fields.live
-    (mapped_at (map live_of_view) (lists_of s.live.fields) c.args.n c.get.result.now c.get.ensures)
+    live_read rows rows.objects (map (map live_of_view) (lists_of s.index.live.fields)) c.args.n (map live_of_view c.get.result.now) c.self.invariant.fields.live
+    (mapped_at (map live_of_view) (lists_of s.index.live.fields) c.args.n c.get.result.now c.get.ensures)
     ∙ ap (λ r. live_fields r c.args.n) c.self.view_is
 
 counted : (g : _) (c : After-get g) → length c.get.result.now ≤ widest c.args.self.now
@@ -26,11 +26,11 @@ returns-clause-within g c = counted g (goal.at.returns-clause-within g c).After-
 pub returns-clause-few : goal.returns-clause-few
 returns-clause-few g c =
     let s = c.self.inside in
-    few_read (flat_rows s.rows) c.args.self.now s.live.widest (length c.get.result.now) c.self.invariant.fields.widest c.self.invariant.fields.few c.self.view_is (counted g (goal.at.returns-clause-few g c).After-get)
+    few_read (flat_rows s.rows) c.args.self.now s.index.live.widest (length c.get.result.now) c.self.invariant.fields.widest c.self.invariant.fields.few c.self.view_is (counted g (goal.at.returns-clause-few g c).After-get)
 
 pub get-requires : goal.get-requires
 get-requires g c =
     let s = c.self.inside in
     let rows = flat_rows s.rows in
-    let lists = lists_of s.live.fields in
+    let lists = lists_of s.index.live.fields in
     table_listed lists rows c.args.self.now c.args.n (sym (length-map lists (map live_of_view)) ∙ ap length c.self.invariant.fields.live ∙ length-map rows.objects (λ o. live_in rows (Some o))) c.self.view_is c.requires

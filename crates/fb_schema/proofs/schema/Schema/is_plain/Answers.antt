@@ -8,12 +8,12 @@ pub returns : goal.returns
 returns g c =
     let s = c.self.inside in
     let n = c.args.n in
-    plain_read (flat_rows s.rows) s.live.plain.items n c.index.result.now c.self.invariant.fields.plain (subst (λ r. IsTrue (is_table r n)) (sym c.self.view_is) c.requires) c.index.ensures
+    plain_read (flat_rows s.rows) s.index.live.plain.items n c.index.result.now c.self.invariant.fields.plain (subst (λ r. IsTrue (is_table r n)) (sym c.self.view_is) c.requires) c.index.ensures
     ∙ ap (λ r. is_plain r n) c.self.view_is
 
 pub index-requires : goal.index-requires
 index-requires g c =
     let s = c.self.inside in
     let rows = flat_rows s.rows in
-    let lt = table_listed s.live.plain.items rows c.args.self.now c.args.n (ap length c.self.invariant.fields.plain ∙ length-map rows.objects (λ o. are_plain (live_in rows (Some o)))) c.self.view_is c.requires in
-    omega (arith, lt, s.live.plain.ok.0)
+    let lt = table_listed s.index.live.plain.items rows c.args.self.now c.args.n (ap length c.self.invariant.fields.plain ∙ length-map rows.objects (λ o. are_plain (live_in rows (Some o)))) c.self.view_is c.requires in
+    omega (arith, lt, s.index.live.plain.ok.0)

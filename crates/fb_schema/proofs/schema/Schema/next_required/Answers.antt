@@ -12,7 +12,7 @@ places g c =
     let n = c.args.n in
     let rows = flat_rows s.rows in
     subst (λ r. AreNextRequired (live_fields r n) c.get-places.result.now) c.self.view_is
-    (next_read rows (lists_of s.live.next_required) n c.get-places.result.now c.self.invariant.fields.next_required (subst (λ r. IsTrue (is_table r n)) (sym c.self.view_is) c.requires) c.get-places.ensures)
+    (next_read rows (lists_of s.index.live.next_required) n c.get-places.result.now c.self.invariant.fields.next_required (subst (λ r. IsTrue (is_table r n)) (sym c.self.view_is) c.requires) c.get-places.ensures)
 
 pub returns-in-Some : goal.returns-in-Some
 returns-in-Some g c =
@@ -30,4 +30,4 @@ returns-in_default-2 g c = next_past _ _ _ (places g (goal.at.returns-in_default
 pub get-places-requires : goal.get-places-requires
 get-places-requires g c =
     let s = c.self.inside in
-    table_listed (lists_of s.live.next_required) (flat_rows s.rows) c.args.self.now c.args.n c.self.invariant.fields.next_required.long c.self.view_is c.requires
+    table_listed (lists_of s.index.live.next_required) (flat_rows s.rows) c.args.self.now c.args.n c.self.invariant.fields.next_required.long c.self.view_is c.requires

@@ -1,5 +1,5 @@
-use Rattle.std.proofs.Common.{◌≡◌, List, map, slice_get, ◌∙◌, ap, option_and_then}
-use Rattle.fb_schema.specs.FlatRows.{object_in, enum_in, borrowed_rows, flat_rows}
+use Rattle.std.proofs.Common.{List, map, slice_get, ◌∙◌, ap, option_and_then}
+use Rattle.fb_schema.proofs.LookLemmas.{lent_same}
 use Rattle.fb_schema.specs.{Parts.part_at, Parts.part_of, Rows.Field, Rows.Rows, Rows.field_of}
 use Rattle.fb_schema.proofs.schema.Schema.part_at.Goals as goal
 
@@ -8,7 +8,8 @@ unfolding part_at
 returns g c =
     let flat = c.self.inside.rows in
     let lent = c.lists.result in
-    let same : borrowed_rows lent ≡ flat_rows flat = λ i. record { objects = map (object_in (c.lists.ensures.fields i)) (c.lists.ensures.objects i); enums = map (enum_in (c.lists.ensures.members i)) (c.lists.ensures.enums i) } in
+    let is = c.lists.ensures in
+    let same = lent_same flat lent is.objects is.fields is.enums is.members in
     c.part_at.ensures
     ∙ ap (λ (r : Rows). option_and_then (part_of r) (slice_get (map field_of c.parts_of.result.now) c.args.i)) (same ∙ c.self.view_is)
     ∙ ap (λ (fs : List Field). option_and_then (part_of c.args.self.now) (slice_get fs c.args.i)) c.parts_of.ensures.value

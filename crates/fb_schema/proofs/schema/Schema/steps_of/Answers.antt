@@ -8,7 +8,7 @@ use Rattle.fb_schema.proofs.schema.Schema.steps_of.Goals.{After-get}
 value : (g : _) (c : After-get g) → c.get.result.now ≡ map step_of (live_fields c.args.self.now c.args.n)
 value g c =
     let s = c.self.inside in
-    steps_read (flat_rows s.rows) (lists_of s.live.steps) c.args.n c.get.result.now c.self.invariant.fields.steps c.get.ensures
+    steps_read (flat_rows s.rows) (lists_of s.index.live.steps) c.args.n c.get.result.now c.self.invariant.fields.steps c.get.ensures
     ∙ ap (λ r. map step_of (live_fields r c.args.n)) c.self.view_is
 
 pub returns-clause-value : goal.returns-clause-value
@@ -20,10 +20,10 @@ counted g c = omega (arith, ap length (value g c), length-map (live_fields c.arg
 pub returns-clause-few : goal.returns-clause-few
 returns-clause-few g c =
     let s = c.self.inside in
-    few_read (flat_rows s.rows) c.args.self.now s.live.widest (length c.get.result.now) c.self.invariant.fields.widest c.self.invariant.fields.few c.self.view_is (counted g (goal.at.returns-clause-few g c).After-get)
+    few_read (flat_rows s.rows) c.args.self.now s.index.live.widest (length c.get.result.now) c.self.invariant.fields.widest c.self.invariant.fields.few c.self.view_is (counted g (goal.at.returns-clause-few g c).After-get)
 
 pub get-requires : goal.get-requires
 get-requires g c =
     let s = c.self.inside in
     let rows = flat_rows s.rows in
-    table_listed (lists_of s.live.steps) rows c.args.self.now c.args.n (ap length c.self.invariant.fields.steps ∙ length-map rows.objects (λ o. map step_of (live_in rows (Some o)))) c.self.view_is c.requires
+    table_listed (lists_of s.index.live.steps) rows c.args.self.now c.args.n (ap length c.self.invariant.fields.steps ∙ length-map rows.objects (λ o. map step_of (live_in rows (Some o)))) c.self.view_is c.requires

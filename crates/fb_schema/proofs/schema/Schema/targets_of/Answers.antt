@@ -12,8 +12,8 @@ returns g c = λ value lt.
     let e = c.args.e in
     let rows = flat_rows s.rows in
     let u = union_at s.rows.members.items s.rows.enums.items e (subst (λ (r : Rows). IsTrue (is_union r e)) (sym c.self.view_is) c.requires) in
-    let places = get_or_from_slice_get (lists_of s.members.places) e c.get.result.now [] c.get.ensures in
-    let targets = get_or_from_slice_get (lists_of s.members.targets) e c.get-2.result.now [] c.get-2.ensures in
+    let places = get_or_from_slice_get (lists_of s.index.members.places) e c.get.result.now [] c.get.ensures in
+    let targets = get_or_from_slice_get (lists_of s.index.members.targets) e c.get-2.result.now [] c.get-2.ensures in
     sym (λ i. target_at (places i) (targets i) value) ∙ (c.self.invariant.kinds.targets.at e u.0 u.1 u.2).at value lt
     ∙ ap (target_of rows) (sym (member_of_row_is rows s.rows.members.items s.rows.enums.items refl e u.0 u.1 u.2 value))
     ∙ ap (λ r. target_of r (member_of r e value)) c.self.view_is
