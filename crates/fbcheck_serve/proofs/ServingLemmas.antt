@@ -1,21 +1,35 @@
 -- What the program comes to.
-use Rattle.std.proofs.Common.{◌≡◌, ◌≢◌, ◌==◌, ◌≤◌, ◌^◌, ◌∙◌, arith, ℕ, Bool, true, false, true≢false, List, [], ◌∷◌, Option, Some, None, Result, Ok, Err, ap, length, refl, take, sym, subst}
+use Rattle.std.proofs.Common.{codes, ◌+◌, ◌<◌, ◌≡◌, ◌≢◌, ◌==◌, ◌≤◌, ◌^◌, ◌∙◌, arith, ℕ, Bool, true, false, true≢false, List, [], ◌∷◌, Option, Some, None, Result, Ok, Err, ap, length, refl, take, sym, subst}
 use mathlib.Core.Logic.{◌⊎◌, inl, inr}
 use Rattle.std.specs.{Borrow.Bor, Io.KnownBytes.Appends}
 use Rattle.std.specs.declared.io.ErrorKind.{ErrorKind}
-use Rattle.std.specs.Prelude.{if◌then◌else◌, IfSome, String, Vec, map, option_map, string_bytes, vec_items}
+use Rattle.std.specs.Prelude.{if◌then◌else◌, IfOk, IfSome, String, Vec, map, option_map, string_bytes, vec_items}
 use Rattle.std.proofs.{KnownBytes.Keeps-refl, Math.Seq.take-length}
 use Rattle.std.proofs.lemmas.{Bool.eq-eqb, Bool.eqb-true, List.length-map, List.nil_from_length}
 use Rattle.clap.specs.Walk.{Text}
 use Rattle.fbcheck_words.specs.{Refusal.Refuses, Given.AreGiven}
 use Rattle.fbcheck_serve.specs.Asked.{form_of}
-use Rattle.fbcheck_serve.specs.Checking.{IsPromptAmongAsked, IsPromptAsAsked, IsPromptOverAsked, names_in}
-use Rattle.fbcheck_texts.specs.{Faults.IsFile}
+use Rattle.fbcheck_serve.specs.Checking.{IsPromptAmongAsked, IsPromptAsAsked, IsPromptOverAsked, IsCheckedBeside, IsServedEach, names_in}
+use Rattle.fbcheck_texts.specs.{Faults.IsFile, Faults.HasFileFault}
 use Rattle.fbcheck_texts.specs.declared.{framing.By.By, framing.Manner.Manner}
 use Rattle.fbcheck_serve.specs.Inputs.{Folder, IsPromptAmong, IsPromptOver, Seen, with_cause}
 use Rattle.fb_lines.specs.{Job.Job, Faults.End, JsonSums.summary_in}
 use Rattle.fb_lines.specs.Ends.{Ends, Reader, Writer, beside}
-use Rattle.fbcheck_serve.specs.Serving.{ChecksAsGiven, ComesBy, ComesTo, HoldsAsGiven, IsPromptAsGiven, IsCrowded, PassesAsGiven, SumsUp, Unserved, files_ending, lent_bytes, run_ending, summed, words_of}
+use Rattle.fbcheck_serve.specs.Serving.{ChecksAsAsked, ComesAsAsked, ComesBy, ComesTo, EndsFiles, EndsRun, EndsSo, HoldsAsGiven, IsFileFault, IsPromptAsGiven, IsCrowded, PassesAsAsked, Rests, SumsUp, Unserved}
+use Rattle.fbcheck_serve.specs.Serving.{file_stop, files_ending, lent_bytes, run_ending, summed, words_of, words_stop}
+use Rattle.fbcheck_serve.proofs.AskedLemmas.{idle}
+use Rattle.fbcheck_serve.specs.declared.inputs.Passed as inputs
+use Rattle.fb_run.specs.declared.run.Ran.{Ran}
+use Rattle.fb_run.specs.declared.input.Input as input
+use Rattle.fb_bytes.specs.declared.ends.Sink as sink
+use Rattle.fb_run.specs.Leave.{ends_of}
+use Rattle.fb_lines.specs.Faults.{EndsBeside}
+use Rattle.clap.specs.Faults.{fault_of}
+use Rattle.fbcheck_words.specs.{CommandLine.program, Values.text_of}
+use Rattle.fbcheck_words.specs.declared.choices.SettingsFault.TheVariants as refusal
+use Rattle.std.specs.{Global.Global, Result.OnErr, declared.alloc.AllocError.AllocError}
+use Rattle.fbcheck_texts.specs.declared.{hint.Unasked.Unasked, fault.FileFault.FileFault}
+use Rattle.fbcheck_texts.specs.Hints.{file_hint, words_hint}
 use Rattle.fbcheck_words.specs.declared.{choices.Settings.Settings, choices.SettingsFault.SettingsFault}
 use Rattle.fb_lines.specs.declared.fault.RunFault.{RunFault}
 use Rattle.fb_lines.specs.declared.fault.RunFault.TheVariants as run
@@ -48,16 +62,37 @@ module _ (folder : Folder) where
     holds = holds;
   }
 
-  -- the program ends by the end of the run, or of the files
-  pub comes_run : (given : List Text) (before after : Seen) (sums : Option Sums) (manner : Manner) (tally : Tally) (end : End) (outcome : Result Ending Stop) → outcome ≡ run_ending manner tally end
-      → ChecksAsGiven folder given before.ends after.ends sums tally manner end → ComesBy folder given before after sums outcome
-  comes_run given before after sums manner tally (Ok done) outcome is checks = subst (λ (o : Result Ending Stop). ComesBy folder given before after sums o) (sym is) checks
-  comes_run given before after sums manner tally (Err fault) outcome is checks = subst (λ (o : Result Ending Stop). ComesBy folder given before after sums o) (sym is) checks
+  -- what the settings come to is what the words that give them do
+  pub comes_asked : (given : List Text) (before after : Seen) (sums : Option Sums) (outcome : Result Ending Stop)
+      → HoldsAsGiven folder given (λ file settings. ComesAsAsked folder file settings before after sums outcome) → ComesBy folder given before after sums outcome
+  comes_asked given before after sums (Ok Helped) never = absurd never.holds
+  comes_asked given before after sums (Err (stop.Usage text)) never = absurd never.holds
+  comes_asked given before after sums (Err (stop.Settings fault)) never = absurd never.holds
+  comes_asked given before after sums (Err (stop.CutOff written)) never = absurd never.holds
+  comes_asked given before after sums (Err (stop.File fault hint)) never = absurd never.holds
+  comes_asked given before after sums _ holds = holds
 
-  pub comes_files : (given : List Text) (before after : Seen) (sums : Option Sums) (by : By) (course : Course) (end : End) (outcome : Result Ending Stop) → outcome ≡ files_ending by course end
-      → PassesAsGiven folder given before after sums course by end → ComesBy folder given before after sums outcome
-  comes_files given before after sums by course (Ok done) outcome is passes = subst (λ (o : Result Ending Stop). ComesBy folder given before after sums o) (sym is) passes
-  comes_files given before after sums by course (Err fault) outcome is passes = subst (λ (o : Result Ending Stop). ComesBy folder given before after sums o) (sym is) (course, by, passes)
+  module _ (file : Option (Bor (List ℕ))) (settings : Settings) (before after : Seen) (sums : Option Sums) (outcome : Result Ending Stop) where
+    -- the program ends by the end of the run, or of the files
+    comes_ended : (manner : Manner) (tally : Tally) (end : End) → outcome ≡ run_ending manner tally end → ChecksAsAsked file settings before.ends after.ends sums tally manner end
+        → ComesAsAsked folder file settings before after sums outcome
+    comes_ended manner tally (Ok done) is checks = rw is checks
+    comes_ended manner tally (Err fault) is checks = rw is checks
+
+    pub comes_run : (ran : Result Ran Unasked) → names_in settings ≡ [] → IsCheckedBeside file settings before.ends after.ends ran → EndsRun settings ran sums outcome
+        → ComesAsAsked folder file settings before after sums outcome
+    comes_run (Ok ran) none checked (told, is) = comes_ended _ ran.tally ran.end is (none, checked, refl, told)
+    comes_run (Err unasked) none checked (told, is) = rw is (checked.0, checked.1, told)
+
+    comes_passed : (by : By) (course : Course) (end : End) → outcome ≡ files_ending by course end → PassesAsAsked folder file settings before after sums course by end
+        → ComesAsAsked folder file settings before after sums outcome
+    comes_passed by course (Ok done) is passes = rw is passes
+    comes_passed by course (Err fault) is passes = rw is (course, by, passes)
+
+    pub comes_files : (passed : Result inputs.Passed Unasked) → names_in settings ≢ [] → IsServedEach folder file settings before after passed → EndsFiles settings passed sums outcome
+        → ComesAsAsked folder file settings before after sums outcome
+    comes_files (Ok passed) some served (told, is) = comes_passed _ passed.course passed.end is (some, served, refl, told)
+    comes_files (Err unasked) some served (told, is) = rw is (served.0, served.1, told)
 
   -- all that was read is told, where no file is named, and among files
   pub prompt_alone : (file : Option (Bor (List ℕ))) (settings : Settings) (before now : Ends) → names_in settings ≡ [] → IsPromptAsAsked file settings before now
@@ -103,25 +138,111 @@ sums_noted sums told before after outcome line written some is all wrote same =
     subst (λ (o : Option Sums). SumsUp o before after outcome outcome) (sym some)
     (inl (subst (Appends before.bytes after.bytes) (ap (λ (m : ℕ). take m line) all ∙ take-length line ∙ is) wrote, same, refl))
 
--- a run over files that came to rest, with more calls of the notes since
-pub halted_crowded : (writes notes more : ℕ) (end : End) (fault : RunFault) → end ≡ Err fault → notes ≤ more → (end ≡ Err run.TooManyTurns → (2 ^ 64 ≤ writes) ⊎ (2 ^ 64 ≤ notes))
-    → IsCrowded writes more (Err (stop.Halted fault))
-halted_crowded writes notes more end run.TooManyTurns is le many = elim (many is) [ inl enough ↦ inl enough | inr enough ↦ inr (omega arith) ]
-halted_crowded writes notes more end _ is le many = tt
-
 -- the words gave no settings: no file was begun
-pub unserved_crowded : (fault : SettingsFault) (writer writer' : Writer) (outcome : Result Ending Stop) → Unserved fault writer writer' outcome → (writes notes : ℕ) → IsCrowded writes notes outcome
+unserved_crowded : (fault : SettingsFault) (writer writer' : Writer) (outcome : Result Ending Stop) → Unserved fault writer writer' outcome → (writes notes : ℕ) → IsCrowded writes notes outcome
 unserved_crowded fault writer writer' (Ok done) unserved writes notes = tt
 unserved_crowded fault writer writer' (Err (stop.Usage text)) unserved writes notes = tt
 unserved_crowded fault writer writer' (Err (stop.Settings why)) unserved writes notes = tt
 unserved_crowded fault writer writer' (Err (stop.CutOff written)) unserved writes notes = tt
 unserved_crowded fault writer writer' _ never writes notes = absurd never
 
--- the numbers to be told have a place for each kind of fault
-places_if : (told : Sums) (asked : Bool) → length told.tally.reasons ≡ 13 → IfSome (if asked then Some told else None) (λ (sums : Sums). length sums.tally.reasons ≡ 13)
-places_if told true are = are
-places_if told false are = tt
+more_notes : (n : ℕ) → n < 2 ^ 64 → n < 2 ^ 98
+more_notes n few = omega arith
 
-pub summed_places : (settings : Settings) (tally : Tally) (sums : Option Sums) → sums ≡ summed settings tally → length tally.reasons ≡ 13 → IfSome sums (λ (told : Sums). length told.tally.reasons ≡ 13)
-summed_places settings tally sums is are = subst (λ (o : Option Sums). IfSome o (λ (told : Sums). length told.tally.reasons ≡ 13)) (sym is)
-    (places_if (record { form = form_of settings.form; tally = tally }) settings.summary are)
+pub few_noted : (n n' : ℕ) → n' ≤ n + 2 ^ 96 → n < 2 ^ 64 → n' < 2 ^ 98
+few_noted n n' le few = omega arith
+
+pub unserved_rests : (fault : SettingsFault) (before after : Ends) (writes notes : ℕ) (outcome : Result Ending Stop) → Unserved fault before.outs.writer after.outs.writer outcome
+    → EndsSo before after 4294967296 outcome → after.reader ≡ before.reader → notes < 2 ^ 64 → Rests before after writes notes None outcome
+unserved_rests fault before after writes notes outcome unserved ends same few = record {
+  places = tt;
+  ends = ends;
+  turns = rw same (omega arith);
+  noted = more_notes notes few;
+  crowded = λ more le. unserved_crowded fault before.outs.writer after.outs.writer outcome unserved writes more;
+}
+
+-- the words or the schema file couldn't be read
+early : (seen : Seen) (writes notes : ℕ) (outcome : Result Ending Stop) → EndsSo seen.ends seen.ends 4294967296 outcome → ((more : ℕ) → IsCrowded writes more outcome) → notes < 2 ^ 64
+    → Rests seen.ends seen.ends writes notes None outcome
+early seen writes notes outcome ends crowded few = record { places = tt; ends = ends; turns = omega arith; noted = more_notes notes few; crowded = λ more le. crowded more }
+
+pub wordless : {A B : Type 0} (folder : Folder) (given : Result (Vec (String A) B) WordsFault) (seen : Seen) (fault : WordsFault) (hint : Result (Vec ℕ Global) AllocError) (writes notes : ℕ) (cause : Stop)
+    → given ≡ Err fault → cause ≡ words_stop fault hint → IfOk hint (λ h. h.items ≡ words_hint fault) → notes < 2 ^ 64
+    → ComesTo folder (words_of given) seen seen None (Err cause) × Rests seen.ends seen.ends writes notes None (Err cause)
+wordless folder given seen fault (Ok hint) writes notes cause is so told few =
+    rw (is, so) ((refl, told, idle seen.ends, refl), early seen writes notes _ (refl, refl, refl) (λ more. tt) few)
+wordless folder given seen fault (Err none) writes notes cause is so told few = rw (is, so) ((idle seen.ends, refl), early seen writes notes _ (refl, refl, refl) (λ more. tt) few)
+
+pub fileless : (folder : Folder) (given : List Text) (seen : Seen) (fault : FileFault) (hint : Result (Vec ℕ Global) AllocError) (name : Option Text) (writes notes : ℕ) (cause : Stop)
+    → fault_of program given ≡ [] → name ≡ text_of (codes "schema") given → cause ≡ file_stop fault hint → HasFileFault folder.gives name fault → IfOk hint (λ h. h.items ≡ file_hint fault name) → notes < 2 ^ 64
+    → ComesBy folder given seen seen None (Err cause) × Rests seen.ends seen.ends writes notes None (Err cause)
+fileless folder given seen fault (Ok hint) name writes notes cause read is so has told few =
+    rw so ((read, subst (λ (t : Option Text). IsFileFault folder.gives t fault hint.items) is (has, told), idle seen.ends, refl), early seen writes notes _ (refl, refl, refl) (λ more. tt) few)
+fileless folder given seen fault (Err none) name writes notes cause read is so has told few =
+    rw so (((refusal.OutOfMemory, tt, Keeps-refl seen.ends.reader.left, Keeps-refl seen.ends.outs.writer.bytes, Keeps-refl seen.ends.outs.notes.bytes), refl), early seen writes notes _ (refl, refl, refl) (λ more. tt) few)
+
+-- the numbers to be told have a place for each kind of fault
+summed_places : (told : Sums) (asked : Bool) → length told.tally.reasons ≡ 13 → IfSome (if asked then Some told else None) (λ (sums : Sums). length sums.tally.reasons ≡ 13)
+summed_places told true are = are
+summed_places told false are = tt
+
+-- nothing was called where there was nothing to check by
+pub same_ends : {S K N A : Type 0} (s : input.Ghosts S K N) (k : sink.Ghosts K) (n : sink.Ghosts N) (answer : Result A Unasked) (r r' : S) (w w' : K) (m m' : N)
+    → OnErr answer (r' ≡ r) → OnErr answer (w' ≡ w) → OnErr answer (m' ≡ m) → OnErr answer (ends_of s k n r' w' m' ≡ ends_of s k n r w m)
+same_ends s k n (Ok done) r r' w w' m m' a b c = tt
+same_ends s k n (Err unasked) r r' w w' m m' a b c = rw (a, b, c) refl
+
+module _ (settings : Settings) (before after : Ends) (writes notes : ℕ) (turns : after.reader.calls ≤ before.reader.calls + 4294967296) (noted : notes < 2 ^ 98) where
+  unasked_rests : (unasked : Unasked) → after ≡ before → Rests before after writes notes None (Err (stop.Ask unasked))
+  unasked_rests unasked same = record { places = tt; ends = rw same (refl, refl, refl); turns = turns; noted = noted; crowded = λ more le. tt }
+
+  run_rests_so : (manner : Manner) (tally : Tally) (end : End) → length tally.reasons ≡ 13 → EndsBeside before after 4294967296 end
+      → Rests before after writes notes (summed settings tally) (run_ending manner tally end)
+  run_rests_so manner tally (Ok done) are ends = record {
+    places = summed_places _ settings.summary are;
+    ends = ends;
+    turns = turns;
+    noted = noted;
+    crowded = λ more le. tt;
+  }
+  run_rests_so manner tally (Err fault) are ends = record {
+    places = summed_places _ settings.summary are;
+    ends = ends;
+    turns = turns;
+    noted = noted;
+    crowded = λ more le. tt;
+  }
+
+  pub run_rests : (ran : Result Ran Unasked) (sums : Option Sums) (outcome : Result Ending Stop) → EndsRun settings ran sums outcome → IfOk ran (λ r. length r.tally.reasons ≡ 13)
+      → IfOk ran (λ r. EndsBeside before after 4294967296 r.end) → OnErr ran (after ≡ before) → Rests before after writes notes sums outcome
+  run_rests (Ok ran) sums outcome (told, is) are ends same = rw (told, is) (run_rests_so _ ran.tally ran.end are ends)
+  run_rests (Err unasked) sums outcome (told, is) are ends same = rw (told, is) (unasked_rests unasked same)
+
+  -- where files came to rest, more calls of the notes may follow
+  halted_crowded : (fault : RunFault) (more : ℕ) → notes ≤ more → (◌≡◌ {A = End} (Err fault) (Err run.TooManyTurns) → (2 ^ 64 ≤ writes) ⊎ (2 ^ 64 ≤ notes)) → IsCrowded writes more (Err (stop.Halted fault))
+  halted_crowded run.TooManyTurns more le many = elim (many refl) [ inl enough ↦ inl enough | inr enough ↦ inr (omega (arith, enough, le)) ]
+  halted_crowded _ more le many = tt
+
+  files_rests_so : (by : By) (course : Course) (end : End) → length course.tally.reasons ≡ 13 → (end ≡ Err run.TooManyTurns → (2 ^ 64 ≤ writes) ⊎ (2 ^ 64 ≤ notes))
+      → Rests before after writes notes (summed settings course.tally) (files_ending by course end)
+  files_rests_so by course (Ok done) are many = record {
+    places = summed_places _ settings.summary are;
+    ends = tt;
+    turns = turns;
+    noted = noted;
+    crowded = λ more le. tt;
+  }
+  files_rests_so by course (Err fault) are many = record {
+    places = summed_places _ settings.summary are;
+    ends = tt;
+    turns = turns;
+    noted = noted;
+    crowded = λ more le. halted_crowded fault more le many;
+  }
+
+  pub files_rests : (passed : Result inputs.Passed Unasked) (sums : Option Sums) (outcome : Result Ending Stop) → EndsFiles settings passed sums outcome
+      → IfOk passed (λ p. length p.course.tally.reasons ≡ 13) → IfOk passed (λ p. p.end ≡ Err run.TooManyTurns → (2 ^ 64 ≤ writes) ⊎ (2 ^ 64 ≤ notes)) → OnErr passed (after ≡ before)
+      → Rests before after writes notes sums outcome
+  files_rests (Ok passed) sums outcome (told, is) are many same = rw (told, is) (files_rests_so _ passed.course passed.end are many)
+  files_rests (Err unasked) sums outcome (told, is) are many same = rw (told, is) (unasked_rests unasked same)

@@ -1,5 +1,5 @@
 -- What the program does, from its words to its exit status.
-use Rattle.std.specs.Prelude.{◌≡◌, ◌≢◌, ℕ, ◌+◌, ◌<◌, ◌≤◌, ◌^◌, ◌⊎◌, ◌++◌, length, if◌then◌else◌, List, [], Option, Some, None, Result, Ok, Err, Vec, String, codes, map, option_map, string_bytes, string_len, vec_items}
+use Rattle.std.specs.Prelude.{◌≡◌, ◌≢◌, ℕ, ◌+◌, ◌<◌, ◌≤◌, ◌^◌, ◌⊎◌, ◌++◌, length, if◌then◌else◌, List, [], Option, Some, None, Result, Ok, Err, Vec, String, IfSome, codes, map, option_map, string_bytes, string_len, vec_items}
 use Rattle.std.specs.{Borrow.Bor, Io.KnownBytes.Appends, Io.KnownBytes.Keeps}
 use Rattle.std.specs.declared.io.ErrorKind.{ErrorKind}
 use Rattle.clap.specs.{Walk.Text, Faults.fault_of}
@@ -17,6 +17,10 @@ use Rattle.fbcheck_words.specs.declared.{choices.Settings.Settings, choices.Sett
 use Rattle.fbcheck_words.specs.declared.choices.SettingsFault.TheVariants as refusal
 use Rattle.fbcheck_texts.specs.declared.fault.FileFault.{FileFault}
 use Rattle.fbcheck_texts.specs.declared.fault.FileFault.TheVariants as file_fault
+use Rattle.std.specs.{Global.Global, declared.alloc.AllocError.AllocError}
+use Rattle.fb_run.specs.declared.run.Ran.{Ran}
+use Rattle.fbcheck_texts.specs.declared.hint.Unasked.{Unasked}
+use Rattle.fbcheck_serve.specs.declared.inputs.Passed as inputs
 use Rattle.fbcheck_serve.specs.declared.{inputs.Course.Course, stop.Ending.Ending}
 use Rattle.fbcheck_serve.specs.declared.stop.Ending.TheVariants.{Helped, Checked, Passed}
 use Rattle.fbcheck_serve.specs.declared.{stop.Stop.Stop, stop.Sums.Sums}
@@ -51,16 +55,26 @@ pub record HoldsAsGiven (folder : Folder) (given : List Text) (Holds : Option (B
 abbrev pub summed : Settings → Tally → Option Sums
 summed settings tally = if settings.summary then Some (record { form = form_of settings.form; tally = tally }) else None
 
--- the buffers of standard input were checked as the words ask, which name no files, in this manner, this was counted, and
--- these numbers are to be told
-abbrev pub ChecksAsGiven : Folder → List Text → Ends → Ends → Option Sums → Tally → Manner → End → Type 0
-ChecksAsGiven folder given before after sums tally manner end = HoldsAsGiven folder given
-    (λ file settings. (names_in settings ≡ []) × RunsAsAsked file settings before after tally end × (manner ≡ manner_in settings) × (sums ≡ summed settings tally))
+-- the buffers of standard input were checked as the settings ask, which name no files, in this manner, this was counted,
+-- and these numbers are to be told
+abbrev pub ChecksAsAsked : Option (Bor (List ℕ)) → Settings → Ends → Ends → Option Sums → Tally → Manner → End → Type 0
+ChecksAsAsked file settings before after sums tally manner end =
+    (names_in settings ≡ []) × RunsAsAsked file settings before after tally end × (manner ≡ manner_in settings) × (sums ≡ summed settings tally)
 
--- files were gone through as the words ask, they came to this, by what they were checked, and these numbers are to be told
-abbrev pub PassesAsGiven : Folder → List Text → Seen → Seen → Option Sums → Course → By → End → Type 0
-PassesAsGiven folder given before after sums course by end = HoldsAsGiven folder given
-    (λ file settings. (names_in settings ≢ []) × ServesAsAsked folder file settings before after course end × (by ≡ by_of settings.schema) × (sums ≡ summed settings course.tally))
+-- files were gone through as the settings ask, they came to this, by what they were checked, and these numbers are to be told
+abbrev pub PassesAsAsked : Folder → Option (Bor (List ℕ)) → Settings → Seen → Seen → Option Sums → Course → By → End → Type 0
+PassesAsAsked folder file settings before after sums course by end =
+    (names_in settings ≢ []) × ServesAsAsked folder file settings before after course end × (by ≡ by_of settings.schema) × (sums ≡ summed settings course.tally)
+
+-- what the program came to by these settings and this schema file
+abbrev pub ComesAsAsked : Folder → Option (Bor (List ℕ)) → Settings → Seen → Seen → Option Sums → Result Ending Stop → Type 0
+ComesAsAsked folder file settings before after sums (Ok (Checked tally manner)) = ChecksAsAsked file settings before.ends after.ends sums tally manner (Ok tt)
+ComesAsAsked folder file settings before after sums (Err (stop.Run fault tally manner)) = ChecksAsAsked file settings before.ends after.ends sums tally manner (Err fault)
+ComesAsAsked folder file settings before after sums (Ok (Passed course by)) = PassesAsAsked folder file settings before after sums course by (Ok tt)
+ComesAsAsked folder file settings before after sums (Err (stop.Halted fault)) =
+    (course : Course) × (by : By) × PassesAsAsked folder file settings before after sums course by (Err fault)
+ComesAsAsked folder file settings before after sums (Err (stop.Ask unasked)) = IsUntold file settings unasked × IsIdle before.ends after.ends × (sums ≡ None)
+ComesAsAsked folder file settings before after sums _ = ⊥
 
 -- how the program ends by the end of a run, and of files
 abbrev pub run_ending : Manner → Tally → End → Result Ending Stop
@@ -70,6 +84,24 @@ run_ending manner tally (Err fault) = Err (stop.Run fault tally manner)
 abbrev pub files_ending : By → Course → End → Result Ending Stop
 files_ending by course (Ok done) = Ok (Passed course by)
 files_ending by course (Err fault) = Err (stop.Halted fault)
+
+-- the same of a run or files that may not have begun, with the numbers that are to be told
+abbrev pub EndsRun : Settings → Result Ran Unasked → Option Sums → Result Ending Stop → Type 0
+EndsRun settings (Ok ran) sums outcome = (sums ≡ summed settings ran.tally) × (outcome ≡ run_ending (manner_in settings) ran.tally ran.end)
+EndsRun settings (Err unasked) sums outcome = (sums ≡ None) × (outcome ≡ Err (stop.Ask unasked))
+
+abbrev pub EndsFiles : Settings → Result inputs.Passed Unasked → Option Sums → Result Ending Stop → Type 0
+EndsFiles settings (Ok passed) sums outcome = (sums ≡ summed settings passed.course.tally) × (outcome ≡ files_ending (by_of settings.schema) passed.course passed.end)
+EndsFiles settings (Err unasked) sums outcome = (sums ≡ None) × (outcome ≡ Err (stop.Ask unasked))
+
+-- the words or the schema file can't be read, and this is told behind that, or there was no memory for it
+abbrev pub words_stop : WordsFault → Result (Vec ℕ Global) AllocError → Stop
+words_stop fault (Ok hint) = stop.Words fault hint
+words_stop fault (Err none) = stop.Settings refusal.OutOfMemory
+
+abbrev pub file_stop : FileFault → Result (Vec ℕ Global) AllocError → Stop
+file_stop fault (Ok hint) = stop.File fault hint
+file_stop fault (Err none) = stop.Settings refusal.OutOfMemory
 
 -- all that was read by now is told, of a run that the words ask for; they could be read
 abbrev pub IsPromptAsGiven : Folder → Result (List Text) WordsFault → Ends → Ends → Type 0
@@ -101,15 +133,13 @@ IsUnserved given before after outcome =
 
 -- what the program came to by these words, what it read, wrote and noted by then, and the numbers that are to be told
 abbrev pub ComesBy : Folder → List Text → Seen → Seen → Option Sums → Result Ending Stop → Type 0
-ComesBy folder given before after sums (Ok (Checked tally manner)) = ChecksAsGiven folder given before.ends after.ends sums tally manner (Ok tt)
-ComesBy folder given before after sums (Err (stop.Run fault tally manner)) = ChecksAsGiven folder given before.ends after.ends sums tally manner (Err fault)
-ComesBy folder given before after sums (Ok (Passed course by)) = PassesAsGiven folder given before after sums course by (Ok tt)
-ComesBy folder given before after sums (Err (stop.Halted fault)) = (course : Course) × (by : By) × PassesAsGiven folder given before after sums course by (Err fault)
-ComesBy folder given before after sums (Err (stop.Ask unasked)) =
-    HoldsAsGiven folder given (λ file settings. IsUntold file settings unasked) × IsIdle before.ends after.ends × (sums ≡ None)
 ComesBy folder given before after sums (Err (stop.File fault hint)) =
     (fault_of program given ≡ []) × IsFileFault folder.gives (text_of (codes "schema") given) fault hint.items × IsIdle before.ends after.ends × (sums ≡ None)
-ComesBy folder given before after sums outcome = IsUnserved given before.ends after.ends outcome × (sums ≡ None)
+ComesBy folder given before after sums (Ok Helped) = IsUnserved given before.ends after.ends (Ok Helped) × (sums ≡ None)
+ComesBy folder given before after sums (Err (stop.Usage text)) = IsUnserved given before.ends after.ends (Err (stop.Usage text)) × (sums ≡ None)
+ComesBy folder given before after sums (Err (stop.Settings fault)) = IsUnserved given before.ends after.ends (Err (stop.Settings fault)) × (sums ≡ None)
+ComesBy folder given before after sums (Err (stop.CutOff written)) = IsUnserved given before.ends after.ends (Err (stop.CutOff written)) × (sums ≡ None)
+ComesBy folder given before after sums outcome = HoldsAsGiven folder given (λ file settings. ComesAsAsked folder file settings before after sums outcome)
 
 -- the same where it may be that the words could not be read
 abbrev pub ComesTo : Folder → Result (List Text) WordsFault → Seen → Seen → Option Sums → Result Ending Stop → Type 0
@@ -132,6 +162,14 @@ EndsSo before after turns _ = IsUnfailed (failures_of before) (failures_of after
 abbrev pub IsCrowded : ℕ → ℕ → Result Ending Stop → Type 0
 IsCrowded writes notes (Err (stop.Halted TooManyTurns)) = (2 ^ 64 ≤ writes) ⊎ (2 ^ 64 ≤ notes)
 IsCrowded writes notes outcome = Unit {0}
+
+-- the program came to that, the numbers have a place for each reason, and few enough calls were made
+pub record Rests (before after : Ends) (writes notes : ℕ) (sums : Option Sums) (outcome : Result Ending Stop) : Type 0 where
+  pub places : IfSome sums (λ (told : Sums). length told.tally.reasons ≡ 13)
+  pub ends : EndsSo before after 4294967296 outcome
+  pub turns : after.reader.calls ≤ before.reader.calls + 4294967296
+  pub noted : notes < 2 ^ 98
+  pub crowded : (more : ℕ) → notes ≤ more → IsCrowded writes more outcome
 
 -- a run that came to its end stops for want of its summary; all else ends as it would without
 abbrev pub unsummed : Result Ending Stop → ℕ → Result Ending Stop

@@ -1,12 +1,12 @@
 //! What the program does, from its words to its exit status.
 
-ghost use Rattle.std.specs.Prelude.{Err, IfOk, IfSome, ◌≡◌, ◌⊎◌, ◌+◌, ◌<◌, ◌≤◌, ◌^◌, ℕ, length, string_len};
-ghost use Rattle.fb_lines.specs.Faults.{EndsBeside};
-ghost use Rattle.fb_lines.specs.declared.fault.RunFault.TheVariants.{TooManyTurns};
-ghost use Rattle.fb_lines.specs.Ends.{Ends, Reader, Writer, beside, writer_of};
+ghost use Rattle.std.specs.Prelude.{IfOk, ◌≡◌, ◌+◌, ◌<◌, ◌≤◌, ◌^◌, ℕ, string_len};
+ghost use Rattle.fb_lines.specs.Ends.{Reader, Writer, beside, writer_of};
 ghost use Rattle.fb_run.specs.Leave.{HasCallsLeft, HasLeave, ends_of};
 ghost use Rattle.fbcheck_serve.specs.Inputs.{folder_of, seen_of};
-ghost use Rattle.fbcheck_serve.specs.Serving.{ComesTo, EndsSo, IsCrowded, IsPromptAsGiven, IsServed, Unserved, files_ending, run_ending, summed, words_of};
+ghost use Rattle.fbcheck_serve.specs.Checking.{IsPromptOverAsked};
+ghost use Rattle.fbcheck_serve.specs.Serving.{ComesAsAsked, ComesTo, EndsFiles, EndsRun, EndsSo, IsPromptAsGiven, IsServed, Rests, Unserved, summed, words_of};
+ghost use Rattle.fbcheck_words.specs.Ranges.{AreInRange};
 
 use crate::asked::{by, form, manner};
 use crate::check::{check_beside, check_files};
@@ -18,8 +18,7 @@ use fb_bytes::Sink;
 use fb_run::{Input, MOST_TURNS, Ran, Tally, push_all};
 use fbcheck_texts::causes::{Causes, Explains};
 use fbcheck_texts::fault::WordsFault;
-use fbcheck_texts::framing::{By, Manner};
-use fbcheck_texts::hint::{file_hint, words_hint};
+use fbcheck_texts::hint::{Unasked, file_hint, words_hint};
 use fbcheck_words::{Settings, SettingsFault, settings};
 use std::alloc::{AllocError, Global};
 
@@ -66,68 +65,102 @@ fn come_to<F: Files, S: Input<K, N> + Explains, K: Sink, N: Sink>(
     requires few { HasCallsLeft S.Input K.Sink N.Sink reader.old writer.old notes.old }
     requires leave { HasLeave S.Input (ends_of S.Input K.Sink N.Sink reader.old writer.old notes.old) (IsPromptAsGiven (folder_of F.Files F.Opened.Source F.Opened.Explains files.now) (words_of words)) }
 
-    ensures comes { ComesTo (folder_of F.Files F.Opened.Source F.Opened.Explains files.now) (words_of words) (seen_of S.Input S.Explains K.Sink N.Sink reader.old writer.old notes.old)
-        (seen_of S.Input S.Explains K.Sink N.Sink reader.new writer.new notes.new) sums.new result }
-    ensures places { IfSome sums.new (λ told. length told.tally.reasons ≡ 13) }
-    ensures ends { EndsSo (ends_of S.Input K.Sink N.Sink reader.old writer.old notes.old) (ends_of S.Input K.Sink N.Sink reader.new writer.new notes.new) MOST_TURNS result }
-    ensures turns { S.calls reader.new ≤ S.calls reader.old + MOST_TURNS }
-    ensures noted { N.calls notes.new < 2 ^ 98 }
-    ensures crowded { (more : ℕ) → N.calls notes.new ≤ more → IsCrowded (K.calls writer.new) more result }
+    ensures { ComesTo (folder_of F.Files F.Opened.Source F.Opened.Explains files.now) (words_of words) (seen_of S.Input S.Explains K.Sink N.Sink reader.old writer.old notes.old)
+        (seen_of S.Input S.Explains K.Sink N.Sink reader.new writer.new notes.new) sums.new result
+        × Rests (ends_of S.Input K.Sink N.Sink reader.old writer.old notes.old) (ends_of S.Input K.Sink N.Sink reader.new writer.new notes.new) (K.calls writer.new) (N.calls notes.new) sums.new result }
 {
     *sums = None;
     let words = match words {
         Ok(words) => words,
         Err(fault) => {
-            let hint = words_hint(alloc, &fault)?;
-            return Err(Stop::Words(fault, hint));
+            let hint = words_hint(alloc, &fault);
+            return Err(Stop::words(fault, hint));
         }
     };
     let settings = match settings(alloc, words.as_slice()) {
         Ok(settings) => settings,
         Err(fault) => return without_settings(alloc, fault, writer),
     };
-    let file = match read_schema(files, &settings.schema) {
-        Ok(file) => file,
-        Err(fault) => return Err(Stop::File(fault, file_hint(alloc, fault, &settings.schema)?)),
-    };
-    if settings.files.as_slice().is_empty() {
-        let ran = check_beside(alloc, file.as_deref(), &settings, reader, writer, notes)?;
-        *sums = summed(&settings, ran.tally);
-        return run_ending(manner(&settings), &ran);
+    match read_schema(files, &settings.schema) {
+        Ok(file) => {
+            let file = file.as_deref();
+            check_by(alloc, files, file, &settings, reader, writer, notes, sums)
+        }
+        Err(fault) => {
+            let hint = file_hint(alloc, fault, &settings.schema);
+            Err(Stop::file(fault, hint))
+        }
     }
-    let passed = check_files(
-        alloc,
-        files,
-        file.as_deref(),
-        &settings,
-        reader,
-        writer,
-        notes,
-    )?;
-    *sums = summed(&settings, passed.course.tally);
-    files_ending(by(&settings), &passed)
 }
 
-/// How the program ends by what a run over an input came to that was checked in this manner.
-fn run_ending(manner: Manner, ran: &Ran) -> Result<Ending, Stop>
-    ensures ending { result ≡ run_ending manner ran.now.tally ran.now.end }
-    ensures ends { (before after : Ends) (turns : ℕ) → EndsBeside before after turns ran.now.end → EndsSo before after turns result }
-    ensures crowded { (writes notes : ℕ) → IsCrowded writes notes result }
+/// The same by what the words ask for, and by the bytes of the schema file that they name.
+fn check_by<F: Files, S: Input<K, N> + Explains, K: Sink, N: Sink>(
+    alloc: Global,
+    files: &F,
+    file: Option<&[u8]>,
+    settings: &Settings,
+    reader: &mut S,
+    writer: &mut K,
+    notes: &mut N,
+    sums: &mut Option<Sums>,
+) -> Result<Ending, Stop>
+    requires ranges { AreInRange settings.now }
+    requires few { HasCallsLeft S.Input K.Sink N.Sink reader.old writer.old notes.old }
+    requires leave { HasLeave S.Input (ends_of S.Input K.Sink N.Sink reader.old writer.old notes.old) (IsPromptOverAsked (folder_of F.Files F.Opened.Source F.Opened.Explains files.now) file settings.now) }
+
+    ensures { ComesAsAsked (folder_of F.Files F.Opened.Source F.Opened.Explains files.now) file.entry settings.now (seen_of S.Input S.Explains K.Sink N.Sink reader.old writer.old notes.old)
+        (seen_of S.Input S.Explains K.Sink N.Sink reader.new writer.new notes.new) sums.new result
+        × Rests (ends_of S.Input K.Sink N.Sink reader.old writer.old notes.old) (ends_of S.Input K.Sink N.Sink reader.new writer.new notes.new) (K.calls writer.new) (N.calls notes.new) sums.new result }
 {
+    if settings.files.as_slice().is_empty() {
+        let ran = check_beside(alloc, file, settings, reader, writer, notes);
+        return run_ending(settings, ran, sums);
+    }
+    let passed = check_files(alloc, files, file, settings, reader, writer, notes);
+    files_ending(settings, passed, sums)
+}
+
+/// How the program ends by what a run over an input came to, and the numbers that are told then.
+fn run_ending(
+    settings: &Settings,
+    ran: Result<Ran, Unasked>,
+    sums: &mut Option<Sums>,
+) -> Result<Ending, Stop>
+    ensures { EndsRun settings.now ran sums.new result }
+{
+    let ran = match ran {
+        Ok(ran) => ran,
+        Err(unasked) => {
+            *sums = None;
+            return Err(Stop::Ask(unasked));
+        }
+    };
+    *sums = summed(settings, ran.tally);
+    let manner = manner(settings);
     match ran.end {
         Ok(()) => Ok(Ending::Checked(ran.tally, manner)),
         Err(fault) => Err(Stop::Run(fault, ran.tally, manner)),
     }
 }
 
-/// The same by what files came to that were checked by this.
-fn files_ending(by: By, passed: &Passed) -> Result<Ending, Stop>
-    ensures ending { result ≡ files_ending by passed.now.course passed.now.end }
-    ensures ends { (before after : Ends) (turns : ℕ) → EndsSo before after turns result }
-    ensures crowded { (writes notes more : ℕ) → notes ≤ more → (passed.now.end ≡ Err TooManyTurns → (2 ^ 64 ≤ writes) ⊎ (2 ^ 64 ≤ notes)) → IsCrowded writes more result }
+/// The same by what files came to.
+fn files_ending(
+    settings: &Settings,
+    passed: Result<Passed, Unasked>,
+    sums: &mut Option<Sums>,
+) -> Result<Ending, Stop>
+    ensures { EndsFiles settings.now passed sums.new result }
 {
+    let passed = match passed {
+        Ok(passed) => passed,
+        Err(unasked) => {
+            *sums = None;
+            return Err(Stop::Ask(unasked));
+        }
+    };
+    *sums = summed(settings, passed.course.tally);
     match passed.end {
-        Ok(()) => Ok(Ending::Passed(passed.course, by)),
+        Ok(()) => Ok(Ending::Passed(passed.course, by(settings))),
         Err(fault) => Err(Stop::Halted(fault)),
     }
 }
@@ -161,10 +194,9 @@ fn without_settings<K: Sink>(
     writer: &mut K,
 ) -> Result<Ending, Stop>
     requires { K.calls writer.old < 2 ^ 64 }
-    ensures comes { Unserved fault (writer_of K.Sink writer.old) (writer_of K.Sink writer.new) result }
-    ensures ends { (reader : Reader) (notes : Writer) (turns : ℕ) → EndsSo (beside reader (record { writer = writer_of K.Sink writer.old; notes = notes }))
-        (beside reader (record { writer = writer_of K.Sink writer.new; notes = notes })) turns result }
-    ensures crowded { (writes notes : ℕ) → IsCrowded writes notes result }
+    ensures { Unserved fault (writer_of K.Sink writer.old) (writer_of K.Sink writer.new) result
+        × ((reader : Reader) (notes : Writer) (turns : ℕ) → EndsSo (beside reader (record { writer = writer_of K.Sink writer.old; notes = notes }))
+            (beside reader (record { writer = writer_of K.Sink writer.new; notes = notes })) turns result) }
 {
     let status = fault.status();
     let SettingsFault::Usage(error) = &fault else {

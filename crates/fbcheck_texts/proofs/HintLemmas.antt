@@ -1,7 +1,7 @@
 -- Names in a row.
-use Rattle.std.proofs.Common.{◌≡◌, ◌∙◌, ℕ, zero, suc, ◌+◌, List, [], ◌∷◌, ◌++◌, Option, Some, None, OnOk, Result, refl, sym, ap, drop, option_map, slice_get, add-one, append_assoc, drop-cons, arith, codes, ◌-◌, ◌<◌, append-nil, length, map}
+use Rattle.std.proofs.Common.{◌≡◌, ◌∙◌, ℕ, zero, suc, ◌+◌, List, [], ◌∷◌, ◌++◌, Option, Some, None, OnOk, Result, refl, sym, ap, drop, option_map, slice_get, get_or, add-one, append_assoc, drop-cons, arith, codes, ◌-◌, ◌<◌, append-nil, length, map}
 use Rattle.std.proofs.lemmas.{Option.get_or_from_slice_get, Option.slice_get-map, Option.slice_get_within, Option.slice_get_past, Option.slice_get_read, Result.on_ok_weaker}
-use Rattle.std.specs.{Borrow.Bor, List.cons_option, List.filter_map, List.range_with_len, Slice.IsItemAt}
+use Rattle.std.specs.{Borrow.Bor, List.cons_option, List.filter_map, List.list_any, List.range_with_len, Slice.IsItemAt}
 use Rattle.std.specs.Prelude.{Bool, Ok, Err, is_ok, if◌then◌else◌, ◌==◌, ◌||◌, true, false}
 use Rattle.std.specs.Str.{bytes_eq}
 use Rattle.fb_schema.specs.{Heads.Head, Heads.head_of, Heads.head_of_view, Members.member_name, Rows.Object, Rows.Rows}
@@ -124,40 +124,7 @@ named_between (Ok done) text one two new front name behind first second last =
     last ∙ ap (λ (t : List ℕ). t ++ behind) (second ∙ ap (λ (t : List ℕ). t ++ named name) first ∙ append_assoc text front (named name)) ∙ append_assoc text (front ++ named name) behind
 named_between (Err none) text one two new front name behind first second last = tt
 
--- one of two things, of which the second is asked where the first isn't so
-pub or_then : (first both a b : Bool) → first ≡ a → first ≡ true → both ≡ first → both ≡ (a || b)
-or_then first both a b is so same = let front = sym is ∙ so in rw front (same ∙ so)
-
-pub or_else : (first second both a b : Bool) → first ≡ a → first ≡ false → second ≡ b → both ≡ second → both ≡ (a || b)
-or_else first second both a b is not_so behind same = let front = sym is ∙ not_so in rw front (same ∙ behind)
-
--- a text begins with one of the first so many words of a schema's
-abbrev pub begins_2 : List ℕ → Bool
-begins_2 text = begins text (codes "//") || begins text (codes "/*")
-
-abbrev pub begins_3 : List ℕ → Bool
-begins_3 text = begins_2 text || begins text (codes "namespace ")
-
-abbrev pub begins_4 : List ℕ → Bool
-begins_4 text = begins_3 text || begins text (codes "table ")
-
-abbrev pub begins_5 : List ℕ → Bool
-begins_5 text = begins_4 text || begins text (codes "struct ")
-
-abbrev pub begins_6 : List ℕ → Bool
-begins_6 text = begins_5 text || begins text (codes "enum ")
-
-abbrev pub begins_7 : List ℕ → Bool
-begins_7 text = begins_6 text || begins text (codes "union ")
-
-abbrev pub begins_8 : List ℕ → Bool
-begins_8 text = begins_7 text || begins text (codes "include ")
-
-abbrev pub begins_9 : List ℕ → Bool
-begins_9 text = begins_8 text || begins text (codes "root_type ")
-
-abbrev pub begins_10 : List ℕ → Bool
-begins_10 text = begins_9 text || begins text (codes "attribute ")
-
-abbrev pub begins_11 : List ℕ → Bool
-begins_11 text = begins_10 text || begins text (codes "file_")
+-- whether a text begins with one of what is left: with the next, or with one behind it
+pub next_start : (text word : List ℕ) (xs : List (Bor (List ℕ))) (i : ℕ) (d : Bor (List ℕ)) → i < length xs → word ≡ (get_or xs i d).now
+    → list_any (begins text) (map (λ (b : Bor (List ℕ)). b.now) (drop i xs)) ≡ (begins text word || list_any (begins text) (map (λ (b : Bor (List ℕ)). b.now) (drop (i + 1) xs)))
+next_start text word xs i d within same = rw (add-one, drop-cons xs i d within, same) refl

@@ -1,7 +1,7 @@
 -- What is told behind a fault, to the end of its line.
 use Rattle.std.specs.Prelude.{ℕ, zero, suc, ◌-◌, ◌==◌, ◌||◌, ◌&&◌, nat_le, Bool, false, not, if◌then◌else◌, List, [], ◌∷◌, ◌++◌, drop, find, length, take, map, Option, Some, None, Result, Ok, Err, Vec, codes}
 use Rattle.std.specs.{Global.Global, Borrow.Bor, Str.bytes_eq}
-use Rattle.std.specs.List.{filter_map, flat_map, list_all, range_with_len, slice_index}
+use Rattle.std.specs.List.{filter_map, flat_map, list_all, list_any, range_with_len, slice_index}
 use Rattle.std.specs.declared.io.ErrorKind.{ErrorKind}
 use Rattle.std.specs.declared.io.ErrorKind.TheVariants as kind
 use Rattle.fb_access.specs.declared.path_fault.PathFault.{PathFault}
@@ -120,10 +120,9 @@ abbrev pub begins : List ℕ → List ℕ → Bool
 begins text word = bytes_eq word (take (length word) text)
 
 abbrev pub begins_schema : List ℕ → Bool
-begins_schema text =
-    begins text (codes "//") || begins text (codes "/*") || begins text (codes "namespace ") || begins text (codes "table ")
-    || begins text (codes "struct ") || begins text (codes "enum ") || begins text (codes "union ") || begins text (codes "include ")
-    || begins text (codes "root_type ") || begins text (codes "attribute ") || begins text (codes "file_") || begins text (codes "native_include ")
+begins_schema text = list_any (begins text) (
+    codes "//" ∷ codes "/*" ∷ codes "namespace " ∷ codes "table " ∷ codes "struct " ∷ codes "enum " ∷ codes "union " ∷ codes "include "
+    ∷ codes "root_type " ∷ codes "attribute " ∷ codes "file_" ∷ codes "native_include " ∷ [])
 
 -- which one it is, where that is told
 abbrev pub in_which : Option (List ℕ) → List ℕ

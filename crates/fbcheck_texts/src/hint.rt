@@ -506,22 +506,32 @@ pub fn opens(text: &[u8]) -> bool
     }
 }
 
-/// Whether a text begins as a schema's does: with a comment, or with a word of its language.
+/// What a schema's text begins with: a comment, or a word of its language.
+static STARTS: [&str; 12] = [
+    "//",
+    "/*",
+    "namespace ",
+    "table ",
+    "struct ",
+    "enum ",
+    "union ",
+    "include ",
+    "root_type ",
+    "attribute ",
+    "file_",
+    "native_include ",
+];
+
+/// Whether a text begins as a schema's does.
 fn begins_schema(text: &[u8]) -> bool
     ensures { result ≡ begins_schema text.now }
 {
-    text.starts_with(b"//")
-        || text.starts_with(b"/*")
-        || text.starts_with(b"namespace ")
-        || text.starts_with(b"table ")
-        || text.starts_with(b"struct ")
-        || text.starts_with(b"enum ")
-        || text.starts_with(b"union ")
-        || text.starts_with(b"include ")
-        || text.starts_with(b"root_type ")
-        || text.starts_with(b"attribute ")
-        || text.starts_with(b"file_")
-        || text.starts_with(b"native_include ")
+    for start in &STARTS {
+        if text.starts_with(start.as_bytes()) {
+            return true;
+        }
+    }
+    false
 }
 
 /// What a text looks like that begins so.

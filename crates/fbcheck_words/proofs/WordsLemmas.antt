@@ -1,5 +1,5 @@
 -- What a parse of the program's words gives.
-use Rattle.std.proofs.Common.{◌≡◌, ◌↔◌, ℕ, Bool, true, false, not, IsTrue, List, [], ◌∷◌, codes, Option, Some, None, refl, sym, ap, subst, ◌∙◌}
+use Rattle.std.proofs.Common.{◌≡◌, ◌↔◌, arith, length, ℕ, Bool, true, false, not, IsTrue, List, [], ◌∷◌, codes, Option, Some, None, refl, sym, ap, subst, ◌∙◌}
 use Rattle.std.specs.Prelude.{IsSomeAnd, if◌then◌else◌, unwrap_or}
 use Rattle.clap.specs.Walk.{Text, all_of, first_of, one_of}
 use Rattle.clap.specs.{Built.IsParsedFrom, Matches.first_value, Matches.found_of, Matches.one_text, Kinds.HasKind}
@@ -8,6 +8,8 @@ use Rattle.clap.specs.Simple.{App, HasMatchesOf, app_of, is_simple, matches_of}
 use Rattle.clap.specs.declared.{builder.command.Command.Command, error.Error.Error, parser.matches.ArgMatches.ArgMatches}
 use Rattle.clap.proofs.{OnLiterals.clap_on_literals, WalkLemmas.first_value-rows, WalkLemmas.one_text-rows, WalkLemmas.raw_values-rows}
 use Rattle.fbcheck_words.specs.{CommandLine.program, Given.Say, Given.contradiction, Matched.IsReadOf, Matched.all_values, Refusal.Refuses}
+use Rattle.std.proofs.lemmas.Bool.{ltb-false}
+use Rattle.fbcheck_words.specs.Ranges.{AreInRange}
 use Rattle.fbcheck_words.specs.Values.{IsGiven, IsNumberIn, IsNumberOf, text_of, texts_of}
 use Rattle.fbcheck_words.specs.declared.{choices.Settings.Settings, choices.SettingsFault.SettingsFault}
 use Rattle.fbcheck_words.specs.declared.choices.SettingsFault.TheVariants.{PathInFilter, TwoIdents, TooManyPaths, BareDelimited}
@@ -79,6 +81,20 @@ pub contradicted : (words : List Text) (settings : Settings) (fault : SettingsFa
 contradicted words settings fault said is =
     any_broken (λ f. contradiction settings ≡ Some f → Refuses words f) _ _ _ _ fault is
     (λ e. (settings, said, e)) (λ e. (settings, said, e)) (λ e. (settings, said, e)) (λ e. (settings, said, e)) is
+
+-- those that agree have no more paths than may be
+few_paths : (a b c d : Bool) → broken a b c d ≡ None → c ≡ false
+few_paths a b false d none = refl
+few_paths true b true d none = cc
+few_paths false true true d none = cc
+few_paths false false true d none = cc
+
+pub in_range : (words : List Text) (settings : Settings) → Say words settings → contradiction settings ≡ None → AreInRange settings
+in_range words settings said agree = record {
+  least = said.bytes.1;
+  most = omega (arith, said.bytes.2);
+  few = ltb-false 16 (length settings.paths.items) (few_paths _ _ _ _ agree);
+}
 
 -- a flag that is turned round
 pub turned : (b : Bool) (P : Type 0) → IsTrue b ↔ P → (not b ≡ false) ↔ P

@@ -148,8 +148,7 @@ static CHOICES: [Choice<'static>; 21] = [
 ];
 
 fn choice_arg<'a>(alloc: Global, choice: Choice<'a>) -> Arg<'a>
-    ensures rule { rule_of result ≡ choice_rule choice.entry }
-    ensures local { result.global ≡ false }
+    ensures { (rule_of result ≡ choice_rule choice.entry) × (result.global ≡ false) }
 {
     let arg = Arg::new(alloc, choice.name).help(choice.help);
     match choice.takes {

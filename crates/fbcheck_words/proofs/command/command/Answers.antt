@@ -18,8 +18,8 @@ none_left a xs i le all = ap (λ (l : List Choice). fold with_rule a (map choice
 
 pub loop-choice-preserved : goal.loop-choice-preserved
 loop-choice-preserved c =
-    let added = c.in_ok-command.ensures.shape c.choice_arg.ensures.local
-    ∙ ap (with_rule (app_of c.loop-choice.command)) c.choice_arg.ensures.rule in
+    let added = c.in_ok-command.ensures.shape c.choice_arg.ensures.1
+    ∙ ap (with_rule (app_of c.loop-choice.command)) c.choice_arg.ensures.0 in
     one_more _ _ _ _ _ c.loop-choice-test.true added c.loop-choice.invariant
 
 pub returns : goal.returns
