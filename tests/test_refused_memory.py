@@ -40,6 +40,8 @@ CALLS = [
     Call("scratch 0", "ok, 0 levels", "", asks=False),
     *[Call(f"scratch {depth}", f"ok, {depth} levels", "out of memory") for depth in (1, 64, 4096)],
     Call("scratch 4097", "limit out of range", "", asks=False),
+    Call("framer", "Ok(Taken { used: 5, whole: false }), Ok(Taken { used: 1, whole: true }), Ok(()), "
+         "Some([2, 0, 0, 0, 104, 105])", "Err(OutOfMemory), Err(Failed), Err(Failed), None"),
     Call("rows", "ok", "out of memory", leads=False),
     Call("build", "ok, 3 objects", "OutOfMemory owner=0 part=-", leads=False),
     *[Call(f"resolve {path}", f"ok, {steps} steps", "P7 OutOfMemory") for path, steps in STEPS.items()],

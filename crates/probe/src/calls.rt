@@ -6,6 +6,7 @@ use crate::hand::{NODE, hand_rows};
 use crate::texts::Maybe;
 use fb_access::Path;
 use fb_bfbs::{load, reflection};
+use fb_bytes::Framer;
 use fb_schema::Schema;
 use fb_verify::{Limits, Scratch, ScratchFault};
 use std::alloc::Global;
@@ -50,6 +51,16 @@ fn call_scratch(rt: HostRuntime, depth: u32) -> io::Result<()> {
     }
 }
 
+/// A message in two pieces, of which the first takes memory, and the end: what fails stays failed.
+fn call_framer(rt: HostRuntime) -> io::Result<()> {
+    let mut framer = Framer::new(rt.alloc(), 64).unwrap();
+    let first = framer.feed(b"\x02\0\0\0h");
+    let second = framer.feed(b"i");
+    let end = framer.finish();
+    let message = framer.message();
+    println!(rt; "framer: {first:?}, {second:?}, {end:?}, {message:?}")
+}
+
 fn call_resolve(rt: HostRuntime, schema: &Schema<'_>, text: &str) -> io::Result<()> {
     if !schema.is_table(NODE) {
         return println!(rt; "no table");
@@ -80,8 +91,8 @@ fn call_build(rt: HostRuntime, alloc: Global) -> io::Result<()> {
     }
 }
 
-/// Makes each call, and writes its answer: `reflection`, `load` of these bytes, `Scratch::new`, and over a schema made
-/// by hand `Schema::build` and `Path::resolve`.
+/// Makes each call, and writes its answer: `reflection`, `load` of these bytes, `Scratch::new`, a framer's, and over a
+/// schema made by hand `Schema::build` and `Path::resolve`.
 pub fn make_calls(rt: HostRuntime, bytes: &[u8]) -> io::Result<()> {
     println!(rt; "input: {} bytes", bytes.len())?;
     call_reflection(rt)?;
@@ -89,5 +100,6 @@ pub fn make_calls(rt: HostRuntime, bytes: &[u8]) -> io::Result<()> {
     for depth in DEPTHS {
         call_scratch(rt, depth)?;
     }
+    call_framer(rt)?;
     call_build(rt, rt.alloc())
 }
