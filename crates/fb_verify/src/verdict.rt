@@ -120,10 +120,12 @@ pub(crate) fn trace(
         halt: NO_HALT,
     };
     let root = Child { object: root, at };
-    walk.run(loan, frames, site, root)?;
-    Ok(Report {
-        tables: walk.tables,
-        depth: walk.deepest,
-        reads: loan.reads(),
-    })
+    match walk.run(loan, frames, site, root) {
+        Ok(()) => Ok(Report {
+            tables: walk.tables,
+            depth: walk.deepest,
+            reads: loan.reads(),
+        }),
+        Err(halt) => Err(halt),
+    }
 }
