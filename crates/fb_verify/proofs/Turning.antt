@@ -1,15 +1,17 @@
 -- A turn of the top, over the frames in which it stands.
-use Rattle.std.proofs.Common.{◌≡◌, ℕ, ◌+◌, ◌-◌, ◌^◌, ◌≤◌, ◌<◌, List, [], ◌∷◌, ◌++◌, length, take, get_or, refl, sym, ◌∙◌, ap, subst, arith, Option, Some, None, Result, Ok, Err, IfOk, IfSome, MatchOption}
+use Rattle.std.proofs.Common.{◌≡◌, ℕ, ◌+◌, ◌-◌, ◌^◌, ◌≤◌, ◌<◌, List, [], ◌∷◌, ◌++◌, length, take, min, get_or, refl, sym, ◌∙◌, ap, subst, arith, Option, Some, None, Result, Ok, Err, IfOk, IfSome, MatchOption}
 use Rattle.std.proofs.Math.ListN.{set, length-set}
 use Rattle.std.proofs.lemmas.List.{take-take, length-take, length-append}
 use Rattle.fb_bytes.specs.Word.{Lent}
 use Rattle.fb_schema.specs.Live.{live_fields}
-use Rattle.fb_rules.specs.declared.{table.Child.Child, site.Halt.Halt}
+use Rattle.fb_rules.specs.declared.{table.Child.Child, site.Halt.Halt, site.Stop.Stop, site.LastLink.TheVariants.Behind, site.LastLink.TheVariants.InField}
 use Rattle.fb_verify.specs.declared.{scratch.Frame.Frame, stack.Turn.Turn, stack.Walk.Walk}
 use Rattle.fb_verify.specs.declared.stack.Turn.TheVariants.{Down, Up, Slowly, Halt as Halted}
-use Rattle.fb_verify.specs.Stack.{blank, Origin, frame_work, work, Waiting, HaltsIn, IsWalking, IsOver}
+use Rattle.fb_verify.specs.Stack.{blank, Origin, frame_work, work, Waiting, HaltsIn, IsWalking, IsStopped, IsStoppedBehind, IsOver}
 use Rattle.fb_verify.specs.Walked.{ended, TableWalked}
-use Rattle.fb_verify.specs.Turns.{GoesOn, GoesDown, Halts, WentOn, WentOver, WentWrong, Opened, Turned, FramesTurned, RootTurned, PassedField, FieldTurned, Walked, IsUnderWayOver, GoneOn}
+use Rattle.fb_verify.specs.Turns.{GoesOn, GoesDown, Halts, WentOn, WentOver, WentWrong, Opened, Turned, FramesTurned, RootTurned, PassedField, FieldTurned, Walked, IsUnderWayOver, GoneOn, UsedUp, WentDeeper, Ran}
+use Rattle.fb_rules.specs.Told.{stopped}
+use Rattle.fb_verify.specs.{PassesOn.HasPassed, Units.WorkedOn}
 use Rattle.fb_verify.proofs.Stacks.{last_is, sum_last, below_joined, grown_joined, top_joined, next_joined}
 use Rattle.fb_verify.proofs.{Standings.close_last, Walking.table_closed}
 
@@ -20,7 +22,15 @@ went_over {w} {then} {m} {new} under past same h none rests all bytes =
     let over = close_last then.checks new.bytes then.schema.now then.limits under.start under.frames past then.tables then.deepest new.count h.standing none rests all in
     search (arith, same, bytes, over)
 
-module _ (w then : Walk) (m new : Lent) (under : Waiting) (old low high : List Frame) (waiting : ℕ) (top past : Frame) (child : Child) (parts : old ≡ low ++ high) (front : length low ≡ waiting + 1)
+-- what isn't passed of the top is the work that it left
+pub passed_work : {w : Walk} {m new : Lent} {under : Waiting} {top past : Frame} → HasPassed w m new under top past → (n : ℕ) → new.count + work w.schema.now w.limits under.frames past n ≤ m.count + work w.schema.now w.limits under.frames top n
+unfolding work
+passed_work h n = omega (arith, h.falls)
+
+by_one : (a b : ℕ) {d : ℕ} → a + b < d → 1 + a + b ≤ d
+by_one a b h = omega arith
+
+module _ (w then : Walk) (m new : Lent) (under : Waiting) (old low high : List Frame) (waiting : ℕ) (top past : Frame) (parts : old ≡ low ++ high) (front : length low ≡ waiting + 1)
     (below : under.frames ≡ take waiting old) (stands : top ≡ get_or old waiting blank) (other : List Frame) where
   abbrev frames : List Frame
   frames = set low waiting past ++ other
@@ -43,30 +53,56 @@ module _ (w then : Walk) (m new : Lent) (under : Waiting) (old low high : List F
   many : length under.frames ≡ waiting
   many = omega (arith, ap length below, length-take waiting old, ap length parts, length-append low high, front)
 
-  -- the top goes on, is passed to its end, or stops, where the links are those of the first frames
-  pub frames_turned : (turn : Turn) → (turn ≡ Down → ⊥) → Turned w then m new under top past child turn → FramesTurned w then m new under.start old frames waiting turn
+  -- the top's fields are passed, and frames wait
+  pub goes_above : 0 < waiting → then ≡ record w { tables = then.tables; deepest = then.deepest } → IsWalking then new under.start under.frames past → (past.row).left ≡ 0
+      → length (live_fields then.schema.now (past.table).object) ≤ past.next → new.count + work w.schema.now w.limits under.frames past then.tables ≤ m.count + work w.schema.now w.limits under.frames top w.tables → m.count ≤ new.count
+      → new.bytes ≡ m.bytes → WentOn w then m new under.start old waiting frames (waiting - 1) 1
   unfolding work
-  frames_turned Down un h = absurd (un refl)
-  frames_turned Up un e =
+  goes_above some kept h rests all falls grows bytes =
+      let room : waiting ≤ length frames = omega (arith, long) in
+      let walking = table_closed h (take (waiting - 1) frames) (get_or frames (waiting - 1) blank) (waits ∙ last_is frames waiting blank some room) rests all in
+      let same = ap (λ zs. work w.schema.now w.limits zs past then.tables) waits in
+      let sum = sum_last frames waiting blank some room (frame_work w.schema.now) in
+      search (arith, kept, walking, falls, grows, bytes, same, sum, sym below, sym stands, some, room)
+
+  -- a unit of the top is passed
+  pub stays_on : WorkedOn w then m new under.start under.frames top under.frames past → WentOn w then m new under.start old waiting frames waiting 1
+  stays_on h = record { same = h.same; walking = rw (sym waits, top_is) h.walking; top = omega (arith, long); falls = rw (sym waits, top_is, sym below, sym stands) (by_one _ _ h.falls); grows = h.grows; bytes = h.bytes }
+
+  -- and it leads to a table below
+  pub goes_below : min (w.limits).depth (waiting + 2) ≤ length old → length other ≡ length high → WorkedOn w then m new under.start under.frames top (under.frames ++ past ∷ []) (get_or other 0 blank) → WentOn w then m new under.start old waiting frames (waiting + 1) 1
+  goes_below room size h =
+      let links : length (under.frames ++ past ∷ []) < (w.limits).depth = rw (ap (λ (x : Walk). (x.limits).depth) h.same) at (h.walking).links in
+      let top_in : waiting + 1 < length frames = omega (arith, links, room, size, long, many, front, ap length parts, length-append low high, length-append under.frames (past ∷ [])) in
+      record { same = h.same; walking = rw (grown, next_is) h.walking; top = top_in; falls = rw (grown, next_is, sym below, sym stands) (by_one _ _ h.falls); grows = h.grows; bytes = h.bytes }
+
+  -- or the walk stops there, behind a word of the top or in a field of it
+  module _ (stop : Stop) (deep : length under.frames < (w.limits).depth) where
+    pub stops_behind : (new.bytes ≡ m.bytes) × IsStoppedBehind w m under.start (under.frames ++ past ∷ []) (stopped stop new.count) → WentWrong w m new under.start frames (record { stop = stop; links = waiting + 1; last = Behind })
+    stops_behind e = record { deep = omega (arith, deep, many); err = rw grown e.1; bytes = e.0 }
+
+    pub stops_in_field : (new.bytes ≡ m.bytes) × IsStopped w m under.start under.frames (stopped stop new.count) → WentWrong w m new under.start frames (record { stop = stop; links = waiting; last = InField })
+    stops_in_field e = record { deep = omega (arith, deep, many); err = rw (sym waits) e.1; bytes = e.0 }
+
+  -- the top goes on, is passed to its end, or stops, where the links are those of the first frames
+  pub frames_turned : (child : Child) (turn : Turn) → (turn ≡ Down → ⊥) → Turned w then m new under top past child turn → FramesTurned w then m new under.start old frames waiting turn
+  unfolding work
+  frames_turned child Down un h = absurd (un refl)
+  frames_turned child Up un e =
       let h = e.on.walking in
       let all : length (live_fields then.schema.now (past.table).object) ≤ past.next = rw e.on.same e.all in
       record {
         over = λ zero. went_over under past e.on.same h (below ∙ rw zero refl) e.rests all e.on.bytes;
-        above = λ some.
-            let room : waiting ≤ length frames = omega (arith, long) in
-            let walking = table_closed h (take (waiting - 1) frames) (get_or frames (waiting - 1) blank) (waits ∙ last_is frames waiting blank some room) e.rests all in
-            let same = ap (λ zs. work w.schema.now w.limits zs past then.tables) waits in
-            let sum = sum_last frames waiting blank some room (frame_work w.schema.now) in
-            search (arith, walking, same, sum, sym below, sym stands, some, room);
+        above = λ some. (goes_above some e.on.same h e.rests all e.on.falls e.on.grows e.on.bytes, e.on.short);
       }
-  frames_turned Slowly un h = search (arith, sym waits, top_is, sym below, sym stands, long)
-  frames_turned Halted un h =
+  frames_turned child Slowly un h = search (arith, sym waits, top_is, sym below, sym stands, long)
+  frames_turned child Halted un h =
       let l = (then.halt).links in
       let same : take l frames ≡ take l (under.frames ++ past ∷ []) = sym (take-take l (waiting + 1) frames (omega (arith, h.links, many))) ∙ ap (take l) grown in
       record { deep = h.deep; err = rw same h.err; bytes = h.bytes }
 
   -- a table below was opened, or its head stops the walk
-  module _ (last : Walk) (then-reads : Lent) (open-frame : Frame) (first : get_or other 0 blank ≡ open-frame) (some : 0 < length other) (h : GoesDown w then m new under top past child) where
+  module _ (child : Child) (last : Walk) (then-reads : Lent) (open-frame : Frame) (first : get_or other 0 blank ≡ open-frame) (some : 0 < length other) (h : GoesDown w then m new under top past child) where
     abbrev above : Waiting
     above = record { start = under.start; frames = under.frames ++ past ∷ [] }
 
@@ -123,25 +159,22 @@ module _ (w mid then : Walk) (m been new : Lent) (s : Origin) (tables deepest : 
       let k : WentOver (record w { tables = tables; deepest = deepest }) then been new s = subst (λ (x : Walk). WentOver x then been new s) kept h in
       record { same = k.same; over = k.over; within = k.within; shallow = k.shallow; reads = k.reads; bytes = k.bytes ∙ bytes }
 
-  pub halts_from : (frames : List Frame) (h : Halt) (n : ℕ) → HaltsIn mid been s frames h n → HaltsIn w m s frames h n
-  halts_from frames h n e =
-      let k : HaltsIn (record w { tables = tables; deepest = deepest }) been s frames h n = subst (λ (x : Walk). HaltsIn x been s frames h n) kept e in
-      rw bytes at k
-
-  pub wrong_from : (frames : List Frame) → WentWrong mid then been new s frames → WentWrong w then m new s frames
-  wrong_from frames h =
-      let k : WentWrong (record w { tables = tables; deepest = deepest }) then been new s frames = subst (λ (x : Walk). WentWrong x then been new s frames) kept h in
+  pub wrong_from : (frames : List Frame) (h : Halt) → WentWrong mid been new s frames h → WentWrong w m new s frames h
+  wrong_from frames h e =
+      let k : WentWrong (record w { tables = tables; deepest = deepest }) been new s frames h = subst (λ (x : Walk). WentWrong x been new s frames h) kept e in
       record { deep = k.deep; err = rw bytes at k.err; bytes = k.bytes ∙ bytes }
 
-  went_from : (P : ℕ → Type 0) (r : Result (Option ℕ) Halt) → IfOk r (λ o. MatchOption o (WentOver mid then been new s) P) → IfOk r (λ o. MatchOption o (WentOver w then m new s) P)
-  went_from P (Ok None) h = over_from h
-  went_from P (Ok (Some n)) h = h
-  went_from P (Err e) h = tt
-
   pub gone_from : (frames : List Frame) (r : Result (Option ℕ) Halt) → GoneOn mid then been new s frames r → GoneOn w then m new s frames r
-  gone_from frames r h =
-      let k : GoneOn (record w { tables = tables; deepest = deepest }) then been new s frames r = subst (λ (x : Walk). GoneOn x then been new s frames r) kept h in
-      record { went = went_from _ r h.went; used = k.used; bytes = k.bytes ∙ bytes; deep = k.deep; err = rw bytes at k.err }
+  gone_from frames (Ok None) h = over_from h
+  gone_from frames (Ok (Some n)) h =
+      let k : UsedUp (record w { tables = tables; deepest = deepest }) then been new s frames n = subst (λ (x : Walk). UsedUp x then been new s frames n) kept h in
+      record { goes = k.goes; less = k.less; same = k.same; bytes = k.bytes ∙ bytes }
+  gone_from frames (Err h) e = wrong_from frames h e
+
+  -- over frames of its own, as these are used up
+  pub ran_deeper : {A : Type 0} (frames : List Frame) (r : Result A Halt) → length frames < (w.limits).depth → WentDeeper mid then been new s r → Ran w then m new s frames r
+  ran_deeper frames (Ok a) less h = over_from h
+  ran_deeper frames (Err h) less e = record { rows = e.0; wrong = wrong_from e.0 h e.1; along = λ room. absurd (omega (arith, less, room)) }
 
 module _ (w then : Walk) (m new : Lent) (s : Origin) where
   -- before the first turn
@@ -156,19 +189,12 @@ module _ (w then : Walk) (m new : Lent) (s : Origin) where
   walked_on old rows waiting left Halted up halt h = absurd (halt refl)
 
   -- a count holds the work that is left
-  pub under_way : (old frames : List Frame) (waiting left : ℕ) → WentOn w then m new s old waiting frames left 0 → m.count + work w.schema.now w.limits (take waiting old) (get_or old waiting blank) w.tables ≤ 2 ^ 94 → IsUnderWayOver then new s frames left
-  under_way old frames waiting left h few = record {
+  pub under_way : (old frames : List Frame) (waiting left less : ℕ) → WentOn w then m new s old waiting frames left less → m.count + work w.schema.now w.limits (take waiting old) (get_or old waiting blank) w.tables ≤ 2 ^ 94 → IsUnderWayOver then new s frames left
+  under_way old frames waiting left less h few = record {
     walking = h.walking;
     top = h.top;
     few = rw (ap (λ (x : Walk). x.schema) h.same, ap (λ (x : Walk). x.limits) h.same) (omega (arith, h.falls, few));
   }
-
-  -- what it tells
-  pub gone_over : (rows : List Frame) → WentOver w then m new s → GoneOn w then m new s rows (Ok None)
-  gone_over rows h = record { went = h; used = tt; bytes = h.bytes; deep = tt; err = tt }
-
-  pub gone_wrong : (rows : List Frame) → WentWrong w then m new s rows → GoneOn w then m new s rows (Err then.halt)
-  gone_wrong rows h = record { went = tt; used = tt; bytes = h.bytes; deep = h.deep; err = h.err }
 
 -- slowly, after it went on quickly
 pub gone_on : (w mid then : Walk) (m been new : Lent) (s : Origin) (old now last : List Frame) (waiting left : ℕ) (turn : Turn) (r : Result (Option ℕ) Halt) → (turn ≡ Up → ⊥) → (turn ≡ Halted → ⊥)
@@ -183,14 +209,3 @@ pub walked_over : (w then : Walk) (m new : Lent) (s : Origin) → WentOver w the
 walked_over w then m new s h =
     let k : IsOver (record w { tables = then.tables; deepest = then.deepest }) new s = subst (λ (x : Walk). IsOver x new s) h.same h.over in
     rw h.bytes at k
-
--- what a walk that went on tells: it is over, or these frames are used up
-module _ (w then : Walk) (m new : Lent) (s : Origin) (frames : List Frame) (o : Option ℕ) (h : GoneOn w then m new s frames (Ok o)) where
-  pub over_where : o ≡ None → WentOver w then m new s
-  over_where e = subst (λ (x : Option ℕ). MatchOption x (WentOver w then m new s) (λ n. IsUnderWayOver then new s frames n)) e h.went
-
-  pub on_where : {n : ℕ} → o ≡ Some n → IsUnderWayOver then new s frames n
-  on_where e = subst (λ (x : Option ℕ). MatchOption x (WentOver w then m new s) (λ n. IsUnderWayOver then new s frames n)) e h.went
-
-  pub used_where : {n : ℕ} → o ≡ Some n → (length frames < (w.limits).depth) × (then ≡ record w { tables = then.tables; deepest = then.deepest })
-  used_where e = subst (λ (x : Option ℕ). IfSome x (λ _. (length frames < (w.limits).depth) × (then ≡ record w { tables = then.tables; deepest = then.deepest }))) e h.used

@@ -11,10 +11,10 @@ use Rattle.fb_rules.specs.declared.{checks.Checks.Checks, fault.Fault.Fault}
 use Rattle.fb_verify.specs.declared.stack.Walk.{Walk}
 use Rattle.fb_rules.specs.{Bounds.AreAllowed, Bounds.Bounds, Cost.head_reads, Cost.lead_reads}
 use Rattle.fb_rules.specs.OffsetRows.{past_first, first_word, words_of}
-use Rattle.fb_verify.specs.Turns.{IsAtChild, Halts, frame_of}
+use Rattle.fb_verify.specs.{Turns.IsAtChild, Turns.Halts, Turns.frame_of, Units.LeadsToTable}
 use Rattle.fb_rules.specs.Way.{way_to_table, Way}
 use Rattle.fb_rules.specs.Told.{way_at, stopped, told, IsHead}
-use Rattle.fb_verify.specs.Stack.{Standing, Origin, Waiting, IsAtTable, IsStopped, StopsIn, frame_work, work, opened, IsUnderWay, IsFrame, reached, frame_link}
+use Rattle.fb_verify.specs.Stack.{Standing, Origin, Waiting, IsAtTable, IsStopped, IsWalking, StopsIn, frame_work, work, opened, IsUnderWay, IsFrame, reached, frame_link}
 use Rattle.fb_rules.specs.Stops.{budget_failure, reads_failure, in_head, fault_at}
 use Rattle.fb_rules.specs.Order.{◌▷◌, head_failure}
 use Rattle.fb_rules.proofs.Budgets.{fewer_reads}
@@ -36,13 +36,10 @@ module _ (S : Rows) (L : Bounds) (below : List Frame) (old new : Frame) (n r q :
   unfolding work
   words_work less = omega (arith, paid, less, width, next)
 
-  pub words_fall : (new.row).left < (old.row).left → q + work S L below new n < r + work S L below old n
-  unfolding work
-  words_fall less = omega (arith, paid, less, width, next)
-
--- by the same schema and limits there is the same work
-pub same_work : (S T : Rows) (L M : Bounds) → S ≡ T → L ≡ M → (below : List Frame) (top : Frame) (n : ℕ) → work S L below top n ≡ work T M below top n
-same_work S T L M s l below top n = ap (λ x. work x L below top n) s ∙ ap (λ y. work T y below top n) l
+-- the first word that is left of the top leads to a table
+pub at_table : {w : Walk} {m new : Lent} {s : Origin} {below : List Frame} {top : Frame} {child : Child} → IsWalking w m s below top → 0 < (top.row).left → LeadsToTable w m new top.row child
+    → IsAtTable w m.bytes (m.count + (first_word m.bytes w.schema.now top.row).reads + lead_reads (first_word m.bytes w.schema.now top.row).lead) s below top (m.count + 4 * (top.row).left) child
+at_table {m = m} h more e = record { before = m.count; count = refl; walking = h; more = more; holds = e.ok; leads = e.leads; table = e.table; at = e.at; near = e.near; paid = omega arith }
 
 module _ {w : Walk} {b : List ℕ} {q : ℕ} {s : Origin} {below : List Frame} {top : Frame} {most : ℕ} {child : Child} (o : IsAtTable w b q s below top most child) where
   abbrev S : Rows
@@ -115,31 +112,6 @@ module _ {w : Walk} {b : List ℕ} {q : ℕ} {s : Origin} {below : List Frame} {
       pub child_work : q + head_reads c + work S L (below ++ top_on ∷ []) (opened table) (w.tables + 1) < o.before + work S L below top w.tables
       unfolding work
       child_work = omega (arith, o.more, ap (λ (x : Row). x.left) re, o.count, first_few b S top.row, head_few c, fewer, sum_by_push (frame_work S) below top_on, work_opened c b S table (o.walking).served)
-
--- The same from where the words before it were passed.
-module _ {w : Walk} {S : Rows} {L : Bounds} (schema : w.schema.now ≡ S) (limits : w.limits ≡ L) {b : List ℕ} {q : ℕ} (r : ℕ) {s : Origin} {below : List Frame} (old : Frame) {top : Frame} {child : Child}
-    (same : top ≡ record old { row = top.row }) (fewer : (top.row).left ≤ (old.row).left) (o : IsAtTable w b q s below top (r + 4 * (old.row).left) child)
-    (m : ℕ) (mi : m ≡ length below + 1) (row : Row) (re : row ≡ past_first top.row) (table : Table) (is : table ≡ record { object = child.object; at = child.at; head = table.head }) (ok : head_failure w.checks b child.at ≡ None)
-    (tables : w.tables < (w.limits).tables) (shallow : m < (w.limits).depth) (low : m < 4096) where
-  -- the frame that waits
-  abbrev waits : Frame
-  waits = record top { row = row }
-
-  passed : o.before + work w.schema.now w.limits below top w.tables ≤ r + work S L below old w.tables
-  passed = omega (arith, words_work w.schema.now w.limits below old top w.tables r o.before same o.paid fewer, same_work w.schema.now S w.limits L schema limits below old w.tables)
-
-  pub opening_falls : q + head_reads w.checks < r + work S L below old w.tables
-  opening_falls = omega (arith, passed, child_work o m mi row re table is ok tables shallow low)
-
-  pub leading_falls : (last : Frame) (u : ℕ) → u + frame_work w.schema.now last ≤ q + head_reads w.checks + frame_work w.schema.now (opened table) → u + work S L (below ++ waits ∷ []) last (w.tables + 1) < r + work S L below old w.tables
-  unfolding work
-  leading_falls last u f =
-      omega (arith, f, passed, child_work o m mi row re table is ok tables shallow low, same_work w.schema.now S w.limits L schema limits (below ++ waits ∷ []) last (w.tables + 1))
-
-  pub closing_falls : (u : ℕ) → u ≤ q + head_reads w.checks + frame_work w.schema.now (opened table) → u + work S L below waits (w.tables + 1) < r + work S L below old w.tables
-  unfolding work
-  closing_falls u f =
-      omega (arith, f, passed, child_work o m mi row re table is ok tables shallow low, sum_by_push (frame_work w.schema.now) below waits, same_work w.schema.now S w.limits L schema limits below waits (w.tables + 1))
 
 -- a table is its parts
 pub table_is : (t : Table) (k p : ℕ) → t.object ≡ k → t.at ≡ p → t ≡ record { object = k; at = p; head = t.head }

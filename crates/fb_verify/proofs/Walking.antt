@@ -13,13 +13,13 @@ use Rattle.fb_rules.specs.{Bounds.Bounds, Bounds.AreAllowed, Fields.entries}
 use Rattle.fb_rules.specs.Cost.{own_reads, lead_reads}
 use Rattle.fb_verify.specs.Walked.{ended}
 use Rattle.fb_rules.specs.Links.{field_link, LeadsAlong}
-use Rattle.fb_verify.specs.PassesOn.{HasPassed, PassesFields}
+use Rattle.fb_verify.specs.{PassesOn.HasPassed, Stack.work, Units.PassesFields}
 use Rattle.fb_rules.specs.Told.{told, stopped}
 use Rattle.fb_rules.specs.Order.{own_failure, element_failure, Failure, ◌▷◌}
 use Rattle.fb_rules.specs.OffsetRows.{words_of, first_word, past_first, IsLeafLead, IsRow, IsAskable}
 use Rattle.fb_verify.specs.Stack.{IsFrame, frame_work, reached, Origin, IsUnderWay, Standing, frame_link, link_to_number, own_link, IsLinked, StopsIn, blank, Waiting, IsWalking, IsStopped}
 use Rattle.fb_rules.specs.Stops.{reads_failure, lead_reads_failure, in_field, fault_at}
-use Rattle.fb_rules.proofs.Few.{own_few}
+use Rattle.fb_rules.proofs.Few.{first_few, own_few}
 use Rattle.fb_verify.proofs.Frames.{field_within, frame_on, frame_passed, no_row}
 use Rattle.fb_verify.proofs.{Standings.context_pop, Standings.context_linked, Linked.is_linked}
 use Rattle.fb_rules.proofs.{Budgets.fewer_reads, Typed.typed_before, Words.row_none}
@@ -65,12 +65,16 @@ module _ {c : Checks} {b : List ℕ} {S : Rows} {L : Bounds} {s : Origin} {below
       → IsLeafLead (first_word b S top.row).lead → AreAllowed L.reads q → IsUnderWay c b S L s below (record top { row = row }) n d q
   leaf_passed row q re l o z k cheap = goes_on (record top { row = row }) q cheap (frame_on c b S top row re l h.frame) (pass_leaf c b S L s below top n d r h.standing row q re l o k z)
 
+  pub leaf_falls : (row : Row) (q : ℕ) → row ≡ past_first top.row → 0 < (top.row).left → q ≡ r + (first_word b S top.row).reads + lead_reads (first_word b S top.row).lead → q + work S L below (record top { row = row }) n < r + work S L below top n
+  unfolding work
+  leaf_falls row q re l z = omega (arith, l, ap (λ (x : Row). x.left) re, z, first_few b S top.row)
+
   module _ (field : Live) (row : Row) (number q : ℕ) (l : (top.row).left ≡ 0) (i : slice_get (live_fields S (top.table).object) top.next ≡ Some field) (z : q ≡ r + own_reads b (top.table).at field) (good : IsRow b S row) where
     -- a field is passed
     pub field_passed : AreAllowed L.reads q → number ≡ field.number → own_failure c b S (top.table).at field ≡ None → entries b S (top.table).at field ≡ words_of b S row → IsUnderWay c b S L s below (top_past number row) n d q
     field_passed cheap ne o e = goes_on (top_past number row) q cheap (frame_passed c b S top number row (field_within _ _ _ i) good h.frame) (pass_more c b S L s below top n d r h.standing field row number q l i ne o e z)
 
-    pub field_work : q + frame_work S (top_past number row) ≤ r + frame_work S top
+    pub field_work : q + frame_work S (top_past number row) < r + frame_work S top
     field_work = omega (arith, field_within (live_fields S (top.table).object) top.next field i, good.left, own_few b (top.table).at field, z)
 
     -- a field that leads nowhere is passed
@@ -145,10 +149,6 @@ pub record AtNext (w : Walk) (m : Lent) (under : Waiting) (top : Frame) (field :
   pub rests : (top.row).left ≡ 0
   pub here : slice_get (live_fields w.schema.now (top.table).object) top.next ≡ Some field
 
--- the walk stops at a field
-pub stops_at_field : {w : Walk} {m new : Lent} {under : Waiting} {top past : Frame} (s : Stop) → new.bytes ≡ m.bytes → IsStopped w m under.start under.frames (stopped s new.count) → PassesFields w m new under top past (Err s)
-stops_at_field s bytes err = record { walking = tt; leads = tt; rests = tt; all = tt; falls = tt; grows = tt; bytes = bytes; err = err }
-
 module _ {w : Walk} {m : Lent} {under : Waiting} {top : Frame} {field : Live} (h : AtNext w m under top field) where
   pub askable : IsAskable m.bytes w.schema.now (top.table).at field field.kind
   askable =
@@ -171,10 +171,11 @@ module _ {w : Walk} {m : Lent} {under : Waiting} {top : Frame} {field : Live} (h
     -- it leads on
     pub next_leads : (row : Row) → IsRow m.bytes w.schema.now row × (0 < row.left) → entries m.bytes w.schema.now (top.table).at field ≡ words_of m.bytes w.schema.now row
         → PassesFields w began (record m { count = q }) under first (record top { next = top.next + 1; number = field.number; row = row }) (Ok true)
+    unfolding work
     next_leads row good leads =
         let walking = field_passed h.walking field row field.number q h.rests h.here count good.0 cheap refl own leads in
-        let work = field_work h.walking field row field.number q h.rests h.here count good.0 in
-        search (arith, walking, work, falls, grows, bytes)
+        let less = field_work h.walking field row field.number q h.rests h.here count good.0 in
+        record { same = refl; walking = walking; falls = omega (arith, less, falls); grows = grows; bytes = bytes }
 
     -- it leads on nowhere
     pub next_over : top.table ≡ first.table → entries m.bytes w.schema.now (top.table).at field ≡ [] → HasPassed w began (record m { count = q }) under first (record top { next = top.next + 1 })

@@ -28,4 +28,5 @@ pub mod StopsAt
 pub mod PassesOn
 pub mod Flat
 pub mod Turns
+pub mod Units
 pub mod Walked

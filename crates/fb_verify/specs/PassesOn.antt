@@ -77,17 +77,6 @@ pub record PassesOn (w : Walk) (m new : Lent) (under : Waiting) (top past : Fram
   pub grows : m.count ≤ new.count
   pub bytes : new.bytes ≡ m.bytes
 
--- fields of the top were passed until one leads on, or none was left (more tells which); or the walk stops at one
-pub record PassesFields (w : Walk) (m new : Lent) (under : Waiting) (top past : Frame) (result : Result Bool Stop) : Type 0 where
-  pub walking : IfOk result (λ _. IsWalking w new under.start under.frames past)
-  pub leads : IfOk result (λ more. more ≡ true → 0 < (past.row).left)
-  pub rests : IfOk result (λ more. more ≡ false → (past.row).left ≡ 0)
-  pub all : IfOk result (λ more. more ≡ false → length (live_fields w.schema.now (past.table).object) ≤ past.next)
-  pub falls : IfOk result (λ _. new.count + frame_work w.schema.now past ≤ m.count + frame_work w.schema.now top)
-  pub grows : IfOk result (λ _. m.count ≤ new.count)
-  pub bytes : new.bytes ≡ m.bytes
-  pub err : IfErr result (λ s. IsStopped w m under.start under.frames (stopped s new.count))
-
 -- a walk, the frames that wait in it, and the top, of which fields are passed
 pub record Passage : Type 0 where
   pub walk : Walk

@@ -1,5 +1,5 @@
 -- What a turn of a quick walk leaves: it goes on, up or down, or it stops.
-use Rattle.std.specs.Prelude.{◌≡◌, ℕ, ◌+◌, ◌-◌, ◌*◌, ◌<◌, ◌≤◌, ◌^◌, List, [], ◌∷◌, ◌++◌, take, length, slice_get, slice_index_or, IsTrue, Option, Some, None, Result, IfOk, IfErr, IfSome, MatchOption, true}
+use Rattle.std.specs.Prelude.{◌≡◌, ℕ, ◌+◌, ◌-◌, ◌*◌, ◌<◌, ◌≤◌, ◌^◌, List, [], ◌∷◌, ◌++◌, take, length, slice_get, slice_index_or, IsTrue, Option, Some, None, Result, Ok, Err, true}
 use Rattle.fb_bytes.specs.Word.{Lent}
 use Rattle.fb_schema.specs.declared.{kinds.Kind.Kind, views.Act.TheVariants.Other, views.Step.Step}
 use Rattle.fb_schema.specs.declared.kinds.Kind.TheVariants.{Table as ToTable, Union, Texts, Tables, Unions}
@@ -218,9 +218,9 @@ pub record WentOver (w then : Walk) (m new : Lent) (s : Origin) : Type 0 where
   pub bytes : new.bytes ≡ m.bytes
 
 -- until it stopped
-pub record WentWrong (w then : Walk) (m new : Lent) (s : Origin) (frames : List Frame) : Type 0 where
-  pub deep : (then.halt).links + links_left (then.halt).last ≤ (w.limits).depth
-  pub err : HaltsIn w m s (take (then.halt).links frames) then.halt new.count
+pub record WentWrong (w : Walk) (m new : Lent) (s : Origin) (frames : List Frame) (h : Halt) : Type 0 where
+  pub deep : h.links + links_left h.last ≤ (w.limits).depth
+  pub err : HaltsIn w m s (take h.links frames) h new.count
   pub bytes : new.bytes ≡ m.bytes
 
 -- the top is passed to its end
@@ -230,15 +230,15 @@ pub record GoesUp (w then : Walk) (m new : Lent) (s : Origin) (old : List Frame)
 
 -- one turn over frames
 abbrev pub FramesTurned : (w then : Walk) → (m new : Lent) → (s : Origin) → (old frames : List Frame) → (waiting : ℕ) → Turn → Type 0
-FramesTurned w then m new s old frames waiting = ByTurn (WentOn w then m new s old waiting frames (waiting + 1) 1 × IsShort new.count) (GoesUp w then m new s old waiting frames) (WentOn w then m new s old waiting frames waiting 0) (WentWrong w then m new s frames)
+FramesTurned w then m new s old frames waiting = ByTurn (WentOn w then m new s old waiting frames (waiting + 1) 1 × IsShort new.count) (GoesUp w then m new s old waiting frames) (WentOn w then m new s old waiting frames waiting 0) (WentWrong w m new s frames then.halt)
 
 -- the root table, whose fields lead on nowhere, is passed, or it isn't begun, or the walk stops there
 abbrev pub RootTurned : (w then : Walk) → (m new : Lent) → (s : Origin) → Turn → Type 0
-RootTurned w then m new s = ByTurn ⊥ (WentOver w then m new s) ((then ≡ w) × (new ≡ m)) (WentWrong w then m new s [] × ((then.halt).links ≡ 0))
+RootTurned w then m new s = ByTurn ⊥ (WentOver w then m new s) ((then ≡ w) × (new ≡ m)) (WentWrong w m new s [] then.halt × ((then.halt).links ≡ 0))
 
 -- a quick walk over frames: it is over, stops, or can't go on quickly
 abbrev pub Walked : (w then : Walk) → (m new : Lent) → (s : Origin) → (old : List Frame) → (waiting : ℕ) → (frames : List Frame) → (left : ℕ) → Turn → Type 0
-Walked w then m new s old waiting frames left = ByTurn ⊥ (WentOver w then m new s) (WentOn w then m new s old waiting frames left 0) (WentWrong w then m new s frames)
+Walked w then m new s old waiting frames left = ByTurn ⊥ (WentOver w then m new s) (WentOn w then m new s old waiting frames left 0) (WentWrong w m new s frames then.halt)
 
 -- a walk over these frames, of which so many wait below the top, whose work that is left a count holds
 pub record IsUnderWayOver (w : Walk) (m : Lent) (s : Origin) (frames : List Frame) (waiting : ℕ) : Type 0 where
@@ -246,13 +246,33 @@ pub record IsUnderWayOver (w : Walk) (m : Lent) (s : Origin) (frames : List Fram
   pub top : waiting < length frames
   pub few : m.count + work w.schema.now w.limits (take waiting frames) (slice_index_or frames waiting blank) w.tables ≤ 2 ^ 94
 
--- it went on: it is over, or used these frames up, of which so many wait then, or it stopped
-pub record GoneOn (w then : Walk) (m new : Lent) (s : Origin) (frames : List Frame) (result : Result (Option ℕ) Halt) : Type 0 where
-  pub went : IfOk result (λ o. MatchOption o (WentOver w then m new s) (λ after. IsUnderWayOver then new s frames after))
-  pub used : IfOk result (λ o. IfSome o (λ after. (length frames < (w.limits).depth) × (then ≡ record w { tables = then.tables; deepest = then.deepest })))
+-- it went on, and used these frames up, of which so many wait then
+pub record UsedUp (w then : Walk) (m new : Lent) (s : Origin) (frames : List Frame) (after : ℕ) : Type 0 where
+  pub goes : IsUnderWayOver then new s frames after
+  pub less : length frames < (w.limits).depth
+  pub same : then ≡ record w { tables = then.tables; deepest = then.deepest }
   pub bytes : new.bytes ≡ m.bytes
-  pub deep : IfErr result (λ h. h.links + links_left h.last ≤ (w.limits).depth)
-  pub err : IfErr result (λ h. HaltsIn w m s (take h.links frames) h new.count)
+
+-- or it is over, or stopped
+abbrev pub GoneOn : (w then : Walk) → (m new : Lent) → (s : Origin) → (frames : List Frame) → Result (Option ℕ) Halt → Type 0
+GoneOn w then m new s frames (Ok None) = WentOver w then m new s
+GoneOn w then m new s frames (Ok (Some after)) = UsedUp w then m new s frames after
+GoneOn w then m new s frames (Err h) = WentWrong w m new s frames h
+
+-- it went on to its end, over frames of its own
+abbrev pub WentDeeper : {A : Type 0} → (w then : Walk) → (m new : Lent) → (s : Origin) → Result A Halt → Type 0
+WentDeeper w then m new s (Ok a) = WentOver w then m new s
+WentDeeper w then m new s (Err h) = (rows : List Frame) × WentWrong w m new s rows h
+
+-- a whole walk stopped: where these frames are enough for the depth, those are left of which the links lead there
+pub record RanWrong (w : Walk) (m new : Lent) (s : Origin) (frames : List Frame) (h : Halt) : Type 0 where
+  pub rows : List Frame
+  pub wrong : WentWrong w m new s rows h
+  pub along : (w.limits).depth ≤ length frames → HaltsIn w m s (take h.links frames) h new.count
+
+abbrev pub Ran : {A : Type 0} → (w then : Walk) → (m new : Lent) → (s : Origin) → (frames : List Frame) → Result A Halt → Type 0
+Ran w then m new s frames (Ok a) = WentOver w then m new s
+Ran w then m new s frames (Err h) = RanWrong w m new s frames h
 
 -- the budget allows whatever the fields of any table may cost after fewer reads than these
 abbrev pub IsBrim : Walk → ℕ → Type 0

@@ -1,7 +1,7 @@
 //! Where a walk goes on in more frames than it began in.
 
-ghost use Rattle.std.specs.Prelude.{◌≡◌, ◌+◌, ◌<◌, ◌≤◌, length, List, IfOk, IfErr};
-ghost use Rattle.fb_verify.specs.{Stack.Origin, Stack.HaltsIn, Stack.links_left, Turns.IsUnderWayOver, Turns.GoneOn, Turns.WentOver};
+ghost use Rattle.std.specs.Prelude.{◌≤◌, length};
+ghost use Rattle.fb_verify.specs.{Stack.Origin, Turns.IsUnderWayOver, Turns.GoneOn, Turns.WentDeeper};
 
 use crate::scratch::{BLANK, Frame};
 use crate::stack::{Turn, Walk};
@@ -45,9 +45,10 @@ impl Walk<'_, '_> {
     {
         let mut waiting = waiting;
         while waiting as usize + 1 < frames.len() || self.limits.depth() as usize <= frames.len() {
-            match self.turn_by_units(loan, frames, waiting)? {
-                Some(after) => waiting = after,
-                None => return Ok(None),
+            match self.turn_by_units(loan, frames, waiting) {
+                Ok(Some(after)) => waiting = after,
+                Ok(None) => return Ok(None),
+                Err(halt) => return Err(halt),
             }
             match self.walk_on(loan, frames, &mut waiting) {
                 Turn::Up => return Ok(None),
@@ -72,18 +73,16 @@ impl Walk<'_, '_> {
         requires goes { IsUnderWayOver self.old loan.old start frames.now waiting }
         requires fewer { length frames.now ≤ 64 }
         requires room { (self.old.limits).depth ≤ 64 }
-        ensures over { IfOk result (λ _. WentOver self.old self.new loan.old loan.new start) }
-        ensures bytes { loan.new.bytes ≡ loan.old.bytes }
-        ensures deep { IfErr result (λ h. h.links + links_left h.last ≤ (self.old.limits).depth) }
-        ensures err { IfErr result (λ h. (way : List Frame) × HaltsIn self.old loan.old start way h loan.new.count) }
+        ensures { WentDeeper self.old self.new loan.old loan.new start result }
     {
         let _schema = self.schema;
         let mut more = [BLANK; 64];
         let (first, _) = more.split_at_mut(frames.len());
         first.copy_from_slice(frames);
-        match self.go_on(loan, &mut more, waiting)? {
-            Some(_) => unreachable!(),
-            None => Ok(()),
+        match self.go_on(loan, &mut more, waiting) {
+            Ok(None) => Ok(()),
+            Ok(Some(_)) => unreachable!(),
+            Err(halt) => Err(halt),
         }
     }
 }

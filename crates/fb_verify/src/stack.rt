@@ -6,7 +6,7 @@ ghost use Rattle.fb_rules.specs.{Bounds.AreAllowed, Told.way_at};
 ghost use Rattle.fb_verify.specs.{Flat.Going, Walked.TableWalked, Walked.ended};
 ghost use Rattle.fb_verify.specs.PassesOn.{IsBetween, HasRoom, Passage, PassesOn};
 ghost use Rattle.fb_verify.specs.Stack.{blank, Origin, Waiting, IsWalking, HaltsIn, links_left, opened};
-ghost use Rattle.fb_verify.specs.Turns.{IsShort, IsAtChild, IsAtStep, IsAtTableField, AllowsTable, IsAtWord, IsBrim, IsInRow, HasRoomToGo, RowTurned, FieldTurned, Turned, Opened, FramesTurned, RootTurned, Walked};
+ghost use Rattle.fb_verify.specs.Turns.{IsShort, IsAtChild, IsAtStep, IsAtTableField, AllowsTable, IsAtWord, IsBrim, IsInRow, HasRoomToGo, RowTurned, FieldTurned, Turned, Opened, FramesTurned, RootTurned, Walked, Ran};
 ghost use Rattle.fb_rules.specs.declared.offset_row.Leads.TheVariants.{All};
 ghost use Rattle.fb_verify.specs.declared.stack.Turn.TheVariants.{Halt as Halted};
 ghost use Rattle.fb_rules.specs.declared.site.LastLink.TheVariants.{Behind, InField};
@@ -491,7 +491,6 @@ impl<'s, 'n> Walk<'s, 'n> {
     /// One turn of the walk: goes on in the top table to a table below it, which is opened, or to its end, so that the
     /// table above it becomes the top, if there is one. So many frames wait below the top.
     #[inline(always)]
-    #[tactic(auto, using(crate::proofs::Turning::frames_turned))]
     fn turn(
         &mut self,
         checks: Checks,
@@ -536,8 +535,7 @@ impl<'s, 'n> Walk<'s, 'n> {
         requires top { waiting.old < length frames.old }
         requires short { IsShort reads.old.count }
         requires same { checks ≡ self.old.checks }
-        ensures goes { Walked self.old self.new reads.old reads.new start frames.old waiting.old frames.new waiting.new result }
-        ensures length { length frames.new ≡ length frames.old }
+        ensures { Walked self.old self.new reads.old reads.new start frames.old waiting.old frames.new waiting.new result }
     {
         let _schema = self.schema;
         let depth = self.limits.depth() as usize;
@@ -580,8 +578,7 @@ impl<'s, 'n> Walk<'s, 'n> {
         requires walking { IsWalking self.old reads.old start (take waiting.old frames.old) (slice_index_or frames.old waiting.old blank) }
         requires top { waiting.old < length frames.old }
         requires short { IsShort reads.old.count }
-        ensures goes { Walked self.old self.new reads.old reads.new start frames.old waiting.old frames.new waiting.new result }
-        ensures length { length frames.new ≡ length frames.old }
+        ensures { Walked self.old self.new reads.old reads.new start frames.old waiting.old frames.new waiting.new result }
     {
         let _schema = self.schema;
         self.walk_by(self.checks, reads, frames, waiting)
@@ -594,8 +591,7 @@ impl<'s, 'n> Walk<'s, 'n> {
         ghost start: { Origin }
         requires walking { IsWalking self.old loan.old start (take waiting.old frames.old) (slice_index_or frames.old waiting.old blank) }
         requires top { waiting.old < length frames.old }
-        ensures goes { Walked self.old self.new loan.old loan.new start frames.old waiting.old frames.new waiting.new result }
-        ensures length { length frames.new ≡ length frames.old }
+        ensures { Walked self.old self.new loan.old loan.new start frames.old waiting.old frames.new waiting.new result }
     {
         let _schema = self.schema;
         if !allows_short(self.limits, loan.reads()) {
@@ -689,14 +685,7 @@ impl<'s, 'n> Walk<'s, 'n> {
         requires shallow { self.old.deepest ≤ (self.old.limits).depth }
         requires reads { AreAllowed (self.old.limits).reads loan.old.count }
         requires few { loan.old.count < 2 ^ 90 }
-        ensures ok { IfOk result (λ _. TableWalked self.old.checks loan.old.bytes self.old.schema.now start.object start.position start.way (ended start.way self.new.tables self.new.deepest loan.new.count)) }
-        ensures within { IfOk result (λ _. self.new.tables ≤ (self.old.limits).tables) }
-        ensures shallow { IfOk result (λ _. self.new.deepest ≤ (self.old.limits).depth) }
-        ensures reads { IfOk result (λ _. AreAllowed (self.old.limits).reads loan.new.count) }
-        ensures deep { IfErr result (λ h. h.links + links_left h.last ≤ (self.old.limits).depth) }
-        ensures err { IfErr result (λ h. (way : List Frame) × HaltsIn self.old loan.old start way h loan.new.count) }
-        ensures along { IfErr result (λ h. (self.old.limits).depth ≤ length frames.new → HaltsIn self.old loan.old start (take h.links frames.new) h loan.new.count) }
-        ensures bytes { loan.new.bytes ≡ loan.old.bytes }
+        ensures { Ran self.old self.new loan.old loan.new start frames.new result }
     {
         let table = match self.open_table(loan, 0, site, root) {
             Ok(table) => table,
@@ -716,9 +705,10 @@ impl<'s, 'n> Walk<'s, 'n> {
             }
         }
         frames[0] = Frame::opened(table);
-        match self.go_on(loan, frames, 0)? {
-            Some(waiting) => self.go_deeper(loan, frames, waiting),
-            None => Ok(()),
+        match self.go_on(loan, frames, 0) {
+            Ok(None) => Ok(()),
+            Ok(Some(waiting)) => self.go_deeper(loan, frames, waiting),
+            Err(halt) => Err(halt),
         }
     }
 }

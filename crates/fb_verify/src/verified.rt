@@ -1,9 +1,12 @@
 // A buffer that was verified, with its schema.
 
-ghost use Rattle.std.specs.Prelude.{◌≡◌, ◌<◌, ◌≤◌, length, take, IfOk, IfErr, IsTrue};
+ghost use Rattle.std.specs.Prelude.{◌≡◌, ◌+◌, ◌^◌, ◌<◌, ◌≤◌, ◌++◌, length, map, take, IfOk, IfErr, IsTrue};
 ghost use Rattle.fb_schema.specs.Rows.{is_table};
 ghost use Rattle.fb_rules.specs.{Links.StopsAlong, MostReads.most_reads, Question.question, Stops.Stops, Verdict.Reports, Verdict.HasNone};
-ghost use Rattle.fb_verify.specs.Sealed.{IsUnfolded};
+ghost use Rattle.std.specs.List.{All};
+ghost use Rattle.fb_bytes.specs.Word.{while_lent};
+ghost use Rattle.fb_rules.specs.Told.{stopped};
+ghost use Rattle.fb_verify.specs.{Sealed.IsUnfolded, Stack.IsLinked, Stack.frame_link, Stack.last_link, Stack.links_left};
 
 use crate::links::{Located, put_links};
 use crate::scratch::{BLANK, Frame, Scratch};
@@ -14,6 +17,7 @@ use fb_rules::checks::Checks;
 use fb_rules::fault::{Fault, Report};
 use fb_rules::limits::Limits;
 use fb_rules::link::Link;
+use fb_rules::site::Halt;
 use fb_rules::start::{Ident, Start};
 use fb_schema::Schema;
 use std::alloc::Allocator;
@@ -120,17 +124,19 @@ pub fn verify<'b, 's, 'n, A: Allocator>(
     ensures scratch { scratch.new ≡ scratch.old }
 {
     let mut meter = meter;
-    let report = walk(
+    match walk(
         &mut meter, schema, root, start, ident, limits, checks, scratch,
-    )?;
-    Ok(Verified {
-        window: meter.seal(),
-        schema,
-        root,
-        start,
-        checks,
-        report,
-    })
+    ) {
+        Ok(report) => Ok(Verified {
+            window: meter.seal(),
+            schema,
+            root,
+            start,
+            checks,
+            report,
+        }),
+        Err(fault) => Err(fault),
+    }
 }
 
 /// Checks a buffer as [`verify`] does, in room for 64 tables on the call's own stack.
@@ -287,12 +293,32 @@ fn locate_in<'b, 's, 'n>(
             checks,
             report,
         }),
-        Err(halt) => {
-            let fault = halt.stop.fault(&meter);
-            let window = meter.seal();
-            let frames = &frames[..halt.links as usize];
-            let links = put_links(&window, schema, checks, frames, halt.last, &fault, links);
-            Err(Located { fault, links })
-        }
+        Err(halt) => Err(located(meter, schema, checks, frames, halt, links)),
     }
+}
+
+/// The fault where a walk stopped, and the links of the frames that lead to it.
+#[inline(always)]
+fn located(
+    meter: Meter<'_>,
+    schema: &Schema<'_>,
+    checks: Checks,
+    frames: &[Frame],
+    halt: Halt,
+    links: &mut [Link],
+) -> Located
+    requires settled { meter.count < while_lent }
+    requires linked { All (IsLinked checks meter.bytes schema.now) (take halt.links frames.now) }
+    requires deep { halt.links ≤ length frames.now }
+    requires room { halt.links + links_left halt.last ≤ length links.old }
+    requires few { halt.links < 2 ^ 31 }
+    ensures fault { result.fault ≡ stopped halt.stop meter.entry.count }
+    ensures links { take result.links links.new ≡ map (frame_link meter.entry.bytes schema.now) (take halt.links frames.now) ++ last_link halt.last result.fault }
+    ensures within { result.links ≤ length links.new }
+{
+    let fault = halt.stop.fault(&meter);
+    let window = meter.seal();
+    let frames = &frames[..halt.links as usize];
+    let links = put_links(&window, schema, checks, frames, halt.last, &fault, links);
+    Located { fault, links }
 }

@@ -1,14 +1,14 @@
-use Rattle.std.proofs.Common.{ℕ, ◌≡◌, ◌+◌, ◌^◌, ◌<◌, ◌≤◌, List, None, ap, refl, ◌∙◌, [], arith}
+use Rattle.std.proofs.Common.{ℕ, ◌≡◌, ◌+◌, ◌^◌, ◌<◌, ◌≤◌, List, None, ap, refl, sym, ◌∙◌, [], arith}
 use Rattle.std.proofs.lemmas.List.Elements.{All-nil}
 use Rattle.fb_verify.specs.Stack.{HaltsAlong, IsLinked, Origin, StopsIn, last_link}
 use Rattle.fb_rules.specs.{Question.question, Told.stopped, Told.way_at, Verdict.Reports, WellFormed.start_reads}
 use Rattle.fb_rules.specs.declared.start.{Ident.Ident, Start.Start}
 use Rattle.fb_rules.specs.declared.site.LastLink.TheVariants.{Behind}
 use Rattle.fb_verify.specs.declared.scratch.Frame.{Frame}
-use Rattle.fb_verify.proofs.Frames.{if_err_exit, if_ok_exit}
+use Rattle.fb_verify.proofs.Turning.{walked_over}
 use Rattle.fb_verify.proofs.Verdicts.{stops_at_start, stops_below_start, fault_along, none_along, price_of_no, reports, price_of_yes}
 use Rattle.fb_verify.proofs.verdict.trace.Goals as goal
-use Rattle.fb_verify.proofs.verdict.trace.Goals.{In-Err, In_err-run, After-reads}
+use Rattle.fb_verify.proofs.verdict.trace.Goals.{In-Err, In-Err-run, After-reads}
 
 -- where the start fails, no frame leads there
 fails_at_start : (c : In-Err) → let a = c.args in
@@ -21,8 +21,8 @@ fails_at_start c =
     }
 
 -- where the walk fails, and frames lead there from its root table
-halts : (c : In_err-run) (way : List Frame) → let a = c.args in
-    let halt = c.in_err-run.field-0.0 in
+halts : (c : In-Err-run) (way : List Frame) → let a = c.args in
+    let halt = c.in-Err-run.halt in
     let fault = stopped halt.stop c.run.new.loan.count in
     let root : Origin = record { object = a.root; position = c.in-Ok.at; way = way_at 0 0 0 c.read_start.new.loan.count (record { object = a.root; field = None }) } in
     StopsIn a.checks a.loan.now.bytes a.schema.now a.limits root way (last_link halt.last fault) fault
@@ -40,9 +40,9 @@ tells : (c : After-reads) → let a = c.args in
     Reports (question a.schema.now a.root a.start a.ident a.limits a.checks) a.loan.now.bytes (record { tables = c.run.new.self.tables; depth = c.run.new.self.deepest; reads = c.reads.result })
 tells c =
     let a = c.args in
-    let ran = c.in_ok-run.ensures in
+    let ran = c.in-Ok-run.ensures in
     reports (question a.schema.now a.root a.start a.ident a.limits a.checks) a.loan.now.bytes c.in-Ok.at c.read_start.new.loan.count c.run.new.self.tables c.run.new.self.deepest c.run.new.loan.count
-    c.reads.result c.in-Ok.ensures.asked.ok c.in-Ok.ensures.value (omega (arith, c.requires.fresh, ap (λ m. m.count) c.in-Ok.ensures.asked.counted)) (rw (ap (λ m. m.bytes) c.in-Ok.ensures.asked.counted) at ran.ok) ran.within ran.shallow ran.reads c.reads.ensures.count
+    c.reads.result c.in-Ok.ensures.asked.ok c.in-Ok.ensures.value (omega (arith, c.requires.fresh, ap (λ m. m.count) c.in-Ok.ensures.asked.counted)) (rw (ap (λ m. m.bytes) c.in-Ok.ensures.asked.counted) at (walked_over _ _ _ _ _ ran)) ran.within ran.shallow ran.reads c.reads.ensures.count
 
 none_open : (n : ℕ) → 0 + 0 ≤ n
 none_open n = omega arith
@@ -52,27 +52,28 @@ returns-in-Err c =
     let start = fails_at_start (goal.at.returns-in-Err c).In-Err in
     record { yes = tt; none = none_along start; deep = rw c.halt.ensures (none_open c.args.limits.depth); no = rw c.halt.ensures (fault_along start); along = λ _. rw c.halt.ensures start; price = price_of_no start; read = tt; bytes = c.in-Err.ensures.asked.bytes }
 
-pub returns-in_err-run : goal.returns-in_err-run
-returns-in_err-run c =
-    let d = (goal.at.returns-in_err-run c).In_err-run in
-    let e = d.in_err-run.ensures.err in
-    let some = halts d e.0 (rw (ap (λ m. m.bytes) d.in-Ok.ensures.asked.counted) at e.1) in
+pub returns-in-Err-run : goal.returns-in-Err-run
+returns-in-Err-run c =
+    let d = (goal.at.returns-in-Err-run c).In-Err-run in
+    let e = d.in-Err-run.ensures in
+    let start = ap (λ m. m.bytes) d.in-Ok.ensures.asked.counted in
+    let some = halts d _ (rw start at (e.wrong).err) in
     record {
-      yes = if_ok_exit _ _ _ c.from_residual.ensures.1;
-      none = if_err_exit _ _ _ c.from_residual.ensures.1 (none_along some);
-      deep = if_err_exit _ _ _ c.from_residual.ensures.1 d.in_err-run.ensures.deep;
-      no = if_err_exit _ _ _ c.from_residual.ensures.1 (fault_along some);
-      along = if_err_exit _ _ _ c.from_residual.ensures.1 (λ enough. halts d _ (rw (ap (λ m. m.bytes) d.in-Ok.ensures.asked.counted) at (d.in_err-run.ensures.along enough)));
+      yes = tt;
+      none = none_along some;
+      deep = (e.wrong).deep;
+      no = fault_along some;
+      along = λ enough. halts d _ (rw start at (e.along enough));
       price = price_of_no some;
-      read = if_ok_exit _ _ _ c.from_residual.ensures.1;
-      bytes = d.in_err-run.ensures.bytes ∙ d.in-Ok.ensures.asked.bytes;
+      read = tt;
+      bytes = (e.wrong).bytes ∙ d.in-Ok.ensures.asked.bytes;
     }
 
-pub returns-clause-yes : goal.returns-clause-yes
-returns-clause-yes c = tells (goal.at.returns-clause-yes c).After-reads
-
-pub returns-clause-price : goal.returns-clause-price
-returns-clause-price c = omega (arith, price_of_yes (tells (goal.at.returns-clause-price c).After-reads), c.reads.ensures.count)
+pub returns-in-Ok-run : goal.returns-in-Ok-run
+returns-in-Ok-run c =
+    let t = tells (goal.at.returns-in-Ok-run c).After-reads in
+    let count = c.reads.ensures.count in
+    record { yes = t; none = tt; deep = tt; no = tt; along = tt; price = omega (arith, price_of_yes t, count); read = sym count; bytes = c.in-Ok-run.ensures.bytes ∙ c.in-Ok.ensures.asked.bytes }
 
 few_words : (start : Start) (ident : Ident) → start_reads start ident ≤ 3
 few_words start ident = grind arith

@@ -1,27 +1,19 @@
 use Rattle.std.proofs.Common.{◌≡◌, ℕ, ◌≤◌, arith}
-use Rattle.fb_verify.proofs.{Frames.if_err_exit, Verdicts.sealed_kept, Verdicts.unfolded}
+use Rattle.fb_verify.proofs.Verdicts.{sealed_kept, unfolded}
 use Rattle.fb_verify.proofs.verified.verify.Goals as goal
 
 le_of : {a b x : ℕ} → x ≡ a → x ≤ b → a ≤ b
 le_of e h = omega arith
 
-pub returns-in_err-report-clause-none : goal.returns-in_err-report-clause-none
-returns-in_err-report-clause-none g c = if_err_exit _ _ _ c.from_residual.ensures.1 c.in_err-report.ensures.none
+pub returns-in-Ok : goal.returns-in-Ok
+returns-in-Ok g c =
+    let e = c.in-Ok.ensures in
+    record { yes = e.yes; kept = sealed_kept _ c.seal.ensures.bytes c.walk.ensures.bytes; none = tt; no = tt; price_of_yes = le_of e.read c.walk.ensures.price; price_of_no = tt; scratch = c.walk.ensures.scratch }
 
-pub returns-in_err-report-clause-no : goal.returns-in_err-report-clause-no
-returns-in_err-report-clause-no g c = if_err_exit _ _ _ c.from_residual.ensures.1 c.in_err-report.ensures.no
-
-pub returns-in_err-report-clause-price_of_no : goal.returns-in_err-report-clause-price_of_no
-returns-in_err-report-clause-price_of_no g c = if_err_exit _ _ _ c.from_residual.ensures.1 (le_of c.in_err-report.ensures.stopped c.walk.ensures.price)
-
-pub returns-clause-yes : goal.returns-clause-yes
-returns-clause-yes g c = c.in_ok-report.ensures.yes
-
-pub returns-clause-price_of_yes : goal.returns-clause-price_of_yes
-returns-clause-price_of_yes g c = le_of c.in_ok-report.ensures.read c.walk.ensures.price
+pub returns-in-Err : goal.returns-in-Err
+returns-in-Err g c =
+    let e = c.in-Err.ensures in
+    record { yes = tt; kept = tt; none = e.none; no = e.no; price_of_yes = tt; price_of_no = le_of e.stopped c.walk.ensures.price; scratch = c.walk.ensures.scratch }
 
 pub invariant_of-result : goal.invariant_of-result
-invariant_of-result g c = unfolded _ c.seal.ensures.bytes c.walk.ensures.bytes c.args.ident c.args.limits c.seal.ensures.short c.requires.table c.in_ok-report.ensures.yes
-
-pub returns-clause-kept : goal.returns-clause-kept
-returns-clause-kept g c = sealed_kept _ c.seal.ensures.bytes c.walk.ensures.bytes
+invariant_of-result g c = unfolded _ c.seal.ensures.bytes c.walk.ensures.bytes c.args.ident c.args.limits c.seal.ensures.short c.requires.table c.in-Ok.ensures.yes

@@ -4,7 +4,6 @@ use Rattle.std.proofs.lemmas.List.{take-append-le}
 use Rattle.fb_bytes.specs.Word.{Lent}
 use Rattle.fb_verify.specs.declared.{scratch.Frame.Frame, stack.Walk.Walk}
 use Rattle.fb_verify.specs.{Stack.blank, Stack.Origin, Turns.IsUnderWayOver}
-use Rattle.fb_verify.proofs.Turning.{over_where}
 use Rattle.fb_verify.proofs.stack.Walk.go_deeper.Goals as goal
 
 -- a walk goes on over the same frames and more behind them
@@ -24,8 +23,8 @@ go_on-requires g c =
 
 pub unreachable-requires : goal.unreachable-requires
 unreachable-requires g c =
-    let used = rw c.in-Some.is at c.in_ok-go_on.ensures.used in
-    omega (arith, used.0, length-append c.copy_from_slice.new.self c.split_at_mut-first.result.1.now)
+    let used = rw (c.in-Ok-Some.is, c.in-Ok-Some.field-0-is) at c.go_on.ensures in
+    omega (arith, used.less, length-append c.copy_from_slice.new.self c.split_at_mut-first.result.1.now)
 
-pub returns-clause-over : goal.returns-clause-over
-returns-clause-over g c = over_where c.args.self.now c.go_on.new.self c.args.loan.now c.go_on.new.loan g.start c.go_on.new.frames c.in_ok-go_on.field-0 c.in_ok-go_on.ensures c.in-None.is
+pub returns-in-Err : goal.returns-in-Err
+returns-in-Err g c = (_, c.in-Err.ensures)

@@ -26,13 +26,14 @@ too_many L site links passed deepest paid at rest l h =
     let u : nat_lt passed L.tables ≡ false = grind (arith, nat_tests) in
     rw (t, u) (grind arith)
 
-pub returns-then-links-depth-clause-err : goal.returns-then-links-depth-clause-err
-returns-then-links-depth-clause-err c =
-    too_deep c.args.self.now.limits c.args.site c.args.links c.args.self.now.tables c.args.self.now.deepest c.args.loan.now.count c.args.child.at _ (le_of c.depth.ensures.value c.if-links-depth.true)
+pub returns-then-links-depth : goal.returns-then-links-depth
+returns-then-links-depth c = record {
+  err = too_deep c.args.self.now.limits c.args.site c.args.links c.args.self.now.tables c.args.self.now.deepest c.args.loan.now.count c.args.child.at _ (le_of c.depth.ensures.value c.if-links-depth.true);
+  bytes = refl;
+}
 
-pub returns-then-self-tables_of-clause-err : goal.returns-then-self-tables_of-clause-err
-returns-then-self-tables_of-clause-err c =
-    too_many c.args.self.now.limits c.args.site c.args.links c.args.self.now.tables c.args.self.now.deepest c.args.loan.now.count c.args.child.at _ (lt_of c.depth.ensures.value c.if-links-depth.false) (le_of c.tables_of.ensures c.if-self-tables_of.true)
-
-pub returns-clause-opened : goal.returns-clause-opened
-returns-clause-opened c = rw c.max-self.ensures refl
+pub returns-then-self-tables_of : goal.returns-then-self-tables_of
+returns-then-self-tables_of c = record {
+  err = too_many c.args.self.now.limits c.args.site c.args.links c.args.self.now.tables c.args.self.now.deepest c.args.loan.now.count c.args.child.at _ (lt_of c.depth.ensures.value c.if-links-depth.false) (le_of c.tables_of.ensures c.if-self-tables_of.true);
+  bytes = refl;
+}

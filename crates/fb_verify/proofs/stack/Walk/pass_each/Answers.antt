@@ -1,12 +1,12 @@
 use Rattle.std.proofs.Common.{◌≡◌, ℕ, ◌+◌, ◌<◌, ◌≤◌, false, List, ltb, map, length, option_map, refl, sym, ◌∙◌, ap, arith}
-use Rattle.std.proofs.lemmas.{Bool.false≢true, Bool.ltb-false, Bool.ltb-true, Option.slice_get-map}
+use Rattle.std.proofs.lemmas.{Bool.ltb-false, Bool.ltb-true, Option.slice_get-map}
 use Rattle.fb_schema.specs.declared.views.FieldView.{FieldView}
 use Rattle.fb_rules.specs.declared.table.Table.{Table}
 use Rattle.fb_schema.specs.{Live.Live, Live.live_fields, Live.live_of_view, Steps.step_of}
 use Rattle.fb_rules.specs.Places.{vtable_size}
-use Rattle.fb_verify.specs.PassesOn.{PassesFields}
+use Rattle.fb_verify.specs.{Stack.IsWalking, Units.PassesFields}
 use Rattle.fb_verify.proofs.Frames.{item_some, field_at, length_map}
-use Rattle.fb_verify.proofs.Walking.{err_exit, AtNext, askable, next_stops, stops_at_field, next_leads, next_over}
+use Rattle.fb_verify.proofs.Walking.{err_exit, AtNext, askable, next_stops, next_leads, next_over}
 use Rattle.fb_verify.proofs.Passing.{AtStep, long, rest_absent, required_stops, some_past}
 use Rattle.fb_verify.proofs.stack.Walk.pass_each.Goals as goal
 use Rattle.fb_verify.proofs.stack.Walk.pass_each.Goals.{In-Some}
@@ -30,7 +30,7 @@ returns-in_err-pass_field g c =
     let i = c.loop-field.invariant in
     let e = c.in_err-pass_field.ensures.asked in
     err_exit c.from_residual.result _ (λ r. PassesFields c.args.self.now c.args.loan.now c.pass_field.new.loan g.under c.args.top.now (record c.loop-field.top { next = c.loop-field.top.next + 1; row = c.pass_field.new.row }) r) c.from_residual.ensures.1
-    (stops_at_field _ (e.bytes ∙ i.bytes) (rw i.bytes at (next_stops h _ e.err)))
+    (e.bytes ∙ i.bytes, rw i.bytes at (next_stops h _ e.err))
 
 -- its step
 stepped : (g : _) (c : In-Some g) → AtStep c.args.self.now c.loop-field.loan g.under c.loop-field.top (map step_of (live_fields c.args.self.now.schema.now (c.loop-field.top.table).object)) (step_of (live_of_view c.in-Some.field.now))
@@ -49,16 +49,11 @@ returns-in_default-next_required g c =
     let all_fields : length fields ≡ length (live_fields c.args.self.now.schema.now (top.table).object) = omega (arith, length_map live_of_view fields, all) in
     let past : vtable_size c.loop-field.loan.bytes (top.table).at < (c.in-Some.field.now).slot + 2 = omega (arith, ltb-true _ _ (sym c.ends_before.ensures ∙ c.if-ends_before.true), ((((h.walking).frame).head).vtable).size) in
     let next = ((h.walking).frame).next in
-    record {
-      walking = rw (all_fields ∙ sym (long s)) (rest_absent s past (sym c.next_required.ensures ∙ c.in_default-next_required.is));
-      leads = λ e. absurd cc;
-      rests = λ _. h.rests;
-      all = λ _. omega (arith, all_fields);
-      falls = omega (arith, i.falls, all_fields, next);
-      grows = i.grows;
-      bytes = i.bytes;
-      err = tt;
-    }
+    let walking : IsWalking c.args.self.now c.loop-field.loan (g.under).start (g.under).frames (record top { next = length fields }) = rw (all_fields ∙ sym (long s)) (rest_absent s past (sym c.next_required.ensures ∙ c.in_default-next_required.is)) in
+    (
+      record { between = record { walking = walking; rests = h.rests }; table = i.table; falls = omega (arith, i.falls, all_fields, next); grows = i.grows; bytes = i.bytes },
+      omega (arith, all_fields),
+    )
 
 pub returns-then-ends_before : goal.returns-then-ends_before
 returns-then-ends_before g c =
@@ -68,7 +63,7 @@ returns-then-ends_before g c =
     let e = c.stop_at.ensures in
     let past : vtable_size c.loop-field.loan.bytes (c.loop-field.top.table).at < (c.in-Some.field.now).slot + 2 = omega (arith, ltb-true _ _ (sym c.ends_before.ensures ∙ c.if-ends_before.true), ((((h.walking).frame).head).vtable).size) in
     let some = sym c.next_required.ensures ∙ c.in-Some-next_required.is in
-    stops_at_field c.stop_at.result i.bytes (rw i.bytes at (required_stops s past c.in-Some-next_required.needed some c.stop_at.result (record { refusal = e.refusal; object = e.object; field = e.field })))
+    (i.bytes, rw i.bytes at (required_stops s past c.in-Some-next_required.needed some c.stop_at.result (record { refusal = e.refusal; object = e.object; field = e.field })))
 
 pub returns-then-branch : goal.returns-then-branch
 returns-then-branch g c =
@@ -98,4 +93,4 @@ returns g c =
     let i = c.loop-field.invariant in
     let its = c.fields_of-fields.ensures.value ∙ ap (λ (x : Table). live_fields c.args.self.now.schema.now x.object) (sym i.table) in
     let all = all_passed c.fields_of-fields.result.now _ c.loop-field.top.next its c.in_default.ensures.lookup.0 in
-    record { walking = (i.between).walking; leads = λ e. absurd (false≢true e); rests = λ _. (i.between).rests; all = λ _. all; falls = i.falls; grows = i.grows; bytes = i.bytes; err = tt }
+    (i, all)

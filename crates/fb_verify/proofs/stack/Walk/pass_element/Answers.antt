@@ -1,57 +1,62 @@
 use Rattle.std.proofs.Common.{◌≡◌, ◌+◌, refl, sym, ◌∙◌, ap, None, arith}
 use Rattle.fb_bytes.specs.Word.{Lent}
-use Rattle.fb_rules.specs.{Cost.lead_reads, OffsetRows.first_word, Order.element_failure}
+use Rattle.fb_rules.specs.{Cost.lead_reads, OffsetRows.first_word, OffsetRows.lead_to, Order.element_failure}
 use Rattle.fb_rules.proofs.Words.{first_place}
-use Rattle.fb_verify.proofs.{Flats.word_told, Flats.is_leaf, Frames.if_err_exit}
+use Rattle.fb_verify.proofs.Flats.{word_told, is_leaf}
 use Rattle.fb_rules.proofs.Refusals.{unfound, tested_tells, spent, told_lead_reads}
 use Rattle.fb_verify.proofs.stack.Walk.pass_element.Goals as goal
-use Rattle.fb_verify.proofs.stack.Walk.pass_element.Goals.{In_ok-tell}
+use Rattle.fb_verify.proofs.stack.Walk.pass_element.Goals.{In_default}
 
 -- an element of which no test failed holds
-holds : (c : In_ok-tell) → element_failure c.args.self.now.checks c.args.loan.now.bytes (first_word c.args.loan.now.bytes c.args.self.now.schema.now c.args.row) ≡ None
+holds : (c : In_default) → element_failure c.args.self.now.checks c.args.loan.now.bytes (first_word c.args.loan.now.bytes c.args.self.now.schema.now c.args.row) ≡ None
 holds c =
     let m = c.args.loan.now in
-    let S = c.args.self.now.schema.now in
+    let r = rw c.lend-reads.ensures.lent at c.first_referent-referent.ensures in
+    let t = rw r.counted at c.test_lead-failed.ensures in
+    unfound _ _ _ _ _ (word_told c.args.self.now.checks m.bytes c.args.self.now.schema.now c.args.row _ r.lead _ _ refl _ t.told) c.in_default.ensures.ok
+
+-- and these are its reads
+counted : (c : In_default) → let x = first_word c.args.loan.now.bytes c.args.self.now.schema.now c.args.row in c.settle.new.self ≡ record c.args.loan.now { count = c.args.loan.now.count + x.reads + lead_reads x.lead }
+counted c =
     let lent = c.lend-reads.ensures in
     let r = rw lent.lent at c.first_referent-referent.ensures in
     let t = rw r.counted at c.test_lead-failed.ensures in
-    unfound _ _ _ _ _ (word_told c.args.self.now.checks m.bytes S c.args.row _ r.lead _ _ refl _ t.told) c.in_ok-tell.ensures.ok
+    rw (c.settle.ensures, lent.bare, t.bytes, rw r.lead at t.counted c.in_default.ensures.ok) refl
 
-pub returns-in_err-tell-clause-err : goal.returns-in_err-tell-clause-err
-returns-in_err-tell-clause-err c =
+pub returns-in-Err : goal.returns-in-Err
+returns-in-Err c =
     let m = c.args.loan.now in
-    let S = c.args.self.now.schema.now in
-    let lent = c.lend-reads.ensures in
-    let r = rw lent.lent at c.first_referent-referent.ensures in
+    let r = rw c.lend-reads.ensures.lent at c.first_referent-referent.ensures in
     let t = rw r.counted at c.test_lead-failed.ensures in
-    let e = c.in_err-tell.ensures.err in
-    let found = word_told c.args.self.now.checks m.bytes S c.args.row _ r.lead _ _ refl _ t.told in
-    if_err_exit _ _ _ c.from_residual.ensures.1 (rw (e.1, c.settle.ensures) (tested_tells c.args.site m.count _ _ _ _ _ (rw e.0 at found)))
+    let e = c.in-Err.ensures.err in
+    let found = word_told c.args.self.now.checks m.bytes c.args.self.now.schema.now c.args.row _ r.lead _ _ refl _ t.told in
+    record { err = rw (e.1, c.settle.ensures) (tested_tells c.args.site m.count _ _ _ _ _ (rw e.0 at found)); bytes = rw c.settle.ensures t.bytes }
 
-pub returns-in-Table-clause-ok : goal.returns-in-Table-clause-ok
-returns-in-Table-clause-ok c = holds (goal.at.returns-in-Table-clause-ok c).In_ok-tell
+pub returns-in-Table : goal.returns-in-Table
+returns-in-Table c =
+    let d = (goal.at.returns-in-Table c).In_default in
+    let r = rw c.lend-reads.ensures.lent at c.first_referent-referent.ensures in
+    let t = rw r.counted at c.test_lead-failed.ensures in
+    let none = c.in_default.ensures.ok in
+    record { ok = holds d; leads = sym r.lead ∙ ap lead_to c.in-Table.is; at = t.value none _ c.in-Table.is; table = c.in-Table.ensures.referent; near = t.near none _ c.in-Table.is; counted = counted d }
 
-pub returns-in_err-ask_reads-clause-err : goal.returns-in_err-ask_reads-clause-err
-returns-in_err-ask_reads-clause-err c =
+pub returns-in-Ok : goal.returns-in-Ok
+returns-in-Ok c =
+    let d = (goal.at.returns-in-Ok c).In_default in
+    let r = rw c.lend-reads.ensures.lent at c.first_referent-referent.ensures in
+    record { ok = holds d; leaf = rw r.lead at (is_leaf c.first_referent-referent.result c.in_default-referent.not-Table); counted = counted d; reads = c.in-Ok.ensures.ok }
+
+pub returns-in-Err-ask_reads : goal.returns-in-Err-ask_reads
+returns-in-Err-ask_reads c =
+    let d = (goal.at.returns-in-Err-ask_reads c).In_default in
     let m = c.args.loan.now in
     let S = c.args.self.now.schema.now in
     let x = first_word m.bytes S c.args.row in
-    let lent = c.lend-reads.ensures in
-    let r = rw lent.lent at c.first_referent-referent.ensures in
-    let t = rw r.counted at c.test_lead-failed.ensures in
-    let count = rw r.lead at t.counted c.in_ok-tell.ensures.ok in
-    let paid = ap (λ (n : Lent). n.count) c.settle.ensures in
-    let e = c.in_err-ask_reads.ensures in
-    let lead = is_leaf c.first_referent-referent.result c.in_default.not-Table in
-    let all : c.settle.new.self.count ≡ m.count + (x.reads + lead_reads x.lead) = omega (arith, count, paid) in
-    if_err_exit _ _ _ c.from_residual-in_err-ask_reads.ensures.1
-    (told_lead_reads c.args.self.now.limits c.args.site m.count _ x x.lead _ _ (rw r.lead at lead) (holds (goal.at.returns-in_err-ask_reads-clause-err c).In_ok-tell) all e.spent (e.err ∙ ap (spent c.args.site) (sym (first_place m.bytes S c.args.row))))
-
-pub returns-clause-ok : goal.returns-clause-ok
-returns-clause-ok c = holds (goal.at.returns-clause-ok c).In_ok-tell
-
-pub returns-clause-child : goal.returns-clause-child
-returns-clause-child c =
     let r = rw c.lend-reads.ensures.lent at c.first_referent-referent.ensures in
-    let lead = is_leaf c.first_referent-referent.result c.in_default.not-Table in
-    rw r.lead at lead
+    let e = c.in-Err-ask_reads.ensures in
+    let leaf = rw r.lead at (is_leaf c.first_referent-referent.result c.in_default-referent.not-Table) in
+    let all : c.settle.new.self.count ≡ m.count + (x.reads + lead_reads x.lead) = omega (arith, ap (λ (n : Lent). n.count) (counted d)) in
+    record {
+      err = told_lead_reads c.args.self.now.limits c.args.site m.count _ x x.lead _ _ leaf (holds d) all e.spent (e.err ∙ ap (spent c.args.site) (sym (first_place m.bytes S c.args.row)));
+      bytes = ap (λ (n : Lent). n.bytes) (counted d);
+    }

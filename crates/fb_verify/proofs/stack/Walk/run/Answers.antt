@@ -1,15 +1,16 @@
-use Rattle.std.proofs.Common.{◌≡◌, ℕ, ◌+◌, ◌<◌, ◌≤◌, List, [], length, refl, sym, ◌∙◌, ap, subst, arith, Option, Result, Ok, Err, IfErr}
+use Rattle.std.proofs.Common.{◌≡◌, ℕ, ◌+◌, ◌<◌, ◌≤◌, List, [], length, refl, sym, ◌∙◌, ap, arith, Option, Some, None, Result, Ok, Err}
 use Rattle.std.proofs.Math.ListN.{length-set}
 use Rattle.std.proofs.lemmas.{List.get_or-set_same, List.Elements.All-nil}
 use Rattle.fb_bytes.specs.Word.{Lent}
 use Rattle.fb_rules.specs.declared.{site.Halt.Halt, table.Table.Table}
 use Rattle.fb_rules.specs.Told.{stopped, way_at}
 use Rattle.fb_verify.specs.declared.{scratch.Frame.Frame, stack.Walk.Walk}
-use Rattle.fb_verify.specs.Turns.{GoneOn, WentOver}
-use Rattle.fb_verify.specs.Stack.{blank, links_left, opened, IsFrame, IsLinked, IsUnderWay, Origin, StopsIn, work}
+use Rattle.fb_verify.specs.Turns.{GoneOn}
+use Rattle.fb_verify.specs.Stack.{blank, opened, IsFrame, IsLinked, IsUnderWay, Origin, StopsIn, work}
 use Rattle.fb_rules.proofs.Few.{head_few}
-use Rattle.fb_verify.proofs.{Frames.frame_opened, Frames.if_err_exit, Frames.if_err_map, Frames.if_ok_map, Frames.work_opened, Standings.begin, Standings.stop_at_root, Turning.gone_from, Turning.halts_from, Turning.on_where, Turning.over_from, Turning.over_where, Turning.root_kept, Turning.used_where, Turning.walked_over, Turning.wrong_from}
-use Rattle.fb_verify.proofs.stack.Walk.run.Goals.{After-from_residual, After-go_deeper, In-Err, In-None, In-Ok, Joined-is_plain, then-is_plain+in_default, else-is_plain, In-Up}
+use Rattle.fb_verify.proofs.{Frames.frame_opened, Frames.work_opened, Standings.begin, Standings.stop_at_root}
+use Rattle.fb_verify.proofs.Turning.{gone_from, over_from, ran_deeper, root_kept, wrong_from}
+use Rattle.fb_verify.proofs.stack.Walk.run.Goals.{In-Err, In-Ok, Joined-is_plain, then-is_plain+in_default, else-is_plain}
 use Rattle.fb_verify.proofs.stack.Walk.run.Goals as goal
 
 -- where the root table can't be opened, no frame leads there
@@ -22,11 +23,13 @@ fails_at_root g c =
     let stops = stop_at_root ch b S c.args.self.now.limits s c.args.root.at c.args.site c.args.self.now.tables c.args.self.now.deepest c.args.loan.now.count _ refl refl c.requires.1.1.1.1.1.1.0 c.requires.1.1.1.1.1.1.1.0 c.requires.1.1.1.1.1.1.1.1.0 c.in-Err.ensures.err in
     rw c.requires.0 (record { along = stops; linked = All-nil (IsLinked ch b S) })
 
-pub returns-in-Err-clause-err : goal.returns-in-Err-clause-err
-returns-in-Err-clause-err g c = ([], rw c.halt.ensures (fails_at_root g (goal.at.returns-in-Err-clause-err g c).In-Err))
+none_open : (n : ℕ) → 0 + 0 ≤ n
+none_open n = omega arith
 
-pub returns-in-Err-clause-along : goal.returns-in-Err-clause-along
-returns-in-Err-clause-along g c _ = rw c.halt.ensures (fails_at_root g (goal.at.returns-in-Err-clause-along g c).In-Err)
+pub returns-in-Err : goal.returns-in-Err
+returns-in-Err g c =
+    let e = fails_at_root g (goal.at.returns-in-Err g c).In-Err in
+    rw c.halt.ensures (record { rows = []; wrong = record { deep = none_open _; err = e; bytes = c.in-Err.ensures.bytes }; along = λ _. e })
 
 -- the root table wasn't passed before
 kept : (g : _) (c : Joined-is_plain g) → (c.if-is_plain.self ≡ c.open_table.new.self) × (c.if-is_plain.loan ≡ c.open_table.new.loan)
@@ -95,117 +98,37 @@ gone g c then new frames r h =
     let k = kept g c in
     gone_from c.args.self.now c.if-is_plain.self then c.args.loan.now c.if-is_plain.loan new g.start _ _ (k.0 ∙ c.in-Ok.ensures.opened) (ap (λ (x : Lent). x.bytes) k.1 ∙ c.in-Ok.ensures.bytes) frames r h
 
--- where it stops there
-stops : (g : _) (c : After-from_residual g) → GoneOn c.args.self.now c.go_on.new.self c.args.loan.now c.go_on.new.loan g.start c.go_on.new.frames (Err c.in_err-waiting.field-0.0)
-stops g c = gone g (goal.at.returns-in_err-waiting-clause-err g c).Joined-is_plain _ _ _ _ c.in_err-waiting.ensures
+pub returns-in-Ok-None : goal.returns-in-Ok-None
+returns-in-Ok-None g c = gone g (goal.at.returns-in-Ok-None g c).Joined-is_plain c.go_on.new.self c.go_on.new.loan c.go_on.new.frames (Ok None) (rw (c.in-Ok-None.is, c.in-Ok-None.field-0-is) at c.go_on.ensures)
 
-pub returns-in_err-waiting-clause-err : goal.returns-in_err-waiting-clause-err
-returns-in_err-waiting-clause-err g c = if_err_exit _ _ _ c.from_residual.ensures.1 (_, (stops g c).err)
-
-pub returns-in_err-waiting-clause-along : goal.returns-in_err-waiting-clause-along
-returns-in_err-waiting-clause-along g c = if_err_exit _ _ _ c.from_residual.ensures.1 (λ _. (stops g c).err)
-
-pub returns-in_err-waiting-clause-deep : goal.returns-in_err-waiting-clause-deep
-returns-in_err-waiting-clause-deep g c = if_err_exit _ _ _ c.from_residual.ensures.1 (stops g c).deep
-
-pub returns-in_err-waiting-clause-bytes : goal.returns-in_err-waiting-clause-bytes
-returns-in_err-waiting-clause-bytes g c = (stops g c).bytes
-
--- where it is over in these frames
-over : (g : _) (c : In-None g) → WentOver c.args.self.now c.go_on.new.self c.args.loan.now c.go_on.new.loan g.start
-over g c = over_where _ _ _ _ _ _ _ (gone g (goal.at.returns-in-None-clause-ok g c).Joined-is_plain _ _ _ _ c.in_ok-waiting.ensures) c.in-None.is
-
-pub returns-in-None-clause-ok : goal.returns-in-None-clause-ok
-returns-in-None-clause-ok g c = walked_over _ _ _ _ _ (over g c)
-
-pub returns-in-None-clause-within : goal.returns-in-None-clause-within
-returns-in-None-clause-within g c = (over g c).within
-
-pub returns-in-None-clause-shallow : goal.returns-in-None-clause-shallow
-returns-in-None-clause-shallow g c = (over g c).shallow
-
-pub returns-in-None-clause-reads : goal.returns-in-None-clause-reads
-returns-in-None-clause-reads g c = (over g c).reads
+pub returns-in-Err-go_on : goal.returns-in-Err-go_on
+returns-in-Err-go_on g c =
+    let e = gone g (goal.at.returns-in-Err-go_on g c).Joined-is_plain c.go_on.new.self _ _ (Err c.in-Err-go_on.halt) c.in-Err-go_on.ensures in
+    record { rows = c.go_on.new.frames; wrong = e; along = λ _. e.err }
 
 -- where these frames are used up, and it goes on in more
-went : (g : _) (c : After-go_deeper g) → GoneOn c.args.self.now c.go_on.new.self c.args.loan.now c.go_on.new.loan g.start c.go_on.new.frames (Ok c.in_ok-waiting.field-0)
-went g c = gone g (goal.at.returns-in-Some-clause-ok g c).Joined-is_plain _ _ _ _ c.in_ok-waiting.ensures
 
-used : (g : _) (c : After-go_deeper g) → (length c.go_on.new.frames < (c.args.self.now.limits).depth) × (c.go_on.new.self ≡ record c.args.self.now { tables = c.go_on.new.self.tables; deepest = c.go_on.new.self.deepest })
-used g c = used_where _ _ _ _ _ _ _ (went g c) c.in-Some.is
-
-over_deeper : (g : _) (c : After-go_deeper g) → WentOver c.go_on.new.self c.go_deeper.new.self c.go_on.new.loan c.go_deeper.new.loan g.start → WentOver c.args.self.now c.go_deeper.new.self c.args.loan.now c.go_deeper.new.loan g.start
-over_deeper g c h = over_from _ _ _ _ _ _ _ _ _ (used g c).1 (went g c).bytes h
-
-pub returns-in-Some-clause-ok : goal.returns-in-Some-clause-ok
-returns-in-Some-clause-ok g c = if_ok_map c.go_deeper.result (λ _ h. walked_over _ _ _ _ _ (over_deeper g c h)) c.go_deeper.ensures.over
-
-pub returns-in-Some-clause-within : goal.returns-in-Some-clause-within
-returns-in-Some-clause-within g c = if_ok_map c.go_deeper.result (λ _ h. (over_deeper g c h).within) c.go_deeper.ensures.over
-
-pub returns-in-Some-clause-shallow : goal.returns-in-Some-clause-shallow
-returns-in-Some-clause-shallow g c = if_ok_map c.go_deeper.result (λ _ h. (over_deeper g c h).shallow) c.go_deeper.ensures.over
-
-pub returns-in-Some-clause-reads : goal.returns-in-Some-clause-reads
-returns-in-Some-clause-reads g c = if_ok_map c.go_deeper.result (λ _ h. (over_deeper g c h).reads) c.go_deeper.ensures.over
-
-pub returns-in-Some-clause-deep : goal.returns-in-Some-clause-deep
-returns-in-Some-clause-deep g c = subst (λ (x : Walk). IfErr c.go_deeper.result (λ h. h.links + links_left h.last ≤ (x.limits).depth)) (used g c).1 c.go_deeper.ensures.deep
-
-pub returns-in-Some-clause-err : goal.returns-in-Some-clause-err
-returns-in-Some-clause-err g c = if_err_map c.go_deeper.result (λ h e. (e.0, halts_from c.args.self.now c.go_on.new.self c.go_on.new.self c.args.loan.now c.go_on.new.loan c.go_on.new.loan g.start _ _ (used g c).1 (went g c).bytes e.0 h _ e.1)) c.go_deeper.ensures.err
-
-no_room : {n m : ℕ} → n < m → m ≤ n → ⊥
-no_room less room = omega arith
-
-pub returns-in-Some-clause-along : goal.returns-in-Some-clause-along
-returns-in-Some-clause-along g c = if_err_map c.go_deeper.result (λ _ _ room. absurd (no_room (used g c).0 room)) c.go_deeper.ensures.err
+pub returns-in-Ok-Some : goal.returns-in-Ok-Some
+returns-in-Ok-Some g c =
+    let u = gone g (goal.at.returns-in-Ok-Some g c).Joined-is_plain c.go_on.new.self c.go_on.new.loan c.go_on.new.frames (Ok (Some c.in-Ok-Some.waiting)) (rw (c.in-Ok-Some.is, c.in-Ok-Some.field-0-is) at c.go_on.ensures) in
+    ran_deeper c.args.self.now c.go_on.new.self c.go_deeper.new.self c.args.loan.now c.go_on.new.loan c.go_deeper.new.loan g.start _ _ u.same u.bytes c.go_on.new.frames c.go_deeper.result u.less c.go_deeper.ensures
 
 pub go_deeper-requires : goal.go_deeper-requires
 go_deeper-requires g c =
-    let e = gone g (goal.at.go_deeper-requires g c).Joined-is_plain _ _ _ _ c.in_ok-waiting.ensures in
-    let u = used_where _ _ _ _ _ _ _ e c.in-Some.is in
-    let limits = ap (λ (x : Walk). (x.limits).depth) u.1 in
+    let u = gone g (goal.at.go_deeper-requires g c).Joined-is_plain c.go_on.new.self c.go_on.new.loan c.go_on.new.frames (Ok (Some c.in-Ok-Some.waiting)) (rw (c.in-Ok-Some.is, c.in-Ok-Some.field-0-is) at c.go_on.ensures) in
+    let limits = ap (λ (x : Walk). (x.limits).depth) u.same in
     let kept = c.go_on.auto.frames in
     let set = length-set c.args.frames.now 0 c.opened.result in
-    (on_where _ _ _ _ _ _ _ e c.in-Some.is, (omega (arith, u.0, c.requires.1.1.1.1.1.0, kept, set), omega (arith, limits, u.0, c.requires.1.1.1.1.1.0, kept, set)))
+    (u.goes, (omega (arith, u.less, c.requires.1.1.1.1.1.0, kept, set), omega (arith, limits, u.less, c.requires.1.1.1.1.1.0, kept, set)))
 
--- Where the root table is passed whole.
+-- Where the root table is passed whole, or the walk stops in it.
 
-rooted : (g : _) (c : In-Up g) → WentOver c.args.self.now c.pass_root.new.self c.args.loan.now c.pass_root.new.loan g.start
-rooted g c = over_from c.args.self.now c.open_table.new.self c.pass_root.new.self c.args.loan.now c.open_table.new.loan c.pass_root.new.loan g.start _ _ c.in-Ok.ensures.opened c.in-Ok.ensures.bytes c.in-Up.ensures
+pub returns-in-Up : goal.returns-in-Up
+returns-in-Up g c =
+    over_from c.args.self.now c.open_table.new.self c.pass_root.new.self c.args.loan.now c.open_table.new.loan c.pass_root.new.loan g.start _ _ c.in-Ok.ensures.opened c.in-Ok.ensures.bytes c.in-Up.ensures
 
-pub returns-in-Up-clause-ok : goal.returns-in-Up-clause-ok
-returns-in-Up-clause-ok g c = walked_over _ _ _ _ _ (rooted g c)
-
-pub returns-in-Up-clause-within : goal.returns-in-Up-clause-within
-returns-in-Up-clause-within g c = (rooted g c).within
-
-pub returns-in-Up-clause-shallow : goal.returns-in-Up-clause-shallow
-returns-in-Up-clause-shallow g c = (rooted g c).shallow
-
-pub returns-in-Up-clause-reads : goal.returns-in-Up-clause-reads
-returns-in-Up-clause-reads g c = (rooted g c).reads
-
-pub returns-in-None-clause-bytes : goal.returns-in-None-clause-bytes
-returns-in-None-clause-bytes g c = (over g c).bytes
-
-pub returns-in-Some-clause-bytes : goal.returns-in-Some-clause-bytes
-returns-in-Some-clause-bytes g c = c.go_deeper.ensures.bytes ∙ (went g c).bytes
-
--- or stops in it
-
-pub returns-in-Halt-clause-deep : goal.returns-in-Halt-clause-deep
-returns-in-Halt-clause-deep g c =
-    let stops = wrong_from c.args.self.now c.open_table.new.self c.pass_root.new.self c.args.loan.now c.open_table.new.loan c.pass_root.new.loan g.start _ _ c.in-Ok.ensures.opened c.in-Ok.ensures.bytes [] c.in-Halt.ensures.0 in
-    stops.deep
-
-pub returns-in-Halt-clause-err : goal.returns-in-Halt-clause-err
-returns-in-Halt-clause-err g c =
-    let stops = wrong_from c.args.self.now c.open_table.new.self c.pass_root.new.self c.args.loan.now c.open_table.new.loan c.pass_root.new.loan g.start _ _ c.in-Ok.ensures.opened c.in-Ok.ensures.bytes [] c.in-Halt.ensures.0 in
-    (_, stops.err)
-
-pub returns-in-Halt-clause-along : goal.returns-in-Halt-clause-along
-returns-in-Halt-clause-along g c _ =
-    let stops = wrong_from c.args.self.now c.open_table.new.self c.pass_root.new.self c.args.loan.now c.open_table.new.loan c.pass_root.new.loan g.start _ _ c.in-Ok.ensures.opened c.in-Ok.ensures.bytes [] c.in-Halt.ensures.0 in
-    rw c.in-Halt.ensures.1 (rw c.in-Halt.ensures.1 at stops.err)
+pub returns-in-Halt : goal.returns-in-Halt
+returns-in-Halt g c =
+    let e = c.in-Halt.ensures in
+    let stops = wrong_from c.args.self.now c.open_table.new.self c.pass_root.new.self c.args.loan.now c.open_table.new.loan c.pass_root.new.loan g.start _ _ c.in-Ok.ensures.opened c.in-Ok.ensures.bytes [] _ e.0 in
+    record { rows = []; wrong = stops; along = λ _. rw e.1 (rw e.1 at stops.err) }

@@ -37,7 +37,7 @@ returns-in_default g c =
     let high = c.split_at_mut-low.result.1.now in
     let n = c.args.waiting in
     frames_turned c.args.self.now c.pass_top.new.self c.args.reads.now c.pass_top.new.reads g.under c.args.frames.now low high n
-    (get_or low n blank) c.pass_top.new.top c.pass_top.new.child s.value s.front_len c.requires.0 (top_is c.args.frames.now low high n c.pass_top.new.top s.value s.front_len blank) high c.pass_top.result c.in_default.not-Down c.pass_top.ensures
+    (get_or low n blank) c.pass_top.new.top s.value s.front_len c.requires.0 (top_is c.args.frames.now low high n c.pass_top.new.top s.value s.front_len blank) high c.pass_top.new.child c.pass_top.result c.in_default.not-Down c.pass_top.ensures
 
 pub returns-in-Down : goal.returns-in-Down
 returns-in-Down g c =
@@ -48,5 +48,6 @@ returns-in-Down g c =
     let d = rw c.in-Down.is at c.pass_top.ensures in
     let some : 0 < length high = omega (arith, c.requires.1.1.0, d.deep, ap length c.requires.0, length-take n c.args.frames.now, s.back_len, (c.requires.1.0).links) in
     frames_down c.args.self.now c.pass_top.new.self c.args.reads.now c.pass_top.new.reads g.under c.args.frames.now low high n
-    (get_or low n blank) c.pass_top.new.top c.pass_top.new.child s.value s.front_len c.requires.0 (top_is c.args.frames.now low high n c.pass_top.new.top s.value s.front_len blank) (set high 0 c.open_child.new.below)
+    (get_or low n blank) c.pass_top.new.top s.value s.front_len c.requires.0 (top_is c.args.frames.now low high n c.pass_top.new.top s.value s.front_len blank) (set high 0 c.open_child.new.below)
+    c.pass_top.new.child
     c.open_child.new.self c.open_child.new.reads c.open_child.new.below (get_or-set_same high 0 c.open_child.new.below blank some) (omega (arith, some, length-set high 0 c.open_child.new.below)) d c.open_child.result c.open_child.ensures

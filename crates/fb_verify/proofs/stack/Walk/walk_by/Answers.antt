@@ -39,7 +39,7 @@ ends_turn : (w now then : Walk) (m been new : Lent) (s : Origin) (old frames pas
 ends_turn w now then m been new s old frames past waiting at before Down down up h = absurd (down refl)
 ends_turn w now then m been new s old frames past waiting at before Up down up h = absurd (up refl)
 ends_turn w now then m been new s old frames past waiting at before Slowly down up h = goes_on w now then m been new s old frames past waiting at at before 0 h
-ends_turn w now then m been new s old frames past waiting at before Halted down up h = wrong_from w now then m been new s now.tables now.deepest before.same before.bytes past h
+ends_turn w now then m been new s old frames past waiting at before Halted down up h = wrong_from w now then m been new s now.tables now.deepest before.same before.bytes past _ h
 
 one : 0 < 1
 one = omega arith
@@ -56,7 +56,6 @@ loop-has_below-preserved g c =
       on = goes_on _ _ _ _ _ _ _ _ _ _ _ _ _ c.loop-has_below.invariant.on 1 up.0;
       short = up.1;
       below = λ more. omega (arith, c.loop-has_below.invariant.below more, c.turn.auto.frames);
-      length = c.turn.auto.frames ∙ c.loop-has_below.invariant.length;
     }
 
 pub loop-has_below-init : goal.loop-has_below-init
@@ -64,7 +63,6 @@ loop-has_below-init g c = record {
   on = begins c.args.self.now c.args.self.now c.args.reads.now c.args.reads.now g.start c.args.frames.now c.args.waiting.now c.requires.0 c.requires.1.0;
   short = c.requires.1.1.0;
   below = λ more. rw c.depth-depth.ensures.value at (c.has_frame_below-has_below.ensures more);
-  length = refl;
 }
 
 pub turn-requires : goal.turn-requires
@@ -84,15 +82,14 @@ loop-has_below-preserved-in-Down g c = record {
   on = goes_on _ _ _ _ _ _ _ _ _ _ _ _ _ c.loop-has_below.invariant.on 1 c.in-Down.ensures.0;
   short = c.in-Down.ensures.1;
   below = λ more. rw c.depth-depth.ensures.value at (c.has_frame_below-has_below-in-Down.ensures more);
-  length = c.turn.auto.frames ∙ c.loop-has_below.invariant.length;
 }
 
-pub returns-then-at-eq0-clause-goes : goal.returns-then-at-eq0-clause-goes
-returns-then-at-eq0-clause-goes g c =
+pub returns-then-at-eq0 : goal.returns-then-at-eq0
+returns-then-at-eq0 g c =
     let i = c.loop-has_below.invariant.on in
     over_from c.args.self.now c.loop-has_below.self c.turn.new.self c.args.reads.now c.loop-has_below.reads c.turn.new.reads g.start _ _ i.same i.bytes (c.in-Up.ensures.over c.if-at-eq0.true)
 
-pub returns-in_default-clause-goes : goal.returns-in_default-clause-goes
-returns-in_default-clause-goes g c =
+pub returns-in_default : goal.returns-in_default
+returns-in_default g c =
     ends_turn c.args.self.now c.loop-has_below.self c.turn.new.self c.args.reads.now c.loop-has_below.reads c.turn.new.reads g.start c.args.frames.now c.loop-has_below.frames c.turn.new.frames c.args.waiting.now c.loop-has_below.at
     c.loop-has_below.invariant.on c.turn.result c.in_default.not-Down c.in_default.not-Up c.turn.ensures

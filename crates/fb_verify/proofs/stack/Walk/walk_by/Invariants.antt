@@ -12,7 +12,6 @@ invariant-loop-has_below g l = record {
   on : WentOn l.fn.self l.self l.fn.reads l.reads g.start l.fn.frames l.fn.waiting l.frames l.at 0;
   short : IsShort l.reads.count;
   below : l.has_below ≡ true → min (l.fn.self.limits).depth (l.at + 2) ≤ length l.frames;
-  length : length l.frames ≡ length l.fn.frames;
 }
 
 abbrev pub decreases-loop-has_below : goal.decreases-loop-has_below

@@ -21,5 +21,5 @@ walk_by_checks-turn-requires g c =
     let short = short_of _ _ _ (c.allows_short.ensures.short c.if-not-allows_short.false) c.reads.ensures.count (ap (λ (x : Lent). x.count) lent) in
     (walking, (c.requires.1, short))
 
-pub returns-then-not-allows_short-clause-goes : goal.returns-then-not-allows_short-clause-goes
-returns-then-not-allows_short-clause-goes g c = begins c.args.self.now c.args.self.now c.args.loan.now c.args.loan.now g.start c.args.frames.now c.args.waiting.now c.requires.0 c.requires.1
+pub returns-then-not-allows_short : goal.returns-then-not-allows_short
+returns-then-not-allows_short g c = begins c.args.self.now c.args.self.now c.args.loan.now c.args.loan.now g.start c.args.frames.now c.args.waiting.now c.requires.0 c.requires.1
