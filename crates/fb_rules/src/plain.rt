@@ -163,7 +163,6 @@ pub fn test_first_word(reads: &mut Reads<'_>, checks: Checks, at: u64) -> Result
 /// Tests the vtable, at this place, of the table at a position, and writes the table's head. Where it fails, the
 /// position is moved to where it does.
 #[inline(always)]
-#[tactic(auto, using(crate::proofs::Alignments::two), unfolding(crate::specs::Plain::vtable_failure))]
 pub fn test_vtable(
     reads: &mut Reads<'_>,
     checks: Checks,
@@ -177,6 +176,25 @@ pub fn test_vtable(
     ensures tested { IsTested reads.old reads.new at.new (vtable_failure checks reads.old.bytes at.old) (vtable_reads checks) result }
     ensures head { result ≡ None → IsHead checks reads.old.bytes at.old head.new }
     ensures same { result ≡ None → at.new ≡ at.old }
+{
+    vtable_by(reads, checks, place, at, head)
+}
+
+/// The same, told in one clause, which is proved once for each way out.
+#[inline(always)]
+#[tactic(auto, using(crate::proofs::Alignments::two), unfolding(crate::specs::Plain::vtable_failure))]
+fn vtable_by(
+    reads: &mut Reads<'_>,
+    checks: Checks,
+    place: u64,
+    at: &mut u64,
+    head: &mut Head,
+) -> Option<Reason>
+    requires few { reads.old.count < reads.old.base + 2 ^ 61 }
+    requires near { place < 2 ^ 32 }
+    requires its { place ≡ vtable reads.old.bytes at.old }
+    ensures { IsTested reads.old reads.new at.new (vtable_failure checks reads.old.bytes at.old) (vtable_reads checks) result
+        × (result ≡ None → IsHead checks reads.old.bytes at.old head.new × (at.new ≡ at.old)) }
 {
     if !reads.fits(place, 2) {
         return fails(Reason::OutOfBuffer);
