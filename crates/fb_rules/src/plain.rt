@@ -336,6 +336,26 @@ pub fn test_vector_field(
     ensures many { result ≡ None → many.new ≡ word reads.old.bytes (target reads.old.bytes at.old) 4 }
     ensures within { result ≡ None → at.new + many.new * size < 2 ^ 31 }
 {
+    vector_field_by(reads, checks, table, at, size, align, many)
+}
+
+/// The same, told in one clause.
+#[inline(always)]
+fn vector_field_by(
+    reads: &mut Reads<'_>,
+    checks: Checks,
+    table: Table,
+    at: &mut u64,
+    size: u32,
+    align: u32,
+    many: &mut u32,
+) -> Option<Reason>
+    requires few { reads.old.count < reads.old.base + 2 ^ 60 }
+    requires placed { IsPlaced checks reads.old.bytes table.at table.head at.old }
+    requires align { IsAlignment align }
+    ensures { IsTested reads.old reads.new at.new (vector_field_failure checks reads.old.bytes table.at at.old size align) 2 result
+        × (result ≡ None → (at.new ≡ target reads.old.bytes at.old + 4) × (many.new ≡ word reads.old.bytes (target reads.old.bytes at.old) 4) × (at.new + many.new * size < 2 ^ 31)) }
+{
     if let Some(reason) = test_end(reads, checks, table, *at, 4) {
         return Some(reason);
     }
@@ -376,6 +396,24 @@ pub fn test_lead(
     ensures counted { result ≡ None → reads.new.count ≡ reads.old.count + lead_reads (lead_to referent) }
     ensures bytes { reads.new.bytes ≡ reads.old.bytes }
     ensures base { reads.new.base ≡ reads.old.base }
+{
+    lead_by(reads, checks, at, referent)
+}
+
+/// The same, told in one clause.
+#[inline(always)]
+fn lead_by(
+    reads: &mut Reads<'_>,
+    checks: Checks,
+    at: &mut u64,
+    referent: Referent,
+) -> Option<Reason>
+    requires few { reads.old.count < reads.old.base + 2 ^ 60 }
+    requires near { at.old < 2 ^ 35 }
+    requires align { IsSized referent }
+    ensures { (tested_by at.new reads.new.count result ≡ after reads.old.count (lead_failure checks reads.old.bytes at.old (lead_to referent)))
+        × (result ≡ None → ((object : ℕ) → referent ≡ ATable object → (at.new ≡ target reads.old.bytes at.old) × (at.new < 2 ^ 33)) × (reads.new.count ≡ reads.old.count + lead_reads (lead_to referent)))
+        × (reads.new.bytes ≡ reads.old.bytes) × (reads.new.base ≡ reads.old.base) }
 {
     match referent {
         Referent::Nothing => None,
