@@ -190,9 +190,7 @@ fn vtable_by(
     at: &mut u64,
     head: &mut Head,
 ) -> Option<Reason>
-    requires few { reads.old.count < reads.old.base + 2 ^ 61 }
-    requires near { place < 2 ^ 32 }
-    requires its { place ≡ vtable reads.old.bytes at.old }
+    requires { (reads.old.count < reads.old.base + 2 ^ 61) × (place < 2 ^ 32) × (place ≡ vtable reads.old.bytes at.old) }
     ensures { IsTested reads.old reads.new at.new (vtable_failure checks reads.old.bytes at.old) (vtable_reads checks) result
         × (result ≡ None → IsHead checks reads.old.bytes at.old head.new × (at.new ≡ at.old)) }
 {
@@ -350,9 +348,7 @@ fn vector_field_by(
     align: u32,
     many: &mut u32,
 ) -> Option<Reason>
-    requires few { reads.old.count < reads.old.base + 2 ^ 60 }
-    requires placed { IsPlaced checks reads.old.bytes table.at table.head at.old }
-    requires align { IsAlignment align }
+    requires { (reads.old.count < reads.old.base + 2 ^ 60) × IsPlaced checks reads.old.bytes table.at table.head at.old × IsAlignment align }
     ensures { IsTested reads.old reads.new at.new (vector_field_failure checks reads.old.bytes table.at at.old size align) 2 result
         × (result ≡ None → (at.new ≡ target reads.old.bytes at.old + 4) × (many.new ≡ word reads.old.bytes (target reads.old.bytes at.old) 4) × (at.new + many.new * size < 2 ^ 31)) }
 {
@@ -397,20 +393,13 @@ pub fn test_lead(
     ensures bytes { reads.new.bytes ≡ reads.old.bytes }
     ensures base { reads.new.base ≡ reads.old.base }
 {
-    lead_by(reads, checks, at, referent)
+    led_by(reads, checks, at, referent)
 }
 
 /// The same, told in one clause.
 #[inline(always)]
-fn lead_by(
-    reads: &mut Reads<'_>,
-    checks: Checks,
-    at: &mut u64,
-    referent: Referent,
-) -> Option<Reason>
-    requires few { reads.old.count < reads.old.base + 2 ^ 60 }
-    requires near { at.old < 2 ^ 35 }
-    requires align { IsSized referent }
+fn led_by(reads: &mut Reads<'_>, checks: Checks, at: &mut u64, referent: Referent) -> Option<Reason>
+    requires { (reads.old.count < reads.old.base + 2 ^ 60) × (at.old < 2 ^ 35) × IsSized referent }
     ensures { (tested_by at.new reads.new.count result ≡ after reads.old.count (lead_failure checks reads.old.bytes at.old (lead_to referent)))
         × (result ≡ None → ((object : ℕ) → referent ≡ ATable object → (at.new ≡ target reads.old.bytes at.old) × (at.new < 2 ^ 33)) × (reads.new.count ≡ reads.old.count + lead_reads (lead_to referent)))
         × (reads.new.bytes ≡ reads.old.bytes) × (reads.new.base ≡ reads.old.base) }
@@ -497,9 +486,8 @@ fn pass_field(
 #[inline(never)]
 fn small_failure(length: u64, place: u64, size: u32, distance: u64) -> Option<Reason>
     requires near { place < 2 ^ 34 }
-    ensures absent { distance ≡ 0 → result ≡ None }
-    ensures outside { 0 < distance → length < place + size → result ≡ Some OutOfBuffer }
-    ensures askew { 0 < distance → place + size ≤ length → result ≡ Some Misaligned }
+    ensures { (distance ≡ 0 → result ≡ None) × (0 < distance → length < place + size → result ≡ Some OutOfBuffer)
+        × (0 < distance → place + size ≤ length → result ≡ Some Misaligned) }
 {
     if distance == 0 {
         return None;
