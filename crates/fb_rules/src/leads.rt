@@ -3,8 +3,7 @@
 ghost use Rattle.std.specs.Prelude.{◌≡◌, ◌+◌, ◌*◌, ◌^◌, ◌<◌, ◌≤◌, length, IsTrue, None, nat_lt};
 ghost use Rattle.fb_bytes.specs.Word.{word};
 ghost use Rattle.fb_schema.specs.{Rows.is_union, Members.member_of, Served.IsServed};
-ghost use Rattle.fb_rules.specs.{Cost.slot_reads, Places.field_place, Places.has_slot, Places.target};
-ghost use Rattle.fb_rules.specs.{Plain.tested_by, Plain.IsTested, Plain.place_from, Told.IsPlaced, Told.IsVtable};
+ghost use Rattle.fb_rules.specs.{Places.has_slot, Places.target, Plain.tested_by, Plain.IsTested, Told.IsPlaced, Told.IsVtable};
 ghost use Rattle.fb_rules.specs.Fields.{type_place, type_count, types_begin, union_entry};
 ghost use Rattle.fb_rules.specs.OffsetRows.{AreAll, LeavesRow, PutsWords, type_of_slot, type_reads, types_reads, TypeFits, TypesFit};
 ghost use Rattle.fb_rules.specs.Order.{after, table_failure, union_field_failure, unions_field_failure, vector_field_failure};
@@ -158,8 +157,8 @@ fn put_typed(
         × (reads.old.count < reads.old.base + 2 ^ 58) × IsPlaced checks reads.old.bytes table.at table.head at.old }
     ensures { IsTested reads.old reads.new at.new (after (types_reads reads.old.bytes table.at slot) (unions_field_failure checks reads.old.bytes table.at at.old (type_place reads.old.bytes table.at slot))) (types_reads reads.old.bytes table.at slot + 2) result
         × (result ≡ None → PutsWords reads.old.bytes at.old (ByType union (types_begin reads.old.bytes (type_place reads.old.bytes table.at slot))) row.old row.new
-            × (types_begin reads.old.bytes (type_place reads.old.bytes table.at slot) + word reads.old.bytes (target reads.old.bytes at.old) 4 ≤ length reads.old.bytes)
-            × (types_begin reads.old.bytes (type_place reads.old.bytes table.at slot) + word reads.old.bytes (target reads.old.bytes at.old) 4 < 2 ^ 36)) }
+        × (types_begin reads.old.bytes (type_place reads.old.bytes table.at slot) + word reads.old.bytes (target reads.old.bytes at.old) 4 ≤ length reads.old.bytes)
+        × (types_begin reads.old.bytes (type_place reads.old.bytes table.at slot) + word reads.old.bytes (target reads.old.bytes at.old) 4 < 2 ^ 36)) }
 {
     let (types, many) = types_of(reads, table, slot);
     let mut count = 0;

@@ -1,17 +1,16 @@
 // The rules of the format for tables, strings and vectors, by reads that are counted in a register, and how a field is
 // passed by its step. Those of unions stand in `leads.rt`, those of the start in `begin.rt`.
 
-ghost use Rattle.std.specs.Prelude.{◌≡◌, ℕ, ◌+◌, ◌*◌, ◌^◌, ◌<◌, ◌≤◌, ◌%◌, ◌==◌, length, Some, None, IfSome, MatchOption, IsTrue, true, false};
-ghost use Rattle.std.specs.Int.Bits.{bit_and};
+ghost use Rattle.std.specs.Prelude.{◌≡◌, ℕ, ◌+◌, ◌*◌, ◌^◌, ◌<◌, ◌≤◌, ◌%◌, ◌==◌, length, Some, None, IfSome, MatchOption, IsTrue, false};
 ghost use Rattle.fb_bytes.specs.Word.{word};
 ghost use Rattle.fb_schema.specs.Served.{IsAlignment};
-ghost use Rattle.fb_rules.specs.Places.{fits, target, has_slot, has_vtable, vtable, field_place};
+ghost use Rattle.fb_rules.specs.Places.{fits, target, has_slot, vtable, field_place};
 ghost use Rattle.fb_rules.specs.{Cost.head_reads, Cost.slot_reads, Cost.lead_reads, Fields.to_string, OffsetRows.lead_to, OffsetRows.IsSized};
 ghost use Rattle.fb_rules.specs.Told.{IsVtable, IsHead, IsPlaced};
 ghost use Rattle.fb_rules.specs.declared.offset_row.Referent.TheVariants.{Table as ATable};
 ghost use Rattle.fb_rules.specs.declared.plain.Came.TheVariants.{Past, ToFault};
 ghost use Rattle.fb_rules.specs.declared.fault.Reason.TheVariants.{OutOfBuffer, Misaligned};
-ghost use Rattle.fb_rules.specs.Order.{after, ◌▷◌, head_failure, table_failure, offset_failure, string_failure, vector_failure, inline_failure, inline_field_failure, vector_field_failure, lead_failure};
+ghost use Rattle.fb_rules.specs.Order.{after, head_failure, table_failure, offset_failure, string_failure, vector_failure, inline_failure, inline_field_failure, vector_field_failure, lead_failure};
 ghost use Rattle.fb_rules.specs.Plain.{tested_by, vtable_failure, vtable_reads, FindsVtable, IsTested, IsSmall, place_from, IsStep, HasBit, IsCame, Filled, Stepped};
 
 use crate::checks::Checks;
