@@ -3,7 +3,6 @@
 ghost use Rattle.fb_bytes.specs.Messages.{OneReading, SomeReading};
 
 /// Two readings of one stream are one: the same messages, and the same rest.
-#[tactic(auto, using(crate::proofs::MessageLemmas::readings_one))]
 pub fn one_reading()
     ensures { OneReading }
 {}

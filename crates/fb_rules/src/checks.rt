@@ -24,10 +24,7 @@ impl Checks {
     pub fn published() -> Self
         ensures { result ≡ record { alignment = true; inline_size = false } }
     {
-        Checks {
-            alignment: true,
-            inline_size: false,
-        }
+        PUBLISHED
     }
 }
 

@@ -3,8 +3,7 @@
 ghost use Rattle.std.specs.Prelude.{◌≡◌, ◌+◌, ◌*◌, ◌^◌, ◌<◌, ◌≤◌, length, IsTrue, None, nat_lt};
 ghost use Rattle.fb_bytes.specs.Word.{word};
 ghost use Rattle.fb_schema.specs.{Rows.is_union, Members.member_of, Served.IsServed};
-ghost use Rattle.fb_rules.specs.{Cost.slot_reads, Places.field_place, Places.has_slot, Places.target};
-ghost use Rattle.fb_rules.specs.{Plain.tested_by, Plain.IsTested, Plain.place_from, Told.IsPlaced, Told.IsVtable};
+ghost use Rattle.fb_rules.specs.{Places.has_slot, Places.target, Plain.tested_by, Plain.IsTested, Told.IsPlaced, Told.IsVtable};
 ghost use Rattle.fb_rules.specs.Fields.{type_place, type_count, types_begin, union_entry};
 ghost use Rattle.fb_rules.specs.OffsetRows.{AreAll, LeavesRow, PutsWords, type_of_slot, type_reads, types_reads, TypeFits, TypesFit};
 ghost use Rattle.fb_rules.specs.Order.{after, table_failure, union_field_failure, unions_field_failure, vector_field_failure};
@@ -35,34 +34,27 @@ fn type_of(reads: &mut Reads<'_>, table: Table, slot: u16) -> u8
     }
 }
 
-/// Where the types of a vector of unions begin, and how many they are.
-#[derive(Clone, Copy)]
-struct Types {
-    at: u64,
-    count: u32,
-}
-
 /// Reads again where the types of a vector of unions begin, whose field has this slot, and how many they are: none
 /// where their field is absent.
 #[inline(always)]
-fn types_of(reads: &mut Reads<'_>, table: Table, slot: u16) -> Types
+fn types_of(reads: &mut Reads<'_>, table: Table, slot: u16) -> (u64, u32)
     requires few { reads.old.count < reads.old.base + 2 ^ 60 }
     requires near { table.at < 2 ^ 33 }
     requires head { IsVtable reads.old.bytes table.at table.head }
     requires present { IsTrue (has_slot reads.old.bytes table.at slot) }
     requires typed { TypesFit reads.old.bytes table.at slot }
-    ensures { (result.at ≡ types_begin reads.old.bytes (type_place reads.old.bytes table.at slot))
-        × (result.count ≡ type_count reads.old.bytes (type_place reads.old.bytes table.at slot))
-        × (result.at + result.count ≤ length reads.old.bytes) × (result.at + result.count < 2 ^ 36)
+    ensures { (result.0 ≡ types_begin reads.old.bytes (type_place reads.old.bytes table.at slot))
+        × (result.1 ≡ type_count reads.old.bytes (type_place reads.old.bytes table.at slot))
+        × (result.0 + result.1 ≤ length reads.old.bytes) × (result.0 + result.1 < 2 ^ 36)
         × (reads.new ≡ record reads.old { count = reads.old.count + types_reads reads.old.bytes table.at slot }) }
 {
     match distance_of(reads, table.at, table.head, slot - 2) {
-        0 => Types { at: 0, count: 0 },
+        0 => (0, 0),
         distance => {
             let place = table.at + distance;
             let at = place + u64::from(reads.u32_at(place));
             let count = reads.u32_at(at);
-            Types { at: at + 4, count }
+            (at + 4, count)
         }
     }
 }
@@ -161,27 +153,25 @@ fn put_typed(
     union: u32,
     row: &mut Row,
 ) -> Option<Reason>
-    requires present { IsTrue (has_slot reads.old.bytes table.at slot) }
-    requires typed { TypesFit reads.old.bytes table.at slot }
-    requires few { reads.old.count < reads.old.base + 2 ^ 58 }
-    requires placed { IsPlaced checks reads.old.bytes table.at table.head at.old }
+    requires { IsTrue (has_slot reads.old.bytes table.at slot) × TypesFit reads.old.bytes table.at slot
+        × (reads.old.count < reads.old.base + 2 ^ 58) × IsPlaced checks reads.old.bytes table.at table.head at.old }
     ensures { IsTested reads.old reads.new at.new (after (types_reads reads.old.bytes table.at slot) (unions_field_failure checks reads.old.bytes table.at at.old (type_place reads.old.bytes table.at slot))) (types_reads reads.old.bytes table.at slot + 2) result
         × (result ≡ None → PutsWords reads.old.bytes at.old (ByType union (types_begin reads.old.bytes (type_place reads.old.bytes table.at slot))) row.old row.new
-            × (types_begin reads.old.bytes (type_place reads.old.bytes table.at slot) + word reads.old.bytes (target reads.old.bytes at.old) 4 ≤ length reads.old.bytes)
-            × (types_begin reads.old.bytes (type_place reads.old.bytes table.at slot) + word reads.old.bytes (target reads.old.bytes at.old) 4 < 2 ^ 36)) }
+        × (types_begin reads.old.bytes (type_place reads.old.bytes table.at slot) + word reads.old.bytes (target reads.old.bytes at.old) 4 ≤ length reads.old.bytes)
+        × (types_begin reads.old.bytes (type_place reads.old.bytes table.at slot) + word reads.old.bytes (target reads.old.bytes at.old) 4 < 2 ^ 36)) }
 {
-    let types = types_of(reads, table, slot);
+    let (types, many) = types_of(reads, table, slot);
     let mut count = 0;
     if let Some(reason) = test_vector_field(reads, checks, table, at, 4, 4, &mut count) {
         return Some(reason);
     }
-    if count != types.count {
+    if count != many {
         *at -= 4;
         return fails(Reason::LengthsDiffer);
     }
     if count != 0 {
         *row = Row {
-            leads: Leads::ByType(union, types.at),
+            leads: Leads::ByType(union, types),
             place: *at,
             left: count,
         };

@@ -1,17 +1,16 @@
 // The rules of the format for tables, strings and vectors, by reads that are counted in a register, and how a field is
 // passed by its step. Those of unions stand in `leads.rt`, those of the start in `begin.rt`.
 
-ghost use Rattle.std.specs.Prelude.{◌≡◌, ℕ, ◌+◌, ◌*◌, ◌^◌, ◌<◌, ◌≤◌, ◌%◌, ◌==◌, length, Some, None, IfSome, MatchOption, IsTrue, true, false};
-ghost use Rattle.std.specs.Int.Bits.{bit_and};
+ghost use Rattle.std.specs.Prelude.{◌≡◌, ℕ, ◌+◌, ◌*◌, ◌^◌, ◌<◌, ◌≤◌, ◌%◌, ◌==◌, length, Some, None, IfSome, MatchOption, IsTrue, false};
 ghost use Rattle.fb_bytes.specs.Word.{word};
 ghost use Rattle.fb_schema.specs.Served.{IsAlignment};
-ghost use Rattle.fb_rules.specs.Places.{fits, target, has_slot, has_vtable, vtable, field_place};
+ghost use Rattle.fb_rules.specs.Places.{fits, target, has_slot, vtable, field_place};
 ghost use Rattle.fb_rules.specs.{Cost.head_reads, Cost.slot_reads, Cost.lead_reads, Fields.to_string, OffsetRows.lead_to, OffsetRows.IsSized};
 ghost use Rattle.fb_rules.specs.Told.{IsVtable, IsHead, IsPlaced};
 ghost use Rattle.fb_rules.specs.declared.offset_row.Referent.TheVariants.{Table as ATable};
 ghost use Rattle.fb_rules.specs.declared.plain.Came.TheVariants.{Past, ToFault};
 ghost use Rattle.fb_rules.specs.declared.fault.Reason.TheVariants.{OutOfBuffer, Misaligned};
-ghost use Rattle.fb_rules.specs.Order.{after, ◌▷◌, head_failure, table_failure, offset_failure, string_failure, vector_failure, inline_failure, inline_field_failure, vector_field_failure, lead_failure};
+ghost use Rattle.fb_rules.specs.Order.{after, head_failure, table_failure, offset_failure, string_failure, vector_failure, inline_failure, inline_field_failure, vector_field_failure, lead_failure};
 ghost use Rattle.fb_rules.specs.Plain.{tested_by, vtable_failure, vtable_reads, FindsVtable, IsTested, IsSmall, place_from, IsStep, HasBit, IsCame, Filled, Stepped};
 
 use crate::checks::Checks;
@@ -163,7 +162,6 @@ pub fn test_first_word(reads: &mut Reads<'_>, checks: Checks, at: u64) -> Result
 /// Tests the vtable, at this place, of the table at a position, and writes the table's head. Where it fails, the
 /// position is moved to where it does.
 #[inline(always)]
-#[tactic(auto, using(crate::proofs::Alignments::two), unfolding(crate::specs::Plain::vtable_failure))]
 pub fn test_vtable(
     reads: &mut Reads<'_>,
     checks: Checks,
@@ -177,6 +175,23 @@ pub fn test_vtable(
     ensures tested { IsTested reads.old reads.new at.new (vtable_failure checks reads.old.bytes at.old) (vtable_reads checks) result }
     ensures head { result ≡ None → IsHead checks reads.old.bytes at.old head.new }
     ensures same { result ≡ None → at.new ≡ at.old }
+{
+    vtable_by(reads, checks, place, at, head)
+}
+
+/// The same, told in one clause, which is proved once for each way out.
+#[inline(always)]
+#[tactic(auto, using(crate::proofs::Alignments::two), unfolding(crate::specs::Plain::vtable_failure))]
+fn vtable_by(
+    reads: &mut Reads<'_>,
+    checks: Checks,
+    place: u64,
+    at: &mut u64,
+    head: &mut Head,
+) -> Option<Reason>
+    requires { (reads.old.count < reads.old.base + 2 ^ 61) × (place < 2 ^ 32) × (place ≡ vtable reads.old.bytes at.old) }
+    ensures { IsTested reads.old reads.new at.new (vtable_failure checks reads.old.bytes at.old) (vtable_reads checks) result
+        × (result ≡ None → IsHead checks reads.old.bytes at.old head.new × (at.new ≡ at.old)) }
 {
     if !reads.fits(place, 2) {
         return fails(Reason::OutOfBuffer);
@@ -318,6 +333,24 @@ pub fn test_vector_field(
     ensures many { result ≡ None → many.new ≡ word reads.old.bytes (target reads.old.bytes at.old) 4 }
     ensures within { result ≡ None → at.new + many.new * size < 2 ^ 31 }
 {
+    vector_field_by(reads, checks, table, at, size, align, many)
+}
+
+/// The same, told in one clause.
+#[inline(always)]
+fn vector_field_by(
+    reads: &mut Reads<'_>,
+    checks: Checks,
+    table: Table,
+    at: &mut u64,
+    size: u32,
+    align: u32,
+    many: &mut u32,
+) -> Option<Reason>
+    requires { (reads.old.count < reads.old.base + 2 ^ 60) × IsPlaced checks reads.old.bytes table.at table.head at.old × IsAlignment align }
+    ensures { IsTested reads.old reads.new at.new (vector_field_failure checks reads.old.bytes table.at at.old size align) 2 result
+        × (result ≡ None → (at.new ≡ target reads.old.bytes at.old + 4) × (many.new ≡ word reads.old.bytes (target reads.old.bytes at.old) 4) × (at.new + many.new * size < 2 ^ 31)) }
+{
     if let Some(reason) = test_end(reads, checks, table, *at, 4) {
         return Some(reason);
     }
@@ -358,6 +391,17 @@ pub fn test_lead(
     ensures counted { result ≡ None → reads.new.count ≡ reads.old.count + lead_reads (lead_to referent) }
     ensures bytes { reads.new.bytes ≡ reads.old.bytes }
     ensures base { reads.new.base ≡ reads.old.base }
+{
+    led_by(reads, checks, at, referent)
+}
+
+/// The same, told in one clause.
+#[inline(always)]
+fn led_by(reads: &mut Reads<'_>, checks: Checks, at: &mut u64, referent: Referent) -> Option<Reason>
+    requires { (reads.old.count < reads.old.base + 2 ^ 60) × (at.old < 2 ^ 35) × IsSized referent }
+    ensures { (tested_by at.new reads.new.count result ≡ after reads.old.count (lead_failure checks reads.old.bytes at.old (lead_to referent)))
+        × (result ≡ None → ((object : ℕ) → referent ≡ ATable object → (at.new ≡ target reads.old.bytes at.old) × (at.new < 2 ^ 33)) × (reads.new.count ≡ reads.old.count + lead_reads (lead_to referent)))
+        × (reads.new.bytes ≡ reads.old.bytes) × (reads.new.base ≡ reads.old.base) }
 {
     match referent {
         Referent::Nothing => None,
@@ -441,9 +485,8 @@ fn pass_field(
 #[inline(never)]
 fn small_failure(length: u64, place: u64, size: u32, distance: u64) -> Option<Reason>
     requires near { place < 2 ^ 34 }
-    ensures absent { distance ≡ 0 → result ≡ None }
-    ensures outside { 0 < distance → length < place + size → result ≡ Some OutOfBuffer }
-    ensures askew { 0 < distance → place + size ≤ length → result ≡ Some Misaligned }
+    ensures { (distance ≡ 0 → result ≡ None) × (0 < distance → length < place + size → result ≡ Some OutOfBuffer)
+        × (0 < distance → place + size ≤ length → result ≡ Some Misaligned) }
 {
     if distance == 0 {
         return None;

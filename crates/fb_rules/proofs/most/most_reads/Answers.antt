@@ -9,9 +9,7 @@ returns-in-None c = search rules
 
 -- it has 128 bits
 short : (tables fields field : ℕ) → tables ≤ 4294967295 → fields ≤ 4294967295 → field ≤ 18446744073709551623 → 4 + tables * (4 + fields * field) < 340282366920938463463374607431768211456
-short tables fields field few narrow near =
-    let a_table = mul-le fields field 4294967295 18446744073709551623 narrow near in
-    omega (arith, mul-le tables (4 + fields * field) 4294967295 79228162495817593549899169789 few (omega (arith, a_table)))
+short tables fields field few narrow near = omega (arith, mul-le tables (4 + fields * field) 4294967295 79228162495817593549899169789 few (omega (arith, mul-le fields field 4294967295 18446744073709551623 narrow near)))
 
 pub overflow_add-most : goal.overflow_add-most
 overflow_add-most c = record { fits = short _ _ _ (omega arith) (omega arith) (omega arith) }
