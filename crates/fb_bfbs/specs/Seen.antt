@@ -41,6 +41,13 @@ MayHaveTable p number = (object : ℕ) × MayHaveField p number (Table object)
 abbrev pub IsVector : Placed → Type 0
 IsVector p = (object : ℕ) × IsAt p (Tables object)
 
+-- a vector of tables is here, each of which lists tables in its field of number 1, which is always there
+pub record IsListOfLists (p : Placed) : Type 0 where
+  pub object : ℕ
+  pub listed : ℕ
+  pub at : IsAt p (Tables object)
+  pub sure : sure_kind fixed (Table object) (ToField 1) ≡ Some (Tables listed)
+
 -- one step on, a value of this kind is here
 pub record IsOneOn (p : Placed) (s : Step) (r : Placed) (kind : Kind) : Type 0 where
   pub at : IsAt r kind
