@@ -1,6 +1,5 @@
 -- For who reads by a schema that they know: which answer comes where a kind is here.
-use Rattle.std.proofs.Common.{arith}
-use Rattle.std.proofs.Common.{◌≡◌, ℕ, ℤ, Bool, List, Some, Bor}
+use Rattle.std.proofs.Common.{arith, ◌≡◌, ℕ, ℤ, Bool, List, Some, Bor}
 use Rattle.fb_schema.specs.declared.{kinds.Scalar.Scalar, kinds.Kind.Kind}
 use Rattle.fb_schema.specs.declared.kinds.Kind.TheVariants.{Scalar as AScalar, Text as AText, Table as ATable}
 use Rattle.fb_schema.specs.declared.kinds.Scalar.TheVariants.{UType, Bool as AsBool, UByte, UShort, UInt as AsUInt, ULong}

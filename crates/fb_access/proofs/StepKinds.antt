@@ -1,6 +1,5 @@
 -- Which steps lead on from what is here, and to what kind.
-use Rattle.std.proofs.Common.{arith}
-use Rattle.std.proofs.Common.{◌≡◌, ℕ, ◌+◌, ◌==◌, nat_lt, Bool, true, false, if◌then◌else◌, IsTrue, List, subst, refl, Option, Some, None, is_some, inl, inr}
+use Rattle.std.proofs.Common.{arith, ◌≡◌, ℕ, ◌+◌, ◌==◌, nat_lt, Bool, true, false, if◌then◌else◌, IsTrue, List, subst, refl, Option, Some, None, is_some, inl, inr}
 use Rattle.std.specs.Prelude.{option_map}
 use Rattle.fb_schema.specs.declared.{kinds.Kind.Kind}
 use Rattle.fb_schema.specs.declared.views.PartView.{PartView}

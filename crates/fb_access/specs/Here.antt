@@ -5,8 +5,7 @@ use Rattle.std.specs.Int.RustNames.{FitsSigned}
 use Rattle.fb_schema.specs.declared.{kinds.Scalar.Scalar, kinds.Kind.Kind, kinds.Kind.TheVariants.Scalar as AScalar, kinds.Kind.TheVariants.Table}
 use Rattle.fb_schema.specs.declared.kinds.Scalar.TheVariants.{Byte, Short, Int as AsInt, Long, Float as AsFloat, Double}
 use Rattle.fb_schema.specs.{Rows.Rows, Kinds.scalar_size, Live.Live}
-use Rattle.fb_access.specs.declared.{step.Step.Step, step.Step.TheVariants.Field, step.Step.TheVariants.Element, step.Step.TheVariants.Member}
-use Rattle.fb_access.specs.declared.{spot.Spot.Spot, spot.Spot.TheVariants.AtAbsent, answer.Answer.Answer}
+use Rattle.fb_access.specs.declared.{step.Step.Step, step.Step.TheVariants.Field, step.Step.TheVariants.Element, step.Step.TheVariants.Member, spot.Spot.Spot, spot.Spot.TheVariants.AtAbsent, answer.Answer.Answer}
 use Rattle.fb_access.specs.declared.answer.Answer.TheVariants.{Int, UInt}
 use Rattle.fb_access.specs.{Fitting.numbered, Fitting.next_kind, Spots.kind_at, Denotes.Reaches, Denotes.Shown, Denotes.value}
 
