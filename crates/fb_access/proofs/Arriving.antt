@@ -2,10 +2,8 @@
 use Rattle.std.proofs.Common.{◌≡◌, ℕ, ◌+◌, ◌*◌, ◌<◌, ◌^◌, ◌==◌, if◌then◌else◌, List, [], ◌∷◌, ◌++◌, length, slice_get, decimal, option_map, option_and_then, IsTrue, Option, Some, None, Ok, append-nil, refl, sym, ◌∙◌, ap, subst, arith, inl, inr}
 use Rattle.std.proofs.lemmas.{Bool.cond-true, Bool.Decides.Decides-eqb}
 use Rattle.fb_bytes.specs.Word.{word}
-use Rattle.fb_schema.specs.declared.kinds.Kind.{Kind}
-use Rattle.fb_schema.specs.declared.kinds.Kind.TheVariants.{Text, Struct, Table, Union, Texts, Tables, Unions}
-use Rattle.fb_schema.specs.{Demands.IsLegal, Live.Live, Live.live_fields, Members.member_of, Members.member_name, Rows.Rows, Rows.is_union}
-use Rattle.fb_schema.specs.Served.{KindHolds, IsServed}
+use Rattle.fb_schema.specs.declared.kinds.Kind.{Kind, TheVariants.Text, TheVariants.Struct, TheVariants.Table, TheVariants.Union, TheVariants.Texts, TheVariants.Tables, TheVariants.Unions}
+use Rattle.fb_schema.specs.{Demands.IsLegal, Live.Live, Live.live_fields, Members.member_of, Members.member_name, Rows.Rows, Rows.is_union, Served.KindHolds, Served.IsServed}
 use Rattle.fb_rules.specs.declared.{checks.Checks.Checks, fault.Fault.Fault, link.Link.Link}
 use Rattle.fb_rules.specs.{Bounds.Bounds, Places.target, Places.field_place, Tree.kids_length, Tree.elements_length, WellFormed.base}
 use Rattle.fb_rules.specs.Fields.{type_place, union_type, types_begin, IsVectorField, IsPresent, IsPresentOrAbsent, IsField, Lead, to_table, to_string, to_nothing, lead_of, Entry, entry, entries_of, entries_at, entries}

@@ -1,7 +1,6 @@
 -- Texts that are added up to so many bytes in all.
 use Rattle.std.proofs.Common.{◌≡◌, ℕ, suc, zero, ◌-◌, ◌≤◌, ◌<◌, List, [], ◌∷◌, ◌++◌, length, take, map, codes, refl, ap, sym, ◌∙◌, append_assoc, arith, length-append, nat_lt}
-use Rattle.std.proofs.lemmas.{Grind.common_steps, Bool.cond-true, Bool.cond-false, Bool.le-ltb, Bool.lt-ltb}
-use Rattle.std.proofs.lemmas.List.{length-take, take-map, take-take, take_all}
+use Rattle.std.proofs.lemmas.{Grind.common_steps, Bool.cond-true, Bool.cond-false, Bool.le-ltb, Bool.lt-ltb, List.length-take, List.take-map, List.take-take, List.take_all}
 use Rattle.fb_access.specs.Location.{cut_to, filled, name_byte}
 
 -- as much of one text, and as much as there is room for behind it of the other, is as much of both

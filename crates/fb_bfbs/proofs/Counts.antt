@@ -5,8 +5,7 @@ use Rattle.fb_schema.specs.declared.kinds.Kind.TheVariants.{Tables}
 use Rattle.std.specs.List.{sum_by}
 use Rattle.std.proofs.lemmas.List.Sums.{sum_by-cons}
 use Rattle.fb_schema.specs.Rows.{Object, Enum, Rows}
-use Rattle.fb_access.specs.declared.step.Step.TheVariants.{Field as ToField, Element}
-use Rattle.fb_access.specs.{Denotes.Leads, Denotes.value, Denotes.vector, Held.Placed}
+use Rattle.fb_access.specs.{Denotes.Leads, Denotes.value, Denotes.vector, Held.Placed, declared.step.Step.TheVariants.Field as ToField, declared.step.Step.TheVariants.Element}
 use Rattle.fb_bfbs.specs.{Says.Says, Says.after, Says.AreRows, Describes.IsObjectRow, Describes.IsEnumRow, Describes.Describes, Seen.IsRowAt, Seen.AreRowsAt, Seen.IsListOfLists, Seen.HasField, Seen.seen}
 use Rattle.fb_bfbs.specs.Sums.{rows_count, Lists, listed_rows, HasRows, IsToldFew, IsPaid, ArePaid, most_rows}
 use Rattle.fb_bfbs.proofs.{FixedFields.always, Sure.at_element, Composed.mapped_rows, Composed.row_here, Composed.seen_in, Composed.seen_after, OneFile.IsSingle, OneFile.IsOnly, OneFile.only_rows}

@@ -1,7 +1,6 @@
 -- The fixed table: the rows of reflection.fbs, by which schema files are verified and read.
 use Rattle.std.specs.Prelude.{ℕ, ◌+◌, ◌*◌, ℤ, pos, negsuc, true, false, List, [], ◌∷◌, codes}
-use Rattle.fb_schema.specs.declared.rows.TypeRow.{TypeRow}
-use Rattle.fb_schema.specs.{Rows.Field, Rows.Object, Rows.Rows, Builders.type_of_one, Builders.plain_table}
+use Rattle.fb_schema.specs.{Rows.Field, Rows.Object, Rows.Rows, Builders.type_of_one, Builders.plain_table, declared.rows.TypeRow.TypeRow}
 
 -- Types.
 

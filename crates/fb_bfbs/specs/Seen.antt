@@ -1,10 +1,8 @@
 -- What is seen from a place in a schema file.
 use Rattle.std.specs.Prelude.{◌≡◌, ℕ, List, [], ◌∷◌, Some}
-use Rattle.fb_schema.specs.declared.kinds.Kind.{Kind}
-use Rattle.fb_schema.specs.declared.kinds.Kind.TheVariants.{Scalar as AScalar, Table, Tables}
+use Rattle.fb_schema.specs.declared.kinds.Kind.{Kind, TheVariants.Scalar as AScalar, TheVariants.Table, TheVariants.Tables}
 use Rattle.fb_schema.specs.declared.kinds.Scalar.{Scalar}
-use Rattle.fb_access.specs.declared.{step.Step.Step, step.Step.TheVariants.Field as ToField}
-use Rattle.fb_access.specs.{Fitting.next_kind, Denotes.Leads, Denotes.Shown, Held.Placed}
+use Rattle.fb_access.specs.{Fitting.next_kind, Denotes.Leads, Denotes.Shown, Held.Placed, declared.step.Step.Step, declared.step.Step.TheVariants.Field as ToField}
 use Rattle.fb_access.specs.Here.{IsHere, sure_kind, IsSigned, Shows}
 use Rattle.fb_bfbs.specs.{Fixed.fixed, Says.Says, Says.after, Says.AreRows}
 
