@@ -20,7 +20,7 @@ module _ (b : List ℕ) (L : Bounds) where
 
   -- rows that were read of a verified file, as far as its length pays for them where the limits have a budget of reads
   module _ (v : Sealed) (S : Rows) (by_fixed : S ≡ fixed) (kept : v ≡ record { bytes = b; schema = S; root = schema_number; start = Bare; checks = published; report = v.report }) (short : length b < 2 ^ 31) (yes : Reports (asked_within L) b v.report)
-    (n : ℕ) (paying : Option ℕ) (len : n ≡ length b) (pays : paying ≡ option_map (λ _. n) L.reads) where
+      (n : ℕ) (paying : Option ℕ) (len : n ≡ length b) (pays : paying ≡ option_map (λ _. n) L.reads) where
     abbrev said : Says
     said = Denotes v.bytes v.schema v.start v.root
 

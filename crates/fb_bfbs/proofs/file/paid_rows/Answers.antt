@@ -26,8 +26,7 @@ returns-then-not-is_enough_for c =
 
 pub returns : goal.returns
 returns c =
-    let few = c.has_few_rows.ensures in
-    (
+    let few = c.has_few_rows.ensures in (
       c.in_ok-rows.ensures,
       record {
         count = few.rows;
