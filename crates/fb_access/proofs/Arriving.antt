@@ -2,28 +2,23 @@
 use Rattle.std.proofs.Common.{◌≡◌, ℕ, ◌+◌, ◌*◌, ◌<◌, ◌^◌, ◌==◌, if◌then◌else◌, List, [], ◌∷◌, ◌++◌, length, slice_get, decimal, option_map, option_and_then, IsTrue, Option, Some, None, Ok, append-nil, refl, sym, ◌∙◌, ap, subst, arith, inl, inr}
 use Rattle.std.proofs.lemmas.{Bool.cond-true, Bool.Decides.Decides-eqb}
 use Rattle.fb_bytes.specs.Word.{word}
-use Rattle.fb_schema.specs.declared.kinds.Kind.{Kind}
-use Rattle.fb_schema.specs.declared.kinds.Kind.TheVariants.{Text, Struct, Table, Union, Texts, Tables, Unions}
-use Rattle.fb_schema.specs.{Demands.IsLegal, Live.Live, Live.live_fields, Members.member_of, Members.member_name, Rows.Rows, Rows.is_union}
-use Rattle.fb_schema.specs.Served.{KindHolds, IsServed}
+use Rattle.fb_schema.specs.declared.kinds.Kind.{Kind, TheVariants.Text, TheVariants.Struct, TheVariants.Table, TheVariants.Union, TheVariants.Texts, TheVariants.Tables, TheVariants.Unions}
+use Rattle.fb_schema.specs.{Demands.IsLegal, Live.Live, Live.live_fields, Members.member_of, Members.member_name, Rows.Rows, Rows.is_union, Served.KindHolds, Served.IsServed}
 use Rattle.fb_rules.specs.declared.{checks.Checks.Checks, fault.Fault.Fault, link.Link.Link}
 use Rattle.fb_rules.specs.{Bounds.Bounds, Places.target, Places.field_place, Tree.kids_length, Tree.elements_length, WellFormed.base}
 use Rattle.fb_rules.specs.Fields.{type_place, union_type, types_begin, IsVectorField, IsPresent, IsPresentOrAbsent, IsField, Lead, to_table, to_string, to_nothing, lead_of, Entry, entry, entries_of, entries_at, entries}
 use Rattle.fb_rules.specs.Way.{Way, way_to_start, way_to_root, way_to_field, way_to_element, way_to_table}
 use Rattle.fb_rules.specs.Stops.{in_start, in_head, in_field, in_element, Trail, at_head, at_field, FieldTrail, at_own, at_element, ElementTrail, at_lead, through, IsTrail, IsFieldTrail, IsElementTrail}
 use Rattle.fb_rules.specs.Links.{element_of, type_of, field_link, element_link, object_led_to, links_of, links_in_field, links_in_element}
-use Rattle.fb_access.specs.declared.{step.Step.Step, step.Step.TheVariants.Field, step.Step.TheVariants.Element, step.Step.TheVariants.Member}
-use Rattle.fb_access.specs.declared.{spot.Spot.Spot, misfit.Fitted.Fitted}
+use Rattle.fb_access.specs.declared.{step.Step.Step, step.Step.TheVariants.Field, step.Step.TheVariants.Element, step.Step.TheVariants.Member, spot.Spot.Spot, misfit.Fitted.Fitted}
 use Rattle.fb_access.specs.declared.spot.Spot.TheVariants.{AtTable, AtText, AtUnion, AtOtherMember}
 use Rattle.fb_access.specs.{Denotes.next_spot, Denotes.Leads, Denotes.Reaches, Fitting.element_kind, Location.member_of_kind}
 use Rattle.fb_access.specs.Grammar.{Part, field, element, member, number_of}
 use Rattle.fb_access.specs.LocationLaws.{field_parts, element_parts, member_parts, link_parts, parts_of, IsBehind, Arrives, LinksArrive}
 use Rattle.fb_access.specs.Resolving.{to_field, to_element, to_kind, to_member, fitting, Follows}
 use Rattle.fb_access.specs.Spots.{if_element, present_spot, spot_at, field_spot, spot_of_element, member_spot}
-use Rattle.fb_access.proofs.{MemberKinds.member_there, MemberKinds.IsOfMember, NumberedFields.found_by_number}
-use Rattle.fb_access.proofs.{UniqueNames.found_by_name, UniqueNames.named_again, UniqueNames.has_name, Walks.reaches_on, Ways.read_back}
+use Rattle.fb_access.proofs.{MemberKinds.member_there, MemberKinds.IsOfMember, NumberedFields.found_by_number, UniqueNames.found_by_name, UniqueNames.named_again, UniqueNames.has_name, Walks.reaches_on, Ways.read_back, Leading.row_at, Leading.union_row_at, Leading.row_get, Following.follows_on}
 use Rattle.fb_access.proofs.StepLaws.{field_step, one_entry, one_union, element_there}
-use Rattle.fb_access.proofs.{Leading.row_at, Leading.union_row_at, Leading.row_get, Following.follows_on}
 
 -- a step, and the kind to which it leads
 abbrev fitted : Step → Kind → Fitted

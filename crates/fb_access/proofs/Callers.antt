@@ -2,13 +2,11 @@
 use Rattle.std.proofs.Common.{◌≡◌, ℕ, ◌<◌, nat_lt, if◌then◌else◌, IsTrue, List, [], ◌∷◌, sym, ◌∙◌, ap, subst, arith, Option, Some, None, inl}
 use Rattle.std.specs.Prelude.{option_map}
 use Rattle.std.proofs.lemmas.Bool.Decides.{nat_tests}
-use Rattle.fb_schema.specs.declared.{kinds.Kind.Kind, kinds.Kind.TheVariants.Table}
-use Rattle.fb_schema.specs.{Rows.Rows, Live.Live}
+use Rattle.fb_schema.specs.{Rows.Rows, Live.Live, declared.kinds.Kind.Kind, declared.kinds.Kind.TheVariants.Table}
 use Rattle.fb_access.specs.declared.{step.Step.Step, step.Step.TheVariants.Field, step.Step.TheVariants.Element, spot.Spot.Spot}
 use Rattle.fb_access.specs.declared.spot.Spot.TheVariants.{AtScalars, AtStructs, AtScalarArray, AtStructArray, AtTexts, AtTables, AtUnions, AtNoElement}
-use Rattle.fb_access.specs.{Fitting.numbered, Fitting.element_kind, Fitting.next_kind, Spots.field_spot, Spots.spot_of_element}
+use Rattle.fb_access.specs.{Fitting.numbered, Fitting.element_kind, Fitting.next_kind, Spots.field_spot, Spots.spot_of_element, Here.IsHere, Here.MayBeHere, Here.sure_kind, Here.Shows}
 use Rattle.fb_access.specs.Denotes.{next_spot, Leads, allows, Reaches, Shown, vector, value}
-use Rattle.fb_access.specs.Here.{IsHere, MayBeHere, sure_kind, Shows}
 use Rattle.fb_access.proofs.{StepKinds.kind_allows, StepKinds.field_kind, Sure.is_sure, Sure.sure_kind_of, Sure.table_here}
 
 -- what is here allows the steps of its kind

@@ -7,14 +7,11 @@ use Rattle.fb_schema.specs.Kinds.{scalar_size}
 use Rattle.fb_schema.specs.declared.kinds.Kind.TheVariants.{Tables}
 use Rattle.fb_schema.specs.Rows.{Rows}
 use Rattle.fb_access.specs.declared.{spot.Spot.Spot, extent.Extent.Extent, answer.Answer.Answer}
-use Rattle.fb_access.specs.{Extents.extent, Denotes.vector, Denotes.value, Denotes.number, Denotes.shown, Held.IsSpot, Held.Placed, Held.IsPlaced, Here.IsHere, Here.FitsScalar}
+use Rattle.fb_access.specs.{Extents.extent, Denotes.vector, Denotes.value, Denotes.number, Denotes.shown, Held.IsSpot, Here.IsHere, Here.FitsScalar}
 
 pub tables_fit : (b : List ℕ) (S : Rows) (p : Spot) (k n : ℕ) → IsSpot b S p → IsHere p (Tables k) → vector n ≡ value b S p → 4 * n ≤ length b
 unfolding IsSpot value
 tables_fit b S p k n spot here v = grind arith
-
-pub tables_fit_at : (p : Placed) (k n : ℕ) → IsPlaced p → IsHere p.spot (Tables k) → vector n ≡ value (p.sealed).bytes (p.sealed).schema p.spot → 4 * n ≤ length (p.sealed).bytes
-tables_fit_at p k n placed here v = tables_fit (p.sealed).bytes (p.sealed).schema p.spot k n placed.spot here v
 
 pub extent_within : (b : List ℕ) (S : Rows) (p : Spot) (o : Option Extent) → IsSpot b S p → o ≡ extent b S p → IfSome o (λ e. e.at + e.size ≤ length b)
 unfolding IsSpot extent

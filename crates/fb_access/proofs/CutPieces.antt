@@ -4,8 +4,7 @@ use Rattle.std.proofs.lemmas.List.{take_rest}
 use Rattle.fb_access.specs.declared.pieces.Piece.TheVariants.{Field, Element, Member}
 use Rattle.fb_access.specs.Grammar.{begins_name, number_of, IsNumber, Part, spelling}
 use Rattle.fb_access.specs.Cutting.{word_length, AreLeft, IsCuttable, IsCut}
-use Rattle.fb_access.proofs.{ScanAccepts.AreDigits, ScanAccepts.Most, Words.number_digits, Words.number_small}
-use Rattle.fb_access.proofs.Cuts.{PartLeft, marked, unmarked, some_part}
+use Rattle.fb_access.proofs.{ScanAccepts.AreDigits, ScanAccepts.Most, Words.number_digits, Words.number_small, Cuts.PartLeft, Cuts.marked, Cuts.unmarked, Cuts.some_part}
 
 -- the parts that are left of a text, in terms of its first byte
 first_byte : (text t : List ℕ) (c d : ℕ) (ps : List Part) → text ≡ c ∷ t → c ≡ d → AreLeft text ps → AreLeft (d ∷ t) ps

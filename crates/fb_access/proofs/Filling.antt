@@ -1,7 +1,6 @@
 -- Texts that are added up to so many bytes in all.
-use Rattle.std.proofs.Common.{◌≡◌, ℕ, suc, zero, ◌-◌, ◌≤◌, ◌<◌, List, [], ◌∷◌, ◌++◌, length, take, map, codes, refl, ap, sym, ◌∙◌, append_assoc, arith, length-append}
-use Rattle.std.proofs.lemmas.{Grind.common_steps, Bool.Decides.nat_tests}
-use Rattle.std.proofs.lemmas.List.{length-take, take-map, take-take, take_all}
+use Rattle.std.proofs.Common.{◌≡◌, ℕ, suc, zero, ◌-◌, ◌≤◌, ◌<◌, List, [], ◌∷◌, ◌++◌, length, take, map, codes, refl, ap, sym, ◌∙◌, append_assoc, arith, length-append, nat_lt}
+use Rattle.std.proofs.lemmas.{Grind.common_steps, Bool.cond-true, Bool.cond-false, Bool.le-ltb, Bool.lt-ltb, List.length-take, List.take-map, List.take-take, List.take_all}
 use Rattle.fb_access.specs.Location.{cut_to, filled, name_byte}
 
 -- as much of one text, and as much as there is room for behind it of the other, is as much of both
@@ -37,12 +36,12 @@ pub told_whole : (whole : List ℕ) → length (filled [] whole) ≤ 4096 → fi
 unfolding filled
 told_whole whole h =
     let n : length whole ≤ 4096 = omega (arith, length-take 4097 whole) in
-    let same : cut_to 4096 whole ≡ whole = grind (arith, nat_tests) in
+    let same : cut_to 4096 whole ≡ whole = cond-false (nat_lt 4096 (length whole)) _ _ (le-ltb 4096 (length whole) n) in
     take_all 4097 whole (omega arith) ∙ sym same
 
 pub told_cut : (whole : List ℕ) → 4096 < length (filled [] whole) → take 4096 (filled [] whole) ++ codes ".." ≡ cut_to 4096 whole
 unfolding filled
 told_cut whole h =
     let n : 4096 < length whole = omega (arith, length-take 4097 whole) in
-    let same : cut_to 4096 whole ≡ take 4096 whole ++ codes ".." = grind (arith, nat_tests) in
+    let same : cut_to 4096 whole ≡ take 4096 whole ++ codes ".." = cond-true (nat_lt 4096 (length whole)) _ _ (lt-ltb 4096 (length whole) n) in
     ap (λ (l : List ℕ). l ++ codes "..") (take-take 4096 4097 whole (omega arith)) ∙ sym same

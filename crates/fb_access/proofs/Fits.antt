@@ -1,26 +1,21 @@
 -- The steps that parts are, and the kinds to which they lead.
-use Rattle.std.proofs.Common.{arith}
-use Rattle.std.proofs.Common.{◌≡◌, ℕ, List, slice_get, Option, Some, None, Ok, Err, IsTrue, IsSome, IfSome, refl}
-use Rattle.fb_schema.specs.declared.{kinds.Kind.Kind, views.FieldView.FieldView, views.PartView.PartView}
-use Rattle.fb_schema.specs.declared.kinds.Kind.TheVariants.{Struct, Table, Union}
-use Rattle.fb_schema.specs.{Demands.IsLegal, Members.member_of, Members.member_named}
-use Rattle.fb_schema.specs.{Parts.PartFits, Parts.part_at, Parts.part_named, Rows.Rows, Rows.is_union}
-use Rattle.fb_schema.specs.Served.{KindHolds, IsServed}
+use Rattle.std.proofs.Common.{arith, ◌≡◌, ℕ, List, slice_get, Option, Some, None, Ok, Err, IsTrue, IsSome, IfSome, refl}
+use Rattle.fb_schema.specs.declared.{kinds.Kind.Kind, views.FieldView.FieldView, views.PartView.PartView, kinds.Kind.TheVariants.Struct, kinds.Kind.TheVariants.Table, kinds.Kind.TheVariants.Union}
+use Rattle.fb_schema.specs.{Demands.IsLegal, Members.member_of, Members.member_named, Parts.PartFits, Parts.part_at, Parts.part_named, Rows.Rows, Rows.is_union, Served.KindHolds, Served.IsServed}
 use Rattle.fb_schema.specs.Live.{Live, live_fields, live_of_view, field_named}
-use Rattle.fb_access.specs.declared.{step.Step.Step, step.Step.TheVariants.Field}
-use Rattle.fb_access.specs.declared.{misfit.Misfit.TheVariants.NoSuchField, misfit.Fitted.Fitted}
-use Rattle.fb_access.specs.{Fitting.element_kind, Fitting.next_kind, Kept.IsThere}
-use Rattle.fb_access.specs.Grammar.{Part, field, element, member, number_of}
+use Rattle.fb_schema.proofs.FindLemmas.{find_by_position}
+use Rattle.fb_access.specs.declared.{step.Step.Step, step.Step.TheVariants.Field, misfit.Misfit.TheVariants.NoSuchField, misfit.Fitted.Fitted}
+use Rattle.fb_access.specs.{Fitting.element_kind, Fitting.next_kind, Kept.IsThere, Grammar.Part, Grammar.field, Grammar.element, Grammar.member, Grammar.number_of}
 use Rattle.fb_access.specs.Resolving.{field_with_name, to_field, to_part, to_place, to_element, to_member, field_step, member_step, fitting}
-use Rattle.fb_access.proofs.{Found.found_at, Found.none_found, Found.found_there, MemberKinds.member_there, NumberedFields.found_by_number}
+use Rattle.fb_access.proofs.{Found.found_there, MemberKinds.member_there, NumberedFields.found_by_number}
 
 -- a table without the field
 pub no_field : (S : Rows) (k : ℕ) (name : List ℕ) → field_named S k name ≡ None → Err NoSuchField ≡ field_step S (Table k) name
-no_field S k name e = grind (arith, none_found)
+no_field S k name e = grind (arith, find_by_position)
 
 -- and one with it
 pub a_field : (S : Rows) (k i : ℕ) (name : List ℕ) (f : FieldView) → field_named S k name ≡ Some i → slice_get (live_fields S k) i ≡ Some (live_of_view f) → Ok (record { step = Field f.number; kind = f.kind }) ≡ field_step S (Table k) name
-a_field S k i name f e at = grind (arith, found_at)
+a_field S k i name f e at = grind (arith, find_by_position)
 
 -- a member that is named has a kind
 pub has_kind : (S : Rows) (e v : ℕ) (name : List ℕ) → IsLegal S → IsTrue (is_union S e) → member_named S e name ≡ Some v → IsSome (member_of S e v)

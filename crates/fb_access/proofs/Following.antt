@@ -1,9 +1,7 @@
 -- How far a path has been followed.
 use Rattle.std.proofs.Common.{◌≡◌, ℕ, suc, ◌<◌, List, [], ◌∷◌, ◌++◌, length, Result, Ok, Err, refl, sym, ◌∙◌, ap, subst, arith, inl, inr, append_assoc, append-nil}
-use Rattle.fb_schema.specs.declared.{kinds.Kind.Kind, kinds.Kind.TheVariants.Table}
-use Rattle.fb_schema.specs.{Demands.IsLegal, Rows.Rows, Served.IsServed}
-use Rattle.fb_access.specs.declared.{step.Step.Step, misfit.Misfit.Misfit, misfit.Fitted.Fitted}
-use Rattle.fb_access.specs.declared.pieces.Piece.{Piece}
+use Rattle.fb_schema.specs.{Demands.IsLegal, Rows.Rows, Served.IsServed, declared.kinds.Kind.Kind, declared.kinds.Kind.TheVariants.Table}
+use Rattle.fb_access.specs.declared.{step.Step.Step, misfit.Misfit.Misfit, misfit.Fitted.Fitted, pieces.Piece.Piece}
 use Rattle.fb_access.specs.{Cutting.IsPieceOf, Cutting.AreLeft, Cutting.IsCut, Fitting.StepsFit, Kept.IsThere}
 use Rattle.fb_access.specs.Grammar.{Part, field, element, member, IsName, IsPart, IsPath, IsReading, spelling}
 use Rattle.fb_access.specs.Resolving.{fitting, fault_of, Follows, Resolves, Misfits, IsFault}

@@ -1,13 +1,5 @@
 -- What is found in a list.
-use Rattle.std.proofs.Common.{◌≡◌, ℕ, zero, suc, Bool, true, false, List, [], ◌∷◌, slice_get, Some, None, refl, sym, ◌∙◌, ap, arith, cond, find, position}
-use Rattle.std.proofs.lemmas.{Grind.common_steps, List.Folds.find_at, Option.slice_get_past}
-
--- the item at the first place that passes is the one that is found
-pub found_at : {X : Type 0} (p : X → Bool) (xs : List X) (i : ℕ) → position p xs ≡ Some i → find p xs ≡ slice_get xs i
-found_at p xs i e = grind (arith, common_steps, find_at)
-
-pub none_found : {X : Type 0} (p : X → Bool) (xs : List X) → position p xs ≡ None → find p xs ≡ None
-none_found p xs e = grind (arith, common_steps, find_at, slice_get_past)
+use Rattle.std.proofs.Common.{◌≡◌, ℕ, zero, suc, Bool, true, false, List, [], ◌∷◌, slice_get, Some, None, refl, sym, ◌∙◌, ap, cond, find}
 
 -- what is found is there, and passes
 pub found_there : {X : Type 0} (p : X → Bool) (xs : List X) (x : X) → find p xs ≡ Some x → (i : ℕ) × (slice_get xs i ≡ Some x) × (p x ≡ true)

@@ -4,8 +4,7 @@ use Rattle.std.specs.Prelude.{slice_get}
 use Rattle.std.proofs.lemmas.Bool.Decides.{nat_tests}
 use Rattle.fb_bytes.specs.Word.{word}
 use Rattle.fb_schema.specs.{Rows.Rows, Rows.is_table, Members.member_of}
-use Rattle.fb_rules.specs.declared.checks.Checks.{Checks}
-use Rattle.fb_rules.specs.{Places.target, Unfolds.ElementsUnfold, Unfolds.ElementUnfolds}
+use Rattle.fb_rules.specs.{Places.target, Unfolds.ElementsUnfold, Unfolds.ElementUnfolds, declared.checks.Checks.Checks}
 use Rattle.fb_rules.specs.Fields.{Lead, to_table, to_struct, to_string, to_nothing, lead_of, Entry, entry, row, union_row}
 use Rattle.fb_rules.specs.Tree.{Elements, no_elements, element, Element, leaf, table}
 use Rattle.fb_access.specs.Held.{IsTableAt, IsTextAt, IsLed, AreLed}

@@ -1,6 +1,5 @@
 -- What is no table has no live field.
-use Rattle.std.proofs.Common.{arith}
-use Rattle.std.proofs.Common.{◌≡◌, ℕ, Bool, false, not, if◌then◌else◌, List, [], find, slice_get, Option, None, ap, ◌==◌}
+use Rattle.std.proofs.Common.{arith, ◌≡◌, ℕ, Bool, false, not, if◌then◌else◌, List, [], find, slice_get, Option, None, ap, ◌==◌}
 use Rattle.fb_schema.specs.Live.{Live, live_fields, live_in}
 use Rattle.fb_schema.specs.Rows.{Field, Object, Rows, is_table, is_some_table}
 use Rattle.fb_access.specs.Fitting.{numbered}

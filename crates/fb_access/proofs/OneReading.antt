@@ -2,8 +2,7 @@
 use Rattle.std.proofs.Common.{◌≡◌, ℕ, List, [], ◌∷◌, ◌++◌, refl, sym, ◌∙◌, ap, arith}
 use Rattle.std.specs.List.{AllByRecursion}
 use Rattle.fb_access.specs.Grammar.{Part, field, element, member, IsPart, IsReading, spelling}
-use Rattle.fb_access.proofs.{Cuts.word_of, ScanAccepts.GoOn}
-use Rattle.fb_access.proofs.Words.{Stops, parts_stop, name_word, number_word}
+use Rattle.fb_access.proofs.{Cuts.word_of, ScanAccepts.GoOn, Words.Stops, Words.parts_stop, Words.name_word, Words.number_word}
 
 -- one word begins a text, and one rest follows it
 record SameWord (v w s t : List ℕ) : Type 0 where

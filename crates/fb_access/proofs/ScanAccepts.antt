@@ -1,10 +1,8 @@
 -- A text that is scanned to an end is of the grammar.
 use Rattle.std.proofs.Common.{◌≡◌, ℕ, ◌+◌, ◌-◌, ◌*◌, ◌≤◌, ◌==◌, ◌&&◌, nat_le, Bool, true, false, arith, List, [], ◌∷◌, ◌++◌, refl, ap, inl, inr, Option, Some, None, IsTrue}
 use Rattle.std.specs.List.{AllByRecursion}
-use Rattle.std.proofs.lemmas.Bool.{and_parts, cases_Bool, false≢true, eqb-true, eqb-false}
-use Rattle.std.proofs.lemmas.Bool.Decides.{nat_tests}
-use Rattle.fb_access.specs.declared.scan.Seen.{Seen}
-use Rattle.fb_access.specs.declared.scan.Seen.TheVariants.{Mark, Name, Bracket, Zero, Digits, Index}
+use Rattle.std.proofs.lemmas.Bool.{and_parts, cases_Bool, false≢true, eqb-true, eqb-false, Decides.nat_tests}
+use Rattle.fb_access.specs.declared.scan.Seen.{Seen, TheVariants.Mark, TheVariants.Name, TheVariants.Bracket, TheVariants.Zero, TheVariants.Digits, TheVariants.Index}
 use Rattle.fb_access.specs.Grammar.{is_digit, begins_name, goes_on, IsName, number_from, IsNumber, Part, field, element, member, IsPart, spelling, IsPath}
 use Rattle.fb_access.specs.Scanned.{next_part, next_digit, next_seen, seen, is_end}
 

@@ -3,8 +3,7 @@ use Rattle.std.proofs.Common.{◌≡◌, ℕ, ◌+◌, ◌<◌, true, false, Lis
 use Rattle.std.proofs.lemmas.Bool.{false≢true}
 use Rattle.std.proofs.lemmas.List.{take_more, take-append-drop, take-take}
 use Rattle.std.proofs.Math.Seq.{take-length}
-use Rattle.fb_access.specs.declared.{scan.Seen.Seen, scan.Seen.TheVariants.Mark}
-use Rattle.fb_access.specs.{Grammar.IsPath, Grammar.BeginsPath, Grammar.IsWrongAt, Scanned.next_seen, Scanned.seen, Scanned.is_end}
+use Rattle.fb_access.specs.{Grammar.IsPath, Grammar.BeginsPath, Grammar.IsWrongAt, Scanned.next_seen, Scanned.seen, Scanned.is_end, declared.scan.Seen.Seen, declared.scan.Seen.TheVariants.Mark}
 use Rattle.fb_access.proofs.{ScanAccepts.path_ends, ScanReads.path_accepted, ScanReads.completed}
 
 seen_append : (o : Option Seen) (p q : List ℕ) → seen o (p ++ q) ≡ seen (seen o p) q

@@ -2,8 +2,7 @@
 use Rattle.std.proofs.Common.{◌≡◌, ℕ, ◌+◌, ◌-◌, ◌*◌, ◌≤◌, ◌==◌, nat_le, true, false, List, [], ◌∷◌, ◌++◌, refl, arith, inl, inr, Some, IsTrue}
 use Rattle.std.proofs.lemmas.Bool.Decides.{nat_tests}
 use Rattle.std.specs.List.{AllByRecursion}
-use Rattle.fb_access.specs.declared.scan.Seen.{Seen}
-use Rattle.fb_access.specs.declared.scan.Seen.TheVariants.{Mark, Name, Bracket, Digits, Index}
+use Rattle.fb_access.specs.declared.scan.Seen.{Seen, TheVariants.Mark, TheVariants.Name, TheVariants.Bracket, TheVariants.Digits, TheVariants.Index}
 use Rattle.fb_access.specs.Grammar.{is_digit, goes_on, IsName, number_from, IsNumber, Part, field, element, member, IsPart, spelling, IsPath}
 use Rattle.fb_access.specs.Scanned.{next_part, next_digit, next_seen, seen, is_end}
 use Rattle.fb_access.proofs.ScanAccepts.{Most, GoOn, AreDigits, ends}

@@ -1,13 +1,10 @@
 -- For who reads by a schema that they know: which answer comes where a kind is here.
-use Rattle.std.proofs.Common.{arith}
-use Rattle.std.proofs.Common.{◌≡◌, ℕ, ℤ, Bool, List, Some, Bor}
-use Rattle.fb_schema.specs.declared.{kinds.Scalar.Scalar, kinds.Kind.Kind}
-use Rattle.fb_schema.specs.declared.kinds.Kind.TheVariants.{Scalar as AScalar, Text as AText, Table as ATable}
+use Rattle.std.proofs.Common.{arith, ◌≡◌, ℕ, ℤ, Bool, List, Some, Bor}
+use Rattle.fb_schema.specs.declared.{kinds.Scalar.Scalar, kinds.Kind.Kind, kinds.Kind.TheVariants.Scalar as AScalar, kinds.Kind.TheVariants.Text as AText, kinds.Kind.TheVariants.Table as ATable}
 use Rattle.fb_schema.specs.declared.kinds.Scalar.TheVariants.{UType, Bool as AsBool, UByte, UShort, UInt as AsUInt, ULong}
 use Rattle.fb_schema.specs.Rows.{Rows}
-use Rattle.fb_access.specs.declared.{spot.Spot.Spot, answer.Answer.Answer}
 use Rattle.fb_access.specs.declared.answer.Answer.TheVariants as answer
-use Rattle.fb_access.specs.{Fitting.element_kind, Here.IsHere, Here.MayBeHere, Here.IsSigned}
+use Rattle.fb_access.specs.{Fitting.element_kind, Here.IsHere, Here.MayBeHere, Here.IsSigned, declared.spot.Spot.Spot, declared.answer.Answer.Answer}
 use Rattle.fb_access.specs.Denotes.{nothing, shown, number, inline_value, default_value, value}
 
 -- a scalar that is shown as a truth value, and one that is as an unsigned number

@@ -2,12 +2,10 @@
 use Rattle.std.proofs.Common.{◌≡◌, ℕ, List, [], ◌∷◌, ◌++◌, length, Err, codes, refl, inl, inr, arith, rules}
 use Rattle.std.specs.List.{AllByRecursion}
 use Rattle.std.proofs.lemmas.Bool.{false≢true}
-use Rattle.fb_schema.specs.declared.{kinds.Kind.Kind, kinds.Kind.TheVariants.Table}
-use Rattle.fb_schema.specs.{Live.live_fields, Kinds.shape_of, Kinds.kind_of, Kinds.base_types, Members.member_of, Members.member_named}
+use Rattle.fb_schema.specs.{Live.live_fields, Kinds.shape_of, Kinds.kind_of, Kinds.base_types, Members.member_of, Members.member_named, declared.kinds.Kind.Kind, declared.kinds.Kind.TheVariants.Table}
 use Rattle.fb_schema.specs.Parts.{part_at, part_named}
-use Rattle.fb_access.specs.declared.{step.Step.Step, misfit.Misfit.Misfit}
 use Rattle.fb_access.specs.Grammar.{Part, field, element, member, spelling, IsName, IsPart, IsNumber, IsReading}
-use Rattle.fb_access.specs.{Resolving.fitting, Resolving.Follows, Samples.rows}
+use Rattle.fb_access.specs.{Resolving.fitting, Resolving.Follows, Samples.rows, declared.step.Step.Step, declared.misfit.Misfit.Misfit}
 use Rattle.fb_access.specs.PathTests.{Words, Spellings, LeadsBy, IsUnfit, Resolved, Unfit}
 
 -- all that is computed

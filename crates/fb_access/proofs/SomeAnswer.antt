@@ -3,8 +3,7 @@ use Rattle.std.proofs.Common.{◌≡◌, ℕ, zero, suc, ◌+◌, ◌⊎◌, inl
 use Rattle.std.proofs.lemmas.Bool.{cases_Bool}
 use Rattle.fb_schema.specs.declared.{kinds.Kind.Kind, kinds.Kind.TheVariants.Table}
 use Rattle.fb_schema.specs.Rows.{Rows}
-use Rattle.fb_access.specs.declared.{step.Step.Step, misfit.Misfit.Misfit, misfit.Fitted.Fitted, path_fault.PathFault.PathFault}
-use Rattle.fb_access.specs.declared.{path_fault.PathFault.TheVariants.BadText, scan.Seen.Seen, scan.Seen.TheVariants.Mark}
+use Rattle.fb_access.specs.declared.{step.Step.Step, misfit.Misfit.Misfit, misfit.Fitted.Fitted, path_fault.PathFault.PathFault, path_fault.PathFault.TheVariants.BadText, scan.Seen.Seen, scan.Seen.TheVariants.Mark}
 use Rattle.fb_access.specs.Grammar.{Part, field, IsPath, IsReading, IsWrongAt}
 use Rattle.fb_access.specs.Resolving.{fitting, fault_of, Follows, IsAnswer}
 use Rattle.fb_access.specs.Scanned.{next_seen, seen, is_end}

@@ -5,20 +5,15 @@ use Rattle.std.specs.Prelude.{option_map}
 use Rattle.fb_bytes.specs.Word.{word}
 use Rattle.fb_schema.specs.declared.{kinds.Kind.Kind, views.PartView.PartView}
 use Rattle.fb_schema.specs.declared.kinds.Kind.TheVariants.{Scalar, Text, Struct, Table, Scalars, Structs}
-use Rattle.fb_schema.specs.{Rows.Rows, Kinds.scalar_size, Kinds.struct_size, Kinds.struct_align, Live.Live, Members.member_of}
-use Rattle.fb_schema.specs.{Parts.PartFits, Parts.part_at, Served.MemberHolds, Served.IsServed}
-use Rattle.fb_rules.specs.declared.checks.Checks.{Checks}
-use Rattle.fb_rules.specs.{Places.target, Tree.Element as Found, Tree.leaf, Tree.table, Unfolds.ElementUnfolds, WellFormed.base}
+use Rattle.fb_schema.specs.{Rows.Rows, Kinds.scalar_size, Kinds.struct_size, Kinds.struct_align, Live.Live, Members.member_of, Parts.PartFits, Parts.part_at, Served.MemberHolds, Served.IsServed}
+use Rattle.fb_rules.specs.{Places.target, Tree.Element as Found, Tree.leaf, Tree.table, Unfolds.ElementUnfolds, WellFormed.base, declared.checks.Checks.Checks}
 use Rattle.fb_rules.specs.Fields.{Lead, to_table, to_struct, to_string, to_nothing, lead_of}
-use Rattle.fb_access.specs.declared.{step.Step.Step, step.Step.TheVariants.Field, step.Step.TheVariants.Element, step.Step.TheVariants.Member}
-use Rattle.fb_access.specs.declared.spot.Spot.{Spot}
+use Rattle.fb_access.specs.declared.{step.Step.Step, step.Step.TheVariants.Field, step.Step.TheVariants.Element, step.Step.TheVariants.Member, spot.Spot.Spot}
 use Rattle.fb_access.specs.declared.spot.Spot.TheVariants.{AtScalars, AtStructs, AtScalarArray, AtStructArray, AtTexts, AtTables, AtUnions, AtUnion, AtAbsent, AtNoElement, AtOtherMember}
-use Rattle.fb_access.specs.{Fitting.numbered, Denotes.next_spot, Denotes.Reaches, Denotes.root_spot}
-use Rattle.fb_access.specs.Inside.{OffsetLies, LiesInside, ValuesLieInside}
+use Rattle.fb_access.specs.{Fitting.numbered, Denotes.next_spot, Denotes.Reaches, Denotes.root_spot, Inside.OffsetLies, Inside.LiesInside, Inside.ValuesLieInside}
 use Rattle.fb_access.specs.Spots.{field_spot, part_spot, spot_of_part, spot_of_field, if_element, spot_of_element, member_spot, spot_of_member}
 use Rattle.fb_access.specs.Held.{IsTableAt, IsStructAt, IsLed, IsUnionAt, IsSpot}
-use Rattle.fb_access.proofs.{FieldSpots.field_spot_holds, Leading.led_to_table, Leading.led_to_string, Leading.led_to_struct}
-use Rattle.fb_access.proofs.{TableFields.table_has_vtable, StepLaws.some_same, Walks.root_placed}
+use Rattle.fb_access.proofs.{FieldSpots.field_spot_holds, Leading.led_to_table, Leading.led_to_string, Leading.led_to_struct, TableFields.table_has_vtable, StepLaws.some_same, Walks.root_placed}
 
 -- an element below the count ends within the elements
 element_ends : (size j n : ℕ) → j < n → size * j + size ≤ n * size

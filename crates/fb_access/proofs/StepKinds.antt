@@ -1,17 +1,12 @@
 -- Which steps lead on from what is here, and to what kind.
-use Rattle.std.proofs.Common.{arith}
-use Rattle.std.proofs.Common.{◌≡◌, ℕ, ◌+◌, ◌==◌, nat_lt, Bool, true, false, if◌then◌else◌, IsTrue, List, subst, refl, Option, Some, None, is_some, inl, inr}
+use Rattle.std.proofs.Common.{arith, ◌≡◌, ℕ, ◌+◌, ◌==◌, nat_lt, Bool, true, false, if◌then◌else◌, IsTrue, List, subst, refl, Option, Some, None, is_some, inl, inr}
 use Rattle.std.specs.Prelude.{option_map}
-use Rattle.fb_schema.specs.declared.{kinds.Kind.Kind}
-use Rattle.fb_schema.specs.declared.views.PartView.{PartView}
 use Rattle.fb_schema.specs.declared.kinds.Kind.TheVariants.{Scalar as AScalar, Text, Struct, Table, Union, Scalars, Texts, Structs, Tables, Unions}
-use Rattle.fb_schema.specs.{Rows.Rows, Live.Live, Members.member_of, Parts.part_at}
-use Rattle.fb_access.specs.declared.{step.Step.Step, step.Step.TheVariants.Field, step.Step.TheVariants.Element, step.Step.TheVariants.Member}
-use Rattle.fb_access.specs.declared.spot.Spot.{Spot}
+use Rattle.fb_schema.specs.{Rows.Rows, Live.Live, Members.member_of, Parts.part_at, declared.kinds.Kind.Kind, declared.views.PartView.PartView}
+use Rattle.fb_access.specs.declared.{step.Step.Step, step.Step.TheVariants.Field, step.Step.TheVariants.Element, step.Step.TheVariants.Member, spot.Spot.Spot}
 use Rattle.fb_access.specs.declared.spot.Spot.TheVariants.{AtTable, AtStruct, AtScalars, AtStructs, AtScalarArray, AtStructArray, AtTexts, AtTables, AtUnions, AtUnion, AtAbsent, AtNoElement, AtOtherMember}
-use Rattle.fb_access.specs.{Fitting.numbered, Fitting.next_kind, Denotes.next_spot, Denotes.Leads, Denotes.allows}
+use Rattle.fb_access.specs.{Fitting.numbered, Fitting.next_kind, Denotes.next_spot, Denotes.Leads, Denotes.allows, Here.IsHere, Here.MayBeHere, Here.IsOfKind, Here.KindsGoOn}
 use Rattle.fb_access.specs.Spots.{kind_at, present_spot, default_spot, absent_spot, field_spot, part_spot, spot_of_field, spot_of_part, if_element, spot_of_element, member_spot, spot_of_member}
-use Rattle.fb_access.specs.Here.{IsHere, MayBeHere, IsOfKind, KindsGoOn}
 
 -- a step leads on exactly where it is allowed
 pub leads_where_allowed : (b : List ℕ) (S : Rows) (p : Spot) (s : Step) → is_some (next_spot b S p s) ≡ allows S p s

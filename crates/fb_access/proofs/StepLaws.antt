@@ -3,16 +3,14 @@ use Rattle.std.proofs.Common.{◌≡◌, ◌≢◌, ℕ, ◌+◌, ◌*◌, ◌<�
 use Rattle.std.specs.{Prelude.slice_get, Prelude.option_map, List.position_or_len}
 use Rattle.std.proofs.lemmas.{Bool.Decides.nat_tests, List.Folds.find_at}
 use Rattle.fb_bytes.specs.Word.{word}
-use Rattle.fb_schema.specs.declared.{kinds.Scalar.Scalar, kinds.Kind.Kind}
 use Rattle.fb_schema.specs.declared.kinds.Kind.TheVariants.{Text, Table, Union, Scalars, Texts, Structs, Tables, Unions}
-use Rattle.fb_schema.specs.{Rows.Rows, Kinds.scalar_size, Kinds.struct_size, Kinds.kind_size, Live.Live, Live.live_fields, Members.member_of}
+use Rattle.fb_schema.specs.{Rows.Rows, Kinds.scalar_size, Kinds.struct_size, Kinds.kind_size, Live.Live, Live.live_fields, Members.member_of, declared.kinds.Scalar.Scalar, declared.kinds.Kind.Kind}
 use Rattle.fb_schema.proofs.Kinded.{field_sized}
 use Rattle.fb_rules.specs.Places.{target, field_place}
 use Rattle.fb_rules.specs.Fields.{type_place, union_type, types_begin, to_table, to_string, lead_of, Entry, entry, union_entry, entries_of, entries_at, entries}
-use Rattle.fb_access.specs.declared.{step.Step.TheVariants.Field, step.Step.TheVariants.Element, spot.Spot.Spot}
 use Rattle.fb_access.specs.declared.spot.Spot.TheVariants.{AtTable, AtInline, AtStruct, AtText, AtTexts, AtTables, AtUnions, AtUnion, AtNoElement, AtOtherMember}
 use Rattle.fb_access.proofs.Leading.{row_at, union_row_at, row_get, row_end}
-use Rattle.fb_access.specs.{Fitting.numbered, Denotes.next_spot, Denotes.Leads, Denotes.Reaches}
+use Rattle.fb_access.specs.{Fitting.numbered, Denotes.next_spot, Denotes.Leads, Denotes.Reaches, declared.step.Step.TheVariants.Field, declared.step.Step.TheVariants.Element, declared.spot.Spot.Spot}
 use Rattle.fb_access.specs.Spots.{kind_at, present_spot, default_spot, absent_spot, spot_at, field_spot, if_element, spot_of_element, member_spot}
 use Rattle.fb_access.specs.StepLaws.{position_of, value_place, IsFieldOf, FieldsStandInPlace, IsLedTo, IsOfEntry, steps_on, StepsFollowEntries, AreOffsets, NoOtherElements, MembersFollowLeads, AreInline, ElementsStandInRow}
 

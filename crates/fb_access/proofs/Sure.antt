@@ -1,16 +1,10 @@
 -- From where something is, certain steps lead to where something is.
-use Rattle.std.proofs.Common.{arith}
-use Rattle.std.proofs.Common.{◌≡◌, ℕ, ◌||◌, if◌then◌else◌, ℤ, Bool, true, IsFalse, List, ◌∙◌, ap, subst, Option, Some, None}
+use Rattle.std.proofs.Common.{arith, ◌≡◌, ℕ, ◌||◌, if◌then◌else◌, ℤ, Bool, true, IsFalse, List, ◌∙◌, ap, subst, Option, Some, None}
 use Rattle.std.specs.Prelude.{option_and_then}
-use Rattle.fb_schema.specs.declared.{kinds.Kind.Kind}
-use Rattle.fb_schema.specs.declared.kinds.Kind.TheVariants.{Table}
-use Rattle.fb_schema.specs.{Rows.Rows, Live.Live, Served.IsServed}
-use Rattle.fb_rules.specs.declared.checks.Checks.{Checks}
-use Rattle.fb_rules.specs.{Fields.IsField, Fields.IsPresentOrAbsent}
-use Rattle.fb_access.specs.declared.{step.Step.Step, step.Step.TheVariants.Field}
-use Rattle.fb_access.specs.declared.{spot.Spot.Spot, spot.Spot.TheVariants.AtTable}
-use Rattle.fb_access.specs.{Fitting.numbered, Denotes.next_spot, Denotes.Leads, Held.IsSpot, Held.IsTableAt}
-use Rattle.fb_access.specs.Spots.{default_spot, absent_spot, spot_at, field_spot}
+use Rattle.fb_schema.specs.{Rows.Rows, Live.Live, Served.IsServed, declared.kinds.Kind.Kind, declared.kinds.Kind.TheVariants.Table}
+use Rattle.fb_rules.specs.{Fields.IsField, Fields.IsPresentOrAbsent, declared.checks.Checks.Checks}
+use Rattle.fb_access.specs.declared.{step.Step.Step, step.Step.TheVariants.Field, spot.Spot.Spot, spot.Spot.TheVariants.AtTable}
+use Rattle.fb_access.specs.{Fitting.numbered, Denotes.next_spot, Denotes.Leads, Held.IsSpot, Held.IsTableAt, Spots.default_spot, Spots.absent_spot, Spots.spot_at, Spots.field_spot}
 use Rattle.fb_access.specs.Here.{IsHere, defaults, sure_field, sure_kind, HereGoesOn}
 use Rattle.fb_access.proofs.{Held.at_table, TableFields.field_holds, StepKinds.present_kind}
 

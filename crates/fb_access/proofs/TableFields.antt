@@ -3,9 +3,7 @@ use Rattle.std.proofs.Common.{◌≡◌, ℕ, zero, suc, ◌==◌, List, [], ◌
 use Rattle.std.specs.{Prelude.slice_get, List.position_or_len}
 use Rattle.std.proofs.lemmas.List.Folds.{find_at}
 use Rattle.fb_schema.specs.{Rows.Rows, Kinds.kind_size, Kinds.kind_align, Live.Live, Live.live_fields, Served.IsServed, Served.KindHolds}
-use Rattle.fb_rules.specs.declared.checks.Checks.{Checks}
-use Rattle.fb_rules.specs.{Facts.IsTable, Fields.IsField, Fields.entries, Unfolds.Unfolds, Unfolds.FieldsUnfold, Unfolds.ElementsUnfold}
-use Rattle.fb_rules.specs.OffsetRows.{IsTyped}
+use Rattle.fb_rules.specs.{Facts.IsTable, Fields.IsField, Fields.entries, Unfolds.Unfolds, Unfolds.FieldsUnfold, Unfolds.ElementsUnfold, declared.checks.Checks.Checks, OffsetRows.IsTyped}
 use Rattle.fb_rules.specs.Tree.{Tree, node, Kids, no_kids, kid, Elements}
 use Rattle.fb_rules.proofs.Typed.{typed_by}
 use Rattle.fb_access.specs.{Fitting.numbered, Held.IsTableAt, Held.HasVtable}

@@ -1,8 +1,7 @@
 -- What is left of a text that is cut into parts.
 use Rattle.std.specs.Prelude.{◌≡◌, ℕ, suc, ◌⊎◌, if◌then◌else◌, List, [], ◌∷◌}
 use Rattle.std.specs.List.{AllByRecursion}
-use Rattle.fb_access.specs.declared.pieces.Piece.{Piece}
-use Rattle.fb_access.specs.declared.pieces.Piece.TheVariants.{Field, Element, Member}
+use Rattle.fb_access.specs.declared.pieces.Piece.{Piece, TheVariants.Field, TheVariants.Element, TheVariants.Member}
 use Rattle.fb_access.specs.Grammar.{Part, field, element, member, goes_on, number_of, IsPart, spelling}
 
 -- how many letters, digits and `_` a text begins with

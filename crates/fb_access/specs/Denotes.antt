@@ -2,13 +2,10 @@
 use Rattle.std.specs.Prelude.{◌≡◌, ℕ, ℤ, ◌+◌, ◌%◌, ◌^◌, ◌==◌, Bool, true, not, List, [], ◌∷◌, take, drop, Option, Some, None, is_some}
 use Rattle.std.specs.Int.{cast_signed, cast_unsigned, w8, w16, w32, w64}
 use Rattle.fb_bytes.specs.Word.{word}
-use Rattle.fb_schema.specs.declared.{kinds.Scalar.Scalar, kinds.Kind.Kind}
 use Rattle.fb_schema.specs.declared.kinds.Scalar.TheVariants.{Bool as AsBool, Byte, Short, Int as AsInt, Long, Float as AsFloat, Double}
-use Rattle.fb_schema.specs.{Rows.Rows, Kinds.scalar_size, Kinds.struct_size}
-use Rattle.fb_rules.specs.declared.start.Start.{Start}
-use Rattle.fb_rules.specs.{Places.target, WellFormed.base}
-use Rattle.fb_access.specs.declared.{step.Step.Step, step.Step.TheVariants.Field, step.Step.TheVariants.Element, step.Step.TheVariants.Member}
-use Rattle.fb_access.specs.declared.{spot.Spot.Spot, answer.Answer.Answer}
+use Rattle.fb_schema.specs.{Rows.Rows, Kinds.scalar_size, Kinds.struct_size, declared.kinds.Scalar.Scalar, declared.kinds.Kind.Kind}
+use Rattle.fb_rules.specs.{Places.target, WellFormed.base, declared.start.Start.Start}
+use Rattle.fb_access.specs.declared.{step.Step.Step, step.Step.TheVariants.Field, step.Step.TheVariants.Element, step.Step.TheVariants.Member, spot.Spot.Spot, answer.Answer.Answer}
 use Rattle.fb_access.specs.declared.spot.Spot.TheVariants.{AtTable, AtInline, AtStruct, AtText, AtScalars, AtStructs, AtScalarArray, AtStructArray, AtTexts, AtTables, AtUnions, AtUnion, AtDefault, AtAbsent, AtNoElement, AtOtherMember}
 use Rattle.fb_access.specs.declared.answer.Answer.TheVariants as answer
 use Rattle.fb_access.specs.Fitting.{next_kind}

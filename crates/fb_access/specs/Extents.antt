@@ -1,8 +1,7 @@
 -- Where the bytes of a value stand in a buffer.
 use Rattle.std.specs.Prelude.{ℕ, ◌+◌, ◌*◌, List, Option, Some, None}
 use Rattle.fb_bytes.specs.Word.{word}
-use Rattle.fb_schema.specs.declared.{kinds.Scalar.Scalar, kinds.Scalar.TheVariants.Float, kinds.Scalar.TheVariants.Double}
-use Rattle.fb_schema.specs.{Rows.Rows, Kinds.scalar_size, Kinds.struct_size}
+use Rattle.fb_schema.specs.{Rows.Rows, Kinds.scalar_size, Kinds.struct_size, declared.kinds.Scalar.Scalar, declared.kinds.Scalar.TheVariants.Float, declared.kinds.Scalar.TheVariants.Double}
 use Rattle.fb_access.specs.declared.{extent.Extent.Extent, spot.Spot.Spot}
 use Rattle.fb_access.specs.declared.spot.Spot.TheVariants.{AtInline, AtStruct, AtText, AtScalars, AtStructs, AtScalarArray, AtStructArray}
 

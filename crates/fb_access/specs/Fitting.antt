@@ -1,8 +1,7 @@
 -- Which steps a kind has, and to which kind each leads.
 use Rattle.std.specs.Prelude.{◌≡◌, ℕ, ◌==◌, List, [], ◌∷◌, find, Option, Some, None, option_map}
-use Rattle.fb_schema.specs.declared.{kinds.Kind.Kind, views.PartView.PartView}
 use Rattle.fb_schema.specs.declared.kinds.Kind.TheVariants.{Scalar, Text, Struct, Table, Union, Scalars, Texts, Structs, Tables, Unions}
-use Rattle.fb_schema.specs.{Rows.Rows, Live.Live, Live.live_fields, Members.member_of, Parts.part_at}
+use Rattle.fb_schema.specs.{Rows.Rows, Live.Live, Live.live_fields, Members.member_of, Parts.part_at, declared.kinds.Kind.Kind, declared.views.PartView.PartView}
 use Rattle.fb_access.specs.declared.{step.Step.Step, step.Step.TheVariants.Field, step.Step.TheVariants.Element, step.Step.TheVariants.Member}
 
 -- the live field of table k with this number

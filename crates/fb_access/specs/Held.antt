@@ -2,11 +2,9 @@
 -- buffer.
 use Rattle.std.specs.Prelude.{◌≡◌, ℕ, ◌+◌, ◌*◌, ◌<◌, ◌≤◌, List, length, IsTrue}
 use Rattle.fb_bytes.specs.Word.{word}
-use Rattle.fb_schema.specs.declared.kinds.Kind.{Kind}
-use Rattle.fb_schema.specs.declared.kinds.Kind.TheVariants.{Scalar, Struct, Union, Unions}
+use Rattle.fb_schema.specs.declared.kinds.Kind.{Kind, TheVariants.Scalar, TheVariants.Struct, TheVariants.Union, TheVariants.Unions}
 use Rattle.fb_schema.specs.{Rows.Rows, Rows.is_table, Rows.is_union, Kinds.scalar_size, Kinds.struct_size, Members.member_of}
-use Rattle.fb_rules.specs.declared.checks.Checks.{Checks}
-use Rattle.fb_rules.specs.{Places.has_vtable, Places.vtable, Places.vtable_size, Tree.Tree, Tree.Element, Unfolds.Unfolds, Unfolds.ElementUnfolds}
+use Rattle.fb_rules.specs.{Places.has_vtable, Places.vtable, Places.vtable_size, Tree.Tree, Tree.Element, Unfolds.Unfolds, Unfolds.ElementUnfolds, declared.checks.Checks.Checks}
 use Rattle.fb_rules.specs.OffsetRows.{TypeFits, TypesFit}
 use Rattle.fb_verify.specs.Sealed.{Sealed, IsUnfolded}
 use Rattle.fb_rules.specs.Fields.{Lead, to_table, to_string, lead_of}

@@ -5,9 +5,8 @@ use Rattle.fb_bytes.specs.Word.{word}
 use Rattle.fb_schema.specs.{Rows.Rows, Kinds.scalar_size, Kinds.struct_size, Members.member_of, Served.IsServed}
 use Rattle.fb_rules.specs.Fields.{Lead, to_nothing, lead_of}
 use Rattle.fb_verify.specs.Sealed.{Sealed, IsUnfolded}
-use Rattle.fb_access.specs.declared.{step.Step.Step, spot.Spot.Spot}
 use Rattle.fb_access.specs.declared.spot.Spot.TheVariants.{AtTable, AtInline, AtStruct, AtText, AtScalars, AtStructs, AtScalarArray, AtStructArray, AtTexts, AtTables, AtUnions, AtUnion}
-use Rattle.fb_access.specs.{Denotes.Reaches, Denotes.root_spot, Held.IsCounted, Held.IsTextAt, Held.HasVtable}
+use Rattle.fb_access.specs.{Denotes.Reaches, Denotes.root_spot, Held.IsCounted, Held.IsTextAt, Held.HasVtable, declared.step.Step.Step, declared.spot.Spot.Spot}
 
 -- the offset word of a union that leads to something
 abbrev pub OffsetLies : List ℕ → ℕ → Lead → Type 0

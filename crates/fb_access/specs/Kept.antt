@@ -1,7 +1,6 @@
 -- What is kept of the kinds along a path.
 use Rattle.std.specs.Prelude.{IsTrue}
-use Rattle.fb_schema.specs.declared.kinds.Kind.{Kind}
-use Rattle.fb_schema.specs.declared.kinds.Kind.TheVariants.{Table, Union, Tables, Unions}
+use Rattle.fb_schema.specs.declared.kinds.Kind.{Kind, TheVariants.Table, TheVariants.Union, TheVariants.Tables, TheVariants.Unions}
 use Rattle.fb_schema.specs.Rows.{Rows, is_table, is_union}
 
 -- the table or union that a kind names is there

@@ -1,8 +1,7 @@
 -- Where a fault is, in words.
 use Rattle.std.specs.Prelude.{ℕ, ◌-◌, ◌==◌, ◌||◌, nat_lt, if◌then◌else◌, List, [], ◌∷◌, ◌++◌, length, take, map, slice_get, Option, Some, None, option_map, option_and_then, codes, decimal}
 use Rattle.std.specs.List.{flat_map}
-use Rattle.fb_schema.specs.declared.{kinds.Kind.Kind, kinds.Kind.TheVariants.Union, kinds.Kind.TheVariants.Unions}
-use Rattle.fb_schema.specs.{Members.member_name, Rows.Rows}
+use Rattle.fb_schema.specs.{Members.member_name, Rows.Rows, declared.kinds.Kind.Kind, declared.kinds.Kind.TheVariants.Union, declared.kinds.Kind.TheVariants.Unions}
 use Rattle.fb_rules.specs.declared.{fault.Fault.Fault, link.Link.Link}
 use Rattle.fb_access.specs.{Fitting.numbered, Grammar.goes_on}
 

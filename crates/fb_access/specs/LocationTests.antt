@@ -1,6 +1,5 @@
 -- Where faults are, in words, by example.
-use Rattle.std.specs.Prelude.{◌≡◌, ℕ, List, [], ◌∷◌, ◌++◌, codes, Option, Some, None}
-use Rattle.std.specs.Prelude.{replicate}
+use Rattle.std.specs.Prelude.{◌≡◌, ℕ, List, [], ◌∷◌, ◌++◌, codes, Option, Some, None, replicate}
 use Rattle.fb_schema.specs.Rows.{Rows}
 use Rattle.fb_rules.specs.Samples.{short, field, table}
 use Rattle.fb_rules.specs.declared.fault.Fault.{Fault}

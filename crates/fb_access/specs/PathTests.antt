@@ -1,7 +1,6 @@
 -- Texts of paths by example: what is a path, where a text is none, and what a path resolves to or why it doesn't.
 use Rattle.std.specs.Prelude.{◌≡◌, ℕ, List, [], ◌∷◌, codes}
-use Rattle.fb_access.specs.declared.{step.Step.Step, step.Step.TheVariants.Field, step.Step.TheVariants.Element, step.Step.TheVariants.Member}
-use Rattle.fb_access.specs.declared.misfit.Misfit.{Misfit}
+use Rattle.fb_access.specs.declared.{step.Step.Step, step.Step.TheVariants.Field, step.Step.TheVariants.Element, step.Step.TheVariants.Member, misfit.Misfit.Misfit}
 use Rattle.fb_access.specs.declared.misfit.Misfit.TheVariants.{NoSuchField, NotIndexable, NotAUnion, NoSuchMember, NotATable}
 use Rattle.fb_access.specs.Grammar.{field, element, member, IsName, IsNumber, number_of, spelling, IsReading}
 use Rattle.fb_access.specs.{Resolving.Resolves, Resolving.Misfits, Samples.rows}

@@ -1,7 +1,6 @@
 -- How a text is scanned, byte by byte.
 use Rattle.std.specs.Prelude.{ℕ, ◌+◌, ◌-◌, ◌*◌, Bool, true, false, ◌==◌, nat_le, ◌&&◌, if◌then◌else◌, List, [], ◌∷◌, Option, Some, None}
-use Rattle.fb_access.specs.declared.scan.Seen.{Seen}
-use Rattle.fb_access.specs.declared.scan.Seen.TheVariants.{Mark, Name, Bracket, Zero, Digits, Index}
+use Rattle.fb_access.specs.declared.scan.Seen.{Seen, TheVariants.Mark, TheVariants.Name, TheVariants.Bracket, TheVariants.Zero, TheVariants.Digits, TheVariants.Index}
 use Rattle.fb_access.specs.Grammar.{is_digit, begins_name, goes_on}
 
 -- the byte after a whole part begins the next

@@ -1,8 +1,7 @@
 -- Where values stand: of a field that is present or absent, of an element of a vector, of a member of a union.
 use Rattle.std.specs.Prelude.{ℕ, ℤ, ◌+◌, ◌*◌, ◌==◌, nat_lt, Bool, true, false, if◌then◌else◌, List, Option, Some, None, option_map}
 use Rattle.fb_bytes.specs.Word.{word}
-use Rattle.fb_schema.specs.declared.{kinds.Scalar.Scalar, kinds.Scalar.TheVariants.Float, kinds.Scalar.TheVariants.Double, kinds.Kind.Kind}
-use Rattle.fb_schema.specs.declared.views.PartView.{PartView}
+use Rattle.fb_schema.specs.declared.{kinds.Scalar.Scalar, kinds.Scalar.TheVariants.Float, kinds.Scalar.TheVariants.Double, kinds.Kind.Kind, views.PartView.PartView}
 use Rattle.fb_schema.specs.declared.kinds.Kind.TheVariants.{Scalar as AScalar, Text, Struct, Table, Union, Scalars, Texts, Structs, Tables, Unions}
 use Rattle.fb_schema.specs.{Rows.Rows, Kinds.scalar_size, Kinds.struct_size, Live.Live, Members.member_of, Parts.part_at}
 use Rattle.fb_rules.specs.{Places.target, Places.field_place, Fields.type_place, Fields.union_type, Fields.types_begin}

@@ -1,13 +1,11 @@
 -- The laws that tie steps to what the verifier checks: places of fields, and the offset words by which they lead on.
 use Rattle.std.specs.Prelude.{◌≡◌, ◌≢◌, ℕ, ◌+◌, ◌*◌, ◌<◌, ◌⊎◌, List, [], ◌∷◌, slice_get, Option, Some, None}
 use Rattle.fb_bytes.specs.Word.{word}
-use Rattle.fb_schema.specs.declared.kinds.Kind.{Kind}
 use Rattle.fb_schema.specs.declared.kinds.Kind.TheVariants.{Scalar as AScalar, Struct, Union, Scalars, Texts, Structs, Tables, Unions}
-use Rattle.fb_schema.specs.{Rows.Rows, Kinds.struct_size, Kinds.struct_align, Live.Live, Members.member_of}
+use Rattle.fb_schema.specs.{Rows.Rows, Kinds.struct_size, Kinds.struct_align, Live.Live, Members.member_of, declared.kinds.Kind.Kind}
 use Rattle.fb_rules.specs.Places.{target, field_place}
 use Rattle.fb_rules.specs.Fields.{Lead, to_table, to_struct, to_string, to_nothing, lead_of, Entry, entries}
-use Rattle.fb_access.specs.declared.{step.Step.Step, step.Step.TheVariants.Field, step.Step.TheVariants.Element, step.Step.TheVariants.Member}
-use Rattle.fb_access.specs.declared.spot.Spot.{Spot}
+use Rattle.fb_access.specs.declared.{step.Step.Step, step.Step.TheVariants.Field, step.Step.TheVariants.Element, step.Step.TheVariants.Member, spot.Spot.Spot}
 use Rattle.fb_access.specs.declared.spot.Spot.TheVariants.{AtTable, AtInline, AtStruct, AtText, AtScalars, AtStructs, AtScalarArray, AtStructArray, AtTexts, AtTables, AtUnions, AtUnion, AtOtherMember}
 use Rattle.fb_access.specs.{Fitting.numbered, Spots.kind_at, Denotes.Leads, Denotes.Reaches}
 

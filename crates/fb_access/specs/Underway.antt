@@ -2,8 +2,7 @@
 use Rattle.std.specs.Prelude.{ℕ, List}
 use Rattle.fb_schema.specs.declared.kinds.Kind.{Kind}
 use Rattle.fb_schema.specs.Rows.{Rows}
-use Rattle.fb_access.specs.declared.{step.Step.Step, spot.Spot.Spot}
-use Rattle.fb_access.specs.{Fitting.StepsFit, Denotes.Reaches, Here.IsOfKind}
+use Rattle.fb_access.specs.{Fitting.StepsFit, Denotes.Reaches, Here.IsOfKind, declared.step.Step.Step, declared.spot.Spot.Spot}
 
 -- the steps taken lead from the first spot to this one, and those that are left fit from here
 pub record IsWalked (b : List ℕ) (S : Rows) (first : Spot) (taken left : List Step) (q : Spot) : Type 0 where

@@ -1,8 +1,7 @@
 // Where the bytes of a value stand.
 
-ghost use Rattle.std.specs.Prelude.{◌≡◌, ◌+◌, ◌^◌, ◌<◌, ◌≤◌, length, IfSome};
+ghost use Rattle.std.specs.Prelude.{◌≡◌, ◌^◌, ◌<◌, length};
 ghost use Rattle.fb_access.specs.{Extents.elements_at, Extents.extent, Extents.scalar_extent, Held.IsCounted, Held.IsSpot};
-ghost use Rattle.fb_schema.specs.Kinds.{scalar_size};
 
 use crate::spot::Spot;
 use crate::value::struct_size;

@@ -49,6 +49,7 @@ fn base_of(start: Start) -> u64
 }
 
 /// The root table of a verified buffer.
+#[tactic(auto, using(crate::proofs::Walks::root_placed))]
 pub fn at_root<'v, 'b, 's, 'n>(verified: &'v Verified<'b, 's, 'n>) -> Place<'v, 'b, 's, 'n>
     ensures { result ≡ record { sealed = verified.now; spot = root_spot (verified.now).bytes (verified.now).start (verified.now).root } }
 {

@@ -1,13 +1,14 @@
 -- How many rows a schema file says that it has, and how many it describes.
-use Rattle.std.proofs.Common.{◌≡◌, ℕ, ◌+◌, ◌≤◌, List, [], ◌∷◌, map, length, refl, sym, ◌∙◌, ap, subst}
+use Rattle.std.proofs.Common.{◌≡◌, ℕ, ◌+◌, ◌-◌, ◌≤◌, ◌<◌, ◌↔◌, Bool, true, false, nat_le, IsTrue, List, [], ◌∷◌, map, length, refl, sym, ◌∙◌, ap, subst, arith}
+use Rattle.std.proofs.lemmas.Bool.Decides.{nat_tests}
+use Rattle.fb_schema.specs.declared.kinds.Kind.TheVariants.{Tables}
 use Rattle.std.specs.List.{sum_by}
 use Rattle.std.proofs.lemmas.List.Sums.{sum_by-cons}
 use Rattle.fb_schema.specs.Rows.{Object, Enum, Rows}
-use Rattle.fb_access.specs.declared.step.Step.TheVariants.{Field as ToField}
-use Rattle.fb_access.specs.{Denotes.Leads, Denotes.value, Denotes.vector, Held.Placed}
-use Rattle.fb_bfbs.specs.{Says.Says, Says.after, Says.AreRows, Describes.IsObjectRow, Describes.IsEnumRow, Describes.Describes, Seen.IsRowAt}
-use Rattle.fb_bfbs.specs.Sums.{rows_count, Lists, listed_rows, HasRows, IsPaid, ArePaid, most_rows}
-use Rattle.fb_bfbs.proofs.{Composed.mapped_rows, Composed.row_here, Composed.seen_in, OneFile.IsSingle, OneFile.IsOnly, OneFile.only_rows}
+use Rattle.fb_access.specs.{Denotes.Leads, Denotes.value, Denotes.vector, Held.Placed, declared.step.Step.TheVariants.Field as ToField, declared.step.Step.TheVariants.Element}
+use Rattle.fb_bfbs.specs.{Says.Says, Says.after, Says.AreRows, Describes.IsObjectRow, Describes.IsEnumRow, Describes.Describes, Seen.IsRowAt, Seen.AreRowsAt, Seen.IsListOfLists, Seen.HasField, Seen.seen}
+use Rattle.fb_bfbs.specs.Sums.{rows_count, Lists, listed_rows, HasRows, IsToldFew, IsPaid, ArePaid, most_rows}
+use Rattle.fb_bfbs.proofs.{FixedFields.always, Sure.at_element, Composed.mapped_rows, Composed.row_here, Composed.seen_in, Composed.seen_after, OneFile.IsSingle, OneFile.IsOnly, OneFile.only_rows}
 
 abbrev fields_of : Object → ℕ
 fields_of o = length o.fields
@@ -19,6 +20,31 @@ members_of e = length e.members
 pub lists_here : (p r : Placed) (n : ℕ) → r.sealed ≡ p.sealed → Leads (p.sealed).bytes (p.sealed).schema p.spot (ToField 1) r.spot
     → value (r.sealed).bytes (r.sealed).schema r.spot ≡ vector n → IsRowAt Lists p n
 lists_here p r n same leads count = row_here Lists (λ D E m h a. h _ _ a) p n (seen_in p r (ToField 1) (vector n) same leads (sym count))
+
+-- an element of such a list is a table that lists tables
+pub element_lists : (p r : Placed) (j n : ℕ) → (h : IsListOfLists p) → value (p.sealed).bytes (p.sealed).schema p.spot ≡ vector n → j < n → r.sealed ≡ p.sealed → Leads (p.sealed).bytes (p.sealed).schema p.spot (Element j) r.spot → HasField r 1 (Tables h.listed)
+element_lists p r j n h count less same leads = always (at_element p r h.object j n h.at count less same leads) h.sure
+
+-- whether two such lists are few
+pub over_told : (a b most : ℕ) → most < a → IsTrue false ↔ (a + b ≤ most)
+over_told a b most h = (λ w. absurd (let f : false ≡ true = w in cc), λ le. absurd (omega arith))
+
+pub under_told : (a b most : ℕ) → a ≤ most → IsTrue (nat_le b (most - a)) ↔ (a + b ≤ most)
+under_told a b most h = grind (arith, nat_tests)
+
+pub told_few : (p q r : Placed) (a b most : ℕ) (few : Bool) → q.sealed ≡ p.sealed → Leads (p.sealed).bytes (p.sealed).schema p.spot (ToField 0) q.spot → r.sealed ≡ p.sealed → Leads (p.sealed).bytes (p.sealed).schema p.spot (ToField 1) r.spot
+    → (os : List ℕ) × AreRowsAt Lists q os × (a ≡ sum_by listed_rows os) → (es : List ℕ) × AreRowsAt Lists r es × (b ≡ sum_by listed_rows es) → IsTrue few ↔ (a + b ≤ most) → IsToldFew (seen p) most few
+told_few p q r a b most few same leads same_too leads_too (os, objects, first) (es, enums, second) told = record {
+  rows = a + b;
+  has = record {
+    objects = os;
+    enums = es;
+    fields = objects p (ToField 0 ∷ []) (seen_after p q (ToField 0) same leads);
+    members = enums p (ToField 1 ∷ []) (seen_after p r (ToField 1) same_too leads_too);
+    total = rw (first, second) refl;
+  };
+  told = told;
+}
 
 -- a list has one length
 only_list : IsOnly Lists

@@ -1,10 +1,8 @@
 -- The fields of the fixed table, by computing.
 use Rattle.std.proofs.Common.{◌≡◌, ℕ, refl, Some}
-use Rattle.fb_schema.specs.declared.{kinds.Kind.Kind, kinds.Kind.TheVariants.Scalar, kinds.Kind.TheVariants.Table}
 use Rattle.fb_schema.specs.declared.kinds.Scalar.TheVariants as scalar
-use Rattle.fb_schema.specs.{Kinds.base_types, Kinds.shape_of, Kinds.kind_of, Live.live_fields}
-use Rattle.fb_access.specs.declared.step.Step.TheVariants.{Field as ToField}
-use Rattle.fb_access.specs.{Held.Placed, Fitting.next_kind, Here.sure_kind}
+use Rattle.fb_schema.specs.{Kinds.base_types, Kinds.shape_of, Kinds.kind_of, Live.live_fields, declared.kinds.Kind.Kind, declared.kinds.Kind.TheVariants.Scalar, declared.kinds.Kind.TheVariants.Table}
+use Rattle.fb_access.specs.{Held.Placed, Fitting.next_kind, Here.sure_kind, declared.step.Step.TheVariants.Field as ToField}
 use Rattle.fb_bfbs.specs.{Fixed.fixed, Seen.IsAt, Seen.HasField, Seen.MayHaveField}
 
 -- all that is computed where the kind of a field is asked

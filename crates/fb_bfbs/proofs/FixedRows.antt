@@ -2,8 +2,7 @@
 use Rattle.std.proofs.Common.{◌≡◌, ◌<◌, ◌^◌, zero, suc, true, nat_lt, inl, inr, List, [], ◌∷◌, map, length, vec_len, All, refl, sym, ◌∙◌, ap, subst, arith}
 use Rattle.std.proofs.lemmas.{List.length-map, Bool.ltb-true, Bool.and_parts}
 use Rattle.std.specs.List.{list_all}
-use Rattle.fb_schema.specs.declared.{rows.ObjectRow.ObjectRow, rows.EnumRow.EnumRow, fault.Code.TheVariants.OutOfMemory}
-use Rattle.fb_schema.specs.declared.fault.SchemaFault.{SchemaFault}
+use Rattle.fb_schema.specs.declared.{rows.ObjectRow.ObjectRow, rows.EnumRow.EnumRow, fault.Code.TheVariants.OutOfMemory, fault.SchemaFault.SchemaFault}
 use Rattle.fb_schema.specs.Rows.{Rows, AreFew, field_of, object_of, enum_of, rows_of}
 use Rattle.fb_schema.specs.Kinds.{base_types, shape_of, kind_of}
 use Rattle.fb_schema.specs.Demands.{IsLegal, Refuses, names_no_object, names_table, names_no_union, inline_bytes}

@@ -2,8 +2,7 @@
 use Rattle.std.proofs.Common.{ℤ, sym, subst, arith, to_z, of_z, w8, w16, w32, w64}
 use Rattle.std.specs.{Int.Width, Int.RustNames.FitsSigned}
 use Rattle.std.proofs.lemmas.Int.{ints, to_z-of_z}
-use Rattle.fb_schema.specs.declared.kinds.Scalar.{Scalar}
-use Rattle.fb_schema.specs.declared.kinds.Scalar.TheVariants.{Byte, Short, Int as AsInt}
+use Rattle.fb_schema.specs.declared.kinds.Scalar.{Scalar, TheVariants.Byte, TheVariants.Short, TheVariants.Int as AsInt}
 use Rattle.fb_access.specs.Here.{width_of}
 
 -- a number that fits a scalar fits 64 bits

@@ -1,18 +1,15 @@
 -- At most one answer applies to the bytes of a schema file.
 use Rattle.std.proofs.Common.{◌≡◌, ℕ, ◌<◌, ◌≤◌, ◌^◌, List, [], ◌∷◌, length, refl, sym, ◌∙◌, ap, subst, arith, inl, inr, Option, Some, None, Result, Ok, Err}
 use Rattle.std.specs.Borrow.{Bor}
-use Rattle.fb_schema.specs.{Rows.Rows, Rows.table_named, Demands.IsLegal, Demands.IsFirstIllegal}
-use Rattle.fb_schema.specs.declared.fault.SchemaFault.{SchemaFault}
+use Rattle.fb_schema.specs.{Rows.Rows, Rows.table_named, Demands.IsLegal, Demands.IsFirstIllegal, declared.fault.SchemaFault.SchemaFault}
 use Rattle.fb_schema.proofs.DemandLaws.{one_first, no_first_if_legal}
-use Rattle.fb_rules.specs.declared.{fault.Fault.Fault, start.Start.TheVariants.Bare}
-use Rattle.fb_rules.specs.{Bounds.Bounds, Stops.Stops}
+use Rattle.fb_rules.specs.{Bounds.Bounds, Stops.Stops, declared.fault.Fault.Fault, declared.start.Start.TheVariants.Bare}
 use Rattle.fb_rules.proofs.{OneFault.stops_once, Overruns.stops_nowhere}
 use Rattle.fb_access.specs.declared.{step.Step.TheVariants.Field as ToField, spot.Spot.Spot, spot.Spot.TheVariants.AtAbsent}
 use Rattle.fb_access.specs.Denotes.{Leads, next_spot, root_spot, text, nothing, value}
 use Rattle.fb_access.proofs.Callers.{shows_one}
-use Rattle.fb_bfbs.specs.declared.{loading.Loaded.Loaded, load_fault.LoadFault.LoadFault}
 use Rattle.fb_bfbs.specs.declared.load_fault.LoadFault.TheVariants.{NotWellFormed, BadSchema, RootNotListed, OutOfMemory, TooLong, TooMuchShared}
-use Rattle.fb_bfbs.specs.{Fixed.fixed, Says.text_or_nothing, Sums.IsOver, Sums.names_length}
+use Rattle.fb_bfbs.specs.{Fixed.fixed, Says.text_or_nothing, Sums.IsOver, Sums.names_length, declared.loading.Loaded.Loaded, declared.load_fault.LoadFault.LoadFault}
 use Rattle.fb_bfbs.specs.Describes.{Describes, NamesRoot, IsRoot, HasStrayRoot}
 use Rattle.fb_bfbs.specs.Loads.{asked_within, ArePaidFor, SharesTooMuch, IsSchemaFile, IsBadSchema, IsLoaded, told, schema_number}
 use Rattle.fb_bfbs.specs.LoadLaws.{DescribesOnce, ident_bytes, IsSameLoad, IsSameAnswer, Applies}

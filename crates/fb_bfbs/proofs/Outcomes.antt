@@ -1,13 +1,10 @@
 -- From what was read to what is answered.
 use Rattle.std.proofs.Common.{◌≡◌, ℕ, ◌<◌, ◌^◌, List, length, Option, Some, None, option_map, is_some, true, false, refl, sym, ◌∙◌, ap, subst, inl, inr}
-use Rattle.fb_schema.specs.declared.{fault.Code.Code, fault.Code.TheVariants.OutOfMemory as NoMemory, fault.SchemaFault.SchemaFault}
-use Rattle.fb_schema.specs.{Rows.Rows, Rows.rows_of, Demands.Refuses}
-use Rattle.fb_rules.specs.declared.start.Start.TheVariants.{Bare}
-use Rattle.fb_rules.specs.{Bounds.Bounds, Verdict.Reports}
+use Rattle.fb_schema.specs.{Rows.Rows, Rows.rows_of, Demands.Refuses, declared.fault.Code.Code, declared.fault.Code.TheVariants.OutOfMemory as NoMemory, declared.fault.SchemaFault.SchemaFault}
+use Rattle.fb_rules.specs.{Bounds.Bounds, Verdict.Reports, declared.start.Start.TheVariants.Bare}
 use Rattle.fb_verify.specs.Sealed.{Sealed}
 use Rattle.fb_access.specs.Denotes.{Denotes}
-use Rattle.fb_bfbs.specs.declared.file.FileRows.{FileRows}
-use Rattle.fb_bfbs.specs.{Fixed.fixed, Says.Says, FileRows.IsTold, FileRows.AreRead, FileRows.IsReadFile, Sums.ArePaid, Sums.IsOver}
+use Rattle.fb_bfbs.specs.{Fixed.fixed, Says.Says, FileRows.IsTold, FileRows.AreRead, FileRows.IsReadFile, Sums.ArePaid, Sums.IsOver, declared.file.FileRows.FileRows}
 use Rattle.fb_bfbs.specs.Loads.{SharesTooMuch, IsSchemaFile, IsLoadFault, asked_within, build_fault, published, schema_number, told}
 use Rattle.fb_bfbs.proofs.{Counts.paid_rows, OneLoad.file_is_single}
 
@@ -23,7 +20,7 @@ module _ (b : List ℕ) (L : Bounds) where
 
   -- rows that were read of a verified file, as far as its length pays for them where the limits have a budget of reads
   module _ (v : Sealed) (S : Rows) (by_fixed : S ≡ fixed) (kept : v ≡ record { bytes = b; schema = S; root = schema_number; start = Bare; checks = published; report = v.report }) (short : length b < 2 ^ 31) (yes : Reports (asked_within L) b v.report)
-    (n : ℕ) (paying : Option ℕ) (len : n ≡ length b) (pays : paying ≡ option_map (λ _. n) L.reads) where
+      (n : ℕ) (paying : Option ℕ) (len : n ≡ length b) (pays : paying ≡ option_map (λ _. n) L.reads) where
     abbrev said : Says
     said = Denotes v.bytes v.schema v.start v.root
 

@@ -2,8 +2,7 @@
 use Rattle.std.proofs.Common.{◌≡◌, ℕ, zero, suc, List, [], ◌∷◌, length, refl, sym, subst, Option, Some, None, option_map, inl, inr}
 use Rattle.std.specs.Prelude.{slice_get}
 use Rattle.fb_bytes.specs.Word.{word}
-use Rattle.fb_schema.specs.declared.rows.TypeRow.{TypeRow}
-use Rattle.fb_schema.specs.{Rows.Field, Rows.Object, Rows.Enum, Kinds.shape_of, Kinds.kind_of, Kinds.base_types, Live.live_fields}
+use Rattle.fb_schema.specs.{Rows.Field, Rows.Object, Rows.Enum, Kinds.shape_of, Kinds.kind_of, Kinds.base_types, Live.live_fields, declared.rows.TypeRow.TypeRow}
 use Rattle.fb_rules.specs.Places.{has_vtable, vtable, field_place}
 use Rattle.fb_access.specs.declared.{step.Step.Step, step.Step.TheVariants.Field as ToField, step.Step.TheVariants.Element, spot.Spot.Spot}
 use Rattle.fb_access.specs.declared.spot.Spot.TheVariants.{AtTable, AtTables}

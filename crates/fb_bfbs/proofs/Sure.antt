@@ -2,10 +2,8 @@
 use Rattle.std.proofs.Common.{◌≡◌, ℕ, ◌<◌, List, refl, ◌∙◌, IsTrue}
 use Rattle.fb_schema.specs.declared.{kinds.Kind.Kind, kinds.Kind.TheVariants.Table, kinds.Kind.TheVariants.Tables}
 use Rattle.fb_schema.specs.Rows.{Rows}
-use Rattle.fb_access.specs.declared.{step.Step.TheVariants.Field as ToField, step.Step.TheVariants.Element, spot.Spot.Spot}
-use Rattle.fb_access.specs.declared.spot.Spot.TheVariants.{AtTable}
-use Rattle.fb_access.specs.{Fitting.next_kind, Held.Placed, Here.IsHere, Here.MayBeHere, Here.HereGoesOn}
-use Rattle.fb_access.specs.Denotes.{Leads, allows, nothing, table, vector, value}
+use Rattle.fb_access.specs.declared.{step.Step.TheVariants.Field as ToField, step.Step.TheVariants.Element, spot.Spot.Spot, spot.Spot.TheVariants.AtTable}
+use Rattle.fb_access.specs.{Fitting.next_kind, Held.Placed, Here.IsHere, Here.MayBeHere, Here.HereGoesOn, Denotes.Leads, Denotes.allows, Denotes.nothing, Denotes.table, Denotes.vector, Denotes.value}
 use Rattle.fb_access.proofs.Shapes.{is_here}
 use Rattle.fb_access.proofs.Callers.{here_allows, sure_allows, field_may_be_here, element_is_here}
 use Rattle.fb_bfbs.specs.Fixed.{fixed}

@@ -3,8 +3,7 @@ use Rattle.std.specs.Prelude.{[], ◌∷◌, codes, Some, None}
 use Rattle.fb_access.specs.declared.step.Step.TheVariants.{Field as ToField}
 use Rattle.fb_access.specs.Denotes.{text}
 use Rattle.fb_rules.specs.Samples.{published_limits}
-use Rattle.fb_bfbs.specs.{Describes.Describes, Describes.IsRoot, Loads.told, Loads.IsLoaded}
-use Rattle.fb_bfbs.specs.Samples.{plain, plain_rows, detailed, detailed_rows}
+use Rattle.fb_bfbs.specs.{Describes.Describes, Describes.IsRoot, Loads.told, Loads.IsLoaded, Samples.plain, Samples.plain_rows, Samples.detailed, Samples.detailed_rows}
 
 -- a file with one table, which is its root: a default, and nothing else that could be absent
 pub record PlainFile : Type 0 where

@@ -1,13 +1,8 @@
 -- The fixed table: the rows of reflection.fbs, by which schema files are verified and read.
 use Rattle.std.specs.Prelude.{ℕ, ◌+◌, ◌*◌, ℤ, pos, negsuc, true, false, List, [], ◌∷◌, codes}
-use Rattle.fb_schema.specs.declared.rows.TypeRow.{TypeRow}
-use Rattle.fb_schema.specs.Rows.{Field, Object, Rows}
+use Rattle.fb_schema.specs.{Rows.Field, Rows.Object, Rows.Rows, Builders.type_of_one, Builders.plain_table, declared.rows.TypeRow.TypeRow}
 
 -- Types.
-
--- a base type that names no object
-abbrev pub plain_type : ℤ → TypeRow
-plain_type base = record { base = base; element = pos 0; index = negsuc 0; fixed_length = 0 }
 
 -- the object with this number
 abbrev pub object_type : ℤ → TypeRow
@@ -18,28 +13,28 @@ abbrev pub vector_type : ℤ → ℤ → TypeRow
 vector_type element n = record { base = pos 14; element = element; index = n; fixed_length = 0 }
 
 abbrev pub bool_type : TypeRow
-bool_type = plain_type (pos 2)
+bool_type = type_of_one (pos 2)
 
 abbrev pub byte_type : TypeRow
-byte_type = plain_type (pos 3)
+byte_type = type_of_one (pos 3)
 
 abbrev pub ushort_type : TypeRow
-ushort_type = plain_type (pos 6)
+ushort_type = type_of_one (pos 6)
 
 abbrev pub int_type : TypeRow
-int_type = plain_type (pos 7)
+int_type = type_of_one (pos 7)
 
 abbrev pub long_type : TypeRow
-long_type = plain_type (pos 9)
+long_type = type_of_one (pos 9)
 
 abbrev pub ulong_type : TypeRow
-ulong_type = plain_type (pos 10)
+ulong_type = type_of_one (pos 10)
 
 abbrev pub double_type : TypeRow
-double_type = plain_type (pos 12)
+double_type = type_of_one (pos 12)
 
 abbrev pub text_type : TypeRow
-text_type = plain_type (pos 13)
+text_type = type_of_one (pos 13)
 
 abbrev pub texts_type : TypeRow
 texts_type = vector_type (pos 13) (negsuc 0)
@@ -94,11 +89,8 @@ index_field n name = record (plain_field n name int_type) { default = negsuc 0 }
 
 -- Tables.
 
-abbrev pub table_of : List ℕ → List Field → Object
-table_of name fields = record { name = name; fields = fields; is_struct = false; minalign = pos 1; bytesize = pos 0 }
-
 abbrev pub type_table : Object
-type_table = table_of (codes "reflection.Type") (
+type_table = plain_table (codes "reflection.Type") (
     plain_field 0 (codes "base_type") byte_type
     ∷ plain_field 1 (codes "element") byte_type
     ∷ index_field 2 (codes "index")
@@ -106,13 +98,13 @@ type_table = table_of (codes "reflection.Type") (
     ∷ [])
 
 abbrev pub key_value_table : Object
-key_value_table = table_of (codes "reflection.KeyValue") (
+key_value_table = plain_table (codes "reflection.KeyValue") (
     plain_field 0 (codes "key") text_type
     ∷ plain_field 1 (codes "value") text_type
     ∷ [])
 
 abbrev pub enum_val_table : Object
-enum_val_table = table_of (codes "reflection.EnumVal") (
+enum_val_table = plain_table (codes "reflection.EnumVal") (
     required_field 0 (codes "name") text_type
     ∷ plain_field 1 (codes "value") long_type
     ∷ deprecated_field 2 (codes "object") (object_type object_number)
@@ -122,7 +114,7 @@ enum_val_table = table_of (codes "reflection.EnumVal") (
     ∷ [])
 
 abbrev pub enum_table : Object
-enum_table = table_of (codes "reflection.Enum") (
+enum_table = plain_table (codes "reflection.Enum") (
     required_field 0 (codes "name") text_type
     ∷ required_field 1 (codes "values") (objects_type enum_val_number)
     ∷ plain_field 2 (codes "is_union") bool_type
@@ -133,7 +125,7 @@ enum_table = table_of (codes "reflection.Enum") (
     ∷ [])
 
 abbrev pub field_table : Object
-field_table = table_of (codes "reflection.Field") (
+field_table = plain_table (codes "reflection.Field") (
     required_field 0 (codes "name") text_type
     ∷ required_field 1 (codes "type") (object_type type_number)
     ∷ plain_field 2 (codes "id") ushort_type
@@ -151,7 +143,7 @@ field_table = table_of (codes "reflection.Field") (
     ∷ [])
 
 abbrev pub object_table : Object
-object_table = table_of (codes "reflection.Object") (
+object_table = plain_table (codes "reflection.Object") (
     required_field 0 (codes "name") text_type
     ∷ required_field 1 (codes "fields") (objects_type field_number)
     ∷ plain_field 2 (codes "is_struct") bool_type
@@ -163,7 +155,7 @@ object_table = table_of (codes "reflection.Object") (
     ∷ [])
 
 abbrev pub call_table : Object
-call_table = table_of (codes "reflection.RPCCall") (
+call_table = plain_table (codes "reflection.RPCCall") (
     plain_field 0 (codes "name") text_type
     ∷ plain_field 1 (codes "request") (object_type object_number)
     ∷ plain_field 2 (codes "response") (object_type object_number)
@@ -172,7 +164,7 @@ call_table = table_of (codes "reflection.RPCCall") (
     ∷ [])
 
 abbrev pub service_table : Object
-service_table = table_of (codes "reflection.Service") (
+service_table = plain_table (codes "reflection.Service") (
     plain_field 0 (codes "name") text_type
     ∷ plain_field 1 (codes "calls") (objects_type call_number)
     ∷ plain_field 2 (codes "attributes") (objects_type key_value_number)
@@ -181,13 +173,13 @@ service_table = table_of (codes "reflection.Service") (
     ∷ [])
 
 abbrev pub file_table : Object
-file_table = table_of (codes "reflection.SchemaFile") (
+file_table = plain_table (codes "reflection.SchemaFile") (
     plain_field 0 (codes "filename") text_type
     ∷ plain_field 1 (codes "included_filenames") texts_type
     ∷ [])
 
 abbrev pub schema_table : Object
-schema_table = table_of (codes "reflection.Schema") (
+schema_table = plain_table (codes "reflection.Schema") (
     required_field 0 (codes "objects") (objects_type object_number)
     ∷ required_field 1 (codes "enums") (objects_type enum_number)
     ∷ plain_field 2 (codes "file_ident") text_type

@@ -8,8 +8,7 @@ use Rattle.fb_access.specs.declared.step.Step.TheVariants.{Field as ToField}
 use Rattle.fb_access.specs.Denotes.{Denotes}
 use Rattle.fb_bfbs.specs.declared.{loading.Loaded.Loaded, load_fault.LoadFault.LoadFault}
 use Rattle.fb_bfbs.specs.declared.load_fault.LoadFault.TheVariants.{NotWellFormed, BadSchema, RootNotListed, OutOfMemory, TooLong, TooMuchShared}
-use Rattle.fb_bfbs.specs.{Fixed.fixed, Says.Says, Says.text_or_nothing, Describes.Describes, Describes.IsRoot, Describes.HasStrayRoot}
-use Rattle.fb_bfbs.specs.Sums.{IsPaid, IsOver}
+use Rattle.fb_bfbs.specs.{Fixed.fixed, Says.Says, Says.text_or_nothing, Describes.Describes, Describes.IsRoot, Describes.HasStrayRoot, Sums.IsPaid, Sums.IsOver}
 
 -- the number of the table Schema in the fixed table
 abbrev pub schema_number : ℕ

@@ -1,10 +1,8 @@
 -- What is seen from a place in a schema file.
 use Rattle.std.specs.Prelude.{◌≡◌, ℕ, List, [], ◌∷◌, Some}
-use Rattle.fb_schema.specs.declared.kinds.Kind.{Kind}
-use Rattle.fb_schema.specs.declared.kinds.Kind.TheVariants.{Scalar as AScalar, Table, Tables}
+use Rattle.fb_schema.specs.declared.kinds.Kind.{Kind, TheVariants.Scalar as AScalar, TheVariants.Table, TheVariants.Tables}
 use Rattle.fb_schema.specs.declared.kinds.Scalar.{Scalar}
-use Rattle.fb_access.specs.declared.{step.Step.Step, step.Step.TheVariants.Field as ToField}
-use Rattle.fb_access.specs.{Fitting.next_kind, Denotes.Leads, Denotes.Shown, Held.Placed}
+use Rattle.fb_access.specs.{Fitting.next_kind, Denotes.Leads, Denotes.Shown, Held.Placed, declared.step.Step.Step, declared.step.Step.TheVariants.Field as ToField}
 use Rattle.fb_access.specs.Here.{IsHere, sure_kind, IsSigned, Shows}
 use Rattle.fb_bfbs.specs.{Fixed.fixed, Says.Says, Says.after, Says.AreRows}
 
@@ -40,6 +38,13 @@ MayHaveTable p number = (object : ℕ) × MayHaveField p number (Table object)
 -- a vector of tables is here
 abbrev pub IsVector : Placed → Type 0
 IsVector p = (object : ℕ) × IsAt p (Tables object)
+
+-- a vector of tables is here, each of which lists tables in its field of number 1, which is always there
+pub record IsListOfLists (p : Placed) : Type 0 where
+  pub object : ℕ
+  pub listed : ℕ
+  pub at : IsAt p (Tables object)
+  pub sure : sure_kind fixed (Table object) (ToField 1) ≡ Some (Tables listed)
 
 -- one step on, a value of this kind is here
 pub record IsOneOn (p : Placed) (s : Step) (r : Placed) (kind : Kind) : Type 0 where

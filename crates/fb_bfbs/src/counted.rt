@@ -1,74 +1,37 @@
 // How many rows a schema file has, by the lengths of its vectors.
-#![tactic(auto, using(crate::proofs::FixedFields::always), unfolding(crate::proofs::FixedFields::computing))]
 
-ghost use Rattle.std.specs.Prelude.{◌≡◌, ◌-◌, ◌≤◌, SomeIff};
-ghost use Rattle.fb_bfbs.specs.{Seen.seen, Seen.IsAt, Sums.Lists, Sums.listed_rows};
+ghost use Rattle.std.specs.Prelude.{ℕ, List, ◌≡◌, sum_by};
+ghost use Rattle.fb_bfbs.specs.{Seen.seen, Seen.IsAt, Seen.IsListOfLists, Seen.AreRowsAt, Sums.Lists, Sums.listed_rows, Sums.IsToldFew};
 
-use crate::lists::FromTable;
-use crate::taking::Takes;
 use crate::values::count_at;
 use fb_access::{Place, Step};
 use fb_schema::Kind;
-use std::alloc::{AllocError, Global};
 
-/// How many fields an object has.
-#[derive(Clone, Copy)]
-pub struct FieldCount {
-    pub count: u32,
-}
-
-/// How many members an enum has.
-#[derive(Clone, Copy)]
-pub struct MemberCount {
-    pub count: u32,
-}
-
-/// A table Object.
-impl<'b> FromTable<'b> for FieldCount {
-    ghost number = { 5 };
-
-    ghost is_row = { λ D row. Lists D row.count };
-
-    ghost listed = { λ row. 0 };
-
-    fn from_table(_alloc: Global, place: &Place<'_, 'b, '_, '_>) -> Result<Self, AllocError> {
-        let fields = place.go(Step::Field(1));
-        Ok(FieldCount {
-            count: count_at(&fields),
-        })
+/// How many rows the tables of a vector are, each with those that it lists.
+fn rows_listed(place: &Place) -> u64
+    requires { IsListOfLists place.now }
+    ensures { (counts : List ℕ) × AreRowsAt Lists place.now counts × (result ≡ sum_by listed_rows counts) }
+{
+    let count = count_at(place);
+    let mut rows = 0;
+    for j in 0..count {
+        let element = place.go(Step::Element(j));
+        let listed = element.go(Step::Field(1));
+        rows += 1 + u64::from(count_at(&listed));
     }
+    rows
 }
 
-/// A table Enum.
-impl<'b> FromTable<'b> for MemberCount {
-    ghost number = { 3 };
-
-    ghost is_row = { λ D row. Lists D row.count };
-
-    ghost listed = { λ row. 0 };
-
-    fn from_table(_alloc: Global, place: &Place<'_, 'b, '_, '_>) -> Result<Self, AllocError> {
-        let members = place.go(Step::Field(1));
-        Ok(MemberCount {
-            count: count_at(&members),
-        })
+/// Whether a schema file has so many rows at most.
+#[tactic(auto, using(crate::proofs::FixedFields::always), unfolding(crate::proofs::FixedFields::computing))]
+pub fn has_few_rows(place: &Place, most: u64) -> bool
+    requires { IsAt place.now (Kind.Table 9) }
+    ensures { IsToldFew (seen place.now) most result }
+{
+    let objects = rows_listed(&place.go(Step::Field(0)));
+    let enums = rows_listed(&place.go(Step::Field(1)));
+    if objects > most {
+        return false;
     }
-}
-
-/// An object takes one row, and one for each of its fields.
-impl Takes for FieldCount {
-    ghost takes = { λ c. listed_rows c.count };
-
-    fn leaves(&self, left: u64) -> Option<u64> {
-        left.checked_sub(1 + u64::from(self.count))
-    }
-}
-
-/// An enum takes one row, and one for each of its members.
-impl Takes for MemberCount {
-    ghost takes = { λ c. listed_rows c.count };
-
-    fn leaves(&self, left: u64) -> Option<u64> {
-        left.checked_sub(1 + u64::from(self.count))
-    }
+    enums <= most - objects
 }

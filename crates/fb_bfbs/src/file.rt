@@ -3,9 +3,9 @@
 
 ghost use Rattle.std.specs.Prelude.{◌≡◌, ◌<◌, ◌^◌, length, Some, IfOk, IfSome};
 ghost use Rattle.fb_access.specs.Denotes.{Denotes};
-ghost use Rattle.fb_bfbs.specs.{Fixed.fixed, Seen.seen, Seen.IsAt, Describes.IsRootName, FileRows.IsTold, FileRows.AreRead, Sums.IsToldFew};
+ghost use Rattle.fb_bfbs.specs.{Fixed.fixed, Seen.seen, Seen.IsAt, Describes.IsRootName, FileRows.IsTold, FileRows.AreRead};
 
-use crate::counted::{FieldCount, MemberCount};
+use crate::counted::has_few_rows;
 use crate::lists::rows_in;
 use crate::taking::is_enough_for;
 use crate::values::{table_or_none, text_in, text_or_none};
@@ -56,16 +56,6 @@ const ROWS: u64 = 0x1_0000;
 /// So many bytes of names are read of a file of any length, and 16 more for each byte.
 const NAMES: u64 = 0x10_0000;
 
-/// Whether a schema file has so many rows at most.
-fn has_few_rows(alloc: Global, place: &Place<'_, '_, '_, '_>, most: u64) -> Result<bool, AllocError>
-    requires { IsAt place.now (Kind.Table 9) }
-    ensures { IfOk result (λ few. IsToldFew (seen place.now) most few) }
-{
-    let objects: Vec<FieldCount> = rows_in(alloc, place, 0)?;
-    let enums: Vec<MemberCount> = rows_in(alloc, place, 1)?;
-    Ok(is_enough_for(most, objects.as_slice(), enums.as_slice()))
-}
-
 /// A table Schema as far as so many bytes pay for its rows and their names: none where they don't.
 fn paid_rows<'b>(
     alloc: Global,
@@ -77,7 +67,7 @@ fn paid_rows<'b>(
     requires len { len < 2 ^ 31 }
     ensures { IfOk result (AreRead (seen place.now) (Some len)) }
 {
-    if !has_few_rows(alloc, place, len / 4 + ROWS)? {
+    if !has_few_rows(place, len / 4 + ROWS) {
         return Ok(None);
     }
     let rows = schema_rows(alloc, place)?;

@@ -1,6 +1,5 @@
 use Rattle.std.proofs.Common.{sym, arith}
-use Rattle.fb_access.proofs.{Held.at_table, Held.at_struct, Staying.part_begins, TableFields.table_has_vtable}
-use Rattle.fb_access.proofs.FieldSpots.{field_readable}
+use Rattle.fb_access.proofs.{Held.at_table, Held.at_struct, Staying.part_begins, TableFields.table_has_vtable, FieldSpots.field_readable}
 use Rattle.fb_access.proofs.next.spot_of_field.Goals as goal
 
 pub field_numbered-requires : goal.field_numbered-requires

@@ -26,13 +26,12 @@ returns-then-not-is_enough_for c =
 
 pub returns : goal.returns
 returns c =
-    let few = c.in_ok-has_few_rows.ensures in
-    (
+    let few = c.has_few_rows.ensures in (
       c.in_ok-rows.ensures,
       record {
         count = few.rows;
         has = few.has;
-        few = few.told.0 c.if-not-branch.false;
+        few = few.told.0 c.if-not-has_few_rows.false;
         names = (enough _ _ _ _ _ _ c.as_slice.ensures.value c.as_slice-2.ensures.value c.is_enough_for.ensures).0 c.if-not-is_enough_for.false;
       },
     )

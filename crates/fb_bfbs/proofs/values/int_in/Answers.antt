@@ -1,7 +1,6 @@
 use Rattle.std.proofs.Common.{[], ◌∷◌, w64}
 use Rattle.std.specs.Int.RustNames.{FitsSigned}
-use Rattle.fb_access.specs.declared.step.Step.TheVariants.{Field as ToField}
-use Rattle.fb_access.specs.{Denotes.signed, Here.width_of}
+use Rattle.fb_access.specs.{Denotes.signed, Here.width_of, declared.step.Step.TheVariants.Field as ToField}
 use Rattle.fb_access.proofs.Shapes.{answers_signed}
 use Rattle.fb_bfbs.specs.Seen.{seen}
 use Rattle.fb_bfbs.proofs.{Sure.field_allowed, Sure.field_here, Narrow.fits_long, Narrow.kept, Composed.seen_in}

@@ -1,6 +1,0 @@
-use Rattle.std.proofs.Common.{rules}
-use Rattle.fb_access.proofs.Walks.{root_placed}
-use Rattle.fb_access.proofs.place.at_root.Goals as goal
-
-pub invariant_of-result : goal.invariant_of-result
-invariant_of-result c = root_placed _ _ _ c.root.ensures.unfolds c.root.ensures.value (search rules)
