@@ -46,33 +46,13 @@ pub struct RowLists<'r, 'n> {
 }
 
 /// The rows in a range.
-fn part<T>(rows: &[T], range: (usize, usize)) -> &[T]
+pub fn part<T>(rows: &[T], range: (usize, usize)) -> &[T]
     requires { IsPart (length rows.now) range }
     ensures value { result.now ≡ part rows.now range }
     ensures few { length result.now < 2 ^ 31 }
 {
     let (start, end) = range;
     &rows[start..end]
-}
-
-impl<'r, 'n> RowLists<'r, 'n> {
-    /// The fields of an object.
-    pub fn fields_of(&self, object: &ObjectPart<'n>) -> &'r [FieldRow<'n>]
-        requires { IsPart (length self.now.fields.now) object.now.fields }
-        ensures value { result.now ≡ part self.now.fields.now object.now.fields }
-        ensures few { length result.now < 2 ^ 31 }
-    {
-        part(self.fields, object.fields)
-    }
-
-    /// The members of an enum.
-    pub fn members_of(&self, row: &EnumPart<'n>) -> &'r [MemberRow<'n>]
-        requires { IsPart (length self.now.members.now) row.now.members }
-        ensures value { result.now ≡ part self.now.members.now row.now.members }
-        ensures few { length result.now < 2 ^ 31 }
-    {
-        part(self.members, row.members)
-    }
 }
 
 /// A row that owns others, and what is kept of it where those stand flat: a part, with a range in their place.

@@ -9,7 +9,7 @@ ghost use Rattle.fb_schema.specs.Live.{live_of_view, live_in, live_rows};
 ghost use Rattle.fb_schema.specs.Index.{kept_members, AreNextRequired, IsLiveIndex, IsMemberIndex};
 
 use crate::fault::SchemaFault;
-use crate::flat::RowLists;
+use crate::flat::{RowLists, part};
 use crate::index::{Index, LiveIndex, MemberIndex};
 use crate::keys::in_order;
 use crate::kinds::Kind;
@@ -174,7 +174,7 @@ impl<'n, A: Allocator + Copy> MemberIndex<'n, A> {
         ensures { OnOk result (IsMemberIndex (borrowed_rows rows.now) rows.now.members.now (take (n + 1) rows.now.enums.now) self.new) }
     {
         let row = &rows.enums[n];
-        let members = kept_members(row.is_union, rows.members_of(row));
+        let members = kept_members(row.is_union, part(rows.members, row.members));
         self.names.push_made(in_order(alloc, members))?;
         let found = member_targets(alloc, rows, row.is_union, members)?;
         self.places.push(&found.places)?;

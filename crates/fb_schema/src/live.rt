@@ -4,7 +4,7 @@ ghost use Rattle.std.specs.Prelude.{◌≡◌, ◌<◌, ◌^◌, ◌+◌, ◌==�
 ghost use Rattle.fb_schema.specs.{Rows.field_of, Flat.part, Flat.IsPart, FlatRows.object_in, FlatRows.borrowed_rows};
 ghost use Rattle.fb_schema.specs.Live.{is_live, by_slot, companion_of, live_as, live_of, live_of_view, live_in, AreApart, AreRising, AreKinded, AreSpaced};
 
-use crate::flat::{ObjectPart, RowLists};
+use crate::flat::{ObjectPart, RowLists, part};
 use crate::kinds::Kind;
 use crate::rows::FieldRow;
 use crate::views::FieldView;
@@ -128,6 +128,6 @@ pub fn table_views<'n, A: Allocator + Copy>(
     if object.is_struct {
         return Ok(Vec::new(alloc));
     }
-    let live = live_rows(alloc, rows.fields_of(object))?;
+    let live = live_rows(alloc, part(rows.fields, object.fields))?;
     views(alloc, rows, &live)
 }

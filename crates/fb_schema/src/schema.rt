@@ -179,7 +179,10 @@ impl<'n, A: Allocator + Copy> Schema<'n, A> {
     pub fn part_at(&self, n: u32, i: u32) -> Option<PartView>
         ensures { result ≡ part_at self.now n i }
     {
-        self.rows.lists().part_at(self.parts_of(n), i as usize)
+        match self.parts_of(n).get(i as usize) {
+            Some(field) => self.rows.lists().part_of(field),
+            None => None,
+        }
     }
 
     /// How many live fields a table has.

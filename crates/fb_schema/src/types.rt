@@ -1,6 +1,6 @@
 // What types are and what they name, read off the rows.
 
-ghost use Rattle.std.specs.Prelude.{◌≡◌, Some, map, slice_get, option_and_then, option_map, ◌^◌, pos, neg_ℤ, ◌*ℤ◌, ◌<ℤ◌};
+ghost use Rattle.std.specs.Prelude.{◌≡◌, Some, option_map, pos, ◌*ℤ◌};
 ghost use Rattle.fb_schema.specs.Rows.{entry_at, field_of};
 ghost use Rattle.fb_schema.specs.Parts.{part_kind, part_of};
 ghost use Rattle.fb_schema.specs.{FlatRows.borrowed_rows, FlatRows.found_object, FlatRows.found_enum, Vectors.vector_of};
@@ -152,9 +152,7 @@ fn vector_of(kind: Kind) -> Kind
 
 /// The bytes of an array of values of so many bytes each.
 fn array_bytes(length: u16, each: i32) -> i64
-    ensures value { result ≡ pos length *ℤ each }
-    ensures low { neg_ℤ (pos (2 ^ 48)) <ℤ result }
-    ensures high { result <ℤ pos (2 ^ 48) }
+    ensures { result ≡ pos length *ℤ each }
 {
     i64::from(length) * i64::from(each)
 }
@@ -234,9 +232,7 @@ impl<'r, 'n> RowLists<'r, 'n> {
     /// such a size.
     #[tactic(auto, unfolding(crate::specs::Demands::inline_bytes))]
     pub fn inline_bytes(&self, ty: TypeRow) -> i64
-        ensures value { result ≡ inline_bytes (borrowed_rows self.now) ty }
-        ensures low { neg_ℤ (pos (2 ^ 48)) <ℤ result }
-        ensures high { result <ℤ pos (2 ^ 48) }
+        ensures { result ≡ inline_bytes (borrowed_rows self.now) ty }
     {
         match shape_of(ty) {
             Some(Shape::One(element)) => i64::from(self.element_bytes(element, ty.index)),
@@ -259,18 +255,8 @@ impl<'r, 'n> RowLists<'r, 'n> {
         }
     }
 
-    /// The i-th of a struct's fields.
-    pub fn part_at(&self, fields: &[FieldRow<'n>], i: usize) -> Option<PartView>
-        ensures { result ≡ option_and_then (part_of (borrowed_rows self.now)) (slice_get (map field_of fields.now) i) }
-    {
-        match fields.get(i) {
-            Some(field) => self.part_of(field),
-            None => None,
-        }
-    }
-
     /// A field of a struct, none where no value of its type could stand there.
-    fn part_of(&self, field: &FieldRow<'n>) -> Option<PartView>
+    pub fn part_of(&self, field: &FieldRow<'n>) -> Option<PartView>
         ensures { result ≡ part_of (borrowed_rows self.now) (field_of field.now) }
     {
         let ty = field.ty;
