@@ -155,19 +155,6 @@ fn count_rows<O: Owner>(owners: &[O]) -> usize {
     count
 }
 
-/// Adds rows behind those that are there, and tells their range.
-fn add_rows<T: Copy, A: Allocator>(
-    all: &mut Vec<T, A>,
-    rows: &[T],
-) -> Result<(usize, usize), AllocError>
-    ensures rows { OnOk result (all.new.items ≡ all.old.items ++ rows.now) }
-    ensures range { IfOk result (λ range. range ≡ (length all.old.items, length all.new.items)) }
-{
-    let start = all.len();
-    all.extend_from_slice(rows)?;
-    Ok((start, all.len()))
-}
-
 /// Puts the parts of these owners, and their rows one after another, where none are yet.
 fn put<O: Owner, A: Allocator>(
     owners: &[O],
@@ -182,8 +169,9 @@ fn put<O: Owner, A: Allocator>(
     parts.reserve_exact(owners.len())?;
     rows.reserve_exact(count_rows(owners))?;
     for owner in owners {
-        let range = add_rows(rows, owner.rows())?;
-        parts.push(owner.part(range))?;
+        let start = rows.len();
+        rows.extend_from_slice(owner.rows())?;
+        parts.push(owner.part((start, rows.len())))?;
     }
     Ok(())
 }

@@ -2,9 +2,9 @@
 
 ghost use Rattle.std.specs.Prelude.{◌≡◌, Some, option_map, pos, ◌*ℤ◌};
 ghost use Rattle.fb_schema.specs.Rows.{entry_at, field_of};
-ghost use Rattle.fb_schema.specs.Parts.{part_kind, part_of};
+ghost use Rattle.fb_schema.specs.Parts.{part_of};
 ghost use Rattle.fb_schema.specs.{FlatRows.borrowed_rows, FlatRows.found_object, FlatRows.found_enum, Vectors.vector_of};
-ghost use Rattle.fb_schema.specs.Kinds.{element_of, shape_of, scalar_size, kind_of, object_kind, union_kind, shape_kind, struct_size, struct_align, kind_size, kind_align};
+ghost use Rattle.fb_schema.specs.Kinds.{element_of, shape_of, scalar_size, kind_of, shape_kind, struct_size, struct_align, kind_size, kind_align};
 ghost use Rattle.fb_schema.specs.Demands.{is_inline, is_supported, is_for_member, is_object, is_union_shape, is_type_field, names_no_object, names_table, names_no_union, inline_bytes, element_bytes};
 ghost use Rattle.fb_schema.specs.declared.{kinds.Kind.Kind, kinds.Shape.Shape};
 
@@ -255,13 +255,18 @@ impl<'r, 'n> RowLists<'r, 'n> {
         }
     }
 
-    /// A field of a struct, none where no value of its type could stand there.
+    /// A field of a struct, none where no value of its type could stand there. An array has the kind of a vector of its
+    /// elements.
     pub fn part_of(&self, field: &FieldRow<'n>) -> Option<PartView>
         ensures { result ≡ part_of (borrowed_rows self.now) (field_of field.now) }
     {
         let ty = field.ty;
         let shape = shape_of(ty);
-        let kind = self.part_kind(shape, ty.index)?;
+        let kind = match shape {
+            Some(Shape::One(element)) => self.element_kind(element, ty.index),
+            Some(Shape::Array(element)) => self.vector_kind(element, ty.index),
+            _ => None,
+        }?;
         Some(PartView {
             place: field.slot,
             kind,
@@ -272,17 +277,6 @@ impl<'r, 'n> RowLists<'r, 'n> {
         })
     }
 
-    /// The kind of what a struct's field of this shape holds: an array has that of a vector of its elements.
-    fn part_kind(&self, shape: Option<Shape>, index: i32) -> Option<Kind>
-        ensures { result ≡ part_kind (borrowed_rows self.now) index shape }
-    {
-        match shape {
-            Some(Shape::One(element)) => self.element_kind(element, index),
-            Some(Shape::Array(element)) => self.vector_kind(element, index),
-            _ => None,
-        }
-    }
-
     /// The kind of one value of an element whose type has this index, none where its object or enum isn't there.
     fn element_kind(&self, element: Element, index: i32) -> Option<Kind>
         ensures { result ≡ shape_kind (borrowed_rows self.now) index (Some (Shape.One element)) }
@@ -290,8 +284,19 @@ impl<'r, 'n> RowLists<'r, 'n> {
         match element {
             Element::Scalar(scalar) => Some(Kind::Scalar(scalar)),
             Element::Text => Some(Kind::Text),
-            Element::Object => self.object_kind(index),
-            Element::Union => self.union_kind(index),
+            Element::Object => {
+                let object = self.object_at(index)?;
+                let number = index.unsigned_abs();
+                Some(if object.is_struct {
+                    Kind::Struct(number)
+                } else {
+                    Kind::Table(number)
+                })
+            }
+            Element::Union => {
+                self.enum_at(index)?;
+                Some(Kind::Union(index.unsigned_abs()))
+            }
         }
     }
 
@@ -302,25 +307,6 @@ impl<'r, 'n> RowLists<'r, 'n> {
     {
         let kind = self.element_kind(element, index)?;
         Some(vector_of(kind))
-    }
-
-    fn object_kind(&self, index: i32) -> Option<Kind>
-        ensures { result ≡ object_kind index Kind.Struct Kind.Table (entry_at (borrowed_rows self.now).objects index) }
-    {
-        let object = self.object_at(index)?;
-        let number = index.unsigned_abs();
-        Some(if object.is_struct {
-            Kind::Struct(number)
-        } else {
-            Kind::Table(number)
-        })
-    }
-
-    fn union_kind(&self, index: i32) -> Option<Kind>
-        ensures { result ≡ union_kind index Kind.Union (entry_at (borrowed_rows self.now).enums index) }
-    {
-        self.enum_at(index)?;
-        Some(Kind::Union(index.unsigned_abs()))
     }
 
     fn struct_layout(&self, number: u32) -> Layout
