@@ -18,7 +18,7 @@ use crate::lists::Lists;
 use crate::live::table_views;
 use crate::rows::MemberRow;
 use crate::steps::{are_plain, field_steps};
-use crate::targets::{ByValue, enum_targets};
+use crate::targets::{ByValue, put_targets};
 use crate::views::FieldView;
 use std::alloc::{AllocError, Allocator};
 
@@ -141,7 +141,14 @@ fn member_targets<A: Allocator + Copy>(
 {
     let kinds = member_kinds(alloc, rows, members)?;
     let values = in_order(alloc, members)?;
-    enum_targets(alloc, rows, is_union, &values, &kinds)
+    let mut found = ByValue {
+        places: Vec::new(alloc),
+        targets: Vec::new(alloc),
+    };
+    if is_union {
+        put_targets(rows, &values, &kinds, &mut found.places, &mut found.targets)?;
+    }
+    Ok(found)
 }
 
 impl<'n, A: Allocator + Copy> MemberIndex<'n, A> {

@@ -5,7 +5,7 @@ ghost use Rattle.fb_schema.specs.Rows.{entry_at, field_of};
 ghost use Rattle.fb_schema.specs.Parts.{part_of};
 ghost use Rattle.fb_schema.specs.{FlatRows.borrowed_rows, FlatRows.found_object, FlatRows.found_enum, Vectors.vector_of};
 ghost use Rattle.fb_schema.specs.Kinds.{element_of, shape_of, scalar_size, kind_of, shape_kind, struct_size, struct_align, kind_size, kind_align};
-ghost use Rattle.fb_schema.specs.Demands.{is_inline, is_supported, is_for_member, is_object, is_union_shape, is_type_field, names_no_object, names_table, names_no_union, inline_bytes, element_bytes};
+ghost use Rattle.fb_schema.specs.Demands.{is_inline, is_supported, is_for_member, is_object, is_type_field, names_no_object, names_table, names_no_union, inline_bytes, element_bytes};
 ghost use Rattle.fb_schema.specs.declared.{kinds.Kind.Kind, kinds.Shape.Shape};
 
 use crate::base_type;
@@ -116,15 +116,6 @@ fn is_object(shape: Option<Shape>) -> bool
     }
 }
 
-fn is_union(shape: Option<Shape>) -> bool
-    ensures { result ≡ is_union_shape shape }
-{
-    match shape {
-        Some(Shape::One(Element::Union) | Shape::Vector(Element::Union)) => true,
-        _ => false,
-    }
-}
-
 /// Whether it holds the types of a union's value, or of a vector of these.
 pub fn is_type_field(wanted: TypeField, shape: Option<Shape>) -> bool
     ensures { result ≡ is_type_field wanted shape }
@@ -208,11 +199,15 @@ impl<'r, 'n> RowLists<'r, 'n> {
     pub fn names_no_union(&self, ty: TypeRow) -> bool
         ensures { result ≡ names_no_union (borrowed_rows self.now) ty }
     {
-        is_union(shape_of(ty))
-            && match self.enum_at(ty.index) {
-                Some(row) => !row.is_union,
-                None => true,
+        match shape_of(ty) {
+            Some(Shape::One(Element::Union) | Shape::Vector(Element::Union)) => {
+                match self.enum_at(ty.index) {
+                    Some(row) => !row.is_union,
+                    None => true,
+                }
             }
+            _ => false,
+        }
     }
 
     fn element_bytes(&self, element: Element, index: i32) -> i32
