@@ -1,6 +1,6 @@
 // The rows of a schema, flat: all fields of all objects in one vector, and all members of all enums in another.
 
-ghost use Rattle.std.specs.Prelude.{◌≡◌, ◌<◌, ◌^◌, ℕ, List, [], ◌++◌, map, length, IfOk, OnOk, All, vec_len, slice_get, Some};
+ghost use Rattle.std.specs.Prelude.{◌≡◌, ◌<◌, ◌^◌, ℕ, List, [], map, length, IfOk, OnOk, All, vec_len, slice_get, Some};
 ghost use Rattle.fb_schema.specs.declared.flat.EnumPart.{EnumPart};
 ghost use Rattle.fb_schema.specs.{Parts.parts_of, Flat.part, Flat.IsPart};
 ghost use Rattle.fb_schema.specs.Rows.{AreFew, Object, Enum, field_of, object_of, enum_of, rows_of};

@@ -1,7 +1,7 @@
 // How the index of legal rows is made.
 
 ghost use Rattle.std.specs.Prelude.{◌≡◌, ◌<◌, ◌≤◌, ◌^◌, ◌+◌, ℕ, List, [], ◌∷◌, ◌++◌, map, length, take, IfOk, OnOk, IfErr, All, Some, None, true};
-ghost use Rattle.fb_schema.specs.declared.{flat.EnumPart.EnumPart, flat.RowLists.RowLists, rows.MemberRow.MemberRow};
+ghost use Rattle.fb_schema.specs.declared.{flat.RowLists.RowLists, rows.MemberRow.MemberRow};
 ghost use Rattle.fb_schema.specs.{Flat.IsPart, FlatRows.borrowed_rows, FlatRows.AreParts, Rows.Rows, Rows.Object, Rows.member_of_row, Kinds.kind_of};
 ghost use Rattle.fb_schema.specs.{Indexed.IsBlank, Indexed.AreIndexed, Demands.IsLegal, Demands.Refuses, Demands.first_code, Demands.members_asked, Targets.AreTargets};
 ghost use Rattle.fb_schema.specs.Sorting.{IsOrderOf, name_cmp, object_name};
