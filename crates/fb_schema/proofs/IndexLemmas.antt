@@ -14,10 +14,6 @@ pub on_ok : {X E : Type 0} (r : Result X E) (P Q : Type 0) → (P → Q) → OnO
 on_ok (Ok x) P Q f h = f h
 on_ok (Err e) P Q f h = h
 
-pub if_ok : {X E : Type 0} (r : Result X E) (P Q : X → Type 0) → ((x : X) → P x → Q x) → IfOk r P → IfOk r Q
-if_ok (Ok x) P Q f h = f x h
-if_ok (Err e) P Q f h = h
-
 -- what was made and added
 pub with_made : {X E : Type 0} (r : Result X E) (P Q : X → Type 0) (R : Type 0) → IsOkAnd r P → IfOk r Q → ((x : X) → P x → Q x → R) → R
 with_made (Ok x) P Q R p q f = f x p q

@@ -1,5 +1,5 @@
 -- Lists that stand one after another in one vector.
-use Rattle.std.specs.Prelude.{ℕ, ◌+◌, ◌-◌, ◌<◌, ◌≤◌, ◌^◌, List, [], length, take, drop, All, slice_get, unwrap_or}
+use Rattle.std.specs.Prelude.{ℕ, ◌+◌, ◌-◌, ◌<◌, ◌≤◌, ◌^◌, List, length, take, drop, All}
 
 -- the list in this range
 abbrev pub part : {T : Type 0} → List T → ℕ × ℕ → List T
@@ -14,7 +14,3 @@ pub record IsPart (rows : ℕ) (r : ℕ × ℕ) : Type 0 where
 -- each range is within the rows
 abbrev pub AreWithin : {T : Type 0} → List T → List (ℕ × ℕ) → Type 0
 AreWithin rows ranges = All (λ r. (r.0 ≤ r.1) × (r.1 ≤ length rows)) ranges
-
--- the list at n, empty where there is none
-abbrev pub list_at : {T : Type 0} → List (List T) → ℕ → List T
-list_at lists n = unwrap_or (slice_get lists n) []

@@ -38,8 +38,8 @@ pub fn object_fault(object: &ObjectPart, named: bool) -> Option<Code>
 fn passes_end(rows: &RowLists, object: &ObjectPart, field: &FieldRow) -> bool
     ensures { result ≡ passes_end (borrowed_rows rows.now) object.now.bytesize (field_of field.now) }
 {
-    let end = i64::from(field.slot) + rows.inline_bytes(field.ty);
-    i64::from(object.bytesize) < end
+    let room = i64::from(object.bytesize) - i64::from(field.slot);
+    room < rows.inline_bytes(field.ty)
 }
 
 /// The code of the first demand that a field of a struct breaks.

@@ -1,6 +1,6 @@
 // The rows of a schema, flat: all fields of all objects in one vector, and all members of all enums in another.
 
-ghost use Rattle.std.specs.Prelude.{◌≡◌, ◌<◌, ◌^◌, ℕ, List, [], ◌++◌, map, length, IfOk, OnOk, All, vec_len, slice_get, Some};
+ghost use Rattle.std.specs.Prelude.{◌≡◌, ◌<◌, ◌^◌, ℕ, List, [], map, length, IfOk, OnOk, All, vec_len, slice_get, Some};
 ghost use Rattle.fb_schema.specs.declared.flat.EnumPart.{EnumPart};
 ghost use Rattle.fb_schema.specs.{Parts.parts_of, Flat.part, Flat.IsPart};
 ghost use Rattle.fb_schema.specs.Rows.{AreFew, Object, Enum, field_of, object_of, enum_of, rows_of};
@@ -46,33 +46,13 @@ pub struct RowLists<'r, 'n> {
 }
 
 /// The rows in a range.
-fn part<T>(rows: &[T], range: (usize, usize)) -> &[T]
+pub fn part<T>(rows: &[T], range: (usize, usize)) -> &[T]
     requires { IsPart (length rows.now) range }
     ensures value { result.now ≡ part rows.now range }
     ensures few { length result.now < 2 ^ 31 }
 {
     let (start, end) = range;
     &rows[start..end]
-}
-
-impl<'r, 'n> RowLists<'r, 'n> {
-    /// The fields of an object.
-    pub fn fields_of(&self, object: &ObjectPart<'n>) -> &'r [FieldRow<'n>]
-        requires { IsPart (length self.now.fields.now) object.now.fields }
-        ensures value { result.now ≡ part self.now.fields.now object.now.fields }
-        ensures few { length result.now < 2 ^ 31 }
-    {
-        part(self.fields, object.fields)
-    }
-
-    /// The members of an enum.
-    pub fn members_of(&self, row: &EnumPart<'n>) -> &'r [MemberRow<'n>]
-        requires { IsPart (length self.now.members.now) row.now.members }
-        ensures value { result.now ≡ part self.now.members.now row.now.members }
-        ensures few { length result.now < 2 ^ 31 }
-    {
-        part(self.members, row.members)
-    }
 }
 
 /// A row that owns others, and what is kept of it where those stand flat: a part, with a range in their place.
@@ -175,19 +155,6 @@ fn count_rows<O: Owner>(owners: &[O]) -> usize {
     count
 }
 
-/// Adds rows behind those that are there, and tells their range.
-fn add_rows<T: Copy, A: Allocator>(
-    all: &mut Vec<T, A>,
-    rows: &[T],
-) -> Result<(usize, usize), AllocError>
-    ensures rows { OnOk result (all.new.items ≡ all.old.items ++ rows.now) }
-    ensures range { IfOk result (λ range. range ≡ (length all.old.items, length all.new.items)) }
-{
-    let start = all.len();
-    all.extend_from_slice(rows)?;
-    Ok((start, all.len()))
-}
-
 /// Puts the parts of these owners, and their rows one after another, where none are yet.
 fn put<O: Owner, A: Allocator>(
     owners: &[O],
@@ -202,8 +169,9 @@ fn put<O: Owner, A: Allocator>(
     parts.reserve_exact(owners.len())?;
     rows.reserve_exact(count_rows(owners))?;
     for owner in owners {
-        let range = add_rows(rows, owner.rows())?;
-        parts.push(owner.part(range))?;
+        let start = rows.len();
+        rows.extend_from_slice(owner.rows())?;
+        parts.push(owner.part((start, rows.len())))?;
     }
     Ok(())
 }

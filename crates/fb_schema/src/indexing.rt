@@ -1,7 +1,7 @@
 // How the index of legal rows is made.
 
 ghost use Rattle.std.specs.Prelude.{◌≡◌, ◌<◌, ◌≤◌, ◌^◌, ◌+◌, ℕ, List, [], ◌∷◌, ◌++◌, map, length, take, IfOk, OnOk, IfErr, All, Some, None, true};
-ghost use Rattle.fb_schema.specs.declared.{flat.EnumPart.EnumPart, flat.RowLists.RowLists, rows.MemberRow.MemberRow};
+ghost use Rattle.fb_schema.specs.declared.{flat.RowLists.RowLists, rows.MemberRow.MemberRow};
 ghost use Rattle.fb_schema.specs.{Flat.IsPart, FlatRows.borrowed_rows, FlatRows.AreParts, Rows.Rows, Rows.Object, Rows.member_of_row, Kinds.kind_of};
 ghost use Rattle.fb_schema.specs.{Indexed.IsBlank, Indexed.AreIndexed, Demands.IsLegal, Demands.Refuses, Demands.first_code, Demands.members_asked, Targets.AreTargets};
 ghost use Rattle.fb_schema.specs.Sorting.{IsOrderOf, name_cmp, object_name};
@@ -9,7 +9,7 @@ ghost use Rattle.fb_schema.specs.Live.{live_of_view, live_in, live_rows};
 ghost use Rattle.fb_schema.specs.Index.{kept_members, AreNextRequired, IsLiveIndex, IsMemberIndex};
 
 use crate::fault::SchemaFault;
-use crate::flat::RowLists;
+use crate::flat::{RowLists, part};
 use crate::index::{Index, LiveIndex, MemberIndex};
 use crate::keys::in_order;
 use crate::kinds::Kind;
@@ -18,7 +18,7 @@ use crate::lists::Lists;
 use crate::live::table_views;
 use crate::rows::MemberRow;
 use crate::steps::{are_plain, field_steps};
-use crate::targets::{ByValue, enum_targets};
+use crate::targets::{ByValue, put_targets};
 use crate::views::FieldView;
 use std::alloc::{AllocError, Allocator};
 
@@ -141,7 +141,14 @@ fn member_targets<A: Allocator + Copy>(
 {
     let kinds = member_kinds(alloc, rows, members)?;
     let values = in_order(alloc, members)?;
-    enum_targets(alloc, rows, is_union, &values, &kinds)
+    let mut found = ByValue {
+        places: Vec::new(alloc),
+        targets: Vec::new(alloc),
+    };
+    if is_union {
+        put_targets(rows, &values, &kinds, &mut found.places, &mut found.targets)?;
+    }
+    Ok(found)
 }
 
 impl<'n, A: Allocator + Copy> MemberIndex<'n, A> {
@@ -174,7 +181,7 @@ impl<'n, A: Allocator + Copy> MemberIndex<'n, A> {
         ensures { OnOk result (IsMemberIndex (borrowed_rows rows.now) rows.now.members.now (take (n + 1) rows.now.enums.now) self.new) }
     {
         let row = &rows.enums[n];
-        let members = kept_members(row.is_union, rows.members_of(row));
+        let members = kept_members(row.is_union, part(rows.members, row.members));
         self.names.push_made(in_order(alloc, members))?;
         let found = member_targets(alloc, rows, row.is_union, members)?;
         self.places.push(&found.places)?;

@@ -11,7 +11,7 @@ use crate::fault::{Code, SchemaFault};
 use crate::first_fault::{
     FirstFault, is_at, members_fault, struct_fields_fault, table_fields_fault,
 };
-use crate::flat::{EnumPart, ObjectPart, RowLists};
+use crate::flat::{EnumPart, ObjectPart, RowLists, part};
 use crate::sorting::first_again;
 use std::alloc::Allocator;
 
@@ -20,7 +20,7 @@ fn fields_fault<A: Allocator + Copy>(alloc: A, rows: &RowLists, object: &ObjectP
     requires { IsPart (length rows.now.fields.now) object.now.fields }
     ensures { IfOk result (λ first. IsFirstOf (demands_of_field (borrowed_rows rows.now) (object_in rows.now.fields.now object.now)) first) }
 {
-    let fields = rows.fields_of(object);
+    let fields = part(rows.fields, object.fields);
     if object.is_struct {
         struct_fields_fault(alloc, rows, object, fields)
     } else {
@@ -35,7 +35,7 @@ fn union_fault<A: Allocator + Copy>(alloc: A, rows: &RowLists, row: &EnumPart) -
     ensures { IfOk result (λ first. IsFirstOf (demands_of_union (borrowed_rows rows.now) (enum_in rows.now.members.now row.now)) first) }
 {
     if row.is_union {
-        members_fault(alloc, rows, rows.members_of(row))
+        members_fault(alloc, rows, part(rows.members, row.members))
     } else {
         Ok(None)
     }

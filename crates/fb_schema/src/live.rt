@@ -2,9 +2,9 @@
 
 ghost use Rattle.std.specs.Prelude.{◌≡◌, ◌<◌, ◌^◌, ◌+◌, ◌==◌, filter, map, filter_map, position, length, IfOk, false, ◌≤◌};
 ghost use Rattle.fb_schema.specs.{Rows.field_of, Flat.part, Flat.IsPart, FlatRows.object_in, FlatRows.borrowed_rows};
-ghost use Rattle.fb_schema.specs.Live.{is_live, by_slot, companion_of, live_as, live_of, live_of_view, live_in, AreApart, AreRising, AreKinded, AreSpaced};
+ghost use Rattle.fb_schema.specs.Live.{is_live, by_slot, live_as, live_of, live_of_view, live_in, AreApart, AreRising, AreKinded, AreSpaced};
 
-use crate::flat::{ObjectPart, RowLists};
+use crate::flat::{ObjectPart, RowLists, part};
 use crate::kinds::Kind;
 use crate::rows::FieldRow;
 use crate::views::FieldView;
@@ -51,18 +51,6 @@ fn place_below(live: &[FieldRow], slot: u16) -> Option<u32>
     }
 }
 
-/// The place of the type field of a union and of a vector of unions.
-fn companion(live: &[FieldRow], slot: u16, kind: Kind) -> Option<u32>
-    requires few { length live.now < 2 ^ 31 }
-    requires rising { AreRising live.now }
-    ensures { result ≡ companion_of (map field_of live.now) slot kind }
-{
-    match kind {
-        Kind::Union(_) | Kind::Unions(_) => place_below(live, slot),
-        _ => None,
-    }
-}
-
 /// A field of this kind among the live fields of its table.
 fn view_of<'n>(
     rows: &RowLists,
@@ -86,7 +74,10 @@ fn view_of<'n>(
         optional: field.optional,
         size: layout.size,
         align: layout.align,
-        companion: companion(live, field.slot, kind),
+        companion: match kind {
+            Kind::Union(_) | Kind::Unions(_) => place_below(live, field.slot),
+            _ => None,
+        },
     }
 }
 
@@ -128,6 +119,6 @@ pub fn table_views<'n, A: Allocator + Copy>(
     if object.is_struct {
         return Ok(Vec::new(alloc));
     }
-    let live = live_rows(alloc, rows.fields_of(object))?;
+    let live = live_rows(alloc, part(rows.fields, object.fields))?;
     views(alloc, rows, &live)
 }

@@ -8,7 +8,6 @@ ghost use Rattle.fb_schema.specs.Rows.{AreFew, rows_of, is_table, is_union, tabl
 ghost use Rattle.fb_schema.specs.{Heads.head_of, Heads.head_of_view, Members.member_of, Members.member_named, Members.member_name};
 ghost use Rattle.fb_schema.specs.{Demands.IsLegal, Demands.Refuses, Parts.part_at, Parts.part_named, Parts.parts_of};
 ghost use Rattle.fb_schema.specs.{Served.IsServed, Served.HaveKinds, Steps.is_plain, Steps.step_of, Targets.target_at, Targets.target_of};
-ghost use Rattle.fb_schema.specs.{FlatRows.borrowed_rows, FlatRows.AreParts};
 ghost use Rattle.fb_schema.specs.Live.{live_fields, live_of_view, field_named, next_required, widest};
 
 use crate::fault::SchemaFault;
@@ -172,14 +171,23 @@ impl<'n, A: Allocator + Copy> Schema<'n, A> {
     pub fn part_named(&self, n: u32, name: &[u8]) -> Option<u32>
         ensures { result ≡ part_named self.now n name.now }
     {
-        named(self.parts_of(n), name)
+        let fields = self.parts_of(n);
+        for (place, field) in fields.iter().enumerate() {
+            if field.name == name {
+                return Some(place as u32);
+            }
+        }
+        None
     }
 
     /// The i-th field of a struct, in the order of the rows.
     pub fn part_at(&self, n: u32, i: u32) -> Option<PartView>
         ensures { result ≡ part_at self.now n i }
     {
-        self.rows.lists().part_at(self.parts_of(n), i as usize)
+        match self.parts_of(n).get(i as usize) {
+            Some(field) => self.rows.lists().part_of(field),
+            None => None,
+        }
     }
 
     /// How many live fields a table has.
@@ -276,19 +284,6 @@ impl<'n, A: Allocator + Copy> Schema<'n, A> {
     {
         self.index.live.widest
     }
-}
-
-/// The place of the field of this name.
-fn named(fields: &[FieldRow], name: &[u8]) -> Option<u32>
-    requires { length fields.now < 2 ^ 31 }
-    ensures { result ≡ position (λ (f : FieldRow). bytes_eq f.name.now name.now) fields.now }
-{
-    for (place, field) in fields.iter().enumerate() {
-        if field.name == name {
-            return Some(place as u32);
-        }
-    }
-    None
 }
 
 /// The name of the member with this value.

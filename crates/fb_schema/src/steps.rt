@@ -2,37 +2,32 @@
 
 ghost use Rattle.std.specs.Prelude.{◌≡◌, map, IfOk};
 ghost use Rattle.fb_schema.specs.Live.{live_of_view};
-ghost use Rattle.fb_schema.specs.Steps.{inline_act, act_of, bit_of, is_plain_act, are_plain, step_of};
+ghost use Rattle.fb_schema.specs.Steps.{act_of, bit_of, is_plain_act, are_plain, step_of};
 
 use crate::kinds::Kind;
 use crate::views::{Act, FieldView, Step};
 use std::alloc::{AllocError, Allocator};
-
-/// What to do at a scalar or struct of this size and alignment.
-fn inline_act(required: bool, size: u32, align: u32) -> Act
-    ensures { result ≡ inline_act required size align }
-{
-    if required {
-        Act::Inline
-    } else if size == 1 && align == 1 {
-        Act::One
-    } else if size == 2 && align == 2 {
-        Act::Two
-    } else if size == 4 && align == 4 {
-        Act::Four
-    } else if size == 8 && align == 8 {
-        Act::Eight
-    } else {
-        Act::Inline
-    }
-}
 
 /// What to do at a field.
 fn act_of(field: &FieldView<'_>) -> Act
     ensures { result ≡ act_of (live_of_view field.now) (field.now).kind }
 {
     match field.kind {
-        Kind::Scalar(_) | Kind::Struct(_) => { inline_act(field.required, field.size, field.align) }
+        Kind::Scalar(_) | Kind::Struct(_) => {
+            if field.required {
+                Act::Inline
+            } else if field.size == 1 && field.align == 1 {
+                Act::One
+            } else if field.size == 2 && field.align == 2 {
+                Act::Two
+            } else if field.size == 4 && field.align == 4 {
+                Act::Four
+            } else if field.size == 8 && field.align == 8 {
+                Act::Eight
+            } else {
+                Act::Inline
+            }
+        }
         Kind::Text => Act::Text,
         Kind::Scalars(_) | Kind::Structs(_) => Act::Vector,
         _ => Act::Other,

@@ -1,6 +1,6 @@
 // What the offset words of a union lead to, found by their types without a search.
 
-ghost use Rattle.std.specs.Prelude.{◌≡◌, ◌<◌, ◌≤◌, ◌+◌, ℕ, List, [], map, length, slice_index_or, IfOk, OnOk, true};
+ghost use Rattle.std.specs.Prelude.{◌≡◌, ◌<◌, ◌≤◌, ◌+◌, ℕ, List, [], map, length, slice_index_or, IfOk, OnOk};
 ghost use Rattle.fb_schema.specs.{FlatRows.borrowed_rows, Rows.Rows, Rows.member_of_row};
 ghost use Rattle.fb_schema.specs.Targets.{nothing, kind_to, target_of, target_at, kind_among, AreTargets, AreSorted};
 ghost use Rattle.fb_schema.specs.declared.rows.MemberRow.{MemberRow};
@@ -136,7 +136,7 @@ fn add_target<A: Allocator>(
 }
 
 /// Puts the targets of a union's members where none are yet, by the values in order and the kinds of these.
-fn put_targets<A: Allocator>(
+pub fn put_targets<A: Allocator>(
     rows: &RowLists,
     values: &[(i64, u32)],
     kinds: &[Option<Kind>],
@@ -159,24 +159,4 @@ fn put_targets<A: Allocator>(
     }
     places.truncate(end);
     Ok(())
-}
-
-/// The targets of an enum's members, none where it is no union.
-pub fn enum_targets<A: Allocator + Copy>(
-    alloc: A,
-    rows: &RowLists,
-    is_union: bool,
-    values: &[(i64, u32)],
-    kinds: &[Option<Kind>],
-) -> Result<ByValue<A>, AllocError>
-    ensures { IfOk result (λ found. is_union ≡ true → (members : List MemberRow) → AreSorted (borrowed_rows rows.now) members values.now kinds.now → AreTargets (borrowed_rows rows.now) (map member_of_row members) found.places.items found.targets.items) }
-{
-    let mut found = ByValue {
-        places: Vec::new(alloc),
-        targets: Vec::new(alloc),
-    };
-    if is_union {
-        put_targets(rows, values, kinds, &mut found.places, &mut found.targets)?;
-    }
-    Ok(found)
 }

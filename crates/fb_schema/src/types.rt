@@ -1,11 +1,11 @@
 // What types are and what they name, read off the rows.
 
-ghost use Rattle.std.specs.Prelude.{◌≡◌, Some, map, slice_get, option_and_then, option_map, ◌^◌, pos, neg_ℤ, ◌*ℤ◌, ◌<ℤ◌};
+ghost use Rattle.std.specs.Prelude.{◌≡◌, Some, option_map, pos, ◌*ℤ◌};
 ghost use Rattle.fb_schema.specs.Rows.{entry_at, field_of};
-ghost use Rattle.fb_schema.specs.Parts.{part_kind, part_of};
+ghost use Rattle.fb_schema.specs.Parts.{part_of};
 ghost use Rattle.fb_schema.specs.{FlatRows.borrowed_rows, FlatRows.found_object, FlatRows.found_enum, Vectors.vector_of};
-ghost use Rattle.fb_schema.specs.Kinds.{element_of, shape_of, scalar_size, kind_of, object_kind, union_kind, shape_kind, struct_size, struct_align, kind_size, kind_align};
-ghost use Rattle.fb_schema.specs.Demands.{is_inline, is_supported, is_for_member, is_object, is_union_shape, is_type_field, names_no_object, names_table, names_no_union, inline_bytes, element_bytes};
+ghost use Rattle.fb_schema.specs.Kinds.{element_of, shape_of, scalar_size, kind_of, shape_kind, struct_size, struct_align, kind_size, kind_align};
+ghost use Rattle.fb_schema.specs.Demands.{is_inline, is_supported, is_for_member, is_object, is_type_field, names_no_object, names_table, names_no_union, inline_bytes, element_bytes};
 ghost use Rattle.fb_schema.specs.declared.{kinds.Kind.Kind, kinds.Shape.Shape};
 
 use crate::base_type;
@@ -116,15 +116,6 @@ fn is_object(shape: Option<Shape>) -> bool
     }
 }
 
-fn is_union(shape: Option<Shape>) -> bool
-    ensures { result ≡ is_union_shape shape }
-{
-    match shape {
-        Some(Shape::One(Element::Union) | Shape::Vector(Element::Union)) => true,
-        _ => false,
-    }
-}
-
 /// Whether it holds the types of a union's value, or of a vector of these.
 pub fn is_type_field(wanted: TypeField, shape: Option<Shape>) -> bool
     ensures { result ≡ is_type_field wanted shape }
@@ -152,9 +143,7 @@ fn vector_of(kind: Kind) -> Kind
 
 /// The bytes of an array of values of so many bytes each.
 fn array_bytes(length: u16, each: i32) -> i64
-    ensures value { result ≡ pos length *ℤ each }
-    ensures low { neg_ℤ (pos (2 ^ 48)) <ℤ result }
-    ensures high { result <ℤ pos (2 ^ 48) }
+    ensures { result ≡ pos length *ℤ each }
 {
     i64::from(length) * i64::from(each)
 }
@@ -210,11 +199,15 @@ impl<'r, 'n> RowLists<'r, 'n> {
     pub fn names_no_union(&self, ty: TypeRow) -> bool
         ensures { result ≡ names_no_union (borrowed_rows self.now) ty }
     {
-        is_union(shape_of(ty))
-            && match self.enum_at(ty.index) {
-                Some(row) => !row.is_union,
-                None => true,
+        match shape_of(ty) {
+            Some(Shape::One(Element::Union) | Shape::Vector(Element::Union)) => {
+                match self.enum_at(ty.index) {
+                    Some(row) => !row.is_union,
+                    None => true,
+                }
             }
+            _ => false,
+        }
     }
 
     fn element_bytes(&self, element: Element, index: i32) -> i32
@@ -234,9 +227,7 @@ impl<'r, 'n> RowLists<'r, 'n> {
     /// such a size.
     #[tactic(auto, unfolding(crate::specs::Demands::inline_bytes))]
     pub fn inline_bytes(&self, ty: TypeRow) -> i64
-        ensures value { result ≡ inline_bytes (borrowed_rows self.now) ty }
-        ensures low { neg_ℤ (pos (2 ^ 48)) <ℤ result }
-        ensures high { result <ℤ pos (2 ^ 48) }
+        ensures { result ≡ inline_bytes (borrowed_rows self.now) ty }
     {
         match shape_of(ty) {
             Some(Shape::One(element)) => i64::from(self.element_bytes(element, ty.index)),
@@ -259,23 +250,18 @@ impl<'r, 'n> RowLists<'r, 'n> {
         }
     }
 
-    /// The i-th of a struct's fields.
-    pub fn part_at(&self, fields: &[FieldRow<'n>], i: usize) -> Option<PartView>
-        ensures { result ≡ option_and_then (part_of (borrowed_rows self.now)) (slice_get (map field_of fields.now) i) }
-    {
-        match fields.get(i) {
-            Some(field) => self.part_of(field),
-            None => None,
-        }
-    }
-
-    /// A field of a struct, none where no value of its type could stand there.
-    fn part_of(&self, field: &FieldRow<'n>) -> Option<PartView>
+    /// A field of a struct, none where no value of its type could stand there. An array has the kind of a vector of its
+    /// elements.
+    pub fn part_of(&self, field: &FieldRow<'n>) -> Option<PartView>
         ensures { result ≡ part_of (borrowed_rows self.now) (field_of field.now) }
     {
         let ty = field.ty;
         let shape = shape_of(ty);
-        let kind = self.part_kind(shape, ty.index)?;
+        let kind = match shape {
+            Some(Shape::One(element)) => self.element_kind(element, ty.index),
+            Some(Shape::Array(element)) => self.vector_kind(element, ty.index),
+            _ => None,
+        }?;
         Some(PartView {
             place: field.slot,
             kind,
@@ -286,17 +272,6 @@ impl<'r, 'n> RowLists<'r, 'n> {
         })
     }
 
-    /// The kind of what a struct's field of this shape holds: an array has that of a vector of its elements.
-    fn part_kind(&self, shape: Option<Shape>, index: i32) -> Option<Kind>
-        ensures { result ≡ part_kind (borrowed_rows self.now) index shape }
-    {
-        match shape {
-            Some(Shape::One(element)) => self.element_kind(element, index),
-            Some(Shape::Array(element)) => self.vector_kind(element, index),
-            _ => None,
-        }
-    }
-
     /// The kind of one value of an element whose type has this index, none where its object or enum isn't there.
     fn element_kind(&self, element: Element, index: i32) -> Option<Kind>
         ensures { result ≡ shape_kind (borrowed_rows self.now) index (Some (Shape.One element)) }
@@ -304,8 +279,19 @@ impl<'r, 'n> RowLists<'r, 'n> {
         match element {
             Element::Scalar(scalar) => Some(Kind::Scalar(scalar)),
             Element::Text => Some(Kind::Text),
-            Element::Object => self.object_kind(index),
-            Element::Union => self.union_kind(index),
+            Element::Object => {
+                let object = self.object_at(index)?;
+                let number = index.unsigned_abs();
+                Some(if object.is_struct {
+                    Kind::Struct(number)
+                } else {
+                    Kind::Table(number)
+                })
+            }
+            Element::Union => {
+                self.enum_at(index)?;
+                Some(Kind::Union(index.unsigned_abs()))
+            }
         }
     }
 
@@ -316,25 +302,6 @@ impl<'r, 'n> RowLists<'r, 'n> {
     {
         let kind = self.element_kind(element, index)?;
         Some(vector_of(kind))
-    }
-
-    fn object_kind(&self, index: i32) -> Option<Kind>
-        ensures { result ≡ object_kind index Kind.Struct Kind.Table (entry_at (borrowed_rows self.now).objects index) }
-    {
-        let object = self.object_at(index)?;
-        let number = index.unsigned_abs();
-        Some(if object.is_struct {
-            Kind::Struct(number)
-        } else {
-            Kind::Table(number)
-        })
-    }
-
-    fn union_kind(&self, index: i32) -> Option<Kind>
-        ensures { result ≡ union_kind index Kind.Union (entry_at (borrowed_rows self.now).enums index) }
-    {
-        self.enum_at(index)?;
-        Some(Kind::Union(index.unsigned_abs()))
     }
 
     fn struct_layout(&self, number: u32) -> Layout

@@ -9,8 +9,10 @@ loop-owner-preserved g c =
     let own = g.O.Owner.rows_of owner in
     let range_of = g.O.Owner.range_of in
     let parts = c.loop-owner.invariant.parts in
-    let more = c.in_ok-range.ensures.rows ∙ ap (λ z. all ++ z) c.rows.ensures.value in
-    let range = c.part.ensures.range ∙ c.in_ok-range.ensures.range in
+    let more = c.in_ok-extend_from_slice.ensures.items ∙ ap (λ z. all ++ z) c.rows.ensures.value in
+    let start = c.len-start.ensures ∙ c.loop-owner.rows.ok.0 in
+    let end = c.len.ensures ∙ c.extend_from_slice.new.self.ok.0 in
+    let range = c.part.ensures.range ∙ (λ i. (start i, end i)) in
     let least = subst (λ o. g.O.Owner.count o < 2 ^ 31) (sym c.owner-item.is) (c.requires.few c.loop-owner.owner-index owner c.loop-owner-test.true) in
     let few : length own < 2 ^ 31 = subst (λ n. n < 2 ^ 31) (sym c.rows.ensures.count ∙ ap length c.rows.ensures.value) least in
     record {

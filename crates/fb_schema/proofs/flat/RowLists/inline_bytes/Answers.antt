@@ -1,22 +1,12 @@
-use Rattle.std.proofs.Common.{◌≡◌, pos, neg_ℤ, ◌*ℤ◌, ◌<ℤ◌, ◌^◌, Some, FitsSigned, w32, w64, sym, ap, subst, ◌∙◌, rules}
+use Rattle.std.proofs.Common.{◌≡◌, pos, ◌*ℤ◌, Some, FitsSigned, w32, w64, sym, ap, ◌∙◌, rules}
 use Rattle.std.proofs.lemmas.Int.{to_z-of_z}
 use Rattle.fb_schema.specs.declared.kinds.Shape.TheVariants.{One, Array}
 use Rattle.fb_schema.specs.{FlatRows.borrowed_rows, Rows.entry_at, Kinds.shape_of, Demands.element_bytes, Demands.shape_bytes, Demands.inline_bytes}
 use Rattle.fb_schema.proofs.flat.RowLists.inline_bytes.Goals as goal
 
-pub returns-in-Some-Array-clause-low : goal.returns-in-Some-Array-clause-low
-returns-in-Some-Array-clause-low c =
-    let fits : FitsSigned w64 c.array_bytes.result = search rules in
-    subst (λ z. neg_ℤ (pos (2 ^ 48)) <ℤ z) (sym (to_z-of_z w64 c.array_bytes.result fits)) c.array_bytes.ensures.low
-
-pub returns-in-Some-Array-clause-high : goal.returns-in-Some-Array-clause-high
-returns-in-Some-Array-clause-high c =
-    let fits : FitsSigned w64 c.array_bytes.result = search rules in
-    subst (λ z. z <ℤ pos (2 ^ 48)) (sym (to_z-of_z w64 c.array_bytes.result fits)) c.array_bytes.ensures.high
-
-pub returns-in-Some-Array-clause-value : goal.returns-in-Some-Array-clause-value
+pub returns-in-Some-Array : goal.returns-in-Some-Array
 unfolding inline_bytes
-returns-in-Some-Array-clause-value c =
+returns-in-Some-Array c =
     let objects = (borrowed_rows c.args.self.now).objects in
     let ty = c.args.ty in
     let each = c.element_bytes-in-Some-Array.result in
@@ -24,13 +14,13 @@ returns-in-Some-Array-clause-value c =
     let narrow : FitsSigned w32 each = search rules in
     let index : FitsSigned w32 ty.index = search rules in
     let found : shape_of ty ≡ Some (Array c.in-Some-Array.element) = search rules in
-    to_z-of_z w64 c.array_bytes.result fits ∙ c.array_bytes.ensures.value
+    to_z-of_z w64 c.array_bytes.result fits ∙ c.array_bytes.ensures
     ∙ ap (λ z. pos ty.fixed_length *ℤ z) (to_z-of_z w32 each narrow ∙ c.element_bytes-in-Some-Array.ensures ∙ ap (λ i. element_bytes (entry_at objects i) c.in-Some-Array.element) (to_z-of_z w32 ty.index index))
     ∙ sym (ap (shape_bytes ty.fixed_length (entry_at objects ty.index)) found)
 
-pub returns-in-Some-One-clause-value : goal.returns-in-Some-One-clause-value
+pub returns-in-Some-One : goal.returns-in-Some-One
 unfolding inline_bytes
-returns-in-Some-One-clause-value c =
+returns-in-Some-One c =
     let objects = (borrowed_rows c.args.self.now).objects in
     let ty = c.args.ty in
     let each = c.element_bytes.result in

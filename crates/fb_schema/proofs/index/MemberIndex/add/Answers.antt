@@ -20,7 +20,7 @@ returns g c =
     let there : slice_get enums i ≡ Some row = slice_get-get_or enums i blank_enum lt in
     let list = part all row.members in
     let found = c.in_ok-found.found in
-    let kept : c.kept_members-members.result.now ≡ kept_members row.is_union list = c.kept_members-members.ensures.value ∙ ap (kept_members row.is_union) c.members_of.ensures.value in
+    let kept : c.kept_members-members.result.now ≡ kept_members row.is_union list = c.kept_members-members.ensures.value ∙ ap (kept_members row.is_union) c.part.ensures.value in
     on_ok c.push-2.result _ _ (λ last. record {
       targets = have_step rows all enums i row (lists_of index.places) _ (lists_of index.targets) _ found.places.items found.targets.items lt is c.requires.before.targets
           (c.in_ok-push.ensures ∙ ap (λ xs. lists_of index.places ++ xs ∷ []) c.deref.ensures.value) (last ∙ ap (λ xs. lists_of index.targets ++ xs ∷ []) c.deref-2.ensures.value)
