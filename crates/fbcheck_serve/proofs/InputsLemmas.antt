@@ -1,5 +1,5 @@
 -- Files that are gone through one behind another.
-use Rattle.std.proofs.Common.{◌≡◌, ◌∙◌, ℕ, zero, suc, ◌+◌, ◌<◌, ◌≤◌, List, [], ◌∷◌, ◌++◌, Bool, Option, Result, Ok, Err, false, length, take, take_all, drop, drop_of_length-le, drop-cons, get_or, append_assoc, add-one, arith, refl, sym, ap, subst}
+use Rattle.std.proofs.Common.{◌≡◌, ◌∙◌, ℕ, zero, suc, ◌+◌, ◌<◌, ◌≤◌, ◌^◌, List, [], ◌∷◌, ◌++◌, Bool, Option, Result, Ok, Err, false, length, take, take_all, drop, drop_of_length-le, drop-cons, get_or, append_assoc, add-one, arith, refl, sym, ap, subst}
 use Rattle.std.proofs.Math.ListN.{set}
 use Rattle.std.proofs.lemmas.List.{append-nil}
 use Rattle.std.specs.Global.{Global}
@@ -8,7 +8,7 @@ use Rattle.fb_schema.specs.Rows.{Rows}
 use mathlib.Core.Logic.{inl}
 use Rattle.fb_lines.specs.{Faults.End, Job.Job, Job.job_of}
 use Rattle.std.specs.declared.io.ErrorKind.{ErrorKind}
-use Rattle.fb_lines.specs.declared.{options.Options.Options, fault.RunFault.RunFault}
+use Rattle.fb_lines.specs.declared.{options.Options.Options, fault.RunFault.RunFault, fault.RunFault.TheVariants.OutOfMemory, fault.RunFault.TheVariants.TooManyTurns}
 use Rattle.fb_run.specs.declared.run.Ran.{Ran}
 use Rattle.fbcheck_serve.specs.Inputs.{ComesOf, Folder, HaltsAmong, IsMissed, Passes, PassesAll, RunsOpened, Seen, Stand, Tries, is_standard, label_of, with_label, sum_of_counts, sums, are_named}
 use Rattle.fbcheck_serve.specs.declared.{inputs.Missed.Missed, inputs.Standard.Standard, inputs.Standard.TheVariants.Unread, inputs.Standard.TheVariants.Spent}
@@ -76,6 +76,22 @@ module _ (folder : Folder) where
 pub next_text : {Z : Type 0} (names : List (String Z)) (i : ℕ) (item : String Z) (text : List ℕ) → i < length names → item ≡ get_or names i item → text ≡ string_bytes item
     → map string_bytes (drop i names) ≡ text ∷ map string_bytes (drop (i + 1) names)
 next_text names i item text within is same = rw (add-one, drop-cons names i item within, ← is, same) refl
+
+-- no calls are no more than may be made
+pub more_turns : (n : ℕ) → n ≤ n + 4294967296
+more_turns n = omega arith
+
+pub more_pushes : (n : ℕ) → n ≤ n + 2 ^ 96
+more_pushes n = omega arith
+
+pub unread_spent : (s : Standard) → s ≡ Unread → s ≡ Spent → ⊥
+unread_spent s unread spent = let both : Unread ≡ Spent = sym unread ∙ spent in cc
+
+pub other_end : ◌≡◌ {A = End} (Err OutOfMemory) (Err TooManyTurns) → ⊥
+other_end same = cc
+
+pub well_end : ◌≡◌ {A = End} (Ok tt) (Err TooManyTurns) → ⊥
+well_end same = cc
 
 -- calls of the reader that standard input is
 pub turns_on : {S : Type 0} (calls : S → ℕ) (old new : Standard) (first before after : S) → (old ≡ Unread → before ≡ first) → (old ≡ Spent → (new ≡ Spent) × (after ≡ before))

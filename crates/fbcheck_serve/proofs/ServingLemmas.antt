@@ -194,25 +194,17 @@ same_ends s k n (Ok done) r r' w w' m m' a b c = tt
 same_ends s k n (Err unasked) r r' w w' m m' a b c = rw (a, b, c) refl
 
 module _ (settings : Settings) (before after : Ends) (writes notes : ℕ) (turns : after.reader.calls ≤ before.reader.calls + 4294967296) (noted : notes < 2 ^ 98) where
+  rests_by : (tally : Tally) (outcome : Result Ending Stop) → length tally.reasons ≡ 13 → EndsSo before after 4294967296 outcome → ((more : ℕ) → notes ≤ more → IsCrowded writes more outcome)
+      → Rests before after writes notes (summed settings tally) outcome
+  rests_by tally outcome are ends crowded = record { places = summed_places _ settings.summary are; ends = ends; turns = turns; noted = noted; crowded = crowded }
+
   unasked_rests : (unasked : Unasked) → after ≡ before → Rests before after writes notes None (Err (stop.Ask unasked))
   unasked_rests unasked same = record { places = tt; ends = rw same (refl, refl, refl); turns = turns; noted = noted; crowded = λ more le. tt }
 
   run_rests_so : (manner : Manner) (tally : Tally) (end : End) → length tally.reasons ≡ 13 → EndsBeside before after 4294967296 end
       → Rests before after writes notes (summed settings tally) (run_ending manner tally end)
-  run_rests_so manner tally (Ok done) are ends = record {
-    places = summed_places _ settings.summary are;
-    ends = ends;
-    turns = turns;
-    noted = noted;
-    crowded = λ more le. tt;
-  }
-  run_rests_so manner tally (Err fault) are ends = record {
-    places = summed_places _ settings.summary are;
-    ends = ends;
-    turns = turns;
-    noted = noted;
-    crowded = λ more le. tt;
-  }
+  run_rests_so manner tally (Ok done) are ends = rests_by tally _ are ends (λ more le. tt)
+  run_rests_so manner tally (Err fault) are ends = rests_by tally _ are ends (λ more le. tt)
 
   pub run_rests : (ran : Result Ran Unasked) (sums : Option Sums) (outcome : Result Ending Stop) → EndsRun settings ran sums outcome → IfOk ran (λ r. length r.tally.reasons ≡ 13)
       → IfOk ran (λ r. EndsBeside before after 4294967296 r.end) → OnErr ran (after ≡ before) → Rests before after writes notes sums outcome
@@ -226,20 +218,8 @@ module _ (settings : Settings) (before after : Ends) (writes notes : ℕ) (turns
 
   files_rests_so : (by : By) (course : Course) (end : End) → length course.tally.reasons ≡ 13 → (end ≡ Err run.TooManyTurns → (2 ^ 64 ≤ writes) ⊎ (2 ^ 64 ≤ notes))
       → Rests before after writes notes (summed settings course.tally) (files_ending by course end)
-  files_rests_so by course (Ok done) are many = record {
-    places = summed_places _ settings.summary are;
-    ends = tt;
-    turns = turns;
-    noted = noted;
-    crowded = λ more le. tt;
-  }
-  files_rests_so by course (Err fault) are many = record {
-    places = summed_places _ settings.summary are;
-    ends = tt;
-    turns = turns;
-    noted = noted;
-    crowded = λ more le. halted_crowded fault more le many;
-  }
+  files_rests_so by course (Ok done) are many = rests_by course.tally _ are tt (λ more le. tt)
+  files_rests_so by course (Err fault) are many = rests_by course.tally _ are tt (λ more le. halted_crowded fault more le many)
 
   pub files_rests : (passed : Result inputs.Passed Unasked) (sums : Option Sums) (outcome : Result Ending Stop) → EndsFiles settings passed sums outcome
       → IfOk passed (λ p. length p.course.tally.reasons ≡ 13) → IfOk passed (λ p. p.end ≡ Err run.TooManyTurns → (2 ^ 64 ≤ writes) ⊎ (2 ^ 64 ≤ notes)) → OnErr passed (after ≡ before)
