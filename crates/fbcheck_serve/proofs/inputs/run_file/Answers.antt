@@ -27,6 +27,11 @@ returns-in-Err-clause-comes g c =
     comes_missed (folder_of g.F.Files g.F.Opened.Source g.F.Opened.Explains c.args.files.now) (job_of c.args.schema.now c.args.options.now) c.args.name.now c.args.standard (seen_of g.S.Input g.S.Explains g.K.Sink g.N.Sink c.args.reader.now c.args.writer.now c.args.notes.now)
     c.missed-in-Err.result.what c.missed-in-Err.result.cause (missed.File c.in-Err.fault) c.missed-in-Err.ensures (sym c.eq.ensures ∙ c.if-eq.false, c.in-Err.ensures.fault)
 
+pub returns-in-Spent-clause-comes : goal.returns-in-Spent-clause-comes
+returns-in-Spent-clause-comes g c =
+    comes_missed (folder_of g.F.Files g.F.Opened.Source g.F.Opened.Explains c.args.files.now) (job_of c.args.schema.now c.args.options.now) c.args.name.now c.args.standard (seen_of g.S.Input g.S.Explains g.K.Sink g.N.Sink c.args.reader.now c.args.writer.now c.args.notes.now)
+    c.missed.result.what c.missed.result.cause missed.Again c.missed.ensures (sym c.eq.ensures ∙ c.if-eq.true, c.in-Spent.is)
+
 pub returns-in-Ok-clause-calls : goal.returns-in-Ok-clause-calls
 returns-in-Ok-clause-calls g c =
     let ran = c.run_beside-ran-in-Ok.ensures in
