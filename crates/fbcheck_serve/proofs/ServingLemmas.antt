@@ -40,14 +40,15 @@ use Rattle.fbcheck_serve.specs.declared.stop.Stop.TheVariants as stop
 use Rattle.fbcheck_texts.specs.declared.fault.WordsFault.{WordsFault}
 
 module _ (folder : Folder) where
-  -- the words give no settings
+  -- the words give no settings, and no file was begun
   pub comes_unserved : (given : List Text) (reader : Reader) (writer writer' notes : Writer) (cause : Option ErrorKind) (fault : SettingsFault) (outcome : Result Ending Stop)
       → Refuses given fault → Unserved fault writer writer' outcome
       → ComesBy folder given (with_cause (beside reader (record { writer = writer; notes = notes })) cause) (with_cause (beside reader (record { writer = writer'; notes = notes })) cause) None outcome
-  comes_unserved given reader writer writer' notes cause fault (Ok Helped) refuses unserved = ((fault, refuses, Keeps-refl reader.left, unserved, Keeps-refl notes.bytes), refl)
-  comes_unserved given reader writer writer' notes cause fault (Err (stop.Usage text)) refuses unserved = ((fault, refuses, Keeps-refl reader.left, unserved, Keeps-refl notes.bytes), refl)
-  comes_unserved given reader writer writer' notes cause fault (Err (stop.Settings why)) refuses unserved = ((fault, refuses, Keeps-refl reader.left, unserved, Keeps-refl notes.bytes), refl)
-  comes_unserved given reader writer writer' notes cause fault (Err (stop.CutOff written)) refuses unserved = ((fault, refuses, Keeps-refl reader.left, unserved, Keeps-refl notes.bytes), refl)
+      × ((writes more : ℕ) → IsCrowded writes more outcome)
+  comes_unserved given reader writer writer' notes cause fault (Ok Helped) refuses unserved = (((fault, refuses, Keeps-refl reader.left, unserved, Keeps-refl notes.bytes), refl), λ writes more. tt)
+  comes_unserved given reader writer writer' notes cause fault (Err (stop.Usage text)) refuses unserved = (((fault, refuses, Keeps-refl reader.left, unserved, Keeps-refl notes.bytes), refl), λ writes more. tt)
+  comes_unserved given reader writer writer' notes cause fault (Err (stop.Settings why)) refuses unserved = (((fault, refuses, Keeps-refl reader.left, unserved, Keeps-refl notes.bytes), refl), λ writes more. tt)
+  comes_unserved given reader writer writer' notes cause fault (Err (stop.CutOff written)) refuses unserved = (((fault, refuses, Keeps-refl reader.left, unserved, Keeps-refl notes.bytes), refl), λ writes more. tt)
   comes_unserved given reader writer writer' notes cause fault _ refuses never = absurd never
 
   -- what holds by the settings, and by what a read of the file of the words gave
@@ -138,49 +139,28 @@ sums_noted sums told before after outcome line written some is all wrote same =
     subst (λ (o : Option Sums). SumsUp o before after outcome outcome) (sym some)
     (inl (subst (Appends before.bytes after.bytes) (ap (λ (m : ℕ). take m line) all ∙ take-length line ∙ is) wrote, same, refl))
 
--- the words gave no settings: no file was begun
-unserved_crowded : (fault : SettingsFault) (writer writer' : Writer) (outcome : Result Ending Stop) → Unserved fault writer writer' outcome → (writes notes : ℕ) → IsCrowded writes notes outcome
-unserved_crowded fault writer writer' (Ok done) unserved writes notes = tt
-unserved_crowded fault writer writer' (Err (stop.Usage text)) unserved writes notes = tt
-unserved_crowded fault writer writer' (Err (stop.Settings why)) unserved writes notes = tt
-unserved_crowded fault writer writer' (Err (stop.CutOff written)) unserved writes notes = tt
-unserved_crowded fault writer writer' _ never writes notes = absurd never
-
-more_notes : (n : ℕ) → n < 2 ^ 64 → n < 2 ^ 98
-more_notes n few = omega arith
-
 pub few_noted : (n n' : ℕ) → n' ≤ n + 2 ^ 96 → n < 2 ^ 64 → n' < 2 ^ 98
 few_noted n n' le few = omega arith
 
-pub unserved_rests : (fault : SettingsFault) (before after : Ends) (writes notes : ℕ) (outcome : Result Ending Stop) → Unserved fault before.outs.writer after.outs.writer outcome
-    → EndsSo before after 4294967296 outcome → after.reader ≡ before.reader → notes < 2 ^ 64 → Rests before after writes notes None outcome
-unserved_rests fault before after writes notes outcome unserved ends same few = record {
-  places = tt;
-  ends = ends;
-  turns = rw same (omega arith);
-  noted = more_notes notes few;
-  crowded = λ more le. unserved_crowded fault before.outs.writer after.outs.writer outcome unserved writes more;
-}
-
--- the words or the schema file couldn't be read
-early : (seen : Seen) (writes notes : ℕ) (outcome : Result Ending Stop) → EndsSo seen.ends seen.ends 4294967296 outcome → ((more : ℕ) → IsCrowded writes more outcome) → notes < 2 ^ 64
-    → Rests seen.ends seen.ends writes notes None outcome
-early seen writes notes outcome ends crowded few = record { places = tt; ends = ends; turns = omega arith; noted = more_notes notes few; crowded = λ more le. crowded more }
+-- the words or the schema file couldn't be read, or the words give no settings
+pub early : (before after : Ends) (writes notes : ℕ) (outcome : Result Ending Stop) → EndsSo before after 4294967296 outcome → ((writes more : ℕ) → IsCrowded writes more outcome)
+    → after.reader ≡ before.reader → notes < 2 ^ 64 → Rests before after writes notes None outcome
+early before after writes notes outcome ends crowded same few = record { places = tt; ends = ends; turns = rw same (omega arith); noted = few_noted notes notes (omega arith) few; crowded = λ more le. crowded writes more }
 
 pub wordless : {A B : Type 0} (folder : Folder) (given : Result (Vec (String A) B) WordsFault) (seen : Seen) (fault : WordsFault) (hint : Result (Vec ℕ Global) AllocError) (writes notes : ℕ) (cause : Stop)
     → given ≡ Err fault → cause ≡ words_stop fault hint → IfOk hint (λ h. h.items ≡ words_hint fault) → notes < 2 ^ 64
     → ComesTo folder (words_of given) seen seen None (Err cause) × Rests seen.ends seen.ends writes notes None (Err cause)
 wordless folder given seen fault (Ok hint) writes notes cause is so told few =
-    rw (is, so) ((refl, told, idle seen.ends, refl), early seen writes notes _ (refl, refl, refl) (λ more. tt) few)
-wordless folder given seen fault (Err none) writes notes cause is so told few = rw (is, so) ((idle seen.ends, refl), early seen writes notes _ (refl, refl, refl) (λ more. tt) few)
+    rw (is, so) ((refl, told, idle seen.ends, refl), early seen.ends seen.ends writes notes _ (refl, refl, refl) (λ writes more. tt) refl few)
+wordless folder given seen fault (Err none) writes notes cause is so told few = rw (is, so) ((idle seen.ends, refl), early seen.ends seen.ends writes notes _ (refl, refl, refl) (λ writes more. tt) refl few)
 
 pub fileless : (folder : Folder) (given : List Text) (seen : Seen) (fault : FileFault) (hint : Result (Vec ℕ Global) AllocError) (name : Option Text) (writes notes : ℕ) (cause : Stop)
     → fault_of program given ≡ [] → name ≡ text_of (codes "schema") given → cause ≡ file_stop fault hint → HasFileFault folder.gives name fault → IfOk hint (λ h. h.items ≡ file_hint fault name) → notes < 2 ^ 64
     → ComesBy folder given seen seen None (Err cause) × Rests seen.ends seen.ends writes notes None (Err cause)
 fileless folder given seen fault (Ok hint) name writes notes cause read is so has told few =
-    rw so ((read, subst (λ (t : Option Text). IsFileFault folder.gives t fault hint.items) is (has, told), idle seen.ends, refl), early seen writes notes _ (refl, refl, refl) (λ more. tt) few)
+    rw so ((read, subst (λ (t : Option Text). IsFileFault folder.gives t fault hint.items) is (has, told), idle seen.ends, refl), early seen.ends seen.ends writes notes _ (refl, refl, refl) (λ writes more. tt) refl few)
 fileless folder given seen fault (Err none) name writes notes cause read is so has told few =
-    rw so (((refusal.OutOfMemory, tt, Keeps-refl seen.ends.reader.left, Keeps-refl seen.ends.outs.writer.bytes, Keeps-refl seen.ends.outs.notes.bytes), refl), early seen writes notes _ (refl, refl, refl) (λ more. tt) few)
+    rw so (((refusal.OutOfMemory, tt, Keeps-refl seen.ends.reader.left, Keeps-refl seen.ends.outs.writer.bytes, Keeps-refl seen.ends.outs.notes.bytes), refl), early seen.ends seen.ends writes notes _ (refl, refl, refl) (λ writes more. tt) refl few)
 
 -- the numbers to be told have a place for each kind of fault
 summed_places : (told : Sums) (asked : Bool) → length told.tally.reasons ≡ 13 → IfSome (if asked then Some told else None) (λ (sums : Sums). length sums.tally.reasons ≡ 13)
