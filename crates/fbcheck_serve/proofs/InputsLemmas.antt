@@ -1,5 +1,5 @@
 -- Files that are gone through one behind another.
-use Rattle.std.proofs.Common.{◌≡◌, ◌∙◌, ℕ, zero, suc, ◌+◌, ◌<◌, ◌≤◌, ◌^◌, List, [], ◌∷◌, ◌++◌, Bool, Option, Result, Ok, Err, false, length, take, take_all, drop, drop_of_length-le, drop-cons, get_or, append_assoc, add-one, arith, refl, sym, ap, subst}
+use Rattle.std.proofs.Common.{◌≡◌, ◌∙◌, ℕ, zero, suc, ◌+◌, ◌<◌, ◌≤◌, List, [], ◌∷◌, ◌++◌, Bool, Option, Result, Ok, Err, false, length, take, take_all, drop, drop_of_length-le, drop-cons, get_or, append_assoc, add-one, arith, refl, sym, ap, subst}
 use Rattle.std.proofs.Math.ListN.{set}
 use Rattle.std.proofs.lemmas.List.{append-nil}
 use Rattle.std.specs.Global.{Global}
@@ -78,20 +78,14 @@ pub next_text : {Z : Type 0} (names : List (String Z)) (i : ℕ) (item : String 
 next_text names i item text within is same = rw (add-one, drop-cons names i item within, ← is, same) refl
 
 -- no calls are no more than may be made
-pub more_turns : (n : ℕ) → n ≤ n + 4294967296
-more_turns n = omega arith
-
-pub more_pushes : (n : ℕ) → n ≤ n + 2 ^ 96
-more_pushes n = omega arith
+pub no_more : (n more : ℕ) → n ≤ n + more
+no_more n more = omega arith
 
 pub unread_spent : (s : Standard) → s ≡ Unread → s ≡ Spent → ⊥
 unread_spent s unread spent = let both : Unread ≡ Spent = sym unread ∙ spent in cc
 
-pub other_end : ◌≡◌ {A = End} (Err OutOfMemory) (Err TooManyTurns) → ⊥
-other_end same = cc
-
-pub well_end : ◌≡◌ {A = End} (Ok tt) (Err TooManyTurns) → ⊥
-well_end same = cc
+pub other_ends : (◌≡◌ {A = End} (Err OutOfMemory) (Err TooManyTurns) → ⊥) × (◌≡◌ {A = End} (Ok tt) (Err TooManyTurns) → ⊥)
+other_ends = (λ same. cc, λ same. cc)
 
 -- calls of the reader that standard input is
 pub turns_on : {S : Type 0} (calls : S → ℕ) (old new : Standard) (first before after : S) → (old ≡ Unread → before ≡ first) → (old ≡ Spent → (new ≡ Spent) × (after ≡ before))

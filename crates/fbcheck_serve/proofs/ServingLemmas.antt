@@ -1,43 +1,32 @@
 -- What the program comes to.
 use Rattle.std.proofs.Common.{codes, ◌+◌, ◌<◌, ◌≡◌, ◌≢◌, ◌==◌, ◌≤◌, ◌^◌, ◌∙◌, arith, ℕ, Bool, true, false, true≢false, List, [], ◌∷◌, Option, Some, None, Result, Ok, Err, ap, length, refl, take, sym, subst}
 use mathlib.Core.Logic.{◌⊎◌, inl, inr}
-use Rattle.std.specs.{Borrow.Bor, Io.KnownBytes.Appends}
-use Rattle.std.specs.declared.io.ErrorKind.{ErrorKind}
+use Rattle.std.specs.{Borrow.Bor, Global.Global, Io.KnownBytes.Appends, Result.OnErr, declared.alloc.AllocError.AllocError, declared.io.ErrorKind.ErrorKind}
 use Rattle.std.specs.Prelude.{if◌then◌else◌, IfOk, IfSome, String, Vec, map, option_map, string_bytes, vec_items}
 use Rattle.std.proofs.{KnownBytes.Keeps-refl, Math.Seq.take-length}
 use Rattle.std.proofs.lemmas.{Bool.eq-eqb, Bool.eqb-true, List.length-map, List.nil_from_length}
-use Rattle.clap.specs.Walk.{Text}
-use Rattle.fbcheck_words.specs.{Refusal.Refuses, Given.AreGiven}
-use Rattle.fbcheck_serve.specs.Asked.{form_of}
+use Rattle.clap.specs.{Faults.fault_of, Walk.Text}
+use Rattle.fbcheck_words.specs.{CommandLine.program, Given.AreGiven, Refusal.Refuses, Values.text_of}
 use Rattle.fbcheck_serve.specs.Checking.{IsPromptAmongAsked, IsPromptAsAsked, IsPromptOverAsked, IsCheckedBeside, IsServedEach, names_in}
-use Rattle.fbcheck_texts.specs.{Faults.IsFile, Faults.HasFileFault}
-use Rattle.fbcheck_texts.specs.declared.{framing.By.By, framing.Manner.Manner}
+use Rattle.fbcheck_texts.specs.{Faults.IsFile, Faults.HasFileFault, Hints.file_hint, Hints.words_hint}
+use Rattle.fbcheck_texts.specs.declared.{fault.FileFault.FileFault, fault.WordsFault.WordsFault, framing.By.By, framing.Manner.Manner, hint.Unasked.Unasked}
 use Rattle.fbcheck_serve.specs.Inputs.{Folder, IsPromptAmong, IsPromptOver, Seen, with_cause}
-use Rattle.fb_lines.specs.{Job.Job, Faults.End, JsonSums.summary_in}
+use Rattle.fb_lines.specs.{Job.Job, Faults.End, Faults.EndsBeside, JsonSums.summary_in}
 use Rattle.fb_lines.specs.Ends.{Ends, Reader, Writer, beside}
 use Rattle.fbcheck_serve.specs.Serving.{ChecksAsAsked, ComesAsAsked, ComesBy, ComesTo, EndsFiles, EndsRun, EndsSo, HoldsAsGiven, IsFileFault, IsPromptAsGiven, IsCrowded, PassesAsAsked, Rests, SumsUp, Unserved}
-use Rattle.fbcheck_serve.specs.Serving.{file_stop, files_ending, lent_bytes, run_ending, summed, words_of, words_stop}
+use Rattle.fbcheck_serve.specs.Serving.{files_ending, hinted_stop, lent_bytes, run_ending, summed, words_of}
 use Rattle.fbcheck_serve.proofs.AskedLemmas.{idle}
 use Rattle.fbcheck_serve.specs.declared.inputs.Passed as inputs
-use Rattle.fb_run.specs.declared.run.Ran.{Ran}
 use Rattle.fb_run.specs.declared.input.Input as input
 use Rattle.fb_bytes.specs.declared.ends.Sink as sink
-use Rattle.fb_run.specs.Leave.{ends_of}
-use Rattle.fb_lines.specs.Faults.{EndsBeside}
-use Rattle.clap.specs.Faults.{fault_of}
-use Rattle.fbcheck_words.specs.{CommandLine.program, Values.text_of}
+use Rattle.fb_run.specs.{Leave.ends_of, declared.run.Ran.Ran}
 use Rattle.fbcheck_words.specs.declared.choices.SettingsFault.TheVariants as refusal
-use Rattle.std.specs.{Global.Global, Result.OnErr, declared.alloc.AllocError.AllocError}
-use Rattle.fbcheck_texts.specs.declared.{hint.Unasked.Unasked, fault.FileFault.FileFault}
-use Rattle.fbcheck_texts.specs.Hints.{file_hint, words_hint}
 use Rattle.fbcheck_words.specs.declared.{choices.Settings.Settings, choices.SettingsFault.SettingsFault}
-use Rattle.fb_lines.specs.declared.fault.RunFault.{RunFault}
+use Rattle.fb_lines.specs.declared.{fault.RunFault.RunFault, tally.Tally.Tally}
 use Rattle.fb_lines.specs.declared.fault.RunFault.TheVariants as run
-use Rattle.fb_lines.specs.declared.tally.Tally.{Tally}
 use Rattle.fbcheck_serve.specs.declared.{stop.Ending.Ending, inputs.Course.Course, stop.Ending.TheVariants.Helped}
 use Rattle.fbcheck_serve.specs.declared.{stop.Stop.Stop, stop.Sums.Sums}
 use Rattle.fbcheck_serve.specs.declared.stop.Stop.TheVariants as stop
-use Rattle.fbcheck_texts.specs.declared.fault.WordsFault.{WordsFault}
 
 module _ (folder : Folder) where
   -- the words give no settings, and no file was begun
@@ -148,14 +137,14 @@ pub early : (before after : Ends) (writes notes : ℕ) (outcome : Result Ending 
 early before after writes notes outcome ends crowded same few = record { places = tt; ends = ends; turns = rw same (omega arith); noted = few_noted notes notes (omega arith) few; crowded = λ more le. crowded writes more }
 
 pub wordless : {A B : Type 0} (folder : Folder) (given : Result (Vec (String A) B) WordsFault) (seen : Seen) (fault : WordsFault) (hint : Result (Vec ℕ Global) AllocError) (writes notes : ℕ) (cause : Stop)
-    → given ≡ Err fault → cause ≡ words_stop fault hint → IfOk hint (λ h. h.items ≡ words_hint fault) → notes < 2 ^ 64
+    → given ≡ Err fault → cause ≡ hinted_stop (stop.Words fault) hint → IfOk hint (λ h. h.items ≡ words_hint fault) → notes < 2 ^ 64
     → ComesTo folder (words_of given) seen seen None (Err cause) × Rests seen.ends seen.ends writes notes None (Err cause)
 wordless folder given seen fault (Ok hint) writes notes cause is so told few =
     rw (is, so) ((refl, told, idle seen.ends, refl), early seen.ends seen.ends writes notes _ (refl, refl, refl) (λ writes more. tt) refl few)
 wordless folder given seen fault (Err none) writes notes cause is so told few = rw (is, so) ((idle seen.ends, refl), early seen.ends seen.ends writes notes _ (refl, refl, refl) (λ writes more. tt) refl few)
 
 pub fileless : (folder : Folder) (given : List Text) (seen : Seen) (fault : FileFault) (hint : Result (Vec ℕ Global) AllocError) (name : Option Text) (writes notes : ℕ) (cause : Stop)
-    → fault_of program given ≡ [] → name ≡ text_of (codes "schema") given → cause ≡ file_stop fault hint → HasFileFault folder.gives name fault → IfOk hint (λ h. h.items ≡ file_hint fault name) → notes < 2 ^ 64
+    → fault_of program given ≡ [] → name ≡ text_of (codes "schema") given → cause ≡ hinted_stop (stop.File fault) hint → HasFileFault folder.gives name fault → IfOk hint (λ h. h.items ≡ file_hint fault name) → notes < 2 ^ 64
     → ComesBy folder given seen seen None (Err cause) × Rests seen.ends seen.ends writes notes None (Err cause)
 fileless folder given seen fault (Ok hint) name writes notes cause read is so has told few =
     rw so ((read, subst (λ (t : Option Text). IsFileFault folder.gives t fault hint.items) is (has, told), idle seen.ends, refl), early seen.ends seen.ends writes notes _ (refl, refl, refl) (λ writes more. tt) refl few)

@@ -1,6 +1,6 @@
 use Rattle.std.proofs.Common.{refl, rules, subst}
 use Rattle.fb_lines.specs.{Ends.writer_of, Job.job_of}
-use Rattle.fbcheck_serve.proofs.InputsLemmas.{more_turns, tries_of}
+use Rattle.fbcheck_serve.proofs.InputsLemmas.{no_more, tries_of}
 use Rattle.fbcheck_serve.specs.Inputs.{IsBehind, folder_of, seen_of}
 use Rattle.fbcheck_texts.specs.declared.framing.Framing.{Framing}
 use Rattle.fbcheck_serve.proofs.inputs.pass_file.Goals as goal
@@ -28,7 +28,7 @@ returns-clause-calls g c =
     )
 
 pub returns-then-calls-ge-MOST_CALLS-clause-calls : goal.returns-then-calls-ge-MOST_CALLS-clause-calls
-returns-then-calls-ge-MOST_CALLS-clause-calls g c = (more_turns _, c.requires.places, λ is. (is, refl), λ is. (is, refl))
+returns-then-calls-ge-MOST_CALLS-clause-calls g c = (no_more _ _, c.requires.places, λ is. (is, refl), λ is. (is, refl))
 
 pub returns-then-calls-ge-MOST_CALLS-clause-crowded : goal.returns-then-calls-ge-MOST_CALLS-clause-crowded
 returns-then-calls-ge-MOST_CALLS-clause-crowded g c = search rules

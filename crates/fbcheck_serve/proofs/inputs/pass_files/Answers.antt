@@ -5,7 +5,7 @@ use Rattle.fb_lines.specs.Job.{Job, job_of}
 use Rattle.fb_run.specs.{Leave.IsUnended, Leave.reader_of, Prompt.IsPrompt}
 use Rattle.fbcheck_serve.specs.Inputs.{Tries, folder_of, label_of, seen_of, stand, are_named}
 use Rattle.fbcheck_serve.specs.declared.inputs.Course.{Course}
-use Rattle.fbcheck_serve.proofs.InputsLemmas.{front_all, front_more, halts_among, next_text, other_end, relabelled, turns_on, well_end}
+use Rattle.fbcheck_serve.proofs.InputsLemmas.{front_all, front_more, halts_among, next_text, other_ends, relabelled, turns_on}
 use Rattle.fbcheck_serve.proofs.inputs.pass_files.Goals as goal
 
 pub loop-name-init : goal.loop-name-init
@@ -112,9 +112,9 @@ returns-in-Err-clause-calls g c = (
 pub returns-in_default-clause-calls : goal.returns-in_default-clause-calls
 returns-in_default-clause-calls g c =
     let so = c.loop-name.invariant in
-    (so.places, so.noted, so.turns, λ same. absurd (other_end same))
+    (so.places, so.noted, so.turns, λ same. absurd (other_ends.0 same))
 
 pub returns-clause-calls : goal.returns-clause-calls
 returns-clause-calls g c =
     let so = c.loop-name.invariant in
-    (so.places, so.noted, so.turns, λ same. absurd (well_end same))
+    (so.places, so.noted, so.turns, λ same. absurd (other_ends.1 same))

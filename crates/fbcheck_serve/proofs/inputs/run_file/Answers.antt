@@ -2,7 +2,7 @@ use Rattle.std.proofs.Common.{◌∙◌, refl, rules, sym, true≢false}
 use Rattle.fb_lines.specs.Job.{job_of}
 use Rattle.fbcheck_serve.specs.Inputs.{folder_of, seen_of}
 use Rattle.fbcheck_serve.specs.declared.inputs.Missed.TheVariants as missed
-use Rattle.fbcheck_serve.proofs.InputsLemmas.{comes_missed, comes_opened, more_pushes, more_turns, unread_spent}
+use Rattle.fbcheck_serve.proofs.InputsLemmas.{comes_missed, comes_opened, no_more, unread_spent}
 use Rattle.fbcheck_serve.proofs.inputs.run_file.Goals as goal
 
 pub returns-in-Ok-clause-comes : goal.returns-in-Ok-clause-comes
@@ -35,13 +35,13 @@ returns-in-Spent-clause-comes g c =
 pub returns-in-Ok-clause-calls : goal.returns-in-Ok-clause-calls
 returns-in-Ok-clause-calls g c =
     let ran = c.run_beside-ran-in-Ok.ensures in
-    (ran.pushes, more_turns _, rw c.by-in-Ok.ensures.what ran.places, λ isnt. refl, λ was. refl)
+    (ran.pushes, no_more _ _, rw c.by-in-Ok.ensures.what ran.places, λ isnt. refl, λ was. refl)
 
 pub returns-in-Err-clause-calls : goal.returns-in-Err-clause-calls
-returns-in-Err-clause-calls g c = (more_pushes _, more_turns _, rw c.missed-in-Err.ensures tt, λ isnt. refl, λ was. refl)
+returns-in-Err-clause-calls g c = (no_more _ _, no_more _ _, rw c.missed-in-Err.ensures tt, λ isnt. refl, λ was. refl)
 
 pub returns-in-Spent-clause-calls : goal.returns-in-Spent-clause-calls
-returns-in-Spent-clause-calls g c = (more_pushes _, more_turns _, rw c.missed.ensures tt, λ isnt. refl, λ was. refl)
+returns-in-Spent-clause-calls g c = (no_more _ _, no_more _ _, rw c.missed.ensures tt, λ isnt. refl, λ was. refl)
 
 pub returns-in-Unread-clause-calls : goal.returns-in-Unread-clause-calls
 returns-in-Unread-clause-calls g c =
