@@ -1,53 +1,43 @@
 -- What the program comes to.
 use Rattle.std.proofs.Common.{codes, ◌+◌, ◌<◌, ◌≡◌, ◌≢◌, ◌==◌, ◌≤◌, ◌^◌, ◌∙◌, arith, ℕ, Bool, true, false, true≢false, List, [], ◌∷◌, Option, Some, None, Result, Ok, Err, ap, length, refl, take, sym, subst}
 use mathlib.Core.Logic.{◌⊎◌, inl, inr}
-use Rattle.std.specs.{Borrow.Bor, Io.KnownBytes.Appends}
-use Rattle.std.specs.declared.io.ErrorKind.{ErrorKind}
+use Rattle.std.specs.{Borrow.Bor, Global.Global, Io.KnownBytes.Appends, Result.OnErr, declared.alloc.AllocError.AllocError, declared.io.ErrorKind.ErrorKind}
 use Rattle.std.specs.Prelude.{if◌then◌else◌, IfOk, IfSome, String, Vec, map, option_map, string_bytes, vec_items}
 use Rattle.std.proofs.{KnownBytes.Keeps-refl, Math.Seq.take-length}
 use Rattle.std.proofs.lemmas.{Bool.eq-eqb, Bool.eqb-true, List.length-map, List.nil_from_length}
-use Rattle.clap.specs.Walk.{Text}
-use Rattle.fbcheck_words.specs.{Refusal.Refuses, Given.AreGiven}
-use Rattle.fbcheck_serve.specs.Asked.{form_of}
+use Rattle.clap.specs.{Faults.fault_of, Walk.Text}
+use Rattle.fbcheck_words.specs.{CommandLine.program, Given.AreGiven, Refusal.Refuses, Values.text_of}
 use Rattle.fbcheck_serve.specs.Checking.{IsPromptAmongAsked, IsPromptAsAsked, IsPromptOverAsked, IsCheckedBeside, IsServedEach, names_in}
-use Rattle.fbcheck_texts.specs.{Faults.IsFile, Faults.HasFileFault}
-use Rattle.fbcheck_texts.specs.declared.{framing.By.By, framing.Manner.Manner}
+use Rattle.fbcheck_texts.specs.{Faults.IsFile, Faults.HasFileFault, Hints.file_hint, Hints.words_hint}
+use Rattle.fbcheck_texts.specs.declared.{fault.FileFault.FileFault, fault.WordsFault.WordsFault, framing.By.By, framing.Manner.Manner, hint.Unasked.Unasked}
 use Rattle.fbcheck_serve.specs.Inputs.{Folder, IsPromptAmong, IsPromptOver, Seen, with_cause}
-use Rattle.fb_lines.specs.{Job.Job, Faults.End, JsonSums.summary_in}
+use Rattle.fb_lines.specs.{Job.Job, Faults.End, Faults.EndsBeside, JsonSums.summary_in}
 use Rattle.fb_lines.specs.Ends.{Ends, Reader, Writer, beside}
 use Rattle.fbcheck_serve.specs.Serving.{ChecksAsAsked, ComesAsAsked, ComesBy, ComesTo, EndsFiles, EndsRun, EndsSo, HoldsAsGiven, IsFileFault, IsPromptAsGiven, IsCrowded, PassesAsAsked, Rests, SumsUp, Unserved}
-use Rattle.fbcheck_serve.specs.Serving.{file_stop, files_ending, lent_bytes, run_ending, summed, words_of, words_stop}
+use Rattle.fbcheck_serve.specs.Serving.{files_ending, hinted_stop, lent_bytes, run_ending, summed, words_of}
 use Rattle.fbcheck_serve.proofs.AskedLemmas.{idle}
 use Rattle.fbcheck_serve.specs.declared.inputs.Passed as inputs
-use Rattle.fb_run.specs.declared.run.Ran.{Ran}
 use Rattle.fb_run.specs.declared.input.Input as input
 use Rattle.fb_bytes.specs.declared.ends.Sink as sink
-use Rattle.fb_run.specs.Leave.{ends_of}
-use Rattle.fb_lines.specs.Faults.{EndsBeside}
-use Rattle.clap.specs.Faults.{fault_of}
-use Rattle.fbcheck_words.specs.{CommandLine.program, Values.text_of}
+use Rattle.fb_run.specs.{Leave.ends_of, declared.run.Ran.Ran}
 use Rattle.fbcheck_words.specs.declared.choices.SettingsFault.TheVariants as refusal
-use Rattle.std.specs.{Global.Global, Result.OnErr, declared.alloc.AllocError.AllocError}
-use Rattle.fbcheck_texts.specs.declared.{hint.Unasked.Unasked, fault.FileFault.FileFault}
-use Rattle.fbcheck_texts.specs.Hints.{file_hint, words_hint}
 use Rattle.fbcheck_words.specs.declared.{choices.Settings.Settings, choices.SettingsFault.SettingsFault}
-use Rattle.fb_lines.specs.declared.fault.RunFault.{RunFault}
+use Rattle.fb_lines.specs.declared.{fault.RunFault.RunFault, tally.Tally.Tally}
 use Rattle.fb_lines.specs.declared.fault.RunFault.TheVariants as run
-use Rattle.fb_lines.specs.declared.tally.Tally.{Tally}
 use Rattle.fbcheck_serve.specs.declared.{stop.Ending.Ending, inputs.Course.Course, stop.Ending.TheVariants.Helped}
 use Rattle.fbcheck_serve.specs.declared.{stop.Stop.Stop, stop.Sums.Sums}
 use Rattle.fbcheck_serve.specs.declared.stop.Stop.TheVariants as stop
-use Rattle.fbcheck_texts.specs.declared.fault.WordsFault.{WordsFault}
 
 module _ (folder : Folder) where
-  -- the words give no settings
+  -- the words give no settings, and no file was begun
   pub comes_unserved : (given : List Text) (reader : Reader) (writer writer' notes : Writer) (cause : Option ErrorKind) (fault : SettingsFault) (outcome : Result Ending Stop)
       → Refuses given fault → Unserved fault writer writer' outcome
       → ComesBy folder given (with_cause (beside reader (record { writer = writer; notes = notes })) cause) (with_cause (beside reader (record { writer = writer'; notes = notes })) cause) None outcome
-  comes_unserved given reader writer writer' notes cause fault (Ok Helped) refuses unserved = ((fault, refuses, Keeps-refl reader.left, unserved, Keeps-refl notes.bytes), refl)
-  comes_unserved given reader writer writer' notes cause fault (Err (stop.Usage text)) refuses unserved = ((fault, refuses, Keeps-refl reader.left, unserved, Keeps-refl notes.bytes), refl)
-  comes_unserved given reader writer writer' notes cause fault (Err (stop.Settings why)) refuses unserved = ((fault, refuses, Keeps-refl reader.left, unserved, Keeps-refl notes.bytes), refl)
-  comes_unserved given reader writer writer' notes cause fault (Err (stop.CutOff written)) refuses unserved = ((fault, refuses, Keeps-refl reader.left, unserved, Keeps-refl notes.bytes), refl)
+      × ((writes more : ℕ) → IsCrowded writes more outcome)
+  comes_unserved given reader writer writer' notes cause fault (Ok Helped) refuses unserved = (((fault, refuses, Keeps-refl reader.left, unserved, Keeps-refl notes.bytes), refl), λ writes more. tt)
+  comes_unserved given reader writer writer' notes cause fault (Err (stop.Usage text)) refuses unserved = (((fault, refuses, Keeps-refl reader.left, unserved, Keeps-refl notes.bytes), refl), λ writes more. tt)
+  comes_unserved given reader writer writer' notes cause fault (Err (stop.Settings why)) refuses unserved = (((fault, refuses, Keeps-refl reader.left, unserved, Keeps-refl notes.bytes), refl), λ writes more. tt)
+  comes_unserved given reader writer writer' notes cause fault (Err (stop.CutOff written)) refuses unserved = (((fault, refuses, Keeps-refl reader.left, unserved, Keeps-refl notes.bytes), refl), λ writes more. tt)
   comes_unserved given reader writer writer' notes cause fault _ refuses never = absurd never
 
   -- what holds by the settings, and by what a read of the file of the words gave
@@ -138,49 +128,28 @@ sums_noted sums told before after outcome line written some is all wrote same =
     subst (λ (o : Option Sums). SumsUp o before after outcome outcome) (sym some)
     (inl (subst (Appends before.bytes after.bytes) (ap (λ (m : ℕ). take m line) all ∙ take-length line ∙ is) wrote, same, refl))
 
--- the words gave no settings: no file was begun
-unserved_crowded : (fault : SettingsFault) (writer writer' : Writer) (outcome : Result Ending Stop) → Unserved fault writer writer' outcome → (writes notes : ℕ) → IsCrowded writes notes outcome
-unserved_crowded fault writer writer' (Ok done) unserved writes notes = tt
-unserved_crowded fault writer writer' (Err (stop.Usage text)) unserved writes notes = tt
-unserved_crowded fault writer writer' (Err (stop.Settings why)) unserved writes notes = tt
-unserved_crowded fault writer writer' (Err (stop.CutOff written)) unserved writes notes = tt
-unserved_crowded fault writer writer' _ never writes notes = absurd never
-
-more_notes : (n : ℕ) → n < 2 ^ 64 → n < 2 ^ 98
-more_notes n few = omega arith
-
 pub few_noted : (n n' : ℕ) → n' ≤ n + 2 ^ 96 → n < 2 ^ 64 → n' < 2 ^ 98
 few_noted n n' le few = omega arith
 
-pub unserved_rests : (fault : SettingsFault) (before after : Ends) (writes notes : ℕ) (outcome : Result Ending Stop) → Unserved fault before.outs.writer after.outs.writer outcome
-    → EndsSo before after 4294967296 outcome → after.reader ≡ before.reader → notes < 2 ^ 64 → Rests before after writes notes None outcome
-unserved_rests fault before after writes notes outcome unserved ends same few = record {
-  places = tt;
-  ends = ends;
-  turns = rw same (omega arith);
-  noted = more_notes notes few;
-  crowded = λ more le. unserved_crowded fault before.outs.writer after.outs.writer outcome unserved writes more;
-}
-
--- the words or the schema file couldn't be read
-early : (seen : Seen) (writes notes : ℕ) (outcome : Result Ending Stop) → EndsSo seen.ends seen.ends 4294967296 outcome → ((more : ℕ) → IsCrowded writes more outcome) → notes < 2 ^ 64
-    → Rests seen.ends seen.ends writes notes None outcome
-early seen writes notes outcome ends crowded few = record { places = tt; ends = ends; turns = omega arith; noted = more_notes notes few; crowded = λ more le. crowded more }
+-- the words or the schema file couldn't be read, or the words give no settings
+pub early : (before after : Ends) (writes notes : ℕ) (outcome : Result Ending Stop) → EndsSo before after 4294967296 outcome → ((writes more : ℕ) → IsCrowded writes more outcome)
+    → after.reader ≡ before.reader → notes < 2 ^ 64 → Rests before after writes notes None outcome
+early before after writes notes outcome ends crowded same few = record { places = tt; ends = ends; turns = rw same (omega arith); noted = few_noted notes notes (omega arith) few; crowded = λ more le. crowded writes more }
 
 pub wordless : {A B : Type 0} (folder : Folder) (given : Result (Vec (String A) B) WordsFault) (seen : Seen) (fault : WordsFault) (hint : Result (Vec ℕ Global) AllocError) (writes notes : ℕ) (cause : Stop)
-    → given ≡ Err fault → cause ≡ words_stop fault hint → IfOk hint (λ h. h.items ≡ words_hint fault) → notes < 2 ^ 64
+    → given ≡ Err fault → cause ≡ hinted_stop (stop.Words fault) hint → IfOk hint (λ h. h.items ≡ words_hint fault) → notes < 2 ^ 64
     → ComesTo folder (words_of given) seen seen None (Err cause) × Rests seen.ends seen.ends writes notes None (Err cause)
 wordless folder given seen fault (Ok hint) writes notes cause is so told few =
-    rw (is, so) ((refl, told, idle seen.ends, refl), early seen writes notes _ (refl, refl, refl) (λ more. tt) few)
-wordless folder given seen fault (Err none) writes notes cause is so told few = rw (is, so) ((idle seen.ends, refl), early seen writes notes _ (refl, refl, refl) (λ more. tt) few)
+    rw (is, so) ((refl, told, idle seen.ends, refl), early seen.ends seen.ends writes notes _ (refl, refl, refl) (λ writes more. tt) refl few)
+wordless folder given seen fault (Err none) writes notes cause is so told few = rw (is, so) ((idle seen.ends, refl), early seen.ends seen.ends writes notes _ (refl, refl, refl) (λ writes more. tt) refl few)
 
 pub fileless : (folder : Folder) (given : List Text) (seen : Seen) (fault : FileFault) (hint : Result (Vec ℕ Global) AllocError) (name : Option Text) (writes notes : ℕ) (cause : Stop)
-    → fault_of program given ≡ [] → name ≡ text_of (codes "schema") given → cause ≡ file_stop fault hint → HasFileFault folder.gives name fault → IfOk hint (λ h. h.items ≡ file_hint fault name) → notes < 2 ^ 64
+    → fault_of program given ≡ [] → name ≡ text_of (codes "schema") given → cause ≡ hinted_stop (stop.File fault) hint → HasFileFault folder.gives name fault → IfOk hint (λ h. h.items ≡ file_hint fault name) → notes < 2 ^ 64
     → ComesBy folder given seen seen None (Err cause) × Rests seen.ends seen.ends writes notes None (Err cause)
 fileless folder given seen fault (Ok hint) name writes notes cause read is so has told few =
-    rw so ((read, subst (λ (t : Option Text). IsFileFault folder.gives t fault hint.items) is (has, told), idle seen.ends, refl), early seen writes notes _ (refl, refl, refl) (λ more. tt) few)
+    rw so ((read, subst (λ (t : Option Text). IsFileFault folder.gives t fault hint.items) is (has, told), idle seen.ends, refl), early seen.ends seen.ends writes notes _ (refl, refl, refl) (λ writes more. tt) refl few)
 fileless folder given seen fault (Err none) name writes notes cause read is so has told few =
-    rw so (((refusal.OutOfMemory, tt, Keeps-refl seen.ends.reader.left, Keeps-refl seen.ends.outs.writer.bytes, Keeps-refl seen.ends.outs.notes.bytes), refl), early seen writes notes _ (refl, refl, refl) (λ more. tt) few)
+    rw so (((refusal.OutOfMemory, tt, Keeps-refl seen.ends.reader.left, Keeps-refl seen.ends.outs.writer.bytes, Keeps-refl seen.ends.outs.notes.bytes), refl), early seen.ends seen.ends writes notes _ (refl, refl, refl) (λ writes more. tt) refl few)
 
 -- the numbers to be told have a place for each kind of fault
 summed_places : (told : Sums) (asked : Bool) → length told.tally.reasons ≡ 13 → IfSome (if asked then Some told else None) (λ (sums : Sums). length sums.tally.reasons ≡ 13)
@@ -194,25 +163,17 @@ same_ends s k n (Ok done) r r' w w' m m' a b c = tt
 same_ends s k n (Err unasked) r r' w w' m m' a b c = rw (a, b, c) refl
 
 module _ (settings : Settings) (before after : Ends) (writes notes : ℕ) (turns : after.reader.calls ≤ before.reader.calls + 4294967296) (noted : notes < 2 ^ 98) where
+  rests_by : (tally : Tally) (outcome : Result Ending Stop) → length tally.reasons ≡ 13 → EndsSo before after 4294967296 outcome → ((more : ℕ) → notes ≤ more → IsCrowded writes more outcome)
+      → Rests before after writes notes (summed settings tally) outcome
+  rests_by tally outcome are ends crowded = record { places = summed_places _ settings.summary are; ends = ends; turns = turns; noted = noted; crowded = crowded }
+
   unasked_rests : (unasked : Unasked) → after ≡ before → Rests before after writes notes None (Err (stop.Ask unasked))
   unasked_rests unasked same = record { places = tt; ends = rw same (refl, refl, refl); turns = turns; noted = noted; crowded = λ more le. tt }
 
   run_rests_so : (manner : Manner) (tally : Tally) (end : End) → length tally.reasons ≡ 13 → EndsBeside before after 4294967296 end
       → Rests before after writes notes (summed settings tally) (run_ending manner tally end)
-  run_rests_so manner tally (Ok done) are ends = record {
-    places = summed_places _ settings.summary are;
-    ends = ends;
-    turns = turns;
-    noted = noted;
-    crowded = λ more le. tt;
-  }
-  run_rests_so manner tally (Err fault) are ends = record {
-    places = summed_places _ settings.summary are;
-    ends = ends;
-    turns = turns;
-    noted = noted;
-    crowded = λ more le. tt;
-  }
+  run_rests_so manner tally (Ok done) are ends = rests_by tally _ are ends (λ more le. tt)
+  run_rests_so manner tally (Err fault) are ends = rests_by tally _ are ends (λ more le. tt)
 
   pub run_rests : (ran : Result Ran Unasked) (sums : Option Sums) (outcome : Result Ending Stop) → EndsRun settings ran sums outcome → IfOk ran (λ r. length r.tally.reasons ≡ 13)
       → IfOk ran (λ r. EndsBeside before after 4294967296 r.end) → OnErr ran (after ≡ before) → Rests before after writes notes sums outcome
@@ -226,20 +187,8 @@ module _ (settings : Settings) (before after : Ends) (writes notes : ℕ) (turns
 
   files_rests_so : (by : By) (course : Course) (end : End) → length course.tally.reasons ≡ 13 → (end ≡ Err run.TooManyTurns → (2 ^ 64 ≤ writes) ⊎ (2 ^ 64 ≤ notes))
       → Rests before after writes notes (summed settings course.tally) (files_ending by course end)
-  files_rests_so by course (Ok done) are many = record {
-    places = summed_places _ settings.summary are;
-    ends = tt;
-    turns = turns;
-    noted = noted;
-    crowded = λ more le. tt;
-  }
-  files_rests_so by course (Err fault) are many = record {
-    places = summed_places _ settings.summary are;
-    ends = tt;
-    turns = turns;
-    noted = noted;
-    crowded = λ more le. halted_crowded fault more le many;
-  }
+  files_rests_so by course (Ok done) are many = rests_by course.tally _ are tt (λ more le. tt)
+  files_rests_so by course (Err fault) are many = rests_by course.tally _ are tt (λ more le. halted_crowded fault more le many)
 
   pub files_rests : (passed : Result inputs.Passed Unasked) (sums : Option Sums) (outcome : Result Ending Stop) → EndsFiles settings passed sums outcome
       → IfOk passed (λ p. length p.course.tally.reasons ≡ 13) → IfOk passed (λ p. p.end ≡ Err run.TooManyTurns → (2 ^ 64 ≤ writes) ⊎ (2 ^ 64 ≤ notes)) → OnErr passed (after ≡ before)

@@ -1,14 +1,13 @@
 -- What the program does, from its words to its exit status.
 use Rattle.std.specs.Prelude.{◌≡◌, ◌≢◌, ℕ, ◌+◌, ◌<◌, ◌≤◌, ◌^◌, ◌⊎◌, ◌++◌, length, if◌then◌else◌, List, [], Option, Some, None, Result, Ok, Err, Vec, String, IfSome, codes, map, option_map, string_bytes, string_len, vec_items}
-use Rattle.std.specs.{Borrow.Bor, Io.KnownBytes.Appends, Io.KnownBytes.Keeps}
-use Rattle.std.specs.declared.io.ErrorKind.{ErrorKind}
+use Rattle.std.specs.{Borrow.Bor, Global.Global, Io.KnownBytes.Appends, Io.KnownBytes.Keeps, declared.alloc.AllocError.AllocError, declared.io.ErrorKind.ErrorKind}
 use Rattle.clap.specs.{Walk.Text, Faults.fault_of}
 use Rattle.fbcheck_serve.specs.Asked.{form_of, manner_in}
 use Rattle.fbcheck_serve.specs.Checking.{IsIdle, IsPromptOverAsked, IsUntold, RunsAsAsked, ServesAsAsked, names_in}
 use Rattle.fbcheck_texts.specs.{Hints.file_hint, Hints.hint_text, Hints.words_hint, Faults.HasFileFault, Faults.IsFile, Faults.ask_status}
 use Rattle.fbcheck_texts.specs.Texts.{ask_text, file_text, run_text, unsummed_text, words_text}
 use Rattle.fbcheck_texts.specs.Framing.{by_hint, by_of, end_hint, run_hint}
-use Rattle.fbcheck_texts.specs.declared.{framing.By.By, framing.Manner.Manner}
+use Rattle.fbcheck_texts.specs.declared.{framing.By.By, framing.Manner.Manner, hint.Unasked.Unasked}
 use Rattle.fbcheck_serve.specs.Inputs.{Folder, IsNoted, Seen, renoted}
 use Rattle.fbcheck_words.specs.{CommandLine.program, Refusal.Refuses, Refusal.refusal_status, Refusal.refusal_text, Given.AreGiven, Values.text_of}
 use Rattle.fb_lines.specs.{Ends.Ends, Ends.Writer, Ends.with_notes, Lines.WritesFront, JsonSums.summary_in}
@@ -17,9 +16,7 @@ use Rattle.fbcheck_words.specs.declared.{choices.Settings.Settings, choices.Sett
 use Rattle.fbcheck_words.specs.declared.choices.SettingsFault.TheVariants as refusal
 use Rattle.fbcheck_texts.specs.declared.fault.FileFault.{FileFault}
 use Rattle.fbcheck_texts.specs.declared.fault.FileFault.TheVariants as file_fault
-use Rattle.std.specs.{Global.Global, declared.alloc.AllocError.AllocError}
 use Rattle.fb_run.specs.declared.run.Ran.{Ran}
-use Rattle.fbcheck_texts.specs.declared.hint.Unasked.{Unasked}
 use Rattle.fbcheck_serve.specs.declared.inputs.Passed as inputs
 use Rattle.fbcheck_serve.specs.declared.{inputs.Course.Course, stop.Ending.Ending}
 use Rattle.fbcheck_serve.specs.declared.stop.Ending.TheVariants.{Helped, Checked, Passed}
@@ -95,13 +92,9 @@ EndsFiles settings (Ok passed) sums outcome = (sums ≡ summed settings passed.c
 EndsFiles settings (Err unasked) sums outcome = (sums ≡ None) × (outcome ≡ Err (stop.Ask unasked))
 
 -- the words or the schema file can't be read, and this is told behind that, or there was no memory for it
-abbrev pub words_stop : WordsFault → Result (Vec ℕ Global) AllocError → Stop
-words_stop fault (Ok hint) = stop.Words fault hint
-words_stop fault (Err none) = stop.Settings refusal.OutOfMemory
-
-abbrev pub file_stop : FileFault → Result (Vec ℕ Global) AllocError → Stop
-file_stop fault (Ok hint) = stop.File fault hint
-file_stop fault (Err none) = stop.Settings refusal.OutOfMemory
+abbrev pub hinted_stop : (Vec ℕ Global → Stop) → Result (Vec ℕ Global) AllocError → Stop
+hinted_stop unread (Ok hint) = unread hint
+hinted_stop unread (Err none) = stop.Settings refusal.OutOfMemory
 
 -- all that was read by now is told, of a run that the words ask for; they could be read
 abbrev pub IsPromptAsGiven : Folder → Result (List Text) WordsFault → Ends → Ends → Type 0

@@ -8,7 +8,7 @@ ghost use Rattle.fb_lines.specs.Faults.{EndsBeside};
 ghost use Rattle.fb_lines.specs.declared.fault.RunFault.TheVariants.{TooManyTurns};
 ghost use Rattle.fb_run.specs.Leave.{HasCallsLeft, HasLeave, ends_of, noteless};
 
-use crate::asked::{Asked, asked_of};
+use crate::asked::asked_of;
 use crate::files::Files;
 use crate::inputs::{Passed, pass_files};
 use fb_bytes::Sink;
@@ -91,17 +91,14 @@ pub fn check_files<F: Files, S: Input<K, N> + Explains, K: Sink, N: Sink>(
     ensures turns { S.calls reader.new ≤ S.calls reader.old + MOST_TURNS }
     ensures crowded { IfOk result (λ passed. passed.end ≡ Err TooManyTurns → (2 ^ 64 ≤ K.calls writer.new) ⊎ (2 ^ 64 ≤ N.calls notes.new)) }
 {
-    let asked = asked_of(alloc, schema_bytes, settings)?;
-    let Asked {
-        schema,
-        mut options,
-    } = asked;
+    let mut asked = asked_of(alloc, schema_bytes, settings)?;
+    let lent = &mut asked;
     Ok(pass_files(
         alloc,
         files,
         settings.files.as_slice(),
-        &schema,
-        &mut options,
+        &lent.schema,
+        &mut lent.options,
         reader,
         writer,
         notes,

@@ -101,10 +101,8 @@ pub fn pass_files<F: Files, S: Input<K, N> + Explains, K: Sink, N: Sink>(
 
     ensures serves { ServesEach (folder_of F.Files F.Opened.Source F.Opened.Explains files.now) (job_of schema.now options.old) (map string_bytes names.now)
         (at_first (seen_of S.Input S.Explains K.Sink N.Sink reader.old writer.old notes.old)) (stand (seen_of S.Input S.Explains K.Sink N.Sink reader.new writer.new notes.new) result.course) result.end }
-    ensures places { length result.course.tally.reasons ≡ 13 }
-    ensures noted { N.calls notes.new < 2 ^ 98 }
-    ensures turns { S.calls reader.new ≤ S.calls reader.old + MOST_TURNS }
-    ensures crowded { result.end ≡ Err TooManyTurns → (2 ^ 64 ≤ K.calls writer.new) ⊎ (2 ^ 64 ≤ N.calls notes.new) }
+    ensures calls { (length result.course.tally.reasons ≡ 13) × (N.calls notes.new < 2 ^ 98) × (S.calls reader.new ≤ S.calls reader.old + MOST_TURNS)
+        × (result.end ≡ Err TooManyTurns → (2 ^ 64 ≤ K.calls writer.new) ⊎ (2 ^ 64 ≤ N.calls notes.new)) }
 {
     let named = are_named(options, names);
     let mut course = Course::new();
@@ -180,11 +178,10 @@ fn pass_file<F: Files, S: Input<K, N> + Explains, K: Sink, N: Sink>(
 
     ensures tries { Tries (folder_of F.Files F.Opened.Source F.Opened.Explains files.now) (job_of schema.now options.now) name.now
         (stand (seen_of S.Input S.Explains K.Sink N.Sink reader.old writer.old notes.old) course.old) (stand (seen_of S.Input S.Explains K.Sink N.Sink reader.new writer.new notes.new) course.new) result }
-    ensures places { length course.new.tally.reasons ≡ 13 }
     ensures noted { N.calls notes.new < 2 ^ 98 }
-    ensures turns { S.calls reader.new ≤ S.calls reader.old + MOST_TURNS }
-    ensures spent { course.old.standard ≡ Spent → (course.new.standard ≡ Spent) × (reader.new ≡ reader.old) }
-    ensures unread { course.new.standard ≡ Unread → (course.old.standard ≡ Unread) × (reader.new ≡ reader.old) }
+    ensures calls { (S.calls reader.new ≤ S.calls reader.old + MOST_TURNS) × (length course.new.tally.reasons ≡ 13)
+        × (course.old.standard ≡ Spent → (course.new.standard ≡ Spent) × (reader.new ≡ reader.old))
+        × (course.new.standard ≡ Unread → (course.old.standard ≡ Unread) × (reader.new ≡ reader.old)) }
     ensures crowded { result ≡ Err TooManyTurns → (2 ^ 64 ≤ K.calls writer.new) ⊎ (2 ^ 64 ≤ N.calls notes.new) }
 {
     if writer.calls() >= MOST_CALLS || notes.calls() >= MOST_CALLS {
@@ -217,11 +214,8 @@ fn run_file<F: Files, S: Input<K, N> + Explains, K: Sink, N: Sink>(
     requires leave { is_standard name.now ≡ true → standard ≡ Unread → HasLeave S.Input (ends_of S.Input K.Sink N.Sink reader.old writer.old notes.old) (IsPrompt (job_of schema.now options.now)) }
 
     ensures comes { ComesOf (folder_of F.Files F.Opened.Source F.Opened.Explains files.now) (job_of schema.now options.now) name.now standard (seen_of S.Input S.Explains K.Sink N.Sink reader.old writer.old notes.old) (seen_of S.Input S.Explains K.Sink N.Sink reader.new writer.new notes.new) result.what result.cause }
-    ensures places { IfOk result.what (λ ran. length ran.tally.reasons ≡ 13) }
-    ensures pushes { N.calls notes.new ≤ N.calls notes.old + 2 ^ 96 }
-    ensures turns { S.calls reader.new ≤ S.calls reader.old + MOST_TURNS }
-    ensures apart { is_standard name.now ≡ false → reader.new ≡ reader.old }
-    ensures spent { standard ≡ Spent → reader.new ≡ reader.old }
+    ensures calls { (N.calls notes.new ≤ N.calls notes.old + 2 ^ 96) × (S.calls reader.new ≤ S.calls reader.old + MOST_TURNS)
+        × IfOk result.what (λ ran. length ran.tally.reasons ≡ 13) × (is_standard name.now ≡ false → reader.new ≡ reader.old) × (standard ≡ Spent → reader.new ≡ reader.old) }
 {
     if name == STANDARD {
         return match standard {
@@ -354,9 +348,8 @@ fn tell_behind<N: Sink>(
     notes: &mut N,
 ) -> Result<(), RunFault>
     requires { N.calls notes.old < 2 ^ 99 }
-    ensures told { IsBehind name.now framing came.now.what came.now.cause (writer_of N.Sink notes.old) (writer_of N.Sink notes.new) result }
-    ensures never { result ≢ Err TooManyTurns }
-    ensures calls { N.calls notes.new ≤ N.calls notes.old + 2 ^ 64 }
+    ensures { IsBehind name.now framing came.now.what came.now.cause (writer_of N.Sink notes.old) (writer_of N.Sink notes.new) result
+        × (result ≢ Err TooManyTurns) × (N.calls notes.new ≤ N.calls notes.old + 2 ^ 64) }
 {
     match &came.what {
         Ok(ran) => tell_run(alloc, name, framing, ran, came.cause, notes),
@@ -381,9 +374,8 @@ fn tell_run<N: Sink>(
     notes: &mut N,
 ) -> Result<(), RunFault>
     requires { N.calls notes.old < 2 ^ 99 }
-    ensures told { IsBehindRun name.now framing ran.now.tally ran.now.end cause (writer_of N.Sink notes.old) (writer_of N.Sink notes.new) result }
-    ensures never { result ≢ Err TooManyTurns }
-    ensures calls { N.calls notes.new ≤ N.calls notes.old + 2 ^ 64 }
+    ensures { IsBehindRun name.now framing ran.now.tally ran.now.end cause (writer_of N.Sink notes.old) (writer_of N.Sink notes.new) result
+        × (result ≢ Err TooManyTurns) × (N.calls notes.new ≤ N.calls notes.old + 2 ^ 64) }
 {
     let Err(fault) = &ran.end else {
         return tell_end(alloc, name, end_hint(By::Named, framing, &ran.tally), notes);
@@ -404,9 +396,8 @@ fn tell_end<N: Sink>(
     notes: &mut N,
 ) -> Result<(), RunFault>
     requires { N.calls notes.old < 2 ^ 99 }
-    ensures told { IsBehindEnd name.now (option_map (λ h. h.now) hint.entry) (writer_of N.Sink notes.old) (writer_of N.Sink notes.new) result }
-    ensures never { result ≢ Err TooManyTurns }
-    ensures calls { N.calls notes.new ≤ N.calls notes.old + 2 ^ 64 }
+    ensures { IsBehindEnd name.now (option_map (λ h. h.now) hint.entry) (writer_of N.Sink notes.old) (writer_of N.Sink notes.new) result
+        × (result ≢ Err TooManyTurns) × (N.calls notes.new ≤ N.calls notes.old + 2 ^ 64) }
 {
     let Some(hint) = hint else {
         return Ok(());
@@ -435,9 +426,8 @@ fn tell_fault<N: Sink>(
     notes: &mut N,
 ) -> Result<(), RunFault>
     requires { N.calls notes.old < 2 ^ 99 }
-    ensures told { IsNotedOf (fault_line name.now why.now behind.now) (writer_of N.Sink notes.old) (writer_of N.Sink notes.new) result }
-    ensures never { result ≢ Err TooManyTurns }
-    ensures calls { N.calls notes.new ≤ N.calls notes.old + 2 ^ 64 }
+    ensures { IsNotedOf (fault_line name.now why.now behind.now) (writer_of N.Sink notes.old) (writer_of N.Sink notes.new) result
+        × (result ≢ Err TooManyTurns) × (N.calls notes.new ≤ N.calls notes.old + 2 ^ 64) }
 {
     let line = fault_line(alloc, name, why, behind)?;
     let written = push_all(notes, line.as_slice());

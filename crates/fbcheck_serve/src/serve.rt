@@ -128,12 +128,10 @@ fn run_ending(
 ) -> Result<Ending, Stop>
     ensures { EndsRun settings.now ran sums.new result }
 {
+    *sums = None;
     let ran = match ran {
         Ok(ran) => ran,
-        Err(unasked) => {
-            *sums = None;
-            return Err(Stop::Ask(unasked));
-        }
+        Err(unasked) => return Err(Stop::Ask(unasked)),
     };
     *sums = summed(settings, ran.tally);
     let manner = manner(settings);
@@ -151,12 +149,10 @@ fn files_ending(
 ) -> Result<Ending, Stop>
     ensures { EndsFiles settings.now passed sums.new result }
 {
+    *sums = None;
     let passed = match passed {
         Ok(passed) => passed,
-        Err(unasked) => {
-            *sums = None;
-            return Err(Stop::Ask(unasked));
-        }
+        Err(unasked) => return Err(Stop::Ask(unasked)),
     };
     *sums = summed(settings, passed.course.tally);
     match passed.end {
@@ -196,7 +192,7 @@ fn without_settings<K: Sink>(
     requires { K.calls writer.old < 2 ^ 64 }
     ensures { Unserved fault (writer_of K.Sink writer.old) (writer_of K.Sink writer.new) result
         × ((reader : Reader) (notes : Writer) (turns : ℕ) → EndsSo (beside reader (record { writer = writer_of K.Sink writer.old; notes = notes }))
-            (beside reader (record { writer = writer_of K.Sink writer.new; notes = notes })) turns result) }
+        (beside reader (record { writer = writer_of K.Sink writer.new; notes = notes })) turns result) }
 {
     let status = fault.status();
     let SettingsFault::Usage(error) = &fault else {

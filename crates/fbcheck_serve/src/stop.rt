@@ -3,7 +3,7 @@
 ghost use Rattle.std.specs.Prelude.{IfSome, ◌≡◌, ◌++◌, ◌+◌, ◌<◌, ◌≤◌, ◌^◌, length, option_map};
 ghost use Rattle.fb_lines.specs.Ends.{writer_of};
 ghost use Rattle.fbcheck_serve.specs.Inputs.{IsNoted};
-ghost use Rattle.fbcheck_serve.specs.Serving.{behind, Complains, IsHinted, SumsUp, ending_hint, exit_status, file_stop, stop_status, stop_text, words_stop};
+ghost use Rattle.fbcheck_serve.specs.Serving.{behind, Complains, IsHinted, SumsUp, ending_hint, exit_status, hinted_stop, stop_status, stop_text};
 ghost use Rattle.fbcheck_words.specs.declared.choices.SettingsFault.TheVariants as refusal;
 ghost use Rattle.fbcheck_serve.specs.declared.stop.Stop.TheVariants as stop;
 
@@ -102,7 +102,7 @@ impl From<AllocError> for Stop {
 impl Stop {
     /// That the words can't be read, with this behind it, or want of memory where there was none for that.
     pub fn words(fault: WordsFault, hint: Result<Vec<u8>, AllocError>) -> Stop
-        ensures { result ≡ words_stop fault hint }
+        ensures { result ≡ hinted_stop (stop.Words fault) hint }
     {
         match hint {
             Ok(hint) => Stop::Words(fault, hint),
@@ -112,7 +112,7 @@ impl Stop {
 
     /// That the schema file can't be read.
     pub fn file(fault: FileFault, hint: Result<Vec<u8>, AllocError>) -> Stop
-        ensures { result ≡ file_stop fault hint }
+        ensures { result ≡ hinted_stop (stop.File fault) hint }
     {
         match hint {
             Ok(hint) => Stop::File(fault, hint),

@@ -1,4 +1,4 @@
-use Rattle.std.proofs.Common.{◌≡◌, ◌+◌, List, ap, length, map, nat_lt, rules, subst, sym, ◌∙◌}
+use Rattle.std.proofs.Common.{◌≡◌, ◌+◌, List, ap, length, map, nat_lt, rules, subst, take_all, sym, ◌∙◌}
 use Rattle.std.specs.Prelude.{string_bytes}
 use Rattle.std.proofs.lemmas.{List.length-map, List.length_push, List.Elements.All-push, Result.IfOk-weaker}
 use Rattle.fb_access.specs.Fitting.{StepsFit}
@@ -30,3 +30,6 @@ returns-in-Err-clause-none c =
     (IfOk-weaker c.path_hint-hint.result _ _ (λ h is. path_told c.args.schema.now c.args.root c.args.texts.now c.loop-text.text-index c.text-item.result (search rules) c.text-item.is
     c.loop-text.paths.items c.in-Err.fault c.misfit_at-at.result h.items c.loop-text.invariant.named c.in-Err.ensures.fault (rw c.as_bytes-bytes.ensures.value at c.misfit_at-at.ensures.kind)
     (is ∙ ap (λ p. path_hint c.args.schema.now p text c.in-Err.fault c.misfit_at-at.result) (c.told_path-told.ensures ∙ ap (λ b. label_of b text) several))) (rw c.as_bytes-bytes.ensures.value at c.path_hint-hint.ensures))
+
+pub returns-clause-paths : goal.returns-clause-paths
+returns-clause-paths c = rw (take_all c.loop-text.text-index c.args.texts.now c.loop-text-test.false) at c.loop-text.invariant.named

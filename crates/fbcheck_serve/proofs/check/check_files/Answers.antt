@@ -33,3 +33,15 @@ returns-in_err-asked-clause-served g c =
     let seen = seen_of g.S.Input g.S.Explains g.K.Sink g.N.Sink c.args.reader.now c.args.writer.now c.args.notes.now in
     err_exit c.from_residual.result _ (IsServedEach (folder_of g.F.Files g.F.Opened.Source g.F.Opened.Explains c.args.files.now) c.args.schema_bytes c.args.settings.now seen seen)
     c.from_residual.ensures.1 (c.in_err-asked.ensures.none, idle seen.ends)
+
+pub returns-clause-places : goal.returns-clause-places
+returns-clause-places g c = c.pass_files.ensures.calls.0
+
+pub returns-clause-noted : goal.returns-clause-noted
+returns-clause-noted g c = c.pass_files.ensures.calls.1
+
+pub returns-clause-turns : goal.returns-clause-turns
+returns-clause-turns g c = c.pass_files.ensures.calls.2
+
+pub returns-clause-crowded : goal.returns-clause-crowded
+returns-clause-crowded g c = c.pass_files.ensures.calls.3

@@ -5,7 +5,7 @@ use Rattle.fb_lines.specs.Job.{Job, job_of}
 use Rattle.fb_run.specs.{Leave.IsUnended, Leave.reader_of, Prompt.IsPrompt}
 use Rattle.fbcheck_serve.specs.Inputs.{Tries, folder_of, label_of, seen_of, stand, are_named}
 use Rattle.fbcheck_serve.specs.declared.inputs.Course.{Course}
-use Rattle.fbcheck_serve.proofs.InputsLemmas.{front_all, front_more, halts_among, next_text, relabelled, turns_on}
+use Rattle.fbcheck_serve.proofs.InputsLemmas.{front_all, front_more, halts_among, next_text, other_ends, relabelled, turns_on}
 use Rattle.fbcheck_serve.proofs.inputs.pass_files.Goals as goal
 
 pub loop-name-init : goal.loop-name-init
@@ -63,11 +63,11 @@ loop-name-preserved g c =
           (subst (λ (j : Job). Tries folder j text before after (Ok tt)) asked c.in_default-passed.ensures.tries);
       job = (label_of (are_named (job_of c.args.schema.now c.args.options.now).label texts) text, asked);
       serves = record { table = serves.table; fits = serves.fits; few = serves.few; least = serves.least; most = serves.most };
-      places = c.pass_file-passed.ensures.places;
+      places = c.pass_file-passed.ensures.calls.1;
       noted = c.pass_file-passed.ensures.noted;
-      unread = λ new. let (then, same) = c.pass_file-passed.ensures.unread new in same ∙ c.loop-name.invariant.unread then;
+      unread = λ new. let (then, same) = c.pass_file-passed.ensures.calls.3 new in same ∙ c.loop-name.invariant.unread then;
       turns = turns_on g.S.Input.calls c.loop-name.course.standard c.pass_file-passed.new.course.standard c.args.reader.now c.loop-name.reader c.pass_file-passed.new.reader
-          c.loop-name.invariant.unread c.pass_file-passed.ensures.spent c.pass_file-passed.ensures.turns c.loop-name.invariant.turns;
+          c.loop-name.invariant.unread c.pass_file-passed.ensures.calls.2 c.pass_file-passed.ensures.calls.0 c.loop-name.invariant.turns;
     }
 
 pub returns-in_default-clause-serves : goal.returns-in_default-clause-serves
@@ -100,6 +100,21 @@ returns-clause-serves g c =
     front_all (folder_of g.F.Files g.F.Opened.Source g.F.Opened.Explains c.args.files.now) (job_of c.args.schema.now c.args.options.now) _ (map string_bytes c.args.names.now) front _ _ _ are
     (ap (λ l. map string_bytes l) (drop_of_length-le c.args.names.now c.loop-name-test.false)) passes
 
-pub returns-in-Err-clause-turns : goal.returns-in-Err-clause-turns
-returns-in-Err-clause-turns g c = turns_on g.S.Input.calls c.loop-name.course.standard c.pass_file-passed.new.course.standard c.args.reader.now c.loop-name.reader c.pass_file-passed.new.reader
-    c.loop-name.invariant.unread c.pass_file-passed.ensures.spent c.pass_file-passed.ensures.turns c.loop-name.invariant.turns
+pub returns-in-Err-clause-calls : goal.returns-in-Err-clause-calls
+returns-in-Err-clause-calls g c = (
+  c.pass_file-passed.ensures.calls.1,
+  c.pass_file-passed.ensures.noted,
+  turns_on g.S.Input.calls c.loop-name.course.standard c.pass_file-passed.new.course.standard c.args.reader.now c.loop-name.reader c.pass_file-passed.new.reader
+      c.loop-name.invariant.unread c.pass_file-passed.ensures.calls.2 c.pass_file-passed.ensures.calls.0 c.loop-name.invariant.turns,
+  c.in-Err.ensures.crowded,
+)
+
+pub returns-in_default-clause-calls : goal.returns-in_default-clause-calls
+returns-in_default-clause-calls g c =
+    let so = c.loop-name.invariant in
+    (so.places, so.noted, so.turns, λ same. absurd (other_ends.0 same))
+
+pub returns-clause-calls : goal.returns-clause-calls
+returns-clause-calls g c =
+    let so = c.loop-name.invariant in
+    (so.places, so.noted, so.turns, λ same. absurd (other_ends.1 same))

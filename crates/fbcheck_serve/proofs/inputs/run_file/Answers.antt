@@ -1,8 +1,8 @@
-use Rattle.std.proofs.Common.{◌∙◌, refl, rules, sym}
+use Rattle.std.proofs.Common.{◌∙◌, refl, rules, sym, true≢false}
 use Rattle.fb_lines.specs.Job.{job_of}
 use Rattle.fbcheck_serve.specs.Inputs.{folder_of, seen_of}
 use Rattle.fbcheck_serve.specs.declared.inputs.Missed.TheVariants as missed
-use Rattle.fbcheck_serve.proofs.InputsLemmas.{comes_missed, comes_opened}
+use Rattle.fbcheck_serve.proofs.InputsLemmas.{comes_missed, comes_opened, no_more, unread_spent}
 use Rattle.fbcheck_serve.proofs.inputs.run_file.Goals as goal
 
 pub returns-in-Ok-clause-comes : goal.returns-in-Ok-clause-comes
@@ -26,6 +26,27 @@ pub returns-in-Err-clause-comes : goal.returns-in-Err-clause-comes
 returns-in-Err-clause-comes g c =
     comes_missed (folder_of g.F.Files g.F.Opened.Source g.F.Opened.Explains c.args.files.now) (job_of c.args.schema.now c.args.options.now) c.args.name.now c.args.standard (seen_of g.S.Input g.S.Explains g.K.Sink g.N.Sink c.args.reader.now c.args.writer.now c.args.notes.now)
     c.missed-in-Err.result.what c.missed-in-Err.result.cause (missed.File c.in-Err.fault) c.missed-in-Err.ensures (sym c.eq.ensures ∙ c.if-eq.false, c.in-Err.ensures.fault)
+
+pub returns-in-Spent-clause-comes : goal.returns-in-Spent-clause-comes
+returns-in-Spent-clause-comes g c =
+    comes_missed (folder_of g.F.Files g.F.Opened.Source g.F.Opened.Explains c.args.files.now) (job_of c.args.schema.now c.args.options.now) c.args.name.now c.args.standard (seen_of g.S.Input g.S.Explains g.K.Sink g.N.Sink c.args.reader.now c.args.writer.now c.args.notes.now)
+    c.missed.result.what c.missed.result.cause missed.Again c.missed.ensures (sym c.eq.ensures ∙ c.if-eq.true, c.in-Spent.is)
+
+pub returns-in-Ok-clause-calls : goal.returns-in-Ok-clause-calls
+returns-in-Ok-clause-calls g c =
+    let ran = c.run_beside-ran-in-Ok.ensures in
+    (ran.pushes, no_more _ _, rw c.by-in-Ok.ensures.what ran.places, λ isnt. refl, λ was. refl)
+
+pub returns-in-Err-clause-calls : goal.returns-in-Err-clause-calls
+returns-in-Err-clause-calls g c = (no_more _ _, no_more _ _, rw c.missed-in-Err.ensures tt, λ isnt. refl, λ was. refl)
+
+pub returns-in-Spent-clause-calls : goal.returns-in-Spent-clause-calls
+returns-in-Spent-clause-calls g c = (no_more _ _, no_more _ _, rw c.missed.ensures tt, λ isnt. refl, λ was. refl)
+
+pub returns-in-Unread-clause-calls : goal.returns-in-Unread-clause-calls
+returns-in-Unread-clause-calls g c =
+    let ran = c.run_beside-ran.ensures in
+    (ran.pushes, ran.turns, rw c.by.ensures.what ran.places, λ isnt. absurd (true≢false (sym (sym c.eq.ensures ∙ c.if-eq.true) ∙ isnt)), λ was. absurd (unread_spent _ c.in-Unread.is was))
 
 pub returns-in-Unread-clause-comes : goal.returns-in-Unread-clause-comes
 returns-in-Unread-clause-comes g c = search rules

@@ -3,7 +3,7 @@ use Rattle.fbcheck_texts.specs.Texts.{run_text}
 use Rattle.fbcheck_texts.specs.declared.causes.Causes.{Causes}
 use Rattle.fbcheck_serve.proofs.inputs.tell_run.Goals as goal
 
-pub returns-clause-told : goal.returns-clause-told
-returns-clause-told g c =
+pub returns : goal.returns
+returns g c =
     let why = c.bytes.ensures ∙ c.run_text-why.ensures.text ∙ ap (λ (causes : Causes). run_text causes c.in-Err.fault) c.of_read.ensures in
-    rw (c.in-Err.is, sym c.is_final.ensures ∙ c.if-is_final.false, ← why, ← c.run_hint-behind.ensures) c.tell_fault.ensures.told
+    (rw (c.in-Err.is, sym c.is_final.ensures ∙ c.if-is_final.false, ← why, ← c.run_hint-behind.ensures) c.tell_fault.ensures.0, c.tell_fault.ensures.1, c.tell_fault.ensures.2)

@@ -1,7 +1,7 @@
 use Rattle.std.proofs.Common.{None, refl}
 use Rattle.std.specs.Prelude.{map, string_bytes}
 use Rattle.fb_run.specs.Leave.{ends_of}
-use Rattle.fbcheck_serve.proofs.ServingLemmas.{comes_asked, comes_read, comes_unserved, fileless, holds_given, prompt_read, unserved_rests, wordless}
+use Rattle.fbcheck_serve.proofs.ServingLemmas.{comes_asked, comes_read, comes_unserved, early, fileless, holds_given, prompt_read, wordless}
 use Rattle.fbcheck_serve.specs.Inputs.{folder_of, seen_of}
 use Rattle.fbcheck_serve.proofs.serve.come_to.Goals as goal
 
@@ -13,11 +13,11 @@ returns-in-Err g c =
 pub returns-in-Err-settings : goal.returns-in-Err-settings
 returns-in-Err-settings g c =
     let old = ends_of g.S.Input g.K.Sink g.N.Sink c.args.reader.now c.args.writer.now c.args.notes.now in
-    let new = ends_of g.S.Input g.K.Sink g.N.Sink c.args.reader.now c.without_settings.new.writer c.args.notes.now in (
-      comes_read _ c.args.words c.in-Ok.words c.as_slice.result.now _ _ _ _ c.in-Ok.is c.as_slice.ensures.value
-          (comes_unserved (folder_of g.F.Files g.F.Opened.Source g.F.Opened.Explains c.args.files.now) (map string_bytes c.as_slice.result.now) old.reader old.outs.writer
-          new.outs.writer old.outs.notes (g.S.Explains.cause c.args.reader.now) c.in-Err-settings.fault _ c.in-Err-settings.ensures.refused c.without_settings.ensures.0),
-      unserved_rests c.in-Err-settings.fault old new _ _ _ c.without_settings.ensures.0 (c.without_settings.ensures.1 old.reader old.outs.notes _) refl c.requires.few.2,
+    let new = ends_of g.S.Input g.K.Sink g.N.Sink c.args.reader.now c.without_settings.new.writer c.args.notes.now in
+    let (comes, crowded) = comes_unserved (folder_of g.F.Files g.F.Opened.Source g.F.Opened.Explains c.args.files.now) (map string_bytes c.as_slice.result.now) old.reader old.outs.writer
+    new.outs.writer old.outs.notes (g.S.Explains.cause c.args.reader.now) c.in-Err-settings.fault c.without_settings.result c.in-Err-settings.ensures.refused c.without_settings.ensures.0 in (
+      comes_read _ c.args.words c.in-Ok.words c.as_slice.result.now _ _ _ _ c.in-Ok.is c.as_slice.ensures.value comes,
+      early old new _ _ _ (c.without_settings.ensures.1 old.reader old.outs.notes _) crowded refl c.requires.few.2,
     )
 
 pub returns : goal.returns
