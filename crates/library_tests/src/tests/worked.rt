@@ -1,13 +1,16 @@
 //! Which steps are allowed, and what those lead to that no path has. What paths lead to is asked from outside
 //! (`tests/test_worked_cases.py`).
 
-use super::fixtures::answer_at;
 use crate::tests::compare::same;
-use crate::tests::unions::{Q, R};
-use fb_access::Answer;
+use crate::tests::unions::{Q, R, unions};
+use crate::tests::verify::question::verified;
 use fb_access::step::Step;
 use fb_access::step::Step::{Element, Field, Member};
-use std::test::Fail;
+use fb_access::{Answer, at_root};
+use fb_schema::Schema;
+use fb_verify::{Checks, Start, Verified};
+use std::alloc::Global;
+use std::process::Abort;
 
 /// From `R`: a table whose vtable has no slot.
 const EMPTY: &[u8] = b"\x08\0\0\0\x04\0\x04\0\x04\0\0\0";
@@ -25,7 +28,9 @@ const HI: &[u8] = b"\
 ";
 
 /// The root, the buffer, and steps with what they lead to; none where one of them isn't allowed.
-const ALLOWED: [(u32, &[u8], &[Step], Option<Answer<'static>>); 17] = [
+type Case = (u32, &'static [u8], &'static [Step], Option<Answer<'static>>);
+
+const ALLOWED: [Case; 17] = [
     (R, EMPTY, &[], Some(Answer::Table)),
     (
         R,
@@ -65,11 +70,31 @@ const ALLOWED: [(u32, &[u8], &[Step], Option<Answer<'static>>); 17] = [
     (Q, HI, &[Field(1), Element(0), Member(3), Element(0)], None),
 ];
 
-#[test]
-fn what_is_here_allows_its_own_steps_alone(rt: HostRuntime) -> Result<(), Fail> {
-    for (root, bytes, steps, want) in ALLOWED {
-        let answer = answer_at(&rt, rt.alloc(), root, bytes, steps)?;
-        same(&rt, (steps, answer), (steps, want));
+/// What the steps lead to from the root; none where one of them isn't allowed. An answer, and a text in it, outlives all
+/// but the bytes: schema, verification and places.
+fn answer_in<'b>(verified: &Verified<'b, '_, '_>, steps: &[Step]) -> Option<Answer<'b>> {
+    let mut place = at_root(verified);
+    for step in steps {
+        if !place.allows(*step) {
+            return None;
+        }
+        place = place.go(*step);
     }
-    Ok(())
+    Some(place.answer())
+}
+
+/// Asserts what the steps of a case lead to.
+fn is_so(rt: &impl Abort, alloc: Global, schema: &Schema<'_>, case: Case) {
+    let (root, bytes, steps, want) = case;
+    let checks = Checks::published();
+    let verified = verified(rt, alloc, bytes, schema, root, Start::Bare, checks);
+    same(rt, (steps, answer_in(&verified, steps)), (steps, want));
+}
+
+#[test]
+fn what_is_here_allows_its_own_steps_alone(rt: HostRuntime) {
+    let schema = unions(&rt, rt.alloc());
+    for case in ALLOWED {
+        is_so(&rt, rt.alloc(), &schema, case);
+    }
 }
