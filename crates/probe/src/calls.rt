@@ -12,7 +12,7 @@ use std::alloc::Global;
 use std::io;
 
 /// Paths of one growth of their steps, and one of more.
-const PATHS: [&str; 5] = [
+static PATHS: [&str; 5] = [
     "any@Node.size",
     "many[0]@Text",
     "many_type[0]",
@@ -21,7 +21,7 @@ const PATHS: [&str; 5] = [
 ];
 
 /// Depths of scratches, of which the first takes no memory, and the last is too deep.
-const DEPTHS: [u32; 5] = [0, 1, 64, 4096, 4097];
+static DEPTHS: [u32; 5] = [0, 1, 64, 4096, 4097];
 
 fn call_scratch(rt: HostRuntime, depth: u32) -> io::Result<()> {
     match Scratch::new(rt.alloc(), depth) {
@@ -52,7 +52,7 @@ fn call_resolve(rt: HostRuntime, schema: &Schema<'_>, text: &str) -> io::Result<
 
 fn call_paths(rt: HostRuntime, schema: &Schema<'_>) -> io::Result<()> {
     println!(rt; "build: ok, {} objects", schema.object_count())?;
-    for text in PATHS {
+    for text in &PATHS {
         call_resolve(rt, schema, text)?;
     }
     Ok(())
@@ -75,8 +75,8 @@ pub fn make_calls(rt: HostRuntime, bytes: &[u8]) -> io::Result<()> {
     println!(rt; "input: {} bytes", bytes.len())?;
     make_built_in(rt, false)?;
     load_file(rt, bytes, false)?;
-    for depth in DEPTHS {
-        call_scratch(rt, depth)?;
+    for depth in &DEPTHS {
+        call_scratch(rt, *depth)?;
     }
     call_framer(rt)?;
     call_build(rt, rt.alloc())

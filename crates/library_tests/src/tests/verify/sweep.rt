@@ -25,7 +25,7 @@ const DIGESTS: [u64; 4] = [
 ];
 
 /// Depth, tables, reads and identifier, of which each ends a walk in another place.
-const LIMITS: [(u32, u32, Option<u64>, Ident); 11] = [
+static LIMITS: [(u32, u32, Option<u64>, Ident); 11] = [
     (64, 1_000_000, None, Ident::Want(*b"BFBS")),
     (64, 1_000_000, Some(0), Ident::Want(*b"BFBS")),
     (64, 1_000_000, Some(1), Ident::Any),
@@ -48,7 +48,8 @@ fn ask_prefix(
     prefix: &[u8],
 ) {
     engine.answer(rt, question, prefix, digest);
-    for (depth, tables, reads, ident) in LIMITS {
+    for limits in &LIMITS {
+        let (depth, tables, reads, ident) = *limits;
         let limited = Question {
             depth,
             tables,
