@@ -1,5 +1,4 @@
-//! What no contract says: that calls succeed, on bytes and answers known from outside. What is read of each width is
-//! asked of lent reads by the sweep beside, and of windows by the values at paths (`tests/test_values.py`).
+//! What no contract says: that calls succeed, on bytes and answers known from outside.
 
 ghost use Rattle.std.specs.Prelude.{◌≤◌, IfOk};
 
@@ -83,14 +82,34 @@ fn what_is_lent_is_gone_until_it_is_settled(rt: HostRuntime) {
     let mut loan: Loan = meter.lend();
     let mut reads = loan.lend();
     let mut on = reads.lend();
-    let lent = (on.u8_at(3), on.len(), reads.len(), loan.lend().len());
+    let numbers = (on.u8_at(3), on.u16_at(1), on.u32_at(0), on.i32_at(0));
+    let lent = (on.fits(4, 4), on.fits(5, 4), reads.len(), loan.lend().len());
     reads.settle(on);
     let settled = (reads.len(), reads.count());
     loan.settle(reads);
     let at_last = (loan.reads(), meter.reads());
     meter.settle(loan);
-    let told = (lent, settled, at_last, meter.len(), meter.reads());
-    same(&rt, told, ((0x84, 8, 0, 0), (8, 1), (1, u128::MAX), 8, 1));
+    let told = (numbers, lent, settled, at_last, meter.reads());
+    let numbers = (0x84, 0x0302, 0x8403_0201, -2_080_177_663);
+    let want = (numbers, (true, false, 0, 0), (8, 4), (4, u128::MAX), 4);
+    same(&rt, told, want);
+}
+
+#[test]
+fn a_window_lends_what_its_meter_read(rt: HostRuntime) {
+    let window = Meter::new(&NUMBERS).unwrap().seal();
+    let numbers = (
+        window.u8_at(3),
+        window.u16_at(1),
+        window.u32_at(0),
+        window.i32_at(4),
+        window.u64_at(0),
+    );
+    let fits = (window.fits(6, 2), window.fits(7, 2), window.len());
+    let told = (numbers, fits, window.bytes(1, 2));
+    let numbers = (0x84, 0x0302, 0x8403_0201, -1, 0xffff_ffff_8403_0201);
+    let want = (numbers, (true, false, 8), b"\x02\x03".as_slice());
+    same(&rt, told, want);
 }
 
 #[test]
