@@ -53,9 +53,9 @@ SAMPLES = {"FILE": schemas.M.hex(), "OF_FLATC": OF_FLATC}
 
 # What each file shows, the file, and its root, its identifier and how many objects it has.
 LOADED = [
-    ("it may have no identifier", "FILE", ("root=0", "no ident", 1)),
-    ("it may have no root", "FILE 20=0000", ("root=-", "no ident", 1)),
-    ("what flatc writes is loaded", "OF_FLATC", ("root=1", "ident=TEST", 3)),
+    ("it may have no identifier", "FILE", ("root=Some(0)", "ident=None", 1)),
+    ("it may have no root", "FILE 20=0000", ("root=None", "ident=None", 1)),
+    ("what flatc writes is loaded", "OF_FLATC", ("root=Some(1)", f"ident=Some({list(b'TEST')})", 3)),
 ]
 
 # What each file shows, the file, and why it isn't loaded.

@@ -19,7 +19,7 @@ SCHEMA = EXAMPLES / "deliveries.bfbs"
 
 @dataclasses.dataclass
 class Call:
-    """A call of `probe calls`: how it tells that it came to its end, and that memory was refused.
+    """A call of `probe calls`: how it tells that it came to its end, and its line where memory was refused.
 
     `leads` says whether the calls below it are made where it was refused, and `asks` whether it makes a request.
     """
@@ -33,18 +33,18 @@ class Call:
 
 # The calls in their order.
 LONG_PATH = ".".join(["next"] * 8 + ["name"])
-STEPS = {"any@Leaf.size": 3, "many[0]@Text": 3, "many_type[0]": 2, "many": 1, LONG_PATH: 9}
+STEPS = {"any@Node.size": 3, "many[0]@Text": 3, "many_type[0]": 2, "many": 1, LONG_PATH: 9}
 CALLS = [
-    Call("reflection", "ok", "out of memory"),
-    Call("load", "ok", "L4 OutOfMemory"),
+    Call("reflection", "ok", "reflection: out of memory"),
+    Call("load", "ok", "fault L4 OutOfMemory"),
     Call("scratch 0", "ok, 0 levels", "", asks=False),
-    *[Call(f"scratch {depth}", f"ok, {depth} levels", "out of memory") for depth in (1, 64, 4096)],
-    Call("scratch 4097", "limit out of range", "", asks=False),
+    *[Call(f"scratch {depth}", f"ok, {depth} levels", f"scratch {depth}: OutOfMemory") for depth in (1, 64, 4096)],
+    Call("scratch 4097", "LimitOutOfRange", "", asks=False),
     Call("framer", "Ok(Taken { used: 5, whole: false }), Ok(Taken { used: 1, whole: true }), Ok(()), "
-         "Some([2, 0, 0, 0, 104, 105])", "Err(OutOfMemory), Err(Failed), Err(Failed), None"),
-    Call("rows", "ok", "out of memory", leads=False),
-    Call("build", "ok, 3 objects", "OutOfMemory owner=0 part=-", leads=False),
-    *[Call(f"resolve {path}", f"ok, {steps} steps", "P7 OutOfMemory") for path, steps in STEPS.items()],
+         "Some([2, 0, 0, 0, 104, 105])", "framer: Err(OutOfMemory), Err(Failed), Err(Failed), None"),
+    Call("rows", "ok", "rows: out of memory", leads=False),
+    Call("build", "ok, 2 objects", "build: SchemaFault { code: OutOfMemory, owner: 0, part: None }", leads=False),
+    *[Call(f"resolve {path}", f"ok, {steps} steps", f"resolve {path}: P7 OutOfMemory") for path, steps in STEPS.items()],
 ]
 
 
@@ -53,7 +53,7 @@ def told_of_calls(given, refused_at, extent):
     lines = [f"input: {len(given)} bytes"]
     for number, call in enumerate(CALLS):
         meets = number == refused_at or (number > refused_at and extent == WITH_LATER and call.asks)
-        lines.append(f"{call.name}: {call.refused if meets else call.well}")
+        lines.append(call.refused if meets else f"{call.name}: {call.well}")
         if meets and not call.leads:
             break
     return lines

@@ -29,10 +29,11 @@ FAULTS = [
 
 # What the files must hold between them, so that no case is lost unseen: a text that some line of some file has.
 WANTED = [
+    *(f"ident=Some({list(ident)})" for ident in (b"TALK", b"DEPO")),
     *(f"kind=Scalar({name})" for name, _ in SCALARS.values()),
     *(f"kind=Scalars({name})" for name, _ in SCALARS.values()),
     "kind=Text ", "kind=Texts", "kind=Struct(", "kind=Structs(", "kind=Table(", "kind=Tables(", "kind=Union(",
-    "kind=Unions(", "required=true", "optional=true", "root=-", "ident=TALK", "ident=DEPO", "struct=true",
+    "kind=Unions(", "required=true", "optional=true", "root=None", "struct=true",
     "minalign=16", "value=2 kind=Table(", "value=100 kind=Struct(", "value=255 kind=Text",
     "default=-128", "default=127", "default=255", "default=-32768", "default=32767", "default=65535",
     "default=-2147483648", "default=2147483647", "default=4294967295",

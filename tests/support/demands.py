@@ -269,7 +269,7 @@ def file_of_rows(rows):
 def fault(want):
     """What `probe list` tells first of a file, by the answer of its line."""
     if want == "ok":
-        return "root=-"
+        return "root=None"
     name, place = want.split()
     owner, _, part = place.partition(".")
     return f"fault L2 C{CODES.index(name) + 1} {name} owner={owner} part={part or '-'}"

@@ -52,22 +52,22 @@ class Listing:
     def field(self, field, live):
         """The lines of a live field, `live` being those of its table."""
         kind, size, align = self.kind(field["type"])
-        companion = "-"
+        companion = "None"
         if kind.startswith("Union"):
             below = [other["offset"] for other in live].index(field["offset"] - 2)
-            companion = str(below)
+            companion = f"Some({below})"
         line = (
-            f"field {field.get('id', 0)} slot={field['offset']} name={field['name']} kind={kind}"
+            f"field {field.get('id', 0)} slot={field['offset']} name={spelled(field['name'])} kind={kind}"
             f" default={field.get('default_integer', 0)} required={written(field, 'required')}"
             f" optional={written(field, 'optional')} size={size} align={align} companion={companion}"
         )
-        return [line, *(self.members(field["type"]["index"]) if companion != "-" else [])]
+        return [line, *(self.members(field["type"]["index"]) if companion != "None" else [])]
 
     def object(self, number):
         """The lines of an object."""
         it = self.objects[number]
         yield (
-            f"object {number} name={it['name']} struct={written(it, 'is_struct')}"
+            f"object {number} name={spelled(it['name'])} struct={written(it, 'is_struct')}"
             f" minalign={it.get('minalign', 0)} bytesize={it.get('bytesize', 0)}"
         )
         if not it.get("is_struct"):
@@ -79,9 +79,9 @@ class Listing:
     def lines(self):
         names = [it["name"] for it in self.objects]
         root = self.schema.get("root_table")
-        yield f"root={names.index(root['name']) if root else '-'}"
+        yield "root=" + (f"Some({names.index(root['name'])})" if root else "None")
         ident = self.schema.get("file_ident")
-        yield "no ident" if ident is None else f"ident={ident}"
+        yield "ident=" + ("None" if ident is None else f"Some({spelled(ident)})")
         for number in range(len(self.objects)):
             yield from self.object(number)
 
@@ -90,10 +90,9 @@ def written(table, name):
     return "true" if table.get(name) else "false"
 
 
-def escaped(name):
-    """A name as `probe list` writes it: printable ASCII as it is but for a backslash, each other byte by two digits."""
-    data = name.encode(errors="surrogateescape")
-    return "".join(chr(byte) if 32 <= byte < 127 and byte != 92 else f"\\x{byte:02x}" for byte in data)
+def spelled(name):
+    """A name as `probe list` writes it: its bytes."""
+    return list(name.encode(errors="surrogateescape"))
 
 
 def described_type(row):
@@ -106,12 +105,12 @@ def described_field(row):
     """A field, whose number is that of its slot, whatever the row has as its id."""
     words = {3: "offset", 4: "default_integer", 6: "deprecated", 7: "required", 11: "optional"}
     told = {words[at]: number_at(row, at) for at in words}
-    return {"name": escaped(row[0]), "type": described_type(row[1]), "id": (told["offset"] - 4) // 2, **told}
+    return {"name": row[0], "type": described_type(row[1]), "id": (told["offset"] - 4) // 2, **told}
 
 
 def described_object(row):
     words = {2: "is_struct", 3: "minalign", 4: "bytesize"}
-    return {"name": escaped(row[0]), "fields": [described_field(field) for field in row[1]],
+    return {"name": row[0], "fields": [described_field(field) for field in row[1]],
             **{words[at]: number_at(row, at) for at in words}}
 
 
@@ -120,8 +119,8 @@ def described(row):
     values = [[{"value": number_at(member, 1), "union_type": described_type(member.get(3))} for member in row[1]]
               for row in row[1]]
     told = {"objects": [described_object(row) for row in row[0]], "enums": [{"values": each} for each in values]}
-    told |= {"file_ident": escaped(row[2])} if 2 in row else {}
-    return told | ({"root_table": {"name": escaped(row[4][0])}} if 4 in row else {})
+    told |= {"file_ident": row[2]} if 2 in row else {}
+    return told | ({"root_table": {"name": row[4][0]}} if 4 in row else {})
 
 
 def built_in():

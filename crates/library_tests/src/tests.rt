@@ -1,8 +1,8 @@
-mod access;
+mod builders;
 mod bytes;
 mod compare;
 mod reader;
-mod schema;
 mod texts;
 mod unions;
 mod verify;
+mod worked;

@@ -3,18 +3,17 @@
 //! Each answer is written before the next call is made, so it is known which call met a request that was refused.
 
 use crate::hand::{NODE, hand_rows};
-use crate::texts::Maybe;
+use crate::listing::{load_file, make_built_in};
 use fb_access::Path;
-use fb_bfbs::{load, reflection};
 use fb_bytes::Framer;
 use fb_schema::Schema;
-use fb_verify::{Limits, Scratch, ScratchFault};
+use fb_verify::Scratch;
 use std::alloc::Global;
 use std::io;
 
 /// Paths of one growth of their steps, and one of more.
-const PATHS: [&str; 5] = [
-    "any@Leaf.size",
+static PATHS: [&str; 5] = [
+    "any@Node.size",
     "many[0]@Text",
     "many_type[0]",
     "many",
@@ -22,32 +21,12 @@ const PATHS: [&str; 5] = [
 ];
 
 /// Depths of scratches, of which the first takes no memory, and the last is too deep.
-const DEPTHS: [u32; 5] = [0, 1, 64, 4096, 4097];
-
-/// What is told of a call.
-fn told<T: Drop, E: Drop>(answer: Result<T, E>) -> &'static str {
-    match answer {
-        Ok(_) => "ok",
-        Err(_) => "out of memory",
-    }
-}
-
-fn call_reflection(rt: HostRuntime) -> io::Result<()> {
-    println!(rt; "reflection: {}", told(reflection(rt.alloc())))
-}
-
-fn call_load(rt: HostRuntime, bytes: &[u8]) -> io::Result<()> {
-    match load(rt.alloc(), bytes, Limits::published()) {
-        Ok(_) => println!(rt; "load: ok"),
-        Err(fault) => println!(rt; "load: {fault}"),
-    }
-}
+static DEPTHS: [u32; 5] = [0, 1, 64, 4096, 4097];
 
 fn call_scratch(rt: HostRuntime, depth: u32) -> io::Result<()> {
     match Scratch::new(rt.alloc(), depth) {
         Ok(scratch) => println!(rt; "scratch {depth}: ok, {} levels", scratch.depth()),
-        Err(ScratchFault::OutOfMemory) => println!(rt; "scratch {depth}: out of memory"),
-        Err(ScratchFault::LimitOutOfRange) => println!(rt; "scratch {depth}: limit out of range"),
+        Err(fault) => println!(rt; "scratch {depth}: {fault:?}"),
     }
 }
 
@@ -71,23 +50,22 @@ fn call_resolve(rt: HostRuntime, schema: &Schema<'_>, text: &str) -> io::Result<
     }
 }
 
+fn call_paths(rt: HostRuntime, schema: &Schema<'_>) -> io::Result<()> {
+    println!(rt; "build: ok, {} objects", schema.object_count())?;
+    for text in &PATHS {
+        call_resolve(rt, schema, text)?;
+    }
+    Ok(())
+}
+
 fn call_build(rt: HostRuntime, alloc: Global) -> io::Result<()> {
     let Ok(rows) = hand_rows(alloc) else {
         return println!(rt; "rows: out of memory");
     };
     println!(rt; "rows: ok")?;
     match Schema::build(alloc, rows.objects, rows.enums) {
-        Ok(schema) => {
-            println!(rt; "build: ok, {} objects", schema.object_count())?;
-            for text in PATHS {
-                call_resolve(rt, &schema, text)?;
-            }
-            Ok(())
-        }
-        Err(fault) => {
-            let part = Maybe(fault.part);
-            println!(rt; "build: {:?} owner={} part={part}", fault.code, fault.owner)
-        }
+        Ok(schema) => call_paths(rt, &schema),
+        Err(fault) => println!(rt; "build: {fault:?}"),
     }
 }
 
@@ -95,10 +73,10 @@ fn call_build(rt: HostRuntime, alloc: Global) -> io::Result<()> {
 /// schema made by hand `Schema::build` and `Path::resolve`.
 pub fn make_calls(rt: HostRuntime, bytes: &[u8]) -> io::Result<()> {
     println!(rt; "input: {} bytes", bytes.len())?;
-    call_reflection(rt)?;
-    call_load(rt, bytes)?;
-    for depth in DEPTHS {
-        call_scratch(rt, depth)?;
+    make_built_in(rt, false)?;
+    load_file(rt, bytes, false)?;
+    for depth in &DEPTHS {
+        call_scratch(rt, *depth)?;
     }
     call_framer(rt)?;
     call_build(rt, rt.alloc())

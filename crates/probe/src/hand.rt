@@ -1,4 +1,4 @@
-//! A schema made by hand, of two tables, a struct and a union.
+//! A schema made by hand, of a table, a struct and a union.
 
 ghost use Rattle.std.specs.Prelude.{◌≡◌, ◌<◌, ◌^◌, length, vec_len, All, IfOk};
 ghost use Rattle.fb_schema.specs.Rows.{AreFew};
@@ -11,10 +11,8 @@ use std::alloc::{AllocError, Global};
 /// The object of the root table.
 pub const NODE: u32 = 0;
 
-/// The objects of the other table and of the struct.
-const LEAF: i32 = 1;
-
-const PLACE: i32 = 2;
+/// The object of the struct.
+const PLACE: i32 = 1;
 
 /// Rows from which a schema is built.
 #[derive(Drop)]
@@ -31,9 +29,9 @@ fn place(alloc: Global) -> Result<ObjectRow<'static>, AllocError>
     structure(alloc, b"Place", 4, 2, &fields)
 }
 
-/// `table Node { at: Place; next: Node; any: Any; many: [Any]; name: string; }`.
+/// `table Node { at: Place; next: Node; any: Any; many: [Any]; name: string; size: short; }`.
 fn node(alloc: Global) -> Result<ObjectRow<'static>, AllocError>
-    ensures { IfOk result (λ t. vec_len t.fields ≡ 7) }
+    ensures { IfOk result (λ t. vec_len t.fields ≡ 8) }
 {
     let fields = [
         field(b"at", 4, one(OBJ).naming(PLACE)),
@@ -43,27 +41,20 @@ fn node(alloc: Global) -> Result<ObjectRow<'static>, AllocError>
         field(b"many_type", 12, vector(UTYPE)),
         field(b"many", 14, vector(UNION).naming(0)),
         field(b"name", 16, one(STRING)),
+        field(b"size", 18, one(SHORT)),
     ];
     table(alloc, b"Node", &fields)
 }
 
-/// `table Leaf { size: short; }`.
-fn leaf(alloc: Global) -> Result<ObjectRow<'static>, AllocError>
-    ensures { IfOk result (λ t. vec_len t.fields ≡ 1) }
-{
-    table(alloc, b"Leaf", &[field(b"size", 4, one(SHORT))])
-}
-
-/// `union Any { Node, Leaf, Place, Text: string }`.
+/// `union Any { Node, Place, Text: string }`.
 fn any(alloc: Global) -> Result<EnumRow<'static>, AllocError>
-    ensures { IfOk result (λ e. vec_len e.members ≡ 5) }
+    ensures { IfOk result (λ e. vec_len e.members ≡ 4) }
 {
     let members = [
         member(b"NONE", 0, one(NONE)),
         member(b"Node", 1, one(OBJ).naming(NODE as i32)),
-        member(b"Leaf", 2, one(OBJ).naming(LEAF)),
-        member(b"Place", 3, one(OBJ).naming(PLACE)),
-        member(b"Text", 4, one(STRING)),
+        member(b"Place", 2, one(OBJ).naming(PLACE)),
+        member(b"Text", 3, one(STRING)),
     ];
     union(alloc, b"Any", &members)
 }
@@ -72,7 +63,7 @@ fn objects(alloc: Global) -> Result<Vec<ObjectRow<'static>>, AllocError>
     ensures few { IfOk result (λ v. length v.items < 2 ^ 31) }
     ensures fields { IfOk result (λ v. All (λ o. vec_len o.fields < 2 ^ 31) v.items) }
 {
-    Ok(vec![in alloc; node(alloc)?, leaf(alloc)?, place(alloc)?]?)
+    Ok(vec![in alloc; node(alloc)?, place(alloc)?]?)
 }
 
 fn enums(alloc: Global) -> Result<Vec<EnumRow<'static>>, AllocError>

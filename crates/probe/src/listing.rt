@@ -1,20 +1,11 @@
-//! The listing of what a schema file describes, as the look-ups of its schema answer it.
+//! What is told of a schema: the listing of all that its look-ups answer, or only that it's there.
 
-ghost use Rattle.std.specs.Prelude.{◌≡◌, ◌<◌, length, IsTrue, Some};
-ghost use Rattle.fb_schema.specs.Rows.{is_table};
+ghost use Rattle.std.specs.Prelude.{◌<◌, length};
 
-use crate::texts::{Maybe, Name};
-use fb_bfbs::Loaded;
+use fb_bfbs::{Loaded, load, reflection};
 use fb_schema::{FieldView, Kind, Schema};
+use fb_verify::Limits;
 use std::io;
-
-/// The enum of which a field holds members.
-fn union_of(kind: Kind) -> Option<u32> {
-    match kind {
-        Kind::Union(number) | Kind::Unions(number) => Some(number),
-        _ => None,
-    }
-}
 
 /// A line for each value that has a member.
 fn list_members(rt: HostRuntime, schema: &Schema<'_>, number: u32) -> io::Result<()> {
@@ -31,31 +22,23 @@ fn list_members(rt: HostRuntime, schema: &Schema<'_>, number: u32) -> io::Result
 
 /// A line for a live field, and then the members where it holds some.
 fn list_field(rt: HostRuntime, schema: &Schema<'_>, field: &FieldView<'_>) -> io::Result<()> {
-    let name = Name(field.name);
-    print!(rt;
-        "field {} slot={} name={name} kind={:?} default={}",
-        field.number, field.slot, field.kind, field.default
-    )?;
-    print!(rt; " required={} optional={}", field.required, field.optional)?;
-    let companion = Maybe(field.companion);
     println!(rt;
-        " size={} align={} companion={companion}",
-        field.size, field.align
+        "field {} slot={} name={:?} kind={:?} default={} required={} optional={} size={} align={} companion={:?}",
+        field.number,
+        field.slot,
+        field.name,
+        field.kind,
+        field.default,
+        field.required,
+        field.optional,
+        field.size,
+        field.align,
+        field.companion
     )?;
-    match union_of(field.kind) {
-        Some(number) => list_members(rt, schema, number),
-        None => Ok(()),
+    match field.kind {
+        Kind::Union(number) | Kind::Unions(number) => list_members(rt, schema, number),
+        _ => Ok(()),
     }
-}
-
-/// The live fields of a table.
-fn list_fields(rt: HostRuntime, schema: &Schema<'_>, table: u32) -> io::Result<()>
-    requires { IsTrue (is_table schema.now table) }
-{
-    for field in schema.fields_of(table) {
-        list_field(rt, schema, field)?;
-    }
-    Ok(())
 }
 
 /// A line for an object, and the live fields of a table.
@@ -63,31 +46,56 @@ fn list_object(rt: HostRuntime, schema: &Schema<'_>, number: u32) -> io::Result<
     requires { number < length schema.now.objects }
 {
     let object = schema.object(number);
-    let name = Name(object.name);
     println!(rt;
-        "object {number} name={name} struct={} minalign={} bytesize={}",
-        object.is_struct, object.minalign, object.bytesize
+        "object {number} name={:?} struct={} minalign={} bytesize={}",
+        object.name, object.is_struct, object.minalign, object.bytesize
     )?;
     if schema.is_table(number) {
-        list_fields(rt, schema, number)?;
+        for field in schema.fields_of(number) {
+            list_field(rt, schema, field)?;
+        }
     }
     Ok(())
 }
 
 /// Each object of a schema.
-pub fn list_objects(rt: HostRuntime, schema: &Schema<'_>) -> io::Result<()> {
+fn list_objects(rt: HostRuntime, schema: &Schema<'_>) -> io::Result<()> {
     for number in 0..schema.object_count() {
         list_object(rt, schema, number)?;
     }
     Ok(())
 }
 
-/// Everything that was loaded: the root, the identifier, and then each object.
-pub fn list(rt: HostRuntime, loaded: &Loaded<'_>) -> io::Result<()> {
-    println!(rt; "root={}", Maybe(loaded.root))?;
-    match loaded.ident {
-        Some(ident) => println!(rt; "ident={}", Name(ident))?,
-        None => println!(rt; "no ident")?,
+/// Tells of what was loaded that it was, or lists it: the root, the identifier, and then each object.
+fn list(rt: HostRuntime, loaded: &Loaded<'_>, whole: bool) -> io::Result<()> {
+    if !whole {
+        return println!(rt; "load: ok");
     }
+    println!(rt; "root={:?}\nident={:?}", loaded.root, loaded.ident)?;
     list_objects(rt, &loaded.schema)
+}
+
+/// Loads a schema file and tells of it, or why it isn't loaded.
+pub fn load_file(rt: HostRuntime, bytes: &[u8], whole: bool) -> io::Result<()> {
+    match load(rt.alloc(), bytes, Limits::published()) {
+        Ok(loaded) => list(rt, &loaded, whole),
+        Err(fault) => println!(rt; "fault {fault}"),
+    }
+}
+
+/// Tells of the built-in table that it was made, or lists its objects.
+fn list_built_in(rt: HostRuntime, schema: &Schema<'_>, whole: bool) -> io::Result<()> {
+    if whole {
+        list_objects(rt, schema)
+    } else {
+        println!(rt; "reflection: ok")
+    }
+}
+
+/// Makes the table of schema files that is built in, and tells of it.
+pub fn make_built_in(rt: HostRuntime, whole: bool) -> io::Result<()> {
+    match reflection(rt.alloc()) {
+        Ok(schema) => list_built_in(rt, &schema, whole),
+        Err(_) => println!(rt; "reflection: out of memory"),
+    }
 }

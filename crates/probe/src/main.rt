@@ -9,12 +9,9 @@ mod calls;
 mod hand;
 mod listing;
 mod mode;
-mod texts;
 
 use calls::make_calls;
-use fb_bfbs::{load, reflection};
-use fb_verify::Limits;
-use listing::{list, list_objects};
+use listing::{load_file, make_built_in};
 use mode::{Mode, mode_of};
 use std::io;
 use std::io::{ErrorKind, Read};
@@ -23,9 +20,13 @@ use std::process::ExitCode;
 /// The mode that the only word of the command line names.
 fn read_mode(rt: HostRuntime) -> io::Result<Option<Mode>> {
     let mut words = std::env::args(&rt)?.skip(1);
-    match (words.next(), words.next()) {
-        (Some(word), None) => Ok(mode_of(word.as_str())),
-        _ => Ok(None),
+    let mode = match words.next() {
+        Some(word) => mode_of(word.as_str()),
+        None => None,
+    };
+    match words.next() {
+        Some(_) => Ok(None),
+        None => Ok(mode),
     }
 }
 
@@ -36,20 +37,6 @@ fn read_input(rt: HostRuntime) -> io::Result<Vec<u8>> {
     Ok(bytes)
 }
 
-/// Lists what a schema file describes, or tells why it isn't loaded.
-fn list_file(rt: HostRuntime, bytes: &[u8]) -> io::Result<()> {
-    match load(rt.alloc(), bytes, Limits::published()) {
-        Ok(loaded) => list(rt, &loaded),
-        Err(fault) => println!(rt; "fault {fault}"),
-    }
-}
-
-/// Lists the table of schema files that is built in.
-fn list_built_in(rt: HostRuntime) -> io::Result<()> {
-    let schema = reflection(rt.alloc())?;
-    list_objects(rt, &schema)
-}
-
 /// Does what the word asks for; answers the exit status.
 fn start(rt: HostRuntime) -> io::Result<u8> {
     let Some(mode) = read_mode(rt)? else {
@@ -58,8 +45,8 @@ fn start(rt: HostRuntime) -> io::Result<u8> {
     };
     let bytes = read_input(rt)?;
     match mode {
-        Mode::List => list_file(rt, &bytes)?,
-        Mode::BuiltIn => list_built_in(rt)?,
+        Mode::List => load_file(rt, &bytes, true)?,
+        Mode::BuiltIn => make_built_in(rt, true)?,
         Mode::Calls => make_calls(rt, &bytes)?,
     }
     Ok(0)

@@ -4,7 +4,7 @@ ghost use Rattle.std.specs.Prelude.{◌≡◌, ◌↔◌, Some, codes};
 ghost use Rattle.probe.specs.declared.mode.Mode.TheVariants.{List as AList, BuiltIn as TheBuiltIn, Calls as SomeCalls};
 
 /// What the probe is asked for.
-#[derive(Clone, Copy, Debug, PartialEq, Eq)]
+#[derive(Clone, Copy)]
 pub enum Mode {
     /// A listing of what a schema file describes.
     List,

@@ -4,7 +4,7 @@ use fb_bfbs::{Loaded, load};
 use fb_schema::Schema;
 use fb_verify::Limits;
 use std::alloc::Global;
-use std::test::Fail;
+use std::process::Abort;
 
 /// The file of these rows, laid out by `tests/support/schemas.py` (`tests/test_loading.py` holds them together):
 ///
@@ -61,7 +61,7 @@ pub const R: u32 = 2;
 pub const Q: u32 = 3;
 
 /// The schema that this file describes.
-pub fn unions(alloc: Global) -> Result<Schema<'static>, Fail> {
-    let Loaded { schema, .. } = load(alloc, FILE, Limits::published())?;
-    Ok(schema)
+pub fn unions(rt: &impl Abort, alloc: Global) -> Schema<'static> {
+    let Loaded { schema, .. } = load(alloc, FILE, Limits::published()).expect(rt, "a schema");
+    schema
 }

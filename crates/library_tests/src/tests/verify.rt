@@ -1,3 +1,2 @@
-mod calls;
 pub mod question;
 mod sweep;

@@ -4,25 +4,11 @@
 use crate::tests::compare::same;
 use fb_bytes::{Framer, StreamFault, Taken};
 use std::alloc::Global;
-use std::test::Fail;
 
-/// A prefix of 28 and as many bytes: a size-prefixed buffer whose one field, a long, is 7.
-const LONG_SEVEN: [u8; 32] = [
-    28, 0, 0, 0, 16, 0, 0, 0, 6, 0, 12, 0, 4, 0, 0, 0, 0, 0, 0, 0, 12, 0, 0, 0, 7, 0, 0, 0, 0, 0,
-    0, 0,
-];
+/// The longest message within the limit, and two of them.
+const ONE: &[u8] = b"\x04\0\0\0abcd";
 
-/// All of it but the last byte.
-const MOST_OF_IT: &[u8] = &[
-    28, 0, 0, 0, 16, 0, 0, 0, 6, 0, 12, 0, 4, 0, 0, 0, 0, 0, 0, 0, 12, 0, 0, 0, 7, 0, 0, 0, 0, 0, 0,
-];
-
-/// Two of them.
-const TWICE: [u8; 64] = [
-    28, 0, 0, 0, 16, 0, 0, 0, 6, 0, 12, 0, 4, 0, 0, 0, 0, 0, 0, 0, 12, 0, 0, 0, 7, 0, 0, 0, 0, 0,
-    0, 0, 28, 0, 0, 0, 16, 0, 0, 0, 6, 0, 12, 0, 4, 0, 0, 0, 0, 0, 0, 0, 12, 0, 0, 0, 7, 0, 0, 0,
-    0, 0, 0, 0,
-];
+const TWO: &[u8] = b"\x04\0\0\0abcd\x04\0\0\0abcd";
 
 /// What is asked of a framer, with what it answers.
 #[derive(Clone, Copy)]
@@ -37,17 +23,17 @@ enum Call {
     Finish(Result<(), StreamFault>),
 }
 
-/// What is shown, and what a framer with a limit of 32 bytes is asked for it, one after another.
-const CALLS: [(&str, &[Call]); 6] = [
+/// What is shown, and what a framer with a limit of 8 bytes is asked for it, one after another.
+static CALLS: [(&str, &[Call]); 6] = [
     (
         "it holds one message at a time",
         &[
-            Call::Feed(&TWICE, 32, true),
-            Call::Feed(&LONG_SEVEN, 0, true),
-            Call::Message(Some(&LONG_SEVEN)),
+            Call::Feed(TWO, 8, true),
+            Call::Feed(ONE, 0, true),
+            Call::Message(Some(ONE)),
             Call::Next,
             Call::Held(0),
-            Call::Feed(&LONG_SEVEN, 32, true),
+            Call::Feed(ONE, 8, true),
             Call::Next,
             Call::Finish(Ok(())),
         ],
@@ -71,21 +57,21 @@ const CALLS: [(&str, &[Call]); 6] = [
     (
         "an end in mid message is truncated",
         &[
-            Call::Feed(&TWICE, 32, true),
+            Call::Feed(TWO, 8, true),
             Call::Next,
-            Call::Feed(MOST_OF_IT, 31, false),
+            Call::Feed(b"\x04\0\0\0abc", 7, false),
             Call::Message(None),
-            Call::Finish(Err(StreamFault::Truncated { held: 31 })),
+            Call::Finish(Err(StreamFault::Truncated { held: 7 })),
             Call::Refuse(&[0], StreamFault::Failed),
             Call::Finish(Err(StreamFault::Failed)),
-            Call::Held(31),
+            Call::Held(7),
         ],
     ),
     (
         "a prefix past the limit is oversize",
         &[
-            Call::Feed(&[29, 0, 0], 3, false),
-            Call::Refuse(&[0, 1, 2], StreamFault::Oversize { declared: 29 }),
+            Call::Feed(&[5, 0, 0], 3, false),
+            Call::Refuse(&[0, 1, 2], StreamFault::Oversize { declared: 5 }),
             Call::Held(4),
             Call::Message(None),
             Call::Refuse(&[0], StreamFault::Failed),
@@ -117,13 +103,11 @@ fn answers(framer: &mut Framer<Global>, call: Call) -> bool {
 }
 
 #[test]
-fn a_framer_answers_each_call(rt: HostRuntime) -> Result<(), Fail> {
-    for (shows, calls) in CALLS {
-        let mut framer = Framer::new(rt.alloc(), 32)?;
-        for (number, call) in calls.iter().enumerate() {
-            let answered = answers(&mut framer, *call);
-            same(&rt, (shows, number, answered), (shows, number, true));
+fn a_framer_answers_each_call(rt: HostRuntime) {
+    for (shows, calls) in &CALLS {
+        let mut framer = Framer::new(rt.alloc(), 8).unwrap();
+        for call in *calls {
+            same(&rt, (*shows, answers(&mut framer, *call)), (*shows, true));
         }
     }
-    Ok(())
 }

@@ -14,7 +14,6 @@ use engine::{Engine, Question};
 use fb_bfbs::load;
 use fb_verify::{Checks, Ident, Limits};
 use std::process::Abort;
-use std::test::Fail;
 
 /// What the naive checker's answers make: with alignment, with the inline size too, without both, and with the inline
 /// size alone.
@@ -26,7 +25,7 @@ const DIGESTS: [u64; 4] = [
 ];
 
 /// Depth, tables, reads and identifier, of which each ends a walk in another place.
-const LIMITS: [(u32, u32, Option<u64>, Ident); 11] = [
+static LIMITS: [(u32, u32, Option<u64>, Ident); 11] = [
     (64, 1_000_000, None, Ident::Want(*b"BFBS")),
     (64, 1_000_000, Some(0), Ident::Want(*b"BFBS")),
     (64, 1_000_000, Some(1), Ident::Any),
@@ -40,20 +39,6 @@ const LIMITS: [(u32, u32, Option<u64>, Ident); 11] = [
     (64, 0, Some(3), Ident::Any),
 ];
 
-/// Asks of a buffer, and adds the answer, with the way to a fault.
-fn ask(
-    rt: &impl Abort,
-    engine: &mut Engine<'_>,
-    digest: &mut Digest,
-    question: &Question,
-    bytes: &[u8],
-) {
-    match engine.answer(rt, question, bytes) {
-        Ok(report) => digest.add_report(report),
-        Err(located) => digest.add_fault(located.fault, engine.way(located)),
-    }
-}
-
 /// Asks of the first bytes of a buffer, within all limits.
 fn ask_prefix(
     rt: &impl Abort,
@@ -62,8 +47,9 @@ fn ask_prefix(
     question: &Question,
     prefix: &[u8],
 ) {
-    ask(rt, engine, digest, question, prefix);
-    for (depth, tables, reads, ident) in LIMITS {
+    engine.answer(rt, question, prefix, digest);
+    for limits in &LIMITS {
+        let (depth, tables, reads, ident) = *limits;
         let limited = Question {
             depth,
             tables,
@@ -71,7 +57,7 @@ fn ask_prefix(
             ident,
             ..*question
         };
-        ask(rt, engine, digest, &limited, prefix);
+        engine.answer(rt, &limited, prefix, digest);
     }
 }
 
@@ -93,7 +79,7 @@ fn each_change(
 ) {
     for bits in 1..=255u8 {
         change(bytes, at, bits);
-        ask(rt, engine, digest, question, bytes);
+        engine.answer(rt, question, bytes, digest);
         change(bytes, at, bits);
     }
 }
@@ -126,19 +112,23 @@ fn question(checks: Checks) -> Question {
     }
 }
 
-#[test]
-fn a_buffer_that_is_damaged_is_answered_alike(rt: HostRuntime) -> Result<(), Fail> {
-    let loaded = load(rt.alloc(), SCHEMA, Limits::published()).expect(&rt, "a schema");
-    let root = loaded.root.expect(&rt, "a root");
-    let mut engine = Engine::new(rt.alloc(), &loaded.schema, root)?;
+/// Asserts what the sweeps make, under each choice of the checks.
+fn sweeps_make_these(rt: &impl Abort, engine: &mut Engine<'_>) {
     for (place, want) in DIGESTS.iter().enumerate() {
         let checks = Checks {
             alignment: place < 2,
             inline_size: place % 2 == 1,
         };
         let mut bytes = DELIVERY;
-        let made = sweep(&rt, &mut engine, &question(checks), &mut bytes);
-        same(&rt, (place, made), (place, *want));
+        let made = sweep(rt, engine, &question(checks), &mut bytes);
+        same(rt, (place, made), (place, *want));
     }
-    Ok(())
+}
+
+#[test]
+fn a_buffer_that_is_damaged_is_answered_alike(rt: HostRuntime) {
+    let loaded = load(rt.alloc(), SCHEMA, Limits::published()).expect(&rt, "a schema");
+    let root = loaded.root.expect(&rt, "a root");
+    let mut engine = Engine::new(&rt, rt.alloc(), &loaded.schema, root);
+    sweeps_make_these(&rt, &mut engine);
 }

@@ -23,7 +23,10 @@ impl Digest {
 
     /// Adds a number one up, and 0 where there is none.
     fn add_if_any(&mut self, number: Option<u64>) {
-        self.add(number.map_or(0, |number| number.wrapping_add(1)));
+        self.add(match number {
+            Some(number) => number.wrapping_add(1),
+            None => 0,
+        });
     }
 
     fn add_reads(&mut self, reads: u128) {

@@ -1,11 +1,11 @@
 //! The engine, asked of one buffer after another.
 
+use super::digest::Digest;
 use fb_bytes::Meter;
 use fb_schema::Schema;
-use fb_verify::{Checks, Ident, Limits, Link, Located, Report, Scratch, Start, verify_and_locate};
+use fb_verify::{Checks, Ident, Limits, Link, Scratch, Start, verify_and_locate};
 use std::alloc::Global;
 use std::process::Abort;
-use std::test::Fail;
 
 /// What is asked of a buffer.
 #[derive(Clone, Copy)]
@@ -40,25 +40,23 @@ const BLANK: Link = Link {
 
 impl<'s> Engine<'s> {
     /// An engine for depth limits up to the published one.
-    pub fn new(alloc: Global, schema: &'s Schema<'static>, root: u32) -> Result<Self, Fail> {
-        let scratch = Scratch::new(alloc, DEPTH)?;
-        let mut links = Vec::new(alloc);
-        links.resize(DEPTH as usize, BLANK)?;
-        Ok(Engine {
+    pub fn new(rt: &impl Abort, alloc: Global, schema: &'s Schema<'static>, root: u32) -> Self {
+        Engine {
             schema,
             root,
-            scratch,
-            links,
-        })
+            scratch: Scratch::new(alloc, DEPTH).expect(rt, "memory"),
+            links: vec![in alloc; BLANK; DEPTH as usize].expect(rt, "memory"),
+        }
     }
 
-    /// What `verify_and_locate` answers.
+    /// Adds what `verify_and_locate` answers, with the way to a fault.
     pub fn answer(
         &mut self,
         rt: &impl Abort,
         question: &Question,
         bytes: &[u8],
-    ) -> Result<Report, Located> {
+        digest: &mut Digest,
+    ) {
         let meter = Meter::new(bytes).ok().expect(rt, "a short buffer");
         let limits = limits_of(rt, question);
         assert!(rt; self.schema.is_table(self.root));
@@ -75,12 +73,13 @@ impl<'s> Engine<'s> {
             &mut self.scratch,
             &mut self.links,
         );
-        answer.map(|verified| verified.report())
-    }
-
-    /// The way to a fault.
-    pub fn way(&self, located: Located) -> &[Link] {
-        self.links.get(..located.links as usize).unwrap_or(&[])
+        match answer {
+            Ok(verified) => digest.add_report(verified.report()),
+            Err(located) => {
+                let way = self.links.get(..located.links as usize).unwrap_or(&[]);
+                digest.add_fault(located.fault, way);
+            }
+        }
     }
 }
 

@@ -1,2 +1,0 @@
-mod fixtures;
-mod worked;
