@@ -133,7 +133,6 @@ impl Walk<'_, '_> {
         ensures tested { IsTested reads.old reads.new at.new (failure_at self.now.checks reads.old.bytes self.now.schema.now table.at (live_of_view field.now) (place_from table.at at.old)) (reads_at reads.old.bytes table.at (live_of_view field.now) (place_from table.at at.old)) result }
         ensures leads { result ≡ None → LeavesRow reads.old.bytes self.now.schema.now (entries_at reads.old.bytes self.now.schema.now table.at (live_of_view field.now) (place_from table.at at.old)) row.old row.new (nat_lt 0 row.new.left) }
     {
-        let _schema = self.schema;
         if *at == table.at {
             if field.required {
                 return fails(Reason::MissingRequired);

@@ -220,7 +220,6 @@ impl<'s, 'n> Walk<'s, 'n> {
         requires same { checks ≡ self.old.checks }
         ensures { RowTurned self.old self.new reads.old reads.new under (record top.old { row = row }) top.new child.new result }
     {
-        let _schema = self.schema;
         let mut at = row.place;
         let failed = test_offset(reads, checks, &mut at);
         top.row = row;
@@ -385,7 +384,6 @@ impl<'s, 'n> Walk<'s, 'n> {
         requires same { checks ≡ self.old.checks }
         ensures { FieldTurned self.old self.new reads.old reads.new under top.old top.new child.new result }
     {
-        let _schema = self.schema;
         if step.bit & Step::TO_TABLE != 0 {
             return self.go_to_table(checks, reads, waiting, at, step, top, child);
         }
@@ -449,7 +447,6 @@ impl<'s, 'n> Walk<'s, 'n> {
         requires same { checks ≡ self.old.checks }
         ensures { Turned self.old self.new reads.old reads.new under top.old top.new child.new result }
     {
-        let _schema = self.schema;
         if top.row.left > 0 {
             match self.pass_row(reads, waiting, top, child) {
                 Turn::Up => {}
@@ -477,7 +474,6 @@ impl<'s, 'n> Walk<'s, 'n> {
         requires same { checks ≡ self.old.checks }
         ensures { Opened self.old self.new reads.old reads.new under below.new child result }
     {
-        let _schema = self.schema;
         // Only the contract speaks of the frame above.
         let _above = above;
         let mut at = child.at;
@@ -510,7 +506,6 @@ impl<'s, 'n> Walk<'s, 'n> {
         requires same { checks ≡ self.old.checks }
         ensures { FramesTurned self.old self.new reads.old reads.new under.start frames.old frames.new waiting result }
     {
-        let _schema = self.schema;
         let at = waiting as usize;
         let (low, room) = frames.split_at_mut(at + 1);
         let top = &mut low[at];
@@ -580,7 +575,6 @@ impl<'s, 'n> Walk<'s, 'n> {
         requires short { IsShort reads.old.count }
         ensures { Walked self.old self.new reads.old reads.new start frames.old waiting.old frames.new waiting.new result }
     {
-        let _schema = self.schema;
         self.walk_by(self.checks, reads, frames, waiting)
     }
 
@@ -593,7 +587,6 @@ impl<'s, 'n> Walk<'s, 'n> {
         requires top { waiting.old < length frames.old }
         ensures { Walked self.old self.new loan.old loan.new start frames.old waiting.old frames.new waiting.new result }
     {
-        let _schema = self.schema;
         if !allows_short(self.limits, loan.reads()) {
             return Turn::Slowly;
         }
