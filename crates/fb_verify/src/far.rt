@@ -200,17 +200,6 @@ impl<'s, 'n> Walk<'s, 'n> {
         }
     }
 
-    /// Whether the limits allow a union to be tested by itself and its word to be passed, and one more table to be
-    /// opened behind it, where so many are open: by thirteen reads at most.
-    #[inline(always)]
-    fn may_pass_union(&self, reads: &Reads<'_>, links: u32, room: u64) -> bool
-        requires few { IsShort reads.now.count }
-        ensures limits { result ≡ true → AllowsTable self.now links }
-        ensures room { result ≡ true → reads.now.count + 13 ≤ room }
-    {
-        self.allows_table(links) && reads.count() + 13 <= room
-    }
-
     /// Goes into the top's next field, which stands there and is a union, by the published checks: with what it refers
     /// to in registers, where no limit may be met.
     #[inline(never)]
@@ -232,7 +221,7 @@ impl<'s, 'n> Walk<'s, 'n> {
     {
         let schema = self.schema;
         let room = short_of(self.limits);
-        if !self.may_pass_union(reads, waiting + 1, room) {
+        if !self.may_open(reads, waiting + 1, 13, room) {
             return self.go_far_by_checks(reads, waiting, at, field, top, child);
         }
         let table = top.table;

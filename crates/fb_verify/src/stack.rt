@@ -168,15 +168,16 @@ impl<'s, 'n> Walk<'s, 'n> {
         reads.count() + 8 + 6 * left <= short_of(self.limits)
     }
 
-    /// Whether one more table may be opened, where so many are open, and eight reads may be made for it.
+    /// Whether one more table may be opened, where so many are open, and so many reads be made before that, up to so many
+    /// in all.
     #[inline(always)]
-    fn may_open(&self, reads: &Reads<'_>, links: u32) -> bool
+    pub fn may_open(&self, reads: &Reads<'_>, links: u32, cost: u64, room: u64) -> bool
+        requires cost { cost < 2 ^ 40 }
         requires few { IsShort reads.now.count }
         ensures limits { result ≡ true → AllowsTable self.now links }
-        ensures room { result ≡ true → AreAllowed (self.now.limits).reads (reads.now.count + 8) }
-        ensures short { result ≡ true → IsShort (reads.now.count + 8) }
+        ensures room { result ≡ true → reads.now.count + cost ≤ room }
     {
-        self.allows_table(links) && reads.count() + 8 <= short_of(self.limits)
+        self.allows_table(links) && reads.count() + cost <= room
     }
 
     /// The same, but for the reads.
@@ -254,7 +255,7 @@ impl<'s, 'n> Walk<'s, 'n> {
         ensures { RowTurned self.old self.new reads.old reads.new under (record top.old { row = row }) top.new child.new result }
     {
         let _schema = self.schema;
-        if !self.may_open(reads, waiting + 1) {
+        if !self.may_open(reads, waiting + 1, 8, short_of(self.limits)) {
             top.row = row;
             return Turn::Slowly;
         }
