@@ -43,7 +43,5 @@ pub fn walk_shallow(
 {
     let mut frames = [BLANK; 3];
     let frames = &mut frames;
-    walk_over(
-        meter, schema, root, start, ident, limits, checks, frames,
-    )
+    walk_over(meter, schema, root, start, ident, limits, checks, frames)
 }

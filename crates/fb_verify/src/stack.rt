@@ -1,11 +1,11 @@
 // The walk: a loop over the frames of the open tables, by reads that are lent once.
 
-ghost use Rattle.std.specs.Prelude.{[], ◌≡◌, ◌+◌, ◌*◌, ◌^◌, ◌<◌, ◌≤◌, max, min, length, List, map, take, slice_get, slice_index_or, IfOk, IfErr, IsTrue, Some, None, true};
+ghost use Rattle.std.specs.Prelude.{[], ◌≡◌, ◌+◌, ◌*◌, ◌^◌, ◌<◌, ◌≤◌, max, min, length, map, take, slice_get, slice_index_or, IsTrue, Some, None, true};
 ghost use Rattle.fb_schema.specs.{Rows.is_table, Live.Live, Live.live_fields, Steps.is_plain, Steps.step_of, Served.IsServed};
 ghost use Rattle.fb_rules.specs.{Bounds.AreAllowed, Told.way_at};
-ghost use Rattle.fb_verify.specs.{Flat.Going, Walked.TableWalked, Walked.ended};
+ghost use Rattle.fb_verify.specs.{Flat.Going};
 ghost use Rattle.fb_verify.specs.PassesOn.{IsBetween, HasRoom, Passage, PassesOn};
-ghost use Rattle.fb_verify.specs.Stack.{blank, Origin, Waiting, IsWalking, HaltsIn, links_left, opened};
+ghost use Rattle.fb_verify.specs.Stack.{blank, Origin, Waiting, IsWalking, opened};
 ghost use Rattle.fb_verify.specs.Turns.{IsShort, IsAtChild, IsAtStep, IsAtTableField, AllowsTable, IsAtWord, IsBrim, IsInRow, HasRoomToGo, RowTurned, FieldTurned, Turned, Opened, FramesTurned, RootTurned, Walked, Ran};
 ghost use Rattle.fb_rules.specs.declared.offset_row.Leads.TheVariants.{All};
 ghost use Rattle.fb_verify.specs.declared.stack.Turn.TheVariants.{Halt as Halted};

@@ -58,9 +58,7 @@ pub fn walk<A: Allocator>(
     ensures scratch { scratch.new ≡ scratch.old }
 {
     let frames = &mut scratch.frames;
-    walk_over(
-        meter, schema, root, start, ident, limits, checks, frames,
-    )
+    walk_over(meter, schema, root, start, ident, limits, checks, frames)
 }
 
 /// The same over these frames, and where it needs more than these over 64 of its own.
