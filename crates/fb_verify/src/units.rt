@@ -166,8 +166,8 @@ impl<'s, 'n> Walk<'s, 'n> {
         }
     }
 
-    /// Passes the first offset word that is left of the top table's field, and answers whether it leads to a table: such
-    /// a one is opened, and its frame is the first of the room then. So many frames wait below the top.
+    /// Passes the first offset word that is left of the top table's field, and answers whether it leads to a table,
+    /// which is opened: its frame is the first of the room then. So many frames wait below the top.
     fn pass_one(
         &mut self,
         loan: &mut Loan<'_>,

@@ -97,8 +97,8 @@ pub(crate) fn walk_over(
     }
 }
 
-/// The same by a loan, which can only read and count: from here on nothing seals the bytes. Where there is a fault, and these were enough for the depth limit,
-/// those are left whose links lead to it.
+/// The same by a loan, which can only read and count: from here on nothing seals the bytes. Where there is a fault, and
+/// these frames were enough for the depth limit, those are left whose links lead to it.
 #[inline(always)]
 pub(crate) fn trace(
     loan: &mut Loan<'_>,
