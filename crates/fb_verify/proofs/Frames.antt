@@ -1,6 +1,6 @@
 -- What frames keep, and what work is left to them.
-use Rattle.std.proofs.Common.{◌≡◌, ℕ, ◌+◌, ◌*◌, ◌^◌, ◌<◌, ◌≤◌, IsTrue, List, ◌++◌, length, map, take, option_map, sym, ◌∙◌, ap, subst, arith, Option, Some, Result, Ok, Err, IfOk, IfErr}
-use Rattle.std.specs.{Prelude.slice_get, Result.IsErrAnd, Borrow.Bor, Slice.IsItemAt}
+use Rattle.std.proofs.Common.{◌≡◌, ℕ, ◌+◌, ◌*◌, ◌^◌, ◌<◌, ◌≤◌, IsTrue, List, ◌++◌, length, map, take, option_map, sym, ◌∙◌, ap, subst, arith, Option, Some}
+use Rattle.std.specs.{Prelude.slice_get, Borrow.Bor, Slice.IsItemAt}
 use Rattle.std.proofs.lemmas.{List.length-map, List.take_at, Option.slice_get-get_or, Option.slice_get-map, Option.slice_get_within}
 use Rattle.fb_schema.specs.{Rows.Rows, Rows.is_table, Live.live_fields, Served.IsServed}
 use Rattle.fb_rules.specs.declared.{checks.Checks.Checks, table.Table.Table as TableOf, offset_row.Row.Row}
@@ -10,27 +10,9 @@ use Rattle.fb_rules.specs.OffsetRows.{past_first, IsRow, AreTypesNear}
 use Rattle.fb_verify.specs.Stack.{blank, opened, IsFrame, frame_work}
 use Rattle.fb_rules.proofs.Words.{row_on}
 
--- the exit of a `?`
-pub if_err_exit : {A E : Type 0} (r : Result A E) (x : E) (P : E → Type 0) → IsErrAnd r (λ e. e ≡ x) → P x → IfErr r P
-if_err_exit (Ok a) x P h p = tt
-if_err_exit (Err e) x P h p = subst P (sym h) p
-
-pub if_ok_exit : {A E : Type 0} (r : Result A E) (x : E) (P : A → Type 0) → IsErrAnd r (λ e. e ≡ x) → IfOk r P
-if_ok_exit (Ok a) x P h = absurd h
-if_ok_exit (Err e) x P h = tt
-
 -- as many items were written as there were
 pub as_many_kept : {A : Type 0} {n k : ℕ} (xs ys old : List A) → length xs ≡ length old → n ≡ length old → length old ≡ k → length (take n (xs ++ ys)) ≡ k
 as_many_kept {n = n} xs ys old same long all = ap length (take_at xs ys n (omega (arith, same, long))) ∙ same ∙ all
-
--- what holds of an answer, for what it tells
-pub if_ok_map : {A E : Type 0} {P Q : A → Type 0} (r : Result A E) → ((a : A) → P a → Q a) → IfOk r P → IfOk r Q
-if_ok_map (Ok a) f h = f a h
-if_ok_map (Err e) f h = tt
-
-pub if_err_map : {A E : Type 0} {P Q : E → Type 0} (r : Result A E) → ((e : E) → P e → Q e) → IfErr r P → IfErr r Q
-if_err_map (Ok a) f h = tt
-if_err_map (Err e) f h = f e h
 
 -- The fields that a schema lends are the live fields.
 

@@ -1,5 +1,5 @@
 -- A turn of the top, over the frames in which it stands.
-use Rattle.std.proofs.Common.{◌≡◌, ℕ, ◌+◌, ◌-◌, ◌^◌, ◌≤◌, ◌<◌, List, [], ◌∷◌, ◌++◌, length, take, min, get_or, refl, sym, ◌∙◌, ap, subst, arith, Option, Some, None, Result, Ok, Err, IfOk, IfSome, MatchOption}
+use Rattle.std.proofs.Common.{◌≡◌, ℕ, ◌+◌, ◌-◌, ◌^◌, ◌≤◌, ◌<◌, List, [], ◌∷◌, ◌++◌, length, take, min, get_or, refl, sym, ◌∙◌, ap, subst, arith, Option, Some, None, Result, Ok, Err}
 use Rattle.std.proofs.Math.ListN.{set, length-set}
 use Rattle.std.proofs.lemmas.List.{take-take, length-take, length-append}
 use Rattle.fb_bytes.specs.Word.{Lent}
@@ -7,7 +7,7 @@ use Rattle.fb_schema.specs.Live.{live_fields}
 use Rattle.fb_rules.specs.declared.{table.Child.Child, site.Halt.Halt, site.Stop.Stop, site.LastLink.TheVariants.Behind, site.LastLink.TheVariants.InField}
 use Rattle.fb_verify.specs.declared.{scratch.Frame.Frame, stack.Turn.Turn, stack.Walk.Walk}
 use Rattle.fb_verify.specs.declared.stack.Turn.TheVariants.{Down, Up, Slowly, Halt as Halted}
-use Rattle.fb_verify.specs.Stack.{blank, Origin, frame_work, work, Waiting, HaltsIn, IsWalking, IsStopped, IsStoppedBehind, IsOver}
+use Rattle.fb_verify.specs.Stack.{blank, Origin, frame_work, work, Waiting, IsWalking, IsStopped, IsStoppedBehind, IsOver}
 use Rattle.fb_verify.specs.Walked.{ended, TableWalked}
 use Rattle.fb_verify.specs.Turns.{GoesOn, GoesDown, Halts, WentOn, WentOver, WentWrong, Opened, Turned, FramesTurned, RootTurned, PassedField, FieldTurned, Walked, IsUnderWayOver, GoneOn, UsedUp, WentDeeper, Ran}
 use Rattle.fb_rules.specs.Told.{stopped}
@@ -164,17 +164,17 @@ module _ (w mid then : Walk) (m been new : Lent) (s : Origin) (tables deepest : 
       let k : WentWrong (record w { tables = tables; deepest = deepest }) been new s frames h = subst (λ (x : Walk). WentWrong x been new s frames h) kept e in
       record { deep = k.deep; err = rw bytes at k.err; bytes = k.bytes ∙ bytes }
 
-  pub gone_from : (frames : List Frame) (r : Result (Option ℕ) Halt) → GoneOn mid then been new s frames r → GoneOn w then m new s frames r
-  gone_from frames (Ok None) h = over_from h
-  gone_from frames (Ok (Some n)) h =
-      let k : UsedUp (record w { tables = tables; deepest = deepest }) then been new s frames n = subst (λ (x : Walk). UsedUp x then been new s frames n) kept h in
+  pub gone_from : (rows : List Frame) (r : Result (Option ℕ) Halt) → GoneOn mid then been new s rows r → GoneOn w then m new s rows r
+  gone_from rows (Ok None) h = over_from h
+  gone_from rows (Ok (Some n)) h =
+      let k : UsedUp (record w { tables = tables; deepest = deepest }) then been new s rows n = subst (λ (x : Walk). UsedUp x then been new s rows n) kept h in
       record { goes = k.goes; less = k.less; same = k.same; bytes = k.bytes ∙ bytes }
-  gone_from frames (Err h) e = wrong_from frames h e
+  gone_from rows (Err h) e = wrong_from rows h e
 
   -- over frames of its own, as these are used up
-  pub ran_deeper : {A : Type 0} (frames : List Frame) (r : Result A Halt) → length frames < (w.limits).depth → WentDeeper mid then been new s r → Ran w then m new s frames r
-  ran_deeper frames (Ok a) less h = over_from h
-  ran_deeper frames (Err h) less e = record { rows = e.0; wrong = wrong_from e.0 h e.1; along = λ room. absurd (omega (arith, less, room)) }
+  pub ran_deeper : {A : Type 0} (rows : List Frame) (r : Result A Halt) → length rows < (w.limits).depth → WentDeeper mid then been new s r → Ran w then m new s rows r
+  ran_deeper rows (Ok a) less h = over_from h
+  ran_deeper rows (Err h) less e = record { rows = e.0; wrong = wrong_from e.0 h e.1; along = λ room. absurd (omega (arith, less, room)) }
 
 module _ (w then : Walk) (m new : Lent) (s : Origin) where
   -- before the first turn

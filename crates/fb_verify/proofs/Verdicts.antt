@@ -1,5 +1,5 @@
 -- From the walk of the root table to the verdict.
-use Rattle.std.proofs.Common.{◌≡◌, ℕ, ◌+◌, ◌^◌, ◌<◌, ◌≤◌, IsTrue, inl, inr, List, [], length, refl, sym, ◌∙◌, ap, arith, Some, None}
+use Rattle.std.proofs.Common.{◌≡◌, ℕ, ◌+◌, ◌^◌, ◌<◌, ◌≤◌, IsTrue, inl, inr, List, [], ◌++◌, length, map, refl, sym, ◌∙◌, ap, arith, Some, None}
 use Rattle.fb_schema.specs.Rows.{is_table}
 use Rattle.fb_rules.specs.declared.{start.Ident.Ident, fault.Fault.Fault, fault.Report.Report, site.LastLink.LastLink, site.Site.Site, link.Link.Link}
 use Rattle.fb_verify.specs.declared.scratch.Frame.{Frame}
@@ -8,7 +8,7 @@ use Rattle.fb_rules.specs.{WellFormed.base, WellFormed.start_reads, Way.way_to_s
 use Rattle.fb_rules.specs.{Told.told, Told.way_at, MostReads.most_reads}
 use Rattle.fb_verify.specs.Sealed.{Sealed, IsUnfolded, asked_of}
 use Rattle.fb_rules.specs.Bounds.{Bounds}
-use Rattle.fb_verify.specs.{Walked.TableWalked, Walked.ended, Stack.HaltsAlong}
+use Rattle.fb_verify.specs.{Walked.TableWalked, Walked.ended, Stack.HaltsAlong, Stack.frame_link, Stack.last_link}
 use Rattle.fb_rules.specs.{Verdict.Reports, Verdict.HasNone, Stops.reads_failure, Stops.fault_at, Stops.Stops}
 use Rattle.fb_rules.specs.Order.{◌▷◌, start_failure}
 use Rattle.fb_rules.proofs.{Budgets.fewer_reads, Budgets.no_reads, Chains.start_none, Overruns.stops_nowhere}
@@ -56,6 +56,9 @@ module _ {q : Question} {b : List ℕ} where
   -- where frames lead to a fault, there is one
   pub fault_along : {frames : List Frame} {last : LastLink} {f : Fault} → HaltsAlong q b frames last f → Stops q b f
   fault_along h = let along = h.along in grind arith
+
+  pub links_along : {frames : List Frame} {last : LastLink} {f g : Fault} {c : List ℕ} {links : List Link} → HaltsAlong q b frames last f → g ≡ f → c ≡ b → links ≡ map (frame_link c q.rows) frames ++ last_link last g → StopsAlong q b g links
+  links_along h fault bytes is = rw (is, fault, bytes) h.along
 
   -- and no tree
   pub none_along : {frames : List Frame} {last : LastLink} {f : Fault} → HaltsAlong q b frames last f → HasNone q b

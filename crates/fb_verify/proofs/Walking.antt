@@ -7,14 +7,14 @@ use Rattle.fb_bytes.specs.Word.{Lent}
 use Rattle.fb_schema.specs.{Rows.Rows, Live.Live, Live.live_fields}
 use Rattle.fb_rules.specs.declared.{checks.Checks.Checks, offset_row.Row.Row, fault.Fault.Fault}
 use Rattle.fb_verify.specs.declared.scratch.Frame.{Frame}
-use Rattle.fb_rules.specs.declared.{link.Link.Link, site.Site.Site, site.Stop.Stop}
+use Rattle.fb_rules.specs.declared.{link.Link.Link, site.Site.Site}
 use Rattle.fb_verify.specs.declared.stack.Walk.{Walk}
 use Rattle.fb_rules.specs.{Bounds.Bounds, Bounds.AreAllowed, Fields.entries}
 use Rattle.fb_rules.specs.Cost.{own_reads, lead_reads}
 use Rattle.fb_verify.specs.Walked.{ended}
 use Rattle.fb_rules.specs.Links.{field_link, LeadsAlong}
 use Rattle.fb_verify.specs.{PassesOn.HasPassed, Stack.work, Units.PassesFields}
-use Rattle.fb_rules.specs.Told.{told, stopped}
+use Rattle.fb_rules.specs.Told.{told}
 use Rattle.fb_rules.specs.Order.{own_failure, element_failure, Failure, ◌▷◌}
 use Rattle.fb_rules.specs.OffsetRows.{words_of, first_word, past_first, IsLeafLead, IsRow, IsAskable}
 use Rattle.fb_verify.specs.Stack.{IsFrame, frame_work, reached, Origin, IsUnderWay, Standing, frame_link, link_to_number, own_link, IsLinked, StopsIn, blank, Waiting, IsWalking, IsStopped}

@@ -1,5 +1,5 @@
 -- What it takes to pass fields of the top of a walk, and what that leaves.
-use Rattle.std.specs.Prelude.{◌≡◌, ℕ, ◌+◌, ◌-◌, ◌*◌, ◌^◌, ◌<◌, ◌≤◌, Bool, true, false, Result, IfOk, IfErr, List, length, map, drop, slice_get, Some, Ok, Err}
+use Rattle.std.specs.Prelude.{◌≡◌, ℕ, ◌+◌, ◌-◌, ◌*◌, ◌^◌, ◌<◌, ◌≤◌, Bool, true, false, Result, List, length, map, drop, slice_get, Some, Ok, Err}
 use Rattle.fb_schema.specs.{Rows.Rows, Live.Live, Live.live_fields, Steps.act_of, Steps.step_of}
 use Rattle.fb_schema.specs.declared.{views.Act.TheVariants.Other, views.Step.Step}
 use Rattle.fb_bytes.specs.Word.{Lent}

@@ -123,6 +123,13 @@ pub record IsAtMember (w : Walk) (m : Lent) (under : Waiting) (waiting room : �
   pub allowed : AreAllowed (w.limits).reads room
   pub short : IsShort room
 
+-- a word is left of this row, and the limits allow a table behind it, for so many reads up to so many in all
+pub record HasWord (w : Walk) (m : Lent) (row : Row) (cost most : ℕ) : Type 0 where
+  pub more : 0 < row.left
+  pub fewer : w.tables < (w.limits).tables
+  pub small : (w.limits).tables < 2 ^ 32
+  pub room : m.count + cost ≤ most
+
 -- that word was passed
 pub record PassesMember (w then : Walk) (m new : Lent) (under : Waiting) (top past : Frame) (row left : Row) : Type 0 where
   pub on : GoesOn w then m new under (record top { row = row }) (record top { row = left })

@@ -75,7 +75,6 @@ impl Walk<'_, '_> {
         requires room { (self.old.limits).depth ≤ 64 }
         ensures { WentDeeper self.old self.new loan.old loan.new start result }
     {
-        let _schema = self.schema;
         let mut more = [BLANK; 64];
         let (first, _) = more.split_at_mut(frames.len());
         first.copy_from_slice(frames);

@@ -1,14 +1,13 @@
 // Fields that stand there and lead on by the words of a vector or by that of a union: these are put into a row, or
 // passed at once.
 
-ghost use Rattle.std.specs.Prelude.{◌≡◌, ◌+◌, ◌^◌, ◌<◌, ◌≤◌, IfSome, IsTrue, None, nat_lt, true, false};
-ghost use Rattle.fb_bytes.specs.Word.{word};
+ghost use Rattle.std.specs.Prelude.{◌≡◌, ◌+◌, ◌<◌, IfSome, IsTrue, None, nat_lt, true, false};
 ghost use Rattle.fb_schema.specs.declared.kinds.Kind.TheVariants.{Union};
 ghost use Rattle.fb_schema.specs.Live.{live_of_view};
 ghost use Rattle.fb_rules.specs.{Cost.present_reads, Cost.reads_at, Fields.entries_of, Fields.entries_at, Places.has_slot};
 ghost use Rattle.fb_rules.specs.{OffsetRows.MayPut, OffsetRows.LeavesRow, Order.failure_at, Order.present_failure, Plain.IsTested, Plain.place_from};
 ghost use Rattle.fb_verify.specs.Stack.{Waiting};
-ghost use Rattle.fb_verify.specs.Turns.{AllowsTable, IsAtFarField, IsAtOpenField, IsFar, IsShort, WordsPut, FieldTurned};
+ghost use Rattle.fb_verify.specs.Turns.{IsAtFarField, IsAtOpenField, IsFar, WordsPut, FieldTurned};
 
 use crate::leaves::NO_TARGETS;
 use crate::scratch::Frame;
@@ -133,7 +132,6 @@ impl Walk<'_, '_> {
         ensures tested { IsTested reads.old reads.new at.new (failure_at self.now.checks reads.old.bytes self.now.schema.now table.at (live_of_view field.now) (place_from table.at at.old)) (reads_at reads.old.bytes table.at (live_of_view field.now) (place_from table.at at.old)) result }
         ensures leads { result ≡ None → LeavesRow reads.old.bytes self.now.schema.now (entries_at reads.old.bytes self.now.schema.now table.at (live_of_view field.now) (place_from table.at at.old)) row.old row.new (nat_lt 0 row.new.left) }
     {
-        let _schema = self.schema;
         if *at == table.at {
             if field.required {
                 return fails(Reason::MissingRequired);
@@ -201,17 +199,6 @@ impl<'s, 'n> Walk<'s, 'n> {
         }
     }
 
-    /// Whether the limits allow a union to be tested by itself and its word to be passed, and one more table to be
-    /// opened behind it, where so many are open: by thirteen reads at most.
-    #[inline(always)]
-    fn may_pass_union(&self, reads: &Reads<'_>, links: u32, room: u64) -> bool
-        requires few { IsShort reads.now.count }
-        ensures limits { result ≡ true → AllowsTable self.now links }
-        ensures room { result ≡ true → reads.now.count + 13 ≤ room }
-    {
-        self.allows_table(links) && reads.count() + 13 <= room
-    }
-
     /// Goes into the top's next field, which stands there and is a union, by the published checks: with what it refers
     /// to in registers, where no limit may be met.
     #[inline(never)]
@@ -233,7 +220,7 @@ impl<'s, 'n> Walk<'s, 'n> {
     {
         let schema = self.schema;
         let room = short_of(self.limits);
-        if !self.may_pass_union(reads, waiting + 1, room) {
+        if !self.may_open(reads, waiting + 1, 13, room) {
             return self.go_far_by_checks(reads, waiting, at, field, top, child);
         }
         let table = top.table;

@@ -12,7 +12,7 @@ ghost use Rattle.fb_verify.specs.declared.stack.Turn.TheVariants.{Halt as Halted
 ghost use Rattle.fb_rules.specs.declared.site.LastLink.TheVariants.{Behind, InField};
 ghost use Rattle.fb_verify.specs.Flat.{in_head, frame_at, Going, MayPass, PassesFlat};
 ghost use Rattle.fb_verify.specs.PassesOn.{IsBetween, HasRoom, Passage, PassesOn, CameTo, steps_left};
-ghost use Rattle.fb_verify.specs.Turns.{IsAtMember, IsAtMembers, IsAtFlats, MemberTurned, RowTurned};
+ghost use Rattle.fb_verify.specs.Turns.{HasWord, IsAtMember, IsAtMembers, IsAtFlats, MemberTurned, RowTurned};
 
 use crate::leaves::{first_referent, stop_at_word, targets_of};
 use crate::scratch::Frame;
@@ -258,15 +258,13 @@ pub fn open_frame(
 }
 
 impl<'s, 'n> Walk<'s, 'n> {
-    /// Whether an offset word is left of a row, and the limits allow to open one more table, for so many reads at most.
+    /// Whether an offset word is left of a row, and the limits allow to pass it and to open one more table behind it,
+    /// for so many reads at most.
     #[inline(always)]
-    fn has_flat(&self, reads: &Reads<'_>, row: Row, cost: u64, room: u64) -> bool
+    fn has_word(&self, reads: &Reads<'_>, row: Row, cost: u64, room: u64) -> bool
         requires cost { cost < 2 ^ 40 }
         requires few { reads.now.count < 2 ^ 57 }
-        ensures more { result ≡ true → 0 < row.left }
-        ensures fewer { result ≡ true → self.now.tables < (self.now.limits).tables }
-        ensures small { result ≡ true → (self.now.limits).tables < 2 ^ 32 }
-        ensures room { result ≡ true → reads.now.count + cost ≤ room }
+        ensures { result ≡ true → HasWord self.now reads.now row cost room }
     {
         row.left > 0 && self.tables < tables_of(self.limits) && reads.count() + cost <= room
     }
@@ -296,7 +294,7 @@ impl<'s, 'n> Walk<'s, 'n> {
         let room = short_of(self.limits);
         let mut row = top.row;
         let mut passed = Passed::none(sizes);
-        while self.has_flat(reads, row, cost, room) {
+        while self.has_word(reads, row, cost, room) {
             let mut at = row.place;
             let failed = test_lead(reads, checks, &mut at, Referent::Table(object));
             if let Some(reason) = failed {
@@ -414,19 +412,6 @@ impl<'s, 'n> Walk<'s, 'n> {
         self.pass_flats_by_checks(reads, waiting, object, top)
     }
 
-    /// Whether an offset word is left of a row, and the limits allow to pass it and to open one more table behind it,
-    /// for so many reads at most.
-    #[inline(always)]
-    fn has_member(&self, reads: &Reads<'_>, row: Row, room: u64) -> bool
-        requires few { reads.now.count < 2 ^ 57 }
-        ensures more { result ≡ true → 0 < row.left }
-        ensures fewer { result ≡ true → self.now.tables < (self.now.limits).tables }
-        ensures small { result ≡ true → (self.now.limits).tables < 2 ^ 32 }
-        ensures room { result ≡ true → reads.now.count + 8 ≤ room }
-    {
-        row.left > 0 && self.tables < tables_of(self.limits) && reads.count() + 8 <= room
-    }
-
     /// Passes the first offset word of a row, with what it leads to, and answers `Up`; unless that is a table of which
     /// a field may lead on, or for whose fields there is no room up to so many reads: such a table is to be opened. The
     /// top is left with the row past that word, if it is to be opened or the walk stops. So many frames wait below it.
@@ -508,7 +493,7 @@ impl<'s, 'n> Walk<'s, 'n> {
             place: top.row.place,
             left: top.row.left,
         };
-        while self.has_member(reads, row, room) {
+        while self.has_word(reads, row, 8, room) {
             match self.pass_member(checks, reads, waiting, room, targets, &mut row, top, child) {
                 Turn::Up => {}
                 turn => return turn,

@@ -6,7 +6,7 @@ ghost use Rattle.fb_schema.specs.Rows.{is_table};
 ghost use Rattle.fb_rules.specs.{MostReads.most_reads, Question.question, Stops.Stops, Verdict.Reports, Verdict.HasNone};
 
 use crate::scratch::BLANK;
-use crate::verdict::walk_over;
+use crate::verdict::trace;
 use fb_bytes::Meter;
 use fb_rules::checks::Checks;
 use fb_rules::fault::{Fault, Report};
@@ -42,8 +42,20 @@ pub fn walk_shallow(
     ensures settled { meter.new.count < while_lent }
 {
     let mut frames = [BLANK; 3];
-    let frames = &mut frames;
-    walk_over(
-        meter, schema, root, start, ident, limits, checks, frames,
-    )
+    let mut loan = meter.lend();
+    let answer = trace(
+        &mut loan,
+        schema,
+        root,
+        start,
+        ident,
+        limits,
+        checks,
+        &mut frames,
+    );
+    meter.settle(loan);
+    match answer {
+        Ok(report) => Ok(report),
+        Err(halt) => Err(halt.stop.fault(meter)),
+    }
 }

@@ -1,11 +1,11 @@
 // The walk: a loop over the frames of the open tables, by reads that are lent once.
 
-ghost use Rattle.std.specs.Prelude.{[], ◌≡◌, ◌+◌, ◌*◌, ◌^◌, ◌<◌, ◌≤◌, max, min, length, List, map, take, slice_get, slice_index_or, IfOk, IfErr, IsTrue, Some, None, true};
+ghost use Rattle.std.specs.Prelude.{[], ◌≡◌, ◌+◌, ◌*◌, ◌^◌, ◌<◌, ◌≤◌, max, min, length, map, take, slice_get, slice_index_or, IsTrue, Some, None, true};
 ghost use Rattle.fb_schema.specs.{Rows.is_table, Live.Live, Live.live_fields, Steps.is_plain, Steps.step_of, Served.IsServed};
 ghost use Rattle.fb_rules.specs.{Bounds.AreAllowed, Told.way_at};
-ghost use Rattle.fb_verify.specs.{Flat.Going, Walked.TableWalked, Walked.ended};
+ghost use Rattle.fb_verify.specs.{Flat.Going};
 ghost use Rattle.fb_verify.specs.PassesOn.{IsBetween, HasRoom, Passage, PassesOn};
-ghost use Rattle.fb_verify.specs.Stack.{blank, Origin, Waiting, IsWalking, HaltsIn, links_left, opened};
+ghost use Rattle.fb_verify.specs.Stack.{blank, Origin, Waiting, IsWalking, opened};
 ghost use Rattle.fb_verify.specs.Turns.{IsShort, IsAtChild, IsAtStep, IsAtTableField, AllowsTable, IsAtWord, IsBrim, IsInRow, HasRoomToGo, RowTurned, FieldTurned, Turned, Opened, FramesTurned, RootTurned, Walked, Ran};
 ghost use Rattle.fb_rules.specs.declared.offset_row.Leads.TheVariants.{All};
 ghost use Rattle.fb_verify.specs.declared.stack.Turn.TheVariants.{Halt as Halted};
@@ -168,15 +168,16 @@ impl<'s, 'n> Walk<'s, 'n> {
         reads.count() + 8 + 6 * left <= short_of(self.limits)
     }
 
-    /// Whether one more table may be opened, where so many are open, and eight reads may be made for it.
+    /// Whether one more table may be opened, where so many are open, and so many reads may be made with it, up to so
+    /// many in all.
     #[inline(always)]
-    fn may_open(&self, reads: &Reads<'_>, links: u32) -> bool
+    pub fn may_open(&self, reads: &Reads<'_>, links: u32, cost: u64, room: u64) -> bool
+        requires cost { cost < 2 ^ 40 }
         requires few { IsShort reads.now.count }
         ensures limits { result ≡ true → AllowsTable self.now links }
-        ensures room { result ≡ true → AreAllowed (self.now.limits).reads (reads.now.count + 8) }
-        ensures short { result ≡ true → IsShort (reads.now.count + 8) }
+        ensures room { result ≡ true → reads.now.count + cost ≤ room }
     {
-        self.allows_table(links) && reads.count() + 8 <= short_of(self.limits)
+        self.allows_table(links) && reads.count() + cost <= room
     }
 
     /// The same, but for the reads.
@@ -220,7 +221,6 @@ impl<'s, 'n> Walk<'s, 'n> {
         requires same { checks ≡ self.old.checks }
         ensures { RowTurned self.old self.new reads.old reads.new under (record top.old { row = row }) top.new child.new result }
     {
-        let _schema = self.schema;
         let mut at = row.place;
         let failed = test_offset(reads, checks, &mut at);
         top.row = row;
@@ -255,7 +255,7 @@ impl<'s, 'n> Walk<'s, 'n> {
         ensures { RowTurned self.old self.new reads.old reads.new under (record top.old { row = row }) top.new child.new result }
     {
         let _schema = self.schema;
-        if !self.may_open(reads, waiting + 1) {
+        if !self.may_open(reads, waiting + 1, 8, short_of(self.limits)) {
             top.row = row;
             return Turn::Slowly;
         }
@@ -385,7 +385,6 @@ impl<'s, 'n> Walk<'s, 'n> {
         requires same { checks ≡ self.old.checks }
         ensures { FieldTurned self.old self.new reads.old reads.new under top.old top.new child.new result }
     {
-        let _schema = self.schema;
         if step.bit & Step::TO_TABLE != 0 {
             return self.go_to_table(checks, reads, waiting, at, step, top, child);
         }
@@ -449,7 +448,6 @@ impl<'s, 'n> Walk<'s, 'n> {
         requires same { checks ≡ self.old.checks }
         ensures { Turned self.old self.new reads.old reads.new under top.old top.new child.new result }
     {
-        let _schema = self.schema;
         if top.row.left > 0 {
             match self.pass_row(reads, waiting, top, child) {
                 Turn::Up => {}
@@ -477,7 +475,6 @@ impl<'s, 'n> Walk<'s, 'n> {
         requires same { checks ≡ self.old.checks }
         ensures { Opened self.old self.new reads.old reads.new under below.new child result }
     {
-        let _schema = self.schema;
         // Only the contract speaks of the frame above.
         let _above = above;
         let mut at = child.at;
@@ -510,7 +507,6 @@ impl<'s, 'n> Walk<'s, 'n> {
         requires same { checks ≡ self.old.checks }
         ensures { FramesTurned self.old self.new reads.old reads.new under.start frames.old frames.new waiting result }
     {
-        let _schema = self.schema;
         let at = waiting as usize;
         let (low, room) = frames.split_at_mut(at + 1);
         let top = &mut low[at];
@@ -580,7 +576,6 @@ impl<'s, 'n> Walk<'s, 'n> {
         requires short { IsShort reads.old.count }
         ensures { Walked self.old self.new reads.old reads.new start frames.old waiting.old frames.new waiting.new result }
     {
-        let _schema = self.schema;
         self.walk_by(self.checks, reads, frames, waiting)
     }
 
@@ -593,7 +588,6 @@ impl<'s, 'n> Walk<'s, 'n> {
         requires top { waiting.old < length frames.old }
         ensures { Walked self.old self.new loan.old loan.new start frames.old waiting.old frames.new waiting.new result }
     {
-        let _schema = self.schema;
         if !allows_short(self.limits, loan.reads()) {
             return Turn::Slowly;
         }

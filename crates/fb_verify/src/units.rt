@@ -1,15 +1,14 @@
 // The walk by single units, each with a question after it whether the budget allows its reads: it serves where a limit
 // may be met.
 
-ghost use Rattle.std.specs.Prelude.{◌≡◌, ◌+◌, ◌-◌, ◌*◌, ◌^◌, ◌<◌, ◌≤◌, max, min, length, take, slice_index_or, [], ◌∷◌, ◌++◌, IfOk, IfErr, IfSome, MatchOption, IsTrue, Some, None, true, false};
-ghost use Rattle.fb_schema.specs.{Live.live_of_view, Rows.is_table, Served.IsServed};
-ghost use Rattle.fb_rules.specs.{Bounds.AreAllowed, Cost.head_reads, Cost.own_reads, Cost.lead_reads, Fields.entries, Fields.to_table};
-ghost use Rattle.fb_rules.specs.{Stops.budget_failure, Stops.reads_failure, Stops.lead_reads_failure, Places.target};
+ghost use Rattle.std.specs.Prelude.{◌≡◌, ◌+◌, ◌-◌, ◌^◌, ◌<◌, ◌≤◌, max, min, length, take, slice_index_or, IfOk, Some, None, true, false};
+ghost use Rattle.fb_schema.specs.{Live.live_of_view, Served.IsServed};
+ghost use Rattle.fb_rules.specs.{Cost.head_reads, Cost.own_reads, Fields.entries};
 ghost use Rattle.fb_verify.specs.{PassesOn.IsBetween, Units.PassesFields, Units.TableOpened, Units.ElementPassed, Units.WordPassed, Units.UnitTurned};
-ghost use Rattle.fb_rules.specs.Order.{◌▷◌, head_failure, own_failure, element_failure};
-ghost use Rattle.fb_rules.specs.OffsetRows.{IsAskable, LeavesRow, first_word, IsRow, IsLeafLead};
-ghost use Rattle.fb_rules.specs.Told.{told, stopped, way_at, IsAskedAt, IsHead};
-ghost use Rattle.fb_verify.specs.Stack.{blank, Waiting, work, opened, IsWalking, IsAtTable, IsStoppedBehind, HaltsIn, links_left};
+ghost use Rattle.fb_rules.specs.Order.{head_failure, own_failure};
+ghost use Rattle.fb_rules.specs.OffsetRows.{IsAskable, LeavesRow, IsRow};
+ghost use Rattle.fb_rules.specs.Told.{IsAskedAt, IsHead};
+ghost use Rattle.fb_verify.specs.Stack.{blank, Waiting, opened, IsWalking};
 
 use crate::leaves::{first_referent, targets_of};
 use crate::scratch::Frame;
@@ -167,8 +166,8 @@ impl<'s, 'n> Walk<'s, 'n> {
         }
     }
 
-    /// Passes the first offset word that is left of the top table's field, and answers whether it leads to a table: such
-    /// a one is opened, and its frame is the first of the room then. So many frames wait below the top.
+    /// Passes the first offset word that is left of the top table's field, and answers whether it leads to a table,
+    /// which is opened: its frame is the first of the room then. So many frames wait below the top.
     fn pass_one(
         &mut self,
         loan: &mut Loan<'_>,

@@ -57,40 +57,16 @@ pub fn walk<A: Allocator>(
     ensures settled { meter.new.count < while_lent }
     ensures scratch { scratch.new ≡ scratch.old }
 {
-    let frames = &mut scratch.frames;
-    walk_over(
-        meter, schema, root, start, ident, limits, checks, frames,
-    )
-}
-
-/// The same over these frames, and where it needs more than these over 64 of its own.
-#[inline(always)]
-pub(crate) fn walk_over(
-    meter: &mut Meter<'_>,
-    schema: &Schema<'_>,
-    root: u32,
-    start: Start,
-    ident: Ident,
-    limits: Limits,
-    checks: Checks,
-    frames: &mut [Frame],
-) -> Result<Report, Fault>
-    requires fresh { meter.old.count ≡ 0 }
-    requires table { IsTrue (is_table schema.now root) }
-    requires some { min limits.depth 1 ≤ length frames.old }
-    requires room { limits.depth ≤ max 64 (length frames.old) }
-    ensures yes { IfOk result (λ r. Reports (question schema.now root start ident limits checks) meter.old.bytes r) }
-    ensures none { IfErr result (λ _. HasNone (question schema.now root start ident limits checks) meter.old.bytes) }
-    ensures no { IfErr result (λ f. Stops (question schema.now root start ident limits checks) meter.old.bytes f) }
-    ensures price { meter.new.count ≤ most_reads schema.now limits (length meter.old.bytes) }
-    ensures read { IfOk result (λ r. meter.new.count ≡ r.reads) }
-    ensures stopped { IfErr result (λ f. meter.new.count ≡ f.reads) }
-    ensures bytes { meter.new.bytes ≡ meter.old.bytes }
-    ensures settled { meter.new.count < while_lent }
-{
     let mut loan = meter.lend();
     let answer = trace(
-        &mut loan, schema, root, start, ident, limits, checks, frames,
+        &mut loan,
+        schema,
+        root,
+        start,
+        ident,
+        limits,
+        checks,
+        &mut scratch.frames,
     );
     meter.settle(loan);
     match answer {
@@ -99,7 +75,8 @@ pub(crate) fn walk_over(
     }
 }
 
-/// The same by a loan, which can only read and count: from here on nothing seals the bytes. Where there is a fault, and these were enough for the depth limit,
+/// The same over these frames, and where it needs more than these over 64 of its own, by a loan, which can only read
+/// and count: from here on nothing seals the bytes. Where there is a fault, and these were enough for the depth limit,
 /// those are left whose links lead to it.
 #[inline(always)]
 pub(crate) fn trace(

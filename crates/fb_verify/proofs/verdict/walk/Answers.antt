@@ -1,24 +1,16 @@
-use Rattle.std.proofs.Common.{length, refl, ◌∙◌, ap}
+use Rattle.std.proofs.Common.{length, refl, ◌∙◌, ap, rules}
 use Rattle.fb_verify.proofs.Frames.{as_many_kept}
 use Rattle.fb_verify.proofs.verdict.walk.Goals as goal
 
-pub returns : goal.returns
-returns g c =
-    let e = c.walk_over.ensures in
+pub returns-clause-read : goal.returns-clause-read
+returns-clause-read g c = search rules
+
+pub returns-clause-scratch : goal.returns-clause-scratch
+returns-clause-scratch g c =
     let frames = c.scratch.inside.frames in
-    record {
-      yes = e.yes;
-      none = e.none;
-      no = e.no;
-      price = e.price;
-      read = e.read;
-      stopped = e.stopped;
-      bytes = e.bytes;
-      settled = e.settled;
-      scratch = as_many_kept c.walk_over.new.frames _ frames.items (c.walk_over.auto.frames ∙ ap length c.deref_mut.ensures.value) frames.ok.0 c.scratch.view_is;
-    }
+    as_many_kept c.trace-answer.new.frames _ frames.items (c.trace-answer.auto.frames ∙ ap length c.deref_mut.ensures.value) frames.ok.0 c.scratch.view_is
 
 pub invariant_of-scratch : goal.invariant_of-scratch
 invariant_of-scratch g c =
     let frames = c.scratch.inside.frames in
-    rw (as_many_kept c.walk_over.new.frames _ frames.items (c.walk_over.auto.frames ∙ ap length c.deref_mut.ensures.value) frames.ok.0 refl) c.scratch.invariant
+    rw (as_many_kept c.trace-answer.new.frames _ frames.items (c.trace-answer.auto.frames ∙ ap length c.deref_mut.ensures.value) frames.ok.0 refl) c.scratch.invariant

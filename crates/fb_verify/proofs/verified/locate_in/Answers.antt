@@ -1,9 +1,9 @@
-use Rattle.std.proofs.Common.{◌≡◌, ℕ, ◌+◌, ◌≤◌, List, length, take, refl, sym, ◌∙◌, ap, subst, arith}
+use Rattle.std.proofs.Common.{◌≡◌, ℕ, ◌+◌, ◌≤◌, List, take, refl, sym, ◌∙◌, ap, subst, arith}
 use Rattle.std.specs.List.{All}
 use Rattle.fb_rules.specs.{Question.question, Stops.Stops, Told.stopped}
 use Rattle.fb_rules.proofs.Price.{reads_are_bounded}
 use Rattle.fb_verify.specs.Stack.{IsLinked}
-use Rattle.fb_verify.proofs.Verdicts.{price_of_yes, sealed_kept, unfolded}
+use Rattle.fb_verify.proofs.Verdicts.{links_along, price_of_yes, sealed_kept, unfolded}
 use Rattle.fb_verify.proofs.verified.locate_in.Goals as goal
 
 -- On numbers.
@@ -55,7 +55,7 @@ returns-in-Err c =
       kept = tt;
       none = rw lent at e.none;
       no = no;
-      along = rw (l.links, fault, bytes) (rw lent at (e.along (enough c.requires.room c.trace-answer.auto.frames)).along);
+      along = links_along (rw lent at (e.along (enough c.requires.room c.trace-answer.auto.frames))) fault bytes l.links;
       few = l.within;
       price_of_yes = tt;
       price_of_no = reads_are_bounded (question a.schema.now a.root a.start a.ident a.limits a.checks) a.meter.bytes _ no;

@@ -28,3 +28,6 @@ unreachable-requires g c =
 
 pub returns-in-Err : goal.returns-in-Err
 returns-in-Err g c = (_, c.in-Err.ensures)
+
+pub returns-in-Ok-None : goal.returns-in-Ok-None
+returns-in-Ok-None g c = rw (c.in-Ok-None.is, c.in-Ok-None.field-0-is) at c.go_on.ensures

@@ -60,12 +60,12 @@ pass_member-turn-requires g c =
     let none = c.in_default.is in
     let more : 0 < c.put_union-failed.new.row.left = omega (arith, c.if-row-eq0.false) in
     let one = c.put_union-failed.ensures.one none more in
-    let limits = c.if-not-may_pass_union.false in
+    let limits = c.if-not-may_open.false in
     let spent = few_spent c.requires.0 _ _ _ (tested g d) none in (
       record {
         in-row = (begins g d none more).row;
-        limits = c.may_pass_union.ensures.limits limits;
-        few = omega (arith, spent, c.may_pass_union.ensures.room limits);
+        limits = c.may_open.ensures.limits limits;
+        few = omega (arith, spent, c.may_open.ensures.room limits);
         allowed = c.short_of-room.ensures.allowed;
         short = c.short_of-room.ensures.short;
       },

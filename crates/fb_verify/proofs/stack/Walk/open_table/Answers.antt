@@ -37,3 +37,22 @@ returns-then-self-tables_of c = record {
   err = too_many c.args.self.now.limits c.args.site c.args.links c.args.self.now.tables c.args.self.now.deepest c.args.loan.now.count c.args.child.at _ (lt_of c.depth.ensures.value c.if-links-depth.false) (le_of c.tables_of.ensures c.if-self-tables_of.true);
   bytes = refl;
 }
+
+low_of : {n d : ℕ} → n < d → d ≤ 4096 → n < 4096
+low_of deep few = omega arith
+
+pub returns-in-Ok : goal.returns-in-Ok
+returns-in-Ok c =
+    let e = c.in-Ok.ensures in
+    let depth = c.depth.ensures in
+    let fewer = c.tables_of.ensures in
+    record {
+      allowed = record { deep = rw depth.value at c.if-links-depth.false; low = low_of c.if-links-depth.false depth.in_range; fewer = rw fewer at c.if-self-tables_of.false; small = rw fewer at c.tables_of.type_inv };
+      ok = e.asked.ok;
+      head = e.head;
+      table = refl;
+      reads = e.asked.reads;
+      opened = rw c.max-self.ensures refl;
+      counted = e.asked.counted;
+      bytes = e.asked.bytes;
+    }

@@ -49,8 +49,7 @@ returns-in_default-next_required g c =
     let all_fields : length fields ≡ length (live_fields c.args.self.now.schema.now (top.table).object) = omega (arith, length_map live_of_view fields, all) in
     let past : vtable_size c.loop-field.loan.bytes (top.table).at < (c.in-Some.field.now).slot + 2 = omega (arith, ltb-true _ _ (sym c.ends_before.ensures ∙ c.if-ends_before.true), ((((h.walking).frame).head).vtable).size) in
     let next = ((h.walking).frame).next in
-    let walking : IsWalking c.args.self.now c.loop-field.loan (g.under).start (g.under).frames (record top { next = length fields }) = rw (all_fields ∙ sym (long s)) (rest_absent s past (sym c.next_required.ensures ∙ c.in_default-next_required.is)) in
-    (
+    let walking : IsWalking c.args.self.now c.loop-field.loan (g.under).start (g.under).frames (record top { next = length fields }) = rw (all_fields ∙ sym (long s)) (rest_absent s past (sym c.next_required.ensures ∙ c.in_default-next_required.is)) in (
       record { between = record { walking = walking; rests = h.rests }; table = i.table; falls = omega (arith, i.falls, all_fields, next); grows = i.grows; bytes = i.bytes },
       omega (arith, all_fields),
     )

@@ -21,7 +21,7 @@ pub returns-in-Some : goal.returns-in-Some
 returns-in-Some g c child =
     let d = (goal.at.returns-in-Some g c).After-test_lead-failed in
     let i = (c.loop-schema.invariant).on in
-    let more = c.has_flat.ensures.more c.loop-schema-test.true in
+    let more = (c.has_word.ensures c.loop-schema-test.true).more in
     let new = c.test_lead-failed.new in
     let word = word_tells c.loop-schema.self i.walking c.args.object (leads g d) more new.reads.count new.at c.test_lead-failed.result (told g d) in
     rw c.stop.ensures.turn
@@ -32,7 +32,7 @@ paid : (g : _) (c : After-count_table g) → c.test_lead-failed.new.reads.count 
 paid g c = c.test_lead-failed.ensures.counted c.in_default.is
 
 room : (g : _) (c : After-count_table g) → c.loop-schema.reads.count + (8 + 6 * length c.steps_of-steps.result.now) ≤ c.short_of-room.result
-room g c = omega (arith, c.has_flat.ensures.room c.loop-schema-test.true)
+room g c = omega (arith, (c.has_word.ensures c.loop-schema-test.true).room)
 
 -- where its word holds, the table is counted
 counts : (g : _) (c : After-count_table g)
@@ -45,7 +45,7 @@ counts g c =
     let new = c.test_lead-failed.new in
     let none = c.in_default.is in
     let table = rw (sym (ap (λ (x : Walk). x.schema.now) i.same)) at (c.requires.0).table in
-    let at = at_flat w i.walking c.args.object (leads g d) (c.has_flat.ensures.more c.loop-schema-test.true) new.reads.count new.at c.test_lead-failed.result (told g d)
+    let at = at_flat w i.walking c.args.object (leads g d) ((c.has_word.ensures c.loop-schema-test.true).more) new.reads.count new.at c.test_lead-failed.result (told g d)
     none table (e.counted none) (e.value none c.args.object refl) (e.near none c.args.object refl) in
     record {
       on = i;
@@ -54,7 +54,7 @@ counts g c =
       at = rw e.bytes at;
       word = c.advance_all.ensures;
       many = omega (arith, (((c.requires.0).down).row).many);
-      fewer = c.has_flat.ensures.fewer c.loop-schema-test.true;
+      fewer = (c.has_word.ensures c.loop-schema-test.true).fewer;
       deep = ((c.requires.0).down).deep;
       low = ((c.requires.0).down).low;
       cheap = fewer_reads (c.args.self.now.limits).reads (new.reads.count + 3) c.short_of-room.result (omega (arith, paid g c, room g c)) c.short_of-room.ensures.allowed;
@@ -101,16 +101,16 @@ fewer_left : (row past : Row) → past ≡ past_first row → 0 < row.left → p
 fewer_left row past same more = omega (arith, ap (λ (x : Row). x.left) same)
 
 pub loop-schema-smaller : goal.loop-schema-smaller
-loop-schema-smaller g c = fewer_left _ _ c.advance_all.ensures (c.has_flat.ensures.more c.loop-schema-test.true)
+loop-schema-smaller g c = fewer_left _ _ c.advance_all.ensures ((c.has_word.ensures c.loop-schema-test.true).more)
 
 pub stop_at_word-stop-requires-clause-more : goal.stop_at_word-stop-requires-clause-more
-stop_at_word-stop-requires-clause-more g c = c.has_flat.ensures.more c.loop-schema-test.true
+stop_at_word-stop-requires-clause-more g c = (c.has_word.ensures c.loop-schema-test.true).more
 
 pub advance_all-requires-clause-more : goal.advance_all-requires-clause-more
-advance_all-requires-clause-more g c = c.has_flat.ensures.more c.loop-schema-test.true
+advance_all-requires-clause-more g c = (c.has_word.ensures c.loop-schema-test.true).more
 
 pub count_table-requires : goal.count_table-requires
-count_table-requires g c = record { few = few_tables (c.has_flat.ensures.fewer c.loop-schema-test.true) (c.has_flat.ensures.small c.loop-schema-test.true) }
+count_table-requires g c = record { few = few_tables ((c.has_word.ensures c.loop-schema-test.true).fewer) ((c.has_word.ensures c.loop-schema-test.true).small) }
 
 pub stop_in_flat-requires-clause-next : goal.stop_in_flat-requires-clause-next
 stop_in_flat-requires-clause-next g c = c.in-Some-came.ensures.passes.within

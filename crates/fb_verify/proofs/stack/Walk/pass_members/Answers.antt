@@ -45,13 +45,12 @@ loop-targets-init g c =
 pub pass_member-requires : goal.pass_member-requires
 pass_member-requires g c =
     let i = c.loop-targets.invariant in
-    let has = c.has_member.ensures in
-    let test = c.loop-targets-test.true in
+    let has = c.has_word.ensures c.loop-targets-test.true in
     let limits = ap (λ (x : Walk). x.limits) (i.on).same in (
       record {
-        in-row = record { many = ((c.requires.0).row).many; walking = (i.on).walking; more = has.more test; short = (i.on).short };
-        limits = record { deep = rw limits (c.requires.0).deep; low = (c.requires.0).low; fewer = has.fewer test; small = has.small test };
-        few = has.room test;
+        in-row = record { many = ((c.requires.0).row).many; walking = (i.on).walking; more = has.more; short = (i.on).short };
+        limits = record { deep = rw limits (c.requires.0).deep; low = (c.requires.0).low; fewer = has.fewer; small = has.small };
+        few = has.room;
         allowed = rw limits c.short_of-room.ensures.allowed;
         short = c.short_of-room.ensures.short;
       },
@@ -59,7 +58,7 @@ pass_member-requires g c =
     )
 
 pub loop-targets-smaller : goal.loop-targets-smaller
-loop-targets-smaller g c = fewer_left _ _ c.in-Up.ensures.word (c.has_member.ensures.more c.loop-targets-test.true)
+loop-targets-smaller g c = fewer_left _ _ c.in-Up.ensures.word (c.has_word.ensures c.loop-targets-test.true).more
 
 pub loop-targets-preserved : goal.loop-targets-preserved
 loop-targets-preserved g c =

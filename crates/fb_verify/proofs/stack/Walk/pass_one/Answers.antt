@@ -1,4 +1,4 @@
-use Rattle.std.proofs.Common.{◌≡◌, ℕ, ◌+◌, ◌<◌, ◌≤◌, min, refl, ap, arith}
+use Rattle.std.proofs.Common.{ℕ, ◌+◌, ◌<◌, ◌≤◌, min, refl, ap, arith}
 use Rattle.std.proofs.lemmas.List.{get_or-set_same}
 use Rattle.fb_verify.specs.{Stack.blank, Units.PassesLeaf, Units.LeadsToTable}
 use Rattle.fb_verify.proofs.{Frames.row_types_near, Walking.leaf_falls, Walking.leaf_passed, Walking.word_stops}

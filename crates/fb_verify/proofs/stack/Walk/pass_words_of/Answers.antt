@@ -1,4 +1,4 @@
-use Rattle.std.proofs.Common.{◌≡◌, ◌+◌, ◌*◌, refl, sym, ◌∙◌, ap, subst, arith}
+use Rattle.std.proofs.Common.{◌≡◌, ℕ, ◌+◌, ◌*◌, ◌≤◌, refl, sym, ◌∙◌, ap, subst, arith}
 use Rattle.fb_rules.specs.declared.offset_row.Row.{Row}
 use Rattle.fb_rules.specs.{Cost.lead_reads, Fields.Entry, Order.after, Order.element_failure, Plain.tested_by}
 use Rattle.fb_rules.specs.OffsetRows.{lead_to, first_word, past_first, leads_after, IsLeafLead}
@@ -59,3 +59,11 @@ loop-row-preserved g c =
       leads = ap (λ (x : Row). x.leads) row ∙ ap leads_after i.leads;
       paid = omega (arith, cost, few, i.paid, more, left);
     }
+
+nothing : {n : ℕ} → n ≤ 0 → n ≡ 0
+nothing h = omega arith
+
+pub returns-clause-rests : goal.returns-clause-rests
+returns-clause-rests g c =
+    let i = c.loop-row.invariant in
+    rw i.same (record { on = i.on; rests = nothing c.loop-row-test.false; next = refl })

@@ -1,7 +1,10 @@
-use Rattle.std.proofs.Common.{◌≡◌, ℕ, ◌+◌, ◌<◌, get_or, refl, sym, ◌∙◌, subst, arith}
+use Rattle.std.proofs.Common.{◌≡◌, ℕ, ◌+◌, ◌<◌, ◌≤◌, List, length, take, min, get_or, refl, sym, ◌∙◌, ap, subst, arith}
+use Rattle.std.proofs.lemmas.List.{length-take}
+use Rattle.fb_verify.specs.declared.scratch.Frame.{Frame}
 use Rattle.fb_verify.specs.Stack.{blank, IsWalking}
 use Rattle.fb_verify.proofs.Stacks.{top_is}
 use Rattle.fb_verify.proofs.Turning.{went_over, goes_above, goes_below, passed_work, stays_on, stops_behind, stops_in_field}
+use Rattle.fb_verify.proofs.stack.Walk.turn_by_units.Goals.{After-split_at_mut-low}
 use Rattle.fb_verify.proofs.stack.Walk.turn_by_units.Goals as goal
 
 -- The next word of the top is passed.
@@ -75,3 +78,29 @@ returns-in-Err-pass_each g c =
     (stops_in_field c.args.self.now c.args.self.now c.args.loan.now c.pass_each.new.loan g.under c.args.frames.now low high n (get_or low n blank) c.pass_each.new.top
     s.value s.front_len c.requires.0 (top_is c.args.frames.now low high n c.pass_each.new.top s.value s.front_len blank) high c.in-Err-pass_each.stop (c.requires.1.0).links c.in-Err-pass_each.ensures)
 
+-- What these calls need.
+
+nothing : {n : ℕ} → n ≤ 0 → n ≡ 0
+nothing h = omega arith
+
+-- so many frames wait
+many : (n : ℕ) {d : ℕ} (below frames : List Frame) → below ≡ take n frames → length below < d → min d (n + 2) ≤ length frames → n ≡ length below
+many n below frames same links room = omega (arith, ap length same, length-take n frames, links, room)
+
+room_left : (n d k : ℕ) {l : ℕ} → min d (n + 2) ≤ l → k + (n + 1) ≡ l → min d (n + 2) ≤ n + 1 + k
+room_left n d k a e = omega arith
+
+top_was : (g : _) (c : After-split_at_mut-low g) → IsWalking c.args.self.now c.args.loan.now (g.under).start (g.under).frames (get_or c.split_at_mut-low.result.0.now c.args.waiting blank)
+top_was g c =
+    let s = c.split_at_mut-low.ensures in
+    let top = top_is c.args.frames.now c.split_at_mut-low.result.0.now c.split_at_mut-low.result.1.now c.args.waiting blank s.value s.front_len blank in
+    subst (λ (x : Frame). IsWalking c.args.self.now c.args.loan.now (g.under).start (g.under).frames x) (sym top) c.requires.1.0
+
+pub pass_each-requires : goal.pass_each-requires
+pass_each-requires g c = (record { walking = top_was g (goal.at.pass_each-requires g c).After-split_at_mut-low; rests = nothing c.if-top-gt0.false }, c.requires.1.1.1)
+
+pub pass_one-requires : goal.pass_one-requires
+pass_one-requires g c =
+    let n = c.args.waiting in
+    let wait = many n (g.under).frames c.args.frames.now c.requires.0 (c.requires.1.0).links c.requires.1.1.0 in
+    (wait, (top_was g (goal.at.pass_one-requires g c).After-split_at_mut-low, (c.if-top-gt0.true, (room_left n _ _ c.requires.1.1.0 c.split_at_mut-low.ensures.back_len, c.requires.1.1.1))))

@@ -1,7 +1,7 @@
 use Rattle.std.proofs.Common.{sym, ◌∙◌, ap}
 use Rattle.fb_rules.specs.declared.fault.Fault.{Fault}
 use Rattle.fb_rules.specs.Told.{stopped}
-use Rattle.fb_verify.proofs.verdict.walk_over.Goals as goal
+use Rattle.fb_verify.proofs.shallow.walk_shallow.Goals as goal
 
 pub returns-in-Ok : goal.returns-in-Ok
 returns-in-Ok c =
