@@ -52,13 +52,7 @@ sofar_nothing job reader carry turns ready is = record {
 
 -- nothing was read or written, and then there was no memory
 fails_empty : (job : Job) (ends : Ends) → FailsStream job ends ends no_tally run.OutOfMemory
-fails_empty job ends = record {
-  bytes = [];
-  text = silent;
-  read = Consumes-nil ends.reader.left;
-  takes = takes_nothing ends.outs;
-  rests = rests_memory job no_tally [] [] [] silent (tells_nothing job);
-}
+fails_empty job ends = record { bytes = []; text = silent; read = Consumes-nil ends.reader.left; takes = takes_nothing ends.outs; rests = rests_memory job no_tally [] [] [] silent (tells_nothing job) }
 
 -- with nothing that waits, what was told is all that was written
 pub told_empty : (job : Job) (stand : Standing) (bytes : List ℕ) (text : Texts) → stand.text ≡ silent → Tells job bytes text stand.tally stand.held
@@ -133,41 +127,6 @@ ends_answer first now turns tally (Err fault) answer is ends = rw is ends
 pub runs_from : {job : Job} {before after : Ends} {turns tells tells' : ℕ} {tally : Tally} {end : End} {from which : Bool} → from ≡ which
     → Runs from job before after turns tells tells' tally end → Runs which job before after turns tells tells' tally end
 runs_from {job} {before} {after} {turns} {tells} {tells'} {tally} {end} is runs = subst (λ b. Runs b job before after turns tells tells' tally end) is runs
-
--- a part of a message isn't whole
-pub none_held : (limit : ℕ) (held : List ℕ) → IsPartial limit held → (held ≡ []) ⊎ IsMessage limit held → held ≡ []
-none_held limit held part (inl none) = none
-none_held limit held part (inr is) = absurd (omega (arith, is.whole, (part is.prefixed).0))
-
-module _ {job : Job} {first now : Reader} {before here : Carry} {turns left : ℕ} (sofar : Sofar job first now before here turns left) (few : turns ≤ 2 ^ 32) (last : Reader) where
-  runs_now : {end : End} → last.calls ≤ first.calls + turns → IsStreamRun job (beside first before.outs) (beside last here.outs) here.stand.tally end
-      → EndsBeside (beside first before.outs) (beside last here.outs) turns end → Runs false job (beside first before.outs) (beside last here.outs) turns before.tells here.tells here.stand.tally end
-  runs_now calls run end = record { run = run; end_is = end; pushes = omega (arith, sofar.grows.1, sofar.fewer, few); turns_are = calls }
-
-  -- all of it was told
-  pub runs_whole : last.calls ≤ first.calls + turns → here.stand.held ≡ [] → Consumes now.left last.left [] → last.failures ≡ now.failures → last.ended ≡ true
-      → Runs false job (beside first before.outs) (beside last here.outs) turns before.tells here.tells here.stand.tally (Ok tt)
-  runs_whole calls none read same ended =
-      let (messages, splits, lines) = sofar.told in
-      runs_now calls
-      (record {
-        bytes = sofar.bytes;
-        messages = messages;
-        text = sofar.text;
-        read = rw (append-nil sofar.bytes) at (Consumes-trans first.left now.left last.left sofar.bytes [] sofar.read read);
-        splits = subst (Splits job.limit sofar.bytes messages) none splits;
-        told = lines;
-        takes = sofar.writes.takes;
-      })
-      ((same ∙ sofar.asks.0, sofar.unfailed.0, sofar.unfailed.1), ended)
-
-  -- or the run came to rest with all messages told
-  pub runs_fails : (fault : RunFault) → last.calls ≤ first.calls + turns → Consumes first.left last.left sofar.bytes
-      → WhyStream job sofar.bytes sofar.told.0 here.stand.held sofar.text here.stand.tally fault
-      → EndsBeside (beside first before.outs) (beside last here.outs) turns (Err fault) → Runs false job (beside first before.outs) (beside last here.outs) turns before.tells here.tells here.stand.tally (Err fault)
-  runs_fails fault calls read why end =
-      runs_now calls
-      (record { bytes = sofar.bytes; text = sofar.text; read = read; takes = sofar.writes.takes; rests = (sofar.told.0, here.stand.held, sofar.told.1, why) }) end
 
 -- the exit of a `?`
 pub err_exit : {A E : Type 0} (answer : Result A E) (x : E) (P : Result A E → Type 0) → IsErrAnd answer (λ e. e ≡ x) → P (Err x) → P answer

@@ -13,11 +13,11 @@ use Rattle.fb_lines.specs.declared.{tally.Tally.Tally, fault.RunFault.RunFault}
 use Rattle.fb_lines.specs.declared.fault.RunFault.TheVariants as run
 use Rattle.fb_lines.proofs.Pieces.{front-more}
 use Rattle.fb_run.specs.Run.{Runs}
-use Rattle.fb_run.specs.Stream.{Carry, FailsStream, Gathers, Halts, HaltsThrough, IsFeedFault, Onward, OnwardThrough, Passes, PassesHeld, Rests, Standing, StopsAmid, StopsHeld, StopsPiece, StopsUsing, StopsWriting, Tells, TellsSome, Uses, UsesBy, with_written}
+use Rattle.fb_run.specs.Stream.{Carry, FailsStream, Gathers, Halts, HaltsThrough, IsFeedFault, Onward, OnwardThrough, Passes, PassesHeld, Rests, Standing, StopsAmid, StopsHeld, StopsPiece, StopsUsing, Tells, TellsSome, Uses, UsesBy, with_written}
 use Rattle.fb_run.proofs.RunLemmas.{Sofar, caused_then, fails_write, told_empty}
 use Rattle.fb_run.proofs.TextsLemmas.{followed_assoc, followed_silent}
 use Rattle.fb_run.proofs.StreamLemmas.{gathers_front, gathers_used, halts_memory, onward_line}
-use Rattle.fb_run.proofs.TakesLemmas.{takes_none, takes_nothing, takes_then, writes_then}
+use Rattle.fb_run.proofs.TakesLemmas.{takes_none, takes_then, writes_nothing, writes_then}
 
 -- a message was whole and its line came through
 pub through_line : (job : Job) (before after : Standing) (old new : Framing) (piece message : List ℕ) (used : ℕ) (whole : Bool) (s s' : Option (List ℕ))
@@ -66,19 +66,6 @@ through_stops job before old new piece message used whole tally' s s' (run.Write
     )
 through_stops job before old new piece message used whole tally' s s' _ none limit held feeds at is (verdict, line, told, never, counted) = absurd never
 
--- a write came to rest in what is told in the piece
-stops_here : {job : Job} {before : Standing} {piece : List ℕ} {tally : Tally} {a c : Outs} {fault : RunFault} (text : Texts) (written : Sizes) → Gathers job before piece text tally
-    → written.out ≡ before.written.out → written.notes ≡ before.written.notes → WritesFronts text a c written fault → StopsWriting job before piece tally a c fault
-stops_here {a = a} text written gathers same noted within = record {
-  front = silent;
-  text = text;
-  gathers = gathers;
-  between = a;
-  written = written;
-  writes = record { takes = takes_nothing a; written_is = omega (arith, same); noted_is = omega (arith, noted) };
-  within = within;
-}
-
 -- the message that was held was passed, with nothing noted
 pub passes_held : {job : Job} {piece : List ℕ} {before : Carry} {stand : Standing} {framer : Framing} {room : Beside} {writer : Writer} {calls : ℕ} (used : ℕ) (rest : List ℕ)
     → rest ≡ drop used piece → PassesHeld job piece used before.stand stand framer room before.outs.writer writer before.writes calls
@@ -112,27 +99,27 @@ stops_held {job} {piece} {before} {stand} {writer = writer} {fault = fault} held
 
     amid : (f : RunFault) → HaltsThrough job before.stand piece stand.tally before.outs.writer.bytes writer.bytes f → StopsAmid job before.stand piece stand.tally before.outs after f
     amid (run.WriteFault written) (text, gathers, within) =
-        inl (stops_here text before.stand.written gathers refl refl (within, Keeps-refl before.outs.notes.bytes))
+        inl record {
+          front = silent;
+          text = text;
+          gathers = gathers;
+          between = before.outs;
+          written = before.stand.written;
+          writes = writes_nothing before.outs before.stand.written;
+          within = (within, Keeps-refl before.outs.notes.bytes);
+        }
     amid f halts = still f halts
 
 module _ {job : Job} {piece rest : List ℕ} {before mid : Carry} {least : ℕ} (first : Passes job piece rest before mid least) where
   -- what comes of the rest, up to where one looks, comes of the piece up to there
-  goes_on : (P : List ℕ → Texts → Type 0) (more : List ℕ) (text : Texts)
+  goes_on : (P : List ℕ → Texts → Type 0) {more all : List ℕ} (text : Texts) → all ≡ first.front ++ more
       → ((bytes : List ℕ) (written : Texts) → Tells job bytes (followed written mid.stand.text) mid.stand.tally mid.stand.held → P (bytes ++ more) (followed written text))
-      → (bytes : List ℕ) (written : Texts) → Tells job bytes (followed written before.stand.text) before.stand.tally before.stand.held
-      → P (bytes ++ (first.front ++ more)) (followed written (followed first.text text))
-  goes_on P more text second bytes written tells =
+      → (bytes : List ℕ) (written : Texts) → Tells job bytes (followed written before.stand.text) before.stand.tally before.stand.held → P (bytes ++ all) (followed written (followed first.text text))
+  goes_on P {more} {all} text at second bytes written tells =
       let begun : Tells job (bytes ++ first.front) (followed (followed written first.text) mid.stand.text) mid.stand.tally mid.stand.held =
       subst (λ (t : Texts). Tells job (bytes ++ first.front) t mid.stand.tally mid.stand.held) (sym (followed_assoc written first.text mid.stand.text)) (first.onward bytes written tells) in
-      subst (P (bytes ++ (first.front ++ more))) (followed_assoc written first.text text)
-      (subst (λ (l : List ℕ). P l (followed (followed written first.text) text)) (append_assoc bytes first.front more) (second (bytes ++ first.front) (followed written first.text) begun))
-
-  goes_through : (P : List ℕ → Texts → Type 0) (text : Texts)
-      → ((bytes : List ℕ) (written : Texts) → Tells job bytes (followed written mid.stand.text) mid.stand.tally mid.stand.held → P (bytes ++ rest) (followed written text))
-      → (bytes : List ℕ) (written : Texts) → Tells job bytes (followed written before.stand.text) before.stand.tally before.stand.held
-      → P (bytes ++ piece) (followed written (followed first.text text))
-  goes_through P text second bytes written tells =
-      subst (λ (l : List ℕ). P (bytes ++ l) (followed written (followed first.text text))) (sym first.whole) (goes_on P rest text second bytes written tells)
+      subst (P (bytes ++ all)) (followed_assoc written first.text text)
+      (subst (λ (l : List ℕ). P l (followed (followed written first.text) text)) (append_assoc bytes first.front more ∙ ap (λ l. bytes ++ l) (sym at)) (second (bytes ++ first.front) (followed written first.text) begun))
 
   -- n bytes more were passed, and all that is told of them is written
   pub passes_more : {stand : Standing} {framer : Framing} {room : Beside} {text : Texts} {tally : Tally} {written : Sizes} {outs : Outs} {writes tells most : ℕ} (n k : ℕ) (rest' : List ℕ) → rest' ≡ drop n rest
@@ -149,7 +136,7 @@ module _ {job : Job} {piece rest : List ℕ} {before mid : Carry} {least : ℕ} 
         whole = front-more piece first.front rest rest' n first.whole at;
         onward = subst (λ (t : Texts). Onward job before.stand (first.front ++ take n rest) (record { text = t; tally = tally; held = stand.held; written = written }))
             (sym (ap (λ t. followed told t) none ∙ followed_silent told))
-            (goes_on (λ l t. Tells job l t tally stand.held) (take n rest) stand.text (subst (λ (k : Tally). Onward job mid.stand (take n rest) (record stand { tally = k })) (sym counted) uses.onward));
+            (goes_on (λ l t. Tells job l t tally stand.held) stand.text refl (subst (λ (k : Tally). Onward job mid.stand (take n rest) (record stand { tally = k })) (sym counted) uses.onward));
         writes = writes_then first.text stand.text before.outs mid.outs outs before.stand.written mid.stand.written _ first.writes
             (record { takes = takes; written_is = out ∙ ap (λ k. k + length stand.text.out) uses.written; noted_is = notes ∙ ap (λ k. k + length stand.text.notes) uses.noted });
         ready = uses.ready;
@@ -168,7 +155,7 @@ module _ {job : Job} {piece rest : List ℕ} {before mid : Carry} {least : ℕ} 
           stops = inl record {
             front = first.text;
             text = stand.text;
-            gathers = rw counted (goes_through (λ l t. TellsSome job l t stand.tally) stand.text some.0);
+            gathers = rw counted (goes_on (λ l t. TellsSome job l t stand.tally) stand.text first.whole some.0);
             between = mid.outs;
             written = stand.written;
             writes = record { takes = first.writes.takes; written_is = some.1 ∙ first.writes.written_is; noted_is = some.2 ∙ first.writes.noted_is };
@@ -183,7 +170,7 @@ module _ {job : Job} {piece rest : List ℕ} {before mid : Carry} {least : ℕ} 
     stops_used stops takes unfailed = record {
       stops = inr (
         followed first.text stand.text,
-        rw counted (goes_through (λ l t. Rests job l t stand.tally fault) stand.text stops.halts),
+        rw counted (goes_on (λ l t. Rests job l t stand.tally fault) stand.text first.whole stops.halts),
         takes_then before.outs mid.outs after.outs first.text stand.text first.writes.takes takes,
       );
       cause = feed_caused before.outs after.outs fault stops.kind (unfailed.0 ∙ first.unfailed.0, unfailed.1 ∙ first.unfailed.1);

@@ -1,6 +1,4 @@
 use Rattle.std.proofs.Common.{arith, rules, ap, length, refl, sym, subst, take, true, false, Err, ◌≡◌, ◌≤◌, ◌+◌, ◌∙◌}
-use Rattle.std.proofs.KnownBytes.{Consumes-kept}
-use Rattle.fb_bytes.specs.Messages.{IsPartial}
 use Rattle.fb_run.specs.{Leave.ends_of, Leave.reader_of, Run.Runs, Stream.Standing, Stream.carry_of}
 use Rattle.fb_run.proofs.{ThroughLemmas.fails_piece, ThroughLemmas.sofar_piece}
 use Rattle.fb_run.proofs.RunLemmas.{err_is, runs_from, sofar_nothing}
@@ -40,15 +38,3 @@ returns-in_err-pass_piece g c =
     let stops = rw c.as_slice.ensures.value at c.in_err-pass_piece.ensures in
     rw (err_is _ _ c.from_residual-in_err-pass_piece.ensures.1)
     (runs_from (sym c.if-is_bare.false ∙ c.is_bare.ensures) (fails_piece c.loop-left.invariant.sofar _ _ (reader_of g.S.Input c.pull_piece.new.source) c.loop-left-test.true read.ok read.counted (omega (arith, read.failure)) c.requires.turns stops))
-
-pub returns-in-Ok-eq0 : goal.returns-in-Ok-eq0
-returns-in-Ok-eq0 g c = search rules
-
-pub returns-in_err-finish-in-Ok-eq0 : goal.returns-in_err-finish-in-Ok-eq0
-returns-in_err-finish-in-Ok-eq0 g c = search rules
-
-pub returns-in-Err : goal.returns-in-Err
-returns-in-Err g c = search rules
-
-pub returns : goal.returns
-returns g c = search rules

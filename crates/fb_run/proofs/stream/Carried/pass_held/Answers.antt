@@ -1,9 +1,10 @@
-use Rattle.std.proofs.{Common.ap, Common.arith, Common.refl, Common.rules, KnownBytes.Appends-nil, KnownBytes.Keeps-refl}
-use Rattle.fb_bytes.specs.Framing.{Framing}
-use Rattle.fb_lines.specs.Ends.{Outs, writer_of}
+use Rattle.std.proofs.Common.{[], ap, arith, refl, rules, ◌∙◌}
+use Rattle.std.proofs.{KnownBytes.Appends-nil, KnownBytes.Keeps-refl}
+use Rattle.fb_bytes.specs.{Framing.Framing, Messages.IsPartial}
+use Rattle.fb_lines.specs.{Ends.Outs, Ends.writer_of, Texts.no_bytes}
 use Rattle.fb_run.specs.Stream.{HeldBy, standing}
 use Rattle.fb_run.proofs.RunLemmas.{err_exit}
-use Rattle.fb_run.proofs.StreamLemmas.{feed_stops, still_ready}
+use Rattle.fb_run.proofs.StreamLemmas.{feed_stops, onward_held}
 use Rattle.fb_run.proofs.ThroughLemmas.{feed_caused, through_halts, through_line, through_stops}
 use Rattle.fb_run.proofs.stream.Carried.pass_held.Goals as goal
 
@@ -15,6 +16,21 @@ returns-in_err-taken g c =
       halts = through_halts _ before c.args.piece.now _ _ before.text before.tally _ stops.1 c.requires.empty (Keeps-refl _) stops.0;
       cause = λ notes. let outs : Outs = record { writer = writer_of g.K.Sink c.args.writer.now; notes = notes } in feed_caused outs outs _ stops.1 (refl, refl);
     })
+
+pub returns-in_default : goal.returns-in_default
+returns-in_default g c =
+    let feeds = c.in_ok-taken.ensures.ok in
+    let part : IsPartial c.feed.new.self.limit c.feed.new.self.held = search rules in
+    record {
+      within = feeds.within;
+      onward = record { front = []; onward = onward_held (standing c.args.self.now) no_bytes c.requires.ready.limit refl feeds part; wrote = Appends-nil _; written_is = omega arith };
+      ready = record { fits = c.requires.ready.fits; fine = feeds.fine.1; limit = feeds.limit ∙ c.requires.ready.limit; short = rw feeds.limit c.requires.ready.short; part = part };
+      few = omega arith;
+      unfailed = refl;
+      little = omega arith;
+      calls_are = omega arith;
+      noted = refl;
+    }
 
 pub returns-in_err-add_through : goal.returns-in_err-add_through
 returns-in_err-add_through g c =

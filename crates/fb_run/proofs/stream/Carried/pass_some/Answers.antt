@@ -45,7 +45,7 @@ returns-in_default-message g c =
       within = feeds.within;
       some = search rules;
       onward = onward_held (standing c.args.self.now) no_bytes c.requires.ready.limit refl feeds part;
-      ready = search rules;
+      ready = record { fits = c.requires.ready.fits; fine = feeds.fine.1; limit = feeds.limit ∙ c.requires.ready.limit; short = rw feeds.limit c.requires.ready.short; part = part };
       few = omega arith;
       written = refl;
       noted = refl;
