@@ -110,22 +110,13 @@ fn put_begin<A: Allocator>(
     ensures { OnOk result (text.new.items ≡ text.old.items ++ begin_part (option_map (λ f. f.items) file.now) number) }
 {
     match file {
-        Some(file) => put_begin_of(text, file, number),
+        Some(file) => {
+            put(text, b"{\"file\":")?;
+            put_text(text, file)?;
+            put_number(text, b",\"message\":", number)
+        }
         None => put_number(text, b"{\"message\":", number),
     }
-}
-
-/// The same, where the input has a name.
-fn put_begin_of<A: Allocator>(
-    text: &mut Vec<u8, A>,
-    file: &[u8],
-    number: u64,
-) -> Result<(), AllocError>
-    ensures { OnOk result (text.new.items ≡ text.old.items ++ begin_part (Some file.now) number) }
-{
-    put(text, b"{\"file\":")?;
-    put_text(text, file)?;
-    put_number(text, b",\"message\":", number)
 }
 
 /// Adds what a yes counted.
@@ -201,18 +192,13 @@ fn put_place<A: Allocator>(text: &mut Vec<u8, A>, place: Option<&[u8]>) -> Resul
     ensures { OnOk result (text.new.items ≡ text.old.items ++ following (place_member (option_map (λ p. p.now) place.entry))) }
 {
     match place {
-        Some(place) => put_place_of(text, place),
+        Some(place) => {
+            put(text, b",\"place\":")?;
+            put_text(text, place)?;
+            put(text, b"}")
+        }
         None => put(text, b"}"),
     }
-}
-
-/// The same, where there is one.
-fn put_place_of<A: Allocator>(text: &mut Vec<u8, A>, place: &[u8]) -> Result<(), AllocError>
-    ensures { OnOk result (text.new.items ≡ text.old.items ++ following (place_member (Some place.now))) }
-{
-    put(text, b",\"place\":")?;
-    put_text(text, place)?;
-    put(text, b"}")
 }
 
 /// Adds a comma, behind a value.
