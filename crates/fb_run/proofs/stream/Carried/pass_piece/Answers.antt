@@ -28,12 +28,6 @@ fronts-preserved g c =
     (omega (arith, c.flush.ensures.pushes, much), omega (arith, c.flush.ensures.mentions, much), omega (arith, flushed.written, much), omega (arith, flushed.noted, much))
     (omega (arith, length-drop n c.fronts.rest.now, more, uses.some (omega (arith, more)), ap length before.whole, length-append before.front c.fronts.rest.now))
 
-pub fronts-smaller : goal.fronts-smaller
-fronts-smaller g c =
-    let uses = c.in_ok-rest.ensures.uses in
-    let more : c.in_ok-rest.field-0 < length c.fronts.rest.now = search rules in
-    omega (arith, length-drop c.in_ok-rest.field-0 c.fronts.rest.now, more, uses.some (omega (arith, more)))
-
 pub slice_bounds-rest-start-in-fronts : goal.slice_bounds-rest-start-in-fronts
 slice_bounds-rest-start-in-fronts g c = omega (arith, c.in_ok-rest.ensures.uses.within)
 
