@@ -10,21 +10,11 @@ use Rattle.fb_lines.specs.declared.fault.RunFault.TheVariants as run
 
 -- nothing waited, and what came was written
 pub behind_written : {w a w' : List ℕ} {s s' : Option (List ℕ)} {b b' : ℕ} → w ≡ [] → w' ≡ [] → Appends s s' a → b' ≡ b + length a → ComesBehind w a w' s s' b b'
-behind_written {a = a} none none' wrote count = record {
-  front = a;
-  whole = ap (λ l. l ++ a) none ∙ sym (append-nil a) ∙ ap (λ l. a ++ l) (sym none');
-  wrote = wrote;
-  written_is = count;
-}
+behind_written {a = a} none none' wrote count = record { front = a; whole = ap (λ l. l ++ a) none ∙ sym (append-nil a) ∙ ap (λ l. a ++ l) (sym none'); wrote = wrote; written_is = count }
 
 -- what waited was written
 pub behind_flushed : {w w0 w' : List ℕ} {s s' : Option (List ℕ)} {b b' : ℕ} → w0 ≡ w → w' ≡ [] → Appends s s' w0 → b' ≡ b + length w0 → ComesBehind w [] w' s s' b b'
-behind_flushed {w0 = w0} same none wrote count = record {
-  front = w0;
-  whole = ap (λ l. l ++ []) (sym same) ∙ ap (λ l. w0 ++ l) (sym none);
-  wrote = wrote;
-  written_is = count;
-}
+behind_flushed {w0 = w0} same none wrote count = record { front = w0; whole = ap (λ l. l ++ []) (sym same) ∙ ap (λ l. w0 ++ l) (sym none); wrote = wrote; written_is = count }
 
 -- two texts
 pub behind_more : {w a w' c w'' : List ℕ} {s s' s'' : Option (List ℕ)} {b b' b'' : ℕ} → ComesBehind w a w' s s' b b' → ComesBehind w' c w'' s' s'' b' b''

@@ -21,12 +21,7 @@ puts_none q = record { behind = record { front = []; whole = append-nil q.waits;
 
 -- and so many calls and bytes are enough
 pub puts_within : {text : List ℕ} {m n : ℕ} {a b : Queue} → m ≤ n → Puts text m a b → Puts text n a b
-puts_within fewer put = record {
-  behind = put.behind;
-  calls = omega (arith, fewer, put.calls);
-  count = omega (arith, fewer, put.count);
-  unfailed = put.unfailed;
-}
+puts_within fewer put = record { behind = put.behind; calls = omega (arith, fewer, put.calls); count = omega (arith, fewer, put.count); unfailed = put.unfailed }
 
 pub by_within : (text : List ℕ) {m n : ℕ} (a b : Queue) (r : Result (Unit {0}) Unwritten) → m ≤ n → PutsBy text m a b r → PutsBy text n a b r
 by_within text a b (Ok done) fewer put = puts_within fewer put
@@ -38,10 +33,7 @@ part_more {one} other {a} part = record { front = front_more a.waits one other p
 
 -- or in the second
 pub part_then : {one other : List ℕ} {m n : ℕ} {a b c : Queue} → Puts one m a b → PutsPart other b c n → PutsPart (one ++ other) a c n
-part_then {other = other} first part = record {
-  front = front_behind other first.behind part.front;
-  failed = part.failed ∙ ap (λ k. k + 1) first.unfailed;
-}
+part_then {other = other} first part = record { front = front_behind other first.behind part.front; failed = part.failed ∙ ap (λ k. k + 1) first.unfailed }
 
 -- the second ended so
 pub by_then : {one : List ℕ} (other : List ℕ) {m : ℕ} (n : ℕ) {a b : Queue} (c : Queue) (r : Result (Unit {0}) Unwritten) → Puts one m a b → PutsBy other n b c r → PutsBy (one ++ other) (m + n) a c r
@@ -66,10 +58,7 @@ module _ {A : Type 0} (f : A → List ℕ) (xs : List A) (i : ℕ) (d : A) (insi
 
   -- a write came to rest in it
   pub part_each : {x : List ℕ} {m n : ℕ} {a b c : Queue} → x ≡ f (get_or xs i d) → Puts (flat_map f (take i xs)) m a b → PutsPart x b c n → PutsPart (flat_map f xs) a c n
-  part_each {x} is first part = record {
-    front = each_fails f xs i d inside x is first.behind part.front;
-    failed = part.failed ∙ ap (λ k. k + 1) first.unfailed;
-  }
+  part_each {x} is first part = record { front = each_fails f xs i d inside x is first.behind part.front; failed = part.failed ∙ ap (λ k. k + 1) first.unfailed }
 
 -- where all of them were put, so was the whole
 pub puts_all : {A : Type 0} (f : A → List ℕ) (xs : List A) (i : ℕ) {m n : ℕ} {a b : Queue} → length xs ≤ i → m ≤ n → Puts (flat_map f (take i xs)) m a b → Puts (flat_map f xs) n a b

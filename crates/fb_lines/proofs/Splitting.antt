@@ -25,8 +25,4 @@ empty_partial limit = λ four. absurd (omega arith)
 
 -- one message, and nothing behind it
 pub splits_one : (limit : ℕ) (m : List ℕ) → IsMessage limit m → Splits limit m (m ∷ []) []
-splits_one limit m is = record {
-  joined = sym (append-nil (m ++ []) ∙ append-nil m);
-  each = All-cons (IsMessage limit) m [] is (All-nil (IsMessage limit));
-  last = inl (empty_partial limit);
-}
+splits_one limit m is = record { joined = sym (append-nil (m ++ []) ∙ append-nil m); each = All-cons (IsMessage limit) m [] is (All-nil (IsMessage limit)); last = inl (empty_partial limit) }

@@ -1,6 +1,6 @@
 -- What the buffers of a run are checked by, and what a verdict on one of them says.
 use Rattle.std.specs.Prelude.{◌≡◌, ℕ, ◌<◌, ◌≤◌, ◌^◌, All, IsTrue, Bool, true, false, List, [], drop, length, map, Option, Some, None, Result, Ok, Err, option_map}
-use Rattle.std.specs.{Borrow.Bor, List.AllZip}
+use Rattle.std.specs.{Borrow.Bor, List.AllZip, declared.alloc.AllocError.AllocError}
 use Rattle.fb_schema.specs.Rows.{Rows, is_table}
 use Rattle.fb_rules.specs.{Bounds.Bounds, Bounds.limits_of_length, Question.Question, Question.question, Stops.Stops, Links.StopsAlong}
 use Rattle.fb_rules.specs.Verdict.{Reports}
@@ -119,6 +119,11 @@ IsVerified job bytes text (Ok v) =
     Reports (asked_of job bytes) bytes v.report
     × (v ≡ record { bytes = bytes; schema = job.rows; root = job.root; start = job.start; checks = job.checks; report = v.report })
 IsVerified job bytes text (Err fault) = IsVerdict job bytes (Err (record { fault = fault; place = place_beside job.names text }))
+
+-- the same, or there was no memory for these words, which were asked for
+abbrev pub VerifiesBy : Job → List ℕ → List ℕ → Result (Result Sealed Fault) AllocError → Type 0
+VerifiesBy job bytes text (Ok verified) = IsVerified job bytes text verified
+VerifiesBy job bytes text (Err refused) = ((verdict : Verdict) × IsVerdict job bytes verdict) × (job.names ≡ Words)
 
 -- whether a buffer begins bare or with its size: by whether the input is one bare buffer, and what a prefix is
 abbrev pub start_of : Bool → Prefix → Start

@@ -3,7 +3,7 @@
 ghost use Rattle.std.specs.Prelude.{IfOk, IfErr, OnOk, IsTrue, ◌≡◌, ◌++◌, ◌<◌, ◌≤◌, ◌^◌, length, map};
 ghost use Rattle.fb_access.specs.Denotes.{shown};
 ghost use Rattle.fb_lines.specs.declared.options.Places.TheVariants.{Words};
-ghost use Rattle.fb_lines.specs.Job.{AreAnswers, HasRoom, IsVerdict, IsVerified, PathsFit, Serves, Verdict, brief_verdict, buffer_in, is_brief, job_of, limits_for, place_told, skip_of, start_of, verdict_beside, verdict_of};
+ghost use Rattle.fb_lines.specs.Job.{AreAnswers, HasRoom, IsVerdict, PathsFit, Serves, Verdict, VerifiesBy, brief_verdict, buffer_in, is_brief, job_of, limits_for, place_told, skip_of, start_of, verdict_beside, verdict_of};
 ghost use Rattle.fb_schema.specs.Rows.{Rows};
 ghost use Rattle.fb_lines.specs.Line.{json_line};
 
@@ -251,9 +251,7 @@ impl<'s, 'n, 'o> Checker<'s, 'n, 'o> {
     ) -> Result<Result<Verified<'b, 's, 'n>, Fault>, AllocError>
         requires room { HasRoom self.now room.old }
         requires short { length bytes.now < 2 ^ 31 }
-        ensures verdict { IfOk result (IsVerified self.now bytes.now room.new.text) }
-        ensures refused { IfErr result (λ _. (verdict : Verdict) × IsVerdict self.now bytes.now verdict) }
-        ensures asked { IfErr result (λ _. self.now.names ≡ Words) }
+        ensures verdict { VerifiesBy self.now bytes.now room.new.text result }
         ensures room { HasRoom self.now room.new }
     {
         let Ok(meter) = Meter::new(bytes) else {

@@ -31,8 +31,7 @@ pub fn put_yes<A: Allocator>(
     put_begin(text, file, number)?;
     put_counts(text, report)?;
     put_values_member(text, paths, answers)?;
-    put(text, b"\n")?;
-    Ok(())
+    put(text, b"\n")
 }
 
 /// Adds the values of some paths, where there are any, and closes the line's object.
@@ -44,25 +43,11 @@ fn put_values_member<A: Allocator>(
     ensures { OnOk result (text.new.items ≡ text.old.items ++ following (values_member (map (λ p. p.text) paths.now) (map shown answers.now))) }
 {
     if paths.is_empty() {
-        put(text, b"}")?;
-        return Ok(());
+        return put(text, b"}");
     }
-    put_asked(text, paths, answers)
-}
-
-/// The same, where there are some.
-fn put_asked<A: Allocator>(
-    text: &mut Vec<u8, A>,
-    paths: &[AskedPath],
-    answers: &[Answer<'_>],
-) -> Result<(), AllocError>
-    requires { 0 < length paths.now }
-    ensures { OnOk result (text.new.items ≡ text.old.items ++ following (values_member (map (λ p. p.text) paths.now) (map shown answers.now))) }
-{
     put(text, b",\"values\":{")?;
     put_values(text, paths, answers)?;
-    put(text, b"}")?;
-    Ok(())
+    put(text, b"}")
 }
 
 /// Adds the values of some paths up to the brace that closes their object.
@@ -76,8 +61,7 @@ fn put_values<A: Allocator>(
     for index in 0..paths.len().min(answers.len()) {
         put_member(text, index > 0, paths[index].text(), &answers[index])?;
     }
-    put(text, b"}")?;
-    Ok(())
+    put(text, b"}")
 }
 
 /// Adds a value by the text of its path, behind another one or as the first.
@@ -93,8 +77,7 @@ fn put_member<A: Allocator>(
     put_comma(text, behind)?;
     put_string(text, path)?;
     put(text, b":")?;
-    put_value(text, answer)?;
-    Ok(())
+    put_value(text, answer)
 }
 
 /// Adds the line of a no on message number `number`, with the names that the schema has of its fault, and its place in
@@ -115,8 +98,7 @@ pub fn put_no<A: Allocator>(
     put_number(text, b",\"at\":", fault.at)?;
     put_names(text, schema, fault)?;
     put_end(text, fault.reads, place)?;
-    put(text, b"\n")?;
-    Ok(())
+    put(text, b"\n")
 }
 
 /// Adds what every line begins with.
@@ -128,23 +110,13 @@ fn put_begin<A: Allocator>(
     ensures { OnOk result (text.new.items ≡ text.old.items ++ begin_part (option_map (λ f. f.items) file.now) number) }
 {
     match file {
-        Some(file) => put_begin_of(text, file, number),
+        Some(file) => {
+            put(text, b"{\"file\":")?;
+            put_text(text, file)?;
+            put_number(text, b",\"message\":", number)
+        }
         None => put_number(text, b"{\"message\":", number),
     }
-}
-
-/// The same, where the input has a name.
-fn put_begin_of<A: Allocator>(
-    text: &mut Vec<u8, A>,
-    file: &[u8],
-    number: u64,
-) -> Result<(), AllocError>
-    ensures { OnOk result (text.new.items ≡ text.old.items ++ begin_part (Some file.now) number) }
-{
-    put(text, b"{\"file\":")?;
-    put_text(text, file)?;
-    put_number(text, b",\"message\":", number)?;
-    Ok(())
 }
 
 /// Adds what a yes counted.
@@ -164,8 +136,7 @@ fn put_reason<A: Allocator>(text: &mut Vec<u8, A>, reason: Reason) -> Result<(),
     put(text, b",\"ok\":false,\"code\":")?;
     put_string(text, code)?;
     put(text, b",\"reason\":")?;
-    put_string(text, name)?;
-    Ok(())
+    put_string(text, name)
 }
 
 /// The code of a reason, and its name.
@@ -212,8 +183,7 @@ fn put_end<A: Allocator>(
     ensures { OnOk result (text.new.items ≡ text.old.items ++ end_part reads (option_map (λ p. p.now) place.entry)) }
 {
     put_number(text, b",\"reads\":", reads)?;
-    put_place(text, place)?;
-    Ok(())
+    put_place(text, place)
 }
 
 /// Adds the place in words, where there is one, and closes the line's object.
@@ -222,19 +192,13 @@ fn put_place<A: Allocator>(text: &mut Vec<u8, A>, place: Option<&[u8]>) -> Resul
     ensures { OnOk result (text.new.items ≡ text.old.items ++ following (place_member (option_map (λ p. p.now) place.entry))) }
 {
     match place {
-        Some(place) => put_place_of(text, place),
+        Some(place) => {
+            put(text, b",\"place\":")?;
+            put_text(text, place)?;
+            put(text, b"}")
+        }
         None => put(text, b"}"),
     }
-}
-
-/// The same, where there is one.
-fn put_place_of<A: Allocator>(text: &mut Vec<u8, A>, place: &[u8]) -> Result<(), AllocError>
-    ensures { OnOk result (text.new.items ≡ text.old.items ++ following (place_member (Some place.now))) }
-{
-    put(text, b",\"place\":")?;
-    put_text(text, place)?;
-    put(text, b"}")?;
-    Ok(())
 }
 
 /// Adds a comma, behind a value.
@@ -277,8 +241,7 @@ fn put_labelled<A: Allocator, I: Integer>(
     put(text, b"{")?;
     put_string(text, label)?;
     put_number(text, b":", count)?;
-    put(text, b"}")?;
-    Ok(())
+    put(text, b"}")
 }
 
 /// Adds an object of one member, bytes as hexadecimal digits.
@@ -292,8 +255,7 @@ fn put_digits<A: Allocator>(
     put(text, b"{")?;
     put_string(text, label)?;
     put_hex(text, b":\"", bytes)?;
-    put(text, b"\"}")?;
-    Ok(())
+    put(text, b"\"}")
 }
 
 /// Adds a text: a string where it is UTF-8, and its bytes where it isn't.
@@ -313,8 +275,7 @@ fn put_string<A: Allocator>(text: &mut Vec<u8, A>, bytes: &[u8]) -> Result<(), A
 {
     put(text, b"\"")?;
     put_escaped(text, bytes)?;
-    put(text, b"\"")?;
-    Ok(())
+    put(text, b"\"")
 }
 
 /// Adds the bytes of a string.

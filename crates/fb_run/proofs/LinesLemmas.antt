@@ -13,16 +13,7 @@ lines_count job k (m ∷ ms) text tally (v, line, rest, others, first, is, told,
 
 lines_then : (job : Job) (k : ℕ) (xs : List (List ℕ)) (m : List ℕ) (a line : Texts) (tally : Tally) (v : Verdict)
     → AreTold job k xs a tally → IsTold job (k + length xs) m v line → AreTold job k (xs ++ m ∷ []) (followed a line) (tally_with m v tally)
-lines_then job k [] m a line tally v (e, none) is = (
-  v,
-  line,
-  silent,
-  tally,
-  subst (λ (n : ℕ). IsTold job n m v line) (omega arith) is,
-  ap (λ t. followed t line) e ∙ sym (followed_silent line),
-  (refl, none),
-  refl,
-)
+lines_then job k [] m a line tally v (e, none) is = (v, line, silent, tally, subst (λ (n : ℕ). IsTold job n m v line) (omega arith) is, ap (λ t. followed t line) e ∙ sym (followed_silent line), (refl, none), refl)
 lines_then job k (x ∷ xs) m a line tally v (w, first, rest, others, is_first, text, told, sums) is = (
   w,
   first,

@@ -1,12 +1,14 @@
 -- A run over a stream: what was read and written, and then one piece more.
-use Rattle.std.proofs.Common.{◌≡◌, ℕ, ◌+◌, ◌-◌, Bool, true, false, List, [], ◌++◌, take, drop, refl, sym, ap, subst, ◌∙◌, arith, append-nil, append_assoc, length-append, length-take-le, take-append-drop, Result, Ok, Err, IsErrAnd}
+use Rattle.std.proofs.Common.{◌≡◌, ℕ, ◌+◌, ◌-◌, ◌*◌, ◌^◌, ◌≤◌, ◌⊎◌, Bool, true, false, List, [], ◌++◌, take, drop, refl, sym, ap, subst, ◌∙◌, arith, append-nil, append_assoc, length-append, length-take-le, take-append-drop, Result, Ok, Err, IsErrAnd}
 use Rattle.std.specs.Io.KnownBytes.{Consumes}
-use Rattle.std.proofs.KnownBytes.{Consumes-nil, Appends-kept, Appends-trans, Keeps-refl}
-use Rattle.fb_lines.specs.{Ends.Ends, Ends.Outs, Ends.Takes, Job.Job, Sums.no_tally, Lines.WritesFronts}
+use Rattle.std.proofs.KnownBytes.{Consumes-nil, Consumes-trans, Appends-kept, Appends-trans, Keeps-refl}
+use Rattle.fb_bytes.specs.Messages.{IsMessage, IsPartial, Splits}
+use mathlib.Core.Logic.{inl, inr}
+use Rattle.fb_lines.specs.{Ends.Ends, Ends.Outs, Ends.Reader, Ends.Takes, Ends.beside, Job.Job, Sums.count_of, Sums.no_tally, Lines.WritesFronts}
 use Rattle.fb_lines.specs.Faults.{End, EndsBeside, EndsWith, IsCaused, IsCausedOut, IsUnfailedOut, end_of, failed}
-use Rattle.fb_run.specs.Run.{answer_by, IsRunBeside, IsRunFrom}
+use Rattle.fb_run.specs.{Leave.IsUnended, Run.answer_by, Run.IsRunBeside, Run.IsRunFrom, Run.IsStreamRun, Run.Runs}
 use Rattle.fb_lines.specs.Texts.{Sizes, Texts, followed, no_bytes, silent, to_notes}
-use Rattle.fb_run.specs.Stream.{FailsStream, Standing, Tells, TellsSome, WhyStream, Writes, at_first}
+use Rattle.fb_run.specs.Stream.{Carry, FailsStream, Grows, IsReady, PassesStream, Standing, Tells, TellsSome, WhyStream, Writes, at_first}
 use Rattle.fb_lines.specs.declared.fault.RunFault.{RunFault}
 use Rattle.fb_lines.specs.declared.fault.RunFault.TheVariants as run
 use Rattle.fb_lines.specs.declared.tally.Tally.{Tally}
@@ -15,25 +17,42 @@ use Rattle.fb_run.proofs.{StreamLemmas.rests_memory, StreamLemmas.tells_nothing,
 use Rattle.fb_run.proofs.TextsLemmas.{followed_silent, same_texts}
 
 -- what was read from the reader, written to the writer and noted so far, where nothing waits
-abbrev pub Sofar : Job → Ends → Ends → Standing → Type 0
-Sofar job first now stand =
-    (bytes : List ℕ) × (text : Texts) × Consumes first.reader.left now.reader.left bytes × Writes text first.outs now.outs no_bytes stand.written
-    × Tells job bytes text stand.tally stand.held
+pub record Sofar (job : Job) (first now : Reader) (before here : Carry) (turns left : ℕ) : Type 0 where
+  pub bytes : List ℕ
+  pub text : Texts
+  pub read : Consumes first.left now.left bytes
+  pub writes : Writes text before.outs here.outs no_bytes here.stand.written
+  pub told : Tells job bytes text here.stand.tally here.stand.held
+  pub ready : IsReady job here.framer here.room
+  pub empty : here.stand.text ≡ silent
+  pub fewer : left ≤ turns
+  pub calls : now.calls + left ≡ first.calls + turns
+  pub few : count_of here.stand.tally + 65537 * left ≤ 65537 * turns
+  pub grows : Grows before here (9 * 2 ^ 64 * (turns - left)) (2 ^ 64 * (turns - left))
+  pub asks : IsUnended first now
+  pub unfailed : IsUnfailedOut before.outs here.outs
 
 -- nothing was told
-pub sofar_nothing : (job : Job) (stand : Standing) (ends : Ends) → stand ≡ at_first → Sofar job ends ends stand
-sofar_nothing job stand ends is =
-    subst (λ (t : Standing). Sofar job ends ends t) (sym is) ([], silent, Consumes-nil ends.reader.left, writes_nothing ends.outs no_bytes, tells_nothing job)
+pub sofar_nothing : (job : Job) (reader : Reader) (carry : Carry) (turns : ℕ) → IsReady job carry.framer carry.room → carry.stand ≡ at_first → Sofar job reader reader carry carry turns turns
+sofar_nothing job reader carry turns ready is = record {
+  bytes = [];
+  text = silent;
+  read = Consumes-nil reader.left;
+  writes = subst (λ (s : Standing). Writes silent carry.outs carry.outs no_bytes s.written) (sym is) (writes_nothing carry.outs no_bytes);
+  told = subst (λ (s : Standing). Tells job [] silent s.tally s.held) (sym is) (tells_nothing job);
+  ready = ready;
+  empty = ap (λ (s : Standing). s.text) is;
+  fewer = omega arith;
+  calls = omega arith;
+  few = omega (arith, ap (λ (s : Standing). count_of s.tally) is);
+  grows = (omega arith, omega arith, omega arith, omega arith);
+  asks = (refl, inr (refl, refl));
+  unfailed = (refl, refl);
+}
 
 -- nothing was read or written, and then there was no memory
 fails_empty : (job : Job) (ends : Ends) → FailsStream job ends ends no_tally run.OutOfMemory
-fails_empty job ends = record {
-  bytes = [];
-  text = silent;
-  read = Consumes-nil ends.reader.left;
-  takes = takes_nothing ends.outs;
-  rests = rests_memory job no_tally [] [] [] silent (tells_nothing job);
-}
+fails_empty job ends = record { bytes = []; text = silent; read = Consumes-nil ends.reader.left; takes = takes_nothing ends.outs; rests = rests_memory job no_tally [] [] [] silent (tells_nothing job) }
 
 -- with nothing that waits, what was told is all that was written
 pub told_empty : (job : Job) (stand : Standing) (bytes : List ℕ) (text : Texts) → stand.text ≡ silent → Tells job bytes text stand.tally stand.held
@@ -86,17 +105,6 @@ pub caused_then : (reads reads' left : ℕ) (ended : Bool) (a b c : Outs) (fault
     → IsCausedOut b c fault → IsCaused (failed reads a) (failed reads' c) left ended fault
 caused_then reads reads' left ended a b c fault sr (sw, sn) caused = rw (sr, ← sw, ← sn) (caused reads left ended)
 
--- a run that told the whole of its input ends as that did
-pub ends_told : (first now : Ends) (turns : ℕ) (end : End) → now.reader.failures ≡ first.reader.failures → now.reader.ended ≡ true
-    → ((reads left : ℕ) → EndsWith (failed reads first.outs) (failed reads now.outs) left true end) → EndsBeside first now turns end
-ends_told first now turns end same ended told =
-    rw (ended, same) (told first.reader.failures (first.reader.calls + turns - now.reader.calls))
-
--- a run over one bare input is the run of a job that says so, and so is one over a stream
-pub runs_from : (job : Job) (first now : Ends) (tally : Tally) (end : End) (from which : Bool) → from ≡ job.bare → from ≡ which
-    → IsRunFrom which job first now tally end → IsRunBeside job first now tally end
-runs_from job first now tally end from which is one run = subst (λ x. IsRunFrom x job first now tally end) (sym one ∙ is) run
-
 -- without memory nothing is read or written, whatever the input is
 none_from : (from : Bool) (job : Job) (ends : Ends) → IsRunFrom from job ends ends no_tally (Err run.OutOfMemory)
 none_from true job ends =
@@ -114,6 +122,11 @@ pub ends_answer : (first now : Ends) (turns : ℕ) (tally : Tally) (end : End) (
     → EndsBeside first now turns end → EndsBeside first now turns (end_of answer)
 ends_answer first now turns tally (Ok done) answer is ends = rw is ends
 ends_answer first now turns tally (Err fault) answer is ends = rw is ends
+
+-- which of both the input is
+pub runs_from : {job : Job} {before after : Ends} {turns tells tells' : ℕ} {tally : Tally} {end : End} {from which : Bool} → from ≡ which
+    → Runs from job before after turns tells tells' tally end → Runs which job before after turns tells tells' tally end
+runs_from {job} {before} {after} {turns} {tells} {tells'} {tally} {end} is runs = subst (λ b. Runs b job before after turns tells tells' tally end) is runs
 
 -- the exit of a `?`
 pub err_exit : {A E : Type 0} (answer : Result A E) (x : E) (P : Result A E → Type 0) → IsErrAnd answer (λ e. e ≡ x) → P (Err x) → P answer

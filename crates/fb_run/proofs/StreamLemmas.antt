@@ -1,14 +1,14 @@
 -- What was read and told, and then more of the stream.
-use Rattle.std.proofs.Common.{◌≡◌, ℕ, ◌+◌, ◌-◌, Bool, List, [], ◌∷◌, ◌++◌, length, take, drop, refl, sym, ap, subst, ◌∙◌, arith, Result, Ok, Err, IfOk, IfErr, append-nil, append_assoc, length-append, take-append-drop}
+use Rattle.std.proofs.Common.{◌≡◌, ℕ, ◌+◌, ◌-◌, Bool, List, [], ◌∷◌, ◌++◌, length, take, drop, refl, sym, ap, subst, ◌∙◌, arith, Result, Ok, Err, ◌<◌, ◌≤◌, append-nil, append_assoc, length-append, take-append-drop}
 use mathlib.Core.Logic.{inl, inr}
-use Rattle.std.proofs.Math.Seq.{take-append_seam}
-use Rattle.fb_bytes.specs.Messages.{declared, IsMessage, IsOversize, Splits}
+use Rattle.std.proofs.{Math.Seq.take-append_seam, lemmas.List.length-drop}
+use Rattle.fb_bytes.specs.Messages.{declared, IsMessage, IsOversize, IsPartial, Splits}
 use Rattle.fb_bytes.specs.Framing.{Framing, Feeds, FeedFails}
 use Rattle.fb_bytes.specs.declared.stream_fault.StreamFault.{StreamFault}
 use Rattle.fb_bytes.specs.declared.stream_fault.StreamFault.TheVariants as stream
 use Rattle.fb_bytes.proofs.MessageLemmas.{readings_some}
-use Rattle.fb_lines.specs.{Job.Job, Lines.AreTold, Lines.AddsTold, Texts.Texts, Texts.followed, Texts.silent, Sums.no_tally, Faults.feed_fault}
-use Rattle.fb_run.specs.Stream.{Gathers, Halts, IsFeedFault, Onward, Rests, Standing, Tells, TellsSome}
+use Rattle.fb_lines.specs.{Job.Beside, Job.HasRoom, Job.Job, Lines.AreTold, Lines.AddsTold, Texts.Sizes, Texts.Texts, Texts.followed, Texts.silent, Sums.count_of, Sums.no_tally, Faults.feed_fault}
+use Rattle.fb_run.specs.Stream.{Gathers, Halts, IsFeedFault, IsReady, Onward, Rests, Standing, StopsUsing, Tells, TellsSome, Uses, UsesBy}
 use Rattle.fb_lines.specs.declared.{tally.Tally.Tally, fault.RunFault.RunFault}
 use Rattle.fb_lines.specs.declared.fault.RunFault.TheVariants as run
 use Rattle.fb_lines.proofs.{Pieces.front-more, Splitting.empty_partial, Splitting.splits_one, Splitting.splits_rest, Splitting.splits_then}
@@ -44,21 +44,20 @@ rests_memory job tally bytes more held text tells =
     (some.0, some.1, some.4, some)
 
 -- the framer failed at a piece
-pub halts_feed : (job : Job) (before : Standing) (old new : Framing) (piece : List ℕ) (fault : StreamFault) (told : RunFault) → old.limit ≡ job.limit → old.held ≡ before.held
-    → told ≡ feed_fault fault → FeedFails old new piece fault → Halts job before piece before.text before.tally told
-halts_feed job before old new piece (stream.Oversize number) told limit held is refused bytes written (xs, splits, lines) =
-    let over : IsOversize job.limit (before.held ++ piece) = rw (limit, held) at refused.oversize in
-    let whole : Splits job.limit (bytes ++ piece) xs (before.held ++ piece) =
-    rw (append-nil xs) at (splits_then job.limit bytes piece before.held (before.held ++ piece) xs [] splits (splits_rest job.limit (before.held ++ piece) (inr over))) in
-    rw is (xs, before.held ++ piece, whole, (over, refused.number ∙ ap (λ l. declared (l ++ piece)) held, lines))
-halts_feed job before old new piece stream.OutOfMemory told limit held is starved bytes written tells =
-    rw is (rests_memory job before.tally bytes piece before.held (followed written before.text) tells)
-halts_feed job before old new piece _ told limit held is never bytes written tells = absurd never
-
-pub feed_kind : (old new : Framing) (piece : List ℕ) (fault : StreamFault) (told : RunFault) → told ≡ feed_fault fault → FeedFails old new piece fault → IsFeedFault told
-feed_kind old new piece (stream.Oversize number) told is refused = subst IsFeedFault (sym is) tt
-feed_kind old new piece stream.OutOfMemory told is starved = subst IsFeedFault (sym is) tt
-feed_kind old new piece _ told is never = absurd never
+pub feed_stops : (job : Job) (before : Standing) (old new : Framing) (piece : List ℕ) (fault : StreamFault) → old.limit ≡ job.limit → old.held ≡ before.held
+    → FeedFails old new piece fault → Halts job before piece before.text before.tally (feed_fault fault) × IsFeedFault (feed_fault fault)
+feed_stops job before old new piece (stream.Oversize number) limit held refused =
+    let over : IsOversize job.limit (before.held ++ piece) = rw (limit, held) at refused.oversize in (
+      λ bytes written tells.
+          let (xs, splits, lines) = tells in
+          let whole : Splits job.limit (bytes ++ piece) xs (before.held ++ piece) =
+          rw (append-nil xs) at (splits_then job.limit bytes piece before.held (before.held ++ piece) xs [] splits (splits_rest job.limit (before.held ++ piece) (inr over))) in
+          (xs, before.held ++ piece, whole, (over, refused.number ∙ ap (λ l. declared (l ++ piece)) held, lines)),
+      tt,
+    )
+feed_stops job before old new piece stream.OutOfMemory limit held starved =
+    (λ bytes written tells. rests_memory job before.tally bytes piece before.held (followed written before.text) tells, tt)
+feed_stops job before old new piece _ limit held never = absurd never
 
 -- there was no memory for a line
 pub halts_memory : (job : Job) (before : Standing) (piece : List ℕ) (text : Texts) (tally : Tally) → text ≡ before.text → tally ≡ before.tally → Halts job before piece text tally run.OutOfMemory
@@ -79,39 +78,83 @@ onward_line job before after old new piece message used whole limit held feeds a
     let is' : IsMessage job.limit message = subst (λ (n : ℕ). IsMessage n message) (feeds.limit ∙ limit) (subst (IsMessage new.limit) (sym at) is) in
     onward_message job before after (take used piece) message (at ∙ feeds.held ∙ ap (λ l. l ++ take used piece) held) is' gone adds
 
+-- or it came to hold more of a part
+pub onward_held : {job : Job} (before : Standing) (sizes : Sizes) {old new : Framing} {piece : List ℕ} {used : ℕ} {whole : Bool} → old.limit ≡ job.limit → old.held ≡ before.held
+    → Feeds old new piece used whole → IsPartial new.limit new.held → Onward job before (take used piece) (record before { held = new.held; written = sizes })
+onward_held {job} before sizes {new = new} {piece} {used} limit held feeds part bytes written (xs, splits, lines) =
+    let one : Splits job.limit (before.held ++ take used piece) [] new.held =
+    subst (λ (l : List ℕ). Splits job.limit l [] new.held) (feeds.held ∙ ap (λ l. l ++ take used piece) held)
+    (splits_rest job.limit new.held (inl (subst (λ (n : ℕ). IsPartial n new.held) (feeds.limit ∙ limit) part))) in
+    (xs, rw (append-nil xs) at (splits_then job.limit bytes (take used piece) before.held new.held xs [] splits one), lines)
+
 -- no byte was passed
 pub onward_none : (job : Job) (stand : Standing) → Onward job stand [] stand
 onward_none job stand bytes written tells = rw (append-nil bytes) tells
 
--- a piece of which the front was passed, and the rest is still to come
-abbrev pub HasPassed : Job → Standing → List ℕ → List ℕ → Standing → Type 0
-HasPassed job before piece rest after = (front : List ℕ) × (piece ≡ front ++ rest) × Onward job before front after
+-- the room was used, and is as large
+pub still_ready : {job : Job} {framer : Framing} {room room' : Beside} → IsReady job framer room → HasRoom job room' → IsReady job framer room'
+still_ready ready fits = record { fits = fits; fine = ready.fine; limit = ready.limit; short = ready.short; part = ready.part }
+
+-- a piece of which the front was used up, and the rest is still to come
+pub record HasUsed (job : Job) (piece rest : List ℕ) (before after : Standing) (framer : Framing) (room : Beside) : Type 0 where
+  pub front : List ℕ
+  pub whole : piece ≡ front ++ rest
+  pub within : length rest ≤ length piece
+  pub onward : Onward job before front after
+  pub ready : IsReady job framer room
+  pub few : count_of after.tally + length rest ≤ count_of before.tally + length piece
+  pub written : after.written.out ≡ before.written.out
+  pub noted : after.written.notes ≡ before.written.notes
 
 -- at first nothing was
-pub passed_none : (job : Job) (before : Standing) (piece : List ℕ) → HasPassed job before piece piece before
-passed_none job before piece = ([], refl, onward_none job before)
+pub used_none : (job : Job) (piece : List ℕ) (stand : Standing) (framer : Framing) (room : Beside) → IsReady job framer room → HasUsed job piece piece stand stand framer room
+used_none job piece stand framer room ready =
+    record { front = []; whole = refl; within = omega arith; onward = onward_none job stand; ready = ready; few = omega arith; written = refl; noted = refl }
 
--- n bytes more
-pub passed_more : (job : Job) (before between after : Standing) (n : ℕ) (piece rest rest' : List ℕ) → rest' ≡ drop n rest
-    → HasPassed job before piece rest between → Onward job between (take n rest) after → HasPassed job before piece rest' after
-passed_more job before between after n piece rest rest' is (front, whole, first) second = (
-  front ++ take n rest,
-  front-more piece front rest rest' n whole is,
-  λ bytes written tells. rw (← append_assoc bytes front (take n rest)) (second (bytes ++ front) written (first bytes written tells)),
-)
+module _ {job : Job} {piece rest : List ℕ} {before mid : Standing} {framer : Framing} {room : Beside} (first : HasUsed job piece rest before mid framer room) where
+  -- n bytes more
+  pub used_more : {after : Standing} {framer' : Framing} {room' : Beside} (n : ℕ) (rest' : List ℕ) → rest' ≡ drop n rest → Uses job rest n mid after framer' room'
+      → HasUsed job piece rest' before after framer' room'
+  used_more n rest' is second =
+      let left : length rest' ≡ length rest - n = ap length is ∙ length-drop n rest in
+      record {
+        front = first.front ++ take n rest;
+        whole = front-more piece first.front rest rest' n first.whole is;
+        within = omega (arith, left, first.within);
+        onward = λ bytes written tells.
+            rw (← append_assoc bytes first.front (take n rest)) (second.onward (bytes ++ first.front) written (first.onward bytes written tells));
+        ready = second.ready;
+        few = omega (arith, left, second.within, second.few, first.few);
+        written = second.written ∙ first.written;
+        noted = second.noted ∙ first.noted;
+      }
 
--- that front is as long as the rest leaves of the piece
-pub onward_front : (job : Job) (before after : Standing) (n : ℕ) (piece rest : List ℕ) → n ≡ length piece - length rest → HasPassed job before piece rest after → Onward job before (take n piece) after
-onward_front job before after n piece rest is (front, whole, onward) =
-    let same : n ≡ length front = omega (arith, ap length whole, length-append front rest) in
-    subst (λ (l : List ℕ). Onward job before l after) (sym (ap (λ k. take k piece) same ∙ ap (take (length front)) whole ∙ take-append_seam front rest)) onward
+  -- that front is as long as the rest leaves of the piece
+  pub used_front : (n : ℕ) → n ≡ length piece - length rest → (0 < length piece → 0 < n) → Uses job piece n before mid framer room
+  used_front n is some =
+      let long : length piece ≡ length first.front + length rest = ap length first.whole ∙ length-append first.front rest in
+      let same : n ≡ length first.front = omega (arith, long) in
+      record {
+        within = omega (arith, is);
+        some = some;
+        onward = subst (λ (l : List ℕ). Onward job before l mid)
+            (sym (ap (λ k. take k piece) same ∙ ap (take (length first.front)) first.whole ∙ take-append_seam first.front rest)) first.onward;
+        ready = first.ready;
+        few = omega (arith, same, long, first.few);
+        written = first.written;
+        noted = first.noted;
+      }
 
--- and then the run came to rest
-pub halts_after : (job : Job) (before after : Standing) (piece rest : List ℕ) (text : Texts) (tally : Tally) (fault : RunFault) → HasPassed job before piece rest after → Halts job after rest text tally fault
-    → Halts job before piece text tally fault
-halts_after job before after piece rest text tally fault (front, whole, first) second bytes written tells =
-    subst (λ (l : List ℕ). Rests job l (followed written text) tally fault) (append_assoc bytes front rest ∙ ap (λ l. bytes ++ l) (sym whole))
-    (second (bytes ++ front) written (first bytes written tells))
+  -- and then the run came to rest
+  pub used_stops : {after : Standing} {fault : RunFault} → StopsUsing job rest mid after fault → StopsUsing job piece before after fault
+  used_stops {after} {fault} second = record {
+    halts = λ bytes written tells.
+        subst (λ (l : List ℕ). Rests job l (followed written after.text) after.tally fault)
+        (append_assoc bytes first.front rest ∙ ap (λ l. bytes ++ l) (sym first.whole)) (second.halts (bytes ++ first.front) written (first.onward bytes written tells));
+    kind = second.kind;
+    written = second.written ∙ first.written;
+    noted = second.noted ∙ first.noted;
+  }
 
 -- what was told in the front of a piece is that of the first messages, whatever the rest is
 pub gathers_front : (job : Job) (before after : Standing) (n : ℕ) (piece : List ℕ) → Onward job before (take n piece) after → Gathers job before piece after.text after.tally
@@ -126,8 +169,11 @@ some_of job bytes text tally run.OutOfMemory kind (xs, rest, splits, some) = som
 some_of job bytes text tally _ kind rests = absurd kind
 
 -- so does one of which bytes were used up, or in which the run came to rest
-pub gathers_used : (job : Job) (before after : Standing) (piece : List ℕ) (used : Result ℕ RunFault) → IfOk used (λ n. Onward job before (take n piece) after)
-    → IfErr used (Halts job before piece after.text after.tally) → IfErr used IsFeedFault → Gathers job before piece after.text after.tally
-gathers_used job before after piece (Ok n) onward halts kind = gathers_front job before after n piece onward
-gathers_used job before after piece (Err fault) onward halts kind = λ bytes written tells.
-    some_of job (bytes ++ piece) (followed written after.text) after.tally fault kind (halts bytes written tells)
+pub gathers_used : (job : Job) (before after : Standing) (piece : List ℕ) (framer : Framing) (room : Beside) (used : Result ℕ RunFault) → UsesBy job piece before after framer room used
+    → Gathers job before piece after.text after.tally × (after.written.out ≡ before.written.out) × (after.written.notes ≡ before.written.notes)
+gathers_used job before after piece framer room (Ok n) uses = (gathers_front job before after n piece uses.onward, uses.written, uses.noted)
+gathers_used job before after piece framer room (Err fault) stops = (
+  λ bytes written tells. some_of job (bytes ++ piece) (followed written after.text) after.tally fault stops.kind (stops.halts bytes written tells),
+  stops.written,
+  stops.noted,
+)

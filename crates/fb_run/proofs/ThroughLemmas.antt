@@ -1,22 +1,23 @@
 -- A piece of which a front was passed, and what is told in it was written.
-use Rattle.std.proofs.Common.{◌≡◌, ℕ, ◌+◌, Bool, List, [], ◌++◌, Option, take, drop, refl, sym, ap, subst, ◌∙◌, arith, append_assoc, take-append-drop}
+use Rattle.std.proofs.Common.{◌≡◌, ℕ, ◌+◌, ◌-◌, ◌*◌, ◌^◌, ◌<◌, ◌≤◌, Bool, true, false, List, [], ◌++◌, Option, Result, Ok, Err, length, take, drop, refl, sym, ap, subst, ◌∙◌, arith, append-nil, append_assoc, length-take-le, take-append-drop}
 use Rattle.std.specs.Io.KnownBytes.{Consumes, Keeps}
-use Rattle.std.proofs.KnownBytes.{Appends-nil, Consumes-trans}
+use Rattle.std.proofs.{KnownBytes.Appends-nil, KnownBytes.Consumes-trans, KnownBytes.Keeps-refl, lemmas.List.length-drop}
 use mathlib.Core.Logic.{inl, inr}
 use Rattle.fb_bytes.specs.{Framing.Framing, Framing.Feeds, Messages.IsMessage}
 use Rattle.fb_bytes.specs.declared.stream_fault.StreamFault.TheVariants as stream
-use Rattle.fb_lines.specs.Ends.{Ends, Outs, Reader, Writer, beside}
-use Rattle.fb_lines.specs.{Faults.IsCausedWriting, Job.Job}
+use Rattle.fb_lines.specs.Ends.{Outs, Reader, Takes, Writer, beside}
+use Rattle.fb_lines.specs.{Faults.IsCausedOut, Faults.IsUnfailedOut, Job.Beside, Job.Job, Sums.count_of}
 use Rattle.fb_lines.specs.Lines.{AddsTold, AddsThrough, StopsBehind, WritesFront, WritesFronts}
-use Rattle.fb_run.specs.Stream.{FailsStream, Gathers, Halts, HaltsThrough, IsFeedFault, Onward, OnwardThrough, PassesPiece, Rests, Standing, StopsAmid, Tells, TellsSome, Writes, with_written}
 use Rattle.fb_lines.specs.Texts.{Sizes, Texts, followed, no_bytes, silent, to_out}
 use Rattle.fb_lines.specs.declared.{tally.Tally.Tally, fault.RunFault.RunFault}
 use Rattle.fb_lines.specs.declared.fault.RunFault.TheVariants as run
 use Rattle.fb_lines.proofs.Pieces.{front-more}
-use Rattle.fb_run.proofs.RunLemmas.{Sofar, fails_write, told_empty}
+use Rattle.fb_run.specs.Run.{Runs}
+use Rattle.fb_run.specs.Stream.{Carry, FailsStream, Gathers, Halts, HaltsThrough, IsFeedFault, Onward, OnwardThrough, Passes, PassesHeld, Rests, Standing, StopsAmid, StopsHeld, StopsPiece, StopsUsing, Tells, TellsSome, Uses, UsesBy, with_written}
+use Rattle.fb_run.proofs.RunLemmas.{Sofar, caused_then, fails_write, told_empty}
 use Rattle.fb_run.proofs.TextsLemmas.{followed_assoc, followed_silent}
-use Rattle.fb_run.proofs.StreamLemmas.{gathers_front, halts_memory, onward_line, onward_none}
-use Rattle.fb_run.proofs.TakesLemmas.{takes_none, takes_nothing, takes_then, writes_nothing, writes_then}
+use Rattle.fb_run.proofs.StreamLemmas.{gathers_front, gathers_used, halts_memory, onward_line}
+use Rattle.fb_run.proofs.TakesLemmas.{takes_none, takes_then, writes_nothing, writes_then}
 
 -- a message was whole and its line came through
 pub through_line : (job : Job) (before after : Standing) (old new : Framing) (piece message : List ℕ) (used : ℕ) (whole : Bool) (s s' : Option (List ℕ))
@@ -38,10 +39,10 @@ through_halts job before piece s s' text tally run.OutOfMemory kind none keeps h
 through_halts job before piece s s' text tally _ kind none keeps halts = absurd kind
 
 -- such a fault has no call that failed
-pub feed_caused : (writer : Writer) (fault : RunFault) → IsFeedFault fault → IsCausedWriting writer writer fault
-feed_caused writer (run.Stream (stream.Oversize number)) kind notes reads left ended = (refl, refl, refl)
-feed_caused writer run.OutOfMemory kind notes reads left ended = (refl, refl, refl)
-feed_caused writer _ kind notes reads left ended = absurd kind
+pub feed_caused : (a b : Outs) (fault : RunFault) → IsFeedFault fault → IsUnfailedOut a b → IsCausedOut a b fault
+feed_caused a b (run.Stream (stream.Oversize number)) kind unfailed reads left ended = (refl, unfailed.0, unfailed.1)
+feed_caused a b run.OutOfMemory kind unfailed reads left ended = (refl, unfailed.0, unfailed.1)
+feed_caused a b _ kind unfailed reads left ended = absurd kind
 
 -- what is told of a message came to rest
 pub through_stops : (job : Job) (before : Standing) (old new : Framing) (piece message : List ℕ) (used : ℕ) (whole : Bool) (tally' : Tally) (s s' : Option (List ℕ)) (fault : RunFault)
@@ -65,143 +66,174 @@ through_stops job before old new piece message used whole tally' s s' (run.Write
     )
 through_stops job before old new piece message used whole tally' s s' _ none limit held feeds at is (verdict, line, told, never, counted) = absurd never
 
--- the front of a piece was passed, of which this was written, and the rest is still to come
-pub record HasWritten (job : Job) (before : Standing) (piece rest : List ℕ) (after : Standing) (first now : Outs) : Type 0 where
-  pub front : List ℕ
-  pub text : Texts
-  pub whole : piece ≡ front ++ rest
-  pub onward : Onward job before front (with_written text after)
-  pub writes : Writes text first now before.written after.written
+-- the message that was held was passed, with nothing noted
+pub passes_held : {job : Job} {piece : List ℕ} {before : Carry} {stand : Standing} {framer : Framing} {room : Beside} {writer : Writer} {calls : ℕ} (used : ℕ) (rest : List ℕ)
+    → rest ≡ drop used piece → PassesHeld job piece used before.stand stand framer room before.outs.writer writer before.writes calls
+    → Passes job piece rest before (record before { stand = stand; framer = framer; room = room; outs = record before.outs { writer = writer }; writes = calls }) (2 ^ 40 * (length piece - length rest))
+passes_held {piece = piece} {before} used rest at held =
+    let left : length rest ≡ length piece - used = ap length at ∙ length-drop used piece in
+    record {
+      front = take used piece;
+      text = to_out held.onward.front;
+      whole = sym (ap (λ l. take used piece ++ l) at ∙ take-append-drop used piece);
+      onward = held.onward.onward;
+      writes = record { takes = record { wrote = held.onward.wrote; noted = Appends-nil before.outs.notes.bytes }; written_is = held.onward.written_is; noted_is = omega (arith, held.noted) };
+      ready = held.ready;
+      few = omega (arith, left, held.few);
+      unfailed = (held.unfailed, refl);
+      grows = (omega (arith, held.calls_are), omega arith, omega (arith, held.little), omega (arith, held.noted));
+    }
 
--- at first nothing was
-pub written_none : (job : Job) (before : Standing) (piece : List ℕ) (outs : Outs) → HasWritten job before piece piece before outs outs
-written_none job before piece outs = record {
-  front = [];
-  text = silent;
-  whole = refl;
-  onward = onward_none job before;
-  writes = writes_nothing outs before.written;
-}
+-- or the run came to rest in it
+pub stops_held : {job : Job} {piece : List ℕ} {before : Carry} {stand : Standing} {framer : Framing} {room : Beside} {writer : Writer} {calls : ℕ} {fault : RunFault}
+    → StopsHeld job piece before.stand stand before.outs.writer writer fault
+    → StopsPiece job piece before (record before { stand = stand; framer = framer; room = room; outs = record before.outs { writer = writer }; writes = calls }) fault
+stops_held {job} {piece} {before} {stand} {writer = writer} {fault = fault} held =
+    record { stops = amid fault held.halts; cause = held.cause before.outs.notes; tells_are = omega arith }
+  where
+    after : Outs
+    after = record before.outs { writer = writer }
 
--- the message that was held is such a front
-pub written_held : (job : Job) (before after : Standing) (used : ℕ) (piece rest : List ℕ) (writer writer' notes : Writer) → rest ≡ drop used piece → after.written.notes ≡ before.written.notes
-    → OnwardThrough job before (take used piece) after writer.bytes writer'.bytes
-    → HasWritten job before piece rest after (record { writer = writer; notes = notes }) (record { writer = writer'; notes = notes })
-written_held job before after used piece rest writer writer' notes at same first = record {
-  front = take used piece;
-  text = to_out first.front;
-  whole = sym (ap (λ l. take used piece ++ l) at ∙ take-append-drop used piece);
-  onward = first.onward;
-  writes = record { takes = record { wrote = first.wrote; noted = Appends-nil notes.bytes }; written_is = first.written_is; noted_is = omega (arith, same) };
-}
+    still : (f : RunFault) → Halts job before.stand piece silent stand.tally f × Keeps before.outs.writer.bytes writer.bytes → StopsAmid job before.stand piece stand.tally before.outs after f
+    still f (halts, kept) = inr (silent, halts, takes_none before.outs after (kept, Keeps-refl before.outs.notes.bytes))
 
-module _ (job : Job) (before mid : Standing) (piece rest : List ℕ) (a b c : Outs) (first : HasWritten job before piece rest mid a b) where
-  -- what comes of the rest, wherever it begins, comes of the whole piece
-  goes_on : (P : List ℕ → Texts → Type 0) (text : Texts)
-      → ((bytes : List ℕ) (written : Texts) → Tells job bytes (followed written mid.text) mid.tally mid.held → P (bytes ++ rest) (followed written text))
-      → (bytes : List ℕ) (written : Texts) → Tells job bytes (followed written before.text) before.tally before.held
-      → P (bytes ++ piece) (followed written (followed first.text text))
-  goes_on P text second bytes written tells =
-      let whole : (bytes ++ first.front) ++ rest ≡ bytes ++ piece = append_assoc bytes first.front rest ∙ ap (λ l. bytes ++ l) (sym first.whole) in
-      let begun : Tells job (bytes ++ first.front) (followed (followed written first.text) mid.text) mid.tally mid.held =
-      subst (λ (t : Texts). Tells job (bytes ++ first.front) t mid.tally mid.held) (sym (followed_assoc written first.text mid.text)) (first.onward bytes written tells) in
-      subst (P (bytes ++ piece)) (followed_assoc written first.text text)
-      (subst (λ (l : List ℕ). P l (followed (followed written first.text) text)) whole (second (bytes ++ first.front) (followed written first.text) begun))
+    amid : (f : RunFault) → HaltsThrough job before.stand piece stand.tally before.outs.writer.bytes writer.bytes f → StopsAmid job before.stand piece stand.tally before.outs after f
+    amid (run.WriteFault written) (text, gathers, within) =
+        inl record {
+          front = silent;
+          text = text;
+          gathers = gathers;
+          between = before.outs;
+          written = before.stand.written;
+          writes = writes_nothing before.outs before.stand.written;
+          within = (within, Keeps-refl before.outs.notes.bytes);
+        }
+    amid f halts = still f halts
 
-  -- the rest of the piece was passed too
-  pub passes_rest : (after : Standing) → PassesPiece job mid rest after b c → PassesPiece job before piece after a c
-  passes_rest after second = record {
-    text = followed first.text second.text;
-    onward = goes_on (λ l t. Tells job l t after.tally after.held) second.text second.onward;
-    writes = writes_then first.text second.text a b c before.written mid.written after.written first.writes second.writes;
+module _ {job : Job} {piece rest : List ℕ} {before mid : Carry} {least : ℕ} (first : Passes job piece rest before mid least) where
+  -- what comes of the rest, up to where one looks, comes of the piece up to there
+  goes_on : (P : List ℕ → Texts → Type 0) {more all : List ℕ} (text : Texts) → all ≡ first.front ++ more
+      → ((bytes : List ℕ) (written : Texts) → Tells job bytes (followed written mid.stand.text) mid.stand.tally mid.stand.held → P (bytes ++ more) (followed written text))
+      → (bytes : List ℕ) (written : Texts) → Tells job bytes (followed written before.stand.text) before.stand.tally before.stand.held → P (bytes ++ all) (followed written (followed first.text text))
+  goes_on P {more} {all} text at second bytes written tells =
+      let begun : Tells job (bytes ++ first.front) (followed (followed written first.text) mid.stand.text) mid.stand.tally mid.stand.held =
+      subst (λ (t : Texts). Tells job (bytes ++ first.front) t mid.stand.tally mid.stand.held) (sym (followed_assoc written first.text mid.stand.text)) (first.onward bytes written tells) in
+      subst (P (bytes ++ all)) (followed_assoc written first.text text)
+      (subst (λ (l : List ℕ). P l (followed (followed written first.text) text)) (append_assoc bytes first.front more ∙ ap (λ l. bytes ++ l) (sym at)) (second (bytes ++ first.front) (followed written first.text) begun))
+
+  -- n bytes more were passed, and all that is told of them is written
+  pub passes_more : {stand : Standing} {framer : Framing} {room : Beside} {text : Texts} {tally : Tally} {written : Sizes} {outs : Outs} {writes tells most : ℕ} (n k : ℕ) (rest' : List ℕ) → rest' ≡ drop n rest
+      → Uses job rest n mid.stand stand framer room → Takes mid.outs outs stand.text → text ≡ silent → tally ≡ stand.tally → written.out ≡ stand.written.out + length stand.text.out
+      → written.notes ≡ stand.written.notes + length stand.text.notes → IsUnfailedOut mid.outs outs
+      → (writes ≤ mid.writes + k) × (tells ≤ mid.tells + k) × (written.out ≤ stand.written.out + k) × (written.notes ≤ stand.written.notes + k) → least + k ≤ most
+      → Passes job piece rest' before (record { stand = record { text = text; tally = tally; held = stand.held; written = written }; framer = framer; room = room; outs = outs; writes = writes; tells = tells }) most
+  passes_more {stand} {tally = tally} {written} {outs} n k rest' at uses takes none counted out notes unfailed grows fits =
+      let told = followed first.text stand.text in
+      let left : length rest' ≡ length rest - n = ap length at ∙ length-drop n rest in
+      record {
+        front = first.front ++ take n rest;
+        text = told;
+        whole = front-more piece first.front rest rest' n first.whole at;
+        onward = subst (λ (t : Texts). Onward job before.stand (first.front ++ take n rest) (record { text = t; tally = tally; held = stand.held; written = written }))
+            (sym (ap (λ t. followed told t) none ∙ followed_silent told))
+            (goes_on (λ l t. Tells job l t tally stand.held) stand.text refl (subst (λ (k : Tally). Onward job mid.stand (take n rest) (record stand { tally = k })) (sym counted) uses.onward));
+        writes = writes_then first.text stand.text before.outs mid.outs outs before.stand.written mid.stand.written _ first.writes
+            (record { takes = takes; written_is = out ∙ ap (λ k. k + length stand.text.out) uses.written; noted_is = notes ∙ ap (λ k. k + length stand.text.notes) uses.noted });
+        ready = uses.ready;
+        few = omega (arith, left, ap count_of counted, uses.within, uses.few, first.few);
+        unfailed = (unfailed.0 ∙ first.unfailed.0, unfailed.1 ∙ first.unfailed.1);
+        grows = (omega (arith, grows.0, first.grows.0, fits), omega (arith, grows.1, first.grows.1, fits), omega (arith, grows.2, uses.written, first.grows.2, fits), omega (arith, grows.3, uses.noted, first.grows.3, fits));
+      }
+
+  module _ (few : least ≤ 2 ^ 63) (stand : Standing) {after : Carry} {fault : RunFault} (counted : after.stand.tally ≡ stand.tally) (tells : after.tells ≤ mid.tells + 2 ^ 63) where
+    -- the writer or the notes failed where what waited was written
+    pub stops_flush : (framer : Framing) (room : Beside) (used : Result ℕ RunFault) → UsesBy job rest mid.stand stand framer room used → WritesFronts stand.text mid.outs after.outs stand.written fault
+        → IsCausedOut mid.outs after.outs fault → StopsPiece job piece before after fault
+    stops_flush framer room used uses within caused =
+        let some = gathers_used job mid.stand stand rest framer room used uses in
+        record {
+          stops = inl record {
+            front = first.text;
+            text = stand.text;
+            gathers = rw counted (goes_on (λ l t. TellsSome job l t stand.tally) stand.text first.whole some.0);
+            between = mid.outs;
+            written = stand.written;
+            writes = record { takes = first.writes.takes; written_is = some.1 ∙ first.writes.written_is; noted_is = some.2 ∙ first.writes.noted_is };
+            within = within;
+          };
+          cause = λ reads left ended. caused_then reads reads left ended before.outs mid.outs after.outs fault refl first.unfailed caused;
+          tells_are = omega (arith, tells, few, first.grows.1);
+        }
+
+    -- it was written, and then the run came to rest
+    pub stops_used : StopsUsing job rest mid.stand stand fault → Takes mid.outs after.outs stand.text → IsUnfailedOut mid.outs after.outs → StopsPiece job piece before after fault
+    stops_used stops takes unfailed = record {
+      stops = inr (
+        followed first.text stand.text,
+        rw counted (goes_on (λ l t. Rests job l t stand.tally fault) stand.text first.whole stops.halts),
+        takes_then before.outs mid.outs after.outs first.text stand.text first.writes.takes takes,
+      );
+      cause = feed_caused before.outs after.outs fault stops.kind (unfailed.0 ∙ first.unfailed.0, unfailed.1 ∙ first.unfailed.1);
+      tells_are = omega (arith, tells, few, first.grows.1);
+    }
+
+module _ {job : Job} {first now : Reader} {before here : Carry} {turns left : ℕ} (sofar : Sofar job first now before here turns left) (k : ℕ) (piece : List ℕ) (reader : Reader)
+    (some : 0 < left) (read : Consumes now.left reader.left (take k piece)) (called : reader.calls ≡ now.calls + 1) (same : reader.failures ≡ now.failures) where
+  reads : Consumes first.left reader.left (sofar.bytes ++ take k piece)
+  reads = Consumes-trans first.left now.left reader.left sofar.bytes (take k piece) sofar.read read
+
+  told : Tells job sofar.bytes (followed sofar.text here.stand.text) here.stand.tally here.stand.held
+  told = told_empty job here.stand sofar.bytes sofar.text sofar.empty sofar.told
+
+  -- a piece was read and passed
+  pub sofar_piece : {after : Carry} → length piece ≡ 65536 → k ≤ length piece → reader.ended ≡ false → Passes job (take k piece) [] here after (2 ^ 64) × (after.stand.text ≡ silent)
+      → Sofar job first reader before after turns (left - 1)
+  sofar_piece {after} long fits unended (passes, none) =
+      let onward : Tells job (sofar.bytes ++ passes.front) (followed sofar.text (followed passes.text after.stand.text)) after.stand.tally after.stand.held = passes.onward sofar.bytes sofar.text told in
+      let grown = passes.grows in
+      let short = length-take-le k piece fits in
+      record {
+        bytes = sofar.bytes ++ take k piece;
+        text = followed sofar.text passes.text;
+        read = reads;
+        writes = writes_then sofar.text passes.text before.outs here.outs after.outs no_bytes here.stand.written after.stand.written sofar.writes passes.writes;
+        told = subst (λ (l : List ℕ). Tells job (sofar.bytes ++ l) (followed sofar.text passes.text) after.stand.tally after.stand.held) (sym (passes.whole ∙ append-nil passes.front))
+            (subst (λ (t : Texts). Tells job (sofar.bytes ++ passes.front) (followed sofar.text t) after.stand.tally after.stand.held) (ap (λ t. followed passes.text t) none ∙ followed_silent passes.text) onward);
+        ready = passes.ready;
+        empty = none;
+        fewer = omega (arith, sofar.fewer);
+        calls = omega (arith, some, called, sofar.calls);
+        few = omega (arith, some, long, fits, short, passes.few, sofar.few);
+        grows = (
+          omega (arith, some, sofar.fewer, grown.0, sofar.grows.0),
+          omega (arith, some, sofar.fewer, grown.1, sofar.grows.1),
+          omega (arith, some, sofar.fewer, grown.2, sofar.grows.2),
+          omega (arith, some, sofar.fewer, grown.3, sofar.grows.3),
+        );
+        asks = (same ∙ sofar.asks.0, inl unended);
+        unfailed = (passes.unfailed.0 ∙ sofar.unfailed.0, passes.unfailed.1 ∙ sofar.unfailed.1);
+      }
+
+  fails : (after : Carry) (fault : RunFault) → StopsAmid job here.stand (take k piece) after.stand.tally here.outs after.outs fault
+      → FailsStream job (beside first before.outs) (beside reader after.outs) after.stand.tally fault
+  fails after fault (inl amid) =
+      fails_write job (sofar.bytes ++ take k piece) (followed sofar.text amid.front) amid.text after.stand.tally (beside first before.outs) (beside reader after.outs) amid.between amid.written fault
+      reads (writes_then sofar.text amid.front before.outs here.outs amid.between no_bytes here.stand.written amid.written sofar.writes amid.writes)
+      (subst (λ (t : Texts). TellsSome job (sofar.bytes ++ take k piece) t after.stand.tally) (sym (followed_assoc sofar.text amid.front amid.text)) (amid.gathers sofar.bytes sofar.text told)) amid.within
+  fails after fault (inr (waits, halts, takes)) = record {
+    bytes = sofar.bytes ++ take k piece;
+    text = followed sofar.text waits;
+    read = reads;
+    takes = takes_then before.outs here.outs after.outs sofar.text waits sofar.writes.takes takes;
+    rests = halts sofar.bytes sofar.text told;
   }
 
   -- or the run came to rest in it
-  pub stops_rest : (tally : Tally) (fault : RunFault) → StopsAmid job mid rest tally b c fault → StopsAmid job before piece tally a c fault
-  stops_rest tally fault (inl amid) =
-      inl record {
-        front = followed first.text amid.front;
-        text = amid.text;
-        gathers = subst (λ (t : Texts). Gathers job before piece t tally) (sym (followed_assoc first.text amid.front amid.text))
-            (goes_on (λ l t. TellsSome job l t tally) (followed amid.front amid.text) amid.gathers);
-        between = amid.between;
-        written = amid.written;
-        writes = writes_then first.text amid.front a b amid.between before.written mid.written amid.written first.writes amid.writes;
-        within = amid.within;
-      }
-  stops_rest tally fault (inr (text, halts, takes)) =
-      inr (followed first.text text, goes_on (λ l t. Rests job l t tally fault) text halts, takes_then a b c first.text text first.writes.takes takes)
-
--- n bytes more were passed, and all that is told of them is written
-pub written_more : (job : Job) (before mid after : Standing) (k : ℕ) (piece rest rest' : List ℕ) (a b c : Outs) → rest' ≡ drop k rest → after.text ≡ silent
-    → HasWritten job before piece rest mid a b → PassesPiece job mid (take k rest) after b c → HasWritten job before piece rest' after a c
-written_more job before mid after k piece rest rest' a b c at none first second =
-    let more = first.front ++ take k rest in
-    let front : HasWritten job before more (take k rest) mid a b =
-    record { front = first.front; text = first.text; whole = refl; onward = first.onward; writes = first.writes } in
-    let passes = passes_rest job before mid more (take k rest) a b c front after second in
-    record {
-      front = more;
-      text = passes.text;
-      whole = front-more piece first.front rest rest' k first.whole at;
-      onward = subst (λ (t : Texts). Onward job before more (record after { text = t })) (sym (ap (λ t. followed passes.text t) none ∙ followed_silent passes.text)) passes.onward;
-      writes = passes.writes;
-    }
-
-module _ (job : Job) (before : Standing) (piece : List ℕ) (a c : Outs) where
-  -- the writer or the notes failed where what waited was written
-  pub stops_flush : (waits : Texts) (tally told : Tally) (written : Sizes) (fault : RunFault) → told ≡ tally → written.out ≡ before.written.out → written.notes ≡ before.written.notes
-      → Gathers job before piece waits tally → WritesFronts waits a c written fault → StopsAmid job before piece told a c fault
-  stops_flush waits tally told written fault is same notes gathers within =
-      inl record {
-        front = silent;
-        text = waits;
-        gathers = subst (λ (t : Tally). Gathers job before piece waits t) (sym is) gathers;
-        between = a;
-        written = written;
-        writes = record { takes = takes_nothing a; written_is = omega (arith, same); noted_is = omega (arith, notes) };
-        within = within;
-      }
-
-  -- the run came to rest in the message that was held, with nothing noted
-  module _ (tally : Tally) (keeps : Keeps a.notes.bytes c.notes.bytes) where
-    still : (fault : RunFault) → Halts job before piece silent tally fault × Keeps a.writer.bytes c.writer.bytes → StopsAmid job before piece tally a c fault
-    still fault (halts, kept) = inr (silent, halts, takes_none a c (kept, keeps))
-
-    pub stops_held : (fault : RunFault) → HaltsThrough job before piece tally a.writer.bytes c.writer.bytes fault → StopsAmid job before piece tally a c fault
-    stops_held (run.WriteFault written) (text, gathers, within) = stops_flush text tally tally before.written (run.WriteFault written) refl refl refl gathers (within, keeps)
-    stops_held fault halts = still fault halts
-
-module _ (job : Job) (before : Standing) (k : ℕ) (piece slice : List ℕ) (first now : Ends) (reader : Reader) (outs : Outs) (all : slice ≡ piece) (none : before.text ≡ silent)
-    (sofar : Sofar job first now before) (read : Consumes now.reader.left reader.left (take k piece)) where
-  -- a piece was read and passed
-  pub sofar_piece : (after : Standing) → PassesPiece job before (take k slice) after now.outs outs → Sofar job first (beside reader outs) after
-  sofar_piece after passes =
-      let (bytes, text, consumed, writes, tells) = sofar in
-      let onward = subst (λ (l : List ℕ). Onward job before (take k l) (record after { text = passes.text })) all passes.onward in (
-        bytes ++ take k piece,
-        followed text passes.text,
-        Consumes-trans first.reader.left now.reader.left reader.left bytes (take k piece) consumed read,
-        writes_then text passes.text first.outs now.outs outs no_bytes before.written after.written writes passes.writes,
-        onward bytes text (told_empty job before bytes text none tells),
-      )
-
-  -- or the run came to rest in it
-  pub fails_piece : (tally : Tally) (fault : RunFault) → StopsAmid job before (take k slice) tally now.outs outs fault → FailsStream job first (beside reader outs) tally fault
-  fails_piece tally fault (inl amid) =
-      let (bytes, text, consumed, writes, tells) = sofar in
-      let gathers = subst (λ (l : List ℕ). Gathers job before (take k l) (followed amid.front amid.text) tally) all amid.gathers in
-      let some = gathers bytes text (told_empty job before bytes text none tells) in
-      fails_write job (bytes ++ take k piece) (followed text amid.front) amid.text tally first (beside reader outs) amid.between amid.written fault
-      (Consumes-trans first.reader.left now.reader.left reader.left bytes (take k piece) consumed read)
-      (writes_then text amid.front first.outs now.outs amid.between no_bytes before.written amid.written writes amid.writes)
-      (subst (λ (t : Texts). TellsSome job (bytes ++ take k piece) t tally) (sym (followed_assoc text amid.front amid.text)) some) amid.within
-  fails_piece tally fault (inr (waits, halts, takes)) =
-      let (bytes, text, consumed, writes, tells) = sofar in
-      let halts' = subst (λ (l : List ℕ). Halts job before (take k l) waits tally fault) all halts in record {
-        bytes = bytes ++ take k piece;
-        text = followed text waits;
-        read = Consumes-trans first.reader.left now.reader.left reader.left bytes (take k piece) consumed read;
-        takes = takes_then first.outs now.outs outs text waits writes.takes takes;
-        rests = halts' bytes text (told_empty job before bytes text none tells);
-      }
+  pub fails_piece : {after : Carry} {fault : RunFault} → turns ≤ 2 ^ 32 → StopsPiece job (take k piece) here after fault
+      → Runs false job (beside first before.outs) (beside reader after.outs) turns before.tells after.tells after.stand.tally (Err fault)
+  fails_piece {after} {fault} few stops = record {
+    run = fails after fault stops.stops;
+    end_is = caused_then first.failures reader.failures _ _ before.outs here.outs after.outs fault (same ∙ sofar.asks.0) sofar.unfailed stops.cause;
+    pushes = omega (arith, some, few, sofar.fewer, stops.tells_are, sofar.grows.1);
+    turns_are = omega (arith, some, called, sofar.calls);
+  }

@@ -1,39 +1,40 @@
-//! What is told of a bare input that was read whole.
+//! A run over one bare input.
 
-ghost use Rattle.std.specs.Prelude.{◌≡◌, ◌+◌, ◌<◌, ◌≤◌, ◌^◌, length, true, ℕ};
-ghost use Rattle.std.specs.Io.KnownBytes.{Consumes};
-ghost use Rattle.fb_lines.specs.{Ends.Reader, Ends.beside, Ends.outs_of, Faults.EndsWith, Faults.failed, Job.HasRoom, Sums.no_tally};
-ghost use Rattle.fb_run.specs.Run.{IsBareRun};
+ghost use Rattle.std.specs.Prelude.{◌≡◌, ◌+◌, ◌<◌, ◌^◌, length, true};
+ghost use Rattle.fb_lines.specs.{Job.HasRoom, Sums.no_tally};
 ghost use Rattle.fb_lines.specs.Texts.{no_bytes, silent, waiting, written_by};
+ghost use Rattle.fb_run.specs.{Leave.HasLeave, Leave.ends_of, Prompt.IsBarePrompt, Run.Runs};
 
+use crate::input::Input;
+use crate::reading::{PIECE, read_whole};
 use fb_bytes::Sink;
 use fb_lines::{Checker, Output, Room, RunFault};
 use std::alloc::Allocator;
 
-/// Writes what is told of the whole input, and counts its verdict.
-pub fn tell_whole<A: Allocator, K: Sink, N: Sink>(
+/// Reads the whole input, writes what is told of it, and counts its verdict.
+pub fn pass_bare<A: Allocator, B: Allocator, C: Allocator, S: Input<K, N>, K: Sink, N: Sink>(
+    alloc: B,
     output: &mut Output<A>,
-    checker: &Checker<'_, '_, '_>,
     room: &mut Room<A>,
-    bytes: &[u8],
+    piece: &mut Vec<u8, C>,
+    reader: &mut S,
     writer: &mut K,
     notes: &mut N,
+    checker: &Checker<'_, '_, '_>,
+    turns: u64,
 ) -> Result<(), RunFault>
     requires empty { waiting output.old ≡ silent }
     requires counted { output.old.counter ≡ no_tally }
     requires written { written_by output.old ≡ no_bytes }
     requires room { HasRoom checker.now room.old }
-    requires within { length bytes.now ≤ checker.now.limit }
-    requires limit { checker.now.limit < 2 ^ 31 }
+    requires piece { length piece.old.items ≡ PIECE }
+    requires reads { S.calls reader.old + turns < 2 ^ 100 }
     requires writes { K.calls writer.old < 2 ^ 64 }
     requires tells { N.calls notes.old < 2 ^ 64 }
-    ensures run { (before after : Reader) → Consumes before.left after.left bytes.now → IsBareRun checker.now
-        (beside before (outs_of K.Sink N.Sink writer.old notes.old)) (beside after (outs_of K.Sink N.Sink writer.new notes.new)) output.new.counter result }
-    ensures end { (reads left : ℕ) → EndsWith
-        (failed reads (outs_of K.Sink N.Sink writer.old notes.old)) (failed reads (outs_of K.Sink N.Sink writer.new notes.new)) left true result }
-    ensures pushes { N.calls notes.new ≤ N.calls notes.old + 2 ^ 64 }
+    requires leave { HasLeave S.Input (ends_of S.Input K.Sink N.Sink reader.old writer.old notes.old) (IsBarePrompt checker.now.limit) }
+    ensures { Runs true checker.now (ends_of S.Input K.Sink N.Sink reader.old writer.old notes.old) (ends_of S.Input K.Sink N.Sink reader.new writer.new notes.new) turns (N.calls notes.old) (N.calls notes.new) output.new.counter result }
 {
-    output.add_through(checker, room, bytes, writer)?;
-    output.flush(writer, notes)?;
-    Ok(())
+    let whole = read_whole(alloc, reader, piece, writer, notes, checker.limit(), turns)?;
+    output.add_through(checker, room, whole.as_slice(), writer)?;
+    output.flush(writer, notes)
 }

@@ -1,17 +1,16 @@
 //! A run over a stream of size-prefixed buffers, or over one bare buffer.
 
-ghost use Rattle.std.specs.Prelude.{IfOk, IfErr, OnOk, ◌≡◌, ◌+◌, ◌*◌, ◌<◌, ◌≤◌, ◌^◌, length, take};
-ghost use Rattle.fb_lines.specs.Faults.{EndsBeside, IsCausedOut, IsCausedWriting, IsUnfailedOut};
-ghost use Rattle.fb_lines.specs.{Sums.count_of, Texts.silent, Texts.waiting};
-ghost use Rattle.fb_run.specs.{Prompt.IsPrompt, Run.IsRunBeside};
-ghost use Rattle.fb_lines.specs.Ends.{GrowsBy, IsBelow, load_of, outs_of, writer_of};
+ghost use Rattle.std.specs.Prelude.{IfOk, ◌≡◌, ◌+◌, ◌*◌, ◌<◌, ◌≤◌, ◌^◌, length};
+ghost use Rattle.fb_lines.specs.{Sums.count_of, Texts.silent, Texts.size, Texts.waiting};
+ghost use Rattle.fb_run.specs.{Prompt.IsPrompt, Run.Runs};
+ghost use Rattle.fb_lines.specs.Ends.{IsBelow, load_of, writer_of};
 ghost use Rattle.fb_run.specs.Leave.{HasCallsLeft, HasLeave, ends_of};
-ghost use Rattle.fb_run.specs.Stream.{Halts, HaltsThrough, IsFeedFault, IsReady, Onward, OnwardThrough, PassesPiece, StopsAmid, at_first, standing};
+ghost use Rattle.fb_run.specs.Stream.{HeldBy, IsReady, PassesBy, UsesBy, at_first, carry_of, standing};
 
-use crate::bare::tell_whole;
+use crate::bare::pass_bare;
 use crate::front::front_message;
 use crate::input::Input;
-use crate::reading::{MOST_TURNS, PIECE, pull_piece, read_whole};
+use crate::reading::{MOST_TURNS, PIECE, pull_piece};
 use fb_bytes::{Framer, Sink};
 use fb_lines::{Checker, Output, Room, RunFault};
 use std::alloc::{AllocError, Allocator};
@@ -69,21 +68,19 @@ impl<A: Allocator> Carried<A> {
         requires few { HasCallsLeft S.Input K.Sink N.Sink reader.old writer.old notes.old }
         requires leave { HasLeave S.Input (ends_of S.Input K.Sink N.Sink reader.old writer.old notes.old) (IsPrompt checker.now) }
 
-        ensures run { IsRunBeside checker.now (ends_of S.Input K.Sink N.Sink reader.old writer.old notes.old) (ends_of S.Input K.Sink N.Sink reader.new writer.new notes.new) self.new.output.counter result }
-        ensures end { EndsBeside (ends_of S.Input K.Sink N.Sink reader.old writer.old notes.old) (ends_of S.Input K.Sink N.Sink reader.new writer.new notes.new) turns result }
-        ensures pushes { N.calls notes.new ≤ N.calls notes.old + 2 ^ 96 }
-        ensures turns { S.calls reader.new ≤ S.calls reader.old + turns }
+        ensures { Runs checker.now.bare checker.now (ends_of S.Input K.Sink N.Sink reader.old writer.old notes.old) (ends_of S.Input K.Sink N.Sink reader.new writer.new notes.new) turns (N.calls notes.old) (N.calls notes.new) self.new.output.counter result }
     {
         if checker.is_bare() {
-            let limit = checker.limit();
-            let whole = read_whole(alloc, reader, piece, writer, notes, limit, turns)?;
-            return tell_whole(
+            return pass_bare(
+                alloc,
                 &mut self.output,
-                checker,
                 &mut self.room,
-                whole.as_slice(),
+                piece,
+                reader,
                 writer,
                 notes,
+                checker,
+                turns,
             );
         }
         let mut left = turns;
@@ -102,7 +99,8 @@ impl<A: Allocator> Carried<A> {
         Err(RunFault::TooManyTurns)
     }
 
-    /// Passes a whole piece, and writes what is told of the messages that end in it.
+    /// Passes a whole piece, and writes what is told of the messages that end in it: where much waits, before the next
+    /// one is checked.
     fn pass_piece<K: Sink, N: Sink>(
         &mut self,
         checker: &Checker<'_, '_, '_>,
@@ -115,86 +113,18 @@ impl<A: Allocator> Carried<A> {
         requires few { count_of self.old.output.counter < 2 ^ 61 }
         requires empty { waiting self.old.output ≡ silent }
         requires load { IsBelow (load_of K.Sink N.Sink writer.old notes.old self.old.output) (2 ^ 99 + 2 ^ 97) }
-
-        ensures passes { OnOk result (PassesPiece checker.now (standing self.old) piece.now (standing self.new) (outs_of K.Sink N.Sink writer.old notes.old) (outs_of K.Sink N.Sink writer.new notes.new)) }
-        ensures ready { OnOk result (IsReady checker.now self.new.framer self.new.room) }
-        ensures empty { OnOk result (waiting self.new.output ≡ silent) }
-        ensures few { OnOk result (count_of self.new.output.counter ≤ count_of self.old.output.counter + PIECE + 1) }
-
-        ensures stops { IfErr result (StopsAmid checker.now (standing self.old) piece.now self.new.output.counter (outs_of K.Sink N.Sink writer.old notes.old) (outs_of K.Sink N.Sink writer.new notes.new)) }
-        ensures failed { IfErr result (IsCausedOut (outs_of K.Sink N.Sink writer.old notes.old) (outs_of K.Sink N.Sink writer.new notes.new)) }
-        ensures unfailed { OnOk result (IsUnfailedOut (outs_of K.Sink N.Sink writer.old notes.old) (outs_of K.Sink N.Sink writer.new notes.new)) }
-        ensures load { OnOk result (GrowsBy (load_of K.Sink N.Sink writer.old notes.old self.old.output) (load_of K.Sink N.Sink writer.new notes.new self.new.output) (9 * 2 ^ 64)) }
-        ensures tells { N.calls notes.new ≤ N.calls notes.old + 2 ^ 64 }
+        ensures { PassesBy checker.now piece.now (carry_of K.Sink N.Sink self.old writer.old notes.old) (carry_of K.Sink N.Sink self.new writer.new notes.new) result }
     {
         let held = self.pass_held(checker, piece, writer)?;
-        self.pass_rest(checker, &piece[held..], writer, notes)
-    }
-
-    /// Passes the rest of a piece, and writes what is told of the messages that end in it: where much waits, before the
-    /// next one is checked.
-    fn pass_rest<K: Sink, N: Sink>(
-        &mut self,
-        checker: &Checker<'_, '_, '_>,
-        piece: &[u8],
-        writer: &mut K,
-        notes: &mut N,
-    ) -> Result<(), RunFault>
-        requires ready { IsReady checker.now self.old.framer self.old.room }
-        requires piece { length piece.now ≤ PIECE }
-        requires few { count_of self.old.output.counter < 2 ^ 61 + 1 }
-        requires load { IsBelow (load_of K.Sink N.Sink writer.old notes.old self.old.output) (2 ^ 99 + 2 ^ 97 + 2 ^ 67) }
-
-        ensures passes { OnOk result (PassesPiece checker.now (standing self.old) piece.now (standing self.new) (outs_of K.Sink N.Sink writer.old notes.old) (outs_of K.Sink N.Sink writer.new notes.new)) }
-        ensures ready { OnOk result (IsReady checker.now self.new.framer self.new.room) }
-        ensures empty { OnOk result (waiting self.new.output ≡ silent) }
-        ensures few { OnOk result (count_of self.new.output.counter ≤ count_of self.old.output.counter + length piece.now) }
-
-        ensures stops { IfErr result (StopsAmid checker.now (standing self.old) piece.now self.new.output.counter (outs_of K.Sink N.Sink writer.old notes.old) (outs_of K.Sink N.Sink writer.new notes.new)) }
-        ensures failed { IfErr result (IsCausedOut (outs_of K.Sink N.Sink writer.old notes.old) (outs_of K.Sink N.Sink writer.new notes.new)) }
-        ensures unfailed { OnOk result (IsUnfailedOut (outs_of K.Sink N.Sink writer.old notes.old) (outs_of K.Sink N.Sink writer.new notes.new)) }
-        ensures load { GrowsBy (load_of K.Sink N.Sink writer.old notes.old self.old.output) (load_of K.Sink N.Sink writer.new notes.new self.new.output) (2 ^ 64) }
-    {
-        let mut rest = piece;
+        let mut rest = &piece[held..];
         'fronts: loop {
-            let used = self.pass_front(checker, rest, writer, notes)?;
-            rest = &rest[used..];
+            let used = self.use_up(checker, rest);
+            self.output.flush(writer, notes)?;
+            rest = &rest[used?..];
             if rest.is_empty() {
                 return Ok(());
             }
         }
-    }
-
-    /// Passes messages from the front of a piece until all is passed or much waits, and writes what is told of them.
-    /// Answers how many bytes those were.
-    fn pass_front<K: Sink, N: Sink>(
-        &mut self,
-        checker: &Checker<'_, '_, '_>,
-        piece: &[u8],
-        writer: &mut K,
-        notes: &mut N,
-    ) -> Result<usize, RunFault>
-        requires ready { IsReady checker.now self.old.framer self.old.room }
-        requires piece { length piece.now ≤ PIECE }
-        requires few { count_of self.old.output.counter < 2 ^ 62 }
-        requires load { IsBelow (load_of K.Sink N.Sink writer.old notes.old self.old.output) (2 ^ 99 + 2 ^ 98) }
-
-        ensures within { IfOk result (λ used. used ≤ length piece.now) }
-        ensures some { IfOk result (λ used. 0 < length piece.now → 0 < used) }
-        ensures passes { IfOk result (λ used. PassesPiece checker.now (standing self.old) (take used piece.now) (standing self.new) (outs_of K.Sink N.Sink writer.old notes.old) (outs_of K.Sink N.Sink writer.new notes.new)) }
-        ensures ready { OnOk result (IsReady checker.now self.new.framer self.new.room) }
-        ensures empty { OnOk result (waiting self.new.output ≡ silent) }
-        ensures few { IfOk result (λ used. count_of self.new.output.counter ≤ count_of self.old.output.counter + used) }
-
-        ensures stops { IfErr result (StopsAmid checker.now (standing self.old) piece.now self.new.output.counter (outs_of K.Sink N.Sink writer.old notes.old) (outs_of K.Sink N.Sink writer.new notes.new)) }
-        ensures failed { IfErr result (IsCausedOut (outs_of K.Sink N.Sink writer.old notes.old) (outs_of K.Sink N.Sink writer.new notes.new)) }
-        ensures unfailed { OnOk result (IsUnfailedOut (outs_of K.Sink N.Sink writer.old notes.old) (outs_of K.Sink N.Sink writer.new notes.new)) }
-        ensures load { GrowsBy (load_of K.Sink N.Sink writer.old notes.old self.old.output) (load_of K.Sink N.Sink writer.new notes.new self.new.output) (2 ^ 63) }
-        ensures between { IfOk result (λ used. used < length piece.now → GrowsBy (load_of K.Sink N.Sink writer.old notes.old self.old.output) (load_of K.Sink N.Sink writer.new notes.new self.new.output) (2 ^ 40)) }
-    {
-        let used = self.use_up(checker, piece);
-        self.output.flush(writer, notes)?;
-        Ok(used?)
     }
 
     /// Goes on with the message that is held in part, if one is: feeds the framer bytes from the front of a piece, up
@@ -213,18 +143,7 @@ impl<A: Allocator> Carried<A> {
         requires writes { K.calls writer.old < 2 ^ 99 + 2 ^ 97 }
         requires little { self.old.output.out.written < 2 ^ 99 + 2 ^ 97 }
 
-        ensures within { IfOk result (λ used. used ≤ length piece.now) }
-        ensures onward { IfOk result (λ used. OnwardThrough checker.now (standing self.old) (take used piece.now) (standing self.new)
-            (K.contents writer.old) (K.contents writer.new)) }
-        ensures ready { OnOk result (IsReady checker.now self.new.framer self.new.room) }
-        ensures few { OnOk result (count_of self.new.output.counter ≤ count_of self.old.output.counter + 1) }
-
-        ensures halts { IfErr result (HaltsThrough checker.now (standing self.old) piece.now self.new.output.counter (K.contents writer.old) (K.contents writer.new)) }
-        ensures failed { IfErr result (IsCausedWriting (writer_of K.Sink writer.old) (writer_of K.Sink writer.new)) }
-        ensures unfailed { OnOk result (K.failures writer.new ≡ K.failures writer.old) }
-        ensures little { OnOk result (self.new.output.out.written ≤ self.old.output.out.written + 2 ^ 67) }
-        ensures calls { OnOk result (K.calls writer.new ≤ K.calls writer.old + 2 ^ 67) }
-        ensures noted { self.new.output.notes.written ≡ self.old.output.notes.written }
+        ensures { HeldBy checker.now piece.now (standing self.old) (standing self.new) self.new.framer self.new.room (writer_of K.Sink writer.old) (writer_of K.Sink writer.new) (K.calls writer.old) (K.calls writer.new) result }
     {
         let held = self.framer.held();
         if held == 0 {
@@ -247,18 +166,8 @@ impl<A: Allocator> Carried<A> {
         requires piece { length piece.now ≤ PIECE }
         requires few { count_of self.old.output.counter < 2 ^ 62 }
 
-        ensures within { IfOk result (λ used. used ≤ length piece.now) }
-        ensures some { IfOk result (λ used. 0 < length piece.now → 0 < used) }
-        ensures much { IfOk result (λ used. used < length piece.now → length (waiting self.new.output).out + length (waiting self.new.output).notes < 2 ^ 40) }
-        ensures onward { IfOk result (λ used. Onward checker.now (standing self.old) (take used piece.now) (standing self.new)) }
-        ensures ready { OnOk result (IsReady checker.now self.new.framer self.new.room) }
-        ensures few { IfOk result (λ used. count_of self.new.output.counter ≤ count_of self.old.output.counter + used) }
-
-        ensures halts { IfErr result (Halts checker.now (standing self.old) piece.now (waiting self.new.output) self.new.output.counter) }
-        ensures kind { IfErr result (λ fault. IsFeedFault fault) }
-
-        ensures written { self.new.output.out.written ≡ self.old.output.out.written }
-        ensures noted { self.new.output.notes.written ≡ self.old.output.notes.written }
+        ensures uses { UsesBy checker.now piece.now (standing self.old) (standing self.new) self.new.framer self.new.room result }
+        ensures much { IfOk result (λ used. used < length piece.now → size (waiting self.new.output) < 2 ^ 40) }
     {
         let mut rest = piece;
         while !rest.is_empty() {
@@ -280,17 +189,7 @@ impl<A: Allocator> Carried<A> {
         requires ready { IsReady checker.now self.old.framer self.old.room }
         requires few { count_of self.old.output.counter < 2 ^ 63 }
 
-        ensures some { IfOk result (λ used. 0 < used) }
-        ensures within { IfOk result (λ used. used ≤ length rest.now) }
-        ensures onward { IfOk result (λ used. Onward checker.now (standing self.old) (take used rest.now) (standing self.new)) }
-        ensures ready { OnOk result (IsReady checker.now self.new.framer self.new.room) }
-        ensures few { OnOk result (count_of self.new.output.counter ≤ count_of self.old.output.counter + 1) }
-
-        ensures halts { IfErr result (Halts checker.now (standing self.old) rest.now (waiting self.new.output) self.new.output.counter) }
-        ensures kind { IfErr result (λ fault. IsFeedFault fault) }
-
-        ensures written { self.new.output.out.written ≡ self.old.output.out.written }
-        ensures noted { self.new.output.notes.written ≡ self.old.output.notes.written }
+        ensures { UsesBy checker.now rest.now (standing self.old) (standing self.new) self.new.framer self.new.room result }
     {
         if self.framer.held() == 0 {
             if let Some(message) = front_message(rest, checker.limit()) {

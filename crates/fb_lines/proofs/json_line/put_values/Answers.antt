@@ -1,10 +1,11 @@
-use Rattle.std.proofs.Common.{◌<◌, ◌≤◌, min, ◌++◌, ℕ, List, [], map, length, get_or, arith, ap, sym, ◌∙◌}
+use Rattle.std.proofs.Common.{◌<◌, ◌≤◌, min, ◌++◌, ℕ, List, [], map, length, get_or, arith, ap, sym, ◌∙◌, refl}
 use Rattle.std.proofs.lemmas.List.{length-map, get_or-map}
 use Rattle.std.specs.Prelude.{nat_lt}
 use Rattle.fb_access.specs.Denotes.{Shown, nothing, shown}
 use Rattle.fb_access.specs.declared.answer.Answer.TheVariants.{Absent}
 use Rattle.fb_lines.specs.{Json.member_part, Json.value_json, Wanted.Wanted}
 use Rattle.fb_lines.proofs.JsonLemmas.{one_value_more, values_end}
+use Rattle.std.proofs.lemmas.Result.{IfOk-equal}
 use Rattle.fb_lines.proofs.json_line.put_values.Goals as goal
 
 abbrev text_of : Wanted → List ℕ
@@ -29,4 +30,5 @@ returns g c =
     let paths = map text_of c.args.paths.now in
     let values = map shown c.args.answers.now in
     let ended : min (length paths) (length values) ≤ c.loop-index.index = rw (length-map c.args.paths.now text_of, length-map c.args.answers.now shown) (omega arith) in
-    values_end paths values c.loop-index.index c.loop-index.text.items _ _ ended c.loop-index.invariant c.in_ok-put.ensures
+    IfOk-equal c.put.result _ _ _ c.put.ensures
+    (values_end paths values c.loop-index.index c.loop-index.text.items _ _ ended c.loop-index.invariant refl)

@@ -13,11 +13,7 @@ returns-then-read-limit-clause-reads g c =
     let bytes = c.loop-left.whole.items ++ take c.in-Ok.read c.pull_piece.new.piece.items in
     let reads = Consumes-trans _ _ _ _ _ c.loop-left.invariant.read read.ok in
     record {
-      fails = λ job same. (
-        bytes,
-        reads,
-        (sym same, rw same (omega (arith, long, over)), ((Keeps-refl _, Keeps-refl _), refl)),
-      );
+      fails = λ job same. (bytes, reads, (sym same, rw same (omega (arith, long, over)), ((Keeps-refl _, Keeps-refl _), refl)));
       cause = (omega (arith, read.failure, c.loop-left.invariant.asks.0), refl, refl);
     }
 
@@ -29,11 +25,7 @@ returns-in_default-clause-reads g c =
     let bytes = c.loop-left.whole.items ++ take c.in-Ok.read c.pull_piece.new.piece.items in
     let reads = Consumes-trans _ _ _ _ _ c.loop-left.invariant.read read.ok in
     record {
-      fails = λ job same. (
-        bytes,
-        reads,
-        (rw same (omega (arith, long, under)), ((Keeps-refl _, Keeps-refl _), refl)),
-      );
+      fails = λ job same. (bytes, reads, (rw same (omega (arith, long, under)), ((Keeps-refl _, Keeps-refl _), refl)));
       cause = (omega (arith, read.failure, c.loop-left.invariant.asks.0), refl, refl);
     }
 

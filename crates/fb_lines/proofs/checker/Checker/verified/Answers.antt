@@ -1,27 +1,37 @@
-use Rattle.std.proofs.Common.{sym, ap}
-use Rattle.fb_rules.specs.{Stops.Stops, Links.StopsAlong}
-use Rattle.std.specs.Prelude.{take}
-use Rattle.fb_lines.specs.Job.{asked_of}
-use Rattle.fb_lines.proofs.{PlaceLemmas.has_place, checker.Checker.verified.Goals.in-Ok-put_place, checker.Checker.verified.Goals.in-Err-put_place}
+use Rattle.std.proofs.Common.{◌≡◌, [], ap, length, rules, sym, take_at, ◌∙◌}
+use Rattle.fb_verify.proofs.Frames.{as_many_kept}
+use Rattle.fb_lines.specs.Job.{Beside}
+use Rattle.fb_lines.proofs.{PlaceLemmas.same_room, PlaceLemmas.told_no, PlaceLemmas.told_none, PlaceLemmas.told_yes}
+use Rattle.fb_lines.proofs.checker.Checker.verified.{Goals.in-Ok-put_place, Goals.in-Err-put_place}
 use Rattle.fb_lines.proofs.checker.Checker.verified.Goals as goal
 
-pub returns-after-put_place-clause-refused : goal.returns-after-put_place-clause-refused
-returns-after-put_place-clause-refused g c =
-    let job = c.args.self.now in
-    let bytes = c.args.bytes.now in
-    let fault = c.in-Err.field-0.fault in
-    let links = take c.in-Err.field-0.links c.verify_and_locate.new.links in
+pub returns-after-put_place-clause-verdict : goal.returns-after-put_place-clause-verdict
+returns-after-put_place-clause-verdict g c =
     let meter = ap (λ m. m.bytes) c.in-Ok.ensures.meter in
-    let stops : Stops (asked_of job bytes) bytes fault = rw (sym c.limits_for-limits.ensures, sym c.start-start.ensures, sym c.self.view_is) (rw meter at c.in-Err.ensures.no) in
-    let along : StopsAlong (asked_of job bytes) bytes fault links = rw (sym c.limits_for-limits.ensures, sym c.start-start.ensures, sym c.self.view_is) (rw meter at c.in-Err.ensures.along) in
+    let no = c.in-Err.ensures in
+    let empty : c.clear.new.self.items ≡ [] = search rules in
+    let links = c.deref.ensures.value
+    ∙ take_at c.verify_and_locate.new.links _ _ (c.verify_and_locate.ensures.room ∙ ap length c.deref_mut.ensures.value ∙ sym c.room.inside.links.ok.0) in
     elim c.match-put_place.branch [
-      | in-Ok-put_place w ↦ rw w.result-is tt
-      | in-Err-put_place w ↦ rw w.result-is (has_place job bytes fault links (rw (sym c.self.view_is) c.in-Words.is) stops along)
+      | in-Ok-put_place w ↦ rw w.result-is (told_no c.self.inside.options.now c.self.view_is c.start-start.ensures c.limits_for-limits.ensures meter c.in-Words.is no.no no.along _ (rw (empty, links) at w.in-Ok-put_place.ensures.ok))
+      | in-Err-put_place w ↦ rw w.result-is (told_none c.self.inside.options.now c.self.view_is c.start-start.ensures c.limits_for-limits.ensures meter c.in-Words.is no.no no.along)
     ]
+
+pub returns-after-put_place-clause-room : goal.returns-after-put_place-clause-room
+returns-after-put_place-clause-room g c =
+    let has = same_room c.requires.room (c.verify_and_locate.ensures.scratch ∙ ap (λ (r : Beside). r.levels) c.room.view_is) 
+    (as_many_kept c.verify_and_locate.new.links _ c.room.inside.links.items (c.verify_and_locate.ensures.room ∙ ap length c.deref_mut.ensures.value) c.room.inside.links.ok.0 (ap (λ (r : Beside). r.links) c.room.view_is))
+     (ap (λ (r : Beside). r.label) c.room.view_is) in
+    record { deep = has.0; long = has.1; label_is = has.2 }
 
 pub returns-in-Ok-verify_and_locate-clause-verdict : goal.returns-in-Ok-verify_and_locate-clause-verdict
 returns-in-Ok-verify_and_locate-clause-verdict g c =
-    let meter = ap (λ m. m.bytes) c.in-Ok.ensures.meter in (
-      rw (sym c.limits_for-limits.ensures, sym c.start-start.ensures, sym c.self.view_is) (rw meter at c.in-Ok-verify_and_locate.ensures.yes),
-      rw (sym c.start-start.ensures, sym c.self.view_is) (rw meter at c.in-Ok-verify_and_locate.ensures.kept),
-    )
+    let meter = ap (λ m. m.bytes) c.in-Ok.ensures.meter in
+    told_yes c.self.inside.options.now c.self.view_is c.start-start.ensures c.limits_for-limits.ensures meter [] _ c.in-Ok-verify_and_locate.ensures.yes c.in-Ok-verify_and_locate.ensures.kept
+
+pub returns-in-Ok-verify_and_locate-clause-room : goal.returns-in-Ok-verify_and_locate-clause-room
+returns-in-Ok-verify_and_locate-clause-room g c =
+    let has = same_room c.requires.room (c.verify_and_locate.ensures.scratch ∙ ap (λ (r : Beside). r.levels) c.room.view_is) 
+    (as_many_kept c.verify_and_locate.new.links _ c.room.inside.links.items (c.verify_and_locate.ensures.room ∙ ap length c.deref_mut.ensures.value) c.room.inside.links.ok.0 (ap (λ (r : Beside). r.links) c.room.view_is))
+     (ap (λ (r : Beside). r.label) c.room.view_is) in
+    record { deep = has.0; long = has.1; label_is = has.2 }

@@ -1,37 +1,56 @@
-use Rattle.std.proofs.{Common.refl, KnownBytes.Keeps-refl}
-use Rattle.std.proofs.lemmas.{List.take_rest, Result.IfErr-weaker, Result.on_ok_weaker}
-use Rattle.fb_verify.proofs.Frames.{if_err_exit}
-use Rattle.fb_lines.specs.Ends.{Outs, outs_of, writer_of}
-use Rattle.fb_run.specs.Stream.{standing}
-use Rattle.fb_run.proofs.RunLemmas.{caused_then}
-use Rattle.fb_run.proofs.ThroughLemmas.{passes_rest, stops_held, stops_rest, written_held}
+use Rattle.std.proofs.Common.{◌≡◌, ◌+◌, ◌<◌, ◌≤◌, ◌^◌, ap, arith, drop, length, length-append, rules, sym}
+use Rattle.std.proofs.lemmas.List.{length-drop, nil_from_length, take_rest}
+use Rattle.fb_run.specs.Stream.{PassesBy, carry_of, standing}
+use Rattle.fb_run.proofs.RunLemmas.{err_exit}
+use Rattle.fb_run.proofs.ThroughLemmas.{passes_held, passes_more, stops_flush, stops_held, stops_used}
 use Rattle.fb_run.proofs.stream.Carried.pass_piece.Goals as goal
 
-pub returns-in_err-held-clause-stops : goal.returns-in_err-held-clause-stops
-returns-in_err-held-clause-stops g c =
-    if_err_exit _ _ _ c.from_residual.ensures.1 (stops_held _ (standing c.args.self.now) _ _ _ _ (Keeps-refl _) c.in_err-held.field-0.0 c.in_err-held.ensures.halts)
+pub returns-in_err-held : goal.returns-in_err-held
+returns-in_err-held g c = err_exit _ _ (PassesBy _ _ _ _) c.from_residual.ensures.1 (stops_held {before = carry_of g.K.Sink g.N.Sink c.args.self.now c.args.writer.now c.args.notes.now} c.in_err-held.ensures)
 
-pub returns-in_err-held-clause-failed : goal.returns-in_err-held-clause-failed
-returns-in_err-held-clause-failed g c =
-    let notes = writer_of g.N.Sink c.args.notes.now in
-    if_err_exit _ _ _ c.from_residual.ensures.1 (c.in_err-held.ensures.failed notes)
+pub fronts-init : goal.fronts-init
+fronts-init g c = passes_held {before = carry_of g.K.Sink g.N.Sink c.args.self.now c.args.writer.now c.args.notes.now} c.in_ok-held.held _ (take_rest c.args.piece.now c.in_ok-held.held) c.in_ok-held.ensures
 
-pub returns-clause-passes : goal.returns-clause-passes
-returns-clause-passes g c =
-    let front = written_held _ (standing c.args.self.now) _ c.in_ok-held.held _ _ (writer_of g.K.Sink c.args.writer.now) (writer_of g.K.Sink c.pass_held.new.writer) (writer_of g.N.Sink c.args.notes.now)
-    (take_rest c.args.piece.now c.in_ok-held.held) c.pass_held.ensures.noted c.in_ok-held.ensures.onward in
-    on_ok_weaker c.pass_rest.result (λ passes. passes_rest _ (standing c.args.self.now) _ _ _ _ _ _ front _ passes) c.pass_rest.ensures.passes
+pub use_up-used-requires-clause-piece : goal.use_up-used-requires-clause-piece
+use_up-used-requires-clause-piece g c =
+    let before = c.fronts.invariant in
+    omega (arith, ap length before.whole, length-append before.front c.fronts.rest.now, c.requires.piece)
 
-pub returns-clause-stops : goal.returns-clause-stops
-returns-clause-stops g c =
-    let front = written_held _ (standing c.args.self.now) _ c.in_ok-held.held _ _ (writer_of g.K.Sink c.args.writer.now) (writer_of g.K.Sink c.pass_held.new.writer) (writer_of g.N.Sink c.args.notes.now)
-    (take_rest c.args.piece.now c.in_ok-held.held) c.pass_held.ensures.noted c.in_ok-held.ensures.onward in
-    IfErr-weaker c.pass_rest.result _ _ (λ fault stops. stops_rest _ (standing c.args.self.now) _ _ _ _ _ _ front _ fault stops) c.pass_rest.ensures.stops
+pub fronts-preserved : goal.fronts-preserved
+fronts-preserved g c =
+    let before = c.fronts.invariant in
+    let n = c.in_ok-rest.field-0 in
+    let uses = c.in_ok-rest.ensures.uses in
+    let flushed = c.in_ok-flush.ensures in
+    let more : n < length c.fronts.rest.now = search rules in
+    let much = c.in_ok-rest.ensures.much more in
+    passes_more before n (2 ^ 40) _ (take_rest c.fronts.rest.now n) uses flushed.takes flushed.empty c.flush.ensures.counted flushed.written flushed.noted flushed.unfailed
+    (omega (arith, c.flush.ensures.pushes, much), omega (arith, c.flush.ensures.mentions, much), omega (arith, flushed.written, much), omega (arith, flushed.noted, much))
+    (omega (arith, length-drop n c.fronts.rest.now, more, uses.some (omega (arith, more)), ap length before.whole, length-append before.front c.fronts.rest.now))
 
-pub returns-clause-failed : goal.returns-clause-failed
-returns-clause-failed g c =
-    let notes = writer_of g.N.Sink c.args.notes.now in
-    let first : Outs = record { writer = writer_of g.K.Sink c.args.writer.now; notes = notes } in
-    let between : Outs = record { writer = writer_of g.K.Sink c.pass_held.new.writer; notes = notes } in
-    let last = outs_of g.K.Sink g.N.Sink c.pass_rest.new.writer c.pass_rest.new.notes in
-    IfErr-weaker c.pass_rest.result _ _ (λ fault caused reads left ended. caused_then reads reads left ended first between last fault refl (c.in_ok-held.ensures.unfailed, refl) caused) c.pass_rest.ensures.failed
+pub slice_bounds-rest-start-in-fronts : goal.slice_bounds-rest-start-in-fronts
+slice_bounds-rest-start-in-fronts g c = omega (arith, c.in_ok-rest.ensures.uses.within)
+
+pub slice_bounds-rest-count-in-fronts : goal.slice_bounds-rest-count-in-fronts
+slice_bounds-rest-count-in-fronts g c = omega (arith, c.in_ok-rest.ensures.uses.within)
+
+pub returns-in_err-flush : goal.returns-in_err-flush
+returns-in_err-flush g c =
+    err_exit _ _ (PassesBy _ _ _ _) c.from_residual-in_err-flush.ensures.1
+    (stops_flush c.fronts.invariant (omega (arith, c.requires.piece)) (standing c.use_up-used.new.self) c.flush.ensures.counted c.flush.ensures.load.1 _ _ c.use_up-used.result c.use_up-used.ensures.uses
+    c.in_err-flush.ensures.err c.in_err-flush.ensures.failed)
+
+pub returns-in_err-rest : goal.returns-in_err-rest
+returns-in_err-rest g c =
+    err_exit _ _ (PassesBy _ _ _ _) c.from_residual-in_err-rest.ensures.1
+    (stops_used c.fronts.invariant (omega (arith, c.requires.piece)) (standing c.use_up-used.new.self) c.flush.ensures.counted c.flush.ensures.load.1 c.in_err-rest.ensures.uses
+    c.in_ok-flush.ensures.takes c.in_ok-flush.ensures.unfailed)
+
+pub returns-then-is_empty : goal.returns-then-is_empty
+returns-then-is_empty g c =
+    let n = c.in_ok-rest.field-0 in
+    let flushed = c.in_ok-flush.ensures in
+    let all : length c.fronts.rest.now ≤ n = search rules in
+    let none = nil_from_length (drop n c.fronts.rest.now) (omega (arith, all, length-drop n c.fronts.rest.now)) in
+    (passes_more c.fronts.invariant n (2 ^ 63) _ (sym none) c.in_ok-rest.ensures.uses flushed.takes flushed.empty c.flush.ensures.counted flushed.written flushed.noted flushed.unfailed
+    c.flush.ensures.load (omega (arith, c.requires.piece)), flushed.empty)

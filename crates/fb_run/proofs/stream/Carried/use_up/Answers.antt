@@ -1,40 +1,26 @@
-use Rattle.std.proofs.Common.{arith, refl, rules, ◌∙◌}
+use Rattle.std.proofs.Common.{arith, rules}
 use Rattle.std.proofs.lemmas.List.{length-drop, take_rest}
-use Rattle.fb_verify.proofs.Frames.{if_err_exit}
-use Rattle.fb_run.specs.Stream.{standing}
-use Rattle.fb_run.proofs.StreamLemmas.{halts_after, onward_front, passed_more, passed_none}
+use Rattle.fb_run.specs.Stream.{UsesBy, standing}
+use Rattle.fb_run.proofs.RunLemmas.{err_exit}
+use Rattle.fb_run.proofs.StreamLemmas.{used_front, used_more, used_none, used_stops}
 use Rattle.fb_run.proofs.stream.Carried.use_up.Goals as goal
 
 pub loop-rest-init : goal.loop-rest-init
-loop-rest-init g c =
-    let passed = passed_none c.args.checker.now (standing c.args.self.now) c.args.piece.now in
-    record { ready = c.requires.ready; passed = passed; within = omega arith; few = omega arith; written = refl; noted = refl }
+loop-rest-init g c = used_none _ _ (standing c.args.self.now) _ _ c.requires.ready
 
 pub loop-rest-preserved : goal.loop-rest-preserved
-loop-rest-preserved g c =
-    let passed = passed_more _ (standing c.args.self.now) (standing c.loop-rest.self) (standing c.pass_some.new.self) c.in_ok-used.used c.args.piece.now c.loop-rest.rest.now _
-    (take_rest c.loop-rest.rest.now c.in_ok-used.used) c.loop-rest.invariant.passed c.in_ok-used.ensures.onward in
+loop-rest-preserved g c = used_more c.loop-rest.invariant c.in_ok-used.used _ (take_rest c.loop-rest.rest.now c.in_ok-used.used) c.in_ok-used.ensures
+
+pub returns-in_err-used-clause-uses : goal.returns-in_err-used-clause-uses
+returns-in_err-used-clause-uses g c = err_exit _ _ (UsesBy _ _ _ _ _ _) c.from_residual.ensures.1 (used_stops c.loop-rest.invariant c.in_err-used.ensures)
+
+pub returns-then-is_much-clause-uses : goal.returns-then-is_much-clause-uses
+returns-then-is_much-clause-uses g c =
     let before = c.loop-rest.invariant in
-    let some = c.in_ok-used.ensures in
+    let used = c.in_ok-used.ensures in
     let left = length-drop c.in_ok-used.used c.loop-rest.rest.now in
-    record {
-      ready = some.ready;
-      passed = passed;
-      within = omega (arith, left, before.within);
-      few = omega (arith, left, some.some, some.within, some.few, before.few);
-      written = c.pass_some.ensures.written ∙ before.written;
-      noted = c.pass_some.ensures.noted ∙ before.noted;
-    }
+    let more = used_more before c.in_ok-used.used _ (take_rest c.loop-rest.rest.now c.in_ok-used.used) used in
+    used_front more _ (search rules) (λ _. omega (arith, left, before.within, used.within, used.some (search rules)))
 
-pub returns-in_err-used-clause-halts : goal.returns-in_err-used-clause-halts
-returns-in_err-used-clause-halts g c =
-    if_err_exit _ _ _ c.from_residual.ensures.1 (halts_after _ (standing c.args.self.now) (standing c.loop-rest.self) _ c.loop-rest.rest.now _ _ _ c.loop-rest.invariant.passed c.in_err-used.ensures.halts)
-
-pub returns-then-is_much-clause-onward : goal.returns-then-is_much-clause-onward
-returns-then-is_much-clause-onward g c =
-    onward_front _ (standing c.args.self.now) (standing c.pass_some.new.self) _ _ _ (search rules)
-    (passed_more _ (standing c.args.self.now) (standing c.loop-rest.self) (standing c.pass_some.new.self) c.in_ok-used.used _ c.loop-rest.rest.now _
-    (take_rest c.loop-rest.rest.now c.in_ok-used.used) c.loop-rest.invariant.passed c.in_ok-used.ensures.onward)
-
-pub returns-clause-onward : goal.returns-clause-onward
-returns-clause-onward g c = onward_front _ (standing c.args.self.now) (standing c.loop-rest.self) _ _ c.loop-rest.rest.now (search rules) c.loop-rest.invariant.passed
+pub returns-clause-uses : goal.returns-clause-uses
+returns-clause-uses g c = used_front c.loop-rest.invariant _ (search rules) (λ some. some)

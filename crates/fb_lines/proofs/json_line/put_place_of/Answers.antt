@@ -1,6 +1,0 @@
-use Rattle.std.proofs.Common.{append_assoc}
-use Rattle.fb_lines.proofs.JsonLemmas.{place_parts}
-use Rattle.fb_lines.proofs.json_line.put_place_of.Goals as goal
-
-pub returns : goal.returns
-returns g c = rw (place_parts c.args.place.now, c.in_ok-put-2.ensures, c.in_ok-put_text.ensures, c.in_ok-put.ensures) (simp append_assoc)
