@@ -4,11 +4,23 @@ use Rattle.std.proofs.lemmas.{Bool.Decides.leb_tells, List.take-append-le}
 use Rattle.fb_bytes.specs.Messages.{declared, IsMessage}
 use Rattle.fb_bytes.specs.Framing.{Framing, Feeds, IsHeld, IsRefused}
 use Rattle.fb_bytes.proofs.MessageLemmas.{declared_append, declared_take}
-use Rattle.fbcheck_calls.specs.Framers.{IsFilled}
+use Rattle.fbcheck_calls.specs.declared.framer.Framer.{Framer}
+use Rattle.fbcheck_calls.specs.Framers.{IsFilled, IsKept}
 
 -- a framer that goes on, and holds the first h bytes of the room
 abbrev pub going : List ℕ → ℕ → Framing
 going room h = record { limit = length room; held = take h room; failed = false }
+
+-- a piece fills no more than the room
+pub filled_within : (room room' piece : List ℕ) (h goal count : ℕ) → IsFilled room room' piece h goal count → h ≤ length room → goal ≤ length room → h + count ≤ length room'
+filled_within room room' piece h goal count f within fits = omega (arith, f.count_is, f.same)
+
+-- a framer that failed is kept, and one that holds a part of a prefix
+pub failed_is_kept : (room : List ℕ) (h number : ℕ) → h ≤ length room → IsKept room (record { held = h; failed = 1; declared = number })
+failed_is_kept room h number within = record { within = within; held = λ zero. absurd (omega (arith, zero)) }
+
+pub short_is_kept : (room : List ℕ) (f : Framer) → f.held ≤ length room → f.held < 4 → IsKept room f
+short_is_kept room f within few = record { within = within; held = λ _. inl (λ four. absurd (omega (arith, four, length-take-le f.held room within))) }
 
 -- the first bytes of a room are a message exactly where they are as many as they declare
 pub first_is_message : (room : List ℕ) (h : ℕ) → h ≤ length room → 4 ≤ h → h ≡ 4 + declared room → IsMessage (length room) (take h room)
@@ -31,7 +43,7 @@ fed_is_held old new piece used false fed = inl (fed.partial refl).0
 -- the prefix is whole, with u bytes of the piece
 module _ (room room' piece : List ℕ) (h u : ℕ) (within : h ≤ length room) (low : 8 ≤ length room) (held : IsHeld (length room) (take h room)) (f : IsFilled room room' piece h 4 u) (four : 4 ≤ h + u) where
   stands : h + u ≤ length room'
-  stands = omega (arith, f.count_is, f.same)
+  stands = filled_within room room' piece h 4 u f within (omega (arith, low))
 
   -- a prefix that was whole before is the same
   was_whole : 4 ≤ h → declared room' ≡ declared (take h room)

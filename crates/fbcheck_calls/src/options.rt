@@ -17,7 +17,7 @@ const VERSION: u32 = 1;
 pub const DEEPEST: u32 = 4096;
 
 /// The longest buffer, in bytes.
-const LONGEST: u64 = 0x7FFF_FFFF;
+pub const LONGEST: u64 = 0x7FFF_FFFF;
 
 /// The number of no object: the schema's own root table is asked for.
 const OWN_ROOT: u32 = 0xFFFF_FFFF;
