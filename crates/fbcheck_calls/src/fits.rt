@@ -2,8 +2,8 @@
 
 ghost use Rattle.std.specs.Prelude.{◌≡◌, ◌↔◌, IsTrue, MatchOption, option_map};
 ghost use Rattle.fb_access.specs.Fitting.{element_kind, next_kind, numbered};
-ghost use Rattle.fb_schema.specs.declared.{views.PartView.PartView, kinds.Kind.TheVariants.Table};
-ghost use Rattle.fb_schema.specs.{Live.live_of_view, Members.member_of, Parts.part_at};
+ghost use Rattle.fb_schema.specs.declared.kinds.Kind.TheVariants.{Table};
+ghost use Rattle.fb_schema.specs.{Live.live_of_view, Members.member_of};
 ghost use Rattle.fbcheck_calls.specs.Steps.{AllFit, FitFrom, FitsFrom, IsFirstMisfit};
 
 use crate::steps::{PlainPath, PlainStep};
@@ -27,20 +27,6 @@ pub fn live_field<'s, 'n>(
         }
     }
     None
-}
-
-/// The kind of a table's live field with this number.
-fn field_kind(schema: &Schema<'_>, table: u32, number: u16) -> Option<Kind>
-    ensures { result ≡ option_map (λ f. f.kind) (numbered schema.now table number) }
-{
-    Some(live_field(schema, table, u32::from(number))?.kind)
-}
-
-/// The kind of a struct's field at this place.
-fn part_kind(schema: &Schema<'_>, object: u32, number: u16) -> Option<Kind>
-    ensures { result ≡ option_map (λ (part : PartView). part.kind) (part_at schema.now object number) }
-{
-    Some(schema.part_at(object, u32::from(number))?.kind)
 }
 
 /// The kind of a vector's elements.
@@ -75,8 +61,8 @@ fn next_kind(schema: &Schema<'_>, kind: Kind, step: Step) -> Option<Kind>
 {
     match step {
         Step::Field(number) => match kind {
-            Kind::Table(table) => field_kind(schema, table, number),
-            Kind::Struct(object) => part_kind(schema, object, number),
+            Kind::Table(table) => Some(live_field(schema, table, u32::from(number))?.kind),
+            Kind::Struct(object) => Some(schema.part_at(object, u32::from(number))?.kind),
             _ => None,
         },
         Step::Element(_) => element_kind(kind),

@@ -17,7 +17,7 @@ use fb_access::{LocationText, write_location};
 use fb_bfbs::Loaded;
 use fb_schema::Schema;
 use fb_verify::{
-    Fault, Link, Located, Scratch, Verified, verify_and_locate, verify_and_locate_shallow,
+    Fault, Link, Located, Verified, verify_and_locate, verify_and_locate_shallow,
 };
 use std::alloc::Global;
 
@@ -98,42 +98,6 @@ fn locate_shallow(
     tell_located(&found, &loaded.schema, &links, text, written, verdict)
 }
 
-/// The same in this room for so many levels.
-fn locate_within(
-    loaded: &Loaded<'static>,
-    levels: u32,
-    scratch: &mut Scratch,
-    links: &mut [Link],
-    verdict: &mut Verdict,
-    options: &Options,
-    buffer: &[u8],
-    text: &mut [u8],
-    written: &mut usize,
-) -> u32
-    requires tables { levels ≤ scratch.old }
-    requires links { levels ≤ length links.old }
-    ensures told { (a : Answer) × (verdict.new ≡ told a) × IsLocated loaded.now levels options.now buffer.now text.old text.new written.old written.new a }
-    ensures status { result ≡ verdict.new.status }
-    ensures kept { scratch.new ≡ scratch.old }
-{
-    let begun = match prepare(loaded, levels, options, buffer, verdict) {
-        Ok(begun) => begun,
-        Err(status) => return status,
-    };
-    let found = verify_and_locate(
-        metered(buffer),
-        &loaded.schema,
-        begun.root,
-        begun.start,
-        begun.ident,
-        begun.limits,
-        begun.checks,
-        scratch,
-        links,
-    );
-    tell_located(&found, &loaded.schema, links, text, written, verdict)
-}
-
 /// The same in the room that is given.
 fn locate_in(
     loaded: &Loaded<'static>,
@@ -148,12 +112,23 @@ fn locate_in(
     ensures status { result ≡ verdict.new.status }
     ensures kept { room.new ≡ room.old }
 {
-    let levels = room.levels();
+    let begun = match prepare(loaded, room.levels(), options, buffer, verdict) {
+        Ok(begun) => begun,
+        Err(status) => return status,
+    };
     let links = room.links.as_mut_slice();
-    let scratch = &mut room.scratch;
-    locate_within(
-        loaded, levels, scratch, links, verdict, options, buffer, text, written,
-    )
+    let found = verify_and_locate(
+        metered(buffer),
+        &loaded.schema,
+        begun.root,
+        begun.start,
+        begun.ident,
+        begun.limits,
+        begun.checks,
+        &mut room.scratch,
+        links,
+    );
+    tell_located(&found, &loaded.schema, links, text, written, verdict)
 }
 
 /// Checks a buffer by a schema as [`check`](crate::checking::check) does, and writes where the fault of a bad one is,
