@@ -1,11 +1,11 @@
 //! Loading a schema, and the checks of buffers by it.
 
-ghost use Rattle.std.specs.Prelude.{◌≡◌, ◌<◌, ◌^◌, IfOk, MatchResult, length};
+ghost use Rattle.std.specs.Prelude.{◌≡◌, ◌<◌, ◌≤◌, ◌^◌, IfOk, MatchResult, length};
 ghost use Rattle.fb_rules.specs.declared.fault.{Fault.Fault, Report.Report};
 ghost use Rattle.fb_verify.specs.Sealed.{Sealed};
 ghost use Rattle.fbcheck_calls.specs.Answered.{Begins, IfSchema, IsChecked, IsNotOpened, IsOpened, IsPriced, IsTold, IsUnchecked, IsUnservedBy, Starts, levels};
 ghost use Rattle.fbcheck_calls.specs.{Steps.AllFit, Told.found_by, Told.told, Values.AreValues};
-ghost use Rattle.fbcheck_calls.specs.declared.answer.Answer.{Answer};
+ghost use Rattle.fbcheck_calls.specs.declared.{answer.Answer.Answer, checking.Begun.Begun};
 ghost use Rattle.fbcheck_calls.specs.Reached.{IsPath, IsRead, IsReadBy, IsResolved, IsUnread, IsUnresolved, StartsRead};
 
 use crate::answer::{Answer, Verdict, low, tell_bad, tell_blank, tell_good};
@@ -68,7 +68,8 @@ fn begin(
     options: &Options,
     length: u64,
 ) -> Result<Begun, u32>
-    ensures { MatchResult result (Begins loaded.now levels options.now length) (IsUnservedBy loaded.now levels options.now) }
+    ensures begins { MatchResult result (Begins loaded.now levels options.now length) (IsUnservedBy loaded.now levels options.now) }
+    ensures depth { IfOk result (λ (begun : Begun). begun.limits.depth ≤ levels) }
 {
     if !options.are_known() {
         return Err(3);
@@ -105,7 +106,8 @@ pub fn prepare(
     buffer: &[u8],
     verdict: &mut Verdict,
 ) -> Result<Begun, u32>
-    ensures { MatchResult result (Starts loaded.now levels options.now buffer.now) (IsTold verdict.new (IsUnchecked loaded.now levels options.now buffer.now)) }
+    ensures starts { MatchResult result (Starts loaded.now levels options.now buffer.now) (IsTold verdict.new (IsUnchecked loaded.now levels options.now buffer.now)) }
+    ensures depth { IfOk result (λ (begun : Begun). begun.limits.depth ≤ levels) }
 {
     let length = buffer.len() as u64;
     let begun = match begin(loaded, levels, options, length) {
@@ -122,7 +124,8 @@ pub fn prepare(
 #[inline(always)]
 pub fn metered(buffer: &[u8]) -> Meter<'_>
     requires { length buffer.now < 2 ^ 31 }
-    ensures { result ≡ record { bytes = buffer.now; count = 0 } }
+    ensures bytes { result.bytes ≡ buffer.now }
+    ensures fresh { result.count ≡ 0 }
 {
     match Meter::new(buffer) {
         Ok(meter) => meter,
@@ -243,7 +246,8 @@ fn prepare_read(
     paths: &[PlainPath],
     verdict: &mut Verdict,
 ) -> Result<Begun, u32>
-    ensures { MatchResult result (StartsRead loaded.now levels options.now buffer.now paths.now) (IsTold verdict.new (IsUnread loaded.now levels options.now buffer.now paths.now)) }
+    ensures starts { MatchResult result (StartsRead loaded.now levels options.now buffer.now paths.now) (IsTold verdict.new (IsUnread loaded.now levels options.now buffer.now paths.now)) }
+    ensures depth { IfOk result (λ (begun : Begun). begun.limits.depth ≤ levels) }
 {
     let length = buffer.len() as u64;
     let begun = match begin(loaded, levels, options, length) {

@@ -1,5 +1,4 @@
-use Rattle.std.proofs.Common.{ap, rules}
-use Rattle.fb_bytes.specs.Word.{Metered}
+use Rattle.std.proofs.Common.{rules}
 use Rattle.fb_rules.specs.declared.fault.{Fault.Fault, Report.Report}
 use Rattle.fbcheck_calls.specs.{Answered.IsChecked, Told.found_by}
 use Rattle.fbcheck_calls.specs.declared.answer.Answer.{Answer, TheVariants.NoRoot}
@@ -11,7 +10,7 @@ returns-in_default-clause-told c = (NoRoot, c.tell_blank.ensures.told, search ru
 
 pub returns-in-Err-clause-told : goal.returns-in-Err-clause-told
 returns-in-Err-clause-told c =
-    let t = c.in-Err.ensures in
+    let t = c.in-Err.ensures.starts in
     (t.answer, t.told, by_schema t.answer (λ l. IsChecked l 64 c.args.options.now c.args.buffer.now t.answer) c.in-Schema.is (unchecked_is_checked c.in-Schema.loaded 64 c.args.options.now c.args.buffer.now t.answer t.holds))
 
 pub returns-clause-told : goal.returns-clause-told
@@ -20,5 +19,5 @@ returns-clause-told c =
     let answer : Answer = found_by (λ (r : Report). r) (λ (f : Fault). f) found.result in (
       answer,
       c.tell_found.ensures.told,
-      by_schema answer (λ l. IsChecked l 64 c.args.options.now c.args.buffer.now answer) c.in-Schema.is (found_is_checked c.in-Schema.loaded 64 c.args.options.now c.args.buffer.now c.in-Ok.begun c.in-Ok.ensures.0 c.in-Ok.ensures.1 c.metered.result.bytes (ap (λ (m : Metered). m.bytes) c.metered.ensures) (λ r. r) (λ f. f) found.result found.ensures.yes found.ensures.none found.ensures.no),
+      by_schema answer (λ l. IsChecked l 64 c.args.options.now c.args.buffer.now answer) c.in-Schema.is (found_is_checked c.in-Schema.loaded 64 c.args.options.now c.args.buffer.now c.in-Ok.begun c.in-Ok.ensures.starts.0 c.in-Ok.ensures.starts.1 c.metered.result.bytes c.metered.ensures.bytes (λ r. r) (λ f. f) found.result found.ensures.yes found.ensures.none found.ensures.no),
     )

@@ -1,6 +1,5 @@
 use Rattle.std.proofs.Common.{◌≡◌, ◌∙◌, ap, length, sym}
 use Rattle.std.specs.List.{length_refill}
-use Rattle.fb_bytes.specs.Word.{Metered}
 use Rattle.fb_verify.specs.Sealed.{Sealed}
 use Rattle.fb_verify.specs.declared.links.Located.{Located}
 use Rattle.fbcheck_calls.specs.Told.{found_by}
@@ -9,7 +8,7 @@ use Rattle.fbcheck_calls.proofs.place.locate_in.Goals as goal
 
 pub returns-in-Err-clause-told : goal.returns-in-Err-clause-told
 returns-in-Err-clause-told c =
-    let t = c.in-Err.ensures in
+    let t = c.in-Err.ensures.starts in
     (t.answer, t.told, rw (← c.levels.ensures) (unchecked_is_located c.args.loaded.now c.levels.result c.args.options.now c.args.buffer.now c.args.text.now c.args.written.now t.answer t.holds))
 
 pub returns-clause-told : goal.returns-clause-told
@@ -17,7 +16,7 @@ returns-clause-told c =
     let found = c.verify_and_locate-found in (
       found_by (λ (v : Sealed). v.report) (λ (e : Located). e.fault) found.result,
       c.tell_located.ensures.told,
-      rw (← c.levels.ensures) (found_is_located c.args.loaded.now c.levels.result c.args.options.now c.args.buffer.now c.in-Ok.begun c.in-Ok.ensures.0 c.in-Ok.ensures.1 c.metered.result.bytes (ap (λ (m : Metered). m.bytes) c.metered.ensures) found.result _ c.args.text.now c.tell_located.new.text c.args.written.now c.tell_located.new.written
+      rw (← c.levels.ensures) (found_is_located c.args.loaded.now c.levels.result c.args.options.now c.args.buffer.now c.in-Ok.begun c.in-Ok.ensures.starts.0 c.in-Ok.ensures.starts.1 c.metered.result.bytes c.metered.ensures.bytes found.result _ c.args.text.now c.tell_located.new.text c.args.written.now c.tell_located.new.written
           found.ensures.yes found.ensures.none found.ensures.no found.ensures.along c.tell_located.ensures.text),
     )
 
