@@ -11,10 +11,6 @@ use Rattle.fbcheck_calls.specs.Framers.{IsFilled, IsKept}
 abbrev pub going : List ℕ → ℕ → Framing
 going room h = record { limit = length room; held = take h room; failed = false }
 
--- a piece fills no more than the room
-pub filled_within : (room room' piece : List ℕ) (h goal count : ℕ) → IsFilled room room' piece h goal count → h ≤ length room → goal ≤ length room → h + count ≤ length room'
-filled_within room room' piece h goal count f within fits = omega (arith, f.count_is, f.same)
-
 -- a framer that failed is kept, and one that holds a part of a prefix
 pub failed_is_kept : (room : List ℕ) (h number : ℕ) → h ≤ length room → IsKept room (record { held = h; failed = 1; declared = number })
 failed_is_kept room h number within = record { within = within; held = λ zero. absurd (omega (arith, zero)) }
@@ -43,7 +39,7 @@ fed_is_held old new piece used false fed = inl (fed.partial refl).0
 -- the prefix is whole, with u bytes of the piece
 module _ (room room' piece : List ℕ) (h u : ℕ) (within : h ≤ length room) (low : 8 ≤ length room) (held : IsHeld (length room) (take h room)) (f : IsFilled room room' piece h 4 u) (four : 4 ≤ h + u) where
   stands : h + u ≤ length room'
-  stands = filled_within room room' piece h 4 u f within (omega (arith, low))
+  stands = omega (arith, f.count_is, f.same)
 
   -- a prefix that was whole before is the same
   was_whole : 4 ≤ h → declared room' ≡ declared (take h room)
@@ -90,7 +86,7 @@ module _ (room room' piece : List ℕ) (h u : ℕ) (within : h ≤ length room) 
     ends : h + u + m ≤ number + 4
     ends = omega (arith, more.count_is, reaches, told)
 
-    pub stays : h + u + m ≤ length room''
+    stays : h + u + m ≤ length room''
     stays = omega (arith, ends, more.same, f.same)
 
     number' : declared (take (h + u + m) room'') ≡ number
