@@ -8,10 +8,10 @@ use Rattle.fb_verify.specs.declared.links.Located.{Located}
 use Rattle.fb_bfbs.specs.declared.loading.Loaded.{Loaded}
 use Rattle.fbcheck_calls.specs.declared.{answer.Answer.Answer, checking.Begun.Begun, held.Held.Held, held.Held.TheVariants.Schema, options.Options.Options, steps.PlainPath.PlainPath, values.Value.Value}
 use Rattle.fbcheck_calls.specs.declared.answer.Answer.TheVariants.{Good, Bad, TooLong, Misfit}
-use Rattle.fbcheck_calls.specs.Answered.{Begins, IfSchema, IsBadFrom, IsChecked, IsGoodFrom, IsUnchecked, IsUnserved, Serves, Starts, question_begun}
+use Rattle.fbcheck_calls.specs.Answered.{Begins, IfSchema, IsBadFrom, IsChecked, IsGoodFrom, IsUnchecked, IsUnserved, Serves, question_begun}
 use Rattle.fbcheck_calls.specs.Asked.{ident_asked, question_of, root_asked, start_asked}
 use Rattle.fbcheck_calls.specs.{Placed.IsLocated, Placed.IsPlaceTold, Placed.IsTextTold, Placed.IsUntold, Told.found_by}
-use Rattle.fbcheck_calls.specs.{Reached.AllFitAsked, Reached.IsRead, Reached.IsUnread, Steps.AllFit, Steps.IsFirstMisfit, Values.AreValues}
+use Rattle.fbcheck_calls.specs.{Reached.IsRead, Reached.IsUnread, Steps.AllFit, Steps.IsFirstMisfit, Values.AreValues}
 
 -- what a call answers by a schema
 pub by_schema : {held : Held} {l : Loaded} (a : Answer) (P : Loaded → Type 0) → held ≡ Schema l → P l → IfSchema held a P

@@ -1,5 +1,5 @@
 -- Names by their numbers, and how they are copied.
-use Rattle.std.specs.Prelude.{◌≡◌, ◌≢◌, ℕ, ◌==◌, nat_le, codes, List, [], ◌∷◌, ◌++◌, drop, find, length, slice_get, IsSome, Option, Some, None, option_map, if◌then◌else◌}
+use Rattle.std.specs.Prelude.{◌≡◌, ◌≢◌, ℕ, nat_le, codes, List, [], ◌∷◌, ◌++◌, drop, length, slice_get, IsSome, Option, Some, None, option_map, if◌then◌else◌}
 use Rattle.fb_schema.specs.Rows.{Rows, table_named}
 use Rattle.fb_rules.specs.Reasons.{reason_number, reason_text}
 use Rattle.fb_rules.specs.declared.fault.Reason.{Reason}
