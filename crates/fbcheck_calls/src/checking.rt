@@ -19,8 +19,8 @@ use fb_access::Path;
 use fb_bfbs::{Loaded, load};
 use fb_bytes::Meter;
 use fb_verify::{
-    Checks, Fault, Ident, Limits, Report, Start, Verified, most_reads, verify, verify_shallow, walk,
-    walk_shallow,
+    Checks, Fault, Ident, Limits, Report, Start, Verified, most_reads, verify, verify_shallow,
+    walk, walk_shallow,
 };
 use std::alloc::Global;
 

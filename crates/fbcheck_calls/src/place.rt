@@ -16,9 +16,7 @@ use crate::options::Options;
 use fb_access::{LocationText, write_location};
 use fb_bfbs::Loaded;
 use fb_schema::Schema;
-use fb_verify::{
-    Fault, Link, Located, Verified, verify_and_locate, verify_and_locate_shallow,
-};
+use fb_verify::{Fault, Link, Located, Verified, verify_and_locate, verify_and_locate_shallow};
 use std::alloc::Global;
 
 /// Copies as much of a text as there is room for, and tells its whole length.
