@@ -8,9 +8,10 @@
 ghost use Rattle.std.specs.Prelude.{◌≡◌, ℕ, List, None, Option, length, take};
 ghost use Rattle.fbcheck_calls.specs.Answered.{IfSchema, IsChecked, IsPriceTold, IsRoomMade, IsTaken, levels};
 ghost use Rattle.fbcheck_calls.specs.{Asked.published, Placed.IsLocatedBy, Reached.IsPath, Reached.IsReadBy, Spans.AreTold, Spans.all_good};
+ghost use Rattle.fb_access.specs.Location.{field_name};
 ghost use Rattle.fbcheck_calls.specs.Told.{told};
 ghost use Rattle.fbcheck_calls.specs.Framers.{IsFedTold, IsFinished, IsKept, IsNext};
-ghost use Rattle.fbcheck_calls.specs.Names.{IsFaultName, IsNameTold, IsReasonName, field_name, held_name, object_name, status_text, table_number};
+ghost use Rattle.fbcheck_calls.specs.Names.{IsFaultName, IsNameTold, IsReasonName, held_name, object_name, status_text, table_number};
 ghost use Rattle.fbcheck_calls.specs.declared.answer.Answer.{Answer};
 
 use fb_bytes::Taken;

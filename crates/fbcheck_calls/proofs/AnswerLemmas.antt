@@ -12,13 +12,6 @@ use Rattle.fbcheck_calls.specs.{AnswerLaws.CanServe, Asked.ident_asked, Asked.qu
 at_value : {X : Type 0} (o : Option X) (x : X) (P : X → Type 0) → o ≡ Some x → IsSomeAnd o P → P x
 at_value o x P e h = subst (λ v. IsSomeAnd v P) e h
 
--- what is answered where no check can begin is answered of every buffer
-pub unserved_is_checked : (l : Loaded) (n : ℕ) (o : Options) (b : List ℕ) (a : Answer) → IsUnserved l n o a → IsChecked l n o b a
-unserved_is_checked l n o b (Good r) h = absurd h
-unserved_is_checked l n o b (Bad f) h = absurd h
-unserved_is_checked l n o b TooLong h = absurd h
-unserved_is_checked l n o b _ h = h
-
 module _ (l : Loaded) (n : ℕ) (o : Options) (b : List ℕ) (root : ℕ) (ident : Ident) (c : CanServe l n o root ident) where
   served : (P : ℕ → Ident → Type 0) → Serves l n o P → P root ident
   served P h = at_value (ident_asked l o) ident (P root) c.ident_is (at_value (root_asked l o) root (λ r. IsSomeAnd (ident_asked l o) (P r)) c.root_is h.1)

@@ -4,11 +4,19 @@ use Rattle.std.proofs.lemmas.{Bool.Decides.leb_tells, List.take-append-le}
 use Rattle.fb_bytes.specs.Messages.{declared, IsMessage}
 use Rattle.fb_bytes.specs.Framing.{Framing, Feeds, IsHeld, IsRefused}
 use Rattle.fb_bytes.proofs.MessageLemmas.{declared_append, declared_take}
-use Rattle.fbcheck_calls.specs.Framers.{IsFilled}
+use Rattle.fbcheck_calls.specs.declared.framer.Framer.{Framer}
+use Rattle.fbcheck_calls.specs.Framers.{IsFilled, IsKept}
 
 -- a framer that goes on, and holds the first h bytes of the room
 abbrev pub going : List ℕ → ℕ → Framing
 going room h = record { limit = length room; held = take h room; failed = false }
+
+-- a framer that failed is kept, and one that holds a part of a prefix
+pub failed_is_kept : (room : List ℕ) (h number : ℕ) → h ≤ length room → IsKept room (record { held = h; failed = 1; declared = number })
+failed_is_kept room h number within = record { within = within; held = λ zero. absurd (omega (arith, zero)) }
+
+pub short_is_kept : (room : List ℕ) (f : Framer) → f.held ≤ length room → f.held < 4 → IsKept room f
+short_is_kept room f within few = record { within = within; held = λ _. inl (λ four. absurd (omega (arith, four, length-take-le f.held room within))) }
 
 -- the first bytes of a room are a message exactly where they are as many as they declare
 pub first_is_message : (room : List ℕ) (h : ℕ) → h ≤ length room → 4 ≤ h → h ≡ 4 + declared room → IsMessage (length room) (take h room)
@@ -78,7 +86,7 @@ module _ (room room' piece : List ℕ) (h u : ℕ) (within : h ≤ length room) 
     ends : h + u + m ≤ number + 4
     ends = omega (arith, more.count_is, reaches, told)
 
-    pub stays : h + u + m ≤ length room''
+    stays : h + u + m ≤ length room''
     stays = omega (arith, ends, more.same, f.same)
 
     number' : declared (take (h + u + m) room'') ≡ number

@@ -5,9 +5,7 @@ pub mod FitLemmas
 pub mod FramerLemmas
 pub mod HandleLemmas
 pub mod MemberLemmas
-pub mod NameLemmas
 pub mod Owned
-pub mod PlaceLemmas
 pub mod Shown
 pub mod SpanLemmas
 pub mod StandLemmas

@@ -1,15 +1,15 @@
 -- Which answer a call gives.
 use Rattle.std.specs.Prelude.{◌≡◌, ℕ, ◌<◌, ◌≤◌, ◌^◌, List, length, Option, Some, None, Result, Ok, Err, IsSomeAnd, IsSome, IsTrue}
 use Rattle.fb_schema.specs.Rows.{is_table}
-use Rattle.fb_rules.specs.{MostReads.most_reads, Stops.Stops, Verdict.Reports, Verdict.HasNone}
+use Rattle.fb_rules.specs.{MostReads.most_reads, Question.Question, Question.question, Stops.Stops, Verdict.Reports, Verdict.HasNone}
 use Rattle.fb_rules.specs.declared.{fault.Fault.Fault, fault.Report.Report, start.Ident.Ident}
 use Rattle.fb_bfbs.specs.Loads.{IsLoaded, IsLoadFault}
 use Rattle.fb_bfbs.specs.declared.{loading.Loaded.Loaded, load_fault.LoadFault.TheVariants.OutOfMemory}
-use Rattle.fbcheck_calls.specs.declared.{answer.Answer.Answer, checking.Begun.Begun, held.Held.Held}
+use Rattle.fbcheck_calls.specs.declared.{answer.Answer.Answer, answer.Verdict.Verdict, checking.Begun.Begun, held.Held.Held}
 use Rattle.fbcheck_calls.specs.declared.{held.Held.TheVariants.Schema, held.Held.TheVariants.Room, options.Options.Options}
 use Rattle.fbcheck_calls.specs.declared.answer.Answer.TheVariants.{Done, Good, Bad, OutOfRange, NoIdent, NoRoot, TooLong, NoSchema}
-use Rattle.fbcheck_calls.specs.Asked.{HasLimits, LimitsFail, ident_asked, limits_of, question_of, root_asked}
-use Rattle.fbcheck_calls.specs.Told.{low, told}
+use Rattle.fbcheck_calls.specs.Asked.{HasLimits, LimitsFail, checks_asked, ident_asked, limits_of, question_of, root_asked, start_asked}
+use Rattle.fbcheck_calls.specs.Told.{blank, low, told}
 
 -- ---- to load a schema
 
@@ -59,23 +59,32 @@ IsRoomMade depth held held' _ = ⊥
 
 -- ---- to check a buffer
 
--- the limits, the root and the identifier of a check of so many bytes
+-- what a check of so many bytes asks
 pub record Begins (l : Loaded) (n : ℕ) (o : Options) (bytes : ℕ) (begun : Begun) : Type 0 where
   pub has : HasLimits o n
   pub limits_are : begun.limits ≡ limits_of o bytes
   pub root_is : root_asked l o ≡ Some begun.root
   pub is_table : IsTrue (is_table l.schema begun.root)
   pub ident_is : ident_asked l o ≡ Some begun.ident
+  pub start_is : begun.start ≡ start_asked o
+  pub checks_are : begun.checks ≡ checks_asked o
 
--- none can begin
-abbrev pub CannotBegin : Loaded → ℕ → Options → Type 0
-CannotBegin l n o = HasLimits o n → IsSome (root_asked l o) → IsSome (ident_asked l o) → ⊥
+-- that of a buffer which isn't too long
+abbrev pub Starts : Loaded → ℕ → Options → List ℕ → Begun → Type 0
+Starts l n o b begun = Begins l n o (length b) begun × (length b < 2 ^ 31)
+
+abbrev pub question_begun : Loaded → Begun → Question
+question_begun l begun = question l.schema begun.root begun.start begun.ident begun.limits begun.checks
 
 -- why nothing can be checked by these options, in room for so many levels
 abbrev pub IsUnserved : Loaded → ℕ → Options → Answer → Type 0
 IsUnserved l n o NoRoot = HasLimits o n × (root_asked l o ≡ None)
 IsUnserved l n o NoIdent = HasLimits o n × IsSome (root_asked l o) × (ident_asked l o ≡ None)
 IsUnserved l n o a = LimitsFail o n a
+
+-- that by its status, with nothing more to tell
+abbrev pub IsUnservedBy : Loaded → ℕ → Options → ℕ → Type 0
+IsUnservedBy l n o status = (a : Answer) × IsUnserved l n o a × (told a ≡ blank status)
 
 -- a check can begin, and this holds of its root and its identifier
 abbrev pub Serves : Loaded → ℕ → Options → (ℕ → Ident → Type 0) → Type 0
@@ -90,12 +99,23 @@ pub record IsBadFrom (l : Loaded) (o : Options) (b : List ℕ) (f : Fault) (root
   pub none : HasNone (question_of l o b root ident) b
   pub stops : Stops (question_of l o b root ident) b f
 
+-- why a buffer isn't checked
+abbrev pub IsUnchecked : Loaded → ℕ → Options → List ℕ → Answer → Type 0
+IsUnchecked l n o b TooLong = Serves l n o (λ root ident. 2 ^ 31 ≤ length b)
+IsUnchecked l n o b a = IsUnserved l n o a
+
 -- what a check of a buffer answers
 abbrev pub IsChecked : Loaded → ℕ → Options → List ℕ → Answer → Type 0
 IsChecked l n o b (Good r) = (length b < 2 ^ 31) × Serves l n o (IsGoodFrom l o b r)
 IsChecked l n o b (Bad f) = (length b < 2 ^ 31) × Serves l n o (IsBadFrom l o b f)
-IsChecked l n o b TooLong = Serves l n o (λ root ident. 2 ^ 31 ≤ length b)
-IsChecked l n o b a = IsUnserved l n o a
+IsChecked l n o b a = IsUnchecked l n o b a
+
+-- a verdict and its status tell an answer of which this holds
+pub record IsTold (v : Verdict) (P : Answer → Type 0) (number : ℕ) : Type 0 where
+  pub answer : Answer
+  pub told : v ≡ told answer
+  pub holds : P answer
+  pub status : number ≡ v.status
 
 -- what the most reads of a check are said to be
 abbrev pub IsPricedBy : Loaded → Options → ℕ → Result ℕ Answer → Type 0

@@ -1,6 +1,6 @@
 -- Names by their numbers, and how they are copied.
-use Rattle.std.specs.Prelude.{◌≡◌, ◌≢◌, ℕ, ◌==◌, nat_le, codes, List, [], ◌∷◌, ◌++◌, drop, find, length, slice_get, IsSome, Option, Some, None, option_map, if◌then◌else◌}
-use Rattle.fb_schema.specs.{Live.live_fields, Rows.Rows, Rows.is_table, Rows.table_named}
+use Rattle.std.specs.Prelude.{◌≡◌, ◌≢◌, ℕ, nat_le, codes, List, [], ◌∷◌, ◌++◌, drop, length, slice_get, IsSome, Option, Some, None, option_map, if◌then◌else◌}
+use Rattle.fb_schema.specs.Rows.{Rows, table_named}
 use Rattle.fb_rules.specs.Reasons.{reason_number, reason_text}
 use Rattle.fb_rules.specs.declared.fault.Reason.{Reason}
 use Rattle.fb_access.specs.PathCodes.{path_code}
@@ -20,10 +20,6 @@ NumbersNothing n = (r : Reason) → reason_number r ≡ n → ⊥
 
 abbrev pub object_name : Rows → ℕ → Option (List ℕ)
 object_name rows n = option_map (λ o. o.name) (slice_get rows.objects n)
-
--- the name of a live field of a table, by its number
-abbrev pub field_name : Rows → ℕ → ℕ → Option (List ℕ)
-field_name rows n number = if is_table rows n then option_map (λ f. f.name) (find (λ f. f.number == number) (live_fields rows n)) else None
 
 -- room after a text was copied to its front, or as it was where the text has more bytes
 abbrev pub filled : List ℕ → List ℕ → List ℕ

@@ -1,8 +1,8 @@
 -- How an answer is told in numbers.
-use Rattle.std.specs.Prelude.{ℕ, min, replicate, Option, Some, None}
+use Rattle.std.specs.Prelude.{ℕ, min, replicate, Option, Some, None, Result, Ok, Err}
 use Rattle.fb_schema.specs.declared.fault.Code.{Code}
 use Rattle.fb_schema.specs.declared.fault.Code.TheVariants.{NoSuchObject, NoSuchEnum, Unsupported, BadSlot, NoTypeField, BadStruct, BadMember, NameTwice, OutOfMemory as NoMemory}
-use Rattle.fb_rules.specs.declared.fault.Fault.{Fault}
+use Rattle.fb_rules.specs.declared.fault.{Fault.Fault, Report.Report}
 use Rattle.fb_rules.specs.Reasons.{reason_number}
 use Rattle.fb_access.specs.declared.path_fault.PathFault.{PathFault}
 use Rattle.fb_access.specs.declared.path_fault.PathFault.TheVariants as path
@@ -78,6 +78,11 @@ path_told (path.NotAUnion step) = misplaced 4 step
 path_told (path.NoSuchMember step) = misplaced 5 step
 path_told (path.NotATable step) = misplaced 6 step
 path_told path.OutOfMemory = blank 11
+
+-- the answer by what a check found
+abbrev pub found_by : {G B : Type 0} → (G → Report) → (B → Fault) → Result G B → Answer
+found_by report fault (Ok good) = Good (report good)
+found_by report fault (Err bad) = Bad (fault bad)
 
 -- an answer in numbers
 abbrev pub told : Answer → Verdict

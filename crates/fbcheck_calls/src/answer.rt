@@ -2,8 +2,8 @@
 
 ghost use Rattle.std.specs.Prelude.{◌≡◌, min};
 ghost use Rattle.fb_rules.specs.Reasons.{reason_number};
-ghost use Rattle.fbcheck_calls.specs.declared.answer.Answer.TheVariants.{Bad, Good, Misfit};
-ghost use Rattle.fbcheck_calls.specs.Told.{blank, code_number, fault_told, field_number, load_told, low, misplaced, part_number, path_told, stream_number, told};
+ghost use Rattle.fbcheck_calls.specs.declared.answer.Answer.TheVariants.{Bad, Good};
+ghost use Rattle.fbcheck_calls.specs.Told.{blank, code_number, fault_told, field_number, load_told, low, misplaced, path_told, stream_number, told};
 
 use fb_access::PathFault;
 use fb_bfbs::LoadFault;
@@ -98,16 +98,6 @@ fn field_number(field: Option<u16>) -> u32
     }
 }
 
-/// The place of a part, if there is one.
-fn part_number(part: Option<u32>) -> u32
-    ensures { result ≡ part_number part }
-{
-    match part {
-        Some(part) => part,
-        None => NONE,
-    }
-}
-
 /// So many reads, or the greatest number that there is room for.
 pub fn low(reads: u128) -> u64
     ensures { result ≡ low reads }
@@ -162,7 +152,7 @@ fn load_told(fault: LoadFault) -> Verdict
         LoadFault::BadSchema(SchemaFault { code, owner, part }) => Verdict {
             reason: code_number(code),
             object: owner,
-            field: part_number(part),
+            field: part.unwrap_or(NONE),
             ..blank(9)
         },
         LoadFault::RootNotListed => blank(10),
@@ -194,16 +184,6 @@ fn path_told(fault: PathFault) -> Verdict
         PathFault::NoSuchMember { step } => misplaced(5, step),
         PathFault::NotATable { step } => misplaced(6, step),
         PathFault::OutOfMemory => blank(11),
-    }
-}
-
-/// The place of the first path that doesn't fit.
-fn misfit_told(place: u64) -> Verdict
-    ensures { result ≡ told (Misfit place) }
-{
-    Verdict {
-        at: place,
-        ..blank(19)
     }
 }
 
@@ -271,7 +251,7 @@ impl Answer {
             Answer::NoSpan => blank(12),
             Answer::BadPath(fault) => path_told(fault),
             Answer::NoRoom => blank(18),
-            Answer::Misfit(place) => misfit_told(place),
+            Answer::Misfit(at) => Verdict { at, ..blank(19) },
             Answer::BadStream(fault) => blank(stream_number(fault)),
         }
     }

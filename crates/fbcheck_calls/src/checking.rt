@@ -1,22 +1,27 @@
 //! Loading a schema, and the checks of buffers by it.
 
-ghost use Rattle.std.specs.Prelude.{◌≡◌, MatchOption, MatchResult};
-ghost use Rattle.fbcheck_calls.specs.Answered.{Begins, CannotBegin, IfSchema, IsChecked, IsNotOpened, IsOpened, IsPriced, IsUnserved, levels};
-ghost use Rattle.fbcheck_calls.specs.Told.{told};
-ghost use Rattle.fbcheck_calls.specs.declared.answer.Answer.{Answer};
-ghost use Rattle.fbcheck_calls.specs.Reached.{IsPath, IsRead, IsReadBy, IsResolved, IsUnresolved};
+ghost use Rattle.std.specs.Prelude.{◌≡◌, ◌<◌, ◌≤◌, ◌^◌, IfOk, MatchResult, length};
+ghost use Rattle.fb_rules.specs.declared.fault.{Fault.Fault, Report.Report};
+ghost use Rattle.fb_verify.specs.Sealed.{Sealed};
+ghost use Rattle.fbcheck_calls.specs.Answered.{Begins, IfSchema, IsChecked, IsNotOpened, IsOpened, IsPriced, IsTold, IsUnchecked, IsUnservedBy, Starts, levels};
+ghost use Rattle.fbcheck_calls.specs.{Steps.AllFit, Told.found_by, Told.told, Values.AreValues};
+ghost use Rattle.fbcheck_calls.specs.declared.{answer.Answer.Answer, checking.Begun.Begun};
+ghost use Rattle.fbcheck_calls.specs.Reached.{IsPath, IsRead, IsReadBy, IsResolved, IsUnread, IsUnresolved, StartsRead};
 
 use crate::answer::{Answer, Verdict, low, tell_bad, tell_blank, tell_good};
 use crate::fits::first_misfit;
 use crate::handle::Handle;
 use crate::held::{Held, Room};
-use crate::options::{DEEPEST, Options};
+use crate::options::{DEEPEST, LONGEST, Options};
 use crate::steps::PlainPath;
 use crate::values::{Value, tell_values};
 use fb_access::Path;
 use fb_bfbs::{Loaded, load};
 use fb_bytes::Meter;
-use fb_verify::{Ident, Limits, most_reads, verify, verify_shallow, walk, walk_shallow};
+use fb_verify::{
+    Checks, Fault, Ident, Limits, Report, Start, Verified, most_reads, verify, verify_shallow,
+    walk, walk_shallow,
+};
 use std::alloc::Global;
 
 /// The levels for which a call has room on its own stack.
@@ -44,137 +49,126 @@ pub fn open(
 /// What a check begins with.
 #[derive(Clone, Copy)]
 pub struct Begun {
-    pub limits: Limits,
     pub root: u32,
+    pub start: Start,
     pub ident: Ident,
+    pub limits: Limits,
+    pub checks: Checks,
 }
 
-/// What a check of so many bytes by these options begins with, in room for so many levels, if it can begin.
+/// What a check of so many bytes by these options begins with, in room for so many levels.
+///
+/// # Errors
+///
+/// The status of why it can't begin.
+#[inline(always)]
+fn begin(
+    loaded: &Loaded<'static>,
+    levels: u32,
+    options: &Options,
+    length: u64,
+) -> Result<Begun, u32>
+    ensures begins { MatchResult result (Begins loaded.now levels options.now length) (IsUnservedBy loaded.now levels options.now) }
+    ensures depth { IfOk result (λ (begun : Begun). begun.limits.depth ≤ levels) }
+{
+    if !options.are_known() {
+        return Err(3);
+    }
+    if !options.have_limits(levels) {
+        return Err(4);
+    }
+    let Some(table) = options.root(loaded) else {
+        return Err(6);
+    };
+    let Some(ident) = options.ident(loaded) else {
+        return Err(5);
+    };
+    Ok(Begun {
+        root: table,
+        start: options.start(),
+        ident,
+        limits: options.limits_of(length),
+        checks: options.checks(),
+    })
+}
+
+/// What a check of a buffer by these options begins with, in room for so many levels. Where it can't begin, or the
+/// buffer is too long, the verdict says why.
+///
+/// # Errors
+///
+/// The status of that verdict.
 #[inline(always)]
 pub fn prepare(
     loaded: &Loaded<'static>,
     levels: u32,
     options: &Options,
-    length: u64,
-) -> Option<Begun>
-    ensures { MatchOption result (CannotBegin loaded.now levels options.now) (Begins loaded.now levels options.now length) }
-{
-    if !options.have_limits(levels) {
-        return None;
-    }
-    let root = options.root(loaded)?;
-    let ident = options.ident(loaded)?;
-    Some(Begun {
-        limits: options.limits_of(length),
-        root,
-        ident,
-    })
-}
-
-/// Why a check can't begin.
-fn unserved(loaded: &Loaded<'static>, levels: u32, options: &Options) -> Answer
-    requires { CannotBegin loaded.now levels options.now }
-    ensures { IsUnserved loaded.now levels options.now result }
-{
-    if let Err(answer) = options.limits(levels, 0) {
-        return answer;
-    }
-    match options.root(loaded) {
-        Some(_) => Answer::NoIdent,
-        None => Answer::NoRoot,
-    }
-}
-
-/// Writes why a check can't begin, and answers its status. It stands apart, so that one that can pays nothing for it.
-#[cold]
-#[inline(never)]
-pub fn tell_unserved(
-    loaded: &Loaded<'static>,
-    levels: u32,
-    options: &Options,
-    verdict: &mut Verdict,
-) -> u32
-    requires { CannotBegin loaded.now levels options.now }
-    ensures told { (a : Answer) × (verdict.new ≡ told a) × IsUnserved loaded.now levels options.now a }
-    ensures status { result ≡ verdict.new.status }
-{
-    unserved(loaded, levels, options).tell(verdict)
-}
-
-/// Checks a buffer as the options ask, in room on the call's own stack, writes the verdict and answers its status.
-fn check_shallow(
-    loaded: &Loaded<'static>,
-    verdict: &mut Verdict,
-    options: &Options,
     buffer: &[u8],
-) -> u32
-    ensures told { (a : Answer) × (verdict.new ≡ told a) × IsChecked loaded.now 64 options.now buffer.now a }
+    verdict: &mut Verdict,
+) -> Result<Begun, u32>
+    ensures starts { MatchResult result (Starts loaded.now levels options.now buffer.now) (IsTold verdict.new (IsUnchecked loaded.now levels options.now buffer.now)) }
+    ensures depth { IfOk result (λ (begun : Begun). begun.limits.depth ≤ levels) }
+{
+    let length = buffer.len() as u64;
+    let begun = match begin(loaded, levels, options, length) {
+        Ok(begun) => begun,
+        Err(status) => return Err(tell_blank(status, verdict)),
+    };
+    if length > LONGEST {
+        return Err(tell_blank(7, verdict));
+    }
+    Ok(begun)
+}
+
+/// A buffer that isn't too long, with its reads.
+#[inline(always)]
+pub fn metered(buffer: &[u8]) -> Meter<'_>
+    requires { length buffer.now < 2 ^ 31 }
+    ensures bytes { result.bytes ≡ buffer.now }
+    ensures fresh { result.count ≡ 0 }
+{
+    match Meter::new(buffer) {
+        Ok(meter) => meter,
+        Err(_) => unreachable!(),
+    }
+}
+
+/// Writes what a check found, and answers the status.
+#[inline(always)]
+fn tell_found(found: Result<Report, Fault>, verdict: &mut Verdict) -> u32
+    ensures told { verdict.new ≡ told (found_by (λ (r : Report). r) (λ (f : Fault). f) found) }
     ensures status { result ≡ verdict.new.status }
 {
-    let Some(begun) = prepare(loaded, SHALLOW, options, buffer.len() as u64) else {
-        return tell_unserved(loaded, SHALLOW, options, verdict);
-    };
-    let Ok(mut meter) = Meter::new(buffer) else {
-        return tell_blank(7, verdict);
-    };
-    match walk_shallow(
-        &mut meter,
-        &loaded.schema,
-        begun.root,
-        options.start(),
-        begun.ident,
-        begun.limits,
-        options.checks(),
-    ) {
+    match found {
         Ok(report) => tell_good(report, verdict),
         Err(fault) => tell_bad(fault, verdict),
     }
 }
 
-/// The same in the room that is given.
-fn check_in(
-    loaded: &Loaded<'static>,
-    room: &mut Room,
-    verdict: &mut Verdict,
-    options: &Options,
-    buffer: &[u8],
-) -> u32
-    ensures told { (a : Answer) × (verdict.new ≡ told a) × IsChecked loaded.now room.old options.now buffer.now a }
-    ensures status { result ≡ verdict.new.status }
-    ensures kept { room.new ≡ room.old }
-{
-    let levels = room.levels();
-    let Some(begun) = prepare(loaded, levels, options, buffer.len() as u64) else {
-        return tell_unserved(loaded, levels, options, verdict);
-    };
-    let Ok(mut meter) = Meter::new(buffer) else {
-        return tell_blank(7, verdict);
-    };
-    match walk(
-        &mut meter,
-        &loaded.schema,
-        begun.root,
-        options.start(),
-        begun.ident,
-        begun.limits,
-        options.checks(),
-        &mut room.scratch,
-    ) {
-        Ok(counts) => tell_good(counts, verdict),
-        Err(first) => tell_bad(first, verdict),
-    }
-}
-
-/// Checks a buffer by a schema in room on the call's own stack. Writes the verdict, and answers its status.
+/// Checks a buffer by a schema as the options ask, in room on the call's own stack. Writes the verdict, and answers its
+/// status.
 #[inline(never)]
 pub fn check_alone(held: &Held, verdict: &mut Verdict, options: &Options, buffer: &[u8]) -> u32
     ensures told { (a : Answer) × (verdict.new ≡ told a) × IfSchema held.now a (λ l. IsChecked l 64 options.now buffer.now a) }
     ensures status { result ≡ verdict.new.status }
 {
-    match held {
-        Held::Schema(loaded) => check_shallow(loaded, verdict, options, buffer),
-        Held::Room(_) => tell_blank(6, verdict),
-    }
+    let Held::Schema(loaded) = held else {
+        return tell_blank(6, verdict);
+    };
+    let begun = match prepare(loaded, SHALLOW, options, buffer, verdict) {
+        Ok(begun) => begun,
+        Err(status) => return status,
+    };
+    let found = walk_shallow(
+        &mut metered(buffer),
+        &loaded.schema,
+        begun.root,
+        begun.start,
+        begun.ident,
+        begun.limits,
+        begun.checks,
+    );
+    tell_found(found, verdict)
 }
 
 /// The same in the room that is given.
@@ -190,10 +184,24 @@ fn check_within(
     ensures status { result ≡ verdict.new.status }
     ensures kept { room.new ≡ room.old }
 {
-    match held {
-        Held::Schema(loaded) => check_in(loaded, room, verdict, options, buffer),
-        Held::Room(_) => tell_blank(6, verdict),
-    }
+    let Held::Schema(loaded) = held else {
+        return tell_blank(6, verdict);
+    };
+    let begun = match prepare(loaded, room.levels(), options, buffer, verdict) {
+        Ok(begun) => begun,
+        Err(status) => return status,
+    };
+    let found = walk(
+        &mut metered(buffer),
+        &loaded.schema,
+        begun.root,
+        begun.start,
+        begun.ident,
+        begun.limits,
+        begun.checks,
+        &mut room.scratch,
+    );
+    tell_found(found, verdict)
 }
 
 /// Checks a buffer by a schema: in the room of a handle, or on the call's own stack where it holds none. Writes the
@@ -223,8 +231,61 @@ pub fn check(
     status
 }
 
-/// Checks a buffer as [`check_shallow`] does, and tells of a good one the values at the ends of these paths. `Misfit`
-/// of the first that doesn't fit the schema from the root table, whatever the buffer is.
+/// What a check begins with that tells values at the ends of these paths, as [`prepare`] has it. `Misfit` of the first
+/// that doesn't fit the schema from the root table, whatever the buffer is.
+///
+/// # Errors
+///
+/// The status of the verdict that says why it can't begin.
+#[inline(always)]
+fn prepare_read(
+    loaded: &Loaded<'static>,
+    levels: u32,
+    options: &Options,
+    buffer: &[u8],
+    paths: &[PlainPath],
+    verdict: &mut Verdict,
+) -> Result<Begun, u32>
+    ensures starts { MatchResult result (StartsRead loaded.now levels options.now buffer.now paths.now) (IsTold verdict.new (IsUnread loaded.now levels options.now buffer.now paths.now)) }
+    ensures depth { IfOk result (λ (begun : Begun). begun.limits.depth ≤ levels) }
+{
+    let length = buffer.len() as u64;
+    let begun = match begin(loaded, levels, options, length) {
+        Ok(begun) => begun,
+        Err(status) => return Err(tell_blank(status, verdict)),
+    };
+    if let Some(place) = first_misfit(&loaded.schema, begun.root, paths) {
+        return Err(Answer::Misfit(place).tell(verdict));
+    }
+    if length > LONGEST {
+        return Err(tell_blank(7, verdict));
+    }
+    Ok(begun)
+}
+
+/// Writes what a check found, with the values at the ends of these paths in a good buffer, and answers the status.
+#[inline(always)]
+fn tell_read(
+    found: &Result<Verified<'_, '_, '_>, Fault>,
+    paths: &[PlainPath],
+    values: &mut [Value],
+    verdict: &mut Verdict,
+) -> u32
+    requires { IfOk found.now (λ (v : Sealed). AllFit v.schema v.root paths.now) }
+    ensures told { verdict.new ≡ told (found_by (λ (v : Sealed). v.report) (λ (f : Fault). f) found.now) }
+    ensures values { MatchResult found.now (λ (v : Sealed). AreValues v.bytes v.schema v.start v.root paths.now values.new) (λ _. values.new ≡ values.old) }
+    ensures status { result ≡ verdict.new.status }
+{
+    match found {
+        Ok(verified) => {
+            tell_values(verified, paths, values);
+            tell_good(verified.report(), verdict)
+        }
+        Err(fault) => tell_bad(*fault, verdict),
+    }
+}
+
+/// Checks a buffer in room on the call's own stack, and tells of a good one the values at the ends of these paths.
 fn read_shallow(
     loaded: &Loaded<'static>,
     verdict: &mut Verdict,
@@ -236,31 +297,20 @@ fn read_shallow(
     ensures told { (a : Answer) × (verdict.new ≡ told a) × IsRead loaded.now 64 options.now buffer.now paths.now values.old values.new a }
     ensures status { result ≡ verdict.new.status }
 {
-    let Some(begun) = prepare(loaded, SHALLOW, options, buffer.len() as u64) else {
-        return tell_unserved(loaded, SHALLOW, options, verdict);
+    let begun = match prepare_read(loaded, SHALLOW, options, buffer, paths, verdict) {
+        Ok(begun) => begun,
+        Err(status) => return status,
     };
-    if let Some(place) = first_misfit(&loaded.schema, begun.root, paths) {
-        return Answer::Misfit(place).tell(verdict);
-    }
-    let Ok(meter) = Meter::new(buffer) else {
-        return tell_blank(7, verdict);
-    };
-    let (start, checks) = (options.start(), options.checks());
-    match verify_shallow(
-        meter,
+    let found = verify_shallow(
+        metered(buffer),
         &loaded.schema,
         begun.root,
-        start,
+        begun.start,
         begun.ident,
         begun.limits,
-        checks,
-    ) {
-        Ok(verified) => {
-            tell_values(&verified, paths, values);
-            tell_good(verified.report(), verdict)
-        }
-        Err(fault) => tell_bad(fault, verdict),
-    }
+        begun.checks,
+    );
+    tell_read(&found, paths, values, verdict)
 }
 
 /// The same in the room that is given.
@@ -277,33 +327,21 @@ fn read_in(
     ensures status { result ≡ verdict.new.status }
     ensures kept { room.new ≡ room.old }
 {
-    let levels = room.levels();
-    let Some(begun) = prepare(loaded, levels, options, buffer.len() as u64) else {
-        return tell_unserved(loaded, levels, options, verdict);
+    let begun = match prepare_read(loaded, room.levels(), options, buffer, paths, verdict) {
+        Ok(begun) => begun,
+        Err(status) => return status,
     };
-    if let Some(place) = first_misfit(&loaded.schema, begun.root, paths) {
-        return Answer::Misfit(place).tell(verdict);
-    }
-    let Ok(meter) = Meter::new(buffer) else {
-        return tell_blank(7, verdict);
-    };
-    let (start, checks) = (options.start(), options.checks());
-    match verify(
-        meter,
+    let found = verify(
+        metered(buffer),
         &loaded.schema,
         begun.root,
-        start,
+        begun.start,
         begun.ident,
         begun.limits,
-        checks,
+        begun.checks,
         &mut room.scratch,
-    ) {
-        Ok(verified) => {
-            tell_values(&verified, paths, values);
-            tell_good(verified.report(), verdict)
-        }
-        Err(fault) => tell_bad(fault, verdict),
-    }
+    );
+    tell_read(&found, paths, values, verdict)
 }
 
 /// Checks a buffer as [`check`] does, and tells of a good one the values at the ends of these paths.

@@ -2,34 +2,31 @@
 
 ghost use Rattle.std.specs.Prelude.{◌≡◌, ◌↔◌, IsTrue, MatchOption, option_map};
 ghost use Rattle.fb_access.specs.Fitting.{element_kind, next_kind, numbered};
-ghost use Rattle.fb_schema.specs.declared.{views.PartView.PartView, kinds.Kind.TheVariants.Table};
-ghost use Rattle.fb_schema.specs.{Members.member_of, Parts.part_at};
+ghost use Rattle.fb_schema.specs.declared.kinds.Kind.TheVariants.{Table};
+ghost use Rattle.fb_schema.specs.{Live.live_of_view, Members.member_of};
 ghost use Rattle.fbcheck_calls.specs.Steps.{AllFit, FitFrom, FitsFrom, IsFirstMisfit};
 
 use crate::steps::{PlainPath, PlainStep};
 use fb_access::Step;
-use fb_schema::{Kind, Schema};
+use fb_schema::{FieldView, Kind, Schema};
 
-/// The kind of a table's live field with this number.
-fn field_kind(schema: &Schema<'_>, table: u32, number: u16) -> Option<Kind>
-    ensures { result ≡ option_map (λ f. f.kind) (numbered schema.now table number) }
+/// The live field of a table with this number, none where it is no table.
+pub fn live_field<'s, 'n>(
+    schema: &'s Schema<'n>,
+    table: u32,
+    number: u32,
+) -> Option<&'s FieldView<'n>>
+    ensures { option_map (λ f. live_of_view f.now) result ≡ numbered schema.now table number }
 {
     if !schema.is_table(table) {
         return None;
     }
     for field in schema.fields_of(table) {
-        if field.number == number {
-            return Some(field.kind);
+        if u32::from(field.number) == number {
+            return Some(field);
         }
     }
     None
-}
-
-/// The kind of a struct's field at this place.
-fn part_kind(schema: &Schema<'_>, object: u32, number: u16) -> Option<Kind>
-    ensures { result ≡ option_map (λ (part : PartView). part.kind) (part_at schema.now object number) }
-{
-    Some(schema.part_at(object, u32::from(number))?.kind)
 }
 
 /// The kind of a vector's elements.
@@ -64,8 +61,8 @@ fn next_kind(schema: &Schema<'_>, kind: Kind, step: Step) -> Option<Kind>
 {
     match step {
         Step::Field(number) => match kind {
-            Kind::Table(table) => field_kind(schema, table, number),
-            Kind::Struct(object) => part_kind(schema, object, number),
+            Kind::Table(table) => Some(live_field(schema, table, u32::from(number))?.kind),
+            Kind::Struct(object) => Some(schema.part_at(object, u32::from(number))?.kind),
             _ => None,
         },
         Step::Element(_) => element_kind(kind),

@@ -1,6 +1,6 @@
 //! The messages of a stream that comes in pieces, each in room that the caller gives.
 
-ghost use Rattle.std.specs.Prelude.{◌≡◌, ◌↔◌, ◌≤◌, ◌<◌, ◌^◌, IsTrue, length};
+ghost use Rattle.std.specs.Prelude.{◌≡◌, ◌+◌, ◌↔◌, ◌≤◌, ◌<◌, ◌^◌, IsTrue, length};
 ghost use Rattle.fb_bytes.specs.Messages.{IsMessage, declared};
 ghost use Rattle.fbcheck_calls.specs.Framers.{IsFed, IsFilled, IsFinished, IsKept, IsNext, IsRoom, KeepsNumber, framing};
 
@@ -53,7 +53,9 @@ fn declared(room: &[u8]) -> u32
 fn fill(room: &mut [u8], held: usize, goal: usize, piece: &[u8]) -> usize
     requires held { held ≤ length room.old }
     requires goal { goal ≤ length room.old }
-    ensures { IsFilled room.old room.new piece.now held goal result }
+    ensures filled { IsFilled room.old room.new piece.now held goal result }
+    ensures size { length room.new ≡ length room.old }
+    ensures within { held + result ≤ length room.new }
 {
     let count = goal.saturating_sub(held).min(piece.len());
     room[held..held + count].copy_from_slice(&piece[..count]);

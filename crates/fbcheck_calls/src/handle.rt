@@ -89,13 +89,6 @@ impl Handle {
         }
     }
 
-    /// A handle that holds this.
-    fn of(held: Box<Held>) -> Handle
-        ensures { result.inside ≡ Some held.value }
-    {
-        Handle::holding(Detached::of(held))
-    }
-
     /// Takes out what is held, and leaves nothing.
     pub fn take(&mut self, alloc: Global) -> Option<Box<Held>>
         ensures taken { option_map (λ b. b.value) result ≡ self.old.inside }
@@ -112,7 +105,7 @@ impl Handle {
         requires { self.old.inside ≡ None }
         ensures { self.new.inside ≡ Some held.value }
     {
-        *self = Handle::of(held);
+        *self = Handle::holding(Detached::of(held));
     }
 
     /// Has the handle hold this, and frees what it held; where there is no memory for it, it holds what it held.

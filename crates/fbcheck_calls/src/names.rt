@@ -1,16 +1,17 @@
 //! Names by their numbers, copied into room that a caller gives.
 
 ghost use Rattle.std.specs.Prelude.{◌≡◌, ℕ, List, MatchOption, Option, length, option_map};
-ghost use Rattle.fb_access.specs.PathCodes.{path_code};
+ghost use Rattle.fb_access.specs.{Location.field_name, PathCodes.path_code};
 ghost use Rattle.fb_access.specs.declared.path_fault.PathFault.{PathFault};
 ghost use Rattle.fb_schema.specs.declared.fault.Code.{Code};
 ghost use Rattle.fbcheck_calls.specs.Told.{code_number};
-ghost use Rattle.fbcheck_calls.specs.Names.{IsCodeName, IsFaultName, IsNameTold, IsPathName, IsReasonName, NumbersNothing, field_name, filled, held_name, object_name, status_text, table_number};
+ghost use Rattle.fbcheck_calls.specs.Names.{IsCodeName, IsFaultName, IsNameTold, IsPathName, IsReasonName, NumbersNothing, filled, held_name, object_name, status_text, table_number};
 ghost use Rattle.fb_rules.specs.Reasons.{reason_number};
 
+use crate::fits::live_field;
 use crate::held::Held;
 use crate::options::NO_TABLE;
-use fb_access::PathFault;
+use fb_access::{PathFault, object_name};
 use fb_bfbs::code_text;
 use fb_schema::{Code, Schema};
 use fb_verify::Reason;
@@ -37,31 +38,11 @@ pub fn reason_of(number: u32) -> Option<Reason>
     }
 }
 
-/// The name of the object with this number.
-#[tactic(auto, using(crate::proofs::NameLemmas::named_by_view, std::proofs::lemmas::Option::slice_get_past))]
-pub fn object_name<'n>(schema: &Schema<'n>, object: u32) -> Option<&'n [u8]>
-    ensures { option_map (λ s. s.now) result ≡ object_name schema.now object }
-{
-    if object < schema.object_count() {
-        Some(schema.object(object).name)
-    } else {
-        None
-    }
-}
-
 /// The name of the live field with this number, of the table with that one.
-pub fn field_name<'n>(schema: &Schema<'n>, object: u32, number: u32) -> Option<&'n [u8]>
+fn field_name<'n>(schema: &Schema<'n>, object: u32, number: u32) -> Option<&'n [u8]>
     ensures { option_map (λ s. s.now) result ≡ field_name schema.now object number }
 {
-    if !schema.is_table(object) {
-        return None;
-    }
-    for field in schema.fields_of(object) {
-        if u32::from(field.number) == number {
-            return Some(field.name);
-        }
-    }
-    None
+    Some(live_field(schema, object, number)?.name)
 }
 
 /// Copies a text where there is room for all of it, and tells its length whether or not there is.

@@ -3,7 +3,7 @@
 ghost use Rattle.std.specs.Prelude.{◌≡◌, ◌≤◌, IsTrue, ◌↔◌, MatchResult};
 ghost use Rattle.fb_schema.specs.Rows.{is_table};
 ghost use Rattle.std.specs.Prelude.{IfSome};
-ghost use Rattle.fbcheck_calls.specs.Asked.{AreKnown, HasLimits, LimitsFail, checks_asked, ident_asked, if_table, limits_of, published, root_asked, start_asked, start_of};
+ghost use Rattle.fbcheck_calls.specs.Asked.{AreKnown, HasLimits, LimitsFail, checks_asked, ident_asked, if_table, limits_of, published, root_asked, start_asked};
 
 use crate::answer::Answer;
 use fb_bfbs::{Loaded, own_ident};
@@ -17,7 +17,7 @@ const VERSION: u32 = 1;
 pub const DEEPEST: u32 = 4096;
 
 /// The longest buffer, in bytes.
-const LONGEST: u64 = 0x7FFF_FFFF;
+pub const LONGEST: u64 = 0x7FFF_FFFF;
 
 /// The number of no object: the schema's own root table is asked for.
 const OWN_ROOT: u32 = 0xFFFF_FFFF;
@@ -55,17 +55,6 @@ pub struct Options {
     pub inline_size: u8,
     /// Room for what later versions ask. Version 1 doesn't read it.
     pub reserved: [u32; 7],
-}
-
-/// Whether a buffer begins bare or with its size.
-fn start_of(is_bare: bool) -> Start
-    ensures { result ≡ start_of is_bare }
-{
-    if is_bare {
-        Start::Bare
-    } else {
-        Start::Prefixed
-    }
 }
 
 /// A number that is a table's.
@@ -174,7 +163,11 @@ impl Options {
     pub fn start(&self) -> Start
         ensures { result ≡ start_asked self.now }
     {
-        start_of(self.prefixed == 0)
+        if self.prefixed == 0 {
+            Start::Bare
+        } else {
+            Start::Prefixed
+        }
     }
 
     /// Which tests are made.

@@ -1,21 +1,22 @@
 //! The place of a fault in words.
 
-ghost use Rattle.std.specs.Prelude.{◌≡◌, ◌≤◌, length};
+ghost use Rattle.std.specs.Prelude.{◌≡◌, ◌≤◌, IfErr, MatchResult, length, take};
 ghost use Rattle.fb_access.specs.Location.{location_text};
-ghost use Rattle.fbcheck_calls.specs.{Answered.levels, Told.told};
-ghost use Rattle.fbcheck_calls.specs.Placed.{IsLocated, IsLocatedBy, IsTextTold, cut_to};
+ghost use Rattle.fb_verify.specs.Sealed.{Sealed};
+ghost use Rattle.fb_verify.specs.declared.links.Located.{Located};
+ghost use Rattle.fbcheck_calls.specs.{Answered.levels, Told.found_by, Told.told};
+ghost use Rattle.fbcheck_calls.specs.Placed.{IsLocated, IsLocatedBy, IsTextTold, IsUntold, cut_to};
 ghost use Rattle.fbcheck_calls.specs.declared.answer.Answer.{Answer};
 
 use crate::answer::{Verdict, tell_bad, tell_blank, tell_good};
-use crate::checking::{SHALLOW, prepare, tell_unserved};
+use crate::checking::{SHALLOW, metered, prepare};
 use crate::handle::Handle;
 use crate::held::{Held, NO_LINK, Room};
 use crate::options::Options;
 use fb_access::{LocationText, write_location};
 use fb_bfbs::Loaded;
-use fb_bytes::Meter;
 use fb_schema::Schema;
-use fb_verify::{Fault, Link, Scratch, verify_and_locate, verify_and_locate_shallow};
+use fb_verify::{Fault, Link, Located, Verified, verify_and_locate, verify_and_locate_shallow};
 use std::alloc::Global;
 
 /// Copies as much of a text as there is room for, and tells its whole length.
@@ -39,6 +40,31 @@ fn write_place(schema: &Schema<'_>, fault: &Fault, links: &[Link], text: &mut [u
     cut_into(place.as_slice(), text)
 }
 
+/// Writes what a check found, with where the fault of a bad buffer is, and answers the status.
+#[inline(always)]
+fn tell_located(
+    found: &Result<Verified<'_, '_, '_>, Located>,
+    schema: &Schema<'_>,
+    links: &[Link],
+    text: &mut [u8],
+    written: &mut usize,
+    verdict: &mut Verdict,
+) -> u32
+    requires { IfErr found.now (λ (e : Located). e.links ≤ length links.now) }
+    ensures told { verdict.new ≡ told (found_by (λ (v : Sealed). v.report) (λ (e : Located). e.fault) found.now) }
+    ensures text { MatchResult found.now (λ _. IsUntold text.old text.new written.old written.new) (λ (e : Located). IsTextTold (location_text schema.now e.fault (take e.links links.now)) text.old text.new written.new) }
+    ensures status { result ≡ verdict.new.status }
+{
+    match found {
+        Ok(verified) => tell_good(verified.report(), verdict),
+        Err(located) => {
+            let way = &links[..located.links as usize];
+            *written = write_place(schema, &located.fault, way, text);
+            tell_bad(located.fault, verdict)
+        }
+    }
+}
+
 /// Checks a buffer as the options ask, in room on the call's own stack, and writes where the fault of a bad one is.
 /// Writes the verdict too, and answers its status.
 fn locate_shallow(
@@ -52,74 +78,22 @@ fn locate_shallow(
     ensures told { (a : Answer) × (verdict.new ≡ told a) × IsLocated loaded.now 64 options.now buffer.now text.old text.new written.old written.new a }
     ensures status { result ≡ verdict.new.status }
 {
-    let Some(begun) = prepare(loaded, SHALLOW, options, buffer.len() as u64) else {
-        return tell_unserved(loaded, SHALLOW, options, verdict);
-    };
-    let Ok(meter) = Meter::new(buffer) else {
-        return tell_blank(7, verdict);
+    let begun = match prepare(loaded, SHALLOW, options, buffer, verdict) {
+        Ok(begun) => begun,
+        Err(status) => return status,
     };
     let mut links = [NO_LINK; 64];
-    match verify_and_locate_shallow(
-        meter,
+    let found = verify_and_locate_shallow(
+        metered(buffer),
         &loaded.schema,
         begun.root,
-        options.start(),
+        begun.start,
         begun.ident,
         begun.limits,
-        options.checks(),
+        begun.checks,
         &mut links,
-    ) {
-        Ok(verified) => tell_good(verified.report(), verdict),
-        Err(located) => {
-            let way = &links[..located.links as usize];
-            *written = write_place(&loaded.schema, &located.fault, way, text);
-            tell_bad(located.fault, verdict)
-        }
-    }
-}
-
-/// The same in this room for so many levels.
-fn locate_within(
-    loaded: &Loaded<'static>,
-    levels: u32,
-    scratch: &mut Scratch,
-    links: &mut [Link],
-    verdict: &mut Verdict,
-    options: &Options,
-    buffer: &[u8],
-    text: &mut [u8],
-    written: &mut usize,
-) -> u32
-    requires tables { levels ≤ scratch.old }
-    requires links { levels ≤ length links.old }
-    ensures told { (a : Answer) × (verdict.new ≡ told a) × IsLocated loaded.now levels options.now buffer.now text.old text.new written.old written.new a }
-    ensures status { result ≡ verdict.new.status }
-    ensures kept { scratch.new ≡ scratch.old }
-{
-    let Some(begun) = prepare(loaded, levels, options, buffer.len() as u64) else {
-        return tell_unserved(loaded, levels, options, verdict);
-    };
-    let Ok(meter) = Meter::new(buffer) else {
-        return tell_blank(7, verdict);
-    };
-    match verify_and_locate(
-        meter,
-        &loaded.schema,
-        begun.root,
-        options.start(),
-        begun.ident,
-        begun.limits,
-        options.checks(),
-        scratch,
-        links,
-    ) {
-        Ok(verified) => tell_good(verified.report(), verdict),
-        Err(located) => {
-            let way = &links[..located.links as usize];
-            *written = write_place(&loaded.schema, &located.fault, way, text);
-            tell_bad(located.fault, verdict)
-        }
-    }
+    );
+    tell_located(&found, &loaded.schema, &links, text, written, verdict)
 }
 
 /// The same in the room that is given.
@@ -136,12 +110,23 @@ fn locate_in(
     ensures status { result ≡ verdict.new.status }
     ensures kept { room.new ≡ room.old }
 {
-    let levels = room.levels();
+    let begun = match prepare(loaded, room.levels(), options, buffer, verdict) {
+        Ok(begun) => begun,
+        Err(status) => return status,
+    };
     let links = room.links.as_mut_slice();
-    let scratch = &mut room.scratch;
-    locate_within(
-        loaded, levels, scratch, links, verdict, options, buffer, text, written,
-    )
+    let found = verify_and_locate(
+        metered(buffer),
+        &loaded.schema,
+        begun.root,
+        begun.start,
+        begun.ident,
+        begun.limits,
+        begun.checks,
+        &mut room.scratch,
+        links,
+    );
+    tell_located(&found, &loaded.schema, links, text, written, verdict)
 }
 
 /// Checks a buffer by a schema as [`check`](crate::checking::check) does, and writes where the fault of a bad one is,

@@ -1,13 +1,23 @@
-use Rattle.std.proofs.Common.{sym, subst, rules}
-use Rattle.fbcheck_calls.specs.declared.held.Held.{Held}
-use Rattle.fbcheck_calls.specs.Answered.{IfSchema, IsChecked}
-use Rattle.fbcheck_calls.specs.declared.answer.Answer.TheVariants.{NoRoot}
+use Rattle.std.proofs.Common.{rules}
+use Rattle.fb_rules.specs.declared.fault.{Fault.Fault, Report.Report}
+use Rattle.fbcheck_calls.specs.{Answered.IsChecked, Told.found_by}
+use Rattle.fbcheck_calls.specs.declared.answer.Answer.{Answer, TheVariants.NoRoot}
+use Rattle.fbcheck_calls.proofs.BegunLemmas.{by_schema, found_is_checked, unchecked_is_checked}
 use Rattle.fbcheck_calls.proofs.checking.check_alone.Goals as goal
 
-pub returns-in-Room-clause-told : goal.returns-in-Room-clause-told
-returns-in-Room-clause-told c = (NoRoot, c.tell_blank.ensures.told, search rules)
+pub returns-in_default-clause-told : goal.returns-in_default-clause-told
+returns-in_default-clause-told c = (NoRoot, c.tell_blank.ensures.told, search rules)
 
-pub returns-in-Schema-clause-told : goal.returns-in-Schema-clause-told
-returns-in-Schema-clause-told c =
-    let t = c.check_shallow.ensures.told in
-    (t.0, t.1, subst (λ (h : Held). IfSchema h t.0 (λ l. IsChecked l 64 c.args.options.now c.args.buffer.now t.0)) (sym c.in-Schema.is) t.2)
+pub returns-in-Err-clause-told : goal.returns-in-Err-clause-told
+returns-in-Err-clause-told c =
+    let t = c.in-Err.ensures.starts in
+    (t.answer, t.told, by_schema t.answer (λ l. IsChecked l 64 c.args.options.now c.args.buffer.now t.answer) c.in-Schema.is (unchecked_is_checked c.in-Schema.loaded 64 c.args.options.now c.args.buffer.now t.answer t.holds))
+
+pub returns-clause-told : goal.returns-clause-told
+returns-clause-told c =
+    let found = c.walk_shallow-found in
+    let answer : Answer = found_by (λ (r : Report). r) (λ (f : Fault). f) found.result in (
+      answer,
+      c.tell_found.ensures.told,
+      by_schema answer (λ l. IsChecked l 64 c.args.options.now c.args.buffer.now answer) c.in-Schema.is (found_is_checked c.in-Schema.loaded 64 c.args.options.now c.args.buffer.now c.in-Ok.begun c.in-Ok.ensures.starts.0 c.in-Ok.ensures.starts.1 c.metered.result.bytes c.metered.ensures.bytes (λ r. r) (λ f. f) found.result found.ensures.yes found.ensures.none found.ensures.no),
+    )

@@ -1,7 +1,7 @@
 use Rattle.std.proofs.Common.{◌≡◌, ◌==◌, drop, find, map}
 use Rattle.fb_schema.specs.Live.{live_of_view, live_fields}
 use Rattle.fb_access.specs.Fitting.{numbered}
-use Rattle.fbcheck_calls.proofs.fits.field_kind.Given as goal
+use Rattle.fbcheck_calls.proofs.fits.live_field.Given as goal
 
 -- the fields that are left give what all give
 abbrev pub invariant-loop-field : goal.invariant-loop-field
