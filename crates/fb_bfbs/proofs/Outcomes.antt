@@ -1,5 +1,6 @@
 -- From what was read to what is answered.
-use Rattle.std.proofs.Common.{◌≡◌, ℕ, ◌<◌, ◌^◌, List, length, Option, Some, None, option_map, is_some, true, false, refl, sym, ◌∙◌, ap, subst, inl, inr}
+use Rattle.std.proofs.Common.{◌≡◌, ℕ, ◌<◌, ◌^◌, List, length, Option, Some, None, Result, Ok, Err, IfErr, option_map, is_some, true, false, refl, sym, ◌∙◌, ap, subst, inl, inr}
+use Rattle.std.specs.Result.{IsErrAnd}
 use Rattle.fb_schema.specs.{Rows.Rows, Rows.rows_of, Demands.Refuses, declared.fault.Code.Code, declared.fault.Code.TheVariants.OutOfMemory as NoMemory, declared.fault.SchemaFault.SchemaFault}
 use Rattle.fb_rules.specs.{Bounds.Bounds, Verdict.Reports, declared.start.Start.TheVariants.Bare}
 use Rattle.fb_verify.specs.Sealed.{Sealed}
@@ -7,6 +8,11 @@ use Rattle.fb_access.specs.Denotes.{Denotes}
 use Rattle.fb_bfbs.specs.{Fixed.fixed, Says.Says, FileRows.IsTold, FileRows.AreRead, FileRows.IsReadFile, Sums.ArePaid, Sums.IsOver, declared.file.FileRows.FileRows}
 use Rattle.fb_bfbs.specs.Loads.{SharesTooMuch, IsSchemaFile, IsLoadFault, asked_within, build_fault, published, schema_number, told}
 use Rattle.fb_bfbs.proofs.{Counts.paid_rows, OneLoad.file_is_single}
+
+-- the exit of a `?`
+pub if_err_exit : {A E : Type 0} (r : Result A E) (x : E) (P : E → Type 0) → IsErrAnd r (λ e. e ≡ x) → P x → IfErr r P
+if_err_exit (Ok a) x P h p = tt
+if_err_exit (Err e) x P h p = subst P (sym h) p
 
 module _ (b : List ℕ) (L : Bounds) where
   -- rows that are refused are no schema, or memory ran out

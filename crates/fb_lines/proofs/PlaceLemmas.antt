@@ -5,7 +5,7 @@ use Rattle.fb_rules.specs.{Bounds.Bounds, Links.StopsAlong, Question.question, S
 use Rattle.fb_rules.specs.declared.{fault.Fault.Fault, link.Link.Link, start.Start.Start}
 use Rattle.fb_verify.specs.Sealed.{Sealed}
 use Rattle.fb_lines.specs.AnswerText.{label_text}
-use Rattle.fb_lines.specs.Job.{Beside, HasRoom, IsPlace, IsVerdict, IsVerified, Job, Verdict, asked_of, job_of, limits_for, place_beside, place_told}
+use Rattle.fb_lines.specs.Job.{Beside, HasRoom, IsVerdict, IsVerified, Job, Verdict, job_of, limits_for, place_beside, place_told}
 use Rattle.fb_lines.specs.declared.{options.Options.Options, options.Places.Places, options.Places.TheVariants.Words}
 
 -- room that is as large serves as well

@@ -70,6 +70,6 @@ module _ {job : Job} {bytes : List ℕ} {first last : Reader} (a : Outs) (writer
       (passes_through job bytes (beside first a) (beside last z) whole.read whole.within text tally writer written.out through takes, ((whole.unfailed, unfailed.0 ∙ same, unfailed.1), whole.ended))
   runs_told {text} {written} z (Err fault) through noted same takes stops unfailed cause = (
     fails_part job bytes (beside first a) (beside last z) whole.read whole.within _ tally fault through.adds
-    (fronts_behind through.front text a z writer no_bytes written fault through.wrote through.written_is noted stops),
+        (fronts_behind through.front text a z writer no_bytes written fault through.wrote through.written_is noted stops),
     caused_then first.failures last.failures _ _ a (record a { writer = writer }) z fault whole.unfailed (same, refl) cause,
   )

@@ -1,14 +1,14 @@
 -- A run over a stream: what was read and written, and then one piece more.
-use Rattle.std.proofs.Common.{◌≡◌, ℕ, ◌+◌, ◌-◌, ◌*◌, ◌^◌, ◌≤◌, ◌⊎◌, Bool, true, false, List, [], ◌++◌, take, drop, refl, sym, ap, subst, ◌∙◌, arith, append-nil, append_assoc, length-append, length-take-le, take-append-drop, Result, Ok, Err, IsErrAnd}
+use Rattle.std.proofs.Common.{◌≡◌, ℕ, ◌+◌, ◌-◌, ◌*◌, ◌^◌, ◌≤◌, Bool, true, false, List, [], ◌++◌, take, drop, refl, sym, ap, subst, ◌∙◌, arith, append-nil, append_assoc, length-append, length-take-le, take-append-drop, Result, Ok, Err, IsErrAnd}
 use Rattle.std.specs.Io.KnownBytes.{Consumes}
-use Rattle.std.proofs.KnownBytes.{Consumes-nil, Consumes-trans, Appends-kept, Appends-trans, Keeps-refl}
-use Rattle.fb_bytes.specs.Messages.{IsMessage, IsPartial, Splits}
-use mathlib.Core.Logic.{inl, inr}
-use Rattle.fb_lines.specs.{Ends.Ends, Ends.Outs, Ends.Reader, Ends.Takes, Ends.beside, Job.Job, Sums.count_of, Sums.no_tally, Lines.WritesFronts}
-use Rattle.fb_lines.specs.Faults.{End, EndsBeside, EndsWith, IsCaused, IsCausedOut, IsUnfailedOut, end_of, failed}
-use Rattle.fb_run.specs.{Leave.IsUnended, Run.answer_by, Run.IsRunBeside, Run.IsRunFrom, Run.IsStreamRun, Run.Runs}
+use Rattle.std.proofs.KnownBytes.{Consumes-nil, Appends-kept, Appends-trans, Keeps-refl}
+use mathlib.Core.Logic.{inr}
+use Rattle.fb_lines.specs.{Ends.Ends, Ends.Outs, Ends.Reader, Ends.Takes, Job.Job, Sums.count_of, Sums.no_tally, Lines.WritesFronts}
+use Rattle.fb_lines.specs.Faults.{End, EndsBeside, IsCaused, IsCausedOut, IsUnfailedOut, end_of, failed}
+use Rattle.fb_run.specs.{Leave.IsUnended, Run.answer_by, Run.IsRunBeside, Run.IsRunFrom, Run.Runs}
 use Rattle.fb_lines.specs.Texts.{Sizes, Texts, followed, no_bytes, silent, to_notes}
-use Rattle.fb_run.specs.Stream.{Carry, FailsStream, Grows, IsReady, PassesStream, Standing, Tells, TellsSome, WhyStream, Writes, at_first}
+use Rattle.fb_run.specs.Stream.{FailsStream, IsReady, Standing, Tells, TellsSome, WhyStream, Writes, at_first}
+use Rattle.fb_run.specs.Pieces.{Carry, Grows}
 use Rattle.fb_lines.specs.declared.fault.RunFault.{RunFault}
 use Rattle.fb_lines.specs.declared.fault.RunFault.TheVariants as run
 use Rattle.fb_lines.specs.declared.tally.Tally.{Tally}

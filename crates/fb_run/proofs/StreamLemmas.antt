@@ -8,7 +8,8 @@ use Rattle.fb_bytes.specs.declared.stream_fault.StreamFault.{StreamFault}
 use Rattle.fb_bytes.specs.declared.stream_fault.StreamFault.TheVariants as stream
 use Rattle.fb_bytes.proofs.MessageLemmas.{readings_some}
 use Rattle.fb_lines.specs.{Job.Beside, Job.HasRoom, Job.Job, Lines.AreTold, Lines.AddsTold, Texts.Sizes, Texts.Texts, Texts.followed, Texts.silent, Sums.count_of, Sums.no_tally, Faults.feed_fault}
-use Rattle.fb_run.specs.Stream.{Gathers, Halts, IsFeedFault, IsReady, Onward, Rests, Standing, StopsUsing, Tells, TellsSome, Uses, UsesBy}
+use Rattle.fb_run.specs.Stream.{Gathers, Halts, IsFeedFault, IsReady, Onward, Rests, Standing, Tells, TellsSome}
+use Rattle.fb_run.specs.Pieces.{StopsUsing, Uses, UsesBy}
 use Rattle.fb_lines.specs.declared.{tally.Tally.Tally, fault.RunFault.RunFault}
 use Rattle.fb_lines.specs.declared.fault.RunFault.TheVariants as run
 use Rattle.fb_lines.proofs.{Pieces.front-more, Splitting.empty_partial, Splitting.splits_one, Splitting.splits_rest, Splitting.splits_then}

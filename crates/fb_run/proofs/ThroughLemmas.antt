@@ -1,5 +1,5 @@
 -- A piece of which a front was passed, and what is told in it was written.
-use Rattle.std.proofs.Common.{◌≡◌, ℕ, ◌+◌, ◌-◌, ◌*◌, ◌^◌, ◌<◌, ◌≤◌, Bool, true, false, List, [], ◌++◌, Option, Result, Ok, Err, length, take, drop, refl, sym, ap, subst, ◌∙◌, arith, append-nil, append_assoc, length-take-le, take-append-drop}
+use Rattle.std.proofs.Common.{◌≡◌, ℕ, ◌+◌, ◌-◌, ◌*◌, ◌^◌, ◌<◌, ◌≤◌, Bool, false, List, [], ◌++◌, Option, Result, Err, length, take, drop, refl, sym, ap, subst, ◌∙◌, arith, append-nil, append_assoc, length-take-le, take-append-drop}
 use Rattle.std.specs.Io.KnownBytes.{Consumes, Keeps}
 use Rattle.std.proofs.{KnownBytes.Appends-nil, KnownBytes.Consumes-trans, KnownBytes.Keeps-refl, lemmas.List.length-drop}
 use mathlib.Core.Logic.{inl, inr}
@@ -13,7 +13,8 @@ use Rattle.fb_lines.specs.declared.{tally.Tally.Tally, fault.RunFault.RunFault}
 use Rattle.fb_lines.specs.declared.fault.RunFault.TheVariants as run
 use Rattle.fb_lines.proofs.Pieces.{front-more}
 use Rattle.fb_run.specs.Run.{Runs}
-use Rattle.fb_run.specs.Stream.{Carry, FailsStream, Gathers, Halts, HaltsThrough, IsFeedFault, Onward, OnwardThrough, Passes, PassesHeld, Rests, Standing, StopsAmid, StopsHeld, StopsPiece, StopsUsing, Tells, TellsSome, Uses, UsesBy, with_written}
+use Rattle.fb_run.specs.Stream.{FailsStream, Halts, HaltsThrough, IsFeedFault, Onward, OnwardThrough, Rests, Standing, StopsAmid, Tells, TellsSome, with_written}
+use Rattle.fb_run.specs.Pieces.{Carry, Passes, PassesHeld, StopsHeld, StopsPiece, StopsUsing, Uses, UsesBy}
 use Rattle.fb_run.proofs.RunLemmas.{Sofar, caused_then, fails_write, told_empty}
 use Rattle.fb_run.proofs.TextsLemmas.{followed_assoc, followed_silent}
 use Rattle.fb_run.proofs.StreamLemmas.{gathers_front, gathers_used, halts_memory, onward_line}

@@ -22,4 +22,5 @@ pub use Rattle.fb_lines.specs.Faults
 pub use Rattle.fb_lines.specs.FaultText
 pub use Rattle.fb_lines.specs.FilterLaws
 -- What proofs alone need.
+pub mod Pieces
 pub mod Whole

@@ -5,7 +5,8 @@ ghost use Rattle.fb_lines.specs.{Sums.count_of, Texts.silent, Texts.size, Texts.
 ghost use Rattle.fb_run.specs.{Prompt.IsPrompt, Run.Runs};
 ghost use Rattle.fb_lines.specs.Ends.{IsBelow, load_of, writer_of};
 ghost use Rattle.fb_run.specs.Leave.{HasCallsLeft, HasLeave, ends_of};
-ghost use Rattle.fb_run.specs.Stream.{HeldBy, IsReady, PassesBy, UsesBy, at_first, carry_of, standing};
+ghost use Rattle.fb_run.specs.Stream.{IsReady, at_first, standing};
+ghost use Rattle.fb_run.specs.Pieces.{HeldBy, PassesBy, UsesBy, carry_of};
 
 use crate::bare::pass_bare;
 use crate::front::front_message;

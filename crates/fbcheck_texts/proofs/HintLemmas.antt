@@ -2,7 +2,7 @@
 use Rattle.std.proofs.Common.{◌≡◌, ◌∙◌, ℕ, zero, suc, ◌+◌, List, [], ◌∷◌, ◌++◌, Option, Some, None, OnOk, Result, refl, sym, ap, drop, option_map, slice_get, get_or, add-one, append_assoc, drop-cons, arith, codes, ◌-◌, ◌<◌, append-nil, length, map}
 use Rattle.std.proofs.lemmas.{Option.get_or_from_slice_get, Option.slice_get-map, Option.slice_get_within, Option.slice_get_past, Option.slice_get_read, Result.on_ok_weaker}
 use Rattle.std.specs.{Borrow.Bor, List.cons_option, List.filter_map, List.list_any, List.range_with_len, Slice.IsItemAt}
-use Rattle.std.specs.Prelude.{Bool, Ok, Err, is_ok, if◌then◌else◌, ◌==◌, ◌||◌, true, false}
+use Rattle.std.specs.Prelude.{Ok, Err, is_ok, if◌then◌else◌, ◌==◌, ◌||◌, true, false}
 use Rattle.std.specs.Str.{bytes_eq}
 use Rattle.fb_schema.specs.{Heads.Head, Heads.head_of, Heads.head_of_view, Members.member_name, Rows.Object, Rows.Rows}
 use Rattle.fb_schema.specs.declared.views.ObjectView.{ObjectView}

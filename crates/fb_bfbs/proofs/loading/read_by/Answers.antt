@@ -1,9 +1,8 @@
 use Rattle.std.proofs.Common.{refl}
 use Rattle.fb_rules.specs.Stops.{Stops}
-use Rattle.fb_verify.proofs.Frames.{if_err_exit}
 use Rattle.fb_rules.specs.Verdict.{Reports}
 use Rattle.fb_bfbs.specs.{Fixed.fixed, Loads.IsLoadFault, Loads.asked_within}
-use Rattle.fb_bfbs.proofs.Outcomes.{read_file, too_much}
+use Rattle.fb_bfbs.proofs.Outcomes.{if_err_exit, read_file, too_much}
 use Rattle.fb_bfbs.proofs.loading.read_by.Goals as goal
 
 pub verify-requires-clause-table : goal.verify-requires-clause-table

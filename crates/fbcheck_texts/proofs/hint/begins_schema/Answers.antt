@@ -1,4 +1,4 @@
-use Rattle.std.proofs.Common.{refl, ap, sym, ◌∙◌, map, List, ℕ}
+use Rattle.std.proofs.Common.{refl, sym, ◌∙◌}
 use Rattle.std.proofs.Math.ListN.{drop_of_length-le}
 use Rattle.fbcheck_texts.proofs.HintLemmas.{next_start}
 use Rattle.fbcheck_texts.proofs.hint.begins_schema.Goals as goal

@@ -19,9 +19,9 @@ returns-after-put_place-clause-verdict g c =
 
 pub returns-after-put_place-clause-room : goal.returns-after-put_place-clause-room
 returns-after-put_place-clause-room g c =
-    let has = same_room c.requires.room (c.verify_and_locate.ensures.scratch ∙ ap (λ (r : Beside). r.levels) c.room.view_is) 
+    let has = same_room c.requires.room (c.verify_and_locate.ensures.scratch ∙ ap (λ (r : Beside). r.levels) c.room.view_is)
     (as_many_kept c.verify_and_locate.new.links _ c.room.inside.links.items (c.verify_and_locate.ensures.room ∙ ap length c.deref_mut.ensures.value) c.room.inside.links.ok.0 (ap (λ (r : Beside). r.links) c.room.view_is))
-     (ap (λ (r : Beside). r.label) c.room.view_is) in
+    (ap (λ (r : Beside). r.label) c.room.view_is) in
     record { deep = has.0; long = has.1; label_is = has.2 }
 
 pub returns-in-Ok-verify_and_locate-clause-verdict : goal.returns-in-Ok-verify_and_locate-clause-verdict
@@ -31,7 +31,7 @@ returns-in-Ok-verify_and_locate-clause-verdict g c =
 
 pub returns-in-Ok-verify_and_locate-clause-room : goal.returns-in-Ok-verify_and_locate-clause-room
 returns-in-Ok-verify_and_locate-clause-room g c =
-    let has = same_room c.requires.room (c.verify_and_locate.ensures.scratch ∙ ap (λ (r : Beside). r.levels) c.room.view_is) 
+    let has = same_room c.requires.room (c.verify_and_locate.ensures.scratch ∙ ap (λ (r : Beside). r.levels) c.room.view_is)
     (as_many_kept c.verify_and_locate.new.links _ c.room.inside.links.items (c.verify_and_locate.ensures.room ∙ ap length c.deref_mut.ensures.value) c.room.inside.links.ok.0 (ap (λ (r : Beside). r.links) c.room.view_is))
-     (ap (λ (r : Beside). r.label) c.room.view_is) in
+    (ap (λ (r : Beside). r.label) c.room.view_is) in
     record { deep = has.0; long = has.1; label_is = has.2 }

@@ -1,5 +1,5 @@
-use Rattle.std.proofs.Common.{arith, rules, ap, length, refl, sym, subst, take, true, false, Err, ◌≡◌, ◌≤◌, ◌+◌, ◌∙◌}
-use Rattle.fb_run.specs.{Leave.ends_of, Leave.reader_of, Run.Runs, Stream.Standing, Stream.carry_of}
+use Rattle.std.proofs.Common.{arith, rules, sym, ◌∙◌}
+use Rattle.fb_run.specs.{Leave.ends_of, Leave.reader_of, Pieces.carry_of}
 use Rattle.fb_run.proofs.{ThroughLemmas.fails_piece, ThroughLemmas.sofar_piece}
 use Rattle.fb_run.proofs.RunLemmas.{err_is, runs_from, sofar_nothing}
 use Rattle.fb_run.proofs.stream.Carried.pass_all.Goals as goal

@@ -2,7 +2,8 @@ use Rattle.std.proofs.Common.{[], ap, arith, refl, rules, ◌∙◌}
 use Rattle.std.proofs.{KnownBytes.Appends-nil, KnownBytes.Keeps-refl}
 use Rattle.fb_bytes.specs.{Framing.Framing, Messages.IsPartial}
 use Rattle.fb_lines.specs.{Ends.Outs, Ends.writer_of, Texts.no_bytes}
-use Rattle.fb_run.specs.Stream.{HeldBy, standing}
+use Rattle.fb_run.specs.Stream.{standing}
+use Rattle.fb_run.specs.Pieces.{HeldBy}
 use Rattle.fb_run.proofs.RunLemmas.{err_exit}
 use Rattle.fb_run.proofs.StreamLemmas.{feed_stops, onward_held}
 use Rattle.fb_run.proofs.ThroughLemmas.{feed_caused, through_halts, through_line, through_stops}

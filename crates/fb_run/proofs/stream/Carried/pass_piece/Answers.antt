@@ -1,6 +1,7 @@
-use Rattle.std.proofs.Common.{◌≡◌, ◌+◌, ◌<◌, ◌≤◌, ◌^◌, ap, arith, drop, length, length-append, rules, sym}
+use Rattle.std.proofs.Common.{◌<◌, ◌≤◌, ◌^◌, ap, arith, drop, length, length-append, rules, sym}
 use Rattle.std.proofs.lemmas.List.{length-drop, nil_from_length, take_rest}
-use Rattle.fb_run.specs.Stream.{PassesBy, carry_of, standing}
+use Rattle.fb_run.specs.Stream.{standing}
+use Rattle.fb_run.specs.Pieces.{PassesBy, carry_of}
 use Rattle.fb_run.proofs.RunLemmas.{err_exit}
 use Rattle.fb_run.proofs.ThroughLemmas.{passes_held, passes_more, stops_flush, stops_held, stops_used}
 use Rattle.fb_run.proofs.stream.Carried.pass_piece.Goals as goal
@@ -51,6 +52,8 @@ returns-then-is_empty g c =
     let n = c.in_ok-rest.field-0 in
     let flushed = c.in_ok-flush.ensures in
     let all : length c.fronts.rest.now ≤ n = search rules in
-    let none = nil_from_length (drop n c.fronts.rest.now) (omega (arith, all, length-drop n c.fronts.rest.now)) in
-    (passes_more c.fronts.invariant n (2 ^ 63) _ (sym none) c.in_ok-rest.ensures.uses flushed.takes flushed.empty c.flush.ensures.counted flushed.written flushed.noted flushed.unfailed
-    c.flush.ensures.load (omega (arith, c.requires.piece)), flushed.empty)
+    let none = nil_from_length (drop n c.fronts.rest.now) (omega (arith, all, length-drop n c.fronts.rest.now)) in (
+      passes_more c.fronts.invariant n (2 ^ 63) _ (sym none) c.in_ok-rest.ensures.uses flushed.takes flushed.empty c.flush.ensures.counted flushed.written flushed.noted flushed.unfailed
+          c.flush.ensures.load (omega (arith, c.requires.piece)),
+      flushed.empty,
+    )

@@ -1,5 +1,5 @@
 use Rattle.std.proofs.Common.{length, ◌-◌, ◌*◌, ◌^◌}
-use Rattle.fb_run.specs.Stream.{Passes, carry_of}
+use Rattle.fb_run.specs.Pieces.{Passes, carry_of}
 use Rattle.fb_run.proofs.stream.Carried.pass_piece.Given as goal
 
 abbrev pub invariant-fronts : goal.invariant-fronts

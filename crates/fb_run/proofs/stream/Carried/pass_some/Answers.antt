@@ -2,7 +2,8 @@ use Rattle.std.proofs.Common.{◌≡◌, ◌<◌, ◌++◌, ◌∙◌, ℕ, List
 use Rattle.std.proofs.lemmas.List.{nil_from_length}
 use Rattle.fb_bytes.specs.{Framing.Framing, Messages.IsMessage, Messages.IsPartial}
 use Rattle.fb_lines.specs.Texts.{no_bytes}
-use Rattle.fb_run.specs.Stream.{UsesBy, standing}
+use Rattle.fb_run.specs.Stream.{standing}
+use Rattle.fb_run.specs.Pieces.{UsesBy}
 use Rattle.fb_run.proofs.RunLemmas.{err_exit}
 use Rattle.fb_run.proofs.StreamLemmas.{feed_stops, halts_memory, onward_held, onward_line, onward_message, still_ready}
 use Rattle.fb_run.proofs.stream.Carried.pass_some.Goals as goal

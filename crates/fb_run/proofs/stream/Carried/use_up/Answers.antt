@@ -1,6 +1,7 @@
 use Rattle.std.proofs.Common.{arith, rules}
 use Rattle.std.proofs.lemmas.List.{length-drop, take_rest}
-use Rattle.fb_run.specs.Stream.{UsesBy, standing}
+use Rattle.fb_run.specs.Stream.{standing}
+use Rattle.fb_run.specs.Pieces.{UsesBy}
 use Rattle.fb_run.proofs.RunLemmas.{err_exit}
 use Rattle.fb_run.proofs.StreamLemmas.{used_front, used_more, used_none, used_stops}
 use Rattle.fb_run.proofs.stream.Carried.use_up.Goals as goal
