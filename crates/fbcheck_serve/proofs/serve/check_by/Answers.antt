@@ -1,6 +1,6 @@
 use Rattle.fb_run.specs.Leave.{ends_of}
 use Rattle.fbcheck_serve.proofs.ServingLemmas.{comes_files, comes_run, files_rests, few_noted, none_named, prompt_alone, prompt_among, run_rests, same_ends, some_named}
-use Rattle.fbcheck_serve.specs.Inputs.{folder_of, seen_of}
+use Rattle.fbcheck_serve.specs.Inputs.{folder_of}
 use Rattle.fbcheck_serve.proofs.serve.check_by.Goals as goal
 
 pub returns-then-is_empty : goal.returns-then-is_empty
