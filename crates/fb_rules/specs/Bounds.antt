@@ -1,7 +1,7 @@
 -- What limits are, as contracts see them.
 use Rattle.std.specs.Prelude.{ℕ, ◌+◌, ◌*◌, ◌≤◌, ◌<◌, min, Bool, true, nat_le, nat_lt, Option, Some, None, if◌then◌else◌}
 
--- how many tables may be open at once, how many may be opened, and, if these are bounded, how many reads may be made
+-- how many tables may be open at once, how many may be opened, and, if these are bounded, how many reads may be counted
 pub record Bounds : Type 0 where
   pub depth : ℕ
   pub tables : ℕ

@@ -129,8 +129,8 @@ OddVtableStops =
 abbrev pub ShortTableStops : Type 0
 ShortTableStops = StopsBy (record { alignment = true; inline_size = true }) (orc 9 8 0) monsters 0 published_limits (at_field no_kids at_own) (fault PastTable 20 0 (Some 0) 5)
 
--- what buffers may read by 64 reads a byte, within 100 million: the shortest and the longest of these, and one for
--- which 7,000 reads are too many, where a longer buffer may make them
+-- what buffers may take by 64 reads a byte, within 100 million: the shortest and the longest of these, and one for
+-- which 7,000 reads are too many, where a longer buffer may take them
 pub record BudgetsByLength : Type 0 where
   pub of_none : limits_of_length (with_reads 100000000) 64 0 ≡ with_reads 4096
   pub of_32 : limits_of_length (with_reads 100000000) 64 32 ≡ with_reads 6144

@@ -1,4 +1,4 @@
--- How many reads a verification makes at most.
+-- How many reads a verification counts at most.
 use Rattle.std.specs.Prelude.{ℕ, ◌+◌, ◌*◌, min, Option, Some, None}
 use Rattle.fb_schema.specs.{Rows.Rows, Live.widest}
 use Rattle.fb_rules.specs.Bounds.{Bounds}

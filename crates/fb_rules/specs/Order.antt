@@ -11,7 +11,7 @@ use Rattle.fb_rules.specs.Places.{fits, is_aligned, target, has_vtable, vtable, 
 use Rattle.fb_rules.specs.Fields.{type_place, union_type, type_count, Lead, to_table, to_struct, to_string, to_nothing, Entry}
 use Rattle.fb_rules.specs.{Cost.slot_reads, Cost.reads_if_present, WellFormed.base, WellFormed.prefix_reads, WellFormed.ident_reads}
 
--- a test that fails: why, at which position, and the reads made by then
+-- a test that fails: why, at which position, and the reads counted by then
 pub record Failure : Type 0 where
   pub reason : Reason
   pub at : ℕ

@@ -209,7 +209,7 @@ pub record ElementTests : Type 0 where
   pub to_a_struct_misaligned : element_failure published_checks (4 ∷ 0 ∷ 0 ∷ 0 ∷ 0 ∷ 0 ∷ 0 ∷ 0 ∷ 0 ∷ 0 ∷ 0 ∷ 0 ∷ []) (entry (to_struct 8 8) 0 1) ≡ found Misaligned 4 2
   pub to_nothing : element_failure published_checks [] (entry to_nothing 3 1) ≡ None
 
--- the limits of tables before a head, and the budget of reads after a place; on the way 5 reads were made, and
+-- the limits of tables before a head, and the budget of reads after a place; on the way 5 reads were counted, and
 -- field 3 of object 7 is under check
 pub record LimitTests : Type 0 where
   pub depth_before_tables : fault_at published_checks [] unions (limits 1 1 (Some 0)) (in_head 0 9) (a_way 1 1 5) ≡ Some (fault TooDeep 9 7 (Some 3) 5)

@@ -69,7 +69,7 @@ way_to_element c b S t g before w = past_elements c b S (entries b S t g) before
 abbrev pub way_to_table : Entry → Way → Way
 way_to_table x w = record (paying (x.reads + 1) w) { leading = x.reads + 1 }
 
--- no more tables were passed than the limits allow, no more were open at once, and no more reads were made, but for
+-- no more tables were passed than the limits allow, no more were open at once, and no more reads were counted, but for
 -- those that lead to a table
 pub record StaysWithin (w : Way) (L : Bounds) : Type 0 where
   pub tables : w.passed ≤ L.tables

@@ -9,7 +9,7 @@ use crate::limits::{Limits, allows};
 use crate::site::{Refusal, Site, Stop};
 use fb_bytes::{Loan, Reads};
 
-/// Asks whether the limits allow the reads that were made. Where they don't, the walk stops at this site and position.
+/// Asks whether the limits allow the reads counted so far. Where they don't, the walk stops at this site and position.
 #[inline(always)]
 pub fn ask_reads(loan: &Loan<'_>, limits: Limits, site: Site, at: u64) -> Result<(), Stop>
     ensures ok { IfOk result (λ _. AreAllowed limits.reads loan.now.count) }

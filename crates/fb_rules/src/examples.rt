@@ -27,7 +27,7 @@ pub fn faults()
     ensures too_many_reads_in_a_field { LastFieldStops }
 {}
 
-/// What buffers of some lengths may read.
+/// How many reads buffers of some lengths may take.
 pub fn budgets()
     ensures { BudgetsByLength }
 {}

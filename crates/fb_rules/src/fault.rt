@@ -31,7 +31,7 @@ pub enum Reason {
     LengthsDiffer,
     /// V12: a field ends past the inline size of its table.
     PastTable,
-    /// V13: more reads were made than the budget allows.
+    /// V13: more reads were counted than the budget allows.
     TooManyReads,
 }
 

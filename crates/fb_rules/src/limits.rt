@@ -1,4 +1,4 @@
-// How deep tables may lie in one another, how many may be opened, and how many reads may be made.
+// How deep tables may lie in one another, how many may be opened, and how many reads may be counted.
 
 ghost use Rattle.std.specs.Prelude.{◌≡◌, ◌^◌, ◌<◌, ◌≤◌, MatchResult, Some, None, true};
 ghost use Rattle.fb_rules.specs.Bounds.{AreAllowed, allowed, limits_of_length};
@@ -11,7 +11,7 @@ const DEEPEST: u32 = 4096;
 /// How many reads a buffer may take beside those that its length allows.
 const FREE_READS: u64 = 4096;
 
-/// More reads than any walk makes. In place of a budget, so that with and without one a walk makes the same test.
+/// More reads than any walk counts. In place of a budget, so that with and without one a walk makes the same test.
 const NO_BUDGET: u128 = u128::MAX;
 
 /// The greatest budget.
@@ -20,8 +20,8 @@ const MOST: u128 = 0xFFFF_FFFF_FFFF_FFFF;
 /// Fewer reads than this may be counted in 64 bits: no field or row costs so many that they would be too few.
 const SHORT: u64 = 1 << 56;
 
-/// How many tables may be open at once, 0 to 4,096, how many may be opened in all, and how many reads may be made, if
-/// these are bounded. A table that is visited again counts again, with its reads.
+/// How many tables may be open at once, 0 to 4,096, how many may be opened in all, and how many reads may be counted,
+/// if these are bounded. A table that is visited again counts again, with its reads.
 #[derive(Clone, Copy, Debug, PartialEq, Eq)]
 pub struct Limits {
     depth: u32,
@@ -121,7 +121,7 @@ impl Limits {
         self.depth
     }
 
-    /// How many reads may be made, none where these aren't bounded.
+    /// How many reads may be counted, none where these aren't bounded.
     pub fn reads(&self) -> Option<u64>
         ensures { result ≡ self.now.reads }
     {
@@ -142,7 +142,7 @@ pub fn tables_of(limits: Limits) -> u32
     limits.tables
 }
 
-/// Whether so many reads may be made, and a count of 64 bits holds them with room to spare.
+/// Whether so many reads may be counted, and a count of 64 bits holds them with room to spare.
 pub fn allows_short(limits: Limits, reads: u128) -> bool
     ensures allowed { result ≡ true → AreAllowed limits.reads reads }
     ensures short { result ≡ true → reads < 2 ^ 56 }
@@ -150,7 +150,7 @@ pub fn allows_short(limits: Limits, reads: u128) -> bool
     reads < u128::from(SHORT) && allows(limits, reads)
 }
 
-/// So many reads may be made, and a count of 64 bits holds them with room to spare: the budget where it is short.
+/// So many reads may be counted, and a count of 64 bits holds them with room to spare: the budget where it is short.
 pub fn short_of(limits: Limits) -> u64
     ensures allowed { AreAllowed limits.reads result }
     ensures short { result ≤ 2 ^ 56 }
@@ -158,7 +158,7 @@ pub fn short_of(limits: Limits) -> u64
     limits.short
 }
 
-/// Whether so many reads may be made.
+/// Whether so many reads may be counted.
 pub fn allows(limits: Limits, reads: u128) -> bool
     ensures { result ≡ allowed limits.reads reads }
 {

@@ -6,7 +6,7 @@ ghost use Rattle.fb_rules.specs.MostReads.{most_reads};
 use crate::limits::{Limits, tables_of};
 use fb_schema::Schema;
 
-/// How many reads a verification of so many bytes makes at most, by this schema and within these limits: 4 for the
+/// How many reads a verification of so many bytes counts at most, by this schema and within these limits: 4 for the
 /// start, and for each table 4, and for each of its fields 8 and as many as there are bytes; with a budget of reads no
 /// more than that and 7.
 #[tactic(auto, unfolding(crate::specs::MostReads::most_reads))]

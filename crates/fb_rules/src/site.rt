@@ -75,7 +75,7 @@ impl Stop {
         }
     }
 
-    /// The fault that this is, after the reads that were made.
+    /// The fault that this is, after the reads that were counted.
     pub fn fault(self, meter: &Meter<'_>) -> Fault
         ensures { result ≡ stopped self meter.now.count }
     {

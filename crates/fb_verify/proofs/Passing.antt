@@ -329,7 +329,7 @@ required_stops {w} {m} {under} {top} {steps} {step} h past place some stop is =
     let cheap : AreAllowed (w.limits).reads (m.count + own_reads m.bytes (top.table).at (found there).0) = fewer_reads (w.limits).reads (m.count + own_reads m.bytes (top.table).at (found there).0) m.count (omega (arith, ap (own_reads m.bytes (top.table).at) its, bare_reads m.bytes (top.table).at f bare)) (h.walking).reads in
     stops_paid there (λ e. bare_place m.bytes (top.table).at f.slot bare) (top.table).at m.count m.count (Some MissingRequired) (bare_told w.checks m.bytes (top.table).at m.count (step_of f) bare (at.2 f got)) refl refl cheap stop is
 
--- a test that fails tells of no fewer reads than were made before it
+-- a test that fails tells of no fewer reads than were counted before it
 pub told_grows : {at k new : ℕ} {reason : Reason} (x : Option Failure) → tested_by at new (Some reason) ≡ after k x → k ≤ new
 told_grows {at} {k} {new} x h = grind arith
 

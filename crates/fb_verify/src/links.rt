@@ -88,8 +88,8 @@ fn type_at(window: &Window<'_>, table: Table, field: &FieldView<'_>, before: u32
     }
 }
 
-/// The link through the offset word behind which a frame's row was left. What the walk read of its field is read again.
-/// Only the contract speaks of the walk's checks.
+/// The link through the offset word behind which a frame's row was left. What the walk read of its field is read again,
+/// uncounted: at most six numbers, of a vector of unions. Only the contract speaks of the walk's checks.
 fn link_of(window: &Window<'_>, schema: &Schema<'_>, checks: Checks, frame: &Frame) -> Link
     requires linked { IsLinked checks window.now schema.now frame.now }
     ensures { result ≡ frame_link window.now schema.now frame.now }

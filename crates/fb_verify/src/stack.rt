@@ -168,8 +168,8 @@ impl<'s, 'n> Walk<'s, 'n> {
         reads.count() + 8 + 6 * left <= short_of(self.limits)
     }
 
-    /// Whether one more table may be opened, where so many are open, and so many reads may be made with it, up to so
-    /// many in all.
+    /// Whether one more table may be opened, where so many are open, and so many reads may be counted with it, up to
+    /// so many in all.
     #[inline(always)]
     pub fn may_open(&self, reads: &Reads<'_>, links: u32, cost: u64, room: u64) -> bool
         requires cost { cost < 2 ^ 40 }

@@ -28,8 +28,8 @@ use std::alloc::Allocator;
 ///
 /// # Errors
 ///
-/// The first condition that fails, with the reads made up to it. Afterwards the meter has the same bytes, and its count
-/// is the number of reads that the report or the fault tells.
+/// The first condition that fails, with the reads counted up to it. Afterwards the meter has the same bytes, and its
+/// count is the number of reads that the report or the fault tells.
 #[inline(always)]
 pub fn walk<A: Allocator>(
     meter: &mut Meter<'_>,

@@ -179,7 +179,7 @@ pub fn verify_shallow<'b, 's, 'n>(
 
 /// The same, and where there is a fault, the links that lead to it are put at the front of `links`, the root's first.
 /// There must be room for as many as the depth limit says. No link leads to a fault at the start of a buffer or at the
-/// head of its root table.
+/// head of its root table. For each link at most six numbers are read again, which the fault's reads don't count.
 ///
 /// # Errors
 ///

@@ -9,7 +9,7 @@ ghost-turn_by_units g a = record { start = g.start; frames = take a.waiting a.fr
 abbrev pub ghost-walk_on : goal.ghost-walk_on
 ghost-walk_on g a = g.start
 
--- each turn leaves less work, by more than the reads that it makes
+-- each turn leaves less work, by more than the reads that it counts
 abbrev pub invariant-loop-waiting : goal.invariant-loop-waiting
 invariant-loop-waiting g l = record {
   same : l.self ≡ record l.fn.self { tables = l.self.tables; deepest = l.self.deepest };

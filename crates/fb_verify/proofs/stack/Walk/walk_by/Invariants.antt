@@ -6,7 +6,7 @@ use Rattle.fb_verify.proofs.stack.Walk.walk_by.Given as goal
 abbrev pub ghost-turn : goal.ghost-turn
 ghost-turn g a = record { start = g.start; frames = take a.waiting a.frames.now }
 
--- each turn leaves less work, by more than the reads that it makes
+-- each turn leaves less work, by more than the reads that it counts
 abbrev pub invariant-loop-has_below : goal.invariant-loop-has_below
 invariant-loop-has_below g l = record {
   on : WentOn l.fn.self l.self l.fn.reads l.reads g.start l.fn.frames l.fn.waiting l.frames l.at 0;
