@@ -26,7 +26,7 @@ static void stop(int signal)
     stopped = 1;
 }
 
-/* A good message: its fields may be read as generated code reads them. The rest of a server begins here. */
+/* A good message, which may be read as docs/REFERENCE.md says of an ok. The rest of a server begins here. */
 static void take(const rd_kafka_message_t *message, const fbcheck_verdict *verdict)
 {
     printf("%" PRId32 "@%" PRId64 " ok tables=%" PRIu32 "\n", message->partition, message->offset, verdict->tables);
