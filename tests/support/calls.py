@@ -315,14 +315,23 @@ class Verifier:
         """These paths one behind another, as read_each hands them to the library."""
         return (_Path * len(paths))(*paths)
 
-    def read_each(self, buffer, paths, options: Options | None = None) -> list:
-        """The kind of the value at the end of each of these paths, and the value. They are a list or a row of it."""
-        data, values, verdict = _bytes(buffer), (_Value * len(paths))(), _Verdict()
+    def _values(self, data: bytes, paths, options: Options | None) -> ctypes.Array:
+        """What is told of the value at the end of each of these paths. They are a list or a row of it."""
+        values, verdict = (_Value * len(paths))(), _Verdict()
         given = self.row(paths) if isinstance(paths, list) else paths
         words = (self._schema, None, self.asked(options), data, len(data), given, values, len(paths), verdict)
         if self._calls.fbcheck_read(*words) != Status.OK:
             raise Error(_told(verdict))
-        return _shown(values, data)
+        return values
+
+    def read_each(self, buffer, paths, options: Options | None = None) -> list:
+        """The kind of the value at the end of each of these paths, and the value. They are a list or a row of it."""
+        data = _bytes(buffer)
+        return _shown(self._values(data, paths, options), data)
+
+    def extents(self, buffer, paths, options: Options | None = None) -> list:
+        """The place and the number of the bytes of the value at the end of each of these paths."""
+        return [(value.at, value.size) for value in self._values(_bytes(buffer), paths, options)]
 
     def locate(self, buffer, options: Options | None = None):
         """The verdict on a buffer, and where the fault of a bad one is, in words."""

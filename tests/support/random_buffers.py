@@ -30,6 +30,10 @@ class Builder:
         self.dice, self.schema = dice, schema
         self.data, self.pending, self.vtables = bytearray(), [], []
 
+    def kept(self, alignment):
+        """An alignment for what has this one: now and then half of it."""
+        return alignment // 2 if alignment > 1 and self.dice.once_in(30) else alignment
+
     def put(self, number):
         self.data += number.to_bytes(4, "little")
 
@@ -70,7 +74,7 @@ class Builder:
         end, widest = 4, 4
         for entry in entries:
             size, alignment, _ = entry.inline
-            entry.at = round_up(end, alignment)
+            entry.at = round_up(end, self.kept(alignment))
             end, widest = entry.at + size, max(widest, alignment)
         return end, widest
 
@@ -102,7 +106,7 @@ class Builder:
 
     def vector(self, word, count, size, alignment):
         """A vector of so many elements, of which the first stands at the answer."""
-        self.pad(max(alignment, 4), 4)
+        self.pad(self.kept(max(alignment, 4)), 4)
         self.lead(word)
         self.put(count)
         first = len(self.data)
@@ -128,7 +132,7 @@ class Builder:
             self.later(word, member.index, depth)
         else:
             size, alignment = self.schema.structs[member.index]
-            self.pad(alignment)
+            self.pad(self.kept(alignment))
             self.lead(word)
             self.noise(size)
 
@@ -184,7 +188,7 @@ class Builder:
         entries = self.entries(self.schema.tables[number], depth)
         size, alignment = self.laid_out(entries)
         vtable = self.vtable_at(self.vtable(entries, size))
-        self.pad(alignment)
+        self.pad(self.kept(alignment))
         at = len(self.data)
         self.lead(word)
         self.put((at - vtable) % 2**32)

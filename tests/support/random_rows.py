@@ -53,8 +53,12 @@ class Maker:
     def __init__(self, dice, wrong_once_in):
         self.dice, self.wrong_once_in = dice, wrong_once_in
         self.count = dice.randint(1, 4)
-        self.structs = [dice.randint(1, 24) if dice.once_in(3) else None for _ in range(self.count)]
+        self.structs = [self.struct_size() if dice.once_in(3) else None for _ in range(self.count)]
         self.unions = [True, dice.once_in(2)][: dice.randrange(3)]
+
+    def struct_size(self):
+        """The size of a struct: mostly a small one."""
+        return self.dice.randint(25, 300) if self.dice.once_in(4) else self.dice.randint(1, 24)
 
     def errs(self):
         """Whether the next choice is a wrong one."""
