@@ -1,4 +1,4 @@
-"""Where the bytes of values stand in a buffer: of scalars and structs, of arrays and vectors of each width, and in them.
+"""Where the bytes of values stand in a buffer: of structs, of arrays and vectors of each width, and of what is in them.
 
 The library tells it of each value. The places and lengths were worked out from the layouts in the schema's text.
 """
@@ -66,8 +66,8 @@ class Extents(LibraryCase):
             self.same(f"{name}: {path}", got, want)
 
     def test_structs(self):
-        """The root offset, a vtable at 4, the table at 16 with an offset at 20 and a struct at 24, the vector's count at
-        228 and its elements at 232 and 432."""
+        """The root offset, a vtable at 4, the table at 16 with an offset at 20 and a struct at 24; the vector's count at
+        228, and its elements at 232 and 432."""
         objects = [table("T", field("one", ALL, 4), field("more", vector(ALL), 6)), *STRUCTS]
         data = struct.pack("<I4H4xiI200x4xI400x", 16, 8, 208, 8, 4, 12, 208, 2)
         wants = {**in_struct("one", 24), "more": (232, 400), **in_struct("more[0]", 232), **in_struct("more[1]", 432),
@@ -90,8 +90,8 @@ class Extents(LibraryCase):
                 self.told(python, f"{count} of {name}", [table("T", *fields), *STRUCTS], data, wants)
 
     def test_vectors_of_offsets(self):
-        """The root offset, a vtable at 4, the table at 12 with offsets at 16 and 20, two texts in a vector at 24 and two
-        tables in one at 36; behind these a vtable at 48, a table at 52 and a text of 2 bytes from 60 on."""
+        """The root offset, a vtable at 4, the table at 12 with offsets at 16 and 20, vectors of two texts at 24 and of
+        two tables at 36; behind these a vtable at 48, a table at 52 and a text of 2 bytes from 60 on."""
         objects = [table("T", field("texts", vector(TEXT), 4), field("tables", vector(an_object(0)), 6))]
         data = struct.pack("<I4Hi", 12, 8, 12, 4, 8, 8) + struct.pack("<8I", 8, 16, 2, 28, 24, 2, 12, 8)
         data += struct.pack("<2Hi", 4, 4, 4) + b"\2\0\0\0ab\0"

@@ -94,12 +94,14 @@ class Loading(LibraryCase):
         ran = subprocess.run([self.probe, "built-in"], capture_output=True, timeout=60)
         self.same("the listing", (ran.returncode, ran.stdout.decode().splitlines(), ran.stderr), (0, built_in(), b""))
 
-    def test_the_schema_of_the_tests_in_the_crate(self):
-        """It is the file of the rows that stand beside it."""
-        text = (TOP / "crates/library_tests/src/tests/unions.rt").read_text()
-        rows = " ".join(re.search(r"```text\n(.*?)/// ```", text, re.S)[1].replace("///", "").split())
-        given = re.search(r'FILE: &\[u8\] = b"(.*?)";', text, re.S)[1]
-        self.same("the file", bytes.fromhex(re.sub(r"[\\x\s]", "", given)).hex(), schemas.schema(*rows_of(rows)).hex())
+    def test_the_schemas_of_the_tests_in_the_crate(self):
+        """Each is the file of the rows that stand beside it."""
+        for name in "unions.rt", "extents.rt":
+            text = (TOP / "crates/library_tests/src/tests" / name).read_text()
+            rows = " ".join(re.search(r"```text\n(.*?)/// ```", text, re.S)[1].replace("///", "").split())
+            given = re.search(r'FILE: &\[u8\] = b"(.*?)";', text, re.S)[1]
+            want = schemas.schema(*rows_of(rows)).hex()
+            self.same(f"the file of {name}", bytes.fromhex(re.sub(r"[\\x\s]", "", given)).hex(), want)
 
     def refusal(self, python, **limits):
         """Why the library doesn't load FILE within these limits, or None."""

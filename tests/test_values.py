@@ -139,6 +139,20 @@ class Values(Case):
         self.same("of no element", value(path, data, "--path", "more[2].in.a"), (0, True, "no-element"))
         self.same("of an absent struct", value(path, PLAIN, "--path", "one.in.a"), (0, True, "absent"))
 
+    def test_fields_of_a_long_struct(self):
+        """Each is found by its name, past the 256th too."""
+        names = [f"f{number}" for number in range(301)]
+        long = a_struct("Long", 602, 2, *[field(name, U_SHORT, 2 * number) for number, name in enumerate(names)])
+        path = file_of("long.bfbs", schema([table("T", field("one", an_object(1), 4)), long], root="T"))
+        data = buffer({0: ("602s", struct.pack("<301H", *range(1000, 1301)))})
+        for first in range(0, 301, 16):
+            some = names[first : first + 16]
+            words = [word for name in some for word in ("--path", f"one.{name}")]
+            want = " ".join(str(1000 + first + number) for number in range(len(some)))
+            self.same(f"fields {some[0]} to {some[-1]}", value(path, data, *words), (0, True, want))
+        self.same("one past the last", run("--schema", path, "--path", "one.f301").err.partition(b";")[0],
+                  b"fbcheck: path: P2 NoSuchField step=1")
+
     def test_defaults_and_optional_ones(self):
         rows = [
             ("yes", BOOL, 1, "true"), ("low", BYTE, -128, "-128"), ("high", U_BYTE, 255, "255"),

@@ -1,7 +1,7 @@
 """Structs of each alignment and of up to 300 bytes beside the naive checker, under every choice of the checks.
 
 They stand in a table, in a vector and behind a union, where each power of two divides their place, and some end past
-their table. The library and the program tell the same of each buffer, and of each reason as many as were counted by hand.
+their table. The library and the program tell the same of each buffer, and each reason as often as was counted by hand.
 """
 
 import collections
@@ -47,7 +47,7 @@ class WideStructs(LibraryCase):
             self.same(f"{name}: what is told otherwise, with what should be", wrong, [])
             # two places for each smaller power of two; before the elements of a vector stands a count of 4 bytes
             misaligned = 2 * len(SIZES) * (2 * power + 2 * power + 2 * max(power, 2))
-            # in place by 1, 2 and 300 bytes, and by 300 of what else stands in a table; the last byte is cut off of each
+            # in place by 1, 2 and 300 bytes, and by 300 what else stands in a table; one of each has its last byte cut off
             past, cut = 2 * len(SIZES) * (3 + 1 + 1), 4 * len(SIZES) * len(FORMS)
             total = 4 * len(SIZES) * len(FORMS) * (len(PLACES) + 1 + len(SHORT))
             want = {"V2": cut, "V3": misaligned, "V12": past, "ok": total - cut - misaligned - past}

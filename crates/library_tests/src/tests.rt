@@ -1,6 +1,7 @@
 mod builders;
 mod bytes;
 mod compare;
+mod extents;
 mod reader;
 mod texts;
 mod unions;
