@@ -25,7 +25,6 @@
 
 static ssize_t (*read_on)(int, void *, size_t);
 static ssize_t (*write_on)(int, const void *, size_t);
-static int (*open_on)(const char *, int, ...);
 static unsigned long most_read, fails, reads, most_written, stops, writes, room, bars, opens;
 static int full, cause;
 
@@ -39,7 +38,6 @@ static size_t least(size_t one, size_t other) { return one < other ? one : other
 __attribute__((constructor)) static void start(void) {
     read_on = dlsym(RTLD_NEXT, "read");
     write_on = dlsym(RTLD_NEXT, "write");
-    open_on = dlsym(RTLD_NEXT, "open");
     most_read = number_in("NARROW_READ", ULONG_MAX);
     fails = number_in("NARROW_FAILS", 0);
     most_written = number_in("NARROW_WRITE", ULONG_MAX);
@@ -50,9 +48,16 @@ __attribute__((constructor)) static void start(void) {
     cause = (int)number_in("NARROW_CAUSE", EIO);
 }
 
+/* Another library may open a file before this one starts. */
+static int (*open_next(void))(const char *, int, ...) {
+    static int (*next)(const char *, int, ...);
+    if (!next) next = dlsym(RTLD_NEXT, "open");
+    return next;
+}
+
 __attribute__((destructor)) static void end(void) {
     const char *path = getenv("NARROW_REPORT");
-    int report = path ? open_on(path, O_WRONLY | O_CREAT | O_TRUNC | O_CLOEXEC, 0600) : -1;
+    int report = path ? open_next()(path, O_WRONLY | O_CREAT | O_TRUNC | O_CLOEXEC, 0600) : -1;
     if (report >= 0) dprintf(report, "%lu\n", reads);
 }
 
@@ -81,7 +86,7 @@ int open(const char *path, int how, ...) {
     va_start(more, how);
     int mode = how & O_CREAT ? va_arg(more, int) : 0;
     va_end(more);
-    return open_on(path, how, mode);
+    return open_next()(path, how, mode);
 }
 
 /* The names by which the programs call them. */
