@@ -40,6 +40,17 @@ NUMBERS = [
 ]
 
 
+def many_bytes(count):
+    """The fields of a struct, all bytes at its first place: their names are an f and the number in five digits."""
+    rows, first = 28 * count, 4 * count + 20
+    offsets = struct.pack(f"<{count}I", *[first + 24 * number for number in range(count)])
+    # a vtable of fields and one of types, the rows with their names, and behind them the type of all
+    vtables = struct.pack("<6H3H2x", 12, 16, 4, 8, 0, 12, 6, 8, 4)
+    fields = b"".join(struct.pack("<i2II I6s2x", 20 + at, 12, rows - at - 8, 0, 6, b"f%05x" % (at // 28))
+                      for at in range(0, rows, 28))
+    return Plain(offsets + vtables + fields + struct.pack("<iB3x", rows + 8, U_BYTE[0]), 4, count)
+
+
 def quoted(text):
     return '"' + text.replace('"', '\\"') + '"'
 
@@ -152,6 +163,15 @@ class Values(Case):
             self.same(f"fields {some[0]} to {some[-1]}", value(path, data, *words), (0, True, want))
         self.same("one past the last", run("--schema", path, "--path", "one.f301").err.partition(b";")[0],
                   b"fbcheck: path: P2 NoSuchField step=1")
+
+    def test_fields_of_the_longest_structs(self):
+        """A path goes to the 65,536th field, and to none behind it."""
+        long = {**a_struct("Long", 1, 1), 1: many_bytes(65_538)}
+        path = file_of("longest.bfbs", schema([table("T", field("one", an_object(1), 4)), long], root="T"))
+        data, names = buffer({0: ("B", 7)}), [f"f{number:05x}" for number in range(65_538)]
+        for name, meant in [("f00100", ""), ("f0fffe", ""), ("f0ffff", ""), ("f10000", "f00000"), ("f10001", "f00001")]:
+            want = fieldless(*names, step=1, meant=meant) if meant else good("1 ok tables=1 depth=1 reads=4 7")
+            self.same(name, run("--schema", path, "--bare", "--path", f"one.{name}", given=data), want)
 
     def test_defaults_and_optional_ones(self):
         rows = [
