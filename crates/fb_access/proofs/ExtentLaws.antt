@@ -1,7 +1,7 @@
 -- The extent of a vector or array is that of its elements.
 use Rattle.std.proofs.Common.{◌≡◌, ℕ, ◌+◌, ◌*◌, ◌<◌, ℤ, List, ap, arith, Some}
 use Rattle.fb_bytes.specs.Word.{word}
-use Rattle.fb_schema.specs.{Rows.Rows, Kinds.scalar_size, Kinds.struct_size, declared.kinds.Scalar.Scalar}
+use Rattle.fb_schema.specs.{Kinds.scalar_size, Kinds.struct_size, declared.kinds.Scalar.Scalar}
 use Rattle.fb_access.specs.declared.spot.Spot.{Spot}
 use Rattle.fb_access.specs.declared.spot.Spot.TheVariants.{AtInline, AtStruct, AtScalars, AtStructs, AtScalarArray, AtStructArray, AtTexts, AtTables, AtUnions, AtDefault}
 use Rattle.fb_access.specs.{Denotes.next_spot, Denotes.number, Denotes.inline_value, Denotes.default_value, Denotes.value, Denotes.vector, Extents.extent, Spots.if_element, Spots.spot_of_element}

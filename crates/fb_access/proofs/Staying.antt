@@ -6,7 +6,7 @@ use Rattle.fb_bytes.specs.Word.{word}
 use Rattle.fb_schema.specs.declared.{kinds.Kind.Kind, views.PartView.PartView}
 use Rattle.fb_schema.specs.declared.kinds.Kind.TheVariants.{Scalar, Text, Struct, Table, Scalars, Structs}
 use Rattle.fb_schema.specs.{Rows.Rows, Kinds.scalar_size, Kinds.struct_size, Kinds.struct_align, Live.Live, Members.member_of, Parts.PartFits, Parts.part_at, Served.MemberHolds, Served.IsServed}
-use Rattle.fb_rules.specs.{Places.field_place, Places.target, Tree.Element as Found, Tree.leaf, Tree.table, Unfolds.ElementUnfolds, WellFormed.base, declared.checks.Checks.Checks}
+use Rattle.fb_rules.specs.{Places.target, Tree.Element as Found, Tree.leaf, Tree.table, Unfolds.ElementUnfolds, WellFormed.base, declared.checks.Checks.Checks}
 use Rattle.fb_rules.specs.Fields.{Lead, to_table, to_struct, to_string, to_nothing, lead_of}
 use Rattle.fb_access.specs.declared.{step.Step.Step, step.Step.TheVariants.Field, step.Step.TheVariants.Element, step.Step.TheVariants.Member, spot.Spot.Spot}
 use Rattle.fb_access.specs.declared.spot.Spot.TheVariants.{AtTable, AtScalars, AtStructs, AtScalarArray, AtStructArray, AtTexts, AtTables, AtUnions, AtUnion, AtAbsent, AtNoElement, AtOtherMember}
