@@ -4,8 +4,8 @@ use Rattle.std.proofs.lemmas.{Bool.cond-true, Bool.Decides.Decides-eqb}
 use Rattle.fb_bytes.specs.Word.{word}
 use Rattle.fb_schema.specs.declared.kinds.Kind.{Kind, TheVariants.Text, TheVariants.Struct, TheVariants.Table, TheVariants.Union, TheVariants.Texts, TheVariants.Tables, TheVariants.Unions}
 use Rattle.fb_schema.specs.{Demands.IsLegal, Live.Live, Live.live_fields, Members.member_of, Members.member_name, Rows.Rows, Rows.is_union, Served.KindHolds, Served.IsServed}
-use Rattle.fb_rules.specs.declared.{checks.Checks.Checks, fault.Fault.Fault, link.Link.Link}
-use Rattle.fb_rules.specs.{Bounds.Bounds, Places.target, Places.field_place, Tree.kids_length, Tree.elements_length, WellFormed.base}
+use Rattle.fb_rules.specs.declared.{checks.Checks.Checks, start.Start.Start, start.Ident.Ident, fault.Fault.Fault, link.Link.Link}
+use Rattle.fb_rules.specs.{Bounds.Bounds, Question.question, Places.target, Places.field_place, Tree.kids_length, Tree.elements_length, WellFormed.base}
 use Rattle.fb_rules.specs.Fields.{type_place, union_type, types_begin, IsVectorField, IsPresent, IsPresentOrAbsent, IsField, Lead, to_table, to_string, to_nothing, lead_of, Entry, entry, entries_of, entries_at, entries}
 use Rattle.fb_rules.specs.Way.{Way, way_to_start, way_to_root, way_to_field, way_to_element, way_to_table}
 use Rattle.fb_rules.specs.Stops.{in_start, in_head, in_field, in_element, Trail, at_head, at_field, FieldTrail, at_own, at_element, ElementTrail, at_lead, through, IsTrail, IsFieldTrail, IsElementTrail}
@@ -150,9 +150,9 @@ module _ (b : List ℕ) (S : Rows) where
           (goes_after (Table k) g.kind (AtTable k t) (field_spot b t g) (field g.name) (parts_behind c short t j g g.kind) (Field g.number) x.place x.lead field_fits field_leads behind)
 
   -- Along a trail.
-  module _ (legal : IsLegal S) (served : IsServed S) (short : length b < 2 ^ 31) (c : Checks) (L : Bounds) (f : Fault) where
+  module _ (legal : IsLegal S) (served : IsServed S) (short : length b < 2 ^ 31) (root : ℕ) (start : Start) (ident : Ident) (c : Checks) (L : Bounds) (f : Fault) where
     abbrev ArrivesFrom : Kind → Spot → List Link → Type 0
-    ArrivesFrom kind from links = Arrives c b S L kind from f links
+    ArrivesFrom kind from links = Arrives (question S root start ident L c) b kind from f links
 
     -- behind a link
     arrives_on : (kind : Kind) (from : Spot) (link : Link) (links : List Link) (x : Entry) (k : ℕ) → x.lead ≡ to_table k → GoesBy kind from (link_parts S link) x → ArrivesFrom (Table k) (AtTable k (target b x.place)) links → ArrivesFrom kind from (link ∷ links)
@@ -179,10 +179,10 @@ module _ (b : List ℕ) (S : Rows) where
       trail_arrives : (s : Trail) (k t : ℕ) (w : Way) → IsTrail s c b S L k t w f → ArrivesFrom (Table k) (AtTable k t) (links_of s b S k t)
       trail_arrives at_head k t w h = record { steps = []; last = Table k; follows = (refl, refl); end = AtTable k t; reaches = refl; place = in_head k t; way = w; fails = h; is_there = refl }
       trail_arrives (at_field earlier s) k t w h =
-          subst (λ g. ArrivesFrom (Table k) (AtTable k t) (links_in_field s b S k t g)) (sym h.1.next) (field_arrives s k t (kids_length earlier) h.0 (way_to_field c b S k t earlier h.0 w) h.1.next h.2)
+          subst (λ g. ArrivesFrom (Table k) (AtTable k t) (links_in_field s b S k t g)) (sym h.1.next) (field_arrives s k t (kids_length earlier) h.0 (way_to_field c b S k t earlier h.0 w) refl h.1.next h.2)
 
-      field_arrives : (s : FieldTrail) (k t i : ℕ) (g : Live) (w : Way) → slice_get (live_fields S k) i ≡ Some g → IsFieldTrail s c b S L t g w f → ArrivesFrom (Table k) (AtTable k t) (links_in_field s b S k t (Some g))
-      field_arrives at_own k t i g w at h = record {
+      field_arrives : (s : FieldTrail) (k t i : ℕ) (g : Live) (w : Way) → w.field ≡ Some g.number → slice_get (live_fields S k) i ≡ Some g → IsFieldTrail s c b S L t g w f → ArrivesFrom (Table k) (AtTable k t) (links_in_field s b S k t (Some g))
+      field_arrives at_own k t i g w named at h = record {
         steps = Field g.number ∷ [];
         last = g.kind;
         follows = subst (λ ps. Follows S (Table k) ps (Field g.number ∷ []) g.kind) (sym (one_link S (field_link k g) ∙ field_first legal served k t i g at None None)) (fitted (Field g.number) g.kind, field_fits legal served k t i g at, [], refl, (refl, refl));
@@ -191,9 +191,9 @@ module _ (b : List ℕ) (S : Rows) where
         place = in_field t g;
         way = w;
         fails = h;
-        is_there = refl;
+        is_there = (named, refl);
       }
-      field_arrives (at_element before s) k t i g w at h =
+      field_arrives (at_element before s) k t i g w named at h =
           let link = element_link b k t g (elements_length before) in
           subst (λ x. ArrivesFrom (Table k) (AtTable k t) (link ∷ links_in_element s b S x)) (sym h.1.next)
           (element_arrives s (Table k) (AtTable k t) link h.0 (way_to_element c b S t g before w) (link_goes legal served k t i g at c (elements_length before) h.0 short h.1.own h.1.next) h.2)
@@ -217,7 +217,7 @@ module _ (b : List ℕ) (S : Rows) where
 
 pub links_arrive : LinksArrive
 links_arrive q b f links legal served short (inl h) =
-    subst (Arrives q.checks b q.rows q.limits (Table q.root) (AtTable q.root (target b (base q.start))) f) (sym h.1) (record {
+    subst (Arrives q b (Table q.root) (AtTable q.root (target b (base q.start))) f) (sym h.1) (record {
       steps = [];
       last = Table q.root;
       follows = (refl, refl);
@@ -226,8 +226,8 @@ links_arrive q b f links legal served short (inl h) =
       place = in_start q.start q.ident;
       way = way_to_start q.root;
       fails = h.0;
-      is_there = tt;
+      is_there = (refl, refl, refl);
     })
 links_arrive q b f links legal served short (inr h) =
     let t = target b (base q.start) in
-    subst (Arrives q.checks b q.rows q.limits (Table q.root) (AtTable q.root t) f) h.1.2 (trail_arrives b q.rows legal served short q.checks q.limits f h.1.0 q.root t (way_to_root q.root q.start q.ident) h.1.1)
+    subst (Arrives q b (Table q.root) (AtTable q.root t) f) h.1.2 (trail_arrives b q.rows legal served short q.root q.start q.ident q.checks q.limits f h.1.0 q.root t (way_to_root q.root q.start q.ident) h.1.1)

@@ -33,3 +33,4 @@ pub mod ShownLocations
 pub mod Ways
 pub mod UniqueNames
 pub mod Arriving
+pub mod ExtentLaws

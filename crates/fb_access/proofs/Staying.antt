@@ -1,7 +1,7 @@
 -- Wherever steps lead in a buffer that unfolds, what is there lies in the buffer.
 use Rattle.std.proofs.Common.{◌≡◌, ℕ, ◌+◌, ◌*◌, ◌<◌, ◌≤◌, ◌==◌, nat_lt, if◌then◌else◌, Bool, true, List, [], ◌∷◌, length, refl, subst, arith, Option, Some, None}
 use Rattle.std.proofs.lemmas.{Bool.Decides.nat_tests}
-use Rattle.std.specs.Prelude.{option_map}
+use Rattle.std.specs.Prelude.{IfSome, option_map}
 use Rattle.fb_bytes.specs.Word.{word}
 use Rattle.fb_schema.specs.declared.{kinds.Kind.Kind, views.PartView.PartView}
 use Rattle.fb_schema.specs.declared.kinds.Kind.TheVariants.{Scalar, Text, Struct, Table, Scalars, Structs}
@@ -9,11 +9,11 @@ use Rattle.fb_schema.specs.{Rows.Rows, Kinds.scalar_size, Kinds.struct_size, Kin
 use Rattle.fb_rules.specs.{Places.target, Tree.Element as Found, Tree.leaf, Tree.table, Unfolds.ElementUnfolds, WellFormed.base, declared.checks.Checks.Checks}
 use Rattle.fb_rules.specs.Fields.{Lead, to_table, to_struct, to_string, to_nothing, lead_of}
 use Rattle.fb_access.specs.declared.{step.Step.Step, step.Step.TheVariants.Field, step.Step.TheVariants.Element, step.Step.TheVariants.Member, spot.Spot.Spot}
-use Rattle.fb_access.specs.declared.spot.Spot.TheVariants.{AtScalars, AtStructs, AtScalarArray, AtStructArray, AtTexts, AtTables, AtUnions, AtUnion, AtAbsent, AtNoElement, AtOtherMember}
+use Rattle.fb_access.specs.declared.spot.Spot.TheVariants.{AtTable, AtScalars, AtStructs, AtScalarArray, AtStructArray, AtTexts, AtTables, AtUnions, AtUnion, AtAbsent, AtNoElement, AtOtherMember}
 use Rattle.fb_access.specs.{Fitting.numbered, Denotes.next_spot, Denotes.Reaches, Denotes.root_spot, Inside.OffsetLies, Inside.LiesInside, Inside.ValuesLieInside}
 use Rattle.fb_access.specs.Spots.{field_spot, part_spot, spot_of_part, spot_of_field, if_element, spot_of_element, member_spot, spot_of_member}
-use Rattle.fb_access.specs.Held.{IsTableAt, IsStructAt, IsLed, IsUnionAt, IsSpot}
-use Rattle.fb_access.proofs.{FieldSpots.field_spot_holds, Leading.led_to_table, Leading.led_to_string, Leading.led_to_struct, TableFields.table_has_vtable, StepLaws.some_same, Walks.root_placed}
+use Rattle.fb_access.specs.Held.{IsReadable, IsTableAt, IsStructAt, IsLed, IsUnionAt, IsSpot}
+use Rattle.fb_access.proofs.{FieldSpots.field_spot_holds, FieldSpots.field_readable, Leading.led_to_table, Leading.led_to_string, Leading.led_to_struct, TableFields.table_has_vtable, StepLaws.some_same, Walks.root_placed}
 
 -- an element below the count ends within the elements
 element_ends : (size j n : ℕ) → j < n → size * j + size ≤ n * size
@@ -111,11 +111,15 @@ module _ (b : List ℕ) (S : Rows) where
   offset_lies c (table y) p to_string u = absurd u
   offset_lies c y p lead u = u.0.within
 
-  lies : (q : Spot) → IsSpot b S q → LiesInside b S q
+  lies : (q : Spot) → IsServed S → IsSpot b S q → LiesInside b S q
   unfolding IsSpot
-  lies q h = grind (arith, table_has_vtable, offset_lies)
+  lies (AtTable k t) served h = record {
+    vtable = table_has_vtable b S k t h;
+    fields = λ n p f e is. subst (λ place. IfSome place (λ p. IsReadable b t f.slot p f.kind)) is (field_readable b S k t n f served h e);
+  }
+  lies q served h = grind (arith, offset_lies)
 
 pub values_lie_inside : ValuesLieInside
-values_lie_inside v steps q served h r =
+values_lie_inside v served h =
     let root = root_placed v v.root (target v.bytes (base v.start)) h refl refl in
-    lies v.bytes v.schema q (steps_stay v.bytes v.schema (root_spot v.bytes v.start v.root) steps q served root.spot r)
+    (h.well_formed.starts.offset.within, λ steps q r. lies v.bytes v.schema q served (steps_stay v.bytes v.schema (root_spot v.bytes v.start v.root) steps q served root.spot r))

@@ -1,8 +1,8 @@
 -- The laws of what is told of the way to a fault: its text is a path, and its links lead to what is under check.
 use Rattle.std.specs.Prelude.{◌≡◌, ℕ, ◌<◌, ◌^◌, List, [], ◌∷◌, ◌++◌, length, Option, Some, None, decimal}
 use Rattle.fb_schema.specs.{Demands.IsLegal, Rows.Rows, Served.IsServed, declared.kinds.Kind.Kind, declared.kinds.Kind.TheVariants.Table}
-use Rattle.fb_rules.specs.declared.{checks.Checks.Checks, fault.Fault.Fault, link.Link.Link}
-use Rattle.fb_rules.specs.{Bounds.Bounds, Question.Question, Fields.Lead, Fields.to_nothing, Way.Way, Links.StopsAlong}
+use Rattle.fb_rules.specs.declared.{fault.Fault.Fault, link.Link.Link}
+use Rattle.fb_rules.specs.{Question.Question, Fields.Lead, Fields.to_nothing, Way.Way, Way.way_to_start, Links.StopsAlong}
 use Rattle.fb_rules.specs.Stops.{Place, in_start, in_head, in_field, in_element, IsFalseAt}
 use Rattle.fb_access.specs.declared.{step.Step.Step, spot.Spot.Spot, spot.Spot.TheVariants.AtTable, spot.Spot.TheVariants.AtUnion}
 use Rattle.fb_access.specs.{Denotes.Reaches, Denotes.root_spot, Resolving.Follows, Resolving.Resolves, Location.field_name, Location.link_member, Location.path_text, Spots.field_spot, StepLaws.IsLedTo}
@@ -62,29 +62,29 @@ abbrev pub IsBehind : List ℕ → Rows → ℕ → Lead → Spot → Type 0
 IsBehind b S p to_nothing q = (e : ℕ) × (y : ℕ) × (q ≡ AtUnion e y p)
 IsBehind b S p lead q = IsLedTo b S p lead q
 
--- what is under check at a place: the table in whose head it is, the field, or what an offset word of one leads to; at
--- the start nothing is yet
-abbrev pub IsUnderCheck : List ℕ → Rows → Place → Spot → Type 0
-IsUnderCheck b S (in_start start ident) q = Unit {0}
-IsUnderCheck b S (in_head k t) q = q ≡ AtTable k t
-IsUnderCheck b S (in_field t g) q = q ≡ field_spot b t g
-IsUnderCheck b S (in_element x) q = IsBehind b S x.place x.lead q
+-- what is under check at a place, at the end of this way: the table in whose head it is, the field to which the way
+-- leads, or what an offset word of one leads to; at the start, which is the one that was asked for, nothing is yet
+abbrev pub IsUnderCheck : Question → List ℕ → Way → Place → Spot → Type 0
+IsUnderCheck q b way (in_start start ident) at = (start ≡ q.start) × (ident ≡ q.ident) × (way ≡ way_to_start q.root)
+IsUnderCheck q b way (in_head k t) at = at ≡ AtTable k t
+IsUnderCheck q b way (in_field t g) at = (way.field ≡ Some g.number) × (at ≡ field_spot b t g)
+IsUnderCheck q b way (in_element x) at = IsBehind b q.rows x.place x.lead at
 
 -- by the names of the schema the parts of these links follow one another from this kind, and in the buffer their steps
 -- lead from this spot to what is under check where the fault is the first condition that fails
-pub record Arrives (c : Checks) (b : List ℕ) (S : Rows) (L : Bounds) (kind : Kind) (from : Spot) (f : Fault) (links : List Link) : Type 0 where
+pub record Arrives (q : Question) (b : List ℕ) (kind : Kind) (from : Spot) (f : Fault) (links : List Link) : Type 0 where
   pub steps : List Step
   pub last : Kind
-  pub follows : Follows S kind (parts_of S links) steps last
+  pub follows : Follows q.rows kind (parts_of q.rows links) steps last
   pub end : Spot
-  pub reaches : Reaches b S from steps end
+  pub reaches : Reaches b q.rows from steps end
   pub place : Place
   pub way : Way
-  pub fails : IsFalseAt c b S L place way f
-  pub is_there : IsUnderCheck b S place end
+  pub fails : IsFalseAt q.checks b q.rows q.limits place way f
+  pub is_there : IsUnderCheck q b way place end
 
 -- the links to a fault do so from the root
 abbrev pub LinksArrive : Type 0
 LinksArrive =
     (q : Question) (b : List ℕ) (f : Fault) (links : List Link) → IsLegal q.rows → IsServed q.rows → length b < 2 ^ 31 → StopsAlong q b f links
-    → Arrives q.checks b q.rows q.limits (Table q.root) (root_spot b q.start q.root) f links
+    → Arrives q b (Table q.root) (root_spot b q.start q.root) f links

@@ -1,5 +1,5 @@
 -- What the text of a path resolves to, against the rows of a schema.
-use Rattle.std.specs.Prelude.{◌≡◌, ℕ, ◌^◌, nat_lt, if◌then◌else◌, ◌⊎◌, List, [], ◌∷◌, ◌++◌, length, find, Option, Some, None, Result, Ok, Err}
+use Rattle.std.specs.Prelude.{◌≡◌, ℕ, ◌<◌, ◌^◌, nat_lt, if◌then◌else◌, ◌⊎◌, List, [], ◌∷◌, ◌++◌, length, find, Option, Some, None, Result, Ok, Err}
 use Rattle.std.specs.Str.{bytes_eq}
 use Rattle.fb_schema.specs.declared.{kinds.Kind.Kind, kinds.Kind.TheVariants.Struct, kinds.Kind.TheVariants.Table, kinds.Kind.TheVariants.Union, views.PartView.PartView}
 use Rattle.fb_schema.specs.{Rows.Rows, Live.Live, Live.live_fields, Members.member_of, Members.member_named, Parts.part_at, Parts.part_named}
@@ -123,3 +123,9 @@ Refuses S root text fault = IsFault S root text fault ⊎ (fault ≡ OutOfMemory
 abbrev pub IsAnswer : Rows → ℕ → List ℕ → Result (List Step) PathFault → Type 0
 IsAnswer S root text (Ok steps) = Resolves S root text steps
 IsAnswer S root text (Err fault) = IsFault S root text fault
+
+-- each field of a struct is a step by its name, but for those from the 65,537th on
+abbrev pub PartsAreNamed : Type 0
+PartsAreNamed =
+    (S : Rows) (k i : ℕ) (name : List ℕ) (part : PartView) → part_named S k name ≡ Some i → part_at S k i ≡ Some part → i < 2 ^ 16
+    → fitting S (Struct k) (field name) ≡ Ok (record { step = Field i; kind = part.kind })

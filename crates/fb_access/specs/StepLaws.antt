@@ -1,13 +1,14 @@
 -- The laws that tie steps to what the verifier checks: places of fields, and the offset words by which they lead on.
-use Rattle.std.specs.Prelude.{◌≡◌, ◌≢◌, ℕ, ◌+◌, ◌*◌, ◌<◌, ◌⊎◌, List, [], ◌∷◌, slice_get, Option, Some, None}
+use Rattle.std.specs.Prelude.{◌≡◌, ◌≢◌, ℕ, ◌+◌, ◌*◌, ◌<◌, ◌⊎◌, List, [], ◌∷◌, slice_get, Option, Some, None, option_and_then}
 use Rattle.fb_bytes.specs.Word.{word}
 use Rattle.fb_schema.specs.declared.kinds.Kind.TheVariants.{Scalar as AScalar, Struct, Union, Scalars, Texts, Structs, Tables, Unions}
-use Rattle.fb_schema.specs.{Rows.Rows, Kinds.struct_size, Kinds.struct_align, Live.Live, Members.member_of, declared.kinds.Kind.Kind}
+use Rattle.fb_schema.specs.{Rows.Rows, Kinds.scalar_size, Kinds.struct_size, Kinds.struct_align, Live.Live, Members.member_of, declared.kinds.Kind.Kind}
 use Rattle.fb_rules.specs.Places.{target, field_place}
 use Rattle.fb_rules.specs.Fields.{Lead, to_table, to_struct, to_string, to_nothing, lead_of, Entry, entries}
 use Rattle.fb_access.specs.declared.{step.Step.Step, step.Step.TheVariants.Field, step.Step.TheVariants.Element, step.Step.TheVariants.Member, spot.Spot.Spot}
 use Rattle.fb_access.specs.declared.spot.Spot.TheVariants.{AtTable, AtInline, AtStruct, AtText, AtScalars, AtStructs, AtScalarArray, AtStructArray, AtTexts, AtTables, AtUnions, AtUnion, AtOtherMember}
-use Rattle.fb_access.specs.{Fitting.numbered, Spots.kind_at, Denotes.Leads, Denotes.Reaches}
+use Rattle.fb_access.specs.declared.extent.Extent.{Extent}
+use Rattle.fb_access.specs.{Fitting.numbered, Spots.kind_at, Denotes.Leads, Denotes.Reaches, Denotes.value, Denotes.vector, Extents.extent}
 
 -- the position of a spot, if it is one in the buffer
 abbrev pub position_of : Spot → Option ℕ
@@ -101,3 +102,19 @@ abbrev pub ElementsStandInRow : Type 0
 ElementsStandInRow =
     (b : List ℕ) (S : Rows) (k t n j p : ℕ) (f : Live) (q : Spot) → numbered S k n ≡ Some f → AreInline f.kind → field_place b t f.slot ≡ Some p → j < word b (target b p) 4 → Reaches b S (AtTable k t) (Field n ∷ Element j ∷ []) q
     → position_of q ≡ Some (target b p + 4 + f.size * j)
+
+-- how many bytes each element of a vector or array of this kind has, where they stand in place
+abbrev pub size_in_place : Rows → Kind → Option ℕ
+size_in_place S (Scalars s) = Some (scalar_size s)
+size_in_place S (Structs k) = Some (struct_size S k)
+size_in_place S _ = None
+
+-- the extent of n elements is that of so many bytes for each, one after another; those behind offset words have none
+abbrev pub HoldsElements : List ℕ → Rows → Spot → ℕ → Option ℕ → Option Extent → Type 0
+HoldsElements b S q n (Some size) (Some e) = (e.size ≡ n * size) × ((j : ℕ) (r : Spot) → j < n → Leads b S q (Element j) r → position_of r ≡ Some (e.at + size * j))
+HoldsElements b S q n None None = Unit {0}
+HoldsElements b S q n _ _ = ⊥
+
+-- the bytes of a vector or array are those of its elements
+abbrev pub ElementsFillExtents : Type 0
+ElementsFillExtents = (b : List ℕ) (S : Rows) (q : Spot) (n : ℕ) → value b S q ≡ vector n → HoldsElements b S q n (option_and_then (size_in_place S) (kind_at q)) (extent b S q)

@@ -13,8 +13,9 @@ pub fn ways_resolve()
 
 /// The parts of the links that lead to a fault follow one another from the root table by the names of the schema, so
 /// that the path that is told is one that leads somewhere; and in the buffer its steps lead to what is under check
-/// there: to the table in whose head the fault is, to the field, or to what the field's offset word leads to. The rows
-/// are to be legal and such as serve, and each schema's are, by the clauses `legal` and `served` of `Schema::lawful`.
+/// there: to the table in whose head the fault is, to the field, or to what the field's offset word leads to. A fault
+/// at the start is at that of the question, before the root table. The rows are to be legal and such as serve, and each
+/// schema's are, by the clauses `legal` and `served` of `Schema::lawful`.
 #[tactic(auto, using(crate::proofs::Arriving::links_arrive))]
 pub fn links_arrive()
     ensures { LinksArrive }

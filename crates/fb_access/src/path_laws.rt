@@ -3,7 +3,7 @@
 ghost use Rattle.std.specs.Prelude.{◌≡◌, ℕ, List, Result};
 ghost use Rattle.fb_schema.specs.Rows.{Rows};
 ghost use Rattle.fb_access.specs.declared.{path_fault.PathFault.PathFault, step.Step.Step};
-ghost use Rattle.fb_access.specs.{Grammar.Part, Grammar.IsReading, Resolving.IsAnswer};
+ghost use Rattle.fb_access.specs.{Grammar.Part, Grammar.IsReading, Resolving.IsAnswer, Resolving.PartsAreNamed};
 
 /// A text is a name and parts in one way at most.
 pub fn text_has_one_reading()
@@ -20,4 +20,10 @@ pub fn one_answer_applies()
 #[tactic(auto, using(crate::proofs::SomeAnswer::some_answer))]
 pub fn some_answer_applies()
     ensures { (rows : Rows) (root : ℕ) (text : List ℕ) → (answer : Result (List Step) PathFault) × IsAnswer rows root text answer }
+{}
+
+/// Each field of a struct that has a name is a step by that name, but for those from the 65,537th on.
+#[tactic(auto, using(std::proofs::lemmas::Bool::Decides::nat_tests))]
+pub fn parts_are_named()
+    ensures { PartsAreNamed }
 {}

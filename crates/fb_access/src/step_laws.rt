@@ -2,7 +2,7 @@
 //! theorems.
 
 ghost use Rattle.fb_access.specs.Inside.{ValuesLieInside};
-ghost use Rattle.fb_access.specs.StepLaws.{FieldsStandInPlace, StepsFollowEntries, NoOtherElements, MembersFollowLeads, ElementsStandInRow};
+ghost use Rattle.fb_access.specs.StepLaws.{ElementsFillExtents, FieldsStandInPlace, StepsFollowEntries, NoOtherElements, MembersFollowLeads, ElementsStandInRow};
 
 /// A field step leads to where the verifier's `field_place` says that the field stands, to a value of its kind; and
 /// to no place in the buffer where it says that the field is absent.
@@ -39,9 +39,17 @@ pub fn elements_stand_in_row()
     ensures { ElementsStandInRow }
 {}
 
-/// Whatever steps lead to in a buffer that was verified lies in that buffer, with its count and all its elements: a
-/// reader who goes by the schema from the root table, and reads what is there, reads nothing outside. The rows are to
-/// be such as serve, and each schema's are, by the clause `served` of `Schema::lawful`.
+/// The extent of a vector or array of scalars or structs is that of its elements, one after another; a vector of
+/// strings, tables or unions, whose elements stand behind offset words, has none.
+#[tactic(auto, using(crate::proofs::ExtentLaws::elements_fill_extents))]
+pub fn elements_fill_extents()
+    ensures { ElementsFillExtents }
+{}
+
+/// The root offset of a buffer that was verified lies in it, and so does whatever steps lead to: a table with its
+/// vtable and the words by which its fields lead on, anything else with its count and all its elements. So a reader
+/// who goes by the schema from the root offset, and reads what is there, reads nothing outside. The rows are to be such
+/// as serve, and each schema's are, by the clause `served` of `Schema::lawful`.
 #[tactic(auto, using(crate::proofs::Staying::values_lie_inside))]
 pub fn values_lie_inside()
     ensures { ValuesLieInside }

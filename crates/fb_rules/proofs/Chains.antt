@@ -4,9 +4,9 @@ use Rattle.std.proofs.lemmas.Bool.Decides.{nat_tests}
 use Rattle.fb_schema.specs.declared.kinds.Kind.{Kind}
 use Rattle.fb_schema.specs.{Rows.Rows, Live.Live}
 use Rattle.fb_rules.specs.declared.{checks.Checks.Checks, start.Start.Start, start.Ident.Ident}
-use Rattle.fb_rules.specs.{Places.ends_in_table, Tree.Element, Tree.leaf, Tree.table, Unfolds.ElementUnfolds}
+use Rattle.fb_rules.specs.{Places.is_aligned, Places.ends_in_table, Tree.Element, Tree.leaf, Tree.table, Unfolds.ElementUnfolds}
 use Rattle.fb_rules.specs.{WellFormed.IsStart, Laws.IsLead}
-use Rattle.fb_rules.specs.Facts.{IsTable, IsOffset, IsString, IsVector, IsInline}
+use Rattle.fb_rules.specs.Facts.{IsAligned, EndsInTable, IsTable, IsOffset, IsString, IsVector, IsInline}
 use Rattle.fb_rules.specs.Fields.{IsPresent, IsField, to_table, Entry}
 use Rattle.fb_rules.specs.Order.{Failure, after, ◌▷◌, prefix_failure, ident_failure, offset_failure, start_failure, head_failure, string_failure, vector_failure, inline_failure, table_failure, present_failure, own_failure, element_failure}
 
@@ -18,31 +18,41 @@ after_none n x = grind arith
 pub both_none : (x y : Option Failure) → (x ▷ y ≡ None) ↔ ((x ≡ None) × (y ≡ None))
 both_none x y = grind arith
 
+-- single tests
+
+aligned_told : (c : Checks) (p align : ℕ) → IsTrue (is_aligned c p align) ↔ IsAligned c p align
+unfolding is_aligned
+aligned_told c p align = grind (arith, nat_tests)
+
+ends_told : (c : Checks) (b : List ℕ) (t p n : ℕ) → IsTrue (ends_in_table c b t p n) ↔ EndsInTable c b t p n
+unfolding ends_in_table
+ends_told c b t p n = grind (arith, nat_tests)
+
 -- the chains of the parts
 
 pub offset_none : (c : Checks) (b : List ℕ) (p : ℕ) → (offset_failure c b p ≡ None) ↔ IsOffset c b p
 unfolding offset_failure
-offset_none c b p = search (rules, tests)
+offset_none c b p = grind (arith, nat_tests, aligned_told)
 
 pub head_none : (c : Checks) (b : List ℕ) (t : ℕ) → (head_failure c b t ≡ None) ↔ IsTable c b t
 unfolding head_failure
-head_none c b t = search (rules, tests)
+head_none c b t = search (rules, tests, aligned_told)
 
 pub string_none : (c : Checks) (b : List ℕ) (s : ℕ) → (string_failure c b s ≡ None) ↔ IsString c b s
 unfolding string_failure
-string_none c b s = search (rules, tests)
+string_none c b s = grind (arith, nat_tests, aligned_told)
 
 pub vector_none : (c : Checks) (b : List ℕ) (v size align : ℕ) → (vector_failure c b v size align ≡ None) ↔ IsVector c b v size align
 unfolding vector_failure
-vector_none c b v size align = search (rules, tests)
+vector_none c b v size align = grind (arith, nat_tests, aligned_told)
 
 pub inline_none : (c : Checks) (b : List ℕ) (p size align : ℕ) → (inline_failure c b p size align ≡ None) ↔ IsInline c b p size align
 unfolding inline_failure
-inline_none c b p size align = search (rules, tests)
+inline_none c b p size align = grind (arith, nat_tests, aligned_told)
 
-pub table_none : (c : Checks) (b : List ℕ) (t p n : ℕ) → (table_failure c b t p n ≡ None) ↔ IsTrue (ends_in_table c b t p n)
+pub table_none : (c : Checks) (b : List ℕ) (t p n : ℕ) → (table_failure c b t p n ≡ None) ↔ EndsInTable c b t p n
 unfolding table_failure
-table_none c b t p n = search (rules, tests)
+table_none c b t p n = grind (arith, nat_tests, ends_told)
 
 -- the whole chains
 

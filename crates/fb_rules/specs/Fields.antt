@@ -1,11 +1,11 @@
 -- What a field of a table must meet by itself, and the offset words by which it leads on.
-use Rattle.std.specs.Prelude.{◌≡◌, ℕ, zero, suc, ◌+◌, ◌-◌, IsTrue, IsFalse, List, [], ◌∷◌, Option, Some, None}
+use Rattle.std.specs.Prelude.{◌≡◌, ℕ, zero, suc, ◌+◌, ◌-◌, IsFalse, List, [], ◌∷◌, Option, Some, None}
 use Rattle.fb_bytes.specs.Word.{word}
 use Rattle.fb_schema.specs.declared.kinds.Kind.{Kind}
 use Rattle.fb_schema.specs.declared.kinds.Kind.TheVariants.{Scalar, Text, Struct, Table, Union, Scalars, Texts, Structs, Tables, Unions}
 use Rattle.fb_schema.specs.{Rows.Rows, Kinds.struct_size, Kinds.struct_align, Live.Live, Members.member_of}
 use Rattle.fb_rules.specs.declared.checks.Checks.{Checks}
-use Rattle.fb_rules.specs.{Places.target, Places.field_place, Places.ends_in_table, Facts.IsOffset, Facts.IsVector, Facts.IsInline}
+use Rattle.fb_rules.specs.{Places.target, Places.field_place, Facts.EndsInTable, Facts.IsOffset, Facts.IsVector, Facts.IsInline}
 
 -- where the type field of the union with the slot o stands: its slot is the one before
 abbrev pub type_place : List ℕ → ℕ → ℕ → Option ℕ
@@ -28,12 +28,12 @@ types_begin b (Some q) = target b q + 4
 
 -- a scalar or struct field at p
 pub record IsInlineField (c : Checks) (b : List ℕ) (t p size align : ℕ) : Type 0 where
-  pub in_table : IsTrue (ends_in_table c b t p size)
+  pub in_table : EndsInTable c b t p size
   pub value : IsInline c b p size align
 
 -- a field at p that holds an offset word to a vector
 pub record IsVectorField (c : Checks) (b : List ℕ) (t p size align : ℕ) : Type 0 where
-  pub in_table : IsTrue (ends_in_table c b t p 4)
+  pub in_table : EndsInTable c b t p 4
   pub offset : IsOffset c b p
   pub vector : IsVector c b (target b p) size align
 
@@ -45,14 +45,14 @@ pub record IsUnionsField (c : Checks) (b : List ℕ) (t p : ℕ) (types : Option
 -- the value of a union at p, where its type has this member
 abbrev pub IsUnionField : Checks → List ℕ → ℕ → ℕ → Option Kind → Type 0
 IsUnionField c b t p None = Unit {0}
-IsUnionField c b t p (Some member) = IsTrue (ends_in_table c b t p 4)
+IsUnionField c b t p (Some member) = EndsInTable c b t p 4
 
 -- a present field at p of this kind, but for the strings, structs and tables that it leads to
 abbrev pub IsPresent : Checks → List ℕ → Rows → ℕ → Live → ℕ → Kind → Type 0
 IsPresent c b S t f p (Scalar s) = IsInlineField c b t p f.size f.align
 IsPresent c b S t f p (Struct k) = IsInlineField c b t p f.size f.align
-IsPresent c b S t f p Text = IsTrue (ends_in_table c b t p 4)
-IsPresent c b S t f p (Table k) = IsTrue (ends_in_table c b t p 4)
+IsPresent c b S t f p Text = EndsInTable c b t p 4
+IsPresent c b S t f p (Table k) = EndsInTable c b t p 4
 IsPresent c b S t f p (Union e) = IsUnionField c b t p (member_of S e (union_type b (type_place b t f.slot)))
 IsPresent c b S t f p (Scalars s) = IsVectorField c b t p f.size f.align
 IsPresent c b S t f p (Structs k) = IsVectorField c b t p f.size f.align

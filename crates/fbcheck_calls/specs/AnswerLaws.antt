@@ -1,11 +1,11 @@
 -- The laws of what a check answers: to whom a yes is due, and to whom a no; and where a value's bytes are.
-use Rattle.std.specs.Prelude.{◌≡◌, ℕ, ◌<◌, ◌≤◌, ◌^◌, List, length, Option, Some, None}
+use Rattle.std.specs.Prelude.{◌≡◌, ℕ, ◌<◌, ◌≤◌, ◌^◌, List, length, Option, Some, None, option_and_then}
 use Rattle.fb_schema.specs.Rows.{Rows}
 use Rattle.fb_rules.specs.{Tree.Tree, Verdict.HasNone, WellFormed.IsWellFormed, WellFormed.IsWithin}
 use Rattle.fb_rules.specs.declared.start.Ident.{Ident}
 use Rattle.fb_access.specs.declared.{extent.Extent.Extent, spot.Spot.Spot}
 use Rattle.fb_access.specs.Denotes as denotes
-use Rattle.fb_access.specs.{Denotes.Shown, Denotes.bytes_at, Denotes.value, Extents.extent}
+use Rattle.fb_access.specs.{Denotes.Shown, Denotes.bytes_at, Denotes.value, Extents.extent, Spots.kind_at, StepLaws.size_in_place, StepLaws.HoldsElements}
 use Rattle.fb_bfbs.specs.declared.loading.Loaded.{Loaded}
 use Rattle.fbcheck_calls.specs.declared.{answer.Answer.Answer, options.Options.Options}
 use Rattle.fbcheck_calls.specs.{Answered.IsChecked, Told.told}
@@ -41,18 +41,19 @@ LongGetsItsNumber = (l : Loaded) (n : ℕ) (o : Options) (b : List ℕ) (root : 
     → 2 ^ 31 ≤ length b
     → IsChecked l n o b a → (told a).status ≡ 7
 
--- the bytes that a value shows stand where the extent says; what shows none, and is no vector, has no extent
-abbrev pub Stands : List ℕ → Shown → Option Extent → Type 0
-Stands b (denotes.float s) (Some e) = s ≡ bytes_at b e.at e.size
-Stands b (denotes.text s) (Some e) = s ≡ bytes_at b e.at e.size
-Stands b (denotes.structure s) (Some e) = s ≡ bytes_at b e.at e.size
-Stands b (denotes.vector n) e = Unit {0}
-Stands b _ (Some e) = ⊥
-Stands b (denotes.float s) None = ⊥
-Stands b (denotes.text s) None = ⊥
-Stands b (denotes.structure s) None = ⊥
-Stands b _ None = Unit {0}
+-- the bytes that the value at a spot shows stand where the extent says; the extent of a vector or array is that of its
+-- elements, where they stand in place; what shows no bytes and has no such elements has no extent
+abbrev pub Stands : List ℕ → Rows → Spot → Shown → Option Extent → Type 0
+Stands b S q (denotes.float s) (Some e) = s ≡ bytes_at b e.at e.size
+Stands b S q (denotes.text s) (Some e) = s ≡ bytes_at b e.at e.size
+Stands b S q (denotes.structure s) (Some e) = s ≡ bytes_at b e.at e.size
+Stands b S q (denotes.vector n) e = HoldsElements b S q n (option_and_then (size_in_place S) (kind_at q)) e
+Stands b S q _ (Some e) = ⊥
+Stands b S q (denotes.float s) None = ⊥
+Stands b S q (denotes.text s) None = ⊥
+Stands b S q (denotes.structure s) None = ⊥
+Stands b S q _ None = Unit {0}
 
 -- at every spot of every buffer
 abbrev pub ValuesStand : Type 0
-ValuesStand = (b : List ℕ) (S : Rows) (q : Spot) → Stands b (value b S q) (extent b S q)
+ValuesStand = (b : List ℕ) (S : Rows) (q : Spot) → Stands b S q (value b S q) (extent b S q)

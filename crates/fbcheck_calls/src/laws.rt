@@ -22,7 +22,8 @@ pub fn a_long_buffer_gets_its_number()
     ensures { LongGetsItsNumber }
 {}
 
-/// The bytes that are told of a float, a string and a struct are its value; what has no bytes is told none.
+/// The bytes that are told of a float, a string and a struct are its value, those of a vector or array of scalars or
+/// structs its elements, one after another; what has no bytes of its own is told none.
 #[tactic(auto, using(crate::proofs::StandLemmas::stands))]
 pub fn a_value_stands_where_told()
     ensures { ValuesStand }
