@@ -11,10 +11,11 @@ word bytes p (suc n) = slice_index bytes p + 256 * word bytes (suc p) n
 abbrev pub signed_word : List ℕ → ℕ → ℤ
 signed_word bytes p = cast_signed w32 (word bytes p 4)
 
--- a buffer, and how many reads were counted
+-- a buffer, how many reads were counted, and which meter it is: a meter keeps its mark, and nothing says which a new one has
 pub record Metered : Type 0 where
   pub bytes : List ℕ
   pub count : ℕ
+  pub mark : ℕ
 
 -- a buffer that is lent to a walk, how many reads were counted, and how many of these before a count in 64 bits
 -- began (of a loan this is 0)

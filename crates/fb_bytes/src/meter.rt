@@ -13,14 +13,17 @@ pub struct TooLong;
 
 /// A borrowed buffer of fewer than 2^31 bytes, and the number of reads that were counted.
 ///
-/// A contract sees it as its bytes and its count. A read is the little-endian number at a position
+/// A contract sees it as its bytes, its count and its mark. A read is the little-endian number at a position
 /// (FlatBuffers Internals: scalars are little-endian) and counts one, whatever its width. What only
 /// compares lengths, as [`Meter::fits`], counts nothing. While the bytes are lent the count is one that no reads come
-/// to (`while_lent`): such a meter is neither read nor lent nor sealed before the reads are settled.
+/// to (`while_lent`): such a meter is neither read nor lent nor sealed before the reads are settled. No call changes the
+/// mark, and none says which a new meter has: whoever must leave the mark that it found must leave that very meter, so
+/// it neither seals it nor puts another in its place.
 #[derive(Drop)]
 pub struct Meter<'a> {
     window: Window<'a>,
     count: u128,
+    mark: u8,
 }
 
 impl<'a> Model for Meter<'a> {
@@ -28,7 +31,7 @@ impl<'a> Model for Meter<'a> {
 
     ghost Value = { Metered };
 
-    ghost view = { λ m. record { bytes = m.window; count = m.count } };
+    ghost view = { λ m. record { bytes = m.window; count = m.count; mark = m.mark } };
 }
 
 /// The longest buffer, in bytes.
@@ -41,7 +44,7 @@ impl<'a> Meter<'a> {
     /// A meter over these bytes, of which no read was counted. `TooLong` comes for 2^31 bytes or more, and
     /// only then.
     pub fn new(bytes: &'a [u8]) -> Result<Self, TooLong>
-        ensures meter { IfOk result (λ meter. meter ≡ record { bytes = bytes.now; count = 0 }) }
+        ensures meter { IfOk result (λ meter. (meter.bytes ≡ bytes.now) × (meter.count ≡ 0)) }
         ensures too_long { IsErr result ↔ 2 ^ 31 ≤ length bytes.now }
     {
         if bytes.len() > LONGEST {
@@ -50,6 +53,7 @@ impl<'a> Meter<'a> {
         Ok(Meter {
             window: Window::over(bytes),
             count: 0,
+            mark: 0,
         })
     }
 
@@ -135,7 +139,7 @@ impl<'a> Meter<'a> {
 
     /// Takes the count of a loan of these bytes, which were lent.
     #[inline(always)]
-    pub fn settle(&mut self, loan: Loan<'_>)
+    pub fn settle(&mut self, loan: Loan<'a>)
         requires same { loan.bytes ≡ self.old.bytes }
         requires lent { self.old.count ≡ while_lent }
         ensures count { self.new ≡ record self.old { count = loan.entry.count } }

@@ -13,18 +13,18 @@ pub same_room : {job : Job} {room : Beside} {levels links : ℕ} {label : List �
     → (job.limits.depth ≤ levels) × (job.names ≡ Words → job.limits.depth ≤ links) × (label ≡ label_text job.label)
 same_room has levels links label = (rw levels has.deep, λ words. rw links (has.long words), label ∙ has.label_is)
 
-module _ {job : Job} {rows : Rows} (options : Options) {start : Start} {limits : Bounds} {bytes given : List ℕ}
-    (is : job_of rows options ≡ job) (starts : start ≡ job.start) (limited : limits ≡ limits_for job bytes) (same : given ≡ bytes) where
+module _ {job : Job} {rows : Rows} (options : Options) {start : Start} {limits : Bounds} {bytes : List ℕ}
+    (is : job_of rows options ≡ job) (starts : start ≡ job.start) (limited : limits ≡ limits_for job bytes) where
   -- it is well formed
-  pub told_yes : (text : List ℕ) (v : Sealed) → Reports (question rows options.root start options.ident limits options.checks) given v.report
-      → v ≡ record { bytes = given; schema = rows; root = options.root; start = start; checks = options.checks; report = v.report } → IsVerified job bytes text (Ok v)
-  told_yes text v reports kept = (rw (sym limited, sym starts, sym is) (rw same at reports), rw (sym starts, sym is) (rw same at kept))
+  pub told_yes : (text : List ℕ) (v : Sealed) → Reports (question rows options.root start options.ident limits options.checks) bytes v.report
+      → v ≡ record { bytes = bytes; schema = rows; root = options.root; start = start; checks = options.checks; report = v.report } → IsVerified job bytes text (Ok v)
+  told_yes text v reports kept = (rw (sym limited, sym starts, sym is) reports, rw (sym starts, sym is) kept)
 
-  module _ {fault : Fault} {links : List Link} (words : options.names ≡ Words) (stops : Stops (question rows options.root start options.ident limits options.checks) given fault)
-      (along : StopsAlong (question rows options.root start options.ident limits options.checks) given fault links) where
+  module _ {fault : Fault} {links : List Link} (words : options.names ≡ Words) (stops : Stops (question rows options.root start options.ident limits options.checks) bytes fault)
+      (along : StopsAlong (question rows options.root start options.ident limits options.checks) bytes fault links) where
     in_words : (text : List ℕ) → text ≡ place_told job.form job.rows fault links → IsVerdict job bytes (Err (record { fault = fault; place = Some text }))
     in_words text told =
-        (rw (sym limited, sym starts, sym is) (rw same at stops), (rw (sym is) words, links, rw (sym limited, sym starts, sym is) (rw same at along), told))
+        (rw (sym limited, sym starts, sym is) stops, (rw (sym is) words, links, rw (sym limited, sym starts, sym is) along, told))
 
     -- where words are asked for, its fault has them
     pub told_no : (text : List ℕ) → text ≡ place_told options.form rows fault links → IsVerified job bytes text (Err fault)

@@ -157,7 +157,7 @@ impl<'s, 'n, 'o> Checker<'s, 'n, 'o> {
         ensures asked { IfErr result (λ _. self.now.names ≡ Words) }
         ensures room { HasRoom self.now room.new }
     {
-        match self.verified(room, self.buffer(message))? {
+        match self.verified(room, self.metered(message))? {
             Ok(verified) => {
                 let report = verified.report();
                 let answers = answers_in(&verified, self.options.paths.as_slice());
@@ -175,27 +175,33 @@ impl<'s, 'n, 'o> Checker<'s, 'n, 'o> {
         self.brief
     }
 
-    /// The verdict on the buffer in a message, where no more is asked: the report, or the fault.
+    /// The verdict on a buffer of which nothing was read yet, where no more is asked: the report, or the fault. Afterwards
+    /// the meter has counted the reads that it tells.
     #[inline(always)]
-    pub fn report<A: Allocator>(&self, room: &mut Room<A>, message: &[u8]) -> Result<Report, Fault>
+    pub fn report<A: Allocator>(
+        &self,
+        room: &mut Room<A>,
+        meter: &mut Meter<'_>,
+    ) -> Result<Report, Fault>
         requires brief { IsTrue (is_brief self.now) }
         requires room { HasRoom self.now room.old }
-        requires short { length message.now < 2 ^ 31 }
-        ensures verdict { IsVerdict self.now (buffer_in self.now message.now) (brief_verdict result) }
+        requires fresh { meter.old.count ≡ 0 }
+        ensures verdict { IsVerdict self.now meter.old.bytes (brief_verdict result) }
+        ensures read { IfOk result (λ r. meter.new.count ≡ r.reads) }
+        ensures stopped { IfErr result (λ f. meter.new.count ≡ f.reads) }
+        ensures bytes { meter.new.bytes ≡ meter.old.bytes }
+        ensures same { meter.new.mark ≡ meter.old.mark }
         ensures room { HasRoom self.now room.new }
     {
-        let bytes = self.buffer(message);
-        let Ok(mut meter) = Meter::new(bytes) else {
-            unreachable!()
-        };
         let Options { root, ident, .. } = *self.options;
+        let limits = self.limits_for(meter);
         walk(
-            &mut meter,
+            meter,
             self.schema,
             root,
             self.start,
             ident,
-            self.limits_for(bytes),
+            limits,
             self.options.checks,
             &mut room.scratch,
         )
@@ -215,31 +221,36 @@ impl<'s, 'n, 'o> Checker<'s, 'n, 'o> {
         self.start
     }
 
-    /// The buffer in a message: all of it, or what stands behind a prefix that is no part of it.
+    /// The buffer in a message, of which nothing was read yet: all of it, or what stands behind a prefix that is no part
+    /// of it.
     #[inline(always)]
-    fn buffer<'b>(&self, message: &'b [u8]) -> &'b [u8]
-        ensures buffer { result.now ≡ buffer_in self.now message.now }
-        ensures within { length result.now ≤ length message.now }
+    pub(crate) fn metered<'b>(&self, message: &'b [u8]) -> Meter<'b>
+        requires short { length message.now < 2 ^ 31 }
+        ensures bytes { result.bytes ≡ buffer_in self.now message.now }
+        ensures fresh { result.count ≡ 0 }
     {
-        if self.skip <= message.len() {
+        let bytes = if self.skip <= message.len() {
             &message[self.skip..]
         } else {
             &[]
+        };
+        match Meter::new(bytes) {
+            Ok(meter) => meter,
+            Err(_) => unreachable!(),
         }
     }
 
     /// The limits of a buffer, by its length.
     #[tactic(auto, using(std::proofs::lemmas::Grind::common_steps))]
-    fn limits_for(&self, bytes: &[u8]) -> Limits
-        requires short { length bytes.now < 2 ^ 31 }
-        ensures { result ≡ limits_for self.now bytes.now }
+    fn limits_for(&self, meter: &Meter<'_>) -> Limits
+        ensures { result ≡ limits_for self.now meter.now.bytes }
     {
         let Options {
             limits,
             reads_per_byte,
             ..
         } = *self.options;
-        limits.of_length(reads_per_byte, bytes.len() as u64)
+        limits.of_length(reads_per_byte, meter.len())
     }
 
     /// The buffer, where it is well formed, or its fault.
@@ -247,19 +258,16 @@ impl<'s, 'n, 'o> Checker<'s, 'n, 'o> {
     fn verified<'b, A: Allocator>(
         &self,
         room: &mut Room<A>,
-        bytes: &'b [u8],
+        meter: Meter<'b>,
     ) -> Result<Result<Verified<'b, 's, 'n>, Fault>, AllocError>
         requires room { HasRoom self.now room.old }
-        requires short { length bytes.now < 2 ^ 31 }
-        ensures verdict { VerifiesBy self.now bytes.now room.new.text result }
+        requires fresh { meter.count ≡ 0 }
+        ensures verdict { VerifiesBy self.now meter.entry.bytes room.new.text result }
         ensures room { HasRoom self.now room.new }
     {
-        let Ok(meter) = Meter::new(bytes) else {
-            unreachable!()
-        };
         let schema = self.schema;
         let Options { root, ident, .. } = *self.options;
-        let limits = self.limits_for(bytes);
+        let limits = self.limits_for(&meter);
         let start = self.start();
         let checks = self.options.checks;
         let scratch = &mut room.scratch;

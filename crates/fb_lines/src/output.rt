@@ -76,7 +76,7 @@ impl<A: Allocator> Output<A> {
         ensures room { HasRoom checker.now room.new }
     {
         if checker.is_brief() {
-            return match checker.report(room, message) {
+            return match checker.report(room, &mut checker.metered(message)) {
                 Ok(report) => self.add_yes(checker.mode(), message, &report),
                 Err(fault) => self.add_no(checker, message, fault),
             };

@@ -72,20 +72,19 @@ module _ {q : Question} {b : List ℕ} where
   price_of_yes h = omega (arith, h.reads, cost_is_bounded q b h.found h.well_formed h.within)
 
 -- what is sealed is what was verified
-module _ (v : Sealed) {b m : List ℕ} (same : v.bytes ≡ m) (kept : m ≡ b) where
-  pub sealed_kept : v ≡ record v { bytes = b }
-  sealed_kept = ap (λ (x : List ℕ). record v { bytes = x }) (same ∙ kept)
+pub sealed_kept : {v w : Sealed} {b : List ℕ} → v ≡ w → w.bytes ≡ b → v ≡ record w { bytes = b; report = v.report }
+sealed_kept {w = w} sealed same = rw sealed (ap (λ (x : List ℕ). record w { bytes = x }) same)
 
-  -- and it unfolds, where a report tells so
-  pub unfolded : (ident : Ident) (L : Bounds) → length m < 2 ^ 31 → IsTrue (is_table v.schema v.root) → Reports (asked_of v ident L) b v.report → IsUnfolded v
-  unfolded ident L short table h = record {
-    short = rw same short;
-    root_is_table = table;
-    ident = ident;
-    limits = L;
-    found = h.found;
-    well_formed = rw (same ∙ kept) h.well_formed;
-    tables = h.tables;
-    depth = h.depth;
-    reads = rw (same ∙ kept) h.reads;
-  }
+-- and it unfolds, where a report tells so
+pub unfolded : (v : Sealed) {b : List ℕ} → v.bytes ≡ b → (ident : Ident) (L : Bounds) → length b < 2 ^ 31 → IsTrue (is_table v.schema v.root) → Reports (asked_of v ident L) b v.report → IsUnfolded v
+unfolded v same ident L short table h = record {
+  short = rw same short;
+  root_is_table = table;
+  ident = ident;
+  limits = L;
+  found = h.found;
+  well_formed = rw same h.well_formed;
+  tables = h.tables;
+  depth = h.depth;
+  reads = rw same h.reads;
+}

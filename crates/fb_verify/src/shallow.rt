@@ -39,6 +39,7 @@ pub fn walk_shallow(
     ensures read { IfOk result (λ r. meter.new.count ≡ r.reads) }
     ensures stopped { IfErr result (λ f. meter.new.count ≡ f.reads) }
     ensures bytes { meter.new.bytes ≡ meter.old.bytes }
+    ensures same { meter.new.mark ≡ meter.old.mark }
     ensures settled { meter.new.count < while_lent }
 {
     let mut frames = [BLANK; 3];

@@ -54,6 +54,7 @@ pub fn walk<A: Allocator>(
     ensures read { IfOk result (λ r. meter.new.count ≡ r.reads) }
     ensures stopped { IfErr result (λ f. meter.new.count ≡ f.reads) }
     ensures bytes { meter.new.bytes ≡ meter.old.bytes }
+    ensures same { meter.new.mark ≡ meter.old.mark }
     ensures settled { meter.new.count < while_lent }
     ensures scratch { scratch.new ≡ scratch.old }
 {

@@ -45,6 +45,34 @@ impl<'b, 's, 'n> Model for Verified<'b, 's, 'n> {
 }
 
 impl<'b, 's, 'n> Verified<'b, 's, 'n> {
+    /// Seals a buffer of which a walk has made this report. Only the contract speaks of identifier and limits.
+    #[inline(always)]
+    fn of(
+        meter: Meter<'b>,
+        schema: &'s Schema<'n>,
+        root: u32,
+        start: Start,
+        ident: Ident,
+        limits: Limits,
+        checks: Checks,
+        report: Report,
+    ) -> Self
+        requires settled { meter.count < while_lent }
+        requires table { IsTrue (is_table schema.now root) }
+        requires reports { Reports (question schema.now root start ident limits checks) meter.bytes report }
+        ensures { result ≡ record { bytes = meter.entry.bytes; schema = schema.now; root = root; start = start; checks = checks; report = report } }
+    {
+        let _asked = (ident, limits);
+        Verified {
+            window: meter.seal(),
+            schema,
+            root,
+            start,
+            checks,
+            report,
+        }
+    }
+
     /// What was counted.
     pub fn report(&self) -> Report
         ensures value { result ≡ (self.now).report }
@@ -127,14 +155,7 @@ pub fn verify<'b, 's, 'n, A: Allocator>(
     match walk(
         &mut meter, schema, root, start, ident, limits, checks, scratch,
     ) {
-        Ok(report) => Ok(Verified {
-            window: meter.seal(),
-            schema,
-            root,
-            start,
-            checks,
-            report,
-        }),
+        Ok(report) => Ok(Verified::of(meter, schema, root, start, ident, limits, checks, report)),
         Err(fault) => Err(fault),
     }
 }
@@ -165,14 +186,7 @@ pub fn verify_shallow<'b, 's, 'n>(
 {
     let mut meter = meter;
     match walk_shallow(&mut meter, schema, root, start, ident, limits, checks) {
-        Ok(report) => Ok(Verified {
-            window: meter.seal(),
-            schema,
-            root,
-            start,
-            checks,
-            report,
-        }),
+        Ok(report) => Ok(Verified::of(meter, schema, root, start, ident, limits, checks, report)),
         Err(fault) => Err(fault),
     }
 }
@@ -285,14 +299,7 @@ fn locate_in<'b, 's, 'n>(
     );
     meter.settle(loan);
     match answer {
-        Ok(report) => Ok(Verified {
-            window: meter.seal(),
-            schema,
-            root,
-            start,
-            checks,
-            report,
-        }),
+        Ok(report) => Ok(Verified::of(meter, schema, root, start, ident, limits, checks, report)),
         Err(halt) => Err(located(meter, schema, checks, frames, halt, links)),
     }
 }

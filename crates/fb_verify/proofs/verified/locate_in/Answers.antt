@@ -2,8 +2,8 @@ use Rattle.std.proofs.Common.{◌≡◌, ℕ, ◌+◌, ◌≤◌, List, take, re
 use Rattle.std.specs.List.{All}
 use Rattle.fb_rules.specs.{Question.question, Stops.Stops, Told.stopped}
 use Rattle.fb_rules.proofs.Price.{reads_are_bounded}
-use Rattle.fb_verify.specs.Stack.{IsLinked}
-use Rattle.fb_verify.proofs.Verdicts.{links_along, price_of_yes, sealed_kept, unfolded}
+use Rattle.fb_verify.specs.{Sealed.Sealed, Stack.IsLinked}
+use Rattle.fb_verify.proofs.Verdicts.{links_along, price_of_yes, sealed_kept}
 use Rattle.fb_verify.proofs.verified.locate_in.Goals as goal
 
 -- On numbers.
@@ -17,15 +17,16 @@ in_frames m deep room = omega arith
 room_for : (n m : ℕ) {d k : ℕ} → n + m ≤ d → d ≤ k → n + m ≤ k
 room_for n m deep room = omega arith
 
+pub of-requires-clause-reports : goal.of-requires-clause-reports
+of-requires-clause-reports c =
+    rw (ap (λ m. m.bytes) c.settle.ensures.count ∙ ap (λ m. m.bytes) c.lend-loan.ensures.untold) (rw (ap (λ m. m.bytes) c.lend-loan.ensures.lent) at c.in-Ok.ensures.yes)
+
 pub returns-in-Ok : goal.returns-in-Ok
 returns-in-Ok c =
     let yes = rw (ap (λ m. m.bytes) c.lend-loan.ensures.lent) at c.in-Ok.ensures.yes in
-    let kept = sealed_kept _ c.seal.ensures.bytes (ap (λ m. m.bytes) c.settle.ensures.count ∙ ap (λ m. m.bytes) c.lend-loan.ensures.untold) in
-    record { yes = yes; kept = kept; none = tt; no = tt; along = tt; few = tt; price_of_yes = price_of_yes yes; price_of_no = tt; room = refl }
-
-pub invariant_of-result : goal.invariant_of-result
-invariant_of-result c =
-    unfolded _ c.seal.ensures.bytes (ap (λ m. m.bytes) c.settle.ensures.count ∙ ap (λ m. m.bytes) c.lend-loan.ensures.untold) c.args.ident c.args.limits c.seal.ensures.short c.requires.table (rw (ap (λ m. m.bytes) c.lend-loan.ensures.lent) at c.in-Ok.ensures.yes)
+    let report = ap (λ (v : Sealed). v.report) c.of.ensures in
+    let kept = sealed_kept c.of.ensures (ap (λ m. m.bytes) c.settle.ensures.count ∙ ap (λ m. m.bytes) c.lend-loan.ensures.untold) in
+    record { yes = rw report yes; kept = kept; none = tt; no = tt; along = tt; few = tt; price_of_yes = rw report (price_of_yes yes); price_of_no = tt; room = refl }
 
 -- Where there is a fault.
 

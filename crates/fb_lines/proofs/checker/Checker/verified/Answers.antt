@@ -7,14 +7,13 @@ use Rattle.fb_lines.proofs.checker.Checker.verified.Goals as goal
 
 pub returns-after-put_place-clause-verdict : goal.returns-after-put_place-clause-verdict
 returns-after-put_place-clause-verdict g c =
-    let meter = ap (λ m. m.bytes) c.in-Ok.ensures.meter in
     let no = c.in-Err.ensures in
     let empty : c.clear.new.self.items ≡ [] = search rules in
     let links = c.deref.ensures.value
     ∙ take_at c.verify_and_locate.new.links _ _ (c.verify_and_locate.ensures.room ∙ ap length c.deref_mut.ensures.value ∙ sym c.room.inside.links.ok.0) in
     elim c.match-put_place.branch [
-      | in-Ok-put_place w ↦ rw w.result-is (told_no c.self.inside.options.now c.self.view_is c.start-start.ensures c.limits_for-limits.ensures meter c.in-Words.is no.no no.along _ (rw (empty, links) at w.in-Ok-put_place.ensures.ok))
-      | in-Err-put_place w ↦ rw w.result-is (told_none c.self.inside.options.now c.self.view_is c.start-start.ensures c.limits_for-limits.ensures meter c.in-Words.is no.no no.along)
+      | in-Ok-put_place w ↦ rw w.result-is (told_no c.self.inside.options.now c.self.view_is c.start-start.ensures c.limits_for-limits.ensures c.in-Words.is no.no no.along _ (rw (empty, links) at w.in-Ok-put_place.ensures.ok))
+      | in-Err-put_place w ↦ rw w.result-is (told_none c.self.inside.options.now c.self.view_is c.start-start.ensures c.limits_for-limits.ensures c.in-Words.is no.no no.along)
     ]
 
 pub returns-after-put_place-clause-room : goal.returns-after-put_place-clause-room
@@ -24,13 +23,12 @@ returns-after-put_place-clause-room g c =
     (ap (λ (r : Beside). r.label) c.room.view_is) in
     record { deep = has.0; long = has.1; label_is = has.2 }
 
-pub returns-in-Ok-verify_and_locate-clause-verdict : goal.returns-in-Ok-verify_and_locate-clause-verdict
-returns-in-Ok-verify_and_locate-clause-verdict g c =
-    let meter = ap (λ m. m.bytes) c.in-Ok.ensures.meter in
-    told_yes c.self.inside.options.now c.self.view_is c.start-start.ensures c.limits_for-limits.ensures meter [] _ c.in-Ok-verify_and_locate.ensures.yes c.in-Ok-verify_and_locate.ensures.kept
+pub returns-in-Ok-clause-verdict : goal.returns-in-Ok-clause-verdict
+returns-in-Ok-clause-verdict g c =
+    told_yes c.self.inside.options.now c.self.view_is c.start-start.ensures c.limits_for-limits.ensures [] _ c.in-Ok.ensures.yes c.in-Ok.ensures.kept
 
-pub returns-in-Ok-verify_and_locate-clause-room : goal.returns-in-Ok-verify_and_locate-clause-room
-returns-in-Ok-verify_and_locate-clause-room g c =
+pub returns-in-Ok-clause-room : goal.returns-in-Ok-clause-room
+returns-in-Ok-clause-room g c =
     let has = same_room c.requires.room (c.verify_and_locate.ensures.scratch ∙ ap (λ (r : Beside). r.levels) c.room.view_is)
     (as_many_kept c.verify_and_locate.new.links _ c.room.inside.links.items (c.verify_and_locate.ensures.room ∙ ap length c.deref_mut.ensures.value) c.room.inside.links.ok.0 (ap (λ (r : Beside). r.links) c.room.view_is))
     (ap (λ (r : Beside). r.label) c.room.view_is) in

@@ -1,0 +1,53 @@
+"""What could read a buffer with nobody counting stands only where it is known: above fb_bytes a meter is made or sealed,
+and a value taken from behind a reference, in these files alone, and so often (docs/PROOFS.md: who sees to the count)."""
+
+import collections
+import re
+import unittest
+
+from tests.support.program import TOP
+
+# fb_bytes makes all this, and tests may do as they like.
+UNSEARCHED = {"fb_bytes", "library_tests"}
+
+CALLS = {"Meter::new(": r"\bMeter::new\b", "seal(": r"\bseal\b", "mem::": r"\bmem\b"}
+
+# How often each stands in a file, and what for.
+KNOWN = {
+    ("fb_verify/verified.rt", "seal("): 2,  # a good buffer after its walk; a bad one whose links are looked up
+    ("fb_bfbs/loading.rt", "Meter::new("): 1,  # a schema file, which `verify` takes
+    ("fb_lines/checker.rt", "Meter::new("): 1,  # a message's buffer, which `report` is lent or `verify` takes
+    ("fb_run/front.rt", "Meter::new("): 1,  # a piece of a stream, to find the message at its front
+    ("fb_run/front.rt", "seal("): 1,
+    ("fbcheck_calls/checking.rt", "Meter::new("): 1,  # a call's buffer, which a walk is lent or `verify` takes
+    ("fbcheck_calls/framer.rt", "Meter::new("): 1,  # a message's prefix
+    ("fbcheck_calls/framer.rt", "seal("): 1,
+    ("fbcheck_calls/handle.rt", "mem::"): 1,  # a handle, which holds no buffer
+    ("name_reader/lib.rt", "Meter::new("): 1,  # the README's example
+}
+
+
+def found():
+    """How often each call stands in the code of each file, comments aside."""
+    counts = collections.Counter()
+    for path in (TOP / "crates").glob("*/src/**/*.rt"):
+        crate = path.relative_to(TOP / "crates").parts[0]
+        if crate not in UNSEARCHED:
+            code = re.sub(r"//.*", "", path.read_text())
+            name = f"{crate}/{path.relative_to(TOP / 'crates' / crate / 'src')}"
+            counts.update({(name, call): len(re.findall(words, code)) for call, words in CALLS.items()})
+    return +counts
+
+
+class Uncounted(unittest.TestCase):
+    def test_a_meter_is_made_sealed_or_replaced_only_where_it_is_known(self):
+        self.assertEqual(found(), KNOWN)
+
+    def test_a_meter_has_no_other_name(self):
+        for path in (TOP / "crates").glob("*/src/**/*.rt"):
+            with self.subTest(path=path):
+                self.assertNotRegex(path.read_text(), r"\bMeter as\b|= *(?:fb_bytes::)?Meter\b(?!::new)|\bmem::\{?\w* as\b")
+
+
+if __name__ == "__main__":
+    unittest.main()
