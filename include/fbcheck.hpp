@@ -15,6 +15,16 @@
 // std::shared_ptr. A Scratch and a Framer serve one call at a time: give each thread its own. The calls of fbcheck.h
 // that have no method here take get().
 //
+// What an ok says: every access of the buffer by the schema stays inside it, by a reader who asks a union's type before
+// its value, and reads the value only where the schema has that type and it isn't 0; who reads a vector of unions only
+// where both of its vectors are there, the types and the values, and asks the length of each; and who takes a field
+// with the attribute nested_flatbuffer or flexbuffer for bytes. UnPack() as flatc generates it doesn't ask: it reads a
+// union's value whatever its type is, and crashes on buffers that are ok, as Pack() does on what it unpacked. Nor do
+// .._nested_root() and .._flexbuffer_root() look before they read.
+//
+// Nobody may write a buffer while a call has it or its values are read. So make a private copy of what others can
+// write, as shared memory or a mapped file, and check and read that.
+//
 // At the start check({nullptr, 0}, options) throws Misuse where the options can't be served, before a first message
 // comes, and read({nullptr, 0}, paths, options) where the paths can't be. fbcheck.h has numbers for a budget.
 #pragma once
@@ -266,19 +276,22 @@ class Schema {
         return good(Bytes(buffer, length), options, scratch);
     }
 
-    // The verdict on a buffer, with the place of a fault in words. For this a bad one is gone through again, within the
-    // same budget, and once more where the place has above 256 bytes; good() goes through each once.
+    // The verdict on a buffer, which is gone through once, with the place of a fault in words. Where no place is
+    // wanted, good() is quicker.
     Verdict check(Bytes buffer, const Options &options = {}, Scratch *scratch = nullptr) const {
         fbcheck_verdict told;
-        const auto status = fbcheck_verify(get(), room(scratch), &options, buffer.data(), buffer.size(), &told);
-        return served(status) == FBCHECK_OK ? Verdict(told, {}) : located(buffer, options, scratch);
+        char text[longest];
+        std::size_t whole = 0;
+        served(fbcheck_locate(get(), room(scratch), &options, buffer.data(), buffer.size(), text, longest, &whole,
+                              &told));
+        return Verdict(told, std::string(text, std::min(whole, longest)));
     }
     Verdict check(const void *buffer, std::size_t length, const Options &options = {},
                   Scratch *scratch = nullptr) const {
         return check(Bytes(buffer, length), options, scratch);
     }
 
-    // The same, and of a good buffer, which is gone through once, the values at the ends of paths.
+    // The same, and of a good buffer the values at the ends of paths. A bad one is gone through again, by check().
     template <std::size_t Count>
     Reading<Count> read(Bytes buffer, const std::array<Path, Count> &paths, const Options &options = {},
                         Scratch *scratch = nullptr) const {
@@ -286,7 +299,7 @@ class Schema {
         fbcheck_verdict told;
         const auto status = fbcheck_read(get(), room(scratch), &options, buffer.data(), buffer.size(), paths.data(),
                                          found.data(), Count, &told);
-        if (served(status, told.at) != FBCHECK_OK) return {located(buffer, options, scratch), {}};
+        if (served(status, told.at) != FBCHECK_OK) return {check(buffer, options, scratch), {}};
         Reading<Count> reading{Verdict(told, {}), {}};
         std::transform(found.begin(), found.end(), reading.values.begin(),
                        [buffer](const fbcheck_value &value) { return Value(value, buffer); });
@@ -297,20 +310,8 @@ class Schema {
     const fbcheck_schema *get() const noexcept { return schema_.get(); }
 
   private:
-    // The same of a buffer that isn't good, with its place in words.
-    Verdict located(Bytes buffer, const Options &options, Scratch *scratch) const {
-        fbcheck_verdict told;
-        std::size_t whole = 0;
-        const auto locate = [&](char *text, std::size_t size) {
-            served(fbcheck_locate(get(), room(scratch), &options, buffer.data(), buffer.size(), text, size, &whole,
-                                  &told));
-        };
-        char text[256];
-        locate(text, sizeof text);
-        std::string place(text, std::min(whole, sizeof text));
-        if (whole > sizeof text) place.resize(whole), locate(place.data(), whole);
-        return Verdict(told, std::move(place));
-    }
+    static constexpr std::size_t longest = 4098; // bytes of a place
+
     static fbcheck_scratch *room(Scratch *scratch) noexcept { return scratch ? scratch->get() : nullptr; }
     static std::uint32_t served(std::uint32_t status, std::uint64_t at = 0) {
         if (status != FBCHECK_OK && status != FBCHECK_BAD && status != FBCHECK_TOO_LONG) throw Misuse(status, at);

@@ -290,6 +290,15 @@ class Binding:
         told = self.told(f"loads {FILES['M']} 100000", seconds=300)
         self.holds("kilobytes more", re.fullmatch(r"-?\d+", told[0]) and int(told[0]) < 20_000, told[0])
 
+    def test_once(self):
+        """A check that fails at its last reads costs as much as one that ends well: it goes through a message once."""
+        chain = file_of("doubling", doubling(12))
+        _, good, _, bad, cost = map(str.split, self.told(
+            f"load {FILES['NODE']} reads_per_byte=77", f"time {chain} 4000", "with reads_per_byte=76", f"check {chain}",
+            f"time {chain} 4000"))
+        self.same("it fails", bad[:2], ["bad", "V13"])
+        self.holds("and costs as much", int(cost[0]) < 1.5 * int(good[0]), (cost, good))
+
     def test_page(self):
         """The program of its page, as it's pasted, writes what stands behind it."""
         page = (TOP / "bindings" / self.folder / "README.md").read_text()
@@ -397,6 +406,28 @@ class Node(Binding, LibraryCase):
         self.same("errors", (told[1].count("\n"), told[2]), (len(rows), ""))
         for (call, want), got in zip(rows, told[1].splitlines()):
             self.holds(call, got.startswith(want), got)
+
+    def test_pieces_that_change(self):
+        """A piece has as many bytes as there are, whatever it says itself, and ends where it becomes shorter."""
+        code = (f"const {{ Schema }} = require('{TOP}/bindings/node'), fs = require('node:fs');\n"
+                f"const schema = new Schema('{ORDERS}', {{ prefixed: true }}), stream = fs.readFileSync('{STREAM}');\n"
+                "const piece = (buffer) => { const made = new Uint8Array(buffer); made.set(stream); return made; };\n"
+                "const told = (piece, after) => { let count = 0; const lines = [];\n"
+                "  try { for (const { verdict } of schema.messages([piece])) { lines.push(verdict.ok);\n"
+                "    if (++count === 1) after(piece); } } catch (error) { lines.push(error.code); }\n"
+                "  console.log(...lines); };\n"
+                "const says = (length) => Object.defineProperty(piece(stream.length), 'length', { value: length });\n"
+                "told(says(2 ** 40), () => {}); told(says(0), () => {});\n"
+                "told(piece(stream.length), ({ buffer }) => structuredClone(buffer, { transfer: [buffer] }));\n")
+        lines = ["true true true true false true", "true true true true false true", "true"]
+        if ran("node", "-p", "'resizable' in ArrayBuffer.prototype")[1] == "true\n":
+            first, second = (len(message) for message in messages_of(POST)[:2])
+            code += ("const some = (left) => told(piece(new ArrayBuffer(stream.length, { maxByteLength: 1 << 20 })),\n"
+                     "  ({ buffer }) => buffer.resize(left));\n"
+                     f"some(0); some(9); some({first + second}); some({first + second + 1}); some({len(POST) + 3});\n")
+            lines += ["true", "true", "true true", "true true TRUNCATED",
+                      "true true true true false true TRUNCATED"]
+        self.same("verdicts", ran("node", "-e", code), (0, "\n".join([*lines, ""]), ""))
 
     def test_shown(self):
         """Verdicts and values have what console.log and JSON.stringify show."""

@@ -199,9 +199,20 @@ class LibraryForC(LibraryCase):
             for place in (0, 3, 5, 6):
                 got = calls.fbcheck_verify_each(*[None if place == i else word for i, word in enumerate(words)])
                 self.same(f"without word {place} nothing is told", (got, verdict.status), (status.NULL, 77))
-            for options, answer in [(python.Options(version=2), 3), (python.Options(max_depth=65), 4)]:
+            for options, answer in [
+                (python.Options(version=2), 3), (python.Options(max_depth=65), 4), (python.Options(root=9), 6),
+            ]:
                 told = verifier.verify_each(block, [good, beyond[0], torn], options)
-                self.same(f"options that can't be served: {answer}", [one.status for one in told], [answer, 12, answer])
+                self.same(f"options that can't be served: {answer}", [one.status for one in told], [answer] * 3)
+                got = calls.fbcheck_verify_each(schema, None, options, block, 9, one(beyond[0]), verdict, 1)
+                self.same("the answer is that some aren't good", (got, verdict.status), (1, answer))
+                got = calls.fbcheck_verify_each(schema, None, options, None, 0, None, None, 0)
+                self.same("and of no spans why", got, answer)
+            scratch = calls.fbcheck_scratch_new(1)
+            got = [calls.fbcheck_verify_each(schema, scratch, options, None, 0, None, None, 0)
+                   for options in (None, python.Options(max_depth=1))]
+            self.same("no spans in room for less, and for enough", got, [4, 0])
+            calls.fbcheck_scratch_free(scratch)
 
     def test_framers(self):
         """The messages of a stream, however it is cut, and what may be wrong with one."""
@@ -768,6 +779,18 @@ class LibraryForC(LibraryCase):
                 moved = self.compiled("moved", TOP / "tests/c/moved.cpp", *SANITIZED, *STATIC, **how)
                 self.same(f"a Schema that is moved, {how['standard']}", ran(moved, small, orc),
                           (0, f"misuse 2 1 1 misuse 2 1 misuse 4 1 {spans}M\n", ""))
+
+    def test_once_in_cpp(self):
+        """A buffer is gone through once for its place, however long that is, and once more where a bad one is read."""
+        if not CPP:
+            return
+        program = self.compiled("once", TOP / "tests/c/once.cpp", *STATIC, **CPP_17)
+        chain, rows = buffers.levels(60), file_of("chain.bfbs", schemas.CHAIN)
+        for name, given, calls in [("good", chain, (1, 1, 1)), ("bad", chain[:-1], (1, 1, 2))]:
+            want = run("--bare", "--names", "--schema", rows, given=given).out.decode().removeprefix("1 ").strip()
+            told = ran(program, rows, file_of(f"{name}.bin", given))
+            lines = [f"{text} by {count}" for text, count in zip((want, int(name == "good"), want), calls)]
+            self.same(name, told, (0, "\n".join([*lines, ""]), ""))
 
     def test_streams_and_values_in_cpp(self):
         """The classes of fbcheck.hpp for streams, paths and values: the program's lines, in pieces of any length."""

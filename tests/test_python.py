@@ -16,6 +16,7 @@ import subprocess
 import sys
 import threading
 import time
+import timeit
 
 from tests.support import buffers, schemas
 from tests.support.buffers import (
@@ -62,6 +63,29 @@ def peak(times):
     return resource.getrusage(resource.RUSAGE_SELF).ru_maxrss
 first = peak(2000)
 print(peak(100_000) - first)
+"""
+
+# What a process reads of a message in which another one has an offset lead outside and back, over and over.
+WRITTEN = """
+import mmap, os, sys, time
+import fbcheck
+file, message = (bytes.fromhex(word) for word in sys.argv[1:3])
+at, end, seen = int(sys.argv[3]), time.monotonic() + 1, set()
+schema, shared = fbcheck.Schema(file), mmap.mmap(-1, len(message))
+shared[:] = message
+if os.fork() == 0:
+    while time.monotonic() < end:
+        for word in (b"\\0\\xff\\xff\\x7f", message[at:at + 4]) * 1000:
+            shared[at:at + 4] = word
+    os._exit(0)
+while time.monotonic() < end:
+    for _ in range(1000):
+        seen.add(schema.check(shared).reason)
+        try:
+            seen.add(schema.read(shared, "name"))
+        except fbcheck.BadBuffer as error:
+            seen.add(error.verdict.reason)
+print(*sorted(map(str, seen)), sep="; ")
 """
 
 # What others than the tests' own process do with a schema that was shipped to them.
@@ -347,7 +371,7 @@ class Python(LibraryCase):
             issubclass(kind, ValueError) for kind in (of.SchemaError, of.BadBuffer, of.PathError, of.StreamError)))
 
     def test_messages_of_any_kind(self):
-        """Whatever has bytes is checked where it lies; what has none is refused."""
+        """Whatever has bytes is checked; what has none is refused."""
         checker, file = self.by("M"), file_of("orc.bin", ORC)
         with open(file, "r+b") as opened, mmap.mmap(opened.fileno(), 0) as mapped, \
                 mmap.mmap(opened.fileno(), 0, access=mmap.ACCESS_READ) as kept:
@@ -368,6 +392,24 @@ class Python(LibraryCase):
         data = named(2**26, prefix=False)
         self.same("one of 64 MB", (bool(checker.check(data)), len(checker.read(data, "name"))), (True, 2**26 - 29))
         self.same("and one that ends too early", checker.check(memoryview(data)[:-1]).reason, 2)
+
+    def test_once(self):
+        """A check that fails at its last reads costs as much as one that ends well: it goes through a message once."""
+        chain, checkers = buffers.doubling(12), [self.by("NODE", reads_per_byte=reads) for reads in (77, 76)]
+        self.same("they end well and fail", [of.check(chain).reason for of in checkers], [None, 13])
+        good, bad = (min(timeit.repeat(lambda: of.check(chain), number=10, repeat=400)) for of in checkers)
+        self.holds("and cost as much", bad < 1.5 * good, (good, bad))
+
+    def test_messages_that_change(self):
+        """What can be written is checked as a copy, so that a writer changes verdicts, and no more."""
+        told = self.alone(WRITTEN, schemas.M.hex(), ORC.hex(), ORC.index(b"Orc") - 12)
+        self.same("what is told meanwhile", told, (0, "None; Orc; V2 OutOfBuffer\n", ""))
+        resident = lambda: int(re.search(r"VmRSS:\s+(\d+)", pathlib.Path("/proc/self/status").read_text())[1]) >> 10
+        checker, data = self.by("M"), bytearray(named(2**26, prefix=False))
+        before = resident()
+        for given in (data, memoryview(data).toreadonly()):
+            self.same("a long one", [bool(checker.check(given)) for _ in range(4)], [True] * 4)
+        self.holds("no copy is kept", resident() < before + 32, (before, resident()))
 
     def test_threads(self):
         """A million checks of one schema, some of bad messages, some of ones for which others may run."""

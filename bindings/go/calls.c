@@ -1,6 +1,7 @@
 #include "calls.h"
 
 #include <pthread.h>
+#include <string.h>
 
 /* Room for so many open tables, which a thread keeps until it ends. */
 static __thread fbcheck_scratch *kept;
@@ -51,19 +52,27 @@ uint32_t table_of(const checker *checker, const uint8_t *name, size_t length)
 	return fbcheck_table(schema_of(checker), (const char *)name, length);
 }
 
-fbcheck_verdict check_message(const checker *checker, const uint8_t *message, size_t length)
+fbcheck_verdict check_nothing(const checker *checker)
 {
 	fbcheck_verdict verdict;
-	fbcheck_verify(schema_of(checker), scratch_for(checker), &checker->options, message, length, &verdict);
+	fbcheck_verify(schema_of(checker), scratch_for(checker), &checker->options, NULL, 0, &verdict);
 	return verdict;
 }
 
-size_t locate_fault(const checker *checker, const uint8_t *message, size_t length, char *text, size_t room)
+located check_message(const checker *checker, const uint8_t *message, size_t length)
 {
+	located told = { .place = NULL };
+	char text[1024];
 	size_t written = 0;
-	fbcheck_locate(schema_of(checker), scratch_for(checker), &checker->options, message, length, text, room, &written,
-	               NULL);
-	return written < room ? written : room;
+	fbcheck_locate(schema_of(checker), scratch_for(checker), &checker->options, message, length, text, sizeof text,
+	               &written, &told.verdict);
+	if (written > 0)
+		told.place = malloc(sizeof text);
+	if (told.place != NULL) {
+		told.length = written < sizeof text ? written : sizeof text;
+		memcpy(told.place, text, told.length);
+	}
+	return told;
 }
 
 fbcheck_verdict resolve_path(const checker *checker, const uint8_t *text, size_t length, fbcheck_path *path)

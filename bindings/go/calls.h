@@ -2,6 +2,8 @@
 #ifndef CALLS_H
 #define CALLS_H
 
+#include <stdlib.h>
+
 #include <fbcheck.h>
 
 /* What a check is asked with: the schema, as a number so that Go has no pointer to look at, and the options. */
@@ -9,6 +11,13 @@ typedef struct checker {
 	uintptr_t schema;
 	fbcheck_options options;
 } checker;
+
+/* What a check tells, and of a bad message its place in words: null for none, or bytes that the caller frees. */
+typedef struct located {
+	fbcheck_verdict verdict;
+	char *place;
+	size_t length;
+} located;
 
 /* What a framer answers, and how much it took. */
 typedef struct fed {
@@ -18,8 +27,8 @@ typedef struct fed {
 
 void free_schema(uintptr_t schema);
 uint32_t table_of(const checker *checker, const uint8_t *name, size_t length);
-fbcheck_verdict check_message(const checker *checker, const uint8_t *message, size_t length);
-size_t locate_fault(const checker *checker, const uint8_t *message, size_t length, char *text, size_t room);
+fbcheck_verdict check_nothing(const checker *checker);
+located check_message(const checker *checker, const uint8_t *message, size_t length);
 fbcheck_verdict resolve_path(const checker *checker, const uint8_t *text, size_t length, fbcheck_path *path);
 fbcheck_verdict read_values(const checker *checker, const uint8_t *message, size_t length, const fbcheck_path *paths,
                             fbcheck_value *values, size_t count);

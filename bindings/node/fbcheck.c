@@ -11,7 +11,7 @@
 #include <string.h>
 
 /* The places of the numbers that are told. */
-enum { STATUS, REASON, OBJECT, FIELD, TABLES, DEPTH, AT, READS, USED };
+enum { STATUS, REASON, OBJECT, FIELD, TABLES, DEPTH, AT, READS, USED, LEFT };
 
 /* What a thread of Node has: the numbers that are told, and room for so many open tables. */
 struct thread {
@@ -258,29 +258,13 @@ static napi_value table(napi_env env, napi_callback_info info)
     return number(env, fbcheck_table(checker->rows->schema, (const char *)name, length));
 }
 
-/* check(schema, message): the status. */
-static napi_value check(napi_env env, napi_callback_info info)
-{
-    napi_value words[2];
-    struct checker *checker = checker_of(env, info, words, 2);
-    fbcheck_scratch *scratch;
-    fbcheck_verdict verdict;
-    uint8_t *message;
-    size_t length;
-    if (checker == NULL || !bytes_of(env, words[1], &message, &length))
-        return NULL;
-    if ((scratch = scratch_for(env, checker)) == NULL)
-        return NULL;
-    fbcheck_verify(checker->rows->schema, scratch, &checker->options, message, length, &verdict);
-    return number(env, tell(checker->thread->told, &verdict));
-}
-
-/* locate(schema, message): where the fault of a message is, in words, at most 1,024 bytes. */
+/* locate(schema, message): undefined where it's good, else where its fault is, in words, at most 1,024 bytes. */
 static napi_value locate(napi_env env, napi_callback_info info)
 {
     napi_value words[2];
     struct checker *checker = checker_of(env, info, words, 2);
     fbcheck_scratch *scratch;
+    fbcheck_verdict verdict;
     uint8_t *message;
     size_t length, written = 0;
     char text[1024];
@@ -289,7 +273,9 @@ static napi_value locate(napi_env env, napi_callback_info info)
     if ((scratch = scratch_for(env, checker)) == NULL)
         return NULL;
     fbcheck_locate(checker->rows->schema, scratch, &checker->options, message, length, text, sizeof text, &written,
-                   NULL);
+                   &verdict);
+    if (tell(checker->thread->told, &verdict) == FBCHECK_OK)
+        return NULL;
     return text_of(env, text, written < sizeof text ? written : sizeof text);
 }
 
@@ -394,7 +380,8 @@ static napi_value stream_of(napi_env env, napi_callback_info info)
     return failed(env, "out of memory");
 }
 
-/* feed(stream, piece, at): a message that is whole now, or undefined; tells the status and how much was used. */
+/* feed(stream, piece, at): a message that is whole now, or undefined. Tells the status, how much was used of the piece
+   from this place on, and how much is left: 0 too where the piece has become shorter. */
 static napi_value feed(napi_env env, napi_callback_info info)
 {
     napi_value words[3], made = NULL;
@@ -405,12 +392,13 @@ static napi_value feed(napi_env env, napi_callback_info info)
     if (!bytes_of(env, words[1], &piece, &length))
         return NULL;
     napi_get_value_double(env, words[2], &at);
-    piece = length == 0 ? piece : piece + (size_t)at;
-    length -= (size_t)at;
-    uint32_t status = fbcheck_framer_feed(&stream->framer, stream->room, stream->size, piece, length, &used);
+    size_t from = at < (double)length ? (size_t)at : length;
+    piece = from == 0 ? piece : piece + from;
+    uint32_t status = fbcheck_framer_feed(&stream->framer, stream->room, stream->size, piece, length - from, &used);
     stream->told[STATUS] = status;
     stream->told[AT] = stream->framer.declared;
     stream->told[USED] = (double)used;
+    stream->told[LEFT] = (double)(length - from - used);
     if (status == FBCHECK_OK) {
         napi_create_buffer_copy(env, stream->framer.held, stream->room, NULL, &made);
         fbcheck_framer_next(&stream->framer, stream->room, stream->size);
@@ -433,9 +421,9 @@ NAPI_MODULE_INIT()
         const char *name;
         napi_callback call;
     } calls[] = { { "begin", begin },     { "load", load },          { "choose", choose },   { "close", close_schema },
-                  { "table", table },     { "check", check },        { "locate", locate },   { "resolve", resolve },
-                  { "read", read_values }, { "mostReads", most_reads }, { "name", name },    { "stream", stream_of },
-                  { "feed", feed },       { "finish", finish } };
+                  { "table", table },     { "locate", locate },      { "resolve", resolve }, { "read", read_values },
+                  { "mostReads", most_reads }, { "name", name },     { "stream", stream_of }, { "feed", feed },
+                  { "finish", finish } };
     for (size_t i = 0; i < sizeof calls / sizeof *calls; i++) {
         napi_value made;
         napi_create_function(env, calls[i].name, NAPI_AUTO_LENGTH, calls[i].call, NULL, &made);

@@ -5,7 +5,7 @@ const native = require('./fbcheck.node');
 
 // What a call tells beside its answer, by the places that the enum in fbcheck.c gives.
 const told = new Float64Array(16);
-const [STATUS, REASON, OBJECT, FIELD, TABLES, DEPTH, AT, READS, USED] = Array(9).keys();
+const [STATUS, REASON, OBJECT, FIELD, TABLES, DEPTH, AT, READS, USED, LEFT] = Array(10).keys();
 if (native.begin(told) !== 1) throw new Error('another libfbcheck is linked');
 
 // Statuses and other numbers of fbcheck.h.
@@ -228,10 +228,10 @@ class Schema {
       }
     }
     // A check of nothing tells whether the options can be served.
-    const status = native.check(this.#schema, Buffer.alloc(0));
-    if (status > BAD) {
+    native.locate(this.#schema, Buffer.alloc(0));
+    if (told[STATUS] > BAD) {
       this.close();
-      throw errorOf(status);
+      throw errorOf(told[STATUS]);
     }
   }
 
@@ -240,17 +240,14 @@ class Schema {
   }
 
   check(message) {
-    return native.check(this.#schema, message) === OK ? new Good() : this.#bad(message);
+    const place = native.locate(this.#schema, message);
+    return place === undefined ? new Good() : new Bad(place);
   }
 
   verify(message) {
     const verdict = this.check(message);
     if (verdict.ok) return verdict;
     throw new BadBuffer(verdict);
-  }
-
-  #bad(message) {
-    return new Bad(native.locate(this.#schema, message));
   }
 
   path(text) {
@@ -264,7 +261,7 @@ class Schema {
     const resolved = paths.map((path) => (path instanceof Path ? path : this.path(path)));
     const words = new Uint32Array(VALUE_WORDS * paths.length);
     const status = native.read(this.#schema, message, Path.join(resolved), new Uint8Array(words.buffer));
-    if (status === BAD || status === TOO_LONG) throw new BadBuffer(this.#bad(message));
+    if (status === BAD || status === TOO_LONG) throw new BadBuffer(this.check(message));
     if (status !== OK) throw errorOf(status);
     return paths.map((_, n) => new Value(message, words.subarray(n * VALUE_WORDS, (n + 1) * VALUE_WORDS)));
   }
@@ -302,9 +299,11 @@ if (Symbol.dispose) Schema.prototype[Symbol.dispose] = Schema.prototype.close;
 /** The messages that end in a piece of a stream. */
 function* ending(schema, stream, piece) {
   let at = 0;
+  let left;
   do {
     const message = native.feed(stream, piece, at);
     at += told[USED];
+    left = told[LEFT];
     if (message !== undefined) {
       yield { message, verdict: schema.check(message) };
     } else if (told[STATUS] === OVERSIZE) {
@@ -312,7 +311,7 @@ function* ending(schema, stream, piece) {
     } else if (told[STATUS] !== MORE) {
       throw errorOf(told[STATUS]);
     }
-  } while (at < piece.length);
+  } while (left > 0);
 }
 
 function finish(stream) {

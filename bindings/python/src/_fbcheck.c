@@ -3,6 +3,8 @@
  * is Python.
  *
  * It is written against the limited API of Python 3.11, and keeps no pointer into a message once a call returns.
+ * What can be written is checked as a copy: no lock of the interpreter keeps another process from writing it, nor a
+ * thread that reads a socket or a file into it.
  */
 #define Py_LIMITED_API 0x030b0000
 #define PY_SSIZE_T_CLEAN
@@ -21,9 +23,12 @@
 #define SHORT_MESSAGE 2048
 #define FEW_READS 64
 
-/* How long the place of a fault and a name are without memory of their own. */
-#define SHORT_PLACE 512
+/* The longest place of a fault, and how long a name is without memory of its own. */
+#define LONGEST_PLACE 4098
 #define SHORT_NAME 128
+
+/* The longest message. */
+#define LONGEST_MESSAGE 0x7fffffff
 
 /* A verdict; of a bad message with texts, each of which may be null for None. */
 typedef struct {
@@ -255,31 +260,48 @@ static PyObject *schema_new(PyTypeObject *type, PyObject *words, PyObject *named
     return (PyObject *)self;
 }
 
-/* One message under check. */
+/* One message under check, whose bytes are a copy where others may write them meanwhile. */
 typedef struct {
     Py_buffer view;
+    const uint8_t *bytes;
+    uint8_t *copy; /* or null */
     fbcheck_scratch *scratch;
     PyThreadState *others; /* null while this thread keeps the lock of the interpreter */
 } Check;
+
+/* Takes room for tables, and for a copy; -1 where memory is refused. */
+static int take_room(Schema *self, Check *check)
+{
+    int copied = !check->view.readonly && check->view.len <= LONGEST_MESSAGE;
+    check->copy = copied ? malloc((size_t)check->view.len + 1) : NULL;
+    if (copied && check->copy == NULL)
+        return -1;
+    check->scratch = self->idle;
+    self->idle = NULL;
+    if (check->scratch != NULL || self->options.max_depth <= FBCHECK_DEEP)
+        return 0;
+    check->scratch = fbcheck_scratch_new(self->options.max_depth);
+    if (check->scratch == NULL)
+        free(check->copy);
+    return check->scratch != NULL ? 0 : -1;
+}
 
 /* Takes the bytes of a message, and room for tables. */
 static int begin(Schema *self, PyObject *message, Check *check)
 {
     if (PyObject_GetBuffer(message, &check->view, PyBUF_SIMPLE) != 0)
         return -1;
-    check->scratch = self->idle;
-    self->idle = NULL;
-    if (check->scratch == NULL && self->options.max_depth > FBCHECK_DEEP) {
-        check->scratch = fbcheck_scratch_new(self->options.max_depth);
-        if (check->scratch == NULL) {
-            PyBuffer_Release(&check->view);
-            PyErr_NoMemory();
-            return -1;
-        }
+    if (take_room(self, check) != 0) {
+        PyBuffer_Release(&check->view);
+        PyErr_NoMemory();
+        return -1;
     }
     check->others = NULL;
     if (check->view.len > SHORT_MESSAGE || self->options.reads_per_byte > FEW_READS)
         check->others = PyEval_SaveThread();
+    check->bytes = check->view.buf;
+    if (check->copy != NULL)
+        check->bytes = memcpy(check->copy, check->view.buf, (size_t)check->view.len);
     return 0;
 }
 
@@ -299,26 +321,8 @@ static void end(Schema *self, Check *check)
         self->idle = check->scratch;
     else
         fbcheck_scratch_free(check->scratch);
+    free(check->copy);
     PyBuffer_Release(&check->view);
-}
-
-/* Writes the place of a fault to `room`, or to more room, which it answers; null where that is refused. */
-static char *place_of(Schema *self, Check *check, fbcheck_verdict *told, char *room, size_t *length)
-{
-    size_t size = SHORT_PLACE;
-    char *text = room;
-    fbcheck_locate(self->schema, check->scratch, &self->options, check->view.buf, (size_t)check->view.len, text, size,
-                   length, told);
-    if (*length <= size)
-        return text;
-    size = *length;
-    text = malloc(size);
-    if (text == NULL)
-        return NULL;
-    fbcheck_locate(self->schema, check->scratch, &self->options, check->view.buf, (size_t)check->view.len, text, size,
-                   length, told);
-    *length = *length <= size ? *length : size;
-    return text;
 }
 
 /* Copies the name of an object, or of its field where `field` is one, and tells its length. */
@@ -346,40 +350,36 @@ static PyObject *name_of(const fbcheck_schema *schema, uint32_t object, uint32_t
     return name;
 }
 
-/* The verdict on a message that is bad; a good one, where another thread has changed the message meanwhile. */
-static PyObject *bad(Schema *self, Check *check)
+/* The verdict that was told, of a bad message with this place. */
+static PyObject *judged(Schema *self, const fbcheck_verdict *told, const char *place, size_t length)
 {
-    char room[SHORT_PLACE], *text;
-    size_t length = 0;
-    fbcheck_verdict told;
-    Verdict *verdict;
-    text = place_of(self, check, &told, room, &length);
-    end(self, check);
-    verdict = text != NULL ? verdict_of(self->verdict, &told) : (Verdict *)PyErr_NoMemory();
-    if (verdict != NULL && told.status == FBCHECK_BAD) {
-        verdict->place = PyUnicode_DecodeUTF8(text, (Py_ssize_t)length, "replace");
-        verdict->object = name_of(self->schema, told.object, FBCHECK_NONE);
-        verdict->field = told.field != FBCHECK_NONE ? name_of(self->schema, told.object, told.field) : NULL;
+    Verdict *verdict = verdict_of(self->verdict, told);
+    if (verdict != NULL && told->status == FBCHECK_BAD) {
+        verdict->place = PyUnicode_DecodeUTF8(place, (Py_ssize_t)length, "replace");
+        verdict->object = name_of(self->schema, told->object, FBCHECK_NONE);
+        verdict->field = told->field != FBCHECK_NONE ? name_of(self->schema, told->object, told->field) : NULL;
         if (PyErr_Occurred())
             Py_CLEAR(verdict);
     }
-    if (text != room)
-        free(text);
     return (PyObject *)verdict;
+}
+
+/* The verdict on a message that begin() took. */
+static PyObject *located(Schema *self, Check *check)
+{
+    char place[LONGEST_PLACE];
+    size_t length = 0;
+    fbcheck_verdict told;
+    uint32_t status = fbcheck_locate(self->schema, check->scratch, &self->options, check->bytes,
+                                     (size_t)check->view.len, place, sizeof place, &length, &told);
+    end(self, check);
+    return status <= FBCHECK_BAD ? judged(self, &told, place, length) : refused(self, status);
 }
 
 static PyObject *schema_check(Schema *self, PyObject *message)
 {
     Check check;
-    fbcheck_verdict told;
-    uint32_t status;
-    if (begin(self, message, &check) != 0)
-        return NULL;
-    status = fbcheck_verify(self->schema, check.scratch, &self->options, check.view.buf, (size_t)check.view.len, &told);
-    if (status == FBCHECK_BAD)
-        return bad(self, &check);
-    end(self, &check);
-    return status == FBCHECK_OK ? (PyObject *)verdict_of(self->verdict, &told) : refused(self, status);
+    return begin(self, message, &check) == 0 ? located(self, &check) : NULL;
 }
 
 /* Raises that a message is bad, of which this is the verdict. */
@@ -503,13 +503,13 @@ static PyObject *schema_read(Schema *self, PyObject *words)
     values = (fbcheck_value *)(row + PyTuple_Size(paths) * 2);
     count = in_a_row(paths, row);
     if (!PyErr_Occurred() && begin(self, message, &check) == 0) {
-        status = fbcheck_read(self->schema, check.scratch, &self->options, check.view.buf, (size_t)check.view.len, row,
+        status = fbcheck_read(self->schema, check.scratch, &self->options, check.bytes, (size_t)check.view.len, row,
                               values, count, NULL);
         if (status == FBCHECK_BAD) {
-            raised(self, bad(self, &check));
+            raised(self, located(self, &check));
         } else {
             resume(&check);
-            read = status == FBCHECK_OK ? values_of(self, message, check.view.buf, paths, values)
+            read = status == FBCHECK_OK ? values_of(self, message, (const char *)check.bytes, paths, values)
                                         : refused(self, status);
             end(self, &check);
         }
@@ -520,7 +520,7 @@ static PyObject *schema_read(Schema *self, PyObject *words)
 
 static PyMethodDef schema_methods[] = {
     { "check", (PyCFunction)schema_check, METH_O,
-      "check($self, message, /)\n--\n\nThe verdict on a message: whatever has bytes, of which none is copied." },
+      "check($self, message, /)\n--\n\nThe verdict on a message: whatever has bytes." },
     { "verify", (PyCFunction)schema_verify, METH_O,
       "verify($self, message, /)\n--\n\nThe verdict on a good message; raises BadBuffer where it is bad." },
     { "_resolve", (PyCFunction)schema_resolve, METH_O, NULL },

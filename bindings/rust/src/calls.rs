@@ -129,14 +129,6 @@ extern "C" {
     pub fn fbcheck_scratch_new(depth: u32) -> *mut Scratch;
     pub fn fbcheck_scratch_free(scratch: *mut Scratch);
     pub fn fbcheck_table(schema: *const Schema, name: *const c_char, length: usize) -> u32;
-    pub fn fbcheck_verify(
-        schema: *const Schema,
-        scratch: *mut Scratch,
-        options: *const Options,
-        buffer: *const u8,
-        length: usize,
-        verdict: *mut Verdict,
-    ) -> u32;
     pub fn fbcheck_locate(
         schema: *const Schema,
         scratch: *mut Scratch,

@@ -5,9 +5,9 @@
 //! against null, and then calls these, whose names end in `_proved`.
 #![tactic(auto)]
 
-ghost use Rattle.std.specs.Prelude.{◌≡◌, ℕ, List, None, Option, length, take};
+ghost use Rattle.std.specs.Prelude.{◌≡◌, ℕ, List, None, Option};
 ghost use Rattle.fbcheck_calls.specs.Answered.{IfSchema, IsChecked, IsPriceTold, IsRoomMade, IsTaken, levels};
-ghost use Rattle.fbcheck_calls.specs.{Asked.published, Placed.IsLocatedBy, Reached.IsPath, Reached.IsReadBy, Spans.AreTold, Spans.all_good};
+ghost use Rattle.fbcheck_calls.specs.{Asked.published, Placed.IsLocatedBy, Reached.IsPath, Reached.IsReadBy, Spans.AreTold, Spans.IsEachAnswered};
 ghost use Rattle.fb_access.specs.Location.{field_name};
 ghost use Rattle.fbcheck_calls.specs.Told.{told};
 ghost use Rattle.fbcheck_calls.specs.Framers.{IsFedTold, IsFinished, IsKept, IsNext};
@@ -18,7 +18,7 @@ use fb_bytes::Taken;
 use fbcheck_calls::{
     Framer, Handle, Options, PlainPath, Shared, Span, Value, Verdict, all_good, check, check_alone,
     check_each, fault_told, field_told, locate, object_told, price, read, reason_told, resolve,
-    status_told, table_of,
+    status_told, table_of, try_options,
 };
 use std::alloc::Global;
 
@@ -147,7 +147,7 @@ pub extern "C" fn fbcheck_verify_alone_proved(
 }
 
 /// Checks the buffers that spans name in a block of bytes, each as [`fbcheck_verify_proved`] does, and tells each
-/// verdict at the place of its span. 0 where all are good, else 1.
+/// verdict at the place of its span. 0 where all are good, else 1; without spans why none could be checked, if so.
 #[unsafe(no_mangle)]
 pub extern "C" fn fbcheck_verify_each_proved(
     alloc: Global,
@@ -159,10 +159,14 @@ pub extern "C" fn fbcheck_verify_each_proved(
     verdicts: &mut [Verdict],
 ) -> u32
     ensures told { AreTold schema.held (levels room.old.inside) options.now block.now spans.now verdicts.new }
-    ensures good { result ≡ all_good (take (length spans.now) verdicts.new) }
+    ensures good { IsEachAnswered schema.held (levels room.old.inside) options.now spans.now verdicts.new result }
     ensures kept { room.new.inside ≡ room.old.inside }
 {
-    check_each(alloc, schema.held(), room, options, block, spans, verdicts);
+    let held = schema.held();
+    check_each(alloc, held, room, options, block, spans, verdicts);
+    if spans.is_empty() {
+        return try_options(alloc, held, room, options);
+    }
     all_good(verdicts, spans.len())
 }
 

@@ -28,6 +28,6 @@ pub use names::{fault_told, field_told, object_told, reason_told, status_told, t
 pub use options::Options;
 pub use place::locate;
 pub use shared::Shared;
-pub use spans::{Span, all_good, check_each};
+pub use spans::{Span, all_good, check_each, try_options};
 pub use steps::{PlainPath, PlainStep};
 pub use values::Value;

@@ -2,8 +2,10 @@
 
 ghost use Rattle.std.specs.Prelude.{◌≡◌, ◌==◌, option_map, take};
 ghost use Rattle.std.specs.List.{list_all};
-ghost use Rattle.fbcheck_calls.specs.Answered.{levels};
-ghost use Rattle.fbcheck_calls.specs.Spans.{AreTold, IsSpanTold, all_good, cut};
+ghost use Rattle.fbcheck_calls.specs.Answered.{IfSchema, levels};
+ghost use Rattle.fbcheck_calls.specs.Spans.{AreTold, IsSpanTold, IsTried, all_good, cut};
+ghost use Rattle.fbcheck_calls.specs.Told.{told};
+ghost use Rattle.fbcheck_calls.specs.declared.answer.Answer.TheVariants.{Done};
 
 use crate::answer::{Answer, Verdict};
 use crate::checking::check;
@@ -35,7 +37,38 @@ impl Span {
     }
 }
 
-/// Checks the buffer that a span names in a block of bytes, as [`check`] does, and writes the verdict.
+/// Writes this answer where a check can begin by these options, or else why none can, and answers its status.
+fn tell_tried(
+    alloc: Global,
+    held: &Held,
+    handle: &mut Handle,
+    options: &Options,
+    served: Answer,
+    verdict: &mut Verdict,
+) -> u32
+    ensures told { (a : Answer) × (verdict.new ≡ told a) × IfSchema held.now a (λ l. IsTried served l (levels handle.old.inside) options.now a) }
+    ensures status { result ≡ verdict.new.status }
+    ensures kept { handle.new.inside ≡ handle.old.inside }
+{
+    // A check of no bytes that begins finds them good or bad: 0 or 1.
+    let status = check(alloc, held, handle, verdict, options, &[]);
+    if status > 1 {
+        return status;
+    }
+    served.tell(verdict)
+}
+
+/// 0 where a check can begin by these options, else the status of why none can.
+pub fn try_options(alloc: Global, held: &Held, handle: &mut Handle, options: &Options) -> u32
+    ensures tried { (a : Answer) × (result ≡ (told a).status) × IfSchema held.now a (λ l. IsTried Done l (levels handle.old.inside) options.now a) }
+    ensures kept { handle.new.inside ≡ handle.old.inside }
+{
+    let mut verdict = Verdict::default();
+    tell_tried(alloc, held, handle, options, Answer::Done, &mut verdict)
+}
+
+/// Checks the buffer that a span names in a block of bytes, as [`check`] does, and writes the verdict. Of one that
+/// doesn't lie in the block it tells so, unless the options can't be served.
 fn check_span(
     alloc: Global,
     held: &Held,
@@ -50,7 +83,7 @@ fn check_span(
 {
     let _status = match span.cut(block) {
         Some(buffer) => check(alloc, held, handle, verdict, options, buffer),
-        None => Answer::NoSpan.tell(verdict),
+        None => tell_tried(alloc, held, handle, options, Answer::NoSpan, verdict),
     };
 }
 

@@ -217,11 +217,12 @@ func loads(words []string) string {
 
 func timed(schema *fbcheck.Schema, words []string) string {
 	message, count, best := file(words[0]), int(number(words[1]))/400, time.Hour
+	ok := schema.Check(message).OK
 	for round := 0; round < 400; round++ {
 		begun := time.Now()
 		for i := 0; i < count; i++ {
-			if !schema.Check(message).OK {
-				return "a no"
+			if schema.Check(message).OK != ok {
+				return "another verdict"
 			}
 		}
 		if taken := time.Since(begun) / time.Duration(count); taken < best {

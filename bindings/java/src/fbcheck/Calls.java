@@ -42,12 +42,10 @@ final class Calls {
     private static final SymbolLookup LIBRARY = library(System.getProperty("fbcheck.library", "libfbcheck.so.1"));
     private static final Linker.Option CRITICAL = Linker.Option.critical(true);
 
-    private static final FunctionDescriptor VERIFY_WORDS =
-            FunctionDescriptor.of(JAVA_INT, ADDRESS, ADDRESS, ADDRESS, ADDRESS, JAVA_LONG, ADDRESS);
-    private static final MethodHandle VERIFY = call("fbcheck_verify", VERIFY_WORDS, CRITICAL);
-    private static final MethodHandle VERIFY_LONG = call("fbcheck_verify", VERIFY_WORDS);
-    private static final MethodHandle LOCATE = call("fbcheck_locate", FunctionDescriptor.of(JAVA_INT, ADDRESS, ADDRESS,
-            ADDRESS, ADDRESS, JAVA_LONG, ADDRESS, JAVA_LONG, ADDRESS, ADDRESS), CRITICAL);
+    private static final FunctionDescriptor LOCATE_WORDS = FunctionDescriptor.of(JAVA_INT, ADDRESS, ADDRESS, ADDRESS,
+            ADDRESS, JAVA_LONG, ADDRESS, JAVA_LONG, ADDRESS, ADDRESS);
+    private static final MethodHandle LOCATE = call("fbcheck_locate", LOCATE_WORDS, CRITICAL);
+    private static final MethodHandle LOCATE_LONG = call("fbcheck_locate", LOCATE_WORDS);
     private static final MethodHandle READ = call("fbcheck_read", FunctionDescriptor.of(JAVA_INT, ADDRESS, ADDRESS,
             ADDRESS, ADDRESS, JAVA_LONG, ADDRESS, ADDRESS, JAVA_LONG, ADDRESS), CRITICAL);
     private static final MethodHandle RESOLVE = call("fbcheck_resolve",
@@ -116,26 +114,18 @@ final class Calls {
         }
     }
 
-    static int verify(MemorySegment schema, MemorySegment scratch, MemorySegment options, MemorySegment message,
-            MemorySegment verdict) {
-        return told(() -> (int) VERIFY.invokeExact(schema, scratch, options, message, message.byteSize(), verdict));
+    /** Of a bad message it writes the place, as much of it as there is room for, and how many bytes the whole has. */
+    static int locate(MemorySegment schema, MemorySegment scratch, MemorySegment options, MemorySegment message,
+            MemorySegment place, MemorySegment written, MemorySegment verdict) {
+        return told(() -> (int) LOCATE.invokeExact(schema, scratch, options, message, message.byteSize(), place,
+                place.byteSize(), written, verdict));
     }
 
-    /** The same of a message and a verdict outside of Java's heap, while which garbage is collected. */
-    static int verifyLong(MemorySegment schema, MemorySegment scratch, MemorySegment options, MemorySegment message,
-            MemorySegment verdict) {
-        return told(() -> (int) VERIFY_LONG.invokeExact(schema, scratch, options, message, message.byteSize(),
-                verdict));
-    }
-
-    /** The text, of which at most so many bytes are told. */
-    static String locate(MemorySegment schema, MemorySegment scratch, MemorySegment options, MemorySegment message,
-            int most) {
-        byte[] text = new byte[most];
-        long[] written = {0};
-        int _ = told(() -> (int) LOCATE.invokeExact(schema, scratch, options, message, message.byteSize(),
-                MemorySegment.ofArray(text), (long) most, MemorySegment.ofArray(written), MemorySegment.NULL));
-        return new String(text, 0, (int) Math.min(written[0], most), StandardCharsets.UTF_8);
+    /** The same where all of these are outside of Java's heap, while which garbage is collected. */
+    static int locateLong(MemorySegment schema, MemorySegment scratch, MemorySegment options, MemorySegment message,
+            MemorySegment place, MemorySegment written, MemorySegment verdict) {
+        return told(() -> (int) LOCATE_LONG.invokeExact(schema, scratch, options, message, message.byteSize(), place,
+                place.byteSize(), written, verdict));
     }
 
     static int read(MemorySegment schema, MemorySegment scratch, MemorySegment options, MemorySegment message,

@@ -5,6 +5,7 @@ import static java.lang.foreign.ValueLayout.JAVA_FLOAT_UNALIGNED;
 
 import java.lang.foreign.MemorySegment;
 import java.nio.ByteOrder;
+import java.nio.charset.StandardCharsets;
 import java.util.OptionalInt;
 
 /** What the library tells, by the places of its structs: two numbers of 32 bits in a long, the first one low. */
@@ -31,6 +32,14 @@ final class Told {
 
     static long at(long[] verdict) {
         return verdict[3];
+    }
+
+    /** What a check told, with as much of a place of so many bytes as there was room for. */
+    static Verdict verdict(long[] verdict, byte[] place, long written) {
+        if (status(verdict) == Calls.OK) {
+            return good(verdict);
+        }
+        return bad(verdict, new String(place, 0, (int) Math.min(written, place.length), StandardCharsets.UTF_8));
     }
 
     static Verdict.Good good(long[] verdict) {

@@ -4,7 +4,7 @@ import java.util.OptionalInt;
 
 /** What a check tells of a message. As a text it is what stands in a line of the program. */
 public sealed interface Verdict {
-    /** Whether every access of the message by the schema stays inside it. */
+    /** Whether the message is good; {@link Schema} tells what that says. */
     boolean ok();
 
     /**
