@@ -1,0 +1,73 @@
+-- What isn't asked may be passed by.
+use Rattle.std.proofs.Common.{◌≡◌, ℕ, zero, suc, ◌+◌, List, [], ◌∷◌, arith, Option, Some, None, Bool, false, refl}
+use Rattle.std.specs.Prelude.{slice_get}
+use Rattle.fb_schema.specs.declared.kinds.Kind.{Kind}
+use Rattle.fb_schema.specs.{Rows.Rows, Live.Live, Live.live_fields}
+use Rattle.fb_rules.specs.declared.checks.Checks.{Checks}
+use Rattle.fb_rules.specs.Places.{target, field_place}
+use Rattle.fb_rules.specs.Fields.{Lead, to_table, to_struct, to_string, to_nothing, Entry, row, entries_of, entries_at, entries}
+use Rattle.fb_rules.specs.Tree.{Tree, node, Kids, no_kids, kid, Elements, no_elements, element, Element, leaf, table}
+use Rattle.fb_rules.specs.Unfolds.{Unfolds, FieldsUnfold, ElementsUnfold, ElementUnfolds}
+use Rattle.fb_strict.specs.Strict.{IsStrict, KidsAreStrict, ElementsAreStrict, ElementIsStrict, IsStrictField}
+use Rattle.fb_strict.specs.Skipped.{is_kind_asked, IsClosed, SkipLaw}
+
+module _ (asks : ℕ → Bool) (S : Rows) where
+  -- an offset word that leads to no table that is asked
+  abbrev IsQuiet : Lead → Type 0
+  IsQuiet (to_table k) = asks k ≡ false
+  IsQuiet _ = Unit {0}
+
+  unfoldable AreQuiet : List Entry → Type 0
+  AreQuiet [] = Unit {0}
+  AreQuiet (x ∷ xs) = IsQuiet x.lead × AreQuiet xs
+
+  quiet_row : (lead : Lead) (p n : ℕ) → IsQuiet lead → AreQuiet (row lead p n)
+  unfolding row AreQuiet
+  quiet_row lead p zero h = tt
+  quiet_row lead p (suc n) h = (h, quiet_row lead (p + 4) n h)
+
+  quiet_of : (b : List ℕ) (t : ℕ) (f : Live) (p : ℕ) (kind : Kind) → is_kind_asked asks kind ≡ false → AreQuiet (entries_of b S t f p kind)
+  unfolding AreQuiet
+  quiet_of b t f p kind h = grind (arith, quiet_row)
+
+  quiet_at : (b : List ℕ) (t : ℕ) (f : Live) (place : Option ℕ) → is_kind_asked asks f.kind ≡ false → AreQuiet (entries_at b S t f place)
+  unfolding AreQuiet
+  quiet_at b t f None h = tt
+  quiet_at b t f (Some p) h = quiet_of b t f p f.kind h
+
+  quiet_entries : (b : List ℕ) (t : ℕ) (f : Live) → is_kind_asked asks f.kind ≡ false → AreQuiet (entries b S t f)
+  unfolding entries
+  quiet_entries b t f h = quiet_at b t f (field_place b t f.slot) h
+
+  strict_field : (c : Checks) (b : List ℕ) (t slot : ℕ) (kind : Kind) → is_kind_asked asks kind ≡ false → IsStrictField c b S t slot kind
+  strict_field c b t slot kind h = grind arith
+
+  module _ (closed : IsClosed asks S) (c : Checks) (b : List ℕ) where
+    mutual
+      unfolding Unfolds FieldsUnfold ElementsUnfold ElementUnfolds IsStrict KidsAreStrict ElementsAreStrict ElementIsStrict AreQuiet
+
+      strict_tree : (y : Tree) (k t : ℕ) → asks k ≡ false → Unfolds y c b S k t → IsStrict y c b S
+      strict_tree (node k' t' kids) k t q h =
+          let same : asks k' ≡ false = rw h.0 q in
+          ((λ i f e. strict_field c b t' f.slot f.kind (closed k' i f same e)), strict_kids kids t (live_fields S k) (λ i f e. closed k i f q e) h.3)
+
+      strict_kids : (kids : Kids) (t : ℕ) (fs : List Live) → ((i : ℕ) (f : Live) → slice_get fs i ≡ Some f → is_kind_asked asks f.kind ≡ false) → FieldsUnfold kids c b S t fs → KidsAreStrict kids c b S
+      strict_kids no_kids t fs q h = tt
+      strict_kids (kid ys kids) t [] q h = absurd h
+      strict_kids (kid ys kids) t (f ∷ fs) q h =
+          (strict_elements ys (entries b S t f) (quiet_entries b t f (q 0 f refl)) h.1, strict_kids kids t fs (λ i g e. q (suc i) g e) h.2)
+
+      strict_elements : (ys : Elements) (xs : List Entry) → AreQuiet xs → ElementsUnfold ys c b S xs → ElementsAreStrict ys c b S
+      strict_elements no_elements xs q h = tt
+      strict_elements (element y ys) [] q h = absurd h
+      strict_elements (element y ys) (x ∷ xs) q h = (strict_element y x.place x.lead q.0 h.0, strict_elements ys xs q.1 h.1)
+
+      strict_element : (y : Element) (p : ℕ) (lead : Lead) → IsQuiet lead → ElementUnfolds y c b S p lead → ElementIsStrict y c b S
+      strict_element leaf p lead q h = tt
+      strict_element (table y) p (to_table k) q h = strict_tree y k (target b p) q h.1
+      strict_element (table y) p (to_struct size align) q h = absurd h
+      strict_element (table y) p to_string q h = absurd h
+      strict_element (table y) p to_nothing q h = absurd h
+
+pub skips : SkipLaw
+skips asks S closed y c b k t q h = strict_tree asks S closed c b y k t q h

@@ -1,0 +1,45 @@
+-- Examples of what is demanded: bytes that meet it or don't, most of them beside those around.
+use Rattle.std.specs.Prelude.{◌≡◌, ℕ, List, [], ◌∷◌, Option, Some, None}
+use Rattle.fb_rules.specs.declared.fault.Reason.TheVariants.{OutOfBuffer, Misaligned, ZeroOffset, MissingRequired, LengthsDiffer}
+use Rattle.fb_rules.specs.{Samples.published_checks, Samples.unions, Tests.found}
+use Rattle.fb_rules.specs.Order.{Failure}
+use Rattle.fb_strict.specs.InOrder.{length_failure, inside_failure, union_failure, together_failure, element_failure}
+
+-- the union of a table at 4, whose type and value stand at these places of such bytes: 1 is its member, 9 is none
+abbrev pub union_in : List ℕ → (types place : Option ℕ) → Option Failure
+union_in b types place = union_failure published_checks b unions 0 4 types place
+
+-- a word of a vector of them at 0, whose type stands behind it
+abbrev pub element_in : List ℕ → Option Failure
+element_in b = element_failure published_checks b unions 0 4 0
+
+pub record LengthRows : Type 0 where
+  pub eleven_bytes : length_failure (0 ∷ 0 ∷ 0 ∷ 0 ∷ 0 ∷ 0 ∷ 0 ∷ 0 ∷ 0 ∷ 0 ∷ 0 ∷ []) ≡ found OutOfBuffer 11 0
+  pub twelve_bytes : length_failure (0 ∷ 0 ∷ 0 ∷ 0 ∷ 0 ∷ 0 ∷ 0 ∷ 0 ∷ 0 ∷ 0 ∷ 0 ∷ 0 ∷ []) ≡ None
+
+pub record WordRows : Type 0 where
+  pub to_the_last_byte : inside_failure published_checks (4 ∷ 0 ∷ 0 ∷ 0 ∷ 7 ∷ []) 0 ≡ None
+  pub to_the_end : inside_failure published_checks (5 ∷ 0 ∷ 0 ∷ 0 ∷ 7 ∷ []) 0 ≡ found OutOfBuffer 5 1
+  pub to_itself : inside_failure published_checks (0 ∷ 0 ∷ 0 ∷ 0 ∷ 7 ∷ []) 0 ≡ found ZeroOffset 0 1
+  pub misaligned : inside_failure published_checks (7 ∷ 1 ∷ 0 ∷ 0 ∷ 0 ∷ []) 1 ≡ found Misaligned 1 0
+  pub not_whole : inside_failure published_checks (1 ∷ 0 ∷ 0 ∷ []) 0 ≡ found OutOfBuffer 0 0
+
+pub record UnionRows : Type 0 where
+  pub neither : union_in [] None None ≡ None
+  pub a_type_alone : union_in (9 ∷ []) (Some 0) None ≡ found MissingRequired 4 1
+  pub type_0_alone : union_in (0 ∷ []) (Some 0) None ≡ None
+  pub a_member : union_in (0 ∷ 0 ∷ 0 ∷ 0 ∷ 1 ∷ []) (Some 4) (Some 0) ≡ None
+  pub no_member : union_in (0 ∷ 0 ∷ 0 ∷ 0 ∷ 9 ∷ []) (Some 4) (Some 0) ≡ found ZeroOffset 0 2
+  pub no_member_inside : union_in (4 ∷ 0 ∷ 0 ∷ 0 ∷ 9 ∷ []) (Some 4) (Some 0) ≡ None
+  pub no_type : union_in (5 ∷ 0 ∷ 0 ∷ 0 ∷ 9 ∷ []) None (Some 0) ≡ found OutOfBuffer 5 1
+  pub no_type_inside : union_in (4 ∷ 0 ∷ 0 ∷ 0 ∷ 9 ∷ []) None (Some 0) ≡ None
+
+pub record UnionsRows : Type 0 where
+  pub neither : together_failure None None ≡ None
+  pub both : together_failure (Some 8) (Some 12) ≡ None
+  pub types_alone : together_failure (Some 8) None ≡ found LengthsDiffer 8 0
+  pub alone : together_failure None (Some 12) ≡ found LengthsDiffer 12 0
+  pub a_member : element_in (0 ∷ 0 ∷ 0 ∷ 0 ∷ 1 ∷ []) ≡ None
+  pub type_0 : element_in (0 ∷ 0 ∷ 0 ∷ 0 ∷ 0 ∷ []) ≡ None
+  pub no_member : element_in (0 ∷ 0 ∷ 0 ∷ 0 ∷ 9 ∷ []) ≡ found ZeroOffset 0 2
+  pub no_member_inside : element_in (4 ∷ 0 ∷ 0 ∷ 0 ∷ 9 ∷ []) ≡ None

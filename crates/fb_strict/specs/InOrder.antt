@@ -1,0 +1,88 @@
+-- The demands in their order: each chain answers the first that isn't met, after the reads that were made by then.
+use Rattle.std.specs.Prelude.{◌≡◌, ◌↔◌, ℕ, ◌+◌, ◌-◌, ◌*◌, ◌<◌, ◌≤◌, ◌==◌, nat_le, if◌then◌else◌, List, length, Option, Some, None}
+use Rattle.fb_bytes.specs.Word.{word}
+use Rattle.fb_schema.specs.declared.kinds.Kind.{Kind}
+use Rattle.fb_schema.specs.{Rows.Rows, Members.member_of}
+use Rattle.fb_rules.specs.declared.checks.Checks.{Checks}
+use Rattle.fb_rules.specs.declared.fault.Reason.TheVariants.{OutOfBuffer, MissingRequired, LengthsDiffer}
+use Rattle.fb_rules.specs.{Places.fits, Places.target, Cost.slot_reads, Cost.reads_if_present, Fields.union_type, Fields.types_begin}
+use Rattle.fb_rules.specs.Order.{Failure, check, after, ◌▷◌, offset_failure}
+use Rattle.fb_strict.specs.Strict.{LeadsInside, IsStrictUnion, IsStrictElement, IsStrictUnions}
+
+-- the buffer's length, told at its end
+abbrev pub length_failure : List ℕ → Option Failure
+length_failure b = check (nat_le 12 (length b)) OutOfBuffer (length b) 0 None
+
+-- an offset word at p that leads to what nobody knows
+unfoldable pub inside_failure : Checks → List ℕ → ℕ → Option Failure
+inside_failure c b p = offset_failure c b p ▷ after 1 (check (fits b (target b p) 1) OutOfBuffer (target b p) 0 None)
+
+-- the same where the type of its union has this member, which the walk followed
+abbrev pub value_failure : Checks → List ℕ → ℕ → Option Kind → Option Failure
+value_failure c b p None = inside_failure c b p
+value_failure c b p (Some member) = None
+
+abbrev pub value_reads : Option Kind → ℕ
+value_reads None = 1
+value_reads (Some member) = 0
+
+-- a union of the table at t, whose type field and value stand at these places; its type is read first
+abbrev pub union_failure : Checks → List ℕ → Rows → (e t : ℕ) → (types place : Option ℕ) → Option Failure
+union_failure c b S e t types None = after (reads_if_present 1 types) (check (union_type b types == 0) MissingRequired t 0 None)
+union_failure c b S e t types (Some p) = after (reads_if_present 1 types) (value_failure c b p (member_of S e (union_type b types)))
+
+abbrev pub union_reads : List ℕ → Rows → ℕ → (types place : Option ℕ) → ℕ
+union_reads b S e types None = reads_if_present 1 types
+union_reads b S e types (Some p) = reads_if_present 1 types + value_reads (member_of S e (union_type b types))
+
+-- the member that a value has, none where there is no value
+abbrev pub member_at : List ℕ → Rows → ℕ → (types place : Option ℕ) → Option Kind
+member_at b S e types None = None
+member_at b S e types (Some p) = member_of S e (union_type b types)
+
+-- a vector of unions and that of its types, both or none: told at the field that is there
+abbrev pub together_failure : (types place : Option ℕ) → Option Failure
+together_failure (Some q) None = Some (record { reason = LengthsDiffer; at = q; reads = 0 })
+together_failure None (Some p) = Some (record { reason = LengthsDiffer; at = p; reads = 0 })
+together_failure _ _ = None
+
+-- the offset word at p in a vector of unions, of this type
+abbrev pub typed_failure : Checks → List ℕ → Rows → (e type p : ℕ) → Option Failure
+typed_failure c b S e type p = if type == 0 then None else value_failure c b p (member_of S e type)
+
+abbrev pub typed_reads : Rows → (e type : ℕ) → ℕ
+typed_reads S e type = if type == 0 then 0 else value_reads (member_of S e type)
+
+-- the same, whose type stands at q and is read first
+unfoldable pub element_failure : Checks → List ℕ → Rows → (e q p : ℕ) → Option Failure
+element_failure c b S e q p = after 1 (typed_failure c b S e (word b q 1) p)
+
+unfoldable pub element_reads : List ℕ → Rows → (e q : ℕ) → ℕ
+element_reads b S e q = 1 + typed_reads S e (word b q 1)
+
+-- the reads of where a union or a vector of them stands in the table at t, and of where its types do
+abbrev pub places_reads : List ℕ → (t slot : ℕ) → ℕ
+places_reads b t slot = slot_reads b t slot + slot_reads b t (slot - 2)
+
+-- a chain finds nothing exactly where the facts hold
+
+abbrev pub LengthLaw : Type 0
+LengthLaw = (b : List ℕ) → (length_failure b ≡ None) ↔ (12 ≤ length b)
+
+abbrev pub InsideLaw : Type 0
+InsideLaw = (c : Checks) (b : List ℕ) (p : ℕ) → (inside_failure c b p ≡ None) ↔ LeadsInside c b p
+
+abbrev pub UnionLaw : Type 0
+UnionLaw = (c : Checks) (b : List ℕ) (S : Rows) (e t : ℕ) (types place : Option ℕ) → (union_failure c b S e t types place ≡ None) ↔ IsStrictUnion c b S e types place
+
+abbrev pub ElementLaw : Type 0
+ElementLaw = (c : Checks) (b : List ℕ) (S : Rows) (e q p : ℕ) → (element_failure c b S e q p ≡ None) ↔ IsStrictElement c b S e (word b q 1) p
+
+-- of a vector of unions: that it is there with its types, and of each of its offset words
+abbrev pub UnionsAreTold : Checks → List ℕ → Rows → ℕ → (types place : Option ℕ) → Type 0
+UnionsAreTold c b S e types place =
+    (together_failure types place ≡ None)
+    × ((p j : ℕ) → place ≡ Some p → j < word b (target b p) 4 → element_failure c b S e (types_begin b types + j) (target b p + 4 + 4 * j) ≡ None)
+
+abbrev pub UnionsLaw : Type 0
+UnionsLaw = (c : Checks) (b : List ℕ) (S : Rows) (e : ℕ) (types place : Option ℕ) → UnionsAreTold c b S e types place ↔ IsStrictUnions c b S e types place

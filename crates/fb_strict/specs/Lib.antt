@@ -1,0 +1,6 @@
+pub mod Strict
+pub mod InOrder
+pub mod Skipped
+pub mod Readers
+pub mod Leaves
+pub mod Examples

@@ -1,0 +1,49 @@
+-- What a reader of a strict buffer relies on, wherever it comes to a table.
+use Rattle.std.specs.Prelude.{◌≡◌, ◌≢◌, ◌↔◌, ◌⊎◌, ℕ, ◌+◌, ◌*◌, ◌<◌, ◌≤◌, List, length, slice_get, Some, None}
+use Rattle.fb_bytes.specs.Word.{word}
+use Rattle.fb_schema.specs.declared.kinds.Kind.TheVariants.{Union, Unions}
+use Rattle.fb_schema.specs.{Rows.Rows, Live.Live, Live.live_fields, Members.member_of}
+use Rattle.fb_rules.specs.declared.checks.Checks.{Checks}
+use Rattle.fb_rules.specs.{Places.target, Places.field_place, Fields.type_place, Fields.types_begin, Fields.union_type}
+use Rattle.fb_rules.specs.Tree.{Tree, node, Kids, no_kids, kid, Elements, no_elements, element, Element, leaf, table}
+use Rattle.fb_strict.specs.Strict.{IsStrict, IsStrictTable}
+
+-- the tree has a visit of a table of the object k at t
+unfoldable mutual
+  pub HasNode : Tree → ℕ → ℕ → Type 0
+  HasNode (node k' t' kids) k t = ((k' ≡ k) × (t' ≡ t)) ⊎ KidsHave kids k t
+
+  pub KidsHave : Kids → ℕ → ℕ → Type 0
+  KidsHave no_kids k t = ⊥
+  KidsHave (kid ys kids) k t = ElementsHave ys k t ⊎ KidsHave kids k t
+
+  pub ElementsHave : Elements → ℕ → ℕ → Type 0
+  ElementsHave no_elements k t = ⊥
+  ElementsHave (element y ys) k t = ElementHas y k t ⊎ ElementsHave ys k t
+
+  pub ElementHas : Element → ℕ → ℕ → Type 0
+  ElementHas leaf k t = ⊥
+  ElementHas (table y) k t = HasNode y k t
+
+-- a tree is strict exactly where each table in it is
+abbrev pub TablesLaw : Type 0
+TablesLaw = (y : Tree) (c : Checks) (b : List ℕ) (S : Rows) → IsStrict y c b S ↔ ((k t : ℕ) → HasNode y k t → IsStrictTable c b S k t)
+
+-- the offset word at p lies in the buffer, and leads inside
+pub record MayFollow (b : List ℕ) (p : ℕ) : Type 0 where
+  pub within : p + 4 ≤ length b
+  pub inside : target b p < length b
+
+-- what `u()` follows may be followed, where nobody knows what it leads to: the value of a union whose type is 0 or
+-- unknown
+abbrev pub ValuesLaw : Type 0
+ValuesLaw =
+    (y : Tree) (c : Checks) (b : List ℕ) (S : Rows) (k t i : ℕ) (f : Live) (e p : ℕ) → IsStrict y c b S → HasNode y k t → slice_get (live_fields S k) i ≡ Some f
+    → f.kind ≡ Union e → field_place b t f.slot ≡ Some p → member_of S e (union_type b (type_place b t f.slot)) ≡ None → MayFollow b p
+
+-- so may the j-th offset word of a vector of unions, whose type isn't 0 and is unknown
+abbrev pub ElementsLaw : Type 0
+ElementsLaw =
+    (y : Tree) (c : Checks) (b : List ℕ) (S : Rows) (k t i : ℕ) (f : Live) (e p j : ℕ) → IsStrict y c b S → HasNode y k t → slice_get (live_fields S k) i ≡ Some f
+    → f.kind ≡ Unions e → field_place b t f.slot ≡ Some p → j < word b (target b p) 4
+    → word b (types_begin b (type_place b t f.slot) + j) 1 ≢ 0 → member_of S e (word b (types_begin b (type_place b t f.slot) + j) 1) ≡ None → MayFollow b (target b p + 4 + 4 * j)

@@ -1,0 +1,37 @@
+//! Laws of the definitions: each is the contract of a function that does nothing.
+
+ghost use Rattle.fb_strict.specs.InOrder.{ElementLaw, InsideLaw, LengthLaw, UnionLaw, UnionsLaw};
+ghost use Rattle.fb_strict.specs.Readers.{ElementsLaw, TablesLaw, ValuesLaw};
+ghost use Rattle.fb_strict.specs.Skipped.{SkipLaw};
+
+/// A chain of tests finds nothing exactly where what is demanded holds.
+#[tactic(auto, using(crate::proofs::Chains::inside_none, crate::proofs::Chains::union_none, crate::proofs::Chains::element_none))]
+pub fn chains_tell()
+    ensures of_lengths { LengthLaw }
+    ensures of_words { InsideLaw }
+    ensures of_unions { UnionLaw }
+    ensures of_elements { ElementLaw }
+{}
+
+/// A vector of unions meets what is demanded exactly where the chains of it and of its offset words find nothing.
+pub fn unions_are_told()
+    ensures { UnionsLaw }
+{}
+
+/// A tree of an object of which nothing is asked is strict.
+pub fn what_is_not_asked_is_strict()
+    ensures { SkipLaw }
+{}
+
+/// A tree is strict exactly where each table in it is.
+#[tactic(auto, using(crate::proofs::Reading::tables_met))]
+pub fn tables_are_strict()
+    ensures { TablesLaw }
+{}
+
+/// In a strict buffer the value of a union whose type is 0 or unknown leads inside, wherever its table stands, and so
+/// does an offset word in a vector of unions whose type is unknown.
+pub fn unknown_values_lead_inside()
+    ensures values { ValuesLaw }
+    ensures elements { ElementsLaw }
+{}
