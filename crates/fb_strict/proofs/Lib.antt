@@ -1,3 +1,5 @@
 pub mod Chains
 pub mod Skips
 pub mod Reading
+pub mod Lists
+pub mod Marks

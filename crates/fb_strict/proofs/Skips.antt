@@ -1,6 +1,7 @@
 -- What isn't asked may be passed by.
-use Rattle.std.proofs.Common.{◌≡◌, ℕ, zero, suc, ◌+◌, List, [], ◌∷◌, arith, Option, Some, None, Bool, false, refl}
-use Rattle.std.specs.Prelude.{slice_get}
+use Rattle.std.proofs.Common.{◌≡◌, ℕ, zero, suc, ◌+◌, List, [], ◌∷◌, arith, Option, Some, None, Bool, false, refl, subst}
+use Rattle.std.specs.Prelude.{slice_get, ◌||◌, true}
+use Rattle.std.specs.List.{list_any}
 use Rattle.fb_schema.specs.declared.kinds.Kind.{Kind}
 use Rattle.fb_schema.specs.{Rows.Rows, Live.Live, Live.live_fields}
 use Rattle.fb_rules.specs.declared.checks.Checks.{Checks}
@@ -10,6 +11,10 @@ use Rattle.fb_rules.specs.Tree.{Tree, node, Kids, no_kids, kid, Elements, no_ele
 use Rattle.fb_rules.specs.Unfolds.{Unfolds, FieldsUnfold, ElementsUnfold, ElementUnfolds}
 use Rattle.fb_strict.specs.Strict.{IsStrict, KidsAreStrict, ElementsAreStrict, ElementIsStrict, IsStrictField}
 use Rattle.fb_strict.specs.Skipped.{is_kind_asked, IsClosed, SkipLaw}
+
+or_false : (a b : Bool) → (a || b) ≡ false → (a ≡ false) × (b ≡ false)
+or_false true b h = absurd (grind arith)
+or_false false b h = (refl, h)
 
 module _ (asks : ℕ → Bool) (S : Rows) where
   -- an offset word that leads to no table that is asked
@@ -39,6 +44,12 @@ module _ (asks : ℕ → Bool) (S : Rows) where
   unfolding entries
   quiet_entries b t f h = quiet_at b t f (field_place b t f.slot) h
 
+  -- each of these fields isn't asked
+  at_each : (fs : List Live) → list_any (λ (f : Live). is_kind_asked asks f.kind) fs ≡ false → (i : ℕ) (f : Live) → slice_get fs i ≡ Some f → is_kind_asked asks f.kind ≡ false
+  at_each [] h i f e = absurd (grind arith)
+  at_each (g ∷ fs) h zero f e = let same : g ≡ f = cc in subst (λ (x : Live). is_kind_asked asks x.kind ≡ false) same (or_false _ _ h).0
+  at_each (g ∷ fs) h (suc i) f e = at_each fs (or_false _ _ h).1 i f e
+
   strict_field : (c : Checks) (b : List ℕ) (t slot : ℕ) (kind : Kind) → is_kind_asked asks kind ≡ false → IsStrictField c b S t slot kind
   strict_field c b t slot kind h = grind arith
 
@@ -49,13 +60,13 @@ module _ (asks : ℕ → Bool) (S : Rows) where
       strict_tree : (y : Tree) (k t : ℕ) → asks k ≡ false → Unfolds y c b S k t → IsStrict y c b S
       strict_tree (node k' t' kids) k t q h =
           let same : asks k' ≡ false = rw h.0 q in
-          ((λ i f e. strict_field c b t' f.slot f.kind (closed k' i f same e)), strict_kids kids t (live_fields S k) (λ i f e. closed k i f q e) h.3)
+          ((λ i f e. strict_field c b t' f.slot f.kind (at_each (live_fields S k') (closed k' same) i f e)), strict_kids kids t (live_fields S k) (closed k q) h.3)
 
-      strict_kids : (kids : Kids) (t : ℕ) (fs : List Live) → ((i : ℕ) (f : Live) → slice_get fs i ≡ Some f → is_kind_asked asks f.kind ≡ false) → FieldsUnfold kids c b S t fs → KidsAreStrict kids c b S
+      strict_kids : (kids : Kids) (t : ℕ) (fs : List Live) → list_any (λ (f : Live). is_kind_asked asks f.kind) fs ≡ false → FieldsUnfold kids c b S t fs → KidsAreStrict kids c b S
       strict_kids no_kids t fs q h = tt
       strict_kids (kid ys kids) t [] q h = absurd h
       strict_kids (kid ys kids) t (f ∷ fs) q h =
-          (strict_elements ys (entries b S t f) (quiet_entries b t f (q 0 f refl)) h.1, strict_kids kids t fs (λ i g e. q (suc i) g e) h.2)
+          (strict_elements ys (entries b S t f) (quiet_entries b t f (or_false _ _ q).0) h.1, strict_kids kids t fs (or_false _ _ q).1 h.2)
 
       strict_elements : (ys : Elements) (xs : List Entry) → AreQuiet xs → ElementsUnfold ys c b S xs → ElementsAreStrict ys c b S
       strict_elements no_elements xs q h = tt

@@ -1,8 +1,12 @@
 -- Examples of what is demanded: bytes that meet it or don't, most of them beside those around.
-use Rattle.std.specs.Prelude.{◌≡◌, ℕ, List, [], ◌∷◌, Option, Some, None}
+use Rattle.std.specs.Prelude.{◌≡◌, ℕ, List, [], ◌∷◌, ◌++◌, Option, Some, None}
 use Rattle.fb_rules.specs.declared.fault.Reason.TheVariants.{OutOfBuffer, Misaligned, ZeroOffset, MissingRequired, LengthsDiffer}
-use Rattle.fb_rules.specs.{Samples.published_checks, Samples.unions, Tests.found}
+use Rattle.fb_schema.specs.{Rows.Rows, Live.live_fields}
+use Rattle.fb_rules.specs.{Samples.published_checks, Samples.unions, Samples.table, Samples.field, Samples.object, Samples.vector, Tests.found}
 use Rattle.fb_rules.specs.Order.{Failure}
+use Rattle.fb_strict.specs.declared.{tasks.Ask.Ask, tasks.Task.Task}
+use Rattle.fb_strict.specs.declared.tasks.Ask.TheVariants.{Union as AskUnion, Unions as AskUnions, Table as GoInto, Tables as GoIntoEach}
+use Rattle.fb_strict.specs.{Skipped.reaches_union, Planned.tasks_in}
 use Rattle.fb_strict.specs.InOrder.{length_failure, inside_failure, union_failure, together_failure, element_failure}
 
 -- the union of a table at 4, whose type and value stand at these places of such bytes: 1 is its member, 9 is none
@@ -43,3 +47,25 @@ pub record UnionsRows : Type 0 where
   pub type_0 : element_in (0 ∷ 0 ∷ 0 ∷ 0 ∷ 0 ∷ []) ≡ None
   pub no_member : element_in (0 ∷ 0 ∷ 0 ∷ 0 ∷ 9 ∷ []) ≡ found ZeroOffset 0 2
   pub no_member_inside : element_in (4 ∷ 0 ∷ 0 ∷ 0 ∷ 9 ∷ []) ≡ None
+
+-- the rows of these unions, and a table Y, object 5, with a table R, a table A, and a vector of its own
+abbrev pub around : Rows
+around = record {
+  objects = unions.objects ++ table (89 ∷ []) (field (114 ∷ []) 4 (object 2) ∷ field (97 ∷ []) 6 (object 0) ∷ field (121 ∷ []) 8 (vector 15 5) ∷ []) ∷ [];
+  enums = unions.enums;
+}
+
+-- the tasks of an object, where a union is reached by two fields of tables at most
+abbrev pub tasks_of : ℕ → List Task
+tasks_of k = tasks_in (reaches_union 3 around) (live_fields around k)
+
+abbrev pub task : ℕ → ℕ → Ask → Task
+task number slot ask = record { number = number; slot = slot; ask = ask }
+
+pub record PlanRows : Type 0 where
+  pub no_union : tasks_of 0 ≡ []
+  pub a_struct : tasks_of 1 ≡ []
+  pub a_union : tasks_of 2 ≡ task 1 6 (AskUnion 0) ∷ []
+  pub a_vector_of_unions : tasks_of 3 ≡ task 1 6 (AskUnions 0) ∷ []
+  pub every_kind : tasks_of 4 ≡ task 5 14 (AskUnion 0) ∷ task 11 26 (AskUnions 0) ∷ []
+  pub below : tasks_of 5 ≡ task 0 4 (GoInto 2) ∷ task 2 8 (GoIntoEach 5) ∷ []

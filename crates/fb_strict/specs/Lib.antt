@@ -3,4 +3,5 @@ pub mod InOrder
 pub mod Skipped
 pub mod Readers
 pub mod Leaves
+pub mod Planned
 pub mod Examples

@@ -1,6 +1,12 @@
-//! What code that `flatc` generates asks of unions beside the rules of the format: what it means, a test for each.
+//! What code that `flatc` generates asks of unions beside the rules of the format: what it means, a test for each part,
+//! and the plan of which tables are asked.
 #![tactic(auto)]
 
 pub mod examples;
 pub mod laws;
+mod plan;
+mod tasks;
 pub mod unions;
+
+pub use plan::Plan;
+pub use tasks::{Ask, Task};
