@@ -3,3 +3,4 @@ pub mod Skips
 pub mod Reading
 pub mod Lists
 pub mod Marks
+pub mod Asking

@@ -1,8 +1,9 @@
 -- Every table of a strict tree meets the demands of each of its fields.
-use Rattle.std.proofs.Common.{◌≡◌, inl, inr, ℕ, List, refl}
+use Rattle.std.proofs.Common.{◌≡◌, inl, inr, ℕ, List, Option, refl}
 use Rattle.fb_schema.specs.declared.kinds.Kind.{Kind, TheVariants.Union, TheVariants.Unions}
 use Rattle.fb_schema.specs.{Rows.Rows}
 use Rattle.fb_rules.specs.declared.checks.Checks.{Checks}
+use Rattle.fb_rules.specs.{Places.field_place, Fields.type_place}
 use Rattle.fb_rules.specs.Tree.{Tree, node, Kids, no_kids, kid, Elements, no_elements, element, Element, leaf, table}
 use Rattle.fb_strict.specs.Strict.{LeadsInside, IsStrict, KidsAreStrict, ElementsAreStrict, ElementIsStrict, IsStrictField, IsStrictTable}
 use Rattle.fb_strict.specs.Readers.{HasNode, KidsHave, ElementsHave, ElementHas, MayFollow, TablesLaw, ValuesLaw, ElementsLaw}
@@ -51,18 +52,18 @@ module _ (c : Checks) (b : List ℕ) (S : Rows) where
   may_follow : (p : ℕ) → LeadsInside c b p → MayFollow b p
   may_follow p h = record { within = (h.offset).within; inside = h.inside }
 
-  of_union : (t slot e : ℕ) (kind : Kind) → kind ≡ Union e → IsStrictField c b S t slot kind → IsStrictField c b S t slot (Union e)
-  of_union t slot e kind is h = rw is at h
+  of_union : (e : ℕ) (types place : Option ℕ) (kind : Kind) → kind ≡ Union e → IsStrictField c b S types place kind → IsStrictField c b S types place (Union e)
+  of_union e types place kind is h = rw is at h
 
-  of_unions : (t slot e : ℕ) (kind : Kind) → kind ≡ Unions e → IsStrictField c b S t slot kind → IsStrictField c b S t slot (Unions e)
-  of_unions t slot e kind is h = rw is at h
+  of_unions : (e : ℕ) (types place : Option ℕ) (kind : Kind) → kind ≡ Unions e → IsStrictField c b S types place kind → IsStrictField c b S types place (Unions e)
+  of_unions e types place kind is h = rw is at h
 
 pub tables_met : TablesLaw
 tables_met y c b S = ((λ h k t n. node_met c b S k t y h n), node_strict c b S y)
 
 pub value_inside : ValuesLaw
-value_inside y c b S k t i f e p h n at is place none = may_follow c b S p ((of_union c b S t f.slot e f.kind is (node_met c b S k t y h n i f at)).leads p place none)
+value_inside y c b S k t i f e p h n at is place none = may_follow c b S p ((of_union c b S e (type_place b t f.slot) (field_place b t f.slot) f.kind is (node_met c b S k t y h n i f at)).leads p place none)
 
 pub element_inside : ElementsLaw
 element_inside y c b S k t i f e p j h n at is place lt typed none =
-    may_follow c b S _ ((of_unions c b S t f.slot e f.kind is (node_met c b S k t y h n i f at)).leads p j place lt typed none)
+    may_follow c b S _ ((of_unions c b S e (type_place b t f.slot) (field_place b t f.slot) f.kind is (node_met c b S k t y h n i f at)).leads p j place lt typed none)

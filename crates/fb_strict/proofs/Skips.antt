@@ -6,7 +6,7 @@ use Rattle.fb_schema.specs.declared.kinds.Kind.{Kind}
 use Rattle.fb_schema.specs.{Rows.Rows, Live.Live, Live.live_fields}
 use Rattle.fb_rules.specs.declared.checks.Checks.{Checks}
 use Rattle.fb_rules.specs.Places.{target, field_place}
-use Rattle.fb_rules.specs.Fields.{Lead, to_table, to_struct, to_string, to_nothing, Entry, row, entries_of, entries_at, entries}
+use Rattle.fb_rules.specs.Fields.{type_place, Lead, to_table, to_struct, to_string, to_nothing, Entry, row, entries_of, entries_at, entries}
 use Rattle.fb_rules.specs.Tree.{Tree, node, Kids, no_kids, kid, Elements, no_elements, element, Element, leaf, table}
 use Rattle.fb_rules.specs.Unfolds.{Unfolds, FieldsUnfold, ElementsUnfold, ElementUnfolds}
 use Rattle.fb_strict.specs.Strict.{IsStrict, KidsAreStrict, ElementsAreStrict, ElementIsStrict, IsStrictField}
@@ -50,8 +50,8 @@ module _ (asks : ℕ → Bool) (S : Rows) where
   at_each (g ∷ fs) h zero f e = let same : g ≡ f = cc in subst (λ (x : Live). is_kind_asked asks x.kind ≡ false) same (or_false _ _ h).0
   at_each (g ∷ fs) h (suc i) f e = at_each fs (or_false _ _ h).1 i f e
 
-  strict_field : (c : Checks) (b : List ℕ) (t slot : ℕ) (kind : Kind) → is_kind_asked asks kind ≡ false → IsStrictField c b S t slot kind
-  strict_field c b t slot kind h = grind arith
+  strict_field : (c : Checks) (b : List ℕ) (types place : Option ℕ) (kind : Kind) → is_kind_asked asks kind ≡ false → IsStrictField c b S types place kind
+  strict_field c b types place kind h = grind arith
 
   module _ (closed : IsClosed asks S) (c : Checks) (b : List ℕ) where
     mutual
@@ -60,7 +60,7 @@ module _ (asks : ℕ → Bool) (S : Rows) where
       strict_tree : (y : Tree) (k t : ℕ) → asks k ≡ false → Unfolds y c b S k t → IsStrict y c b S
       strict_tree (node k' t' kids) k t q h =
           let same : asks k' ≡ false = rw h.0 q in
-          ((λ i f e. strict_field c b t' f.slot f.kind (at_each (live_fields S k') (closed k' same) i f e)), strict_kids kids t (live_fields S k) (closed k q) h.3)
+          ((λ i f e. strict_field c b (type_place b t' f.slot) (field_place b t' f.slot) f.kind (at_each (live_fields S k') (closed k' same) i f e)), strict_kids kids t (live_fields S k) (closed k q) h.3)
 
       strict_kids : (kids : Kids) (t : ℕ) (fs : List Live) → list_any (λ (f : Live). is_kind_asked asks f.kind) fs ≡ false → FieldsUnfold kids c b S t fs → KidsAreStrict kids c b S
       strict_kids no_kids t fs q h = tt

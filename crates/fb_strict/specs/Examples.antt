@@ -1,12 +1,14 @@
 -- Examples of what is demanded: bytes that meet it or don't, most of them beside those around.
 use Rattle.std.specs.Prelude.{◌≡◌, ℕ, List, [], ◌∷◌, ◌++◌, Option, Some, None}
-use Rattle.fb_rules.specs.declared.fault.Reason.TheVariants.{OutOfBuffer, Misaligned, ZeroOffset, MissingRequired, LengthsDiffer}
+use Rattle.fb_rules.specs.declared.fault.Reason.TheVariants.{OutOfBuffer, Misaligned, ZeroOffset, MissingRequired, LengthsDiffer, TooManyReads}
+use Rattle.fb_rules.specs.declared.fault.Fault.{Fault}
+use Rattle.fb_rules.specs.Tree.{Tree, node, no_kids, kid, no_elements}
 use Rattle.fb_schema.specs.{Rows.Rows, Live.live_fields}
-use Rattle.fb_rules.specs.{Samples.published_checks, Samples.unions, Samples.table, Samples.field, Samples.object, Samples.vector, Tests.found}
+use Rattle.fb_rules.specs.{Samples.fault, Samples.published_checks, Samples.unions, Samples.table, Samples.field, Samples.object, Samples.vector, Tests.found}
 use Rattle.fb_rules.specs.Order.{Failure}
 use Rattle.fb_strict.specs.declared.{tasks.Ask.Ask, tasks.Task.Task}
 use Rattle.fb_strict.specs.declared.tasks.Ask.TheVariants.{Union as AskUnion, Unions as AskUnions, Table as GoInto, Tables as GoIntoEach}
-use Rattle.fb_strict.specs.{Skipped.reaches_union, Planned.tasks_in}
+use Rattle.fb_strict.specs.{Skipped.reaches_union, Planned.tasks_in, Asked.demands_of, Asked.first_fault}
 use Rattle.fb_strict.specs.InOrder.{length_failure, inside_failure, union_failure, together_failure, element_failure}
 
 -- the union of a table at 4, whose type and value stand at these places of such bytes: 1 is its member, 9 is none
@@ -69,3 +71,28 @@ pub record PlanRows : Type 0 where
   pub a_vector_of_unions : tasks_of 3 ≡ task 1 6 (AskUnions 0) ∷ []
   pub every_kind : tasks_of 4 ≡ task 5 14 (AskUnion 0) ∷ task 11 26 (AskUnions 0) ∷ []
   pub below : tasks_of 5 ≡ task 0 4 (GoInto 2) ∷ task 2 8 (GoIntoEach 5) ∷ []
+
+-- a table R whose union has this offset word and this type, and its tree where no member has the type
+abbrev pub lone : ℕ → ℕ → List ℕ
+lone offset type = 12 ∷ 0 ∷ 0 ∷ 0 ∷ 8 ∷ 0 ∷ 12 ∷ 0 ∷ 8 ∷ 0 ∷ 4 ∷ 0 ∷ 8 ∷ 0 ∷ 0 ∷ 0 ∷ offset ∷ 0 ∷ 0 ∷ 0 ∷ type ∷ 0 ∷ 0 ∷ 0 ∷ []
+
+abbrev pub lone_tree : Tree
+lone_tree = node 2 12 (kid no_elements (kid no_elements no_kids))
+
+-- the first fault of a buffer whose root is a table R within this budget, once ten reads are made
+abbrev pub fault_in : Option ℕ → List ℕ → Tree → Option Fault
+fault_in budget b y = first_fault (record { depth = 64; tables = 64; reads = budget }) 10 (demands_of (reaches_union 3 around) published_checks b around 2 y)
+
+-- that of this one
+abbrev pub fault_of : ℕ → ℕ → Option ℕ → Option Fault
+fault_of offset type budget = fault_in budget (lone offset type) lone_tree
+
+pub record FaultRows : Type 0 where
+  pub eight_bytes : fault_in None (4 ∷ 0 ∷ 0 ∷ 0 ∷ 4 ∷ 0 ∷ 0 ∷ 0 ∷ []) (node 2 4 (kid no_elements (kid no_elements no_kids))) ≡ Some (fault OutOfBuffer 8 2 None 10)
+  pub inside : fault_of 7 9 None ≡ None
+  pub to_the_end : fault_of 8 9 None ≡ Some (fault OutOfBuffer 24 2 (Some 1) 16)
+  pub of_type_0 : fault_of 0 0 None ≡ Some (fault ZeroOffset 16 2 (Some 1) 16)
+  pub just_enough_reads : fault_of 7 9 (Some 16) ≡ None
+  pub one_read_too_many : fault_of 7 9 (Some 15) ≡ Some (fault TooManyReads 12 2 (Some 1) 16)
+  pub in_the_head : fault_of 7 9 (Some 11) ≡ Some (fault TooManyReads 12 2 None 12)
+  pub the_test_before_its_reads : fault_of 8 9 (Some 15) ≡ Some (fault OutOfBuffer 24 2 (Some 1) 16)

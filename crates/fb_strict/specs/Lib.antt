@@ -4,4 +4,5 @@ pub mod Skipped
 pub mod Readers
 pub mod Leaves
 pub mod Planned
+pub mod Asked
 pub mod Examples

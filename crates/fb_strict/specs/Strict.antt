@@ -1,5 +1,5 @@
 -- What is demanded of a buffer beside the rules of the format: what the accessors of generated code follow leads inside.
-use Rattle.std.specs.Prelude.{◌≡◌, ◌≢◌, ◌↔◌, ℕ, ◌+◌, ◌*◌, ◌<◌, List, length, slice_get, Option, Some, None}
+use Rattle.std.specs.Prelude.{◌≡◌, ◌≢◌, ◌↔◌, ℕ, ◌+◌, ◌*◌, ◌<◌, ◌≤◌, List, length, slice_get, Option, Some, None}
 use Rattle.fb_bytes.specs.Word.{word}
 use Rattle.fb_schema.specs.declared.kinds.Kind.{Kind, TheVariants.Union, TheVariants.Unions}
 use Rattle.fb_schema.specs.{Rows.Rows, Live.Live, Live.live_fields, Members.member_of}
@@ -28,15 +28,15 @@ pub record IsStrictUnions (c : Checks) (b : List ℕ) (S : Rows) (e : ℕ) (type
   pub together : (types ≡ None) ↔ (place ≡ None)
   pub leads : (p j : ℕ) → place ≡ Some p → j < word b (target b p) 4 → IsStrictElement c b S e (word b (types_begin b types + j) 1) (target b p + 4 + 4 * j)
 
--- a field of the table at t with this slot, of this kind: nothing is demanded of what is no union
-abbrev pub IsStrictField : Checks → List ℕ → Rows → (t slot : ℕ) → Kind → Type 0
-IsStrictField c b S t slot (Union e) = IsStrictUnion c b S e (type_place b t slot) (field_place b t slot)
-IsStrictField c b S t slot (Unions e) = IsStrictUnions c b S e (type_place b t slot) (field_place b t slot)
-IsStrictField c b S t slot _ = Unit {0}
+-- a field of this kind whose type field and value stand at these places: nothing is demanded of what is no union
+abbrev pub IsStrictField : Checks → List ℕ → Rows → (types place : Option ℕ) → Kind → Type 0
+IsStrictField c b S types place (Union e) = IsStrictUnion c b S e types place
+IsStrictField c b S types place (Unions e) = IsStrictUnions c b S e types place
+IsStrictField c b S types place _ = Unit {0}
 
 -- the live fields of the table at t, of the object k
 abbrev pub IsStrictTable : Checks → List ℕ → Rows → (k t : ℕ) → Type 0
-IsStrictTable c b S k t = (i : ℕ) (f : Live) → slice_get (live_fields S k) i ≡ Some f → IsStrictField c b S t f.slot f.kind
+IsStrictTable c b S k t = (i : ℕ) (f : Live) → slice_get (live_fields S k) i ≡ Some f → IsStrictField c b S (type_place b t f.slot) (field_place b t f.slot) f.kind
 
 -- all tables of a tree
 unfoldable mutual
@@ -54,3 +54,8 @@ unfoldable mutual
   pub ElementIsStrict : Element → Checks → List ℕ → Rows → Type 0
   ElementIsStrict leaf c b S = Unit {0}
   ElementIsStrict (table y) c b S = IsStrict y c b S
+
+-- a buffer that unfolds into this tree: it has no fewer than 12 bytes, a prefix included, and its tables are strict
+pub record IsStrictBuffer (c : Checks) (b : List ℕ) (S : Rows) (y : Tree) : Type 0 where
+  pub long : 12 ≤ length b
+  pub tables : IsStrict y c b S

@@ -1,5 +1,6 @@
 //! Laws of the definitions: each is the contract of a function that does nothing.
 
+ghost use Rattle.fb_strict.specs.Asked.{DemandsLaw, FirstLaw};
 ghost use Rattle.fb_strict.specs.InOrder.{ElementLaw, InsideLaw, LengthLaw, UnionLaw, UnionsLaw};
 ghost use Rattle.fb_strict.specs.Readers.{ElementsLaw, TablesLaw, ValuesLaw};
 ghost use Rattle.fb_strict.specs.Skipped.{SkipLaw};
@@ -34,4 +35,11 @@ pub fn tables_are_strict()
 pub fn unknown_values_lead_inside()
     ensures values { ValuesLaw }
     ensures elements { ElementsLaw }
+{}
+
+/// All that is asked of a tree, one thing after another, finds nothing exactly where the tree is strict; and nothing is
+/// the first fault exactly where all of it finds nothing, within the budget of reads.
+pub fn demands_tell()
+    ensures strict { DemandsLaw }
+    ensures first { FirstLaw }
 {}
