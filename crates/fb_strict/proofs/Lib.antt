@@ -4,3 +4,4 @@ pub mod Reading
 pub mod Lists
 pub mod Marks
 pub mod Asking
+pub mod Unasked

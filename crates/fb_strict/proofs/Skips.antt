@@ -18,11 +18,11 @@ or_false false b h = (refl, h)
 
 module _ (asks : ℕ → Bool) (S : Rows) where
   -- an offset word that leads to no table that is asked
-  abbrev IsQuiet : Lead → Type 0
+  abbrev pub IsQuiet : Lead → Type 0
   IsQuiet (to_table k) = asks k ≡ false
   IsQuiet _ = Unit {0}
 
-  unfoldable AreQuiet : List Entry → Type 0
+  unfoldable pub AreQuiet : List Entry → Type 0
   AreQuiet [] = Unit {0}
   AreQuiet (x ∷ xs) = IsQuiet x.lead × AreQuiet xs
 
@@ -40,7 +40,7 @@ module _ (asks : ℕ → Bool) (S : Rows) where
   quiet_at b t f None h = tt
   quiet_at b t f (Some p) h = quiet_of b t f p f.kind h
 
-  quiet_entries : (b : List ℕ) (t : ℕ) (f : Live) → is_kind_asked asks f.kind ≡ false → AreQuiet (entries b S t f)
+  pub quiet_entries : (b : List ℕ) (t : ℕ) (f : Live) → is_kind_asked asks f.kind ≡ false → AreQuiet (entries b S t f)
   unfolding entries
   quiet_entries b t f h = quiet_at b t f (field_place b t f.slot) h
 

@@ -5,10 +5,10 @@ use Rattle.fb_schema.specs.declared.kinds.Kind.{Kind}
 use Rattle.fb_schema.specs.declared.kinds.Kind.TheVariants.{Table, Union, Tables, Unions}
 use Rattle.fb_schema.specs.{Rows.Rows, Live.Live, Live.live_fields}
 use Rattle.fb_rules.specs.declared.{checks.Checks.Checks, fault.Fault.Fault}
-use Rattle.fb_rules.specs.{Bounds.Bounds, Bounds.AreAllowed, Places.target, Places.field_place, Fields.type_place, Fields.types_begin, Unfolds.Unfolds}
+use Rattle.fb_rules.specs.{Bounds.Bounds, Bounds.AreAllowed, Places.target, Places.field_place, Fields.type_place, Fields.types_begin, Fields.entries, Unfolds.Unfolds, Unfolds.ElementsUnfold}
 use Rattle.fb_rules.specs.{Cost.head_reads, Cost.slot_reads, Cost.reads_if_present, Order.Failure, Order.after, Order.◌▷◌, Stops.reads_failure}
 use Rattle.fb_rules.specs.Tree.{Tree, node, Kids, no_kids, kid, Elements, no_elements, element, Element, leaf, table}
-use Rattle.fb_strict.specs.{Strict.IsStrictBuffer, Skipped.IsClosed}
+use Rattle.fb_strict.specs.{Strict.IsStrictBuffer, Skipped.IsClosed, Planned.task_of}
 use Rattle.fb_strict.specs.InOrder.{length_failure, places_reads, union_failure, union_reads, together_failure, element_failure, element_reads}
 
 -- one thing that is asked at a table of this object, at the field with this number or at its head: a chain of tests, the
@@ -128,3 +128,10 @@ DemandsLaw =
 -- none is the first exactly where all chains find nothing, within the limits
 abbrev pub FirstLaw : Type 0
 FirstLaw = (L : Bounds) (ds : List Demand) (paid : ℕ) → AreAllowed L.reads paid → (first_fault L paid ds ≡ None) ↔ (AreMet ds × AreAllowed L.reads (paid + demands_reads ds))
+
+-- a field without a task is asked nothing, nor is what it leads to
+abbrev pub TasksLaw : Type 0
+TasksLaw =
+    (asks : ℕ → Bool) (S : Rows) (f : Live) (ys : Elements) (c : Checks) (b : List ℕ) (k t : ℕ) → task_of asks f ≡ None → ElementsUnfold ys c b S (entries b S t f)
+    → (field_demands asks c b S k f.number t f.slot (type_place b t f.slot) (field_place b t f.slot) f.kind ≡ [])
+    × (demands_in_row ys asks c b S k f.number (row_place b (field_place b t f.slot) f.kind) (row_types b (type_place b t f.slot) f.kind) ≡ [])

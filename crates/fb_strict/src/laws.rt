@@ -1,6 +1,6 @@
 //! Laws of the definitions: each is the contract of a function that does nothing.
 
-ghost use Rattle.fb_strict.specs.Asked.{DemandsLaw, FirstLaw};
+ghost use Rattle.fb_strict.specs.Asked.{DemandsLaw, FirstLaw, TasksLaw};
 ghost use Rattle.fb_strict.specs.InOrder.{ElementLaw, InsideLaw, LengthLaw, UnionLaw, UnionsLaw};
 ghost use Rattle.fb_strict.specs.Readers.{ElementsLaw, TablesLaw, ValuesLaw};
 ghost use Rattle.fb_strict.specs.Skipped.{SkipLaw};
@@ -42,4 +42,9 @@ pub fn unknown_values_lead_inside()
 pub fn demands_tell()
     ensures strict { DemandsLaw }
     ensures first { FirstLaw }
+{}
+
+/// A field without a task is asked nothing, nor is what it leads to.
+pub fn tasks_are_all()
+    ensures { TasksLaw }
 {}
