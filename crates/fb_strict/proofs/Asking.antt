@@ -34,7 +34,11 @@ module _ (asks : ℕ → Bool) (S : Rows) (closed : IsClosed asks S) (c : Checks
   AllTold e q p n = (j : ℕ) → j < n → element_failure c b S e (q + j) (p + 4 * j) ≡ None
 
   told_first : (e q p n : ℕ) → AllTold e q p (suc n) → element_failure c b S e q p ≡ None
-  told_first e q p n h = let one = h 0 (omega arith) in subst (λ x. element_failure c b S e q x ≡ None) (let z : p + 4 * 0 ≡ p = omega arith in z) (subst (λ x. element_failure c b S e x (p + 4 * 0) ≡ None) (let z : q + 0 ≡ q = omega arith in z) one)
+  told_first e q p n h =
+      let one = h 0 (omega arith) in
+      let z : q + 0 ≡ q = omega arith in
+      let w : p + 4 * 0 ≡ p = omega arith in
+      subst (λ x. element_failure c b S e q x ≡ None) w (subst (λ x. element_failure c b S e x (p + 4 * 0) ≡ None) z one)
 
   told_rest : (e q p n : ℕ) → AllTold e q p (suc n) → AllTold e (q + 1) (p + 4) n
   told_rest e q p n h j lt =
@@ -88,7 +92,11 @@ module _ (asks : ℕ → Bool) (S : Rows) (closed : IsClosed asks S) (c : Checks
     of_none Text u = let r = row [] k f.number 0 u in ((λ h. (tt, r.0 h.1)), (λ h. (tt, r.1 h.1)))
     of_none (Struct j) u = let r = row [] k f.number 0 u in ((λ h. (tt, r.0 h.1)), (λ h. (tt, r.1 h.1)))
     of_none (Table j) u = let r = row [] k f.number 0 u in ((λ h. (tt, r.0 h.1)), (λ h. (reading_met (asks j) _ _ _ _, r.1 h.1)))
-    of_none (Union e) u = let r = row [] k f.number 0 u in let l = later _ (union_failure c b S e t types None) in let w = union_none c b S e t types None in ((λ h. (w.0 (l.0 h.0.0), r.0 h.1)), (λ h. ((l.1 (w.1 h.0), tt), r.1 h.1)))
+    of_none (Union e) u =
+        let r = row [] k f.number 0 u in
+        let l = later _ (union_failure c b S e t types None) in
+        let w = union_none c b S e t types None in
+        ((λ h. (w.0 (l.0 h.0.0), r.0 h.1)), (λ h. ((l.1 (w.1 h.0), tt), r.1 h.1)))
     of_none (Scalars s) u = let r = row [] k f.number 0 u in ((λ h. (tt, r.0 h.1)), (λ h. (tt, r.1 h.1)))
     of_none Texts u = let r = row [] k f.number 0 u in ((λ h. (tt, r.0 h.1)), (λ h. (tt, r.1 h.1)))
     of_none (Structs j) u = let r = row [] k f.number 0 u in ((λ h. (tt, r.0 h.1)), (λ h. (tt, r.1 h.1)))
@@ -104,7 +112,11 @@ module _ (asks : ℕ → Bool) (S : Rows) (closed : IsClosed asks S) (c : Checks
     of_some p Text u = let r = row _ k f.number p u in ((λ h. (tt, r.0 h.1)), (λ h. (tt, r.1 h.1)))
     of_some p (Struct j) u = let r = row _ k f.number p u in ((λ h. (tt, r.0 h.1)), (λ h. (tt, r.1 h.1)))
     of_some p (Table j) u = let r = row _ k f.number p u in ((λ h. (tt, r.0 h.1)), (λ h. (reading_met (asks j) _ _ _ _, r.1 h.1)))
-    of_some p (Union e) u = let r = row _ k f.number p u in let l = later _ (union_failure c b S e t types (Some p)) in let w = union_none c b S e t types (Some p) in ((λ h. (w.0 (l.0 h.0.0), r.0 h.1)), (λ h. ((l.1 (w.1 h.0), tt), r.1 h.1)))
+    of_some p (Union e) u =
+        let r = row _ k f.number p u in
+        let l = later _ (union_failure c b S e t types (Some p)) in
+        let w = union_none c b S e t types (Some p) in
+        ((λ h. (w.0 (l.0 h.0.0), r.0 h.1)), (λ h. ((l.1 (w.1 h.0), tt), r.1 h.1)))
     of_some p (Scalars s) u = let r = row _ k f.number p u in ((λ h. (tt, r.0 h.1)), (λ h. (tt, r.1 h.1)))
     of_some p Texts u = let r = row _ k f.number p u in ((λ h. (tt, r.0 h.1)), (λ h. (tt, r.1 h.1)))
     of_some p (Structs j) u = let r = row _ k f.number p u in ((λ h. (tt, r.0 h.1)), (λ h. (tt, r.1 h.1)))
@@ -115,7 +127,8 @@ module _ (asks : ℕ → Bool) (S : Rows) (closed : IsClosed asks S) (c : Checks
         let w = unions_none c b S e types (Some p) in
         ((λ h. (w.0 (l.0 h.0.0, λ o j is lt. of_place e p o is j lt (r.0 h.1).0), (r.0 h.1).1)), (λ h. ((l.1 (w.1 h.0).0, tt), r.1 ((λ j lt. (w.1 h.0).1 p j refl lt), h.1))))
       where
-        of_place : (e p o : ℕ) → Some p ≡ Some o → (j : ℕ) → j < word b (target b o) 4 → AllTold e (types_begin b types) (target b p + 4) (word b (target b p) 4) → element_failure c b S e (types_begin b types + j) (target b o + 4 + 4 * j) ≡ None
+        of_place : (e p o : ℕ) → Some p ≡ Some o → (j : ℕ) → j < word b (target b o) 4 → AllTold e (types_begin b types) (target b p + 4) (word b (target b p) 4)
+            → element_failure c b S e (types_begin b types + j) (target b o + 4 + 4 * j) ≡ None
         of_place e p o is j lt all = let same : p ≡ o = cc in subst (λ x. j < word b (target b x) 4 → element_failure c b S e (types_begin b types + j) (target b x + 4 + 4 * j) ≡ None) same (all j) lt
 
     of_field : (place : Option ℕ) → ElementsUnfold ys c b S (entries_at b S t f place) → FieldTold place f.kind ↔ FieldHolds place f.kind
@@ -149,7 +162,8 @@ module _ (asks : ℕ → Bool) (S : Rows) (closed : IsClosed asks S) (c : Checks
     fields (kid ys kids) k t (f ∷ fs) u =
         let own = of_field k t f ys (row_tells ys) (typed_tells ys) (field_place b t f.slot) u.1 in
         let rest = fields kids k t fs u.2 in
-        let one = joined (field_demands asks c b S k f.number t f.slot (type_place b t f.slot) (field_place b t f.slot) f.kind) (demands_in_row ys asks c b S k f.number (row_place b (field_place b t f.slot) f.kind) (row_types b (type_place b t f.slot) f.kind) ++ demands_in_fields kids asks c b S k t fs) in
+        let one = joined (field_demands asks c b S k f.number t f.slot (type_place b t f.slot) (field_place b t f.slot) f.kind)
+        (demands_in_row ys asks c b S k f.number (row_place b (field_place b t f.slot) f.kind) (row_types b (type_place b t f.slot) f.kind) ++ demands_in_fields kids asks c b S k t fs) in
         let two = joined (demands_in_row ys asks c b S k f.number (row_place b (field_place b t f.slot) f.kind) (row_types b (type_place b t f.slot) f.kind)) (demands_in_fields kids asks c b S k t fs) in (
           (λ h. let x = one.0 h in let z = two.0 x.1 in let o = own.0 (x.0, z.0) in let r = rest.0 z.1 in (first_field t f fs o.0 r.0, (o.1, r.1))),
           (λ h. let o = own.1 (h.0 0 f refl, h.1.0) in one.1 (o.0, two.1 (o.1, rest.1 ((λ i g e. h.0 (suc i) g e), h.1.1)))),
@@ -179,7 +193,8 @@ module _ (asks : ℕ → Bool) (S : Rows) (closed : IsClosed asks S) (c : Checks
     below : (y : Element) (p' : ℕ) (lead : Lead) (k n p : ℕ) → ElementUnfolds y c b S p' lead → AreMet (demands_below y asks c b S k n p) ↔ ElementIsStrict y c b S
     below leaf p' lead k n p u = ((λ h. tt), (λ h. tt))
     below (table y) p' (to_table j) k n p u =
-        by_ask (asks (object_of y)) _ (demands_in y asks c b S) y refl (λ no. skips asks S closed y c b j (target b p') (subst (λ x. asks x ≡ false) (object_is y j (target b p') u.1) no) u.1) (tree y j (target b p') u.1)
+        by_ask (asks (object_of y)) _ (demands_in y asks c b S) y refl
+        (λ no. skips asks S closed y c b j (target b p') (subst (λ x. asks x ≡ false) (object_is y j (target b p') u.1) no) u.1) (tree y j (target b p') u.1)
     below (table y) p' (to_struct size align) k n p u = absurd u
     below (table y) p' to_string k n p u = absurd u
     below (table y) p' to_nothing k n p u = absurd u
@@ -206,11 +221,13 @@ told_allowed (Some most) n = grind (arith, nat_tests)
 passed : (L : Bounds) (paid : ℕ) (d : Demand) (rest : Option Fault) → d.chain ≡ None → AreAllowed L.reads (paid + d.reads) → (demand_fault d paid (d.chain ▷ reads_failure L paid d.reads d.at) ▷ rest) ≡ rest
 passed L paid d rest is a = rw is (let ok = (told_allowed L.reads (paid + d.reads)).1 a in rw ok refl)
 
-by_budget : (L : Bounds) (paid : ℕ) (d : Demand) (rest : Option Fault) (x : Bool) → allowed L.reads (paid + d.reads) ≡ x → (demand_fault d paid (check x TooManyReads d.at d.reads None) ▷ rest) ≡ None → AreAllowed L.reads (paid + d.reads) × (rest ≡ None)
+by_budget : (L : Bounds) (paid : ℕ) (d : Demand) (rest : Option Fault) (x : Bool) → allowed L.reads (paid + d.reads) ≡ x → (demand_fault d paid (check x TooManyReads d.at d.reads None) ▷ rest) ≡ None
+    → AreAllowed L.reads (paid + d.reads) × (rest ≡ None)
 by_budget L paid d rest true is h = ((told_allowed L.reads (paid + d.reads)).0 is, h)
 by_budget L paid d rest false is h = absurd (cc)
 
-by_chain : (L : Bounds) (paid : ℕ) (d : Demand) (rest : Option Fault) (chain : Option Failure) → (demand_fault d paid (chain ▷ reads_failure L paid d.reads d.at) ▷ rest) ≡ None → (chain ≡ None) × AreAllowed L.reads (paid + d.reads) × (rest ≡ None)
+by_chain : (L : Bounds) (paid : ℕ) (d : Demand) (rest : Option Fault) (chain : Option Failure) → (demand_fault d paid (chain ▷ reads_failure L paid d.reads d.at) ▷ rest) ≡ None
+    → (chain ≡ None) × AreAllowed L.reads (paid + d.reads) × (rest ≡ None)
 by_chain L paid d rest None h = let r = by_budget L paid d rest (allowed L.reads (paid + d.reads)) refl h in (refl, r.0, r.1)
 by_chain L paid d rest (Some e) h = absurd (cc)
 

@@ -24,7 +24,8 @@ module _ {X Y : Type 0} (f : X → Y) where
     kept xs i d o lt is =
         ap (filter_map h) (one_more xs i d lt) ∙ filter_map-append h (map f (take i xs)) (f (get_or xs i d) ∷ []) ∙ ap (λ o. filter_map h (map f (take i xs)) ++ cons_option o []) is
 
-    pub keeps : (xs : List X) (i : ℕ) (d : X) (old new : List Z) (z : Z) → i < length xs → old ≡ filter_map h (map f (take i xs)) → new ≡ old ++ z ∷ [] → h (f (get_or xs i d)) ≡ Some z → new ≡ filter_map h (map f (take (i + 1) xs))
+    pub keeps : (xs : List X) (i : ℕ) (d : X) (old new : List Z) (z : Z) → i < length xs → old ≡ filter_map h (map f (take i xs))
+        → new ≡ old ++ z ∷ [] → h (f (get_or xs i d)) ≡ Some z → new ≡ filter_map h (map f (take (i + 1) xs))
     keeps xs i d old new z lt same e is = e ∙ ap (λ zs. zs ++ z ∷ []) same ∙ sym (kept xs i d (Some z) lt is)
 
     pub leaves_out : (xs : List X) (i : ℕ) (d : X) (old : List Z) → i < length xs → old ≡ filter_map h (map f (take i xs)) → h (f (get_or xs i d)) ≡ None → old ≡ filter_map h (map f (take (i + 1) xs))

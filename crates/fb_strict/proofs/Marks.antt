@@ -63,7 +63,8 @@ module _ (S : Rows) (asks : ℕ → Bool) where
     more_or false true x y first later h = refl
     more_or false false x y first later h = later h
 
-    more_among : (less : ℕ → Bool) → ((k : ℕ) → less k ≡ true → asks k ≡ true) → (fs : List Live) → list_any (λ (f : Live). is_kind_asked less f.kind) fs ≡ true → list_any (λ (f : Live). is_kind_asked asks f.kind) fs ≡ true
+    more_among : (less : ℕ → Bool) → ((k : ℕ) → less k ≡ true → asks k ≡ true) → (fs : List Live) → list_any (λ (f : Live). is_kind_asked less f.kind) fs ≡ true
+        → list_any (λ (f : Live). is_kind_asked asks f.kind) fs ≡ true
     more_among less up [] h = h
     more_among less up (f ∷ fs) h = more_or _ _ _ _ (more_kind less up f.kind) (more_among less up fs) h
 

@@ -12,8 +12,8 @@ use std::alloc::{AllocError, Allocator, Global};
 use std::marker::Model;
 
 /// What a pass asks of the tables of a schema: for each object its tasks, none where no union is reached from a table
-/// of it. It takes 25 bytes an object and 12 a task, and is made in rounds over the fields, as many as tables stand in a
-/// row that lead to one another before a union is reached, at most.
+/// of it. It takes 25 bytes an object and 12 a task. It is made in rounds over all fields, at most one more than there
+/// are objects that are asked.
 #[derive(Drop)]
 pub struct Plan<A: Allocator = Global> {
     marks: Vec<bool, A>,

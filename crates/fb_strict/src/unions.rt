@@ -99,7 +99,8 @@ pub fn test_union(
     requires few { reads.old.count < reads.old.base + 2 ^ 60 }
     requires near { places.value < 2 ^ 34 }
     requires typed { places.types ≢ table → places.types + 1 ≤ length reads.old.bytes }
-    ensures tested { IsTested reads.old reads.new at.new (union_failure checks reads.old.bytes schema.now union table (place_from table places.types) (place_from table places.value)) (union_reads reads.old.bytes schema.now union (place_from table places.types) (place_from table places.value)) result }
+    ensures tested { IsTested reads.old reads.new at.new (union_failure checks reads.old.bytes schema.now union table (place_from table places.types) (place_from table places.value))
+        (union_reads reads.old.bytes schema.now union (place_from table places.types) (place_from table places.value)) result }
     ensures member { result ≡ None → member.new ≡ member_at reads.old.bytes schema.now union (place_from table places.types) (place_from table places.value) }
     ensures place { result ≡ None → IsSome member.new → at.new ≡ places.value }
 {

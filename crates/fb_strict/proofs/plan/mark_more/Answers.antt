@@ -9,8 +9,10 @@ loop-object-preserved c =
     let S = c.args.schema.now in
     let within : c.loop-object.object < length c.loop-object.marks = omega (arith, c.loop-object-test.true, c.object_count-object-end.ensures, c.requires.long, c.loop-object.auto.marks) in
     elim c.if-is_left_out.branch [
-      | then-is_left_out w ↦ rw (w.marks-is, w.more-is) (round_marks S c.args.marks.now c.loop-object.marks c.loop-object.more c.loop-object.object c.loop-object.invariant within (sym c.is_left_out.ensures ∙ w.if-is_left_out.true))
-      | else-is_left_out w ↦ rw (w.marks-is, w.more-is) (round_passes S c.args.marks.now c.loop-object.marks c.loop-object.more c.loop-object.object c.loop-object.invariant (sym c.is_left_out.ensures ∙ w.if-is_left_out.false))
+      | then-is_left_out w ↦ rw (w.marks-is, w.more-is) (round_marks S c.args.marks.now c.loop-object.marks c.loop-object.more
+          c.loop-object.object c.loop-object.invariant within (sym c.is_left_out.ensures ∙ w.if-is_left_out.true))
+      | else-is_left_out w ↦ rw (w.marks-is, w.more-is) (round_passes S c.args.marks.now c.loop-object.marks c.loop-object.more
+          c.loop-object.object c.loop-object.invariant (sym c.is_left_out.ensures ∙ w.if-is_left_out.false))
     ]
 
 -- src/plan.rt

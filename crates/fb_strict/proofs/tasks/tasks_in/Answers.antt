@@ -14,6 +14,8 @@ loop-field-preserved g c =
     let i = c.loop-field.field-index in
     let x = live_of_view (get_or fields i blank_view) in
     elim c.match-ask_of.branch [
-      | in-Some+in_ok-push w ↦ keeps live_of_view h fields i blank_view c.loop-field.tasks.items _ _ c.loop-field-test.true c.loop-field.invariant (ap (λ v. v.items) w.tasks-is ∙ w.in_ok-push.ensures.items) (ap (option_map (task_with x)) (sym c.ask_of.ensures ∙ w.in-Some.is))
-      | in_default w ↦ ap (λ v. v.items) w.tasks-is ∙ leaves_out live_of_view h fields i blank_view c.loop-field.tasks.items c.loop-field-test.true c.loop-field.invariant (ap (option_map (task_with x)) (sym c.ask_of.ensures ∙ w.in_default.is))
+      | in-Some+in_ok-push w ↦ keeps live_of_view h fields i blank_view c.loop-field.tasks.items _ _ c.loop-field-test.true c.loop-field.invariant
+          (ap (λ v. v.items) w.tasks-is ∙ w.in_ok-push.ensures.items) (ap (option_map (task_with x)) (sym c.ask_of.ensures ∙ w.in-Some.is))
+      | in_default w ↦ ap (λ v. v.items) w.tasks-is ∙ leaves_out live_of_view h fields i blank_view c.loop-field.tasks.items
+          c.loop-field-test.true c.loop-field.invariant (ap (option_map (task_with x)) (sym c.ask_of.ensures ∙ w.in_default.is))
     ]
