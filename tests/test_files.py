@@ -11,6 +11,7 @@ from tests.support import schemas
 from tests.support.buffers import NOTHING, ODD, ORC, SEVEN
 from tests.support.builder import spelled
 from tests.support.cases import Case
+from tests.support.preloaded import narrowed
 from tests.support.program import (
     FOLDER, FULL, NOT_UTF_8, NO_BYTES, PROGRAM, SECONDS, SHIFTED, Ran, Talk, failed, file_of, lines, overlong, refused,
     rootless, run, run_in_shell, run_starved, schemaless,
@@ -201,6 +202,17 @@ class Files(Case):
             self.same("its lines come at once", talk.hear(), lines("-: 1 ok tables=1 depth=1 reads=5"))
             self.same("the rest behind its end", talk.end(), Ran(1, lines(
                 f"{BAD}: 1 bad V2 OutOfBuffer at=4 object=0 field=- reads=1"), b""))
+
+    def test_each_file_is_opened_once(self):
+        """The schema file first, and each that is named when its turn comes; standard input isn't opened at all."""
+        names = [GOOD, BAD, MISSING, "-", CUT, GOOD, FOLDER, "-", LONG]
+        report = file_of("opens", b"")
+        for words in [BY_N, (*BY_N, "--quiet"), (*BY_N, "--filter"), (*BY_N, "--bare")]:
+            narrowed(*words, *names, given=SEVEN, opened=report)
+            self.same(words[2:], report.read_text().splitlines(),
+                      [str(name) for name in [BY_N[1], *names] if name != "-"])
+        narrowed(*BY_N, given=SEVEN, opened=report)
+        self.same("none is named", report.read_text(), f"{BY_N[1]}\n")
 
     def test_files_of_misaligned_messages(self):
         odd, both = file_of("odd.bin", ODD + ODD), file_of("both.bin", ODD + NOTHING)

@@ -63,6 +63,7 @@ MESSAGES = messages_of(POST)
 # Messages that grow, so that more room is asked for between two lines.
 GROWING = b"".join(sorted(MESSAGES, key=len))
 BARE = MESSAGES[0][4:]
+NAMED = [file_of("post.bin", POST), file_of("growing.bin", GROWING)]
 LOADED = ["--schema", str(SCHEMA)]
 PATH = ["--path", "items[0]@Parcel.tags[1]"]
 MANY_WORDS = [
@@ -80,6 +81,10 @@ RUNS = [
     Plan("the same bare input, by 100 bytes", [*LOADED, *PATH, "--bare", "--no-alignment"], BARE, 0, most=100),
     Plan("many words, over a stream", [*LOADED, *MANY_WORDS], POST, 1),
     Plan("no schema, over a schema file", ["--bare"], SCHEMA.read_bytes(), 0),
+    # Want of memory ends it all: no file behind is begun, and none is named beside it.
+    Plan("two files, one behind another", [*LOADED, *PATH, *NAMED], b"", 1),
+    Plan("two bare files", [*LOADED, "--bare", "--no-alignment", *[file_of("bare.bin", BARE)] * 2], b"", 0),
+    Plan("standard input behind a file", [*LOADED, *PATH, NAMED[0], "-"], POST, 1),
 ]
 
 # Words that are answered before any input is read. Where memory is refused nothing is written to standard output: help

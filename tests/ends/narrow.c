@@ -10,6 +10,7 @@
    NARROW_FULL     1: such a write doesn't fail, but takes nothing
    NARROW_OPENS    the number of the open that fails, from 1 on; later ones don't
    NARROW_CAUSE    the error number of what fails, else EIO
+   NARROW_OPENED   the file to which the name of each file that is opened goes, a line for each
    NARROW_REPORT   the file to which the number of reads goes at the end
 
    What is left of a call goes on to the next library, or to the C library. */
@@ -26,7 +27,7 @@
 static ssize_t (*read_on)(int, void *, size_t);
 static ssize_t (*write_on)(int, const void *, size_t);
 static unsigned long most_read, fails, reads, most_written, stops, writes, room, bars, opens;
-static int full, cause;
+static int full, cause, names = -1;
 
 static unsigned long number_in(const char *name, unsigned long otherwise) {
     const char *text = getenv(name);
@@ -61,6 +62,11 @@ __attribute__((destructor)) static void end(void) {
     if (report >= 0) dprintf(report, "%lu\n", reads);
 }
 
+__attribute__((constructor)) static void begin_names(void) {
+    const char *path = getenv("NARROW_OPENED");
+    if (path) names = open_next()(path, O_WRONLY | O_CREAT | O_TRUNC | O_CLOEXEC, 0600);
+}
+
 static int refused(void) {
     errno = cause;
     return -1;
@@ -81,6 +87,7 @@ ssize_t write(int to, const void *bytes, size_t count) {
 }
 
 int open(const char *path, int how, ...) {
+    if (names >= 0) dprintf(names, "%s\n", path);
     if (++opens == bars) return refused();
     va_list more;
     va_start(more, how);
