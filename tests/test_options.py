@@ -386,7 +386,15 @@ class Options(Case):
              refused("ident must be four bytes")),
             ("a length before a bare buffer", ["--bare", "--delimited"], b"",
              refused("bare and delimited exclude each other")),
+            *[(f"a path twice in JSON, {name}", ["--json", *(word for path in given for word in ("--path", path))], b"",
+               refused("json takes no path twice"))
+              for name, given in [("alone", "aa"), ("first and last", "abca"), ("the last two", "abcc")]],
+            ("17 paths, one of them twice in JSON", ["--json", *paths[:32], *paths[:2]], b"", refused("more than 16 paths")),
+            ("a path twice in JSON, a bare buffer, its length", ["--json", *paths[:2] * 2, "--bare", "--delimited"], b"",
+             refused("bare and delimited exclude each other")),
         ])
+        by_n = "--schema", FILES["N"], "--path", "v", "--path", "v"
+        self.same("a path twice in plain lines", run(*by_n, given=SEVEN), good("1 ok tables=1 depth=1 reads=5 7 7"))
 
     def test_help_is_given(self):
         for words in [["--help"], ["-h"], ["--bare", "--help"], ["--help", "--nothing"]]:

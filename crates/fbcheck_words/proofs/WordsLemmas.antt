@@ -12,7 +12,7 @@ use Rattle.std.proofs.lemmas.Bool.{ltb-false}
 use Rattle.fbcheck_words.specs.Ranges.{AreInRange}
 use Rattle.fbcheck_words.specs.Values.{IsGiven, IsNumberIn, IsNumberOf, text_of, texts_of}
 use Rattle.fbcheck_words.specs.declared.{choices.Settings.Settings, choices.SettingsFault.SettingsFault}
-use Rattle.fbcheck_words.specs.declared.choices.SettingsFault.TheVariants.{PathInFilter, TwoIdents, TooManyPaths, BareDelimited}
+use Rattle.fbcheck_words.specs.declared.choices.SettingsFault.TheVariants.{PathInFilter, TwoIdents, TooManyPaths, BareDelimited, PathTwiceInJson}
 
 simple : (is_simple program ≡ true) × (is_simple_and_free program ≡ true)
 unfolding clap_on_literals
@@ -64,36 +64,37 @@ reads_by_words words m (Some n) read told = number_by_words words m (codes "max-
 reads_by_words words m None read told = absurd told
 
 -- the rule that settings break, by whether they break each
-abbrev broken : Bool → Bool → Bool → Bool → Option SettingsFault
-broken a b c d = if a then Some PathInFilter else if b then Some TwoIdents else if c then Some TooManyPaths else if d then Some BareDelimited else None
+abbrev broken : Bool → Bool → Bool → Bool → Bool → Option SettingsFault
+broken a b c d e = if a then Some PathInFilter else if b then Some TwoIdents else if c then Some TooManyPaths else if d then Some BareDelimited else if e then Some PathTwiceInJson else None
 
--- what holds of each of these four holds of the one that is broken
-any_broken : (P : SettingsFault → Type 0) (a b c d : Bool) (fault : SettingsFault) → broken a b c d ≡ Some fault
-    → P PathInFilter → P TwoIdents → P TooManyPaths → P BareDelimited → P fault
-any_broken P true b c d fault is first second third fourth = let e : PathInFilter ≡ fault = cc in subst P e first
-any_broken P false true c d fault is first second third fourth = let e : TwoIdents ≡ fault = cc in subst P e second
-any_broken P false false true d fault is first second third fourth = let e : TooManyPaths ≡ fault = cc in subst P e third
-any_broken P false false false true fault is first second third fourth = let e : BareDelimited ≡ fault = cc in subst P e fourth
-any_broken P false false false false fault is first second third fourth = cc
+-- what holds of each of these five holds of the one that is broken
+any_broken : (P : SettingsFault → Type 0) (a b c d e : Bool) (fault : SettingsFault) → broken a b c d e ≡ Some fault
+    → P PathInFilter → P TwoIdents → P TooManyPaths → P BareDelimited → P PathTwiceInJson → P fault
+any_broken P true b c d e fault is first second third fourth fifth = let same : PathInFilter ≡ fault = cc in subst P same first
+any_broken P false true c d e fault is first second third fourth fifth = let same : TwoIdents ≡ fault = cc in subst P same second
+any_broken P false false true d e fault is first second third fourth fifth = let same : TooManyPaths ≡ fault = cc in subst P same third
+any_broken P false false false true e fault is first second third fourth fifth = let same : BareDelimited ≡ fault = cc in subst P same fourth
+any_broken P false false false false true fault is first second third fourth fifth = let same : PathTwiceInJson ≡ fault = cc in subst P same fifth
+any_broken P false false false false false fault is first second third fourth fifth = cc
 
 -- what is refused of settings that words say
 pub contradicted : (words : List Text) (settings : Settings) (fault : SettingsFault) → Say words settings → contradiction settings ≡ Some fault → Refuses words fault
 contradicted words settings fault said is =
-    any_broken (λ f. contradiction settings ≡ Some f → Refuses words f) _ _ _ _ fault is
-    (λ e. (settings, said, e)) (λ e. (settings, said, e)) (λ e. (settings, said, e)) (λ e. (settings, said, e)) is
+    any_broken (λ f. contradiction settings ≡ Some f → Refuses words f) _ _ _ _ _ fault is
+    (λ e. (settings, said, e)) (λ e. (settings, said, e)) (λ e. (settings, said, e)) (λ e. (settings, said, e)) (λ e. (settings, said, e)) is
 
 -- those that agree have no more paths than may be
-few_paths : (a b c d : Bool) → broken a b c d ≡ None → c ≡ false
-few_paths a b false d none = refl
-few_paths true b true d none = cc
-few_paths false true true d none = cc
-few_paths false false true d none = cc
+few_paths : (a b c d e : Bool) → broken a b c d e ≡ None → c ≡ false
+few_paths a b false d e none = refl
+few_paths true b true d e none = cc
+few_paths false true true d e none = cc
+few_paths false false true d e none = cc
 
 pub in_range : (words : List Text) (settings : Settings) → Say words settings → contradiction settings ≡ None → AreInRange settings
 in_range words settings said agree = record {
   least = said.bytes.1;
   most = omega (arith, said.bytes.2);
-  few = ltb-false 16 (length settings.paths.items) (few_paths _ _ _ _ agree);
+  few = ltb-false 16 (length settings.paths.items) (few_paths _ _ _ _ _ agree);
 }
 
 -- a flag that is turned round

@@ -1,10 +1,11 @@
 -- What words ask for.
-use Rattle.std.specs.Prelude.{◌≡◌, ◌↔◌, ◌&&◌, false, IsTrue, IfSome, IsSomeAnd, List, [], Option, Some, None, codes, if◌then◌else◌, is_some, length, map, nat_lt, option_map, string_bytes}
+use Rattle.std.specs.Prelude.{◌≡◌, ◌↔◌, ◌&&◌, ◌||◌, ℕ, Bool, false, true, IsTrue, IfSome, IsSomeAnd, List, [], ◌∷◌, Option, Some, None, codes, if◌then◌else◌, is_some, length, map, nat_lt, option_map, string_bytes}
+use Rattle.std.specs.{List.list_any, Str.bytes_eq}
 use Rattle.clap.specs.{Walk.Text, Faults.fault_of}
 use Rattle.fbcheck_words.specs.CommandLine.{program}
 use Rattle.fbcheck_words.specs.Values.{IsGiven, IsNumberOf, text_of, texts_of}
-use Rattle.fbcheck_words.specs.declared.{choices.Form.TheVariants.Json, choices.Settings.Settings, choices.SettingsFault.SettingsFault}
-use Rattle.fbcheck_words.specs.declared.choices.SettingsFault.TheVariants.{PathInFilter, TwoIdents, TooManyPaths, BareDelimited}
+use Rattle.fbcheck_words.specs.declared.{choices.Form.Form, choices.Form.TheVariants.Plain, choices.Form.TheVariants.Json, choices.Settings.Settings, choices.SettingsFault.SettingsFault}
+use Rattle.fbcheck_words.specs.declared.choices.SettingsFault.TheVariants.{PathInFilter, TwoIdents, TooManyPaths, BareDelimited, PathTwiceInJson}
 
 -- the words say these settings
 pub record Say (given : List Text) (settings : Settings) : Type 0 where
@@ -32,6 +33,19 @@ pub record Say (given : List Text) (settings : Settings) : Type 0 where
   pub with_filename : IsTrue settings.with_filename ↔ IsGiven (codes "with-filename") given
   pub files : map string_bytes settings.files.items ≡ texts_of (codes "files") given
 
+-- whether lines are asked for as JSON
+abbrev pub is_json : Form → Bool
+is_json Plain = false
+is_json Json = true
+
+-- whether a text stands among these; and whether one of them stands there twice
+abbrev pub is_among : List (List ℕ) → List ℕ → Bool
+is_among texts text = list_any (bytes_eq text) texts
+
+abbrev pub has_twice : List (List ℕ) → Bool
+has_twice [] = false
+has_twice (text ∷ texts) = is_among texts text || has_twice texts
+
 -- what is refused of settings that don't agree with one another, the first of these
 abbrev pub contradiction : Settings → Option SettingsFault
 contradiction settings =
@@ -39,6 +53,7 @@ contradiction settings =
     else if settings.schema_ident && is_some settings.ident then Some TwoIdents
     else if nat_lt 16 (length settings.paths.items) then Some TooManyPaths
     else if settings.bare && settings.delimited then Some BareDelimited
+    else if is_json settings.form && has_twice (map string_bytes settings.paths.items) then Some PathTwiceInJson
     else None
 
 -- the words give these settings, which agree

@@ -1,12 +1,13 @@
 //! What the command line may ask for.
 
 ghost use Rattle.std.specs.Prelude.{◌≡◌, ◌≤◌, length};
+ghost use Rattle.fbcheck_words.specs.Given.{is_json};
 ghost use Rattle.fbcheck_words.specs.Refusal.{refusal_status, refusal_text};
 ghost use Rattle.fbcheck_words.specs.declared.choices.SettingsFault.TheVariants.{OutOfMemory};
 
-use clap::Error;
 use fb_verify::{Checks, Limits};
 use std::alloc::AllocError;
+use thiserror::Error;
 
 /// How many paths may be asked for.
 pub const MOST_PATHS: usize = 16;
@@ -18,6 +19,15 @@ pub enum Form {
     Plain,
     /// By a JSON object.
     Json,
+}
+
+impl Form {
+    /// Whether it is that of JSON.
+    pub(crate) fn is_json(self) -> bool
+        ensures { result ≡ is_json self }
+    {
+        matches!(self, Form::Json)
+    }
 }
 
 /// What the words of the command line ask for.
@@ -66,10 +76,12 @@ pub struct Settings {
 }
 
 /// Why words give no settings.
-#[derive(Drop)]
+#[derive(Debug, Drop, Error)]
+#[error("{text}", text = self.text())]
 pub enum SettingsFault {
     /// `clap` refuses the words, or they ask for its help.
-    Usage(Error),
+    #[error(transparent)]
+    Usage(clap::Error),
     /// The words are read, and the text of `--ident` isn't four bytes long.
     BadIdent,
     /// The words are read, and ask for a filter together with a path.
@@ -80,6 +92,8 @@ pub enum SettingsFault {
     TooManyPaths,
     /// The words are read, and ask for a bare buffer and for messages behind their lengths.
     BareDelimited,
+    /// The words are read, and ask for lines of JSON, which name each value by its path, with one path twice.
+    PathTwiceInJson,
     /// No memory was to be had.
     OutOfMemory,
 }
@@ -97,7 +111,8 @@ impl SettingsFault {
             | SettingsFault::PathInFilter
             | SettingsFault::TwoIdents
             | SettingsFault::TooManyPaths
-            | SettingsFault::BareDelimited => 2,
+            | SettingsFault::BareDelimited
+            | SettingsFault::PathTwiceInJson => 2,
             SettingsFault::OutOfMemory => 3,
         }
     }
@@ -114,6 +129,7 @@ impl SettingsFault {
             SettingsFault::TwoIdents => "ident and schema-ident exclude each other",
             SettingsFault::TooManyPaths => "more than 16 paths",
             SettingsFault::BareDelimited => "bare and delimited exclude each other",
+            SettingsFault::PathTwiceInJson => "json takes no path twice",
             SettingsFault::OutOfMemory => "out of memory",
         }
     }

@@ -1,6 +1,6 @@
 ghost use Rattle.std.specs.Prelude.{IfOk, IfErr, IfSome, IsSomeAnd, OnErr, ℕ, ◌≢◌, length, option_map, IsTrue, ◌≡◌, ◌↔◌, List, map, string_bytes, Some, codes};
 ghost use Rattle.clap.specs.Words.{Text, first_value, found_of, one_text};
-ghost use Rattle.fbcheck_words.specs.{Ranges.AreInRange, Given.AreGiven, Given.Say, Given.contradiction};
+ghost use Rattle.fbcheck_words.specs.{Ranges.AreInRange, Given.AreGiven, Given.Say, Given.contradiction, Given.has_twice, Given.is_among};
 ghost use Rattle.fbcheck_words.specs.{Values.HoldsNumber, Values.HoldsWideNumber, Values.IsNumberIn, Refusal.Refuses};
 ghost use Rattle.fbcheck_words.specs.Matched.{IsReadOf, all_values};
 ghost use Rattle.fbcheck_words.specs.declared.choices.Form.TheVariants.{Json};
@@ -18,8 +18,9 @@ use std::alloc::{AllocError, Global};
 ///
 /// `Usage` where `clap` refuses them, help included, and `BadIdent` where it reads them and the identifier isn't four
 /// bytes long. Then, where they say what doesn't agree, `PathInFilter` for a filter with a path, then `TwoIdents` for
-/// an identifier beside the schema's own, then `TooManyPaths` for more than 16, and then `BareDelimited` for a bare
-/// buffer behind its length. `OutOfMemory` for want of memory.
+/// an identifier beside the schema's own, then `TooManyPaths` for more than 16, then `BareDelimited` for a bare buffer
+/// behind its length, and then `PathTwiceInJson` for a path that lines of JSON would name twice. `OutOfMemory` for want
+/// of memory.
 pub fn settings(alloc: Global, words: &[String]) -> Result<Settings, SettingsFault>
     ensures given { IfOk result (AreGiven (map string_bytes words.now)) }
     ensures ranges { IfOk result AreInRange }
@@ -83,9 +84,39 @@ fn contradiction(settings: &Settings) -> Option<SettingsFault>
         Some(SettingsFault::TooManyPaths)
     } else if settings.bare && settings.delimited {
         Some(SettingsFault::BareDelimited)
+    } else if settings.form.is_json() && has_twice(settings.paths.as_slice()) {
+        Some(SettingsFault::PathTwiceInJson)
     } else {
         None
     }
+}
+
+/// Whether one of these texts stands there twice.
+fn has_twice(texts: &[String]) -> bool
+    ensures { result ≡ has_twice (map string_bytes texts.now) }
+{
+    let mut rest = texts;
+    while let Some((text, others)) = rest.split_first() {
+        if is_among(others, text.as_str()) {
+            return true;
+        }
+        rest = others;
+    }
+    false
+}
+
+/// Whether a text stands among these.
+fn is_among(texts: &[String], text: &str) -> bool
+    ensures { result ≡ is_among (map string_bytes texts.now) text.now }
+{
+    let mut rest = texts;
+    while let Some((first, others)) = rest.split_first() {
+        if text == first.as_str() {
+            return true;
+        }
+        rest = others;
+    }
+    false
 }
 
 /// What `clap` reads of the words.
