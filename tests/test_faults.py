@@ -75,6 +75,9 @@ class Faults(Case):
         ]:
             self.same(f"a word that isn't UTF-8, {name}", run(*words, given=SEVEN),
                       refused(f"a word is not UTF-8: number {number}, {told}; {NOT_UTF_8}"))
+        own = subprocess.run([b"\xff"], executable=PROGRAM, input=SEVEN, capture_output=True, timeout=SECONDS)
+        self.same("the program's own name", Ran(own.returncode, own.stdout, own.stderr),
+                  refused(rf"the program's own name is not UTF-8, \xff; {NOT_UTF_8}"))
         named = file_of("größe-表.bfbs", schemas.M)
         self.same("words that are UTF-8", run("--schema", named, "--bare", given=ORC),
                   good("1 ok tables=1 depth=1 reads=8"))

@@ -9,7 +9,7 @@
 
 ghost use Rattle.std.specs.Prelude.{⊤};
 
-use fb_bytes::Counted;
+use fb_bytes::{Counted, Sink};
 use fbcheck_serve::serve::serve;
 use fbcheck_serve::{Explained, FileFault, Files, WordsFault, WrongWord};
 use std::alloc::AllocError;
@@ -71,7 +71,7 @@ struct Disk<'a> {
     rt: &'a HostRuntime,
 }
 
-impl Files for Disk<'_> {
+impl<K: Sink, N: Sink> Files<K, N> for Disk<'_> {
     type Opened = Explained<File>;
 
     ghost gives = { λ _ _ _. ⊤ };

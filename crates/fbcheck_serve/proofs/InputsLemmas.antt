@@ -81,6 +81,10 @@ next_text names i item text within is same = rw (add-one, drop-cons names i item
 pub no_more : (n more : ℕ) → n ≤ n + more
 no_more n more = omega arith
 
+-- from none on
+pub opened_turns : (from to : ℕ) → from ≡ 0 → to ≤ from + 4294967296 → to ≤ 4294967296
+opened_turns from to none le = subst (λ n. to ≤ n + 4294967296) none le
+
 pub unread_spent : (s : Standard) → s ≡ Unread → s ≡ Spent → ⊥
 unread_spent s unread spent = let both : Unread ≡ Spent = sym unread ∙ spent in cc
 

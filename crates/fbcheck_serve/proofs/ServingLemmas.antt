@@ -7,13 +7,13 @@ use Rattle.std.proofs.{KnownBytes.Keeps-refl, Math.Seq.take-length}
 use Rattle.std.proofs.lemmas.{Bool.eq-eqb, Bool.eqb-true, List.length-map, List.nil_from_length}
 use Rattle.clap.specs.{Faults.fault_of, Walk.Text}
 use Rattle.fbcheck_words.specs.{CommandLine.program, Given.AreGiven, Refusal.Refuses, Values.text_of}
-use Rattle.fbcheck_serve.specs.Checking.{IsPromptAmongAsked, IsPromptAsAsked, IsPromptOverAsked, IsCheckedBeside, IsServedEach, names_in}
+use Rattle.fbcheck_serve.specs.Checking.{IsPromptAmongAsked, IsPromptAsAsked, IsPromptOverAsked, IsCheckedBeside, IsServedEach, MayReadAsked, names_in}
 use Rattle.fbcheck_texts.specs.{Faults.IsFile, Faults.HasFileFault, Hints.file_hint, Hints.words_hint}
 use Rattle.fbcheck_texts.specs.declared.{fault.FileFault.FileFault, fault.WordsFault.WordsFault, framing.By.By, framing.Manner.Manner, hint.Unasked.Unasked}
 use Rattle.fbcheck_serve.specs.Inputs.{Folder, IsPromptAmong, IsPromptOver, Seen, with_cause}
 use Rattle.fb_lines.specs.{Job.Job, Faults.End, Faults.EndsBeside, JsonSums.summary_in}
 use Rattle.fb_lines.specs.Ends.{Ends, Reader, Writer, beside}
-use Rattle.fbcheck_serve.specs.Serving.{ChecksAsAsked, ComesAsAsked, ComesBy, ComesTo, EndsFiles, EndsRun, EndsSo, HoldsAsGiven, IsFileFault, IsPromptAsGiven, IsCrowded, PassesAsAsked, Rests, SumsUp, Unserved}
+use Rattle.fbcheck_serve.specs.Serving.{ChecksAsAsked, ComesAsAsked, ComesBy, ComesTo, EndsFiles, EndsRun, EndsSo, HoldsAsGiven, IsFileFault, IsPromptAsGiven, MayReadAsGiven, IsCrowded, PassesAsAsked, Rests, SumsUp, Unserved}
 use Rattle.fbcheck_serve.specs.Serving.{files_ending, hinted_stop, lent_bytes, run_ending, summed, words_of}
 use Rattle.fbcheck_serve.proofs.AskedLemmas.{idle}
 use Rattle.fbcheck_serve.specs.declared.inputs.Passed as inputs
@@ -109,6 +109,16 @@ module _ (folder : Folder) where
   prompt_read {A} {B} given words slice before now is same prompt =
       subst (λ (g : Result (Vec (String A) B) WordsFault). IsPromptAsGiven folder (words_of g) before now) (sym is)
       (subst (λ (l : List (String A)). IsPromptAsGiven folder (Ok (map string_bytes l)) before now) same prompt)
+
+  -- the files of the settings may be read as those of the words that give them
+  pub may_read : {A B : Type 0} (given : Result (Vec (String A) B) WordsFault) (words : Vec (String A) B) (slice : List (String A)) (before : Ends) (settings : Settings) (file : Option (Bor (List ℕ)))
+      (bytes : Option (List ℕ)) → given ≡ Ok words → slice ≡ vec_items words → MayReadAsGiven folder (words_of given) before → AreGiven (map string_bytes slice) settings → lent_bytes file ≡ bytes
+      → IsFile folder.gives (option_map string_bytes settings.schema) bytes → MayReadAsked folder file settings before
+  may_read {A} {B} given words slice before settings file bytes is same may are lent file_is =
+      let all = subst (λ (g : Result (Vec (String A) B) WordsFault). MayReadAsGiven folder (words_of g) before) is may in
+      let read = subst (λ (b : Option (List ℕ)). IsFile folder.gives (option_map string_bytes settings.schema) b) (sym lent) file_is in
+      subst (λ (l : List (String A)). MayReadAsGiven folder (Ok (map string_bytes l)) before) (sym same) all settings file are
+      (subst (λ (t : Option Text). IsFile folder.gives t (lent_bytes file)) are.said.schema read)
 
 -- whether files are named, by how many there are
 pub none_named : {Z : Type 0} (files slice : List (String Z)) (empty : Bool) → slice ≡ files → empty ≡ (length slice == 0) → empty ≡ true → map string_bytes files ≡ []

@@ -12,7 +12,7 @@ use Rattle.fb_bfbs.specs.declared.load_fault.LoadFault.TheVariants as load
 use Rattle.fb_bfbs.specs.LoadLaws.{ident_bytes}
 use Rattle.fbcheck_serve.specs.Asked.{ArePaths, AsksBy, Own, asked_root, path_texts}
 use Rattle.fbcheck_texts.specs.Hints.{hint_text, path_hint, root_hint, schema_hint}
-use Rattle.fbcheck_serve.specs.Inputs.{Folder, IsPromptAmong, IsPromptOver, Seen, ServesEach, are_several, at_first, label_of, stand}
+use Rattle.fbcheck_serve.specs.Inputs.{Folder, IsPromptAmong, IsPromptOver, MayReadEach, Seen, ServesEach, are_several, at_first, label_of, stand}
 use Rattle.fb_lines.specs.{Ends.Ends, Ends.Unwritten, Job.Job, Wanted.Wanted}
 use Rattle.fb_run.specs.{Prompt.IsPrompt, Run.IsRunBeside}
 use Rattle.fbcheck_words.specs.declared.choices.Settings.{Settings}
@@ -152,3 +152,7 @@ IsPromptAmongAsked folder file settings before now = (job : Job) × Asks file se
 -- and whether or not they are
 abbrev pub IsPromptOverAsked : Folder → Option (Bor (List ℕ)) → Settings → Ends → Ends → Type 0
 IsPromptOverAsked folder file settings before now = (job : Job) × Asks file settings (Ok job) × IsPromptOver folder job (names_in settings) before now
+
+-- the files that are named may be read so
+abbrev pub MayReadAsked : Folder → Option (Bor (List ℕ)) → Settings → Ends → Type 0
+MayReadAsked folder file settings before = (job : Job) → Asks file settings (Ok job) → MayReadEach folder job (names_in settings) before

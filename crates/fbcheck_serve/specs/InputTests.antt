@@ -1,9 +1,10 @@
 -- Files as inputs, by example.
-use Rattle.std.specs.Prelude.{◌≡◌, [], ◌∷◌, Some, None, Ok, Err, codes}
+use Rattle.std.specs.Prelude.{◌≡◌, ℕ, true, false, [], ◌∷◌, Some, None, Ok, Err, codes}
+use Rattle.fb_bytes.specs.declared.stream_fault.StreamFault.{StreamFault}
 use Rattle.fb_lines.specs.Sums.{no_tally}
-use Rattle.fb_lines.specs.declared.fault.RunFault.TheVariants.{ReadFault}
+use Rattle.fb_lines.specs.declared.fault.RunFault.TheVariants.{ReadFault, WriteFault, NoteFault, Stream, TooManyTurns, OutOfMemory, BareTooLong}
 use Rattle.fb_run.specs.declared.run.Ran.{Ran}
-use Rattle.fbcheck_serve.specs.Inputs.{are_named, course_with, fault_line, label_of}
+use Rattle.fbcheck_serve.specs.Inputs.{are_named, course_with, fault_line, is_final, label_of}
 use Rattle.fbcheck_serve.specs.declared.{inputs.Course.Course, inputs.Standard.TheVariants.Unread, inputs.Standard.TheVariants.Spent}
 use Rattle.fbcheck_serve.specs.declared.inputs.Missed.TheVariants.{Again}
 
@@ -29,6 +30,16 @@ pub record Courses : Type 0 where
   pub read_twice : (course_with (codes "-") (Err Again) (course_with (codes "-") (Ok good) none)).status ≡ 3
   pub both : (course_with (codes "b") (Ok good) (course_with (codes "a") (Ok bad) none)).tally ≡ record no_tally { yes = 2; no = 1; bytes = 92 }
   pub spent : (course_with (codes "a") (Ok good) (course_with (codes "-") (Ok bad) none)).standard ≡ Spent
+
+-- what ends it all, whatever files are left: a failed write or note, and want of memory; and what ends one file alone
+pub record Finals : Type 0 where
+  pub written : (written : ℕ) → is_final (WriteFault written) ≡ true
+  pub noted : (written : ℕ) → is_final (NoteFault written) ≡ true
+  pub memory : is_final OutOfMemory ≡ true
+  pub read : is_final ReadFault ≡ false
+  pub stream : (fault : StreamFault) → is_final (Stream fault) ≡ false
+  pub turns : is_final TooManyTurns ≡ false
+  pub long : (limit : ℕ) → is_final (BareTooLong limit) ≡ false
 
 -- lines begin with names where there are several files, or where those of standard input do; those of faults always
 pub record Labels : Type 0 where

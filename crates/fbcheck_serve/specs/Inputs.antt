@@ -1,11 +1,10 @@
 -- Files as inputs, one behind another.
-use Rattle.std.specs.Prelude.{◌≡◌, ℕ, ◌+◌, ◌⊎◌, Bool, true, false, ◌||◌, is_some, min, max, nat_lt, length, List, [], ◌∷◌, ◌++◌, IfSome, Option, Some, None, Result, Ok, Err, bytes_eq, codes}
+use Rattle.std.specs.Prelude.{◌≡◌, ◌≤◌, ℕ, ◌+◌, ◌⊎◌, Bool, true, false, ◌||◌, is_some, min, max, nat_lt, length, List, [], ◌∷◌, ◌++◌, IfSome, Option, Some, None, Result, Ok, Err, bytes_eq, codes}
 use Rattle.std.specs.{List.flat_map, Io.KnownBytes.Appends}
 use Rattle.fb_lines.specs.{AnswerText.byte_text, Faults.End, Faults.EndsBeside, Faults.status_of}
-use Rattle.fb_lines.specs.Ends.{Ends, Reader, Writer, beside, with_notes}
-use Rattle.fb_run.specs.Leave.{ends_of}
+use Rattle.fb_lines.specs.Ends.{Ends, Outs, Reader, Writer, beside, with_notes}
+use Rattle.fb_run.specs.Leave.{IsUnended, MayAsk, ends_of, reader_of}
 use Rattle.fb_bytes.specs.declared.ends.Sink as sink
-use Rattle.fb_bytes.specs.declared.ends.Source as source
 use Rattle.fb_run.specs.declared.input.Input as input
 use Rattle.fb_lines.specs.{Job.Job, Lines.WritesFront, Sums.no_tally}
 use Rattle.fb_run.specs.{Prompt.IsPrompt, Run.IsRunBeside, Run.answer_by}
@@ -70,20 +69,22 @@ abbrev pub with_label : Option (List ℕ) → Job → Job
 with_label label job = record job { label = label }
 
 -- what contracts see of files, by the ghosts of their trait: what a read of the file of a name may answer, what may be
--- opened by a name, and what is told of that as a reader, with why a read of it failed, where one did
+-- opened by a name, what is told of that as a reader, with the leave to ask it, and why a read of it failed, where one did
 pub record Folder : Type 1 where
   pub gives : List ℕ → Result (List ℕ) FileFault → Type 0
   pub Opened : Type 0
   pub opens : List ℕ → Opened → Type 0
   pub reader : Opened → Reader
+  pub may_ask : Ends → Type 0
   pub cause : Opened → Option ErrorKind
 
-abbrev pub folder_of : {F O : Type 0} → files.Ghosts F O → source.Ghosts O → explains.Ghosts O → F → Folder
-folder_of {F} {O} f o e folder = record {
+abbrev pub folder_of : {F K N O : Type 0} → files.Ghosts F K N O → input.Ghosts O K N → explains.Ghosts O → F → Folder
+folder_of {F} {K} {N} {O} f o e folder = record {
   gives = f.gives folder;
   Opened = O;
   opens = f.opens folder;
-  reader = λ (file : O). record { left = o.remaining file; calls = o.calls file; failures = o.failures file; ended = o.ended file };
+  reader = λ (file : O). reader_of o file;
+  may_ask = λ (now : Ends). MayAsk o now;
   cause = λ (file : O). e.cause file;
 }
 
@@ -117,6 +118,7 @@ pub record RunsOpened (folder : Folder) (job : Job) (name : List ℕ) (before af
   pub bytes : IfSome (folder.reader from).left (λ bytes. folder.gives name (Ok bytes))
   pub run : IsRunBeside job (beside (folder.reader from) before.ends.outs) (beside (folder.reader to) after.ends.outs) ran.tally ran.end
   pub end : EndsBeside (beside (folder.reader from) before.ends.outs) (beside (folder.reader to) after.ends.outs) 4294967296 ran.end
+  pub turns : (folder.reader to).calls ≤ 4294967296
   pub cause_is : cause ≡ folder.cause to
   pub reader : after.ends.reader ≡ before.ends.reader
   pub unread : after.cause ≡ before.cause
@@ -266,6 +268,19 @@ pub record HaltsAmong (folder : Folder) (job : Job) (names : List (List ℕ)) (b
 abbrev pub ServesEach : Folder → Job → List (List ℕ) → Stand → Stand → End → Type 0
 ServesEach folder job names before after (Ok done) = PassesAll folder job (are_named job.label names) names before after
 ServesEach folder job names before after (Err fault) = HaltsAmong folder job names before after fault
+
+-- beside these outputs each file that is opened by this name may be asked wherever no read of it failed or told its end
+-- and all that was read of it is told
+abbrev pub MayRead : Folder → Job → List ℕ → Outs → Type 0
+MayRead folder job name outs =
+    (file : folder.Opened) (now : Ends) → folder.opens name file → IsPrompt job (beside (folder.reader file) outs) now → IsUnended (folder.reader file) now.reader → folder.may_ask now
+
+-- so may each of these files that isn't standard input, once those before it were gone through
+abbrev pub MayReadEach : Folder → Job → List (List ℕ) → Ends → Type 0
+MayReadEach folder job names before =
+    (front rest : List (List ℕ)) (name : List ℕ) (cause : Option ErrorKind) (mid : Stand) → names ≡ front ++ (name ∷ rest) → is_standard name ≡ false
+    → PassesAll folder job (are_named job.label names) front (at_first (with_cause before cause)) mid
+    → MayRead folder (with_label (label_of (are_named job.label names) name) job) name mid.seen.ends.outs
 
 -- all that was read by now is told, where standard input is read among these files: of those before it, and then of it
 pub record IsPromptAmong (folder : Folder) (job : Job) (names : List (List ℕ)) (before now : Ends) : Type 0 where

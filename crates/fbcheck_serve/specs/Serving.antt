@@ -3,7 +3,7 @@ use Rattle.std.specs.Prelude.{◌≡◌, ◌≢◌, ℕ, ◌+◌, ◌<◌, ◌�
 use Rattle.std.specs.{Borrow.Bor, Global.Global, Io.KnownBytes.Appends, Io.KnownBytes.Keeps, declared.alloc.AllocError.AllocError, declared.io.ErrorKind.ErrorKind}
 use Rattle.clap.specs.{Walk.Text, Faults.fault_of}
 use Rattle.fbcheck_serve.specs.Asked.{form_of, manner_in}
-use Rattle.fbcheck_serve.specs.Checking.{IsIdle, IsPromptOverAsked, IsUntold, RunsAsAsked, ServesAsAsked, names_in}
+use Rattle.fbcheck_serve.specs.Checking.{IsIdle, IsPromptOverAsked, IsUntold, MayReadAsked, RunsAsAsked, ServesAsAsked, names_in}
 use Rattle.fbcheck_texts.specs.{Hints.file_hint, Hints.hint_text, Hints.words_hint, Faults.HasFileFault, Faults.IsFile, Faults.ask_status}
 use Rattle.fbcheck_texts.specs.Texts.{ask_text, file_text, run_text, unsummed_text, words_text}
 use Rattle.fbcheck_texts.specs.Framing.{by_hint, by_of, end_hint, run_hint}
@@ -100,6 +100,13 @@ hinted_stop unread (Err none) = stop.Settings refusal.OutOfMemory
 abbrev pub IsPromptAsGiven : Folder → Result (List Text) WordsFault → Ends → Ends → Type 0
 IsPromptAsGiven folder (Ok given) before now = HoldsAsGiven folder given (λ file settings. IsPromptOverAsked folder file settings before now)
 IsPromptAsGiven folder (Err fault) before now = ⊥
+
+-- the files that the words name may be read so
+abbrev pub MayReadAsGiven : Folder → Result (List Text) WordsFault → Ends → Type 0
+MayReadAsGiven folder (Err fault) before = Unit {0}
+MayReadAsGiven folder (Ok given) before =
+    (settings : Settings) (file : Option (Bor (List ℕ))) → AreGiven given settings → IsFile folder.gives (text_of (codes "schema") given) (lent_bytes file)
+    → MayReadAsked folder file settings before
 
 -- an error of `clap`
 abbrev pub IsUsage : SettingsFault → Type 0

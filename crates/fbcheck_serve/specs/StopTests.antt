@@ -15,6 +15,7 @@ use Rattle.fbcheck_serve.specs.declared.stop.Stop.TheVariants as stop
 -- why it comes to rest
 pub record StopTexts : Type 0 where
   pub word : (bytes : Vec ℕ Global) → words_text (words.NotText (record { number = 2; bytes = bytes })) ≡ codes "a word is not UTF-8: number 2"
+  pub own_name : (bytes : Vec ℕ Global) → words_text (words.NotText (record { number = 0; bytes = bytes })) ≡ codes "the program's own name is not UTF-8"
   pub word_hint : word_hint (codes "--a\"") ≡ codes ", --a\\\"; nothing was checked: words must be UTF-8, and a file of any name can be standard input\n"
   pub words_memory : words_text words.OutOfMemory ≡ codes "out of memory"
   pub unreadable : file_text (file.Unreadable kind.NotFound) ≡ codes "cannot read schema"
@@ -24,6 +25,7 @@ pub record StopTexts : Type 0 where
   pub idents : stop_text (of_read None) (stop.Settings refusal.TwoIdents) ≡ codes "ident and schema-ident exclude each other"
   pub paths : stop_text (of_read None) (stop.Settings refusal.TooManyPaths) ≡ codes "more than 16 paths"
   pub bare : stop_text (of_read None) (stop.Settings refusal.BareDelimited) ≡ codes "bare and delimited exclude each other"
+  pub twice : stop_text (of_read None) (stop.Settings refusal.PathTwiceInJson) ≡ codes "json takes no path twice"
   pub memory : stop_text (of_read None) (stop.Settings refusal.OutOfMemory) ≡ codes "out of memory"
   pub help : stop_text (of_read None) (stop.CutOff 7) ≡ codes "write failed after 7 bytes"
   pub help_pipe : stop_text (record { read = None; write = Some kind.BrokenPipe }) (stop.CutOff 7) ≡ codes "write failed after 7 bytes: broken pipe"

@@ -2,7 +2,7 @@
 
 ghost use Rattle.std.specs.Prelude.{Err, IfErr, IfOk, OnErr, length, ◌≡◌, ◌⊎◌, ◌+◌, ◌<◌, ◌≤◌, ◌^◌};
 ghost use Rattle.fbcheck_words.specs.Ranges.{AreInRange};
-ghost use Rattle.fbcheck_serve.specs.Checking.{EndsChecked, IsChecked, IsCheckedBeside, IsPromptAmongAsked, IsPromptAsAsked, IsServedEach, IsUnasked};
+ghost use Rattle.fbcheck_serve.specs.Checking.{EndsChecked, IsChecked, IsCheckedBeside, IsPromptAmongAsked, IsPromptAsAsked, IsServedEach, IsUnasked, MayReadAsked};
 ghost use Rattle.fbcheck_serve.specs.Inputs.{folder_of, seen_of};
 ghost use Rattle.fb_lines.specs.Faults.{EndsBeside};
 ghost use Rattle.fb_lines.specs.declared.fault.RunFault.TheVariants.{TooManyTurns};
@@ -68,7 +68,7 @@ pub fn check_beside<S: Input<K, N>, K: Sink, N: Sink>(
 }
 
 /// The same of the files that the settings name, one behind another, as [`pass_files`] says.
-pub fn check_files<F: Files, S: Input<K, N> + Explains, K: Sink, N: Sink>(
+pub fn check_files<F: Files<K, N>, S: Input<K, N> + Explains, K: Sink, N: Sink>(
     alloc: Global,
     files: &F,
     schema_bytes: Option<&[u8]>,
@@ -79,9 +79,10 @@ pub fn check_files<F: Files, S: Input<K, N> + Explains, K: Sink, N: Sink>(
 ) -> Result<Passed, Unasked>
     requires ranges { AreInRange settings.now }
     requires few { HasCallsLeft S.Input K.Sink N.Sink reader.old writer.old notes.old }
-    requires leave { HasLeave S.Input (ends_of S.Input K.Sink N.Sink reader.old writer.old notes.old) (IsPromptAmongAsked (folder_of F.Files F.Opened.Source F.Opened.Explains files.now) schema_bytes settings.now) }
+    requires leave { HasLeave S.Input (ends_of S.Input K.Sink N.Sink reader.old writer.old notes.old) (IsPromptAmongAsked (folder_of F.Files F.Opened.Input F.Opened.Explains files.now) schema_bytes settings.now) }
+    requires files { MayReadAsked (folder_of F.Files F.Opened.Input F.Opened.Explains files.now) schema_bytes settings.now (ends_of S.Input K.Sink N.Sink reader.old writer.old notes.old) }
 
-    ensures served { IsServedEach (folder_of F.Files F.Opened.Source F.Opened.Explains files.now) schema_bytes.entry settings.now (seen_of S.Input S.Explains K.Sink N.Sink reader.old writer.old notes.old)
+    ensures served { IsServedEach (folder_of F.Files F.Opened.Input F.Opened.Explains files.now) schema_bytes.entry settings.now (seen_of S.Input S.Explains K.Sink N.Sink reader.old writer.old notes.old)
         (seen_of S.Input S.Explains K.Sink N.Sink reader.new writer.new notes.new) result }
     ensures places { IfOk result (λ passed. length passed.course.tally.reasons ≡ 13) }
     ensures unread { OnErr result (reader.new ≡ reader.old) }

@@ -1,7 +1,7 @@
 //! What follows from the definitions of what is asked, of files one behind another and of texts alone. These functions
 //! have no body: their contracts are the theorems.
 
-ghost use Rattle.fbcheck_serve.specs.{CheckLaws.AsksOnce, InputTests.Courses, InputTests.Labels, StopTests.StopTexts};
+ghost use Rattle.fbcheck_serve.specs.{CheckLaws.AsksOnce, InputTests.Courses, InputTests.Finals, InputTests.Labels, StopTests.StopTexts};
 ghost use Rattle.fbcheck_texts.specs.TextTests.{AskTexts, HintTexts, LoadTexts, RunTexts};
 
 /// A schema file, or none, and the settings ask at most one thing: that the buffers are checked by one job, or that
@@ -13,11 +13,12 @@ pub fn settings_ask_once()
     ensures { AsksOnce }
 {}
 
-/// What two files come to, by example, and which name stands in a line.
-#[tactic(auto, using(crate::proofs::ShownInputs::courses_shown, crate::proofs::ShownInputs::labels_shown))]
+/// What two files come to, by example, which name stands in a line, and which faults end it all.
+#[tactic(auto, using(crate::proofs::ShownInputs::courses_shown, crate::proofs::ShownInputs::finals_shown, crate::proofs::ShownInputs::labels_shown))]
 pub fn files()
     ensures courses { Courses }
     ensures labels { Labels }
+    ensures finals { Finals }
 {}
 
 /// The texts of faults, by example.

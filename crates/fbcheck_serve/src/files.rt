@@ -4,14 +4,15 @@ ghost use Rattle.std.specs.Prelude.{◌≡◌, IfOk, IfErr, IfSome, Ok, Err, ℕ
 ghost use Rattle.fbcheck_texts.specs.Faults.{HasFileFault, IsFile};
 ghost use Rattle.fbcheck_texts.specs.declared.fault.FileFault.{FileFault};
 
-use fb_bytes::Source;
+use fb_bytes::Sink;
+use fb_run::Input;
 use fbcheck_texts::causes::Explains;
 use fbcheck_texts::fault::FileFault;
 
-/// Files that are read by their names.
-pub trait Files {
+/// Files that are read by their names, beside a writer and notes of these types.
+pub trait Files<K: Sink, N: Sink> {
     /// A file that is open.
-    type Opened: Source + Explains + Drop;
+    type Opened: Input<K, N> + Explains + Drop;
 
     /// What a read of the file of this name may answer: its bytes, or a fault.
     ghost gives: { Self → List ℕ → Result (List ℕ) FileFault → Type 0 };
@@ -34,7 +35,10 @@ pub trait Files {
 }
 
 /// The bytes of the schema file, where one is named.
-pub fn read_schema<F: Files>(files: &F, name: &Option<String>) -> Result<Option<Vec<u8>>, FileFault>
+pub fn read_schema<F: Files<K, N>, K: Sink, N: Sink>(
+    files: &F,
+    name: &Option<String>,
+) -> Result<Option<Vec<u8>>, FileFault>
     ensures bytes { IfOk result (λ file. IsFile (F.gives files.now) (option_map string_bytes name.now) (option_map vec_items file)) }
     ensures fault { IfErr result (HasFileFault (F.gives files.now) (option_map string_bytes name.now)) }
 {

@@ -1,12 +1,12 @@
 //! Files as inputs, one behind another.
 
 ghost use Rattle.std.specs.Prelude.{Err, IfOk, true, false, ◌≡◌, ◌≢◌, ◌⊎◌, ◌+◌, ◌<◌, ◌≤◌, ◌^◌, length, map, option_map, string_bytes, vec_items};
-ghost use Rattle.fb_lines.specs.Ends.{writer_of};
+ghost use Rattle.fb_lines.specs.Ends.{outs_of, writer_of};
 ghost use Rattle.fb_run.specs.Leave.{HasCallsLeft, HasLeave, ends_of};
 ghost use Rattle.fb_lines.specs.{Sums.no_tally, Job.Serves, Job.job_of};
 ghost use Rattle.fb_run.specs.Prompt.{IsPrompt};
 ghost use Rattle.fb_lines.specs.declared.fault.RunFault.TheVariants.{TooManyTurns};
-ghost use Rattle.fbcheck_serve.specs.Inputs.{ComesOf, IsBehind, IsBehindEnd, IsBehindRun, IsNotedOf, IsPromptAmong, ServesEach, Tries, at_first, course_with, fault_line, folder_of, is_final, is_standard, label_of, seen_of, stand, standard_after, sum_of, sums, are_named};
+ghost use Rattle.fbcheck_serve.specs.Inputs.{ComesOf, IsBehind, IsBehindEnd, IsBehindRun, IsNotedOf, IsPromptAmong, MayRead, MayReadEach, ServesEach, Tries, at_first, course_with, fault_line, folder_of, is_final, is_standard, label_of, seen_of, stand, standard_after, sum_of, sums, are_named};
 ghost use Rattle.fbcheck_serve.specs.declared.inputs.Standard.TheVariants.{Unread, Spent};
 
 use crate::files::Files;
@@ -85,7 +85,7 @@ pub struct Passed {
 ///
 /// It ends well behind the last file, or for one of these: `WriteFault` and `NoteFault` where a write or a note failed,
 /// `OutOfMemory` where memory was refused, and `TooManyTurns` where the writer or the notes have had 2^64 calls.
-pub fn pass_files<F: Files, S: Input<K, N> + Explains, K: Sink, N: Sink>(
+pub fn pass_files<F: Files<K, N>, S: Input<K, N> + Explains, K: Sink, N: Sink>(
     alloc: Global,
     files: &F,
     names: &[String],
@@ -97,9 +97,10 @@ pub fn pass_files<F: Files, S: Input<K, N> + Explains, K: Sink, N: Sink>(
 ) -> Passed
     requires serves { Serves schema.now options.old }
     requires few { HasCallsLeft S.Input K.Sink N.Sink reader.old writer.old notes.old }
-    requires leave { HasLeave S.Input (ends_of S.Input K.Sink N.Sink reader.old writer.old notes.old) (IsPromptAmong (folder_of F.Files F.Opened.Source F.Opened.Explains files.now) (job_of schema.now options.old) (map string_bytes names.now)) }
+    requires leave { HasLeave S.Input (ends_of S.Input K.Sink N.Sink reader.old writer.old notes.old) (IsPromptAmong (folder_of F.Files F.Opened.Input F.Opened.Explains files.now) (job_of schema.now options.old) (map string_bytes names.now)) }
+    requires files { MayReadEach (folder_of F.Files F.Opened.Input F.Opened.Explains files.now) (job_of schema.now options.old) (map string_bytes names.now) (ends_of S.Input K.Sink N.Sink reader.old writer.old notes.old) }
 
-    ensures serves { ServesEach (folder_of F.Files F.Opened.Source F.Opened.Explains files.now) (job_of schema.now options.old) (map string_bytes names.now)
+    ensures serves { ServesEach (folder_of F.Files F.Opened.Input F.Opened.Explains files.now) (job_of schema.now options.old) (map string_bytes names.now)
         (at_first (seen_of S.Input S.Explains K.Sink N.Sink reader.old writer.old notes.old)) (stand (seen_of S.Input S.Explains K.Sink N.Sink reader.new writer.new notes.new) result.course) result.end }
     ensures calls { (length result.course.tally.reasons ≡ 13) × (N.calls notes.new < 2 ^ 98) × (S.calls reader.new ≤ S.calls reader.old + MOST_TURNS)
         × (result.end ≡ Err TooManyTurns → (2 ^ 64 ≤ K.calls writer.new) ⊎ (2 ^ 64 ≤ N.calls notes.new)) }
@@ -159,7 +160,7 @@ pub fn label(alloc: Global, named: bool, name: &str) -> Result<Option<Vec<u8>>, 
 }
 
 /// Goes through one file.
-fn pass_file<F: Files, S: Input<K, N> + Explains, K: Sink, N: Sink>(
+fn pass_file<F: Files<K, N>, S: Input<K, N> + Explains, K: Sink, N: Sink>(
     alloc: Global,
     files: &F,
     name: &str,
@@ -175,8 +176,9 @@ fn pass_file<F: Files, S: Input<K, N> + Explains, K: Sink, N: Sink>(
     requires places { length course.old.tally.reasons ≡ 13 }
     requires reads { course.old.standard ≡ Unread → S.calls reader.old < 2 ^ 64 }
     requires leave { is_standard name.now ≡ true → course.old.standard ≡ Unread → HasLeave S.Input (ends_of S.Input K.Sink N.Sink reader.old writer.old notes.old) (IsPrompt (job_of schema.now options.now)) }
+    requires files { is_standard name.now ≡ false → MayRead (folder_of F.Files F.Opened.Input F.Opened.Explains files.now) (job_of schema.now options.now) name.now (outs_of K.Sink N.Sink writer.old notes.old) }
 
-    ensures tries { Tries (folder_of F.Files F.Opened.Source F.Opened.Explains files.now) (job_of schema.now options.now) name.now
+    ensures tries { Tries (folder_of F.Files F.Opened.Input F.Opened.Explains files.now) (job_of schema.now options.now) name.now
         (stand (seen_of S.Input S.Explains K.Sink N.Sink reader.old writer.old notes.old) course.old) (stand (seen_of S.Input S.Explains K.Sink N.Sink reader.new writer.new notes.new) course.new) result }
     ensures noted { N.calls notes.new < 2 ^ 98 }
     ensures calls { (S.calls reader.new ≤ S.calls reader.old + MOST_TURNS) × (length course.new.tally.reasons ≡ 13)
@@ -197,7 +199,7 @@ fn pass_file<F: Files, S: Input<K, N> + Explains, K: Sink, N: Sink>(
 }
 
 /// Runs over one file, where it can be read.
-fn run_file<F: Files, S: Input<K, N> + Explains, K: Sink, N: Sink>(
+fn run_file<F: Files<K, N>, S: Input<K, N> + Explains, K: Sink, N: Sink>(
     alloc: Global,
     files: &F,
     name: &str,
@@ -212,8 +214,9 @@ fn run_file<F: Files, S: Input<K, N> + Explains, K: Sink, N: Sink>(
     requires few { (K.calls writer.old < 2 ^ 64) × (N.calls notes.old < 2 ^ 64) }
     requires reads { standard ≡ Unread → S.calls reader.old < 2 ^ 64 }
     requires leave { is_standard name.now ≡ true → standard ≡ Unread → HasLeave S.Input (ends_of S.Input K.Sink N.Sink reader.old writer.old notes.old) (IsPrompt (job_of schema.now options.now)) }
+    requires files { is_standard name.now ≡ false → MayRead (folder_of F.Files F.Opened.Input F.Opened.Explains files.now) (job_of schema.now options.now) name.now (outs_of K.Sink N.Sink writer.old notes.old) }
 
-    ensures comes { ComesOf (folder_of F.Files F.Opened.Source F.Opened.Explains files.now) (job_of schema.now options.now) name.now standard (seen_of S.Input S.Explains K.Sink N.Sink reader.old writer.old notes.old) (seen_of S.Input S.Explains K.Sink N.Sink reader.new writer.new notes.new) result.what result.cause }
+    ensures comes { ComesOf (folder_of F.Files F.Opened.Input F.Opened.Explains files.now) (job_of schema.now options.now) name.now standard (seen_of S.Input S.Explains K.Sink N.Sink reader.old writer.old notes.old) (seen_of S.Input S.Explains K.Sink N.Sink reader.new writer.new notes.new) result.what result.cause }
     ensures calls { (N.calls notes.new ≤ N.calls notes.old + 2 ^ 96) × (S.calls reader.new ≤ S.calls reader.old + MOST_TURNS)
         × IfOk result.what (λ ran. length ran.tally.reasons ≡ 13) × (is_standard name.now ≡ false → reader.new ≡ reader.old) × (standard ≡ Spent → reader.new ≡ reader.old) }
 {
@@ -355,7 +358,7 @@ fn tell_behind<N: Sink>(
         Ok(ran) => tell_run(alloc, name, framing, ran, came.cause, notes),
         Err(Missed::File(FileFault::OutOfMemory)) => Err(RunFault::OutOfMemory),
         Err(Missed::File(FileFault::Unreadable(cause))) => {
-            tell_fault(alloc, name, reason(*cause), b"\n", notes)
+            tell_fault(alloc, name, reason(*cause).as_bytes(), b"\n", notes)
         }
         Err(Missed::Again) => {
             let why = b"standard input was read before";

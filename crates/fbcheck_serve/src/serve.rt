@@ -4,8 +4,8 @@ ghost use Rattle.std.specs.Prelude.{IfOk, ◌≡◌, ◌+◌, ◌<◌, ◌≤◌
 ghost use Rattle.fb_lines.specs.Ends.{Reader, Writer, beside, writer_of};
 ghost use Rattle.fb_run.specs.Leave.{HasCallsLeft, HasLeave, ends_of};
 ghost use Rattle.fbcheck_serve.specs.Inputs.{folder_of, seen_of};
-ghost use Rattle.fbcheck_serve.specs.Checking.{IsPromptOverAsked};
-ghost use Rattle.fbcheck_serve.specs.Serving.{ComesAsAsked, ComesTo, EndsFiles, EndsRun, EndsSo, IsPromptAsGiven, IsServed, Rests, Unserved, summed, words_of};
+ghost use Rattle.fbcheck_serve.specs.Checking.{IsPromptOverAsked, MayReadAsked};
+ghost use Rattle.fbcheck_serve.specs.Serving.{ComesAsAsked, ComesTo, EndsFiles, EndsRun, EndsSo, IsPromptAsGiven, IsServed, MayReadAsGiven, Rests, Unserved, summed, words_of};
 ghost use Rattle.fbcheck_words.specs.Ranges.{AreInRange};
 
 use crate::asked::{by, form, manner};
@@ -26,7 +26,7 @@ use std::alloc::{AllocError, Global};
 /// name, checks the buffers of the reader by it, and tells of them as [`check_beside`](crate::check::check_beside)
 /// does; or writes help, where it is asked for. Behind what they have the notes get a line of what was counted, where
 /// the words ask for it, and then why it came to rest before the end.
-pub fn serve<F: Files, S: Input<K, N> + Explains, K: Sink + Explains, N: Sink>(
+pub fn serve<F: Files<K, N>, S: Input<K, N> + Explains, K: Sink + Explains, N: Sink>(
     alloc: Global,
     words: Result<Vec<String>, WordsFault>,
     files: &F,
@@ -35,9 +35,10 @@ pub fn serve<F: Files, S: Input<K, N> + Explains, K: Sink + Explains, N: Sink>(
     notes: &mut N,
 ) -> u8
     requires few { HasCallsLeft S.Input K.Sink N.Sink reader.old writer.old notes.old }
-    requires leave { HasLeave S.Input (ends_of S.Input K.Sink N.Sink reader.old writer.old notes.old) (IsPromptAsGiven (folder_of F.Files F.Opened.Source F.Opened.Explains files.now) (words_of words)) }
+    requires leave { HasLeave S.Input (ends_of S.Input K.Sink N.Sink reader.old writer.old notes.old) (IsPromptAsGiven (folder_of F.Files F.Opened.Input F.Opened.Explains files.now) (words_of words)) }
+    requires files { MayReadAsGiven (folder_of F.Files F.Opened.Input F.Opened.Explains files.now) (words_of words) (ends_of S.Input K.Sink N.Sink reader.old writer.old notes.old) }
 
-    ensures served { IsServed (folder_of F.Files F.Opened.Source F.Opened.Explains files.now) (words_of words) (seen_of S.Input S.Explains K.Sink N.Sink reader.old writer.old notes.old)
+    ensures served { IsServed (folder_of F.Files F.Opened.Input F.Opened.Explains files.now) (words_of words) (seen_of S.Input S.Explains K.Sink N.Sink reader.old writer.old notes.old)
         (seen_of S.Input S.Explains K.Sink N.Sink reader.new writer.new notes.new) (K.Explains.cause writer.new) MOST_TURNS (K.Sink.calls writer.new) (N.calls notes.new) result }
     ensures turns { S.calls reader.new ≤ S.calls reader.old + MOST_TURNS }
 {
@@ -53,7 +54,7 @@ pub fn serve<F: Files, S: Input<K, N> + Explains, K: Sink + Explains, N: Sink>(
 }
 
 /// What the program comes to, and the numbers of the run, where these are to be told.
-fn come_to<F: Files, S: Input<K, N> + Explains, K: Sink, N: Sink>(
+fn come_to<F: Files<K, N>, S: Input<K, N> + Explains, K: Sink, N: Sink>(
     alloc: Global,
     words: Result<Vec<String>, WordsFault>,
     files: &F,
@@ -63,9 +64,10 @@ fn come_to<F: Files, S: Input<K, N> + Explains, K: Sink, N: Sink>(
     sums: &mut Option<Sums>,
 ) -> Result<Ending, Stop>
     requires few { HasCallsLeft S.Input K.Sink N.Sink reader.old writer.old notes.old }
-    requires leave { HasLeave S.Input (ends_of S.Input K.Sink N.Sink reader.old writer.old notes.old) (IsPromptAsGiven (folder_of F.Files F.Opened.Source F.Opened.Explains files.now) (words_of words)) }
+    requires leave { HasLeave S.Input (ends_of S.Input K.Sink N.Sink reader.old writer.old notes.old) (IsPromptAsGiven (folder_of F.Files F.Opened.Input F.Opened.Explains files.now) (words_of words)) }
+    requires files { MayReadAsGiven (folder_of F.Files F.Opened.Input F.Opened.Explains files.now) (words_of words) (ends_of S.Input K.Sink N.Sink reader.old writer.old notes.old) }
 
-    ensures { ComesTo (folder_of F.Files F.Opened.Source F.Opened.Explains files.now) (words_of words) (seen_of S.Input S.Explains K.Sink N.Sink reader.old writer.old notes.old)
+    ensures { ComesTo (folder_of F.Files F.Opened.Input F.Opened.Explains files.now) (words_of words) (seen_of S.Input S.Explains K.Sink N.Sink reader.old writer.old notes.old)
         (seen_of S.Input S.Explains K.Sink N.Sink reader.new writer.new notes.new) sums.new result
         × Rests (ends_of S.Input K.Sink N.Sink reader.old writer.old notes.old) (ends_of S.Input K.Sink N.Sink reader.new writer.new notes.new) (K.calls writer.new) (N.calls notes.new) sums.new result }
 {
@@ -94,7 +96,7 @@ fn come_to<F: Files, S: Input<K, N> + Explains, K: Sink, N: Sink>(
 }
 
 /// The same by what the words ask for, and by the bytes of the schema file that they name.
-fn check_by<F: Files, S: Input<K, N> + Explains, K: Sink, N: Sink>(
+fn check_by<F: Files<K, N>, S: Input<K, N> + Explains, K: Sink, N: Sink>(
     alloc: Global,
     files: &F,
     file: Option<&[u8]>,
@@ -106,9 +108,10 @@ fn check_by<F: Files, S: Input<K, N> + Explains, K: Sink, N: Sink>(
 ) -> Result<Ending, Stop>
     requires ranges { AreInRange settings.now }
     requires few { HasCallsLeft S.Input K.Sink N.Sink reader.old writer.old notes.old }
-    requires leave { HasLeave S.Input (ends_of S.Input K.Sink N.Sink reader.old writer.old notes.old) (IsPromptOverAsked (folder_of F.Files F.Opened.Source F.Opened.Explains files.now) file settings.now) }
+    requires leave { HasLeave S.Input (ends_of S.Input K.Sink N.Sink reader.old writer.old notes.old) (IsPromptOverAsked (folder_of F.Files F.Opened.Input F.Opened.Explains files.now) file settings.now) }
+    requires files { MayReadAsked (folder_of F.Files F.Opened.Input F.Opened.Explains files.now) file settings.now (ends_of S.Input K.Sink N.Sink reader.old writer.old notes.old) }
 
-    ensures { ComesAsAsked (folder_of F.Files F.Opened.Source F.Opened.Explains files.now) file.entry settings.now (seen_of S.Input S.Explains K.Sink N.Sink reader.old writer.old notes.old)
+    ensures { ComesAsAsked (folder_of F.Files F.Opened.Input F.Opened.Explains files.now) file.entry settings.now (seen_of S.Input S.Explains K.Sink N.Sink reader.old writer.old notes.old)
         (seen_of S.Input S.Explains K.Sink N.Sink reader.new writer.new notes.new) sums.new result
         × Rests (ends_of S.Input K.Sink N.Sink reader.old writer.old notes.old) (ends_of S.Input K.Sink N.Sink reader.new writer.new notes.new) (K.calls writer.new) (N.calls notes.new) sums.new result }
 {

@@ -77,7 +77,7 @@ known_reason kind.Uncategorized = None
 
 -- or that it does, where there are no words for it
 abbrev pub or_failed : Option (List ℕ) → List ℕ
-or_failed None = codes "a read failed"
+or_failed None = codes "an open or a read failed"
 or_failed (Some reason) = reason
 
 -- why the system gives no file

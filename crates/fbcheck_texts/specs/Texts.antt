@@ -1,5 +1,5 @@
 -- The text of each fault, as it stands behind the program's name.
-use Rattle.std.specs.Prelude.{ℕ, List, [], ◌++◌, Option, Some, None, codes, decimal}
+use Rattle.std.specs.Prelude.{ℕ, ◌==◌, if◌then◌else◌, List, [], ◌++◌, Option, Some, None, codes, decimal}
 use Rattle.std.specs.declared.io.ErrorKind.{ErrorKind}
 use Rattle.fb_access.specs.PathCodes.{path_code}
 use Rattle.fb_access.specs.declared.path_fault.PathFault.{PathFault}
@@ -85,9 +85,13 @@ abbrev pub file_text : FileFault → List ℕ
 file_text (file.Unreadable cause) = codes "cannot read schema"
 file_text file.OutOfMemory = codes "out of memory"
 
+-- which word is no text, by its number, 0 being the program's own name
+abbrev pub word_text : ℕ → List ℕ
+word_text number = if number == 0 then codes "the program's own name is not UTF-8" else codes "a word is not UTF-8: number " ++ decimal number
+
 -- why the words can't be read
 abbrev pub words_text : WordsFault → List ℕ
-words_text (words.NotText word) = codes "a word is not UTF-8: number " ++ decimal word.number
+words_text (words.NotText word) = word_text word.number
 words_text words.OutOfMemory = codes "out of memory"
 
 -- why the summary isn't whole

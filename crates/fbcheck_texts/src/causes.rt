@@ -1,6 +1,6 @@
 //! Readers and writers that keep why a call failed.
 
-ghost use Rattle.std.specs.Prelude.{◌≡◌, ◌+◌, ◌<◌, ◌^◌, IfErr, Option, None, Some, false};
+ghost use Rattle.std.specs.Prelude.{◌≡◌, ◌+◌, ◌<◌, ◌^◌, IfErr, OnOk, Option, None, Some, false};
 ghost use Rattle.std.specs.{Io.ReadsAtMost, Io.WritesAtMost, Io.KnownBytes.ReadConsumes, Io.KnownBytes.WriteAppends, IoError.error_kind};
 ghost use Rattle.fb_bytes.specs.Ends.{failed, refused, told_end};
 ghost use Rattle.fbcheck_texts.specs.Texts.{of_read};
@@ -67,9 +67,10 @@ impl<I> Explains for Explained<I> {
     }
 }
 
-/// Keeps the cause of a failure.
+/// Keeps the cause of a failure, and leaves the last one where there is none.
 fn keep(cause: &mut Option<ErrorKind>, answer: &io::Result<usize>)
-    ensures { IfErr answer.now (λ error. cause.new ≡ Some (error_kind error)) }
+    ensures failed { IfErr answer.now (λ error. cause.new ≡ Some (error_kind error)) }
+    ensures kept { OnOk answer.now (cause.new ≡ cause.old) }
 {
     if let Err(error) = answer {
         *cause = Some(error.kind());
@@ -90,6 +91,7 @@ impl<I: Write> Sink for Explained<I> {
         ensures counted { self.new.counted.calls ≡ self.old.counted.calls + 1 }
         ensures failure { self.new.counted.failures ≡ self.old.counted.failures + refused result piece.now }
         ensures cause { IfErr result (λ error. self.new.cause ≡ Some (error_kind error)) }
+        ensures kept { OnOk result (self.new.cause ≡ self.old.cause) }
     {
         let answer = self.counted.push(piece);
         keep(&mut self.cause, &answer);
@@ -122,6 +124,7 @@ impl<I: Read> Source for Explained<I> {
         ensures failure { self.new.counted.failures ≡ self.old.counted.failures + failed result }
         ensures end { self.new.counted.ended ≡ told_end self.old.counted.ended result piece.new }
         ensures cause { IfErr result (λ error. self.new.cause ≡ Some (error_kind error)) }
+        ensures kept { OnOk result (self.new.cause ≡ self.old.cause) }
     {
         let answer = self.counted.pull(piece);
         keep(&mut self.cause, &answer);

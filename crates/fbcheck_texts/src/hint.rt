@@ -345,12 +345,12 @@ pub fn known_reason(cause: ErrorKind) -> Option<&'static str>
 }
 
 /// Why the system gives no file.
-pub fn reason(cause: ErrorKind) -> &'static [u8]
+pub fn reason(cause: ErrorKind) -> &'static str
     ensures { result.now ≡ reason_text cause }
 {
     match known_reason(cause) {
-        Some(text) => text.as_bytes(),
-        None => b"a read failed",
+        Some(text) => text,
+        None => "an open or a read failed",
     }
 }
 
@@ -382,7 +382,7 @@ pub fn file_hint(
     if let (FileFault::Unreadable(cause), Some(name)) = (fault, name) {
         put_name(&mut text, name.as_bytes())?;
         text.extend_from_slice(b": ")?;
-        text.extend_from_slice(reason(cause))?;
+        text.extend_from_slice(reason(cause).as_bytes())?;
     }
     text.extend_from_slice(b"\n")?;
     Ok(text)

@@ -3,7 +3,7 @@
 ghost use Rattle.std.specs.Prelude.{◌≡◌, ◌≤◌, ◌++◌, codes, decimal, length};
 ghost use Rattle.fb_lines.specs.{FaultText.fault_text, Line.field_text};
 ghost use Rattle.fb_lines.specs.declared.fault.RunFault.TheVariants.{WriteFault};
-ghost use Rattle.fbcheck_texts.specs.Texts.{ask_text, cause_text, file_text, ill_text, load_text, path_text, rows_text, run_text, step_text, unsummed_text, words_text};
+ghost use Rattle.fbcheck_texts.specs.Texts.{ask_text, cause_text, file_text, ill_text, load_text, path_text, rows_text, run_text, step_text, unsummed_text, word_text, words_text};
 
 use crate::causes::Causes;
 use crate::fault::{AskFault, FileFault, WordsFault};
@@ -217,13 +217,24 @@ pub fn file_text(fault: &FileFault) -> Line
     }
 }
 
+/// Which word isn't a text: the program's name is none that anybody counts.
+fn word_text(number: usize) -> Line
+    ensures text { result ≡ word_text number }
+    ensures short { length result ≤ 60 }
+{
+    match number {
+        0 => Line::of("the program's own name is not UTF-8"),
+        _ => numbered("a word is not UTF-8: number ", number as u64),
+    }
+}
+
 /// Why the words can't be read.
 pub fn words_text(fault: &WordsFault) -> Line
     ensures text { result ≡ words_text fault.now }
     ensures short { length result ≤ 200 }
 {
     match fault {
-        WordsFault::NotText(word) => numbered("a word is not UTF-8: number ", word.number as u64),
+        WordsFault::NotText(word) => word_text(word.number),
         WordsFault::OutOfMemory => Line::of("out of memory"),
     }
 }

@@ -7,7 +7,7 @@ use Rattle.fbcheck_serve.proofs.inputs.pass_file.Goals as goal
 
 pub returns-clause-tries : goal.returns-clause-tries
 returns-clause-tries g c =
-    tries_of (folder_of g.F.Files g.F.Opened.Source g.F.Opened.Explains c.args.files.now) (job_of c.args.schema.now c.args.options.now) c.args.name.now _ _ c.tell_behind.result (record {
+    tries_of (folder_of g.F.Files g.F.Opened.Input g.F.Opened.Explains c.args.files.now) (job_of c.args.schema.now c.args.options.now) c.args.name.now _ _ c.tell_behind.result (record {
       came = c.run_file-came.result.what;
       cause = c.run_file-came.result.cause;
       between = seen_of g.S.Input g.S.Explains g.K.Sink g.N.Sink c.run_file-came.new.reader c.run_file-came.new.writer c.run_file-came.new.notes;

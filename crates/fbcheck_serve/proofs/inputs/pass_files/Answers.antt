@@ -1,9 +1,9 @@
-use Rattle.std.proofs.Common.{◌≡◌, ◌∙◌, ◌+◌, ◌++◌, [], length, Ok, Err, ap, drop, map, refl, rules, string_bytes, subst}
+use Rattle.std.proofs.Common.{◌≡◌, ◌∙◌, ◌+◌, ◌++◌, [], length, Ok, Err, ap, drop, map, refl, rules, string_bytes, subst, sym}
 use mathlib.Core.Logic.{inr}
 use Rattle.std.proofs.Math.ListN.{drop_of_length-le}
-use Rattle.fb_lines.specs.Job.{Job, job_of}
+use Rattle.fb_lines.specs.{Ends.outs_of, Job.Job, Job.job_of}
 use Rattle.fb_run.specs.{Leave.IsUnended, Leave.reader_of, Prompt.IsPrompt}
-use Rattle.fbcheck_serve.specs.Inputs.{Tries, folder_of, label_of, seen_of, stand, are_named}
+use Rattle.fbcheck_serve.specs.Inputs.{MayRead, Tries, folder_of, label_of, seen_of, stand, are_named}
 use Rattle.fbcheck_serve.specs.declared.inputs.Course.{Course}
 use Rattle.fbcheck_serve.proofs.InputsLemmas.{front_all, front_more, halts_among, next_text, other_ends, relabelled, turns_on}
 use Rattle.fbcheck_serve.proofs.inputs.pass_files.Goals as goal
@@ -44,9 +44,23 @@ pass_file-passed-requires-clause-leave g c standard unread now prompt unended =
       prompt = subst (λ (j : Job). IsPrompt j before.ends now) asked prompt;
     }) (subst (λ reader. IsUnended (reader_of g.S.Input reader) now.reader) (c.loop-name.invariant.unread unread) unended)
 
+pub pass_file-passed-requires-clause-files : goal.pass_file-passed-requires-clause-files
+pass_file-passed-requires-clause-files g c other =
+    let folder = folder_of g.F.Files g.F.Opened.Input g.F.Opened.Explains c.args.files.now in
+    let texts = map string_bytes c.args.names.now in
+    let text = c.as_str-name.result.now in
+    let job = job_of c.args.schema.now c.args.options.now in
+    let (front, are, passes) = c.loop-name.invariant.passes in
+    let (old, is) = c.loop-name.invariant.job in
+    let named : c.are_named-named.result ≡ are_named job.label texts = c.are_named-named.ensures in
+    let asked = relabelled c.args.schema.now c.loop-name.options job c.in-Ok.label old (label_of (are_named job.label texts) text) is (◌∙◌ {b = label_of c.are_named-named.result text} c.in-Ok.ensures (ap (λ b. label_of b text) named)) in
+    let next = next_text c.args.names.now c.loop-name.name-index c.name-item.result text c.loop-name-test.true c.name-item.is c.as_str-name.ensures.value in
+    subst (λ (j : Job). MayRead folder j text (outs_of g.K.Sink g.N.Sink c.loop-name.writer c.loop-name.notes)) (sym asked)
+    (c.requires.files front _ text (g.S.Explains.cause c.args.reader.now) _ (are ∙ ap (λ l. front ++ l) next) other passes)
+
 pub loop-name-preserved : goal.loop-name-preserved
 loop-name-preserved g c =
-    let folder = folder_of g.F.Files g.F.Opened.Source g.F.Opened.Explains c.args.files.now in
+    let folder = folder_of g.F.Files g.F.Opened.Input g.F.Opened.Explains c.args.files.now in
     let texts = map string_bytes c.args.names.now in
     let text = c.as_str-name.result.now in
     let job = job_of c.args.schema.now c.args.options.now in
@@ -75,12 +89,12 @@ returns-in_default-clause-serves g c =
     let text = c.as_str-name.result.now in
     let now = stand (seen_of g.S.Input g.S.Explains g.K.Sink g.N.Sink c.loop-name.reader c.loop-name.writer c.loop-name.notes) c.loop-name.course in
     let (front, are, passes) = c.loop-name.invariant.passes in
-    halts_among (folder_of g.F.Files g.F.Opened.Source g.F.Opened.Explains c.args.files.now) (job_of c.args.schema.now c.args.options.now) (map string_bytes c.args.names.now) front _ _ text _ now now _ are
+    halts_among (folder_of g.F.Files g.F.Opened.Input g.F.Opened.Explains c.args.files.now) (job_of c.args.schema.now c.args.options.now) (map string_bytes c.args.names.now) front _ _ text _ now now _ are
     (next_text c.args.names.now c.loop-name.name-index c.name-item.result text c.loop-name-test.true c.name-item.is c.as_str-name.ensures.value) passes (inr (tt, refl))
 
 pub returns-in-Err-clause-serves : goal.returns-in-Err-clause-serves
 returns-in-Err-clause-serves g c =
-    let folder = folder_of g.F.Files g.F.Opened.Source g.F.Opened.Explains c.args.files.now in
+    let folder = folder_of g.F.Files g.F.Opened.Input g.F.Opened.Explains c.args.files.now in
     let texts = map string_bytes c.args.names.now in
     let text = c.as_str-name.result.now in
     let job = job_of c.args.schema.now c.args.options.now in
@@ -97,7 +111,7 @@ returns-in-Err-clause-serves g c =
 pub returns-clause-serves : goal.returns-clause-serves
 returns-clause-serves g c =
     let (front, are, passes) = c.loop-name.invariant.passes in
-    front_all (folder_of g.F.Files g.F.Opened.Source g.F.Opened.Explains c.args.files.now) (job_of c.args.schema.now c.args.options.now) _ (map string_bytes c.args.names.now) front _ _ _ are
+    front_all (folder_of g.F.Files g.F.Opened.Input g.F.Opened.Explains c.args.files.now) (job_of c.args.schema.now c.args.options.now) _ (map string_bytes c.args.names.now) front _ _ _ are
     (ap (λ l. map string_bytes l) (drop_of_length-le c.args.names.now c.loop-name-test.false)) passes
 
 pub returns-in-Err-clause-calls : goal.returns-in-Err-clause-calls

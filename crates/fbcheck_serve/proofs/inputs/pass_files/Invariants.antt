@@ -8,7 +8,7 @@ use Rattle.fbcheck_serve.proofs.inputs.pass_files.Given as goal
 abbrev pub invariant-loop-name : goal.invariant-loop-name
 invariant-loop-name g l = record {
   passes : (front : List (List ℕ)) × (map string_bytes l.names ≡ front ++ map string_bytes (drop l.name-index l.names))
-      × PassesAll (folder_of g.F.Files g.F.Opened.Source g.F.Opened.Explains l.files) (job_of l.schema l.initial.options) (are_named (job_of l.schema l.initial.options).label (map string_bytes l.names)) front
+      × PassesAll (folder_of g.F.Files g.F.Opened.Input g.F.Opened.Explains l.files) (job_of l.schema l.initial.options) (are_named (job_of l.schema l.initial.options).label (map string_bytes l.names)) front
       (at_first (seen_of g.S.Input g.S.Explains g.K.Sink g.N.Sink l.initial.reader l.initial.writer l.initial.notes)) (stand (seen_of g.S.Input g.S.Explains g.K.Sink g.N.Sink l.reader l.writer l.notes) l.course);
   job : (label : Option (List ℕ)) × (job_of l.schema l.options ≡ with_label label (job_of l.schema l.initial.options));
   serves : Serves l.schema l.options;

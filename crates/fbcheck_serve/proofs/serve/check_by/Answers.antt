@@ -8,7 +8,7 @@ returns-then-is_empty g c =
     let old = ends_of g.S.Input g.K.Sink g.N.Sink c.args.reader.now c.args.writer.now c.args.notes.now in
     let new = ends_of g.S.Input g.K.Sink g.N.Sink c.check_beside-ran.new.reader c.check_beside-ran.new.writer c.check_beside-ran.new.notes in
     let ran = c.check_beside-ran.ensures in (
-      comes_run (folder_of g.F.Files g.F.Opened.Source g.F.Opened.Explains c.args.files.now) c.args.file c.args.settings.now _ _ _ _ c.check_beside-ran.result
+      comes_run (folder_of g.F.Files g.F.Opened.Input g.F.Opened.Explains c.args.files.now) c.args.file c.args.settings.now _ _ _ _ c.check_beside-ran.result
           (none_named c.args.settings.now.files.items c.as_slice.result.now c.is_empty.result c.as_slice.ensures.value c.is_empty.ensures c.if-is_empty.true) ran.run c.run_ending.ensures,
       run_rests c.args.settings.now old new _ _ ran.turns (few_noted _ _ ran.pushes c.requires.few.2) c.check_beside-ran.result _ _ c.run_ending.ensures ran.places ran.end
           (same_ends g.S.Input g.K.Sink g.N.Sink c.check_beside-ran.result _ _ _ _ _ _ ran.unread ran.unwritten ran.unnoted),
@@ -19,7 +19,7 @@ returns g c =
     let old = ends_of g.S.Input g.K.Sink g.N.Sink c.args.reader.now c.args.writer.now c.args.notes.now in
     let new = ends_of g.S.Input g.K.Sink g.N.Sink c.check_files-passed.new.reader c.check_files-passed.new.writer c.check_files-passed.new.notes in
     let passed = c.check_files-passed.ensures in (
-      comes_files (folder_of g.F.Files g.F.Opened.Source g.F.Opened.Explains c.args.files.now) c.args.file c.args.settings.now _ _ _ _ c.check_files-passed.result
+      comes_files (folder_of g.F.Files g.F.Opened.Input g.F.Opened.Explains c.args.files.now) c.args.file c.args.settings.now _ _ _ _ c.check_files-passed.result
           (some_named c.args.settings.now.files.items c.as_slice.result.now c.is_empty.result c.as_slice.ensures.value c.is_empty.ensures c.if-is_empty.false) passed.served c.files_ending.ensures,
       files_rests c.args.settings.now old new _ _ passed.turns passed.noted c.check_files-passed.result _ _ c.files_ending.ensures passed.places passed.crowded
           (same_ends g.S.Input g.K.Sink g.N.Sink c.check_files-passed.result _ _ _ _ _ _ passed.unread passed.unwritten passed.unnoted),
@@ -27,10 +27,10 @@ returns g c =
 
 pub check_beside-ran-requires-clause-leave : goal.check_beside-ran-requires-clause-leave
 check_beside-ran-requires-clause-leave g c now prompt unended =
-    c.requires.leave now (prompt_alone (folder_of g.F.Files g.F.Opened.Source g.F.Opened.Explains c.args.files.now) c.args.file c.args.settings.now _ _
+    c.requires.leave now (prompt_alone (folder_of g.F.Files g.F.Opened.Input g.F.Opened.Explains c.args.files.now) c.args.file c.args.settings.now _ _
     (none_named c.args.settings.now.files.items c.as_slice.result.now c.is_empty.result c.as_slice.ensures.value c.is_empty.ensures c.if-is_empty.true) prompt) unended
 
 pub check_files-passed-requires-clause-leave : goal.check_files-passed-requires-clause-leave
 check_files-passed-requires-clause-leave g c now prompt unended =
-    c.requires.leave now (prompt_among (folder_of g.F.Files g.F.Opened.Source g.F.Opened.Explains c.args.files.now) c.args.file c.args.settings.now _ _
+    c.requires.leave now (prompt_among (folder_of g.F.Files g.F.Opened.Input g.F.Opened.Explains c.args.files.now) c.args.file c.args.settings.now _ _
     (some_named c.args.settings.now.files.items c.as_slice.result.now c.is_empty.result c.as_slice.ensures.value c.is_empty.ensures c.if-is_empty.false) prompt) unended
