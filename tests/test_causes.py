@@ -61,7 +61,7 @@ class Causes(Case):
         self.same(f"{name} of a write", of_cause(name, "--help", stops=1), failed(f"write failed after 0 bytes{behind}"))
         if name == "EINTR":
             return
-        words = words or "a read failed"
+        words = words or "an open or a read failed"
         schema, file = of_cause(name, "--schema", "s.bfbs", opens=1), of_cause(name, "f", opens=1)
         no_memory = words == WORDS["OutOfMemory"]
         self.same(f"{name} of a schema file", schema, NO_MEMORY if no_memory else refused(
