@@ -37,6 +37,7 @@ STEPS = {"any@Node.size": 3, "many[0]@Text": 3, "many_type[0]": 2, "many": 1, LO
 CALLS = [
     Call("reflection", "ok", "reflection: out of memory"),
     Call("load", "ok", "fault L4 OutOfMemory"),
+    Call("marks", "ok", "fault L4 OutOfMemory"),
     Call("scratch 0", "ok, 0 levels", "", asks=False),
     *[Call(f"scratch {depth}", f"ok, {depth} levels", f"scratch {depth}: OutOfMemory") for depth in (1, 64, 4096)],
     Call("scratch 4097", "LimitOutOfRange", "", asks=False),

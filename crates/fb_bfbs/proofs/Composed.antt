@@ -8,6 +8,7 @@ use Rattle.fb_access.specs.Denotes.{Shown, vector, Leads, value}
 use Rattle.fb_bfbs.specs.Says.{Says, after, AreRows}
 use Rattle.fb_bfbs.specs.Seen.{seen, Within, behind, IsRowAt}
 use Rattle.fb_bfbs.specs.Describes.{IsTypeRow, IsFieldRow, IsObjectRow, IsTypeOrNone, IsMemberRow, IsEnumRow}
+use Rattle.fb_bfbs.specs.Marks.{IsTextOrEmpty, IsAttribute, AreAttributes, IsAttributed, IsTagged, AreTagged}
 
 -- what such rows say is kept by what says more
 abbrev pub Carries : {R : Type 0} → (Says → R → Type 0) → Type 1
@@ -76,6 +77,35 @@ enum_within D E r h a = record {
   members = rows_within IsMemberRow member_within (after D (ToField 1)) (after E (ToField 1)) r.members (within_after D E (ToField 1) h) a.members;
   is_union = h _ _ a.is_union;
 }
+
+pub text_within : Carries IsTextOrEmpty
+text_within D E s h (inl here) = inl (h _ _ here)
+text_within D E s h (inr (absent, e)) = inr (h _ _ absent, e)
+
+pub attribute_within : Carries IsAttribute
+attribute_within D E a h is = record {
+  key = text_within (after D (ToField 0)) (after E (ToField 0)) a.key (within_after D E (ToField 0) h) is.key;
+  value = text_within (after D (ToField 1)) (after E (ToField 1)) a.value (within_after D E (ToField 1) h) is.value;
+}
+
+attributes_within : Carries AreAttributes
+attributes_within D E attributes h (inl rows) = inl (rows_within IsAttribute attribute_within D E attributes h rows)
+attributes_within D E attributes h (inr (absent, e)) = inr (h _ _ absent, e)
+
+attributed_within : Carries IsAttributed
+attributed_within D E f h is = record {
+  slot = h _ _ is.slot;
+  deprecated = h _ _ is.deprecated;
+  required = h _ _ is.required;
+  key = h _ _ is.key;
+  attributes = attributes_within (after D (ToField 9)) (after E (ToField 9)) f.attributes (within_after D E (ToField 9) h) is.attributes;
+}
+
+pub tagged_within : Carries IsTagged
+tagged_within D E t h is = record { field = is.field; read = attributed_within D E is.field h is.read; slot = is.slot; held = is.held; builtins = is.builtins }
+
+pub fields_within : Carries AreTagged
+fields_within D E fields h rows = rows_within IsTagged tagged_within (after D (ToField 1)) (after E (ToField 1)) fields (within_after D E (ToField 1) h) rows
 
 -- what is seen of a row from its table is said of it by whoever says what is seen
 pub row_here : {R : Type 0} (Is : Says → R → Type 0) → Carries Is → (q : Placed) (row : R) → Is (seen q) row → IsRowAt Is q row

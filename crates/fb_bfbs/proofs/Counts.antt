@@ -1,6 +1,6 @@
 -- How many rows a schema file says that it has, and how many it describes.
 use Rattle.std.proofs.Common.{◌≡◌, ℕ, ◌+◌, ◌-◌, ◌≤◌, ◌<◌, ◌↔◌, Bool, true, false, nat_le, IsTrue, List, [], ◌∷◌, map, length, refl, sym, ◌∙◌, ap, subst, arith}
-use Rattle.std.proofs.lemmas.Bool.Decides.{nat_tests}
+use Rattle.std.proofs.lemmas.Bool.{false≢true, Decides.nat_tests}
 use Rattle.fb_schema.specs.declared.kinds.Kind.TheVariants.{Tables}
 use Rattle.std.specs.List.{sum_by}
 use Rattle.std.proofs.lemmas.List.Sums.{sum_by-cons}
@@ -31,6 +31,10 @@ over_told a b most h = (λ w. absurd (let f : false ≡ true = w in cc), λ le. 
 
 pub under_told : (a b most : ℕ) → a ≤ most → IsTrue (nat_le b (most - a)) ↔ (a + b ≤ most)
 under_told a b most h = grind (arith, nat_tests)
+
+-- what isn't few
+pub past : (few : Bool) (n most : ℕ) → (IsTrue few ↔ (n ≤ most)) → few ≡ false → most < n
+past few n most told e = let no : n ≤ most → ⊥ = λ le. false≢true (sym e ∙ told.1 le) in omega arith
 
 pub told_few : (p q r : Placed) (a b most : ℕ) (few : Bool) → q.sealed ≡ p.sealed → Leads (p.sealed).bytes (p.sealed).schema p.spot (ToField 0) q.spot → r.sealed ≡ p.sealed → Leads (p.sealed).bytes (p.sealed).schema p.spot (ToField 1) r.spot
     → (os : List ℕ) × AreRowsAt Lists q os × (a ≡ sum_by listed_rows os) → (es : List ℕ) × AreRowsAt Lists r es × (b ≡ sum_by listed_rows es) → IsTrue few ↔ (a + b ≤ most) → IsToldFew (seen p) most few

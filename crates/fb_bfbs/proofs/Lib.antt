@@ -6,6 +6,9 @@ pub mod FixedFields
 pub mod Outcomes
 pub mod OneFile
 pub mod Counts
+pub mod Together
 pub mod OneLoad
+pub mod OneMarks
 pub mod Shown
 pub mod ShownFiles
+pub mod ShownMarks

@@ -14,7 +14,7 @@ IsSingle D = (steps : List Step) (x y : Shown) → D steps x → D steps y → x
 abbrev pub IsOnly : {R : Type 0} → (Says → R → Type 0) → Type 1
 IsOnly {R} Is = (D : Says) (r s : R) → IsSingle D → Is D r → Is D s → r ≡ s
 
-single_after : (D : Says) (s : Step) → IsSingle D → IsSingle (after D s)
+pub single_after : (D : Says) (s : Step) → IsSingle D → IsSingle (after D s)
 single_after D s h = λ steps x y. h (s ∷ steps) x y
 
 -- rows that are one another's, place by place, are the same

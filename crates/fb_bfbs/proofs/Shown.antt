@@ -16,7 +16,7 @@ use Rattle.fb_bfbs.specs.Samples.{plain, hp_field, name_field, monster_object, p
 use Rattle.fb_bfbs.proofs.Composed.{Carries, type_within, field_within, object_within, member_within, enum_within, rows_within}
 
 -- all that is computed
-computing : ℕ
+unfoldable pub computing : ℕ
 unfolding fixed word live_fields shape_of kind_of base_types has_vtable vtable field_place present_spot default_spot absent_spot spot_of_element member_spot next_spot number inline_value default_value value
 computing = 0
 
@@ -25,7 +25,7 @@ abbrev pub From : List ℕ → Spot → Says
 From b p = λ steps x. Shows b fixed p steps x
 
 -- what is said from the next spot on is said from here, one step further on
-onward : {Row : Type 0} (Is : Says → Row → Type 0) → Carries Is → (b : List ℕ) (p q : Spot) (s : Step) (r : Row) → Leads b fixed p s q → Is (From b q) r → Is (after (From b p) s) r
+pub onward : {Row : Type 0} (Is : Says → Row → Type 0) → Carries Is → (b : List ℕ) (p q : Spot) (s : Step) (r : Row) → Leads b fixed p s q → Is (From b q) r → Is (after (From b p) s) r
 onward Is carries b p q s r l h = carries (From b q) (after (From b p) s) r (λ steps x i. (i.0, (q, l, i.1), i.2)) h
 
 -- something holds of each row of a list at its place
@@ -39,10 +39,10 @@ each_of P (x ∷ xs) a zero r e = subst (P 0) (some_same e) a.0
 each_of P (x ∷ xs) a (suc j) r e = each_of (λ k. P (suc k)) xs a.1 j r e
 
 -- the value to which a field of the table here leads
-abbrev told_by : List ℕ → Spot → ℕ → Option Shown
+abbrev pub told_by : List ℕ → Spot → ℕ → Option Shown
 told_by b p n = option_map (value b fixed) (next_spot b fixed p (ToField n))
 
-said : (b : List ℕ) (p : Spot) (n : ℕ) (x : Shown) → told_by b p n ≡ Some x → From b p (ToField n ∷ []) x
+pub said : (b : List ℕ) (p : Spot) (n : ℕ) (x : Shown) → told_by b p n ≡ Some x → From b p (ToField n ∷ []) x
 said b p n x h = go (next_spot b fixed p (ToField n)) refl h where
   go : (q : Option Spot) → next_spot b fixed p (ToField n) ≡ q → option_map (value b fixed) q ≡ Some x → From b p (ToField n ∷ []) x
   go None e h = absurd cc
@@ -91,12 +91,12 @@ enum_row b p l e to members (name, is_union) = record {
 }
 
 -- tables of a vector of a file at l, each said at its place
-some_rows : {Row : Type 0} (Is : Says → Row → Type 0) (b : List ℕ) (k l : ℕ) (rows : List Row) → vector (length rows) ≡ value b fixed (AtTables k l)
+pub some_rows : {Row : Type 0} (Is : Says → Row → Type 0) (b : List ℕ) (k l : ℕ) (rows : List Row) → vector (length rows) ≡ value b fixed (AtTables k l)
     → AllAt (λ j r. Is (after (From b (AtTables k l)) (Element j)) r) rows → AreRows Is (From b (AtTables k l)) rows
 some_rows Is b k l rows count each = record { count = (_, refl, count); each = each_of (λ j r. Is (after (From b (AtTables k l)) (Element j)) r) rows each }
 
 -- two of them
-two_rows : {Row : Type 0} (Is : Says → Row → Type 0) → Carries Is → (b : List ℕ) (k l p q : ℕ) (x y : Row) → vector 2 ≡ value b fixed (AtTables k l)
+pub two_rows : {Row : Type 0} (Is : Says → Row → Type 0) → Carries Is → (b : List ℕ) (k l p q : ℕ) (x y : Row) → vector 2 ≡ value b fixed (AtTables k l)
     → Leads b fixed (AtTables k l) (Element 0) (AtTable k p) → Leads b fixed (AtTables k l) (Element 1) (AtTable k q)
     → Is (From b (AtTable k p)) x → Is (From b (AtTable k q)) y → AreRows Is (From b (AtTables k l)) (x ∷ y ∷ [])
 two_rows Is carries b k l p q x y two to_x to_y here there =

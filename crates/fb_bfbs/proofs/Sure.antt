@@ -56,3 +56,11 @@ table_value b S q k here = absurd cc
 
 pub table_is_here : (p : Placed) {k : ℕ} → IsAt p (Table k) → value (p.sealed).bytes (p.sealed).schema p.spot ≡ table
 table_is_here p {k} at = table_value (p.sealed).bytes (p.sealed).schema p.spot k at.here
+
+-- and where a vector is, it is of the field's tables
+nothing_is_no_vector : (b : List ℕ) (S : Rows) (q : Spot) (n : ℕ) → vector n ≡ value b S q → value b S q ≡ nothing → ⊥
+nothing_is_no_vector b S q n e i = let w : vector n ≡ nothing = e ∙ i in cc
+
+pub maybe_list_on : (p r : Placed) (n k count : ℕ) → MayHaveField p n (Tables k) → r.sealed ≡ p.sealed → Leads (p.sealed).bytes (p.sealed).schema p.spot (ToField n) r.spot → vector count ≡ value (r.sealed).bytes (r.sealed).schema r.spot → IsOneOn p (ToField n) r (Tables k)
+maybe_list_on p r n k count h same leads shown_here =
+    one_on p r n (Tables k) h same leads (is_here (r.sealed).bytes (r.sealed).schema r.spot (Tables k) (maybe_here p n (Tables k) r.spot h leads) (λ e. nothing_is_no_vector (r.sealed).bytes (r.sealed).schema r.spot count shown_here e))

@@ -1,10 +1,13 @@
 -- What is read of a schema file.
-use Rattle.std.specs.Prelude.{ℕ, List, [], ◌∷◌, Option, Some, None}
+use Rattle.std.specs.Prelude.{◌≡◌, ◌<◌, ◌^◌, ℕ, List, [], ◌∷◌, length, Option, Some, None}
 use Rattle.fb_schema.specs.Rows.{AreFew, rows_of}
-use Rattle.fb_rules.specs.Bounds.{Bounds}
+use Rattle.fb_rules.specs.{Bounds.Bounds, Stops.Stops, Verdict.Reports, declared.start.Start.TheVariants.Bare}
+use Rattle.fb_verify.specs.Sealed.{Sealed}
 use Rattle.fb_access.specs.declared.step.Step.TheVariants.{Field as ToField}
-use Rattle.fb_bfbs.specs.declared.file.FileRows.{FileRows}
-use Rattle.fb_bfbs.specs.{Says.Says, Says.text_or_nothing, Describes.Describes, Describes.IsRootName, Sums.IsOver, Sums.ArePaid, Loads.IsSchemaFile, Loads.ArePaidFor, Loads.told}
+use Rattle.fb_bfbs.specs.declared.{file.FileRows.FileRows, load_fault.LoadFault.LoadFault}
+use Rattle.fb_bfbs.specs.declared.load_fault.LoadFault.TheVariants.{NotWellFormed, OutOfMemory}
+use Rattle.fb_bfbs.specs.{Says.Says, Says.text_or_nothing, Describes.Describes, Describes.IsRootName, Sums.IsOver, Sums.ArePaid, Fixed.fixed}
+use Rattle.fb_bfbs.specs.Loads.{IsSchemaFile, ArePaidFor, asked_within, published, schema_number, told}
 
 -- the file says that these are its rows, its root table's name and its identifier, and the rows are few
 pub record IsTold (D : Says) (f : FileRows) : Type 0 where
@@ -19,6 +22,18 @@ AreRead D None None = ⊥
 AreRead D None (Some f) = IsTold D f
 AreRead D (Some n) None = IsOver D n
 AreRead D (Some n) (Some f) = IsTold D f × ArePaid D (rows_of f.objects.items f.enums.items) n
+
+-- a buffer that was verified as a schema file within limits
+pub record IsVerifiedFile (b : List ℕ) (L : Bounds) (v : Sealed) : Type 0 where
+  pub short : length b < 2 ^ 31
+  pub kept : v ≡ record { bytes = b; schema = fixed; root = schema_number; start = Bare; checks = published; report = v.report }
+  pub yes : Reports (asked_within L) b v.report
+
+-- why none is: the verifier says no, or memory ran out
+abbrev pub IsVerifyFault : List ℕ → Bounds → LoadFault → Type 0
+IsVerifyFault b L (NotWellFormed fault) = (length b < 2 ^ 31) × Stops (asked_within L) b fault
+IsVerifyFault b L OutOfMemory = length b < 2 ^ 31
+IsVerifyFault b L _ = ⊥
 
 -- what is read of the bytes of a schema file within limits
 pub record IsReadFile (b : List ℕ) (L : Bounds) (f : FileRows) : Type 0 where

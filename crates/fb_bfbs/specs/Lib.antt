@@ -6,8 +6,10 @@ pub mod Sums
 pub mod FileRows
 pub mod Loads
 pub mod LoadLaws
+pub mod Marks
 pub mod Codes
 pub mod Samples
 pub mod Examples
 -- What proofs alone need.
 pub mod Seen
+pub mod Tags

@@ -35,6 +35,10 @@ pub record MayHaveField (p : Placed) (number : ℕ) (kind : Kind) : Type 0 where
 abbrev pub MayHaveTable : Placed → ℕ → Type 0
 MayHaveTable p number = (object : ℕ) × MayHaveField p number (Table object)
 
+-- the vector of tables of such a field
+abbrev pub MayHaveTables : Placed → ℕ → Type 0
+MayHaveTables p number = (object : ℕ) × MayHaveField p number (Tables object)
+
 -- a vector of tables is here
 abbrev pub IsVector : Placed → Type 0
 IsVector p = (object : ℕ) × IsAt p (Tables object)

@@ -51,7 +51,7 @@ fn schema_rows<'b>(alloc: Global, place: &Place<'_, 'b, '_, '_>) -> Result<FileR
 }
 
 /// So many rows are read of a file of any length, and one more for each four bytes, which an offset takes.
-const ROWS: u64 = 0x1_0000;
+pub const ROWS: u64 = 0x1_0000;
 
 /// So many bytes of names are read of a file of any length, and 16 more for each byte.
 const NAMES: u64 = 0x10_0000;

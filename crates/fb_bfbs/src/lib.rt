@@ -1,6 +1,7 @@
 //! Schema files: the fixed table by which they are verified, and the rows that they describe.
 #![tactic(auto)]
 
+mod attributes;
 mod copied;
 mod counted;
 pub mod examples;
@@ -10,10 +11,13 @@ mod lists;
 mod load_fault;
 pub mod load_laws;
 mod loading;
+mod marks;
 mod tables;
+mod tags;
 mod taking;
 mod values;
 
 pub use fixed::reflection;
 pub use load_fault::{LoadFault, code_text};
 pub use loading::{Loaded, load, own_ident};
+pub use marks::{Builtins, Content, Mark, Marks, load_marks};

@@ -29,7 +29,7 @@ pub trait FromTable<'b>: Drop {
 }
 
 /// The rows in a vector of tables, one after another.
-fn rows_at<'b, R: FromTable<'b>>(
+pub fn rows_at<'b, R: FromTable<'b>>(
     alloc: Global,
     place: &Place<'_, 'b, '_, '_>,
 ) -> Result<Vec<R>, AllocError>

@@ -2,6 +2,7 @@
 // theorems.
 
 ghost use Rattle.fb_bfbs.specs.LoadLaws.{DescribesOnce, HasOneAnswer};
+ghost use Rattle.fb_bfbs.specs.Marks.{MarksOnce};
 
 /// A schema file describes at most one list of rows.
 pub fn a_file_describes_once()
@@ -14,4 +15,9 @@ pub fn a_file_describes_once()
 #[tactic(auto, using(crate::proofs::OneLoad::one_answer))]
 pub fn one_answer_applies()
     ensures { HasOneAnswer }
+{}
+
+/// A schema file says at most one list of marks, and tells one thing of built-in attributes.
+pub fn a_file_marks_once()
+    ensures { MarksOnce }
 {}

@@ -1,7 +1,7 @@
 // A schema out of its file.
 
 ghost use Rattle.std.specs.Prelude.{◌≡◌, ◌<◌, ◌≤◌, ◌^◌, length, option_map, IfOk, IfErr};
-ghost use Rattle.fb_bfbs.specs.{Fixed.fixed, FileRows.IsReadFile, LoadLaws.ident_bytes, LoadLaws.own_ident};
+ghost use Rattle.fb_bfbs.specs.{Fixed.fixed, FileRows.IsReadFile, FileRows.IsVerifiedFile, FileRows.IsVerifyFault, LoadLaws.ident_bytes, LoadLaws.own_ident};
 ghost use Rattle.fb_bfbs.specs.Loads.{HasTableForRoot, IsLoaded, IsLoadFault};
 
 use crate::file::{FileRows, file_rows};
@@ -9,7 +9,7 @@ use crate::fixed::reflection;
 use crate::load_fault::LoadFault;
 use fb_bytes::Meter;
 use fb_schema::Schema;
-use fb_verify::{Checks, Ident, Limits, Scratch, ScratchFault, Start, verify};
+use fb_verify::{Checks, Ident, Limits, Scratch, ScratchFault, Start, Verified, verify};
 use std::alloc::{AllocError, Global};
 
 /// The number of the table Schema in the fixed table.
@@ -54,7 +54,7 @@ fn scratch_of(alloc: Global, limits: Limits) -> Result<Scratch, AllocError>
 /// How many bytes pay for the rows of a file of this length, none where the limits have no budget of reads and the rows
 /// no bound.
 #[tactic(auto, using(std::proofs::lemmas::Grind::common_steps))]
-fn paying(limits: Limits, len: u64) -> Option<u64>
+pub fn paying(limits: Limits, len: u64) -> Option<u64>
     ensures { result ≡ option_map (λ _. len) limits.reads }
 {
     match limits.reads() {
@@ -77,6 +77,35 @@ fn read<'b>(alloc: Global, bytes: &'b [u8], limits: Limits) -> Result<FileRows<'
     read_by(alloc, &fixed, meter, limits)
 }
 
+/// Verifies them by a table that is made.
+pub fn verified_by<'b, 's>(
+    alloc: Global,
+    table: &'s Schema<'static>,
+    meter: Meter<'b>,
+    limits: Limits,
+) -> Result<Verified<'b, 's, 'static>, LoadFault>
+    requires table { table.now ≡ fixed }
+    requires unread { meter.count ≡ 0 }
+    requires short { length meter.bytes < 2 ^ 31 }
+    ensures yes { IfOk result (IsVerifiedFile meter.entry.bytes limits) }
+    ensures no { IfErr result (λ fault. IsVerifyFault meter.entry.bytes limits fault) }
+{
+    let mut scratch = scratch_of(alloc, limits)?;
+    let ident = Ident::Want(*b"BFBS");
+    let checks = Checks::published();
+    let verified = verify(
+        meter,
+        table,
+        SCHEMA,
+        Start::Bare,
+        ident,
+        limits,
+        checks,
+        &mut scratch,
+    )?;
+    Ok(verified)
+}
+
 /// The same by a table that is made.
 fn read_by<'b>(
     alloc: Global,
@@ -91,19 +120,7 @@ fn read_by<'b>(
     ensures no { IfErr result (λ fault. IsLoadFault meter.entry.bytes limits fault) }
 {
     let paying = paying(limits, meter.len());
-    let mut scratch = scratch_of(alloc, limits)?;
-    let ident = Ident::Want(*b"BFBS");
-    let checks = Checks::published();
-    let verified = verify(
-        meter,
-        table,
-        SCHEMA,
-        Start::Bare,
-        ident,
-        limits,
-        checks,
-        &mut scratch,
-    )?;
+    let verified = verified_by(alloc, table, meter, limits)?;
     match file_rows(alloc, &verified, paying)? {
         Some(rows) => Ok(rows),
         None => Err(LoadFault::TooMuchShared),

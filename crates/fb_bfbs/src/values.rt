@@ -8,7 +8,7 @@ ghost use Rattle.fb_access.specs.declared.step.Step.TheVariants.{Field as ToFiel
 ghost use Rattle.fb_access.specs.Denotes.{nothing, text, truth, signed, unsigned, vector, value};
 ghost use Rattle.fb_access.specs.Here.{width_of};
 ghost use Rattle.fb_bfbs.specs.Says.{text_or_nothing};
-ghost use Rattle.fb_bfbs.specs.Seen.{seen, HasField, HasSigned, IsVector, MayHaveField, MayHaveTable, IsOneOn};
+ghost use Rattle.fb_bfbs.specs.Seen.{seen, HasField, HasSigned, IsVector, MayHaveField, MayHaveTable, MayHaveTables, IsOneOn};
 
 use fb_access::{Answer, Place, Step};
 use fb_schema::Kind;
@@ -103,6 +103,23 @@ pub fn table_or_none<'v, 'b, 's, 'n>(
     let field = place.go(Step::Field(number));
     match field.answer() {
         Answer::Table => Some(field),
+        _ => None,
+    }
+}
+
+/// A vector of tables that may be absent.
+#[tactic(auto, using(crate::proofs::Sure::maybe_allowed))]
+pub fn tables_or_none<'v, 'b, 's, 'n>(
+    place: &Place<'v, 'b, 's, 'n>,
+    number: u16,
+) -> Option<Place<'v, 'b, 's, 'n>>
+    requires { MayHaveTables place.now number }
+    ensures there { IfSome result (λ p. (k : ℕ) → MayHaveField place.now number (Kind.Tables k) → IsOneOn place.now (ToField number) p (Kind.Tables k)) }
+    ensures absent { IfNone result (seen place.now (ToField number ∷ []) nothing) }
+{
+    let field = place.go(Step::Field(number));
+    match field.answer() {
+        Answer::Vector(_) => Some(field),
         _ => None,
     }
 }

@@ -4,6 +4,7 @@
 
 use crate::hand::{NODE, hand_rows};
 use crate::listing::{load_file, make_built_in};
+use crate::marking::tell_marks;
 use fb_access::Path;
 use fb_bytes::Framer;
 use fb_schema::Schema;
@@ -69,12 +70,13 @@ fn call_build(rt: HostRuntime, alloc: Global) -> io::Result<()> {
     }
 }
 
-/// Makes each call, and writes its answer: `reflection`, `load` of these bytes, `Scratch::new`, a framer's, and over a
+/// Makes each call, and writes its answer: `reflection`, `load` and `load_marks` of these bytes, `Scratch::new`, a framer's, and over a
 /// schema made by hand `Schema::build` and `Path::resolve`.
 pub fn make_calls(rt: HostRuntime, bytes: &[u8]) -> io::Result<()> {
     println!(rt; "input: {} bytes", bytes.len())?;
     make_built_in(rt, false)?;
     load_file(rt, bytes, false)?;
+    tell_marks(rt, bytes, false)?;
     for depth in &DEPTHS {
         call_scratch(rt, *depth)?;
     }

@@ -1,17 +1,19 @@
 //! `probe` reads a schema file from standard input, and tells what the libraries answer: a listing of what `load`
-//! gives or of the table that is built in, or the answer of each call that takes memory.
+//! gives or of the table that is built in, the marks of a file, or the answer of each call that takes memory.
 //!
-//! The tests from outside ask it: `probe list`, `probe built-in` and `probe calls`. The exit status is 0 where it came
+//! The tests from outside ask it: `probe list`, `probe built-in`, `probe marks` and `probe calls`. The exit status is 0 where it came
 //! to its end, whatever was answered, 2 for other words, and 3 where its own reading failed.
 #![tactic(auto)]
 
 mod calls;
 mod hand;
 mod listing;
+mod marking;
 mod mode;
 
 use calls::make_calls;
 use listing::{load_file, make_built_in};
+use marking::tell_marks;
 use mode::{Mode, mode_of};
 use std::io;
 use std::io::{ErrorKind, Read};
@@ -40,13 +42,14 @@ fn read_input(rt: HostRuntime) -> io::Result<Vec<u8>> {
 /// Does what the word asks for; answers the exit status.
 fn start(rt: HostRuntime) -> io::Result<u8> {
     let Some(mode) = read_mode(rt)? else {
-        eprintln!(rt; "usage: probe list|built-in|calls <FILE.bfbs")?;
+        eprintln!(rt; "usage: probe list|built-in|marks|calls <FILE.bfbs")?;
         return Ok(2);
     };
     let bytes = read_input(rt)?;
     match mode {
         Mode::List => load_file(rt, &bytes, true)?,
         Mode::BuiltIn => make_built_in(rt, true)?,
+        Mode::Marks => tell_marks(rt, &bytes, true)?,
         Mode::Calls => make_calls(rt, &bytes)?,
     }
     Ok(0)

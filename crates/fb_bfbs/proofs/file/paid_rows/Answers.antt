@@ -1,20 +1,15 @@
-use Rattle.std.proofs.Common.{◌≡◌, ℕ, ◌+◌, ◌<◌, ◌≤◌, ◌↔◌, Bool, false, IsTrue, List, inr, sym, ◌∙◌, arith}
+use Rattle.std.proofs.Common.{◌≡◌, ℕ, ◌+◌, ◌≤◌, ◌↔◌, Bool, IsTrue, List, inr}
 use Rattle.std.specs.List.{sum_by}
-use Rattle.std.proofs.lemmas.Bool.{false≢true}
 use Rattle.fb_schema.specs.declared.{rows.ObjectRow.ObjectRow, rows.EnumRow.EnumRow}
 use Rattle.fb_schema.specs.Rows.{object_of, enum_of, rows_of}
 use Rattle.fb_bfbs.specs.Sums.{object_names, enum_names, names_length}
-use Rattle.fb_bfbs.proofs.Counts.{sum_mapped}
+use Rattle.fb_bfbs.proofs.Counts.{sum_mapped, past}
 use Rattle.fb_bfbs.proofs.file.paid_rows.Goals as goal
 
 -- whether the number is enough for the names of rows in memory
 enough : (objects : List ObjectRow) (enums : List EnumRow) (os : List ObjectRow) (es : List EnumRow) (t : Bool) (most : ℕ) → os ≡ objects → es ≡ enums
     → (IsTrue t ↔ (sum_by (λ o. object_names (object_of o)) os + sum_by (λ e. enum_names (enum_of e)) es ≤ most)) → IsTrue t ↔ (names_length (rows_of objects enums) ≤ most)
 enough objects enums os es t most p q told = rw (sum_mapped object_names object_of objects, sum_mapped enum_names enum_of enums, ← p, ← q) told
-
--- what isn't enough
-past : (t : Bool) (n most : ℕ) → (IsTrue t ↔ (n ≤ most)) → t ≡ false → most < n
-past t n most told e = let no : n ≤ most → ⊥ = λ le. false≢true (sym e ∙ told.1 le) in omega arith
 
 pub returns-then-not-is_enough_for : goal.returns-then-not-is_enough_for
 returns-then-not-is_enough_for c =
