@@ -8,7 +8,7 @@ import subprocess
 
 from tests.support.builder import messages_of
 from tests.support.cases import Case
-from tests.support.program import FOLDER, TOP, file_of, good, loaded, run, schemaless, unschemed
+from tests.support.program import FOLDER, TOP, file_of, good, loaded, rootless, run, schemaless, unschemed
 
 HOSTILE = loaded(TOP / "bench/hostile")
 
@@ -50,6 +50,14 @@ def shared_file(count, name, size):
     layout = HOSTILE.begun(b"BFBS").table("root", {4: "objects", 6: "none"}).vector("none", [])
     layout.vector("objects", ["object"] * count).table("object", {4: "name", 6: "fields"})
     layout.vector("fields", ["field"] * count).field("field", "name", 3).type().text("name", b"a" * name)
+    return HOSTILE.padded(layout.bytes(), size)
+
+
+def shared_enums(count, name, size):
+    """The same of enums, which are all one, with as many members."""
+    layout = HOSTILE.begun(b"BFBS").table("root", {4: "none", 6: "enums"}).vector("none", [])
+    layout.vector("enums", ["enum"] * count).table("enum", {4: "name", 6: "members"})
+    layout.vector("members", ["member"] * count).table("member", {4: "name"}).text("name", b"a" * name)
     return HOSTILE.padded(layout.bytes(), size)
 
 
@@ -129,13 +137,14 @@ class Hostile(Case):
             self.holds(name, (ran.status, ran.err[:31]) == (2, b"fbcheck: no root table; tables:"), ran.err)
 
     def test_the_length_of_a_file_pays_for_its_rows_and_names(self):
-        """300 objects of 300 fields are 90,300 rows: 65,536, and one for each four of 99,056 bytes. 32 times as many
-        bytes of names are 1,048,576, and 16 for each of 115,064 bytes."""
+        """300 objects of 300 fields, or enums of 300 members, are 90,300 rows: 65,536, and one for each four of 99,056
+        bytes. 32 times as many bytes of names are 1,048,576, and 16 for each of 115,064 bytes."""
         path = FOLDER / "shared.bfbs"
         paid, shared = schemaless("L2 C4 BadSlot owner=0 part=0", path), schemaless("L6 TooMuchShared", path)
-        for name, size, want in [(1, 99_056, paid), (1, 99_055, shared), (32, 115_064, paid), (32, 115_063, shared)]:
-            ran = run("--schema", file_of("shared.bfbs", shared_file(300, name, size)))
-            self.same(f"names of {name} in {size} bytes", ran, want)
+        for made, paid in (shared_file, paid), (shared_enums, rootless(None)):
+            for name, size, want in [(1, 99_056, paid), (1, 99_055, shared), (32, 115_064, paid), (32, 115_063, shared)]:
+                ran = run("--schema", file_of("shared.bfbs", made(300, name, size)))
+                self.same(f"{made.__name__}: names of {name} in {size} bytes", ran, want)
 
     def test_a_buffer_past_the_default_budget(self):
         data = HOSTILE.texts_of_objects(8 * OBJECTS)

@@ -28,6 +28,13 @@ STANDS = """
     a byte past      | struct SIZE/1: f@1 BASE      | BadStruct 2.0
     three BASE fit   | struct THREE/1: f@0 [BASE:3] | ok
     a byte past      | struct THREE/1: f@1 [BASE:3] | BadStruct 2.0
+    a vector inline  | struct 8/1: f@0 [BASE]       | BadStruct 2.0
+    an array alone   | table: f@4 [BASE:2]          | Unsupported 2.0
+"""
+NO_MEMBERS = """
+    BASE             | m=1 BASE, last=9 string      | BadMember 1.0
+    a vector of BASE | m=1 [BASE], last=9 string    | BadMember 1.0
+    an array of BASE | m=1 [BASE:2], last=9 string  | BadMember 1.0
 """
 
 # Numbers that are no type of one value: none, vector, array, 64-bit vector, and what is no base type at all.
@@ -55,6 +62,9 @@ NAMED = """
     an index of texts     | table: f@4 [string]#-1 | ok
     an array of numbers   | table: f@4 [int:2]     | Unsupported 2.0
     an array of no object | table: f@4 [obj:2]#3   | Unsupported 2.0
+    an array of structs   | table: f@4 [obj:2]#1   | Unsupported 2.0
+    an array of texts     | table: f@4 [string:2]  | Unsupported 2.0
+    an array of unions    | table: f@4 [union:2]#0 | Unsupported 2.0
 """
 
 # A name twice, and what is wrong beside it; an odd slot of a field that has more wrong with it; a slot twice; a 64-bit
@@ -117,10 +127,11 @@ TYPE_FIELDS = """
 
 # Sizes of structs with alignments, and what is answered of them.
 POWERS = "1 2 4 8 16 32 64 128 256"
+LATER_POWERS = " ".join(str(2**power) for power in range(9, 31))
 ALIGNMENTS = [
     (1, POWERS, "ok"), (2_147_483_647, POWERS, "ok"),
     (8, "0 3 6 127 255 257 512 65536 -1 -8 -2147483648", "BadStruct 2"),
-    (0, POWERS, "BadStruct 2"), (-1, POWERS, "BadStruct 2"),
+    (0, POWERS, "BadStruct 2"), (-1, POWERS, "BadStruct 2"), (2_147_483_647, LATER_POWERS, "BadStruct 2"),
 ]
 
 INLINE = """
@@ -130,6 +141,9 @@ INLINE = """
     a text                | struct 8/1: f@0 string      | BadStruct 2.0
     a union               | struct 8/1: f@0 union#0     | BadStruct 2.0
     a vector of no object | struct 8/1: f@0 [obj]#3     | BadStruct 2.0
+    a vector of structs   | struct 8/1: f@0 [obj]#1     | BadStruct 2.0
+    a vector of texts     | struct 8/1: f@0 [string]    | BadStruct 2.0
+    a vector of unions    | struct 8/1: f@0 [union]#0   | BadStruct 2.0
     an array of texts     | struct 8/1: f@0 [string:1]  | BadStruct 2.0
     an array of unions    | struct 8/1: f@0 [union:1]#0 | BadStruct 2.0
     no object             | struct 8/1: f@0 obj#3       | NoSuchObject 2.0
@@ -172,17 +186,23 @@ VALUES = """
 
 # Members that may be; objects that are not there; other types.
 TYPES = """
-    a table               | m=1 obj#0, last=9 string    | ok
-    a struct              | m=1 obj#1, last=9 string    | ok
-    a text with an index  | m=1 string#9, last=9 string | ok
-    anything at value 0   | m=0 obj#9, last=9 string    | ok
-    past the last         | m=1 obj#2, last=9 string    | NoSuchObject 1.0
-    before the first      | m=1 obj#-1, last=9 string   | NoSuchObject 1.0
-    no type               | m=1 none, last=9 string     | BadMember 1.0
-    a number              | m=1 int, last=9 string      | BadMember 1.0
-    a union               | m=1 union#0, last=9 string  | BadMember 1.0
-    a vector of no object | m=1 [obj]#9, last=9 string  | BadMember 1.0
-    a vector of texts     | m=1 [string], last=9 string | BadMember 1.0
+    a table               | m=1 obj#0, last=9 string       | ok
+    a struct              | m=1 obj#1, last=9 string       | ok
+    a text with an index  | m=1 string#9, last=9 string    | ok
+    anything at value 0   | m=0 obj#9, last=9 string       | ok
+    past the last         | m=1 obj#2, last=9 string       | NoSuchObject 1.0
+    before the first      | m=1 obj#-1, last=9 string      | NoSuchObject 1.0
+    no type               | m=1 none, last=9 string        | BadMember 1.0
+    a number              | m=1 int, last=9 string         | BadMember 1.0
+    a union               | m=1 union#0, last=9 string     | BadMember 1.0
+    a vector of no object | m=1 [obj]#9, last=9 string     | BadMember 1.0
+    a vector of texts     | m=1 [string], last=9 string    | BadMember 1.0
+    an array of texts     | m=1 [string:2], last=9 string  | BadMember 1.0
+    a vector of tables    | m=1 [obj]#0, last=9 string     | BadMember 1.0
+    an array of structs   | m=1 [obj:2]#1, last=9 string   | BadMember 1.0
+    an array of no object | m=1 [obj:2]#9, last=9 string   | BadMember 1.0
+    a vector of unions    | m=1 [union]#0, last=9 string   | BadMember 1.0
+    an array of unions    | m=1 [union:2]#0, last=9 string | BadMember 1.0
 """
 
 # A name twice, and a type that is refused too; names that may stand twice; a value that is asked before the name.
@@ -201,6 +221,13 @@ ORDER = """
     its name before  | A table: f@4 string; B table: f@4 string; A struct 0/1: f@4 string | NameTwice 2
     a name before    | A table: f@4 string; A table: f@4 string; C struct 0/1: f@4 string | NameTwice 1
     a field before   | A table: f@5 string; A table: f@5 string; C struct 0/1: f@5 string | BadSlot 0.0
+    a name thrice    | A table: ; B table: ; B table: ; A table: ; B table: ; C struct 0/1:     | NameTwice 2
+"""
+
+ENUMS = """
+    two unions          | U union: ; U union:                  | ok
+    a union and an enum | U enum: ; U union:                   | ok
+    that of a table     | U table: v@4 int; U union: m=1 obj#0 | ok
 """
 
 TEXTS = """
@@ -255,8 +282,12 @@ TABLES = {
     "a field of a struct is asked its name and its place alone": lines(PLACES, OBJECTS),
     "a value is a byte and stands once": members(VALUES),
     "a member is an object that is there or a text": members(TYPES),
+    "no number is a member": [
+        case for bases, _, _ in SCALARS for base in bases.split() for case in members(filled(NO_MEMBERS, BASE=base))
+    ],
     "a name is asked after the value and before the type": members(NAMES),
     "rows are asked in their order": lines(ORDER, "Choice union: m=256 string; "),
+    "names of enums may stand twice": lines(ENUMS),
     "each fault has its text": lines(TEXTS, "A table: ; B table: ; C table: ; "),
 }
 
