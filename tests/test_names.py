@@ -370,6 +370,15 @@ class Names(Case):
             most = refusing([PROGRAM, "--schema", path, "--names"], NOTHING).most
             self.holds(f"a place of {length} bytes takes no more than twice its line", most <= 2 * len(ran.out), most)
 
+    def test_long_places_in_json(self):
+        """There the way alone is told, up to 4,096 bytes of it."""
+        for length in 4_095, 4_096, 4_097, 4_098, 5_000:
+            name = "f" * length
+            path = file_of("long.bfbs", schema([table("T", field(name, TEXT, 4))], root="T"))
+            line = run("--schema", path, "--bare", "--json", given=buffer({0: ENDLESS})).out.decode()
+            want = name if length <= 4_096 else name[:4_096] + ".."
+            self.same(f"a way of {length} bytes", line.partition('"place":')[2], f'"{want}"}}\n')
+
     def test_places_of_many_steps(self):
         """A place is as long as its names and the depth make it, up to 4,096 bytes."""
         def way(step, count):

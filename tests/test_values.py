@@ -209,6 +209,14 @@ class Values(Case):
         self.same("and can't be named", run("--schema", path, "--path", "old", given=data),
                   fieldless("now"))
 
+    def test_a_struct_has_each_field_of_its_row(self):
+        """Also one that is said to be deprecated, which takes its bytes all the same."""
+        one = a_struct("S", 8, 4, field("old", INT, 0, deprecated=True), field("now", INT, 4))
+        path = file_of("parts.bfbs", schema([table("T", field("s", an_object(1), 4)), one], root="T"))
+        data = buffer({0: ("8s", struct.pack("<2i", 5, -6))})
+        for name, want in ("old", "5"), ("now", "-6"):
+            self.same(f"the field {name}", value(path, data, "--path", f"s.{name}"), (0, True, want))
+
     def test_values_of_the_examples(self):
         """Beside the text that flatc made the messages of; the fifth message is broken, and has no value."""
         source = [json.loads(line) for line in (TOP / "examples/deliveries.jsonl").read_text().splitlines()]
