@@ -149,17 +149,18 @@ JUDGED = [
     # A field at 20, of which three bytes are there; an offset word to 20, with 3, 4 and 5 bytes there; a struct of 12
     # bytes at 24.
     (KINDS, """
-        a text's word    | TABLE 8=08 ..23     | root=Note   | V2 20 0.0 4
-        a table's word   | TABLE 8=08 ..23     | root=Node   | V2 20 1.0 4
-        a vector's word  | TABLE 8=08 ..23     | root=Sums   | V2 20 2.0 4
-        a text's count   | TABLE 04000000 ..23 | root=Note   | V2 20 0.0 5
-        a text's end     | TABLE 04000000 ..24 | root=Note   | V2 24 0.0 6
-        a text           | TABLE 04000000 ..25 | root=Note   | yes 1 1 7
-        a vector's count | TABLE 04000000 ..23 | root=Sums   | V2 20 2.0 5
-        a vector         | TABLE 04000000 ..24 | root=Sums   | yes 1 1 6
-        a table          | TABLE 04000000 ..23 | root=Node   | V2 20 1 5
-        11 of 12         | TABLE 8=0c ..35     | root=Holder | V2 24 5.0 4
-        12 of 12         | TABLE 8=0c ..36     | root=Holder | yes 1 1 4
+        a text's word       | TABLE 8=08 ..23            | root=Note   | V2 20 0.0 4
+        a table's word      | TABLE 8=08 ..23            | root=Node   | V2 20 1.0 4
+        a vector's word     | TABLE 8=08 ..23            | root=Sums   | V2 20 2.0 4
+        a text's count      | TABLE 04000000 ..23        | root=Note   | V2 20 0.0 5
+        a text's end        | TABLE 04000000 ..24        | root=Note   | V2 24 0.0 6
+        a text              | TABLE 04000000 ..25        | root=Note   | yes 1 1 7
+        no byte 0 behind it | TABLE 04000000 00000000 01 | root=Note   | V10 24 0.0 7
+        a vector's count    | TABLE 04000000 ..23        | root=Sums   | V2 20 2.0 5
+        a vector            | TABLE 04000000 ..24        | root=Sums   | yes 1 1 6
+        a table             | TABLE 04000000 ..23        | root=Node   | V2 20 1 5
+        11 of 12            | TABLE 8=0c ..35            | root=Holder | V2 24 5.0 4
+        12 of 12            | TABLE 8=0c ..36            | root=Holder | yes 1 1 4
     """),
     # A field at 18; an offset word to 18; a vector at 20 whose element leads to 26; then the type byte at 20 and the
     # offset word at 16, to 18, then to 20; last the word at 18.
