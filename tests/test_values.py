@@ -8,7 +8,7 @@ from tests.support import schemas
 from tests.support.buffers import ASKEW, HALVES, MEMBER, MEMBERS, ORC, PLACED, PLAIN, SEVEN, TWINS, UNEQUAL, lower_type
 from tests.support.builder import Plain, buffer, changed, prefixed, spelled
 from tests.support.cases import Case
-from tests.support.program import PROGRAM, SECONDS, TOP, bad, fieldless, file_of, good, refused, run
+from tests.support.program import PROGRAM, SECONDS, TOP, bad, fieldless, file_of, good, refused, rootless, run, schemaless
 from tests.support.schemas import (
     BOOL, BYTE, DOUBLE, FLOAT, INT, LONG, SHORT, TEXT, U_BYTE, U_INT, U_LONG, U_SHORT, U_TYPE, a_struct, an_object,
     array, field, schema, table, vector,
@@ -216,6 +216,13 @@ class Values(Case):
         data = buffer({0: ("8s", struct.pack("<2i", 5, -6))})
         for name, want in ("old", "5"), ("now", "-6"):
             self.same(f"the field {name}", value(path, data, "--path", f"s.{name}"), (0, True, want))
+
+    def test_a_struct_is_no_root(self):
+        """Neither as the schema's own nor by the words."""
+        rows = [table("T"), a_struct("S", 4, 4, field("x", INT, 0))]
+        own, by_words = file_of("own.bfbs", schema(rows, root="S")), file_of("root.bfbs", schema(rows, root="T"))
+        self.same("its own", run("--schema", own), schemaless("L3 RootNotListed", own))
+        self.same("by the words", run("--schema", by_words, "--root", "S"), rootless("S", "T"))
 
     def test_values_of_the_examples(self):
         """Beside the text that flatc made the messages of; the fifth message is broken, and has no value."""
