@@ -77,3 +77,26 @@ fn arrays_in_a_struct_have_the_bytes_of_their_elements(rt: HostRuntime) {
         same(&rt, extent_in(&verified, steps), Some(want));
     }
 }
+
+/// Objects and places of fields, with the place in bytes and the count; none where there is no such field of a struct.
+static PARTS: [((u32, u32), Option<(u16, u16)>); 5] = [
+    ((1, 0), Some((0, 3))),
+    ((1, 1), Some((24, 2))),
+    ((1, 2), None),
+    ((2, 0), Some((0, 1))),
+    ((0, 0), None),
+];
+
+#[test]
+fn a_field_of_a_struct_that_is_no_array_counts_one(rt: HostRuntime) {
+    let loaded = load(rt.alloc(), FILE, Limits::published());
+    let Loaded { schema, .. } = loaded.expect(&rt, "a schema");
+    for (at, want) in &PARTS {
+        let (object, place) = *at;
+        let told = match schema.part_at(object, place) {
+            Some(part) => Some((part.place, part.count)),
+            None => None,
+        };
+        same(&rt, told, *want);
+    }
+}

@@ -23,7 +23,8 @@ static RANGES: [(u64, u64, bool); 9] = [
     (u64::MAX, u64::MAX, false),
 ];
 
-/// A reader or writer of which the first call moves a byte at most, two fail, and others move nothing.
+/// A reader or writer of which the first call moves a byte at most, the next two and the sixth fail, and others move
+/// nothing.
 #[derive(Drop)]
 struct Falters {
     calls: u32,
@@ -36,7 +37,7 @@ impl Falters {
         self.calls = self.calls.saturating_add(1);
         match self.calls {
             1 => Ok(most.min(1)),
-            2 | 3 => Err(io::Error::from(ErrorKind::Other)),
+            2 | 3 | 6 => Err(io::Error::from(ErrorKind::Other)),
             _ => Ok(0),
         }
     }
@@ -139,10 +140,13 @@ fn a_source_tells_calls_failures_and_end(rt: HostRuntime) {
     let before = (Source::failures(&source), source.ended());
     let last = source.pull(&mut piece).ok();
     let after = (Source::failures(&source), source.ended());
+    let failed = source.pull(&mut piece).ok();
+    let at_last = (Source::failures(&source), source.ended());
     let calls = (Source::calls(&source), source.get_ref().calls);
-    let want = [Some(1), None, None, Some(0)];
-    let told = (pulled, before, last, after, calls);
-    same(&rt, told, (want, (2, false), Some(0), (2, true), (5, 5)));
+    let pulls = (pulled, last, failed);
+    let want = ([Some(1), None, None, Some(0)], Some(0), None);
+    let told = (pulls, before, after, at_last, calls);
+    same(&rt, told, (want, (2, false), (2, true), (3, false), (6, 6)));
 }
 
 #[test]
