@@ -8,9 +8,11 @@ use crate::line::Line;
 use crate::tally::Tally;
 use fb_bytes::StreamFault;
 use std::alloc::AllocError;
+use thiserror::Error;
 
 /// Why a run came to rest before its end.
-#[derive(Clone, Copy)]
+#[derive(Clone, Copy, Debug, Error)]
+#[error("{text}", text = self.text())]
 pub enum RunFault {
     /// The reader failed.
     ReadFault,

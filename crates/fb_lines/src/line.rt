@@ -7,6 +7,7 @@ ghost use Rattle.fb_lines.specs.Line.{field_text, no_text, numbers_text, short_l
 use crate::checker::{Found, Wrong};
 use fb_verify::{Fault, Report};
 use itoa::{Buffer, write_digits};
+use std::fmt;
 use std::marker::Model;
 
 /// More bytes than the longest line has, but for a value, and more than the summary.
@@ -28,6 +29,15 @@ impl Model for Line {
     ghost view = { λ l. drop l.start l.room };
 
     ghost invariant = { λ l. (length l.room ≡ 640) × (l.start ≤ 640) };
+}
+
+impl fmt::Display for Line {
+    fn fmt<W: fmt::Write>(&self, f: &mut fmt::Formatter<W>) -> fmt::Result {
+        match str::from_utf8(self.bytes()) {
+            Ok(text) => f.write_str(text),
+            Err(_) => Err(fmt::Error),
+        }
+    }
 }
 
 impl Line {

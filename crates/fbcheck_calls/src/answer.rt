@@ -68,7 +68,7 @@ pub struct Verdict {
     /// With a reason, the position in bytes from the buffer's first; of a text that is no path, the place in it or the
     /// number of the step; of paths, the place of the first that doesn't fit; else 0.
     pub at: u64,
-    /// The reads that were made, of a buffer or of a schema file that isn't well formed; 2^64 - 1 stands for more too.
+    /// The counted reads, of a buffer or of a schema file that isn't well formed; 2^64 - 1 stands for more too.
     pub reads: u64,
     /// Room for what later versions tell: 0.
     pub reserved: [u64; 3],

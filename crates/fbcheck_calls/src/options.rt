@@ -35,7 +35,7 @@ pub struct Options {
     pub version: u32,
     /// The number of the root table's object; 2^32 - 1 for the schema's own root, and 2^32 - 2 for none.
     pub root: u32,
-    /// How many reads may be made.
+    /// How many reads may be counted.
     pub max_reads: u64,
     /// How many tables may be open at once, at most 4,096.
     pub max_depth: u32,

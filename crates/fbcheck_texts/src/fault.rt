@@ -5,15 +5,18 @@ ghost use Rattle.std.specs.IoError.{error_kind};
 ghost use Rattle.fbcheck_texts.specs.Faults.{ask_status, file_fault, load_fault, path_fault, words_fault};
 ghost use Rattle.fbcheck_texts.specs.declared.fault.AskFault.TheVariants.{OutOfMemory};
 
+use crate::texts::{ask_text, file_text, words_text};
 use fb_access::PathFault;
 use fb_bfbs::LoadFault;
 use fb_run::RunFault;
 use std::alloc::AllocError;
 use std::io;
 use std::io::ErrorKind;
+use thiserror::Error;
 
 /// Why there is nothing to check buffers by.
-#[derive(Clone, Copy)]
+#[derive(Clone, Copy, Debug, Error)]
+#[error("{text}", text = ask_text(self))]
 pub enum AskFault {
     /// The schema file gives no schema. It is never that fault's own `OutOfMemory`, which is told as this type's.
     Load(LoadFault),
@@ -29,7 +32,8 @@ pub enum AskFault {
 }
 
 /// Why a check came to rest before its end.
-#[derive(Clone, Copy)]
+#[derive(Clone, Copy, Debug, Error)]
+#[error(transparent)]
 pub enum CheckFault {
     /// There was nothing to check by.
     Ask(AskFault),
@@ -80,7 +84,8 @@ impl AskFault {
 }
 
 /// Why a file can't be read.
-#[derive(Clone, Copy)]
+#[derive(Clone, Copy, Debug, Error)]
+#[error("{text}", text = file_text(self))]
 pub enum FileFault {
     /// It isn't there, or a read of it failed, for this cause.
     Unreadable(ErrorKind),
@@ -101,7 +106,7 @@ impl FileFault {
 }
 
 /// A word of the command line that isn't a text, by its number, the program's name being 0.
-#[derive(Drop)]
+#[derive(Debug, Drop)]
 pub struct WrongWord {
     /// Its number.
     pub number: usize,
@@ -110,7 +115,8 @@ pub struct WrongWord {
 }
 
 /// Why the words of the command line can't be read.
-#[derive(Drop)]
+#[derive(Debug, Drop, Error)]
+#[error("{text}", text = words_text(self))]
 pub enum WordsFault {
     /// A word isn't a text: the first such one.
     NotText(WrongWord),

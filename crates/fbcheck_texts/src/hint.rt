@@ -16,6 +16,7 @@ use fb_schema::{Kind, Scalar, Schema};
 use fbcheck_words::Settings;
 use std::alloc::{AllocError, Global};
 use std::io::ErrorKind;
+use thiserror::Error;
 
 /// How many names are told.
 const MOST: usize = 10;
@@ -27,7 +28,8 @@ const FRONT: usize = 16;
 const VALUES: u16 = 256;
 
 /// Why there is nothing to check buffers by, and what is told behind that.
-#[derive(Drop)]
+#[derive(Debug, Drop, Error)]
+#[error("{fault}")]
 pub struct Unasked {
     /// The cause.
     pub fault: AskFault,

@@ -5,9 +5,15 @@ use crate::tests::compare::same;
 use fb_access::PathFault;
 use fb_bfbs::LoadFault;
 use fb_bytes::StreamFault;
+use fb_run::{Line, RunFault};
 use fb_verify::{Fault, Reason};
+use fbcheck_texts::fault::{AskFault, CheckFault, FileFault, WordsFault, WrongWord};
+use fbcheck_texts::hint::Unasked;
+use fbcheck_words::{SettingsFault, settings};
 use std::alloc::Global;
+use std::error::Error;
 use std::fmt::Display;
+use std::io::ErrorKind;
 use std::process::Abort;
 
 /// A fault of a schema file with this reason of the verifier, and its text.
@@ -73,11 +79,72 @@ const OF_STREAMS: [(StreamFault, &str); 4] = [
     (StreamFault::Failed, "S4 Failed"),
 ];
 
+/// Why runs come to rest.
+const OF_RUNS: [(RunFault, &str); 7] = [
+    (RunFault::ReadFault, "read failed"),
+    (
+        RunFault::WriteFault { written: 31 },
+        "write failed after 31 bytes",
+    ),
+    (
+        RunFault::NoteFault { written: 0 },
+        "write to standard error failed after 0 bytes",
+    ),
+    (
+        RunFault::Stream(StreamFault::Truncated { held: 31 }),
+        "stream: S2 Truncated held=31",
+    ),
+    (RunFault::TooManyTurns, "too many reads"),
+    (RunFault::OutOfMemory, "out of memory"),
+    (
+        RunFault::BareTooLong { limit: 64 },
+        "input longer than 64 bytes",
+    ),
+];
+
+/// Why nothing can be asked of buffers.
+const OF_ASKING: [(AskFault, &str); 5] = [
+    (
+        AskFault::Load(LoadFault::RootNotListed),
+        "schema: L3 RootNotListed",
+    ),
+    (AskFault::NoRoot, "no root table"),
+    (
+        AskFault::Path(PathFault::NotATable { step: 2 }),
+        "path: P6 NotATable step=2",
+    ),
+    (
+        AskFault::NoIdent,
+        "the schema's identifier isn't four bytes",
+    ),
+    (AskFault::OutOfMemory, "out of memory"),
+];
+
+/// Why checks come to rest.
+const OF_CHECKS: [(CheckFault, &str); 2] = [
+    (CheckFault::Ask(AskFault::NoRoot), "no root table"),
+    (CheckFault::Run(RunFault::ReadFault), "read failed"),
+];
+
+/// Why schema files can't be read.
+const OF_READING: [(FileFault, &str); 2] = [
+    (
+        FileFault::Unreadable(ErrorKind::NotFound),
+        "cannot read schema",
+    ),
+    (FileFault::OutOfMemory, "out of memory"),
+];
+
+/// Asserts the text of this.
+fn told<T: Display>(rt: &impl Abort, alloc: Global, fault: &T, want: &str) {
+    let told = format!(in alloc; "{fault}").expect(rt, "memory");
+    same(rt, told.as_str(), want);
+}
+
 /// Asserts the text of each of these faults.
-fn all_told<T: Display>(rt: &impl Abort, alloc: Global, cases: &[(T, &str)]) {
+fn all_told<T: Error>(rt: &impl Abort, alloc: Global, cases: &[(T, &str)]) {
     for (fault, want) in cases {
-        let told = format!(in alloc; "{fault}").expect(rt, "memory");
-        same(rt, told.as_str(), *want);
+        told(rt, alloc, fault, want);
     }
 }
 
@@ -86,4 +153,47 @@ fn each_fault_has_its_text(rt: HostRuntime) {
     all_told(&rt, rt.alloc(), &OF_FILES);
     all_told(&rt, rt.alloc(), &OF_PATHS);
     all_told(&rt, rt.alloc(), &OF_STREAMS);
+}
+
+#[test]
+fn each_fault_of_the_program_has_its_text(rt: HostRuntime) {
+    let alloc = rt.alloc();
+    all_told(&rt, alloc, &OF_RUNS);
+    all_told(&rt, alloc, &OF_ASKING);
+    all_told(&rt, alloc, &OF_CHECKS);
+    all_told(&rt, alloc, &OF_READING);
+    let unasked = [(Unasked::plain(AskFault::NoRoot), "no root table")];
+    all_told(&rt, alloc, &unasked);
+    let refused = [(SettingsFault::BadIdent, "ident must be four bytes")];
+    all_told(&rt, alloc, &refused);
+    told(&rt, alloc, &Line::of("a line"), "a line");
+}
+
+#[test]
+fn a_wrong_word_is_told_by_its_number(rt: HostRuntime) {
+    let word = WrongWord {
+        number: 2,
+        bytes: Vec::new(rt.alloc()),
+    };
+    let cases = [
+        (WordsFault::NotText(word), "a word is not UTF-8: number 2"),
+        (WordsFault::OutOfMemory, "out of memory"),
+    ];
+    all_told(&rt, rt.alloc(), &cases);
+}
+
+#[test]
+fn words_that_clap_refuses_are_told_by_its_text(rt: HostRuntime) {
+    let alloc = rt.alloc();
+    let program = String::from_str(alloc, "fbcheck").expect(&rt, "memory");
+    let wrong = String::from_str(alloc, "--no-such-option").expect(&rt, "memory");
+    let Err(fault) = settings(alloc, &[program, wrong]) else {
+        panic!(rt; "settings of a wrong word")
+    };
+    let SettingsFault::Usage(error) = &fault else {
+        panic!(rt; "another fault than that of a wrong word")
+    };
+    let want = format!(in alloc; "{error}").expect(&rt, "memory");
+    assert!(rt; !want.is_empty());
+    told(&rt, alloc, &fault, want.as_str());
 }
