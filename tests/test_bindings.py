@@ -24,7 +24,7 @@ import unittest
 
 from tests.support import schemas
 from tests.support.buffers import (
-    ASKEW, HALVES, MEMBER, MEMBERS, NOTHING, ORC, PLACED, PLAIN, POST, TWINS, doubling, lower_type, named,
+    ASKEW, HALVES, MEMBER, MEMBERS, NOTHING, ORC, PLACED, PLAIN, POST, TWINS, doubling, levels, lower_type, named,
 )
 from tests.support.builder import buffer, changed, messages_of, prefixed
 from tests.support.every_kind import FILE, LITTLE, OPTIONS, PLACE, WHOLE, variants, words_of
@@ -161,6 +161,16 @@ class Binding:
         self.holds("a wrong one", other.startswith("bad V1 WrongPrefix at=0 object=1 field=- reads=1"), other)
         self.same("names", named_so, ["post.Delivery", "items", "-", "-"])
         self.same("the most reads of 100 bytes", most, str(100 * 64 + 4096 + 7))
+
+    def test_long_places(self):
+        """A place is told in words up to 1,024 bytes."""
+        for count, length in [(204, 1021), (205, 1024), (4_096, 1024)]:
+            torn = levels(count)[:-4]
+            want = run("--names", "--bare", "--max-depth", "4096", "--schema", FILES["CHAIN"], given=torn).out.decode()
+            head, place = want.removeprefix("1 ").strip().split(" in ")
+            self.same(f"{count} levels: the length", len(f"in {place}"[:1024]), length)
+            told = self.told(f"load {FILES['CHAIN']} max_depth=4096", f"check {file_of('torn', torn)}")
+            self.same(f"{count} levels", told[1], f"{head} {f'in {place}'[:1024]}")
 
     def test_options(self):
         """Those that can't be served, and those that no stream of the program has."""

@@ -505,6 +505,8 @@ class LibraryForC(LibraryCase):
         self.same("a depth that no load has", (new(file, len(file), python.Options(max_depth=4097)), told()),
                   (None, blank(4)))
         self.same("unknown options", (new(file, len(file), python.Options(version=2)), told()), (None, blank(3)))
+        for length in (2**63 - 1, 2**63, 2**64 - 9, 2**64 - 8, 2**64 - 1):
+            self.same(f"a file of {length} bytes", (new(file, length), told()), (None, blank(11)))
         schema = new(file, len(file), python.Options(max_depth=4096))
         self.same("a schema", (schema is not None, told()), (True, blank(0)))
         verify = lambda schema, scratch, asked, data, length: calls.fbcheck_verify(schema, scratch, asked, data, length,
@@ -540,6 +542,25 @@ class LibraryForC(LibraryCase):
         calls.fbcheck_scratch_free(scratch)
         calls.fbcheck_scratch_free(None)
         path, value, written = python._Path(), python._Value(), ctypes.c_size_t()
+        for length in (1 << 32, 2**63 - 1):
+            for scratch in (None, calls.fbcheck_scratch_new(64)):
+                words, span = (schema, scratch, None, b"", length), python._Span(0, length)
+                got = [calls.fbcheck_verify(*words, verdict), calls.fbcheck_locate(*words, None, 0, written, verdict),
+                       calls.fbcheck_read(*words, None, None, 0, verdict),
+                       calls.fbcheck_verify_each(*words, span, verdict, 1), verdict.status]
+                self.same(f"{length} bytes are too many", got, [7, 7, 7, 1, 7])
+                calls.fbcheck_scratch_free(scratch)
+        for depth, asked, answer in [(0, {"max_depth": 65}, 4), (65, {"max_depth": 65}, 1), (0, {"root": 77}, 6)]:
+            scratch = calls.fbcheck_scratch_new(depth) if depth else None
+            words = (schema, scratch, python.Options(**asked), None, 0)
+            got = [calls.fbcheck_verify(*words, None), calls.fbcheck_locate(*words, None, 0, written, None),
+                   calls.fbcheck_read(*words, None, None, 0, None)]
+            self.same(f"{asked} without a verdict", got, [answer] * 3)
+            calls.fbcheck_scratch_free(scratch)
+        room = (python._Framer(), (ctypes.c_uint8 * 8)(), 8)
+        no_bytes = [calls.fbcheck_resolve(schema, None, None, 0, path, None),
+                    calls.fbcheck_framer_feed(*room, None, 0, written)]
+        self.same("null bytes of length 0 are none", no_bytes, [17, 13])
         untold = [calls.fbcheck_verify(schema, None, None, None, 9, None),
                   calls.fbcheck_locate(schema, None, None, b"", 0, None, 0, written, None),
                   calls.fbcheck_resolve(schema, None, b"?", 1, path, None),

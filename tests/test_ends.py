@@ -4,9 +4,10 @@ from tests.support import schemas
 from tests.support.buffers import ORC, SEVEN
 from tests.support.builder import spelled
 from tests.support.cases import Case
-from tests.support.preloaded import counted, narrowed
+from tests.support.preloaded import counted, narrowed, refusing
 from tests.support.program import (
-    NO_BYTES, Ran, astray, bad, failed, fieldless, good, lines, overlong, oversize, rootless, run, schemaless,
+    NO_BYTES, PROGRAM, Ran, astray, bad, failed, fieldless, file_of, good, lines, overlong, oversize, rootless, run,
+    schemaless,
 )
 
 FILES = schemas.files()
@@ -28,6 +29,15 @@ class Ends(Case):
         for most in range(1, len(ORC) + 1):
             want = good("1 ok tables=1 depth=1 reads=8"), -(-len(ORC) // most) + 1
             self.same(f"a bare input by {most}", counted(*BY_M, given=ORC, read=most, write=1), want)
+
+    def test_what_one_read_gives_is_written_at_once(self):
+        """In one call, and in one more where 65,536 bytes come before the last message."""
+        for name, words, count, calls in [
+            ("lines", BY_N, 1_000, 1), ("lines of JSON", (*BY_N, "--json"), 1_000, 1), ("many lines", BY_N, 2_048, 2),
+            ("messages of a filter", (*BY_N, "--filter"), 2_048, 1),
+        ]:
+            ran = refusing([PROGRAM, *words], file_of("many", SEVEN * count))
+            self.same(name, (ran.status, len(ran.reads), len(ran.writes)), (0, 2, calls))
 
     def test_reads_that_fail(self):
         """Byte by byte: the read with this number fails, after as many bytes as reads before it."""

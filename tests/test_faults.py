@@ -70,7 +70,7 @@ class Faults(Case):
             ("cut off", 2, ["--path", b"\xe2\x82"], r"\xe2\x82"),
             ("before help", 1, [b"\x80", "--help"], r"\x80"),
             ("two of them", 3, ["--path", "a", b"--\x80", b"\xff"], r"--\x80"),
-            ("a long one", 2, ["a" * 5_000, "ü".encode() * 40_000 + b"\xff"], r"\xc3\xbc" * 40_000 + r"\xff"),
+            ("the longest", 2, ["a" * 131_071, "ü".encode() * 65_535 + b"\xff"], r"\xc3\xbc" * 65_535 + r"\xff"),
             ("a file's name in Latin-1", 3, [*BY_M[:2], "größe.bin".encode("latin-1")], r"gr\xf6\xdfe.bin"),
         ]:
             self.same(f"a word that isn't UTF-8, {name}", run(*words, given=SEVEN),

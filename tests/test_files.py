@@ -163,6 +163,26 @@ class Files(Case):
         self.same("one that isn't UTF-8", run(*BY_N, b"\xff", GOOD), refused(
             rf"a word is not UTF-8: number 3, \xff; {NOT_UTF_8}"))
 
+    def test_long_names(self):
+        """Names and words as long as the system takes them: none is told as want of memory."""
+        good, bad, empty = (f"{FOLDER}/{'./' * 1_500}{file.name}" for file in (GOOD, BAD, EMPTY))
+        self.same("names of files", run(*BY_N, good, bad), Ran(1, lines(
+            f"{good}: 1 ok tables=1 depth=1 reads=5",
+            f"{bad}: 1 bad V2 OutOfBuffer at=4 object=0 field=- reads=1"), b""))
+        self.same("as JSON", run(*BY_N, "--json", good, bad), Ran(1, lines(
+            f'{{"file":"{good}","message":1,"ok":true,"tables":1,"depth":1,"reads":5}}',
+            f'{{"file":"{bad}","message":1,"ok":false,"code":"V2","reason":"OutOfBuffer","at":4,"object":"N",'
+            '"field":null,"reads":1,"place":"."}'), b""))
+        self.same("one that gives no schema", run("--schema", empty, GOOD),
+                  schemaless("L1 V2 OutOfBuffer at=4 object=9 field=- reads=0", empty, NO_BYTES))
+        long = "x" * 131_071
+        self.same("a file", run(*BY_N, long, GOOD), failed(
+            f"{long}: invalid file name", f"{GOOD}: 1 ok tables=1 depth=1 reads=5"))
+        self.same("a schema file", run("--schema", long), refused(f"cannot read schema {long}: invalid file name"))
+        self.same("a root", run(*BY_N, "--root", long), rootless(long, "N"))
+        self.same("a path beside another", run(*BY_N, "--path", "v", "--path", long),
+                  refused(f"path: P2 NoSuchField step=0 in {long}; fields: v"))
+
     def test_files_that_cannot_be_read(self):
         loop = FOLDER / "loop"
         loop.symlink_to(loop)

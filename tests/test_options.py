@@ -43,6 +43,40 @@ CALL = {
 
 ALL_READS = ["--reads-per-byte", "4294967295"]
 
+HELP = """\
+Checks FlatBuffers in files or on standard input against a binary schema
+
+Usage: fbcheck [OPTIONS] [FILE]... < INPUT
+
+Arguments:
+  [FILE]...  The files to be read, - for standard input; without any, standard input
+
+Options:
+      --schema <FILE>       The binary schema (.bfbs); without it, the input is taken to be schema files
+      --root <NAME>         The root table with its namespace; without it, the schema's own
+      --ident <XXXX>        The file identifier that each buffer must have
+      --schema-ident        Each buffer must have the schema's own file identifier, where it declares one
+      --path <P>            Append the value at this path to the line of each good buffer; may be given up to 16 times
+      --max-depth <N>       Deepest nesting of tables, 0 to 4096 [default: 64]
+      --max-tables <N>      Most tables in one buffer, 0 to 4294967295 [default: 1000000]
+      --max-reads <N>       Most reads of one buffer, 0 to 18446744073709551615 [default: 100000000]
+      --reads-per-byte <N>  Most reads for each byte of a buffer, beside 4096 for all, 0 to 4294967295 [default: 64]
+      --max-bytes <N>       Most bytes of a message, prefix included, 8 to 2147483647 [default: 67108864]
+      --bare                Each input is one bare buffer, not a stream
+      --delimited           The four bytes with a message's length are no part of the buffer, which is a bare one
+      --no-alignment        Don't check alignment
+      --inline-size         Require each field to end within its table's inline size
+      --quiet               Print no lines for good buffers
+      --filter              Pass good buffers on, and write lines of bad ones to standard error
+      --summary             Write a line of what was counted to standard error at the end
+      --names               End lines of bad buffers with the place in words
+      --json                Write each line as a JSON object
+  -H, --with-filename       Begin lines with the file's name, also where there is one file alone
+  -h, --help                Print help
+  -V, --version             Print version
+"""
+USAGE = "\nUsage: fbcheck [OPTIONS] [FILE]... < INPUT\n"
+
 
 def words_of(call):
     return [word for pair in call.items() for word in pair if word is not None]
@@ -396,14 +430,29 @@ class Options(Case):
         by_n = "--schema", FILES["N"], "--path", "v", "--path", "v"
         self.same("a path twice in plain lines", run(*by_n, given=SEVEN), good("1 ok tables=1 depth=1 reads=5 7 7"))
 
+    def test_texts_of_wrong_words(self):
+        """The words of `clap`, to the letter."""
+        for words, text, usage in [
+            (["--nothing"], "unexpected argument '--nothing' found\n\n"
+             "  tip: to pass '--nothing' as a value, use '-- --nothing'\n", USAGE),
+            (["--pith", "a"], "unexpected argument '--pith' found\n\n  tip: a similar argument exists: '--path'\n", USAGE),
+            (["--schema"], "a value is required for '--schema <FILE>' but none was supplied\n", ""),
+            (["--max-depth", "4097"], "invalid value '4097' for '--max-depth <N>': 4097 is not in 0..=4096\n", ""),
+            (["--max-bytes=7"], "invalid value '7' for '--max-bytes <N>': 7 is not in 8..=2147483647\n", ""),
+            (["--max-tables", "ü"], "invalid value 'ü' for '--max-tables <N>': invalid digit found in string\n", ""),
+            (["--max-reads", "18446744073709551616"], "invalid value '18446744073709551616' for '--max-reads <N>': "
+             "number too large to fit in target type\n", ""),
+            (["--bare", "--json", "--bare"], "the argument '--bare' cannot be used multiple times\n", USAGE),
+            (["--json=no"], "unexpected value 'no' for '--json' found; no more were expected\n", USAGE),
+            ([f"--{'a' * 100_000}"], f"unexpected argument '--{'a' * 100_000}' found\n\n"
+             f"  tip: to pass '--{'a' * 100_000}' as a value, use '-- --{'a' * 100_000}'\n", USAGE),
+        ]:
+            told = f"error: {text}{usage}\nFor more information, try '--help'.\n".encode()
+            self.same(str(words)[:40], run(*words, given=SEVEN), Ran(2, b"", told))
+
     def test_help_is_given(self):
         for words in [["--help"], ["-h"], ["--bare", "--help"], ["--help", "--nothing"]]:
-            ran = run(*words, given=SEVEN)
-            self.same(f"{words} is status 0", (ran.status, ran.err), (0, b""))
-            self.holds(f"{words} tells whence the input comes", b"\nUsage: fbcheck [OPTIONS] [FILE]... < INPUT\n" in ran.out, ran.out)
-            for name in [*CALL, "--schema-ident", "--bare", "--delimited", "--quiet", "--json", "--help", "--version"]:
-                self.holds(f"{words} tells of {name}", name.encode() in ran.out, ran.out)
-        self.same("help is the same each time", run("-h"), Ran(0, run("--help").out, b""))
+            self.same(f"{words}", run(*words, given=SEVEN), Ran(0, HELP.encode(), b""))
 
     def test_the_version_is_told(self):
         logic = re.search(r"this repository's `(logic [^`]+)`", (TOP / "README.md").read_text())[1]

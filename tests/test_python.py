@@ -197,6 +197,9 @@ class Python(LibraryCase):
         self.same("reasons have the reference's names", re.findall(r"V\d+ [A-Z]\w+", page), [*map(str, reason)])
         deep = self.by("CHAIN", max_depth=4096)
         self.same("a place that is long", deep.check(buffers.levels(500)[:-1]).place, ".".join(["next"] * 499))
+        longest = buffers.levels(4096)[:-4]
+        want = run("--names", "--bare", "--max-depth", "4096", "--schema", FILES["CHAIN"], given=longest).out.decode()
+        self.same("the longest place", f"1 {deep.check(longest)}\n", want)
         file = schema([table("L" * 70_000, field("f" * 5000, INT, 4))], root="L" * 70_000)
         told = self.module.Schema(file).check(spelled("0c000000 0000 0600 ffff 0400 08000000"))
         self.same("names that are long", (told.reason, told.object, told.field), (8, "L" * 70_000, None))

@@ -1,6 +1,7 @@
 /*
- * Makes a schema, checks a buffer, reads a value and frees, over and over: with a scratch and without, and from a file
- * that is cut off. Tells how many bytes of the heap are in use after a few rounds, and after many.
+ * Makes a schema, checks a buffer, reads a value and frees, over and over: with a scratch and without, from a file that
+ * is cut off, and with a scratch that is too deep. Tells how many bytes of the heap are in use after a few rounds, and
+ * after many.
  */
 #include <fbcheck.h>
 #include <malloc.h>
@@ -50,6 +51,8 @@ static void round_of(size_t number)
         exit(5);
     if (fbcheck_verify(schema, scratch, NULL, bytes[1], lengths[1], NULL) != FBCHECK_OK)
         exit(6);
+    if (fbcheck_scratch_new(FBCHECK_DEEPEST + 1) != NULL)
+        exit(7);
     fbcheck_scratch_free(scratch);
     fbcheck_schema_free(schema);
 }
