@@ -117,7 +117,7 @@ static void verdict_free(PyObject *object)
 static PyMemberDef verdict_members[] = {
     { "tables", T_UINT, TOLD(tables), READONLY, "how many tables were visited; 0 of a bad message" },
     { "depth", T_UINT, TOLD(depth), READONLY, "the most tables open at once; 0 of a bad message" },
-    { "reads", T_ULONGLONG, TOLD(reads), READONLY, "how many reads were made" },
+    { "reads", T_ULONGLONG, TOLD(reads), READONLY, "how many reads were counted" },
     { "object", T_OBJECT, offsetof(Verdict, object), READONLY,
       "of a bad message the name of the table or struct under check, with its namespace" },
     { "field", T_OBJECT, offsetof(Verdict, field), READONLY, "the name of its field under check, if it is one" },
