@@ -10,8 +10,9 @@ import unittest
 from tests.support.library import LibraryCase
 from tests.support.program import FOLDER, PROGRAM, TOP, run
 
-PAGES = ("README.md", "CHANGELOG.md", "docs/*.md", "bindings/*/README.md", "bindings/node/index.d.ts",
-         "bench/compare.svg", "examples/deliveries.*", "examples/number.jq", "examples/c/*", "examples/split", "examples/engines/*")
+PAGES = ("README.md", "CHANGELOG.md", "CONTRIBUTING.md", "docs/*.md", "bindings/*/README.md", "bindings/node/index.d.ts",
+         "bench/README.md", "bench/compare.svg", "crates/name_reader/src/lib.rt", "examples/deliveries.*",
+         "examples/number.jq", "examples/c/*", "examples/split", "examples/engines/*")
 PLACES = {
     "bin/fbcheck": 0o755,
     "share/man/man1/fbcheck.1": 0o644,
