@@ -62,15 +62,15 @@ def reasons():
 def faults():
     """The texts of faults that the reference has, those of paths each by itself."""
     reference = (TOP / "docs/REFERENCE.md").read_text()
-    texts = re.findall(r"^\| `([^`]+)`.* \| [23] \|", reference.split("| text of a fault")[1].split("\n## ")[0], re.M)
-    paths = re.findall(r"^\| P\d \| `(P[1-6] [^`]+)` \|", reference, re.M)
+    texts = re.findall(r"^- `([^`]+)`", reference.split("The text of a fault")[1].split("\n## ")[0], re.M)
+    paths = re.findall(r"^- `(P[1-6] [^`]+)`", reference, re.M)
     return [text for text in texts if text != "path: .."] + [f"path: {text}" for text in paths]
 
 
 def codes():
     """The codes of what is no legal schema, as the reference has them."""
     demands = (TOP / "docs/REFERENCE.md").read_text().split("## What a legal schema is")[1].split("\n## ")[0]
-    return re.findall(r"^\| `(C\d+ \w+)` \|", demands, re.M)
+    return re.findall(r"^- `(C\d+ \w+)`", demands, re.M)
 
 
 def plain(page):
