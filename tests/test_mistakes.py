@@ -111,7 +111,7 @@ def rows():
     """The list's lines, with what was given. How much gzip packs into may differ a little."""
     page = (TOP / "docs/REFERENCE.md").read_text().replace("held=506", f"held={len(piped(POST))}")
     section = page.split("## Where all or most messages are bad")[1].split("\n## ")[0]
-    return re.findall(r"^- `(.+?)` (.+?) → .+$", re.sub(r"\n  +", " ", section), re.M)
+    return re.findall(r"^- `(.+?)`: (.+?) → .+$", re.sub(r"\n  +", " ", section), re.M)
 
 
 class Mistakes(Case):
