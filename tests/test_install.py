@@ -62,7 +62,7 @@ def reasons():
 def faults():
     """The texts of faults that the reference has, those of paths each by itself."""
     reference = (TOP / "docs/REFERENCE.md").read_text()
-    texts = re.findall(r"^- `([^`]+)`", reference.split("The text of a fault")[1].split("\n## ")[0], re.M)
+    texts = re.findall(r"^- `([^`]+)`", reference.split("## Exit statuses and faults")[1].split("\n## ")[0], re.M)
     paths = re.findall(r"^- `(P[1-6] [^`]+)`", reference, re.M)
     return [text for text in texts if text != "path: .."] + [f"path: {text}" for text in paths]
 
