@@ -764,6 +764,7 @@ class LibraryForC(LibraryCase):
         small, orc, torn = file_of("M.bfbs", schemas.M), file_of("orc", ORC), file_of("torn", ORC[:-1])
         for name, words, wanted, line in [
             ("good", [small, orc], 0, "ok tables=1 depth=1 reads=8"), ("with its root", [small, orc, "M"], 0, None),
+            ("of more than a piece", [small, file_of("long", ORC + bytes(1 << 17))], 0, "ok tables=1 depth=1 reads=8"),
             ("torn", [small, torn], 1, "bad V2 OutOfBuffer at=28 object=0 field=1 reads=7\nin M.name"),
             ("empty", [small, file_of("empty", b"")], 1, "bad V2 OutOfBuffer at=0 object=0 field=- reads=0\nin M"),
             ("no such table", [small, orc, "N"], 2, ""),
@@ -850,18 +851,15 @@ class LibraryForC(LibraryCase):
             self.same(f"{name} at fault", (status, err), (2, f"{text}\n"))
 
     def test_texts_of_the_pages(self):
-        """The C that README.md shows works when it is pasted."""
-        for rows in ("good", "bad"):
-            (FOLDER / rows).mkdir()
-        file_of("good/my.bfbs", schemas.M)
-        file_of("bad/my.bfbs", ORC)
-        text = re.search(r"```c\n(.*?)```", (TOP / "README.md").read_text(), re.S)[1]
-        program = self.compiled("pasted", file_of("pasted.c", text.encode()), *SHARED)
-        for name, rows, given, want in [
-            ("a good buffer", "good", ORC, (0, "good: 1 tables\n")),
-            ("one whose last text is torn", "good", ORC[:-1], (1, "not good: 1, V2 at 28\n")),
-            ("one of more than a piece", "good", ORC + bytes(1 << 17), (0, "good: 1 tables\n")),
-            ("no schema", "bad", ORC, (2, "no schema: 8\n")),
-        ]:
-            told = ran("env", "-C", FOLDER / rows, program, "my.bfbs", given=given)
-            self.same(name, told[:2], want)
+        """The command that REFERENCE.md shows builds a program, as the page says of a clone, which checks a buffer."""
+        if not shutil.which("pkg-config"):
+            self.skipTest("pkg-config isn't there")
+        page = (TOP / "docs/REFERENCE.md").read_text()
+        command = re.search(r"(?m)^cc .*pkg-config.*$", page)[0]
+        folder = FOLDER / "pasted"
+        folder.mkdir()
+        (folder / "examples").symlink_to(TOP / "examples")
+        told = ran("env", "-C", folder, "sh", "-c", f"{command} -Wl,-rpath,{OUT}", PKG_CONFIG_PATH=str(OUT))
+        self.same("it is built", told, (0, "", ""))
+        small, orc = file_of("pasted.bfbs", schemas.M), file_of("pasted.bin", ORC)
+        self.same("it checks a buffer", ran(folder / "check", small, orc), (0, "ok tables=1 depth=1 reads=8\n", ""))

@@ -102,9 +102,10 @@ class Evidence(unittest.TestCase):
         for path in paths:
             if path.suffix in (".rt", ".antt", ".py", ".c", ".h", ""):
                 named.update(re.findall(r"\w+", path.read_text(errors="replace")))
-        for page in ("ARCHITECTURE", "DECISIONS", "EVIDENCE", "MODEL", "PROOFS"):
+        pages = ["CONTRIBUTING", *(f"docs/{name}" for name in ("ARCHITECTURE", "DECISIONS", "EVIDENCE", "MODEL", "PROOFS"))]
+        for page in pages:
             with self.subTest(page=page):
-                text = re.sub(r"(?s)```.*?```", "", (TOP / f"docs/{page}.md").read_text())
+                text = re.sub(r"(?s)```.*?```", "", (TOP / f"{page}.md").read_text())
                 spans = re.findall(r"`([A-Za-z][\w:]*)`", text)
                 self.assertEqual([span for span in spans if not named.issuperset(re.findall(r"\w+", span))], [])
                 files = re.findall(r"`([\w/]+\.(?:rt|antt|py|c|h))`", text)

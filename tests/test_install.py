@@ -10,8 +10,9 @@ import unittest
 from tests.support.library import LibraryCase
 from tests.support.program import FOLDER, PROGRAM, TOP, run
 
-PAGES = ("README.md", "CHANGELOG.md", "docs/*.md", "bindings/*/README.md", "bindings/node/index.d.ts",
-         "bench/compare.svg", "examples/deliveries.*", "examples/number.jq", "examples/c/*", "examples/split", "examples/engines/*")
+PAGES = ("README.md", "CHANGELOG.md", "CONTRIBUTING.md", "docs/*.md", "bindings/*/README.md", "bindings/node/index.d.ts",
+         "bench/README.md", "bench/compare.svg", "crates/name_reader/src/lib.rt", "examples/deliveries.*",
+         "examples/number.jq", "examples/c/*", "examples/split", "examples/engines/*")
 PLACES = {
     "bin/fbcheck": 0o755,
     "share/man/man1/fbcheck.1": 0o644,
@@ -61,15 +62,15 @@ def reasons():
 def faults():
     """The texts of faults that the reference has, those of paths each by itself."""
     reference = (TOP / "docs/REFERENCE.md").read_text()
-    texts = re.findall(r"^\| `([^`]+)`.* \| [23] \|", reference.split("| text of a fault")[1].split("\n## ")[0], re.M)
-    paths = re.findall(r"^\| P\d \| `(P[1-6] [^`]+)` \|", reference, re.M)
+    texts = re.findall(r"^- `([^`]+)`", reference.split("## Exit statuses and faults")[1].split("\n## ")[0], re.M)
+    paths = re.findall(r"^- `(P[1-6] [^`]+)`", reference, re.M)
     return [text for text in texts if text != "path: .."] + [f"path: {text}" for text in paths]
 
 
 def codes():
     """The codes of what is no legal schema, as the reference has them."""
     demands = (TOP / "docs/REFERENCE.md").read_text().split("## What a legal schema is")[1].split("\n## ")[0]
-    return re.findall(r"^\| `(C\d+ \w+)` \|", demands, re.M)
+    return re.findall(r"^- `(C\d+ \w+)`", demands, re.M)
 
 
 def plain(page):

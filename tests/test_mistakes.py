@@ -1,5 +1,5 @@
-"""The table of docs/REFERENCE.md of what may have gone wrong where every message is refused: each of its lines is what
-the program prints first of what was given."""
+"""The list of docs/REFERENCE.md of what may have gone wrong where every message is bad: each of its lines is what the
+program prints first of what was given."""
 
 import gzip
 import io
@@ -71,16 +71,16 @@ def recipe(stream):
     return subprocess.run([sys.executable, "-c", code], input=stream, capture_output=True, check=True).stdout
 
 
-# By the text of the table's second column: the words, and standard input.
+# By what the list says was given: the words, and standard input.
 CALLS = {
-    "as the schema messages; its text (`.fbs`) and JSON are told as such behind it": [
+    "messages, given as the schema; of a schema's text (`.fbs`) or JSON, the fault says so": [
         (("--schema", EXAMPLES / name), POST) for name in ("deliveries.fbs", "deliveries.jsonl", "deliveries.bin")
     ],
-    "as the schema an empty file": [(("--schema", file_of("empty.bfbs", b"")), POST)],
+    "an empty file, given as the schema": [(("--schema", file_of("empty.bfbs", b"")), POST)],
     "a root without its namespace (`--root Delivery`), or a struct": [((*BY_POST, "--root", "Delivery"), POST)],
-    'JSON: its `{"id` read as a number; any text declares more than 100,000,000': [(BY_POST, JSON)],
+    'JSON: its `{"id` is read as a number; any text declares more than 100,000,000': [(BY_POST, JSON)],
     "a file compressed with `gzip`": [(BY_POST, gzipped(POST))],
-    "what `gzip` packed from a pipe: `held=` is all there is; from 559,907 bytes on the first message is bad; with "
+    "what `gzip` packed from a pipe; `held=` is all there is. From 559,907 bytes on, the first message is bad; with "
     "`--bare` it's `V2` at 559903": [(BY_POST, piped(POST))],
     "a file compressed with `zstd`": [(BY_POST, by_zstd(POST))],
     "a file compressed with `zip`": [(BY_POST, zipped(POST))],
@@ -90,7 +90,7 @@ CALLS = {
     ],
     "a message behind the five bytes of gRPC (a zero, and its size in big-endian)": [(BY_POST, framed(FIRST))],
     "the same with a message below 256 bytes; from 1,024 on it is `S1 Oversize`": [(BY_POST, framed(SECOND))],
-    "a bare buffer as a stream: what follows its first four bytes is taken for an offset": [((), BARE)],
+    "a bare buffer, read as a stream: what follows its first four bytes is taken for an offset": [((), BARE)],
     "with `--bare` a message that has its prefix, which is taken for an offset (`at=` is the length less 4); rarely ok": [
         ((*BY_POST, "--bare"), FIRST), ((*BY_POST, "--bare"), POST)
     ],
@@ -99,7 +99,7 @@ CALLS = {
         ((), prefixed(BARE))
     ],
     "with `--bare` a message whose prefix was taken off": [((*BY_POST, "--bare"), FIRST[4:])],
-    "no `--schema`, so that the messages are checked as schema files, whose tables are `object=0` to `9`; often `V9 "
+    "no `--schema`, so that messages are checked as schema files, whose tables are `object=0` to `9`; often `V9 "
     "MissingRequired`": [((), POST)],
     "the same with `--path`; with `--root` it's `no root table`, with tables of `reflection`": [
         (("--path", "to.name"), POST)
@@ -108,15 +108,15 @@ CALLS = {
 
 
 def rows():
-    """The first two columns of the table. How much gzip packs into may differ a little."""
+    """The list's lines, with what was given. How much gzip packs into may differ a little."""
     page = (TOP / "docs/REFERENCE.md").read_text().replace("held=506", f"held={len(piped(POST))}")
-    section = page.split("## Where all or most messages are refused")[1].split("\n## ")[0]
-    return re.findall(r"^\| `(.+?)` \| (.+?) \| .+ \|$", section, re.M)
+    section = page.split("## Where all or most messages are bad")[1].split("\n## ")[0]
+    return re.findall(r"^- `(.+?)`: (.+?) → .+$", re.sub(r"\n  +", " ", section), re.M)
 
 
 class Mistakes(Case):
     def test_each_line_is_what_is_printed(self):
-        self.same("the table's rows", sorted(given for _, given in rows()), sorted(CALLS))
+        self.same("the list's lines", sorted(given for _, given in rows()), sorted(CALLS))
         for line, given in rows():
             for words, stream in CALLS.get(given, []):
                 ran = run(*words, given=stream)

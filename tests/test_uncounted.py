@@ -24,7 +24,7 @@ KNOWN = {
     ("fbcheck_calls/framer.rt", "Meter::new("): 1,  # a message's prefix
     ("fbcheck_calls/framer.rt", "seal("): 1,
     ("fbcheck_calls/handle.rt", "mem::"): 1,  # a handle, which holds no buffer
-    ("name_reader/lib.rt", "Meter::new("): 1,  # the README's example
+    ("name_reader/lib.rt", "Meter::new("): 1,  # the reference's example
 }
 
 
