@@ -29,7 +29,7 @@ const (
 	NoTerminator                  // the byte after a string isn't 0
 	LengthsDiffer                 // a vector of unions and its vector of types differ in length
 	PastTable                     // a field ends past its table's inline size
-	TooManyReads                  // more reads than the options allow
+	TooManyReads                  // more reads were counted than the options allow
 )
 
 // String is the code and name, as "V10 NoTerminator".

@@ -54,13 +54,13 @@ impl Options {
         self
     }
 
-    /// At most so many reads: 100,000,000.
+    /// At most so many counted reads: 100,000,000.
     pub fn max_reads(mut self, reads: u64) -> Options {
         self.asked.max_reads = reads;
         self
     }
 
-    /// At most so many reads for each byte, and 4,096 beside: 64.
+    /// At most so many counted reads for each byte, and 4,096 beside: 64.
     pub fn reads_per_byte(mut self, reads: u32) -> Options {
         self.asked.reads_per_byte = reads;
         self

@@ -69,7 +69,7 @@ pub enum Reason {
     LengthsDiffer = 11,
     /// A field ends past its table's inline size.
     PastTable = 12,
-    /// More reads than the options allow.
+    /// More reads were counted than the options allow.
     TooManyReads = 13,
 }
 

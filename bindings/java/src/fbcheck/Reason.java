@@ -28,7 +28,7 @@ public enum Reason {
     LENGTHS_DIFFER,
     /** A field ends past its table's inline size. */
     PAST_TABLE,
-    /** More reads than the options allow. */
+    /** More reads were counted than the options allow. */
     TOO_MANY_READS;
 
     private static final Reason[] ALL = values();
