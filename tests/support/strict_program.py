@@ -1,0 +1,41 @@
+"""The program with what it demands beside the rules of the format."""
+
+import subprocess
+
+from tests.support.builder import prefixed
+from tests.support.every_kind import words_of
+from tests.support.program import PROGRAM, run
+from tests.support.strict import EVERYTHING, STRICT, Demands
+
+# The words by which the program demands something, and what that is.
+SETS = [
+    (["--strict"], STRICT), (["--known-fields"], Demands(known_fields=True)), (["--utf8"], Demands(utf8=True)),
+    (["--strict", "--known-fields", "--utf8"], EVERYTHING), (["--known-fields", "--utf8"], Demands(known_fields=True, utf8=True)),
+]
+
+
+def words_of_limits(limits):
+    """The words that ask for these limits and checks, and for no other budget."""
+    return ["--reads-per-byte", str(2**32 - 1), *words_of(limits)]
+
+
+def has(word):
+    """Whether the program knows this word."""
+    try:
+        return word.encode() in run("--help").out
+    except OSError:
+        return False
+
+
+def has_strict():
+    return has("--strict")
+
+
+def lines_of(file, messages, *words, prefix=False):
+    """What the program tells of each of these buffers by this schema file, behind its number. They are bare, or each
+    has its prefix."""
+    words, given = (words, messages) if prefix else (["--delimited", *words], map(prefixed, messages))
+    ran = subprocess.run([PROGRAM, "--schema", file, *words], input=b"".join(given), capture_output=True)
+    if ran.returncode > 1:
+        raise RuntimeError(f"the program ends with {ran.returncode}: {ran.stderr.decode(errors='replace')}")
+    return [line.partition(" ")[2] for line in ran.stdout.decode().splitlines()]
