@@ -26,7 +26,7 @@ PLACES = {
     "lib/libfbcheck.so": 0o755,
     "lib/pkgconfig/fbcheck.pc": 0o644,
 }
-PACKAGE = ["__init__.py", "_fbcheck.pyi", "py.typed", "_fbcheck.abi3.so"]
+PACKAGE = ["__init__.py", "_fbcheck.pyi", "_formats.py", "py.typed", "_fbcheck.abi3.so"]
 PAGE = (TOP / "docs/fbcheck.1").read_text()
 VERSION = (TOP / "VERSION").read_text().strip()
 
