@@ -128,6 +128,9 @@ class Package(LibraryCase):
         page = (root / LIBRARIES / "pkgconfig/fbcheck.pc").read_text()
         self.same("pkg-config is told where they are", page.splitlines()[:2],
                   [f"libdir=/{LIBRARIES}", "includedir=/usr/include"])
+        page = (root / LIBRARIES / "cmake/fbcheck/fbcheck-config.cmake").read_text()
+        self.same("and so is CMake", re.findall(r'^ +set\(fbcheck_(\S+) "(.*)"\)', page, re.M),
+                  [("libdir", f"/{LIBRARIES}"), ("includedir", "/usr/include")])
         self.holds("man finds the page", (root / "usr/share/man/man1/fbcheck.1.gz").exists())
         self.the_pages(root / "usr", "README.md", "changelog.gz")
         for deb, files in [(DEBS[0], [root / "usr/bin/fbcheck"]), (DEBS[2], [root / LIBRARIES / "libfbcheck.so.1"])]:

@@ -1,5 +1,6 @@
 """Tools that not every machine has, and what was left out for want of them."""
 
+import functools
 import os
 import pathlib
 import re
@@ -17,6 +18,7 @@ def there(tool, why="isn't there"):
     return found
 
 
+@functools.cache
 def jdk_of_22():
     """The folder of a JDK of 22 or later, or None."""
     places = [os.environ.get("JAVA_HOME"), *sorted(pathlib.Path("/usr/lib/jvm").glob("*"))]
