@@ -107,7 +107,7 @@ class TestCommand(Case):
         folder.stand_in("build", "exit 0")
         _, out, _ = folder.call("--outside")
         told = "left out: b isn't there; no-such-tool isn't there"
-        self.same("what is left out", out[-4:-2], [told, "2 passed, 0 failed"])
+        self.same("what is left out", out[-4:-2], [told, "1 passed, 0 failed"])
         self.same("and nothing where nothing is", "left out" in str(Folder("all", [cases(1, 0)]).call()[1]), False)
 
     def test_the_time_is_told(self):
