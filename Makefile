@@ -28,4 +28,4 @@ bench:
 	bench/compare
 
 clean:
-	rm -rf out dist bench/out bindings/python/build crates/*/out
+	rm -rf out dist bench/out crates/*/out

@@ -1,7 +1,6 @@
 """The bindings for Rust, Node, Go and Java, each by a driver in tests/bindings that does what lines say.
 
-The program is the other voice: verdicts, places in words, values and texts of errors are those of its lines. Where a
-language's tool isn't there its cases are left out, and a line says so.
+The program is the other voice: verdicts, places in words, values and texts of errors are those of its lines.
 
 A driver reads commands, one a line, and writes what each answers, and behind it a line of one dot:
 
@@ -15,7 +14,6 @@ A driver reads commands, one a line, and writes what each answers, and behind it
 """
 
 import os
-import pathlib
 import re
 import shutil
 import struct
@@ -31,6 +29,7 @@ from tests.support.every_kind import FILE, LITTLE, OPTIONS, PLACE, WHOLE, varian
 from tests.support.library import OUT, LibraryCase, ran
 from tests.support.program import FOLDER, TOP, file_of, run
 from tests.support.schemas import INT, TEXT, U_BYTE, a_union, an_object, field, schema, table, union
+from tests.support.tools import jdk_of_22, node_headers, there
 
 DRIVERS = TOP / "tests/bindings"
 NO_SCHEMA = "; this is no binary schema, which flatc --binary --schema makes"
@@ -65,19 +64,6 @@ def value_of(line):
     return f"text:{text[1:-1].encode().hex()}" if text.startswith('"') else text
 
 
-def jdk_of_22():
-    """The folder of a JDK of 22 or later, or None."""
-    places = [os.environ.get("JAVA_HOME"), *sorted(pathlib.Path("/usr/lib/jvm").glob("*"))]
-    if shutil.which("javac"):
-        places.insert(1, pathlib.Path(shutil.which("javac")).resolve().parents[1])
-    for place in filter(None, places):
-        compiler = pathlib.Path(place) / "bin/javac"
-        version = re.search(r"\d+", ran(compiler, "-version")[1]) if compiler.exists() else None
-        if version and int(version[0]) >= 22:
-            return pathlib.Path(place)
-    return None
-
-
 class Binding:
     """The cases of each language."""
 
@@ -91,7 +77,6 @@ class Binding:
     def setUpClass(cls):
         missing = cls.missing()
         if missing:
-            print(f"The binding for {cls.language} isn't tested: {missing}.")
             raise unittest.SkipTest(missing)
         super().setUpClass()
         cls.build()
@@ -347,9 +332,9 @@ class Rust(Binding, LibraryCase):
 
     def test_style(self):
         for folder in (TOP / "bindings/rust", DRIVERS / "rust"):
-            if shutil.which("rustfmt"):
+            if there("rustfmt"):
                 self.made("cargo", "fmt", "--check", folder=folder)
-            if shutil.which("cargo-clippy"):
+            if there("cargo-clippy"):
                 self.cargo(folder, "clippy", "--release", "--", "-D", "warnings")
 
     def test_documented(self):
@@ -377,15 +362,14 @@ class Node(Binding, LibraryCase):
     def missing(cls):
         if not shutil.which("node"):
             return "node isn't there"
-        headers = pathlib.Path(shutil.which("node")).resolve().parents[1] / "include/node/node_api.h"
-        return None if headers.exists() or "NODE_HEADERS" in os.environ else "Node's headers aren't there"
+        return None if node_headers() else "Node's headers aren't there"
 
     @classmethod
     def build(cls):
         cls.made(TOP / "bindings/node/build")
 
     def test_style(self):
-        if shutil.which("tsc"):
+        if there("tsc"):
             self.made("tsc", "--noEmit", "--strict", "--target", "es2022", "--module", "commonjs", DRIVERS / "types.ts")
 
     def test_wrong_words(self):
@@ -418,25 +402,25 @@ class Node(Binding, LibraryCase):
             self.holds(call, got.startswith(want), got)
 
     def test_pieces_that_change(self):
-        """A piece has as many bytes as there are, whatever it says itself, and ends where it becomes shorter."""
+        """A piece has as many bytes as there are, whatever it says itself, and is refused where it becomes shorter."""
         code = (f"const {{ Schema }} = require('{TOP}/bindings/node'), fs = require('node:fs');\n"
                 f"const schema = new Schema('{ORDERS}', {{ prefixed: true }}), stream = fs.readFileSync('{STREAM}');\n"
                 "const piece = (buffer) => { const made = new Uint8Array(buffer); made.set(stream); return made; };\n"
                 "const told = (piece, after) => { let count = 0; const lines = [];\n"
                 "  try { for (const { verdict } of schema.messages([piece])) { lines.push(verdict.ok);\n"
-                "    if (++count === 1) after(piece); } } catch (error) { lines.push(error.code); }\n"
+                "    if (++count === 1) after(piece); } } catch (error) { lines.push(error.code ?? error.message); }\n"
                 "  console.log(...lines); };\n"
                 "const says = (length) => Object.defineProperty(piece(stream.length), 'length', { value: length });\n"
                 "told(says(2 ** 40), () => {}); told(says(0), () => {});\n"
                 "told(piece(stream.length), ({ buffer }) => structuredClone(buffer, { transfer: [buffer] }));\n")
-        lines = ["true true true true false true", "true true true true false true", "true"]
+        shorter = "true a piece of the stream became shorter while it was gone through"
+        lines = ["true true true true false true", "true true true true false true", shorter]
         if ran("node", "-p", "'resizable' in ArrayBuffer.prototype")[1] == "true\n":
             first, second = (len(message) for message in messages_of(POST)[:2])
             code += ("const some = (left) => told(piece(new ArrayBuffer(stream.length, { maxByteLength: 1 << 20 })),\n"
                      "  ({ buffer }) => buffer.resize(left));\n"
                      f"some(0); some(9); some({first + second}); some({first + second + 1}); some({len(POST) + 3});\n")
-            lines += ["true", "true", "true true", "true true TRUNCATED",
-                      "true true true true false true TRUNCATED"]
+            lines += [shorter] * 4 + ["true true true true false true TRUNCATED"]
         self.same("verdicts", ran("node", "-e", code), (0, "\n".join([*lines, ""]), ""))
 
     def test_shown(self):

@@ -7,7 +7,6 @@ both libraries, and under the address sanitizer too.
 import array
 import ctypes
 import re
-import shutil
 import socket
 import struct
 import subprocess
@@ -19,11 +18,12 @@ from tests.support.every_kind import FILE, LITTLE, OPTIONS, WHOLE, variants, wor
 from tests.support.library import OUT, SANITIZED, SHARED, STATIC, LibraryCase, module, ran
 from tests.support.program import FOLDER, TOP, file_of, run
 from tests.support.schemas import INT, an_object, field, schema, table
+from tests.support.tools import there
 
 HEADER = (TOP / "include/fbcheck.h").read_text()
 
 # How C++ is compiled, where there is a compiler for it.
-CPP = {"compiler": "c++", "standard": "-std=c++11"} if shutil.which("c++") else None
+CPP = {"compiler": "c++", "standard": "-std=c++11"} if there("c++") else None
 CPP_17, CPP_20 = ({"compiler": "c++", "standard": f"-std=c++{year}"} for year in (17, 20))
 ORDERS = TOP / "examples/deliveries.bfbs"
 ALL = file_of("all.bfbs", FILE)
@@ -726,7 +726,7 @@ class LibraryForC(LibraryCase):
         """The programs of examples/c, and the module for Python, on the messages of the example."""
         messages = messages_of(POST)
         words = SHARED
-        if shutil.which("pkg-config"):
+        if there("pkg-config"):
             words = ran("pkg-config", "--cflags", "--libs", "fbcheck", PKG_CONFIG_PATH=str(OUT))[1].split()
         check = self.compiled("check_c", TOP / "examples/c/check.c", *words, *SHARED[1:])
         if CPP:

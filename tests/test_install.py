@@ -9,6 +9,7 @@ import unittest
 
 from tests.support.library import LibraryCase
 from tests.support.program import FOLDER, PROGRAM, TOP, run
+from tests.support.tools import there
 
 PAGES = ("README.md", "CHANGELOG.md", "CONTRIBUTING.md", "docs/*.md", "bindings/*/README.md", "bindings/node/index.d.ts",
          "bench/README.md", "bench/compare.svg", "crates/name_reader/src/lib.rt", "examples/deliveries.*",
@@ -26,8 +27,10 @@ PLACES = {
     "lib/libfbcheck.so.1": 0o755,
     "lib/libfbcheck.so": 0o755,
     "lib/pkgconfig/fbcheck.pc": 0o644,
+    "lib/cmake/fbcheck/fbcheck-config.cmake": 0o644,
+    "lib/cmake/fbcheck/fbcheck-config-version.cmake": 0o644,
 }
-PACKAGE = ["__init__.py", "_fbcheck.pyi", "py.typed", "_fbcheck.abi3.so"]
+PACKAGE = ["__init__.py", "_fbcheck.pyi", "_formats.py", "py.typed", "_fbcheck.abi3.so"]
 PAGE = (TOP / "docs/fbcheck.1").read_text()
 VERSION = (TOP / "VERSION").read_text().strip()
 
@@ -193,7 +196,7 @@ class Install(LibraryCase):
         for code in codes():
             self.holds(f"the page has {code}", f".B {code}\n" in page)
         self.same("the page has each exit status", re.findall(r"^\.B (\d)$", page, re.M), ["0", "1", "2", "3"])
-        if shutil.which("groff"):
+        if there("groff"):
             ran = subprocess.run(["groff", "-man", "-Tutf8", "-ww", "-z", TOP / "docs/fbcheck.1"], capture_output=True)
             self.same("groff has nothing to say of the page", (ran.returncode, ran.stderr), (0, b""))
 

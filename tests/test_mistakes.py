@@ -5,7 +5,6 @@ import gzip
 import io
 import random
 import re
-import shutil
 import struct
 import subprocess
 import sys
@@ -15,6 +14,7 @@ from tests.support.buffers import POST
 from tests.support.builder import Plain, buffer, prefixed
 from tests.support.cases import Case
 from tests.support.program import NO_SCHEMA, TOP, Ran, astray, failed, file_of, lines, overlong, oversize, run
+from tests.support.tools import there
 
 EXAMPLES = TOP / "examples"
 SCHEMA = EXAMPLES / "deliveries.bfbs"
@@ -47,7 +47,7 @@ def zipped(data):
 
 def by_zstd(data):
     """As zstd packs it, where it's there; else how each of its files begins."""
-    if not shutil.which("zstd"):
+    if not there("zstd"):
         return b"\x28\xb5\x2f\xfd" + data
     return subprocess.run(["zstd", "-q", "-c", file_of("deliveries.bin", data)], capture_output=True, check=True).stdout
 

@@ -1,7 +1,6 @@
 """Each option of the command line, alone and with all others, and that each reaches what it's for."""
 
 import re
-import shutil
 import subprocess
 
 from tests.support import buffers, schemas
@@ -12,6 +11,7 @@ from tests.support.program import (
     FOLDER, SECONDS, TOP, Ran, astray, bad, failed, fieldless, file_of, good, overlong, refused, rootless, run,
     schemaless, shifted, unschemed,
 )
+from tests.support.tools import there
 
 FILES = schemas.files()
 X = "A", "R", "Q"
@@ -460,7 +460,7 @@ class Options(Case):
         for words in [["--version"], ["--bare", "--version"], ["--version", "--nothing"]]:
             self.same(f"{words}", run(*words, given=SEVEN), good(f"fbcheck {number}", f"proved in Rattle, {logic}"))
         self.same("-V", run("-V", given=SEVEN), good(f"fbcheck {number}"))
-        if shutil.which("rt"):
+        if there("rt"):
             told = subprocess.run(["rt", "version"], capture_output=True, text=True, timeout=SECONDS).stdout
             self.holds("the logic is that of the toolchain that is here", told.strip().endswith(f" {logic}"), told)
 

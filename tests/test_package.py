@@ -1,5 +1,5 @@
 """What ./package makes: a tarball and Debian packages, which are unpacked and used below roots of their own, and the
-version, which stands in one place and is told everywhere.
+version, which stands in one place and is told everywhere. The packages of languages are used in test_packages.py.
 """
 
 import hashlib
@@ -12,11 +12,15 @@ import unittest
 
 from tests.support.library import LibraryCase, ran
 from tests.support.program import FOLDER, PROGRAM, TOP, run
+from tests.support.tools import jdk_of_22, node_headers, there, with_jdk
 from tests.test_install import dead_links
 
 VERSION = (TOP / "VERSION").read_text().strip()
 DEBS = [f"{name}_{VERSION}_amd64.deb" for name in ("fbcheck", "libfbcheck-dev", "libfbcheck1", "python3-fbcheck")]
 TARBALL = f"fbcheck-{VERSION}-x86_64-linux.tar.gz"
+BILL = f"fbcheck-{VERSION}.cdx.json"
+LANGUAGES = [f"fbcheck-{VERSION}-cp311-abi3-manylinux_x86_64.whl", f"fbcheck-{VERSION}.tar.gz",
+             f"fbcheck-{VERSION}.0.0.crate", f"fbcheck-go-{VERSION}.0.0.tar.gz", f"fbcheck-{VERSION}-sources.jar"]
 LIBRARIES = "usr/lib/x86_64-linux-gnu"
 PACKAGES = "usr/lib/python3/dist-packages"
 GOOD = ["--schema", TOP / "examples/deliveries.bfbs", "--path", "to.name"]
@@ -37,8 +41,24 @@ print(importlib.metadata.version("fbcheck"), fbcheck.__file__)
 def packed(folder, **environment):
     """How ./package ends, and the files that it makes."""
     told = subprocess.run([TOP / "package", folder], capture_output=True, text=True, timeout=600,
-                          env={**os.environ, "DEBEMAIL": "fbcheck@fbcheck.dev", **environment})
-    return told.returncode, told.stderr, sorted(os.listdir(folder))
+                          env={**os.environ, "DEBEMAIL": "fbcheck@fbcheck.dev", **with_jdk(), **environment})
+    # The wheel's name has the glibc that it needs.
+    names = sorted(re.sub(r"(manylinux)_\d+_\d+", r"\1", name) for name in os.listdir(folder))
+    return told.returncode, told.stderr, names
+
+
+def made_here():
+    """What is told, and the packages that are made, where some tools may lack."""
+    said, names = "", [*DEBS, TARBALL, BILL, *LANGUAGES, "SHA256SUMS"]
+    if shutil.which("node") and node_headers():
+        names.append(f"fbcheck-{VERSION}.0.0.tgz")
+    else:
+        said += "package: the package for Node isn't made: "
+    if jdk_of_22():
+        names.append(f"fbcheck-{VERSION}.jar")
+    else:
+        said += "package: the jar isn't made: "
+    return said, sorted(names)
 
 
 def newest_glibc(*files):
@@ -72,15 +92,18 @@ class Package(LibraryCase):
         cls.told = packed(cls.dist)
 
     def test_what_is_made(self):
-        self.same("all is made, and nothing else", self.told, (0, "", sorted([*DEBS, TARBALL, "SHA256SUMS"])))
+        said, names = made_here()
+        told = "".join(re.findall(r"^package: [^:]*: ", self.told[1], re.M))
+        self.same("all is made, and nothing else", (self.told[0], told, self.told[2]), (0, said, names))
         sums = dict(reversed(line.split()) for line in (self.dist / "SHA256SUMS").read_text().splitlines())
-        real = {name: hashlib.sha256((self.dist / name).read_bytes()).hexdigest() for name in [*DEBS, TARBALL]}
-        self.same("the sums are theirs", sums, real)
+        real = {name: hashlib.sha256((self.dist / name).read_bytes()).hexdigest() for name in os.listdir(self.dist)}
+        self.same("the sums are theirs", sums, {name: real[name] for name in {*real} - {"SHA256SUMS"}})
         again = FOLDER / "again"
         self.same("made once more", packed(again), self.told)
         self.same("it is the same bytes", (again / "SHA256SUMS").read_text(), (self.dist / "SHA256SUMS").read_text())
-        want = [name for name in self.told[2] if not name.startswith("python3-")]
-        told = "package: python3-fbcheck isn't made: no headers of Python 3.11 or later\n"
+        want = sorted({*DEBS[:-1], TARBALL, BILL, "SHA256SUMS"})
+        told = ("package: python3-fbcheck isn't made: no headers of Python 3.11 or later\n"
+                "package: the packages of languages aren't made: no Python 3.11 or later\n")
         for python in ("", "/bin/false"):
             self.same(f"without a Python, {python!r}", packed(FOLDER / "without", PYTHON=python), (0, told, want))
         status, out, err = ran(TOP / "package", "--help")
@@ -105,6 +128,9 @@ class Package(LibraryCase):
         page = (root / LIBRARIES / "pkgconfig/fbcheck.pc").read_text()
         self.same("pkg-config is told where they are", page.splitlines()[:2],
                   [f"libdir=/{LIBRARIES}", "includedir=/usr/include"])
+        page = (root / LIBRARIES / "cmake/fbcheck/fbcheck-config.cmake").read_text()
+        self.same("and so is CMake", re.findall(r'^ +set\(fbcheck_(\S+) "(.*)"\)', page, re.M),
+                  [("libdir", f"/{LIBRARIES}"), ("includedir", "/usr/include")])
         self.holds("man finds the page", (root / "usr/share/man/man1/fbcheck.1.gz").exists())
         self.the_pages(root / "usr", "README.md", "changelog.gz")
         for deb, files in [(DEBS[0], [root / "usr/bin/fbcheck"]), (DEBS[2], [root / LIBRARIES / "libfbcheck.so.1"])]:
@@ -185,7 +211,7 @@ class Package(LibraryCase):
         want = run(*GOOD, given=STREAM)
         self.same(f"{program} runs", (told.returncode, told.stdout), (want.status, want.out))
         words = [f"-I{headers}", f"-L{libraries}", "-lfbcheck"]
-        if pages and shutil.which("pkg-config"):
+        if pages and there("pkg-config"):
             words = ran("pkg-config", "--cflags", "--libs", "fbcheck", PKG_CONFIG_PATH=pages)[1].split()
         made = FOLDER / "packaged"
         told = ran("cc", TOP / "examples/c/check.c", *words, f"-Wl,-rpath,{libraries}", "-o", made)

@@ -25,12 +25,13 @@ from tests.support.buffers import (
 from tests.support.builder import Plain, buffer, changed, messages_of, prefixed, spelled
 from tests.support.every_kind import FILE, LITTLE, OPTIONS, WHOLE, variants, words_of
 from tests.support.library import LibraryCase, ran
-from tests.support.program import TOP, file_of, run
+from tests.support.program import FOLDER, TOP, file_of, run
 from tests.support.python import package
 from tests.support.schemas import (
     BOOL, BYTE, DOUBLE, FLOAT, INT, LONG, SHORT, TEXT, U_BYTE, U_INT, U_LONG, U_SHORT, U_TYPE, a_union, an_object,
     field, schema, table, union, vector,
 )
+from tests.support.tools import there
 
 BINDING = TOP / "bindings/python"
 ORDERS = TOP / "examples/deliveries.bfbs"
@@ -270,6 +271,30 @@ class Python(LibraryCase):
         eleven = self.by("M").read(ORC, *["hp"] * 50)
         self.same("fifty too", eleven, (300,) * 50)
 
+    def test_numbers_anywhere(self):
+        """A vector's numbers have their type wherever a path leads to it, however few they are."""
+        inner = schemas.a_struct("game.P", 8, 2, field("hs", schemas.array(SHORT, 4), 0))
+        file = schema(
+            [inner, table("A", field("v", vector(DOUBLE), 4)),
+             table("N", field("next", an_object(2), 4), field("v", vector(LONG), 6), field("p", an_object(0), 8),
+                   field("u_type", U_TYPE, 10), field("u", a_union(0), 12), field("ns", vector(an_object(2)), 14),
+                   field("us_type", vector(U_TYPE), 16), field("us", vector(a_union(0)), 18),
+                   field("ps", vector(an_object(0)), 20))],
+            [union("U", ("NONE", 0, schemas.NONE), ("game_A", 3, an_object(1)))], root="N")
+        member = {0: Plain(b"", 8, 0)}
+        leaf = {1: Plain(b"", 8, 0), 2: Plain(struct.pack("<4h", 1, 2, 3, 4), 2, None), 3: ("B", 3), 4: member,
+                5: [{1: Plain(b"", 8, 0)}], 6: Plain(b"\3", 1, 1), 7: [member], 8: Plain(bytes(16), 2, 2)}
+        whole = buffer(leaf)
+        checker = self.module.Schema(file)
+        for path, letter in [("v", "q"), ("p.hs", "h"), ("u@game_A.v", "d"), ("ns[0].v", "q"), ("us[0]@game_A.v", "d"),
+                             ("ps[1].hs", "h"), ("us_type", "B"), ("ps", "B")]:
+            self.same(f"at {path}", checker.read(whole, path).format, letter)
+        self.same("from another root", checker.replace(root="A").read(buffer(member), "v").format, "d")
+        for _ in range(30):
+            leaf = {0: leaf}
+        path = ".".join(["next"] * 30)
+        self.same("at the 31st step", checker.read(buffer(leaf), f"{path}.v").format, "q")
+
     def test_numbers(self):
         """Each type at its bounds, alone and in vectors, which are slices of the message."""
         file = schema([table("T", *[row for number, (name, kind, _) in enumerate(NUMBERS) for row in (
@@ -291,7 +316,7 @@ class Python(LibraryCase):
             self.same(f"an element of {name}s", checker.read(data, f"{name}s[1]"), values[1])
             self.same(f"{name}s are no copy", (got.obj is data, got.nbytes), (True, len(values) * values.itemsize))
             empty = checker.read(buffer({2 * number + 1: Plain(b"", 8, 0)}), f"{name}s")
-            self.same(f"no {name}s", (type(empty), len(empty)), (memoryview, 0))
+            self.same(f"no {name}s", (type(empty), len(empty), empty.format), (memoryview, 0, letter))
         for byte, want in [(0, False), (1, True), (255, True)]:
             self.same(f"a Bool of {byte}", checker.read(buffer({20: ("B", byte)}), "yes"), want)
         data = buffer({21: Plain(b"\0\1\xff", 1, 3), 22: Plain(b"\5", 1, 1)})
@@ -477,6 +502,25 @@ class Python(LibraryCase):
         bare = checker.replace(prefixed=False)
         self.fails("a schema of other messages", ValueError, "prefixed=True", lambda: bare.messages(POST))
 
+    def test_streams_that_have_no_bytes_yet(self):
+        """A pipe that doesn't wait has no end while another process may write it."""
+        checker, told = self.module.Schema(ORDERS, prefixed=True), []
+
+        def go_through(stream):
+            for message, _ in checker.messages(stream):
+                told.append(message)
+
+        for buffering in (-1, 0):
+            end, begin = os.pipe()
+            os.set_blocking(end, False)
+            with open(end, "rb", buffering) as stream:
+                with open(begin, "wb", 0) as writer:
+                    for given in (POST, POST[:9]):
+                        writer.write(given)
+                        self.fails("no bytes yet", BlockingIOError, "non-blocking", lambda: go_through(stream))
+                self.same("and then the end", go_through(stream), None)
+        self.same("what came by then", told, messages_of(POST) * 2)
+
     def test_streams_that_come_later(self):
         """The same by `async for`: of pieces, and of a reader, whose bytes are no lines."""
         checker, want = self.module.Schema(ORDERS, prefixed=True), messages_of(POST)
@@ -562,6 +606,18 @@ class Python(LibraryCase):
         self.holds("a piece of 7 MB takes less than two seconds", seconds[200_000] < 2, seconds)
         told = [len(message) for message, verdict in checker.messages(named(9_000_000) * 3) if verdict]
         self.same("messages of 9 MB", told, [9_000_000] * 3)
+
+    def test_types(self):
+        """A type checker finds no fault in the package, and in what uses it those that a line says, and no others."""
+        if not there("mypy"):
+            self.skipTest("mypy isn't there")
+        folder, path = TOP / "tests/bindings/python", str(BINDING / "src")
+        words = ["mypy", "--strict", "--no-error-summary", "--hide-error-context", "--cache-dir", FOLDER / "mypy"]
+        self.same("the package", ran(*words, "-p", "fbcheck", MYPYPATH=path), (0, "", ""))
+        want = {str(number) for number, line in enumerate((folder / "typed.py").read_text().splitlines(), 1)
+                if line.endswith("# error")}
+        told = ran("env", "-C", folder, *words, "-m", "typed", MYPYPATH=path)[1]
+        self.same("what uses it", {*re.findall(r"^typed\.py:(\d+): error: ", told, re.M)}, want)
 
     def test_nothing_leaks(self):
         status, out, err = self.alone(LEAKS, schemas.M.hex(), ORC.hex(), ORC[:-1].hex())

@@ -98,6 +98,18 @@ class TestCommand(Case):
             _, out, _ = Folder(f"case {name}", [text]).call()
             self.same(name, out[-1], want)
 
+    def test_what_is_left_out_is_told(self):
+        """Each reason once, in the line before the count."""
+        tests = [case("self.skipTest('b isn\\'t there')"), case("pass"),
+                 case("from tests.support.tools import there", "there('no-such-tool')", "with self.subTest(1):",
+                      "    self.skipTest('b isn\\'t there')")]
+        folder = Folder("left out", tests)
+        folder.stand_in("build", "exit 0")
+        _, out, _ = folder.call("--outside")
+        told = "left out: b isn't there; no-such-tool isn't there"
+        self.same("what is left out", out[-4:-2], [told, "1 passed, 0 failed"])
+        self.same("and nothing where nothing is", "left out" in str(Folder("all", [cases(1, 0)]).call()[1]), False)
+
     def test_the_time_is_told(self):
         busy = """
 until times >spent; read -r user _ <spent; [ "${user:2:1}" -ge 1 ]; do

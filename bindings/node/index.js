@@ -296,14 +296,16 @@ class Schema {
 
 if (Symbol.dispose) Schema.prototype[Symbol.dispose] = Schema.prototype.close;
 
-/** The messages that end in a piece of a stream. */
+/** The messages that end in a piece of a stream, which must keep its bytes until then. */
 function* ending(schema, stream, piece) {
   let at = 0;
-  let left;
+  let left = 0;
   do {
+    const rest = left;
     const message = native.feed(stream, piece, at);
     at += told[USED];
     left = told[LEFT];
+    if (told[USED] + left < rest) throw new TypeError('a piece of the stream became shorter while it was gone through');
     if (message !== undefined) {
       yield { message, verdict: schema.check(message) };
     } else if (told[STATUS] === OVERSIZE) {

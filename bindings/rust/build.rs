@@ -1,5 +1,5 @@
-//! Finds libfbcheck.a: in the folder that FBCHECK_LIB_DIR names, or else in `out` of the clone that this crate lies in, or
-//! else by pkg-config.
+//! Finds libfbcheck.a: in the folder that FBCHECK_LIB_DIR names, or else in `lib` of this package, or in `out` of the
+//! clone that this crate lies in, or else by pkg-config.
 
 use std::env::var;
 use std::path::Path;
@@ -10,7 +10,9 @@ fn main() {
         println!("cargo:rerun-if-env-changed={name}");
     }
     let named = var("FBCHECK_LIB_DIR").ok();
-    let Some(folder) = named.or_else(of_clone).or_else(by_pkg_config) else {
+    let found = named.or_else(|| beside("lib"));
+    let found = found.or_else(|| beside("../../out")).or_else(by_pkg_config);
+    let Some(folder) = found else {
         eprintln!("libfbcheck.a isn't found: run ./build_c in the clone, or name its folder in FBCHECK_LIB_DIR");
         exit(1);
     };
@@ -19,9 +21,9 @@ fn main() {
     println!("cargo:rustc-link-lib=static=fbcheck");
 }
 
-/// The folder where ./build_c puts the library.
-fn of_clone() -> Option<String> {
-    let folder = Path::new(&var("CARGO_MANIFEST_DIR").ok()?).join("../../out");
+/// This folder, from that of the crate, where the library is in it.
+fn beside(place: &str) -> Option<String> {
+    let folder = Path::new(&var("CARGO_MANIFEST_DIR").ok()?).join(place);
     let found = folder.join("libfbcheck.a").exists();
     found.then(|| folder.display().to_string())
 }

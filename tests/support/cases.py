@@ -2,6 +2,8 @@
 
 import unittest
 
+from tests.support.tools import LACKING
+
 
 class Case(unittest.TestCase):
     """A test of many cases, each of which is a subtest by its name."""
@@ -28,6 +30,11 @@ class Counts(unittest.TextTestResult):
 
     passed = 0
     has_subtests = False
+
+    @property
+    def left_out(self):
+        """Why tests were skipped, each reason once."""
+        return sorted({reason for _, reason in self.skipped} | LACKING)
 
     @property
     def failed(self):

@@ -8,13 +8,10 @@ from tests.support.program import FOLDER, TOP
 
 def package(python=sys.executable):
     """The folder with the package as this interpreter imports it, built on the library that ./build_c made."""
-    name = "python-" + str(python).strip("/").replace("/", "-")
-    made = FOLDER / name
+    made = FOLDER / f"python-{str(python).strip('/').replace('/', '-')}"
     if not made.exists():
-        words = ["setup.py", "-q", "build", "--build-base", FOLDER / f"{name}-made", "--build-lib", made]
-        ran = subprocess.run([python, "-W", "ignore", *words], cwd=TOP / "bindings/python", capture_output=True,
-                             text=True, timeout=120)
-        told = [line for line in ran.stderr.splitlines() if line and "byte-compiling is disabled" not in line]
-        if ran.returncode or told:
+        ran = subprocess.run([python, "-B", TOP / "bindings/python/backend.py", made], capture_output=True, text=True,
+                             timeout=120)
+        if ran.returncode or ran.stdout or ran.stderr:
             raise RuntimeError(f"{python} doesn't build the package:\n{ran.stdout}{ran.stderr}")
     return made

@@ -426,8 +426,8 @@ static PyObject *float_of(const char *bytes, uint64_t size)
     return PyFloat_FromDouble(single);
 }
 
-/* A value as Python has it. Of a vector that is indexed, its first element stands behind it. */
-static PyObject *value_of(Schema *self, PyObject *message, const char *bytes, const fbcheck_value *value, int indexed)
+/* A value as Python has it; of a vector of numbers by their letter. */
+static PyObject *value_of(Schema *self, PyObject *message, const char *bytes, const fbcheck_value *value, int letter)
 {
     switch (value->kind) {
     case FBCHECK_ABSENT:
@@ -445,9 +445,8 @@ static PyObject *value_of(Schema *self, PyObject *message, const char *bytes, co
     case FBCHECK_TEXT:
         return PyUnicode_DecodeUTF8(bytes + value->at, (Py_ssize_t)value->size, "surrogateescape");
     default:
-        return PyObject_CallFunction(self->value, "OIKKKI", message, value->kind, (unsigned long long)value->number,
-                                     (unsigned long long)value->at, (unsigned long long)value->size,
-                                     indexed ? value[1].kind : FBCHECK_ABSENT);
+        return PyObject_CallFunction(self->value, "OIKKKC", message, value->kind, (unsigned long long)value->number,
+                                     (unsigned long long)value->at, (unsigned long long)value->size, letter);
     }
 }
 
@@ -457,36 +456,32 @@ static PyObject *values_of(Schema *self, PyObject *message, const char *bytes, P
     Py_ssize_t at, count = PyTuple_Size(paths);
     PyObject *told = PyTuple_New(count);
     for (at = 0; told != NULL && at < count; at++) {
-        int indexed = (size_t)PyBytes_Size(PyTuple_GetItem(paths, at)) > sizeof(fbcheck_path);
-        PyObject *one = value_of(self, message, bytes, values, indexed);
+        const char *path = PyBytes_AsString(PyTuple_GetItem(paths, at));
+        PyObject *one = value_of(self, message, bytes, values + at, path[sizeof(fbcheck_path)]);
         if (one == NULL || PyTuple_SetItem(told, at, one) != 0)
             Py_CLEAR(told);
-        values += 1 + indexed;
     }
     return told;
 }
 
-/* Puts the paths in a row, and tells how many there are; 0 where one is none. */
-static size_t in_a_row(PyObject *paths, fbcheck_path *row)
+/* Puts the paths in a row, or raises where one is none. */
+static void in_a_row(PyObject *paths, fbcheck_path *row)
 {
     Py_ssize_t at, size;
-    size_t count = 0;
     char *bytes;
     for (at = 0; at < PyTuple_Size(paths); at++) {
         if (PyBytes_AsStringAndSize(PyTuple_GetItem(paths, at), &bytes, &size) != 0)
-            return 0;
-        if ((size_t)size != sizeof *row && (size_t)size != 2 * sizeof *row) {
+            return;
+        if ((size_t)size != sizeof *row + 1) {
             PyErr_SetString(PyExc_ValueError, "not the bytes of a path");
-            return 0;
+            return;
         }
-        memcpy(row + count, bytes, (size_t)size);
-        count += (size_t)size / sizeof *row;
+        memcpy(row + at, bytes, sizeof *row);
     }
-    return count;
 }
 
-/* _read(message, paths): a tuple of the values at paths, each the bytes of _resolve(), for a vector those of its first
-   element behind them. */
+/* _read(message, paths): a tuple of the values at paths, each the bytes of _resolve() with a letter behind them, by
+   which a memoryview has the numbers of a vector. */
 static PyObject *schema_read(Schema *self, PyObject *words)
 {
     fbcheck_path *row;
@@ -497,11 +492,12 @@ static PyObject *schema_read(Schema *self, PyObject *words)
     uint32_t status;
     if (!PyArg_ParseTuple(words, "OO!", &message, &PyTuple_Type, &paths))
         return NULL;
-    row = malloc(((size_t)PyTuple_Size(paths) * 2 + 1) * (sizeof *row + sizeof *values));
+    count = (size_t)PyTuple_Size(paths);
+    row = malloc((count + 1) * (sizeof *row + sizeof *values));
     if (row == NULL)
         return PyErr_NoMemory();
-    values = (fbcheck_value *)(row + PyTuple_Size(paths) * 2);
-    count = in_a_row(paths, row);
+    values = (fbcheck_value *)(row + count);
+    in_a_row(paths, row);
     if (!PyErr_Occurred() && begin(self, message, &check) == 0) {
         status = fbcheck_read(self->schema, check.scratch, &self->options, check.bytes, (size_t)check.view.len, row,
                               values, count, NULL);
@@ -623,10 +619,9 @@ static const struct {
     const char *name;
     uint32_t number;
 } numbers[] = {
-    NUMBER(NONE),       NUMBER(INT),             NUMBER(UINT),      NUMBER(FLOAT),    NUMBER(TABLE),
-    NUMBER(UNION),      NUMBER(NO_IDENT),        NUMBER(NO_ROOT),   NUMBER(TOO_LONG), NUMBER(NOT_WELL_FORMED),
-    NUMBER(BAD_SCHEMA), NUMBER(ROOT_NOT_LISTED), NUMBER(NO_MEMORY), NUMBER(OVERSIZE), NUMBER(BAD_PATH),
-    NUMBER(NO_ROOM),    NUMBER(MISFIT),          NUMBER(TOO_MUCH_SHARED),
+    NUMBER(NONE),      NUMBER(TABLE),           NUMBER(UNION),      NUMBER(NO_IDENT),        NUMBER(NO_ROOT),
+    NUMBER(TOO_LONG),  NUMBER(NOT_WELL_FORMED), NUMBER(BAD_SCHEMA), NUMBER(ROOT_NOT_LISTED), NUMBER(NO_MEMORY),
+    NUMBER(OVERSIZE),  NUMBER(BAD_PATH),        NUMBER(NO_ROOM),    NUMBER(MISFIT),          NUMBER(TOO_MUCH_SHARED),
 };
 
 static int module_exec(PyObject *module)

@@ -4,6 +4,9 @@ import static java.lang.foreign.ValueLayout.ADDRESS;
 import static java.lang.foreign.ValueLayout.JAVA_INT;
 import static java.lang.foreign.ValueLayout.JAVA_LONG;
 
+import java.io.IOException;
+import java.io.InputStream;
+import java.io.UncheckedIOException;
 import java.lang.foreign.Arena;
 import java.lang.foreign.FunctionDescriptor;
 import java.lang.foreign.Linker;
@@ -11,11 +14,14 @@ import java.lang.foreign.MemorySegment;
 import java.lang.foreign.SymbolLookup;
 import java.lang.invoke.MethodHandle;
 import java.nio.charset.StandardCharsets;
+import java.nio.file.Files;
+import java.nio.file.Path;
+import java.nio.file.StandardCopyOption;
 import java.util.Optional;
 
 /**
  * The library for C, as its header {@code fbcheck.h} declares it. The system property {@code fbcheck.library} names the
- * file libfbcheck.so.1; else it is looked for where the system looks.
+ * file libfbcheck.so.1; else it is the one in the jar, or else it is looked for where the system looks.
  *
  * <p>Calls are critical ones, so that arrays of Java are read where they are; a garbage collection waits for them.
  */
@@ -39,7 +45,8 @@ final class Calls {
     static final int VALUE_LONGS = 5;
 
     private static final Linker LINKER = Linker.nativeLinker();
-    private static final SymbolLookup LIBRARY = library(System.getProperty("fbcheck.library", "libfbcheck.so.1"));
+    private static final String NAME = "libfbcheck.so.1";
+    private static final SymbolLookup LIBRARY = library(System.getProperty("fbcheck.library"));
     private static final Linker.Option CRITICAL = Linker.Option.critical(true);
 
     private static final FunctionDescriptor LOCATE_WORDS = FunctionDescriptor.of(JAVA_INT, ADDRESS, ADDRESS, ADDRESS,
@@ -92,11 +99,25 @@ final class Calls {
     private Calls() {}
 
     private static SymbolLookup library(String file) {
-        try {
-            return SymbolLookup.libraryLookup(file, Arena.global());
+        try (InputStream carried = file == null ? Calls.class.getResourceAsStream(NAME) : null) {
+            return carried != null ? carried(carried)
+                    : SymbolLookup.libraryLookup(file != null ? file : NAME, Arena.global());
         } catch (IllegalArgumentException thrown) {
-            throw new UnsatisfiedLinkError(file + " can't be opened: -Dfbcheck.library=FILE names libfbcheck.so.1, or"
-                    + " else ldconfig must know its folder");
+            throw new UnsatisfiedLinkError((file != null ? file : NAME) + " can't be opened: -Dfbcheck.library=FILE"
+                    + " names libfbcheck.so.1, or else ldconfig must know its folder");
+        } catch (IOException thrown) {
+            throw new UncheckedIOException(thrown);
+        }
+    }
+
+    /** The library that the jar carries, by way of a file that is gone once it's loaded. */
+    private static SymbolLookup carried(InputStream bytes) throws IOException {
+        Path file = Files.createTempFile("libfbcheck", ".so.1");
+        try {
+            Files.copy(bytes, file, StandardCopyOption.REPLACE_EXISTING);
+            return SymbolLookup.libraryLookup(file, Arena.global());
+        } finally {
+            Files.delete(file);
         }
     }
 

@@ -1,0 +1,47 @@
+"""What a type checker says of the package: an error stands where a line says so, and nowhere else."""
+
+import array
+import asyncio
+import mmap
+
+import fbcheck
+
+schema = fbcheck.Schema("my.bfbs", prefixed=True)
+other = fbcheck.Schema(b"", root="R", ident="own", max_depth=5).replace(root=None, reads_per_byte=2)
+reason: fbcheck.Reason | None = schema.check(b"").reason
+schema.check(bytearray())
+schema.check(memoryview(b""))
+schema.check(array.array("B"))
+schema.verify(mmap.mmap(-1, 1)).tables
+schema.check("text")  # error
+schema.verify(None)  # error
+schema.read([1], "name")  # error
+fbcheck.Schema(5)  # error
+fbcheck.Schema("my.bfbs", ident=5)  # error
+schema.replace(roots="R")  # error
+schema.replace(max_depth="5")  # error
+
+value: fbcheck.Value = schema.read(b"", "name")
+first, second = schema.read(b"", "name", schema.path("hp"))
+match value:
+    case str():
+        value.encode()
+    case fbcheck.Vector(count):
+        count.bit_length()
+
+with open("my.bin", "rb") as stream:
+    for message, verdict in schema.messages(stream, max_bytes=9):
+        message.hex()
+        verdict.place
+for message, verdict in schema.messages([b"", bytearray()]):
+    message.hex()
+with open("my.bin") as text:
+    schema.messages(text)  # error
+
+
+async def later(reader: asyncio.StreamReader) -> None:
+    async for message, verdict in schema.messages(reader):
+        message.hex()
+        verdict.field
+    for message, verdict in schema.messages(reader):  # error
+        message.hex()
