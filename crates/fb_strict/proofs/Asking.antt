@@ -213,12 +213,12 @@ less_allowed : (o : Option ℕ) (m n : ℕ) → m ≤ n → AreAllowed o n → A
 less_allowed None m n lt h = tt
 less_allowed (Some most) m n lt h = omega arith
 
-told_allowed : (o : Option ℕ) (n : ℕ) → (allowed o n ≡ true) ↔ AreAllowed o n
+pub told_allowed : (o : Option ℕ) (n : ℕ) → (allowed o n ≡ true) ↔ AreAllowed o n
 told_allowed None n = ((λ h. tt), (λ h. refl))
 told_allowed (Some most) n = grind (arith, nat_tests)
 
 -- a demand that is met is passed
-passed : (L : Bounds) (paid : ℕ) (d : Demand) (rest : Option Fault) → d.chain ≡ None → AreAllowed L.reads (paid + d.reads) → (demand_fault d paid (d.chain ▷ reads_failure L paid d.reads d.at) ▷ rest) ≡ rest
+pub passed : (L : Bounds) (paid : ℕ) (d : Demand) (rest : Option Fault) → d.chain ≡ None → AreAllowed L.reads (paid + d.reads) → (demand_fault d paid (d.chain ▷ reads_failure L paid d.reads d.at) ▷ rest) ≡ rest
 passed L paid d rest is a = rw is (let ok = (told_allowed L.reads (paid + d.reads)).1 a in rw ok refl)
 
 by_budget : (L : Bounds) (paid : ℕ) (d : Demand) (rest : Option Fault) (x : Bool) → allowed L.reads (paid + d.reads) ≡ x → (demand_fault d paid (check x TooManyReads d.at d.reads None) ▷ rest) ≡ None

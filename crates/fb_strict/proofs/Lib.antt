@@ -5,3 +5,14 @@ pub mod Lists
 pub mod Marks
 pub mod Asking
 pub mod Unasked
+pub mod Moving
+pub mod Fields
+pub mod Words
+pub mod Frames
+pub mod Tasking
+pub mod Stacks
+pub mod Shifted
+pub mod Few
+pub mod Answered
+pub mod Wording
+pub mod Looping

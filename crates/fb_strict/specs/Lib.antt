@@ -5,4 +5,6 @@ pub mod Readers
 pub mod Leaves
 pub mod Planned
 pub mod Asked
+pub mod Passing
+pub mod Strictly
 pub mod Examples

@@ -4,9 +4,12 @@
 
 pub mod examples;
 pub mod laws;
+mod pass;
 mod plan;
+mod room;
 mod tasks;
 pub mod unions;
 
 pub use plan::Plan;
+pub use room::{Room, RoomFault};
 pub use tasks::{Ask, Task};

@@ -1,0 +1,116 @@
+-- Tests that were made, and the budget that was asked after them.
+use Rattle.std.proofs.Common.{◌≡◌, ℕ, ◌+◌, ◌^◌, ◌<◌, ◌≤◌, nat_le, ◌==◌, Bool, true, false, if◌then◌else◌, List, length, Option, Some, None, Result, Ok, Err, refl, sym, ap, ◌∙◌, subst, arith}
+use Rattle.std.specs.Prelude.{IfOk, IfErr}
+use Rattle.std.specs.Option.{is_some}
+use Rattle.std.proofs.lemmas.Bool.Decides.{nat_tests}
+use Rattle.fb_bytes.specs.Word.{Lent, word}
+use Rattle.fb_rules.specs.declared.{site.Site.Site, site.Stop.Stop, fault.Reason.Reason}
+use Rattle.fb_rules.specs.{Bounds.Bounds, Bounds.AreAllowed, Bounds.allowed, Plain.tested_by, Plain.place_from, Plain.IsTested, Told.IsAskedAt, Places.target}
+use Rattle.fb_rules.specs.Order.{Failure, after}
+use Rattle.fb_strict.specs.{InOrder.together_failure, Passing.IsRoom}
+use Rattle.fb_strict.proofs.Asking.{told_allowed}
+
+same_lent : (m new : Lent) (n : ℕ) → new.bytes ≡ m.bytes → new.count ≡ n → new.base ≡ m.base → new ≡ record m { count = n }
+same_lent m new n b c e = λ i. record { bytes = b i; count = c i; base = e i }
+
+nothing_found : (n : ℕ) (e : Option Failure) → None ≡ after n e → e ≡ None
+nothing_found n None h = refl
+nothing_found n (Some e) h = absurd (cc)
+
+pub after_after : (a b : ℕ) (e : Option Failure) → after (a + b) e ≡ after a (after b e)
+after_after a b None = refl
+after_after a b (Some e) = let s : a + b + e.reads ≡ a + (b + e.reads) = omega arith in rw s refl
+
+-- the room allows so many reads
+pub allowed_by : (L : Bounds) (base room n : ℕ) → IsRoom L base room → n < 2 ^ 64 → n ≤ room → AreAllowed L.reads (base + n)
+allowed_by L base room n h few le = (told_allowed L.reads (base + n)).0 (h n few ∙ grind (arith, nat_tests))
+
+-- where no test failed, and the room allows the reads
+pub answered : (site : Site) (L : Bounds) (m new : Lent) (chain : Option Failure) (n tested at room count : ℕ) → IsRoom L new.base room → new.count ≡ new.base + count → count < 2 ^ 64 → count ≤ room → IsTested m new tested chain n None
+    → IsAskedAt {A = Unit {0}} site L m new chain n at (Ok tt)
+answered site L m new chain n tested at room count room-is since few le h = record {
+  ok = nothing_found m.count chain h.told;
+  counted = same_lent m new (m.count + n) h.bytes (h.counted refl) h.base;
+  reads = subst (AreAllowed L.reads) (sym since) (allowed_by L new.base room count room-is few le);
+  err = tt;
+  bytes = h.bytes;
+}
+
+-- nothing was tested, but so many reads were made
+pub only_read : (m new : Lent) (at n : ℕ) → new ≡ record m { count = m.count + n } → IsTested m new at None n None
+only_read m new at n is = record { told = refl; counted = λ h. ap (λ (x : Lent). x.count) is; bytes = ap (λ (x : Lent). x.bytes) is; base = ap (λ (x : Lent). x.base) is }
+
+-- a chain was tested after so many reads
+pub tested_after : (m mid new : Lent) (at : ℕ) (chain : Option Failure) (a n : ℕ) (result : Option Reason) → mid ≡ record m { count = m.count + a } → IsTested mid new at chain n result → IsTested m new at (after a chain) (a + n) result
+tested_after m mid new at chain a n result is h =
+    let c = ap (λ (x : Lent). x.count) is in
+    record {
+      told = h.told ∙ ap (λ k. after k chain) c ∙ after_after m.count a chain;
+      counted = λ e. let k = h.counted e in omega (arith, k, c);
+      bytes = h.bytes ∙ ap (λ (x : Lent). x.bytes) is;
+      base = h.base ∙ ap (λ (x : Lent). x.base) is;
+    }
+
+-- where a field stands
+
+pub stands : (t at : ℕ) → (at ≡ t → ⊥) → place_from t at ≡ Some at
+stands t at h = grind (arith, nat_tests)
+
+pub stands_not : (t at : ℕ) → at ≡ t → place_from t at ≡ None
+stands_not t at h = grind (arith, nat_tests)
+
+pub both_stand : (t types value : ℕ) → (value ≡ t → ⊥) → together_failure (place_from t types) (place_from t value) ≡ None → place_from t types ≡ Some types
+both_stand t types value h e = grind (arith, nat_tests)
+
+pub none_stands : (t types value : ℕ) → value ≡ t → together_failure (place_from t types) (place_from t value) ≡ None → place_from t types ≡ None
+none_stands t types value h e = grind (arith, nat_tests)
+
+pub always : {A E : Type 0} {P : Type 0} (r : Result A E) → P → IfOk r (λ _. P)
+always (Ok a) h = h
+always (Err e) h = tt
+
+pub none_tested : (m : Lent) (at : ℕ) → IsTested m m at None 0 None
+none_tested m at = record { told = refl; counted = λ h. omega arith; bytes = refl; base = refl }
+
+-- a test of a vector of unions, which reads nothing
+pub together_tested : (m : Lent) (at : ℕ) (failed : Option Reason) (o q : Option ℕ) (n : ℕ) → tested_by at m.count failed ≡ after m.count (together_failure o q) → (failed ≡ None → n ≡ 0) → IsTested m m at (together_failure o q) n failed
+together_tested m at failed o q n told none = record { told = told; counted = λ h. let z = none h in omega arith; bytes = refl; base = refl }
+
+pub none_failed : (at n : ℕ) (failed : Option Reason) → tested_by at n failed ≡ None → failed ≡ None
+none_failed at n None h = refl
+none_failed at n (Some reason) h = absurd (cc)
+
+-- nothing was found, as it was told
+pub found_none : (at n : ℕ) (failed : Option Reason) (e : Option Failure) → tested_by at n failed ≡ after n e → failed ≡ None → e ≡ None
+found_none at n failed e h none = nothing_found n e (ap (tested_by at n) (sym none) ∙ h)
+
+pub failed_none : (m new : Lent) (at n : ℕ) (failed : Option Reason) (e : Option Failure) → IsTested m new at e n failed → e ≡ None → failed ≡ None
+failed_none m new at n failed e h none = none_failed at new.count failed (h.told ∙ ap (after m.count) none)
+
+pub not_none : {X : Type 0} (o : Option X) → true ≡ is_some o → o ≡ None → ⊥
+not_none None h e = cc
+not_none (Some x) h e = cc
+
+pub is_none : {X : Type 0} (o : Option X) → false ≡ is_some o → o ≡ None
+is_none None h = refl
+is_none (Some x) h = absurd (cc)
+
+pub place_is : (t at p : ℕ) → place_from t at ≡ Some p → p ≡ at
+place_is t at p h = grind (arith, nat_tests)
+
+pub reads_more : (m mid new : Lent) (a b : ℕ) → mid ≡ record m { count = m.count + a } → new ≡ record mid { count = mid.count + b } → new ≡ record m { count = m.count + (a + b) }
+reads_more m mid new a b one two =
+    let c = ap (λ (x : Lent). x.count) one in
+    let d = ap (λ (x : Lent). x.count) two in
+    same_lent m new _ (ap (λ (x : Lent). x.bytes) two ∙ ap (λ (x : Lent). x.bytes) one) (omega (arith, c, d)) (ap (λ (x : Lent). x.base) two ∙ ap (λ (x : Lent). x.base) one)
+
+pub nothing_after : (n : ℕ) (e : Option Failure) → after n e ≡ None → e ≡ None
+nothing_after n None h = refl
+nothing_after n (Some e) h = absurd (cc)
+
+-- what was asked doesn't tell what is answered
+pub ok_for : {A B : Type 0} (a : A) (b : B) (site : Site) (L : Bounds) (m new : Lent) (chain : Option Failure) (n p : ℕ) → IsAskedAt {A = A} site L m new chain n p (Ok a) → IsAskedAt {A = B} site L m new chain n p (Ok b)
+ok_for a b site L m new chain n p h = record { ok = h.ok; counted = h.counted; reads = h.reads; err = tt; bytes = h.bytes }
+
+pub err_for : {A B : Type 0} (s : Stop) (site : Site) (L : Bounds) (m new : Lent) (chain : Option Failure) (n p : ℕ) → IsAskedAt {A = A} site L m new chain n p (Err s) → IsAskedAt {A = B} site L m new chain n p (Err s)
+err_for s site L m new chain n p h = record { ok = tt; counted = tt; reads = tt; err = h.err; bytes = h.bytes }

@@ -1,0 +1,127 @@
+-- What is left of the fields of a table: the next one that has a task.
+use Rattle.std.proofs.Common.{◌≡◌, ℕ, zero, suc, ◌+◌, ◌≤◌, List, [], ◌∷◌, ◌++◌, Option, Some, None, option_map, Bool, refl, sym, ap, subst, ◌∙◌, max, arith}
+use Rattle.std.specs.List.{cons_option}
+use Rattle.std.specs.Prelude.{slice_get}
+use Rattle.fb_schema.specs.declared.kinds.Kind.{Kind}
+use Rattle.fb_schema.specs.{Rows.Rows, Live.Live, Live.live_fields, Served.IsServed}
+use Rattle.fb_rules.specs.declared.checks.Checks.{Checks}
+use Rattle.fb_rules.specs.{Places.field_place, Fields.type_place, Fields.IsField, Fields.entries}
+use Rattle.fb_rules.specs.Tree.{Kids, no_kids, kid, kids_depth, Elements, elements_depth}
+use Rattle.fb_rules.specs.Unfolds.{FieldsUnfold, ElementsUnfold}
+use Rattle.fb_rules.proofs.Typed.{typed_by}
+use Rattle.fb_strict.specs.declared.{tasks.Ask.Ask, tasks.Task.Task}
+use Rattle.fb_strict.specs.Planned.{ask_of, task_with, task_of, tasks_in}
+use Rattle.fb_strict.specs.Asked.{Demand, field_demands, row_types, row_place, demands_in_fields, demands_in_row}
+use Rattle.fb_strict.specs.Passing.{task_failure, task_reads, IsKnown, AreKnown}
+use Rattle.fb_strict.proofs.Unasked.{nothing_asked}
+
+module _ (c : Checks) (b : List ℕ) (S : Rows) where
+  -- the fields of a table that unfolds are known
+
+  field_met : (t : ℕ) (kids : Kids) (fs : List Live) (j : ℕ) (h : Live) → FieldsUnfold kids c b S t fs → slice_get fs j ≡ Some h → IsField c b S t h
+  unfolding FieldsUnfold
+  field_met t (kid ys kids) (f ∷ fs) zero h u e = let same : f ≡ h = cc in rw same at u.0
+  field_met t (kid ys kids) (f ∷ fs) (suc j) h u e = field_met t kids fs j h u.2 e
+  field_met t kids fs j h u e = absurd (grind arith)
+
+  all_known : (t : ℕ) (fs : List Live) → ((i : ℕ) (f : Live) → slice_get fs i ≡ Some f → IsKnown c b S t f) → AreKnown c b S t fs
+  unfolding AreKnown
+  all_known t [] h = tt
+  all_known t (f ∷ fs) h = (h 0 f refl, all_known t fs (λ i g e. h (suc i) g e))
+
+  pub fields_known : (k t : ℕ) (kids : Kids) → IsServed S → FieldsUnfold kids c b S t (live_fields S k) → AreKnown c b S t (live_fields S k)
+  fields_known k t kids served u =
+      let fs = live_fields S k in
+      all_known t fs (λ i f e. record {
+        own = field_met t kids fs i f u e;
+        typed = typed_by c b S t fs i f.slot (λ kind h. field_met t kids fs h.place h.field u h.found) f.kind (served.typed k i f e);
+        kind = served.kinds k i f e;
+      })
+
+  module _ (asks : ℕ → Bool) (k t : ℕ) where
+    -- what is demanded of a field by itself
+    abbrev own_demands : Live → List Demand
+    own_demands f = field_demands asks c b S k f.number t f.slot (type_place b t f.slot) (field_place b t f.slot) f.kind
+
+    -- and of its offset words
+    abbrev word_demands : Live → Elements → List Demand
+    word_demands f ys = demands_in_row ys asks c b S k f.number (row_place b (field_place b t f.slot) f.kind) (row_types b (type_place b t f.slot) f.kind)
+
+    -- the next of these fields that has a task, past those that have none
+    pub record IsNextField (kids : Kids) (fs : List Live) (task : Task) (more : List Task) : Type 0 where
+      pub field : Live
+      pub its : task_of asks field ≡ Some task
+      pub known : IsKnown c b S t field
+      pub words : Elements
+      pub unfolds : ElementsUnfold words c b S (entries b S t field)
+      pub others : List Live
+      pub others_known : AreKnown c b S t others
+      pub others_kids : Kids
+      pub others_unfold : FieldsUnfold others_kids c b S t others
+      pub tasks : more ≡ tasks_in asks others
+      pub deep : max (elements_depth words) (kids_depth others_kids) ≤ kids_depth kids
+      pub all : demands_in_fields kids asks c b S k t fs ≡ own_demands field ++ (word_demands field words ++ demands_in_fields others_kids asks c b S k t others)
+
+    module _ (task : Task) (more : List Task) where
+      by_task : (ys : Elements) (kids : Kids) (f : Live) (fs : List Live) (u : FieldsUnfold (kid ys kids) c b S t (f ∷ fs)) → AreKnown c b S t (f ∷ fs) → (tasks_in asks fs ≡ task ∷ more → IsNextField kids fs task more)
+          → (o : Option Task) → task_of asks f ≡ o → cons_option o (tasks_in asks fs) ≡ task ∷ more → IsNextField (kid ys kids) (f ∷ fs) task more
+      unfolding FieldsUnfold AreKnown demands_in_fields kids_depth
+      by_task ys kids f fs u a later (Some x) is h =
+          let same : x ≡ task = cc in
+          record { field = f; its = is ∙ ap Some same; known = a.0; words = ys; unfolds = u.1; others = fs; others_known = a.1; others_kids = kids; others_unfold = u.2; tasks = cc; deep = omega arith; all = refl }
+      by_task ys kids f fs u a later None is h =
+          let r = later h in
+          let none = nothing_asked asks S f ys c b k t is u.1 in
+          record {
+            field = r.field;
+            its = r.its;
+            known = r.known;
+            words = r.words;
+            unfolds = r.unfolds;
+            others = r.others;
+            others_known = r.others_known;
+            others_kids = r.others_kids;
+            others_unfold = r.others_unfold;
+            tasks = r.tasks;
+            deep = omega (arith, r.deep);
+            all = rw (none.0, none.1) r.all;
+          }
+
+      pub next_field : (kids : Kids) (fs : List Live) → FieldsUnfold kids c b S t fs → AreKnown c b S t fs → tasks_in asks fs ≡ task ∷ more → IsNextField kids fs task more
+      unfolding FieldsUnfold AreKnown
+      next_field kids [] u a h = absurd (cc)
+      next_field no_kids (f ∷ fs) u a h = absurd u
+      next_field (kid ys kids) (f ∷ fs) u a h = by_task ys kids f fs u a (next_field kids fs u.2 a.1) (task_of asks f) refl h
+
+    -- where no task is left, nothing is demanded
+    none_by : (ys : Elements) (kids : Kids) (f : Live) (fs : List Live) (u : FieldsUnfold (kid ys kids) c b S t (f ∷ fs)) → (tasks_in asks fs ≡ [] → demands_in_fields kids asks c b S k t fs ≡ [])
+        → (o : Option Task) → task_of asks f ≡ o → cons_option o (tasks_in asks fs) ≡ [] → demands_in_fields (kid ys kids) asks c b S k t (f ∷ fs) ≡ []
+    unfolding FieldsUnfold demands_in_fields
+    none_by ys kids f fs u later (Some x) is h = absurd (cc)
+    none_by ys kids f fs u later None is h = let none = nothing_asked asks S f ys c b k t is u.1 in rw (none.0, none.1) (later h)
+
+    pub no_field : (kids : Kids) (fs : List Live) → FieldsUnfold kids c b S t fs → tasks_in asks fs ≡ [] → demands_in_fields kids asks c b S k t fs ≡ []
+    unfolding FieldsUnfold demands_in_fields
+    no_field no_kids fs u h = refl
+    no_field (kid ys kids) [] u h = absurd u
+    no_field (kid ys kids) (f ∷ fs) u h = none_by ys kids f fs u (no_field kids fs u.2) (task_of asks f) refl h
+
+    -- a field with a task is demanded one thing
+    abbrev pub task_demand : ℕ → ℕ → (types place : Option ℕ) → Ask → Demand
+    task_demand n slot types place ask = record { object = k; field = Some n; at = t; reads = task_reads b S t slot types place ask; chain = task_failure c b S t slot types place ask }
+
+    pub one_demand : (n slot : ℕ) (types place : Option ℕ) (kind : Kind) (ask : Ask) → ask_of asks kind ≡ Some ask → field_demands asks c b S k n t slot types place kind ≡ task_demand n slot types place ask ∷ []
+    one_demand n slot types place kind ask h = grind arith
+
+    -- its task
+    pub record IsTask (f : Live) (task : Task) : Type 0 where
+      pub ask : ask_of asks f.kind ≡ Some task.ask
+      pub number : task.number ≡ f.number
+      pub slot : task.slot ≡ f.slot
+
+    its_task : (f : Live) (task : Task) (o : Option Ask) → ask_of asks f.kind ≡ o → option_map (task_with f) o ≡ Some task → IsTask f task
+    its_task f task None is h = absurd (cc)
+    its_task f task (Some ask) is h = let same : task_with f ask ≡ task = cc in subst (IsTask f) same (record { ask = is; number = refl; slot = refl })
+
+    pub task_is : (f : Live) (task : Task) → task_of asks f ≡ Some task → IsTask f task
+    task_is f task h = its_task f task (ask_of asks f.kind) refl h

@@ -1,0 +1,259 @@
+-- What frames stand for, as the pass goes on.
+use Rattle.std.proofs.Common.{◌≡◌, ℕ, zero, suc, ◌+◌, ◌*◌, ◌-◌, ◌^◌, ◌<◌, ◌≤◌, IsTrue, List, [], ◌∷◌, ◌++◌, length, drop, get_or, Option, Some, None, Bool, true, false, refl, sym, ap, subst, ◌∙◌, append_assoc, max, arith, if◌then◌else◌}
+use Rattle.fb_bytes.specs.Word.{word}
+use Rattle.fb_schema.specs.declared.kinds.Kind.{Kind}
+use Rattle.fb_schema.specs.declared.kinds.Kind.TheVariants.{Scalar, Text, Struct, Table, Union, Scalars, Texts, Structs, Tables, Unions}
+use Rattle.fb_schema.specs.{Rows.Rows, Rows.is_table, Live.live_fields, Members.member_of, Served.MemberHolds}
+use Rattle.fb_rules.specs.declared.{offset_row.Row.Row, offset_row.Leads.Leads, offset_row.Leads.TheVariants.All, offset_row.Leads.TheVariants.ByType, table.Child.Child, table.Head.Head, table.Table.Table as TableOf}
+use Rattle.fb_rules.specs.declared.offset_row.Referent.TheVariants.{Text as AText, Table as ATable, Struct as AStruct, Nothing}
+use Rattle.fb_rules.specs.{Places.target, Cost.head_reads, Facts.IsTable, Told.IsHead}
+use Rattle.fb_rules.specs.OffsetRows.{words_of, first_word, past_first, leads_after}
+use Rattle.fb_rules.specs.Fields.{Lead, to_table, to_struct, to_string, to_nothing, lead_of, Entry}
+use Rattle.fb_rules.specs.Tree.{Tree, node, Kids, kids_depth, Elements, no_elements, element, Element, leaf, table, elements_depth, element_depth, depth}
+use Rattle.fb_rules.specs.Unfolds.{Unfolds, FieldsUnfold, ElementsUnfold, ElementUnfolds}
+use Rattle.fb_rules.proofs.Words.{row_front, row_none, first_place}
+use Rattle.fb_strict.specs.declared.{room.Frame.Frame, tasks.Task.Task}
+use Rattle.fb_strict.specs.Planned.{tasks_in}
+use Rattle.fb_strict.specs.Asked.{Demand, Types, reading, object_of, next_types, element_demands, demands_in, demands_in_fields, demands_in_row, demands_below}
+use Rattle.fb_strict.specs.Passing.{Passing, asks_of, IsPassing, blank, opened, asked_object, first_object, IsAskedRow, AreAskedWords, leads_types, IsLeft, IsNext}
+use Rattle.fb_strict.proofs.Fields.{fields_known}
+
+-- the frame of a table that was opened
+module _ (p : Passing) (b : List ℕ) (holds : IsPassing p b) (room : ℕ) (child : Child) (ds : List Demand) where
+  -- it stands for what follows the reading of the head
+  pub record IsOpened (fr : Frame) : Type 0 where
+    pub left : List Demand
+    pub frame : IsLeft p b room fr left
+    pub all : ds ≡ record { object = child.object; field = None; at = child.at; reads = head_reads p.checks; chain = None } ∷ left
+
+  opens : (tree : Tree) → Unfolds tree p.checks b p.rows child.object child.at → IsTrue (is_table p.rows child.object) → child.at < 2 ^ 33 → depth tree ≤ room → ds ≡ demands_in tree (asks_of p) p.checks b p.rows
+      → (head : Head) → IsHead p.checks b child.at head → IsOpened (opened (record { head = head; object = child.object; at = child.at }))
+  unfolding Unfolds demands_in depth ElementsUnfold demands_in_row elements_depth
+  opens (node k' t' kids) u o near deep all head h =
+      record {
+        left = demands_in_fields kids (asks_of p) p.checks b p.rows child.object child.at (live_fields p.rows child.object);
+        frame = record {
+          object = o;
+          near = near;
+          head = h;
+          fields = live_fields p.rows child.object;
+          known = fields_known p.checks b p.rows child.object child.at kids holds.served u.3;
+          tasks = refl;
+          kids = kids;
+          unfolds = u.3;
+          words = no_elements;
+          row = rw (row_none b p.rows blank.row refl) tt;
+          asked = record { near = omega arith; leads = λ m. absurd (omega arith) };
+          deep = omega (arith, deep);
+          all = refl;
+        };
+        all = rw (u.0, u.1) at all;
+      }
+
+  pub opened_left : IsNext p b room child ds → (head : Head) → IsHead p.checks b child.at head → IsOpened (opened (record { head = head; object = child.object; at = child.at }))
+  opened_left n head h = opens n.tree n.unfolds n.object n.near n.deep n.all head h
+
+  -- the reading of the head comes first
+  read_first : (tree : Tree) → Unfolds tree p.checks b p.rows child.object child.at → ds ≡ demands_in tree (asks_of p) p.checks b p.rows
+      → (rest : List Demand) × (ds ≡ record { object = child.object; field = None; at = child.at; reads = head_reads p.checks; chain = None } ∷ rest)
+  unfolding Unfolds demands_in
+  read_first (node k' t' kids) u all = (demands_in_fields kids (asks_of p) p.checks b p.rows child.object child.at (live_fields p.rows child.object), rw (u.0, u.1) at all)
+
+  pub head_first : IsNext p b room child ds → (rest : List Demand) × (ds ≡ record { object = child.object; field = None; at = child.at; reads = head_reads p.checks; chain = None } ∷ rest)
+  head_first n = read_first n.tree n.unfolds n.all
+
+  table_of : (tree : Tree) → Unfolds tree p.checks b p.rows child.object child.at → IsTable p.checks b child.at
+  unfolding Unfolds
+  table_of (node k' t' kids) u = u.2
+
+  pub next_table : IsNext p b room child ds → IsTable p.checks b child.at
+  next_table n = table_of n.tree n.unfolds
+
+-- What an element stands for.
+
+module _ (p : Passing) (b : List ℕ) where
+  -- it leads to a table that is asked
+  pub record IsTableBelow (y : Element) (k n place j : ℕ) : Type 0 where
+    pub tree : Tree
+    pub unfolds : Unfolds tree p.checks b p.rows j (target b place)
+    pub within : place + 4 ≤ length b
+    pub deep : depth tree ≤ element_depth y
+    pub all : demands_below y (asks_of p) p.checks b p.rows k n place ≡ reading k (Some n) place 1 ∷ demands_in tree (asks_of p) p.checks b p.rows
+
+  table_below : (y : Element) (k n place j : ℕ) → ElementUnfolds y p.checks b p.rows place (to_table j) → asks_of p j ≡ true → IsTableBelow y k n place j
+  unfolding ElementUnfolds Unfolds demands_below element_depth
+  table_below leaf k n place j u asks = absurd u
+  table_below (table (node k' t' kids)) k n place j u asks =
+      let yes : asks_of p k' ≡ true = ap (asks_of p) u.1.0 ∙ asks in
+      record { tree = node k' t' kids; unfolds = u.1; within = (u.0).within; deep = omega arith; all = rw yes refl }
+
+  none_below : (y : Element) (k n place : ℕ) (lead : Lead) → ElementUnfolds y p.checks b p.rows place lead → ((j : ℕ) → lead ≡ to_table j → asks_of p j ≡ false) → demands_below y (asks_of p) p.checks b p.rows k n place ≡ []
+  unfolding ElementUnfolds Unfolds demands_below
+  none_below leaf k n place lead u quiet = refl
+  none_below (table (node k' t' kids)) k n place (to_table j) u quiet = let no : asks_of p k' ≡ false = ap (asks_of p) u.1.0 ∙ quiet j refl in rw no refl
+  none_below (table y) k n place (to_struct size align) u quiet = absurd u
+  none_below (table y) k n place to_string u quiet = absurd u
+  none_below (table y) k n place to_nothing u quiet = absurd u
+
+  -- the member of a union that is a table that is asked
+  pub record IsAskedMember (S : Rows) (member : Option Kind) (j : ℕ) : Type 0 where
+    pub lead : lead_of S member ≡ to_table j
+    pub asks : asks_of p j ≡ true
+    pub is : member ≡ Some (Table j)
+
+  by_ask : (k j : ℕ) (S : Rows) (x : Bool) → asks_of p k ≡ x → (if x then Some k else None) ≡ Some j → IsAskedMember S (Some (Table k)) j
+  by_ask k j S true is h = let same : k ≡ j = cc in record { lead = ap to_table same; asks = ap (asks_of p) (sym same) ∙ is; is = ap (λ i. Some (Table i)) same }
+  by_ask k j S false is h = absurd (cc)
+
+  asked_member : (S : Rows) (member : Option Kind) (j : ℕ) → asked_object (asks_of p) member ≡ Some j → IsAskedMember S member j
+  asked_member S (Some (Table k)) j h = by_ask k j S (asks_of p k) refl h
+  asked_member S None j h = absurd (cc)
+  asked_member S (Some (Scalar s)) j h = absurd (cc)
+  asked_member S (Some Text) j h = absurd (cc)
+  asked_member S (Some (Struct k)) j h = absurd (cc)
+  asked_member S (Some (Union e)) j h = absurd (cc)
+  asked_member S (Some (Scalars s)) j h = absurd (cc)
+  asked_member S (Some Texts) j h = absurd (cc)
+  asked_member S (Some (Structs k)) j h = absurd (cc)
+  asked_member S (Some (Tables k)) j h = absurd (cc)
+  asked_member S (Some (Unions e)) j h = absurd (cc)
+
+  by_no_ask : (k : ℕ) (x : Bool) → asks_of p k ≡ x → (if x then Some k else None) ≡ None → asks_of p k ≡ false
+  by_no_ask k true is h = absurd (cc)
+  by_no_ask k false is h = is
+
+  quiet_member : (S : Rows) (member : Option Kind) → asked_object (asks_of p) member ≡ None → (j : ℕ) → lead_of S member ≡ to_table j → asks_of p j ≡ false
+  quiet_member S (Some (Table k)) h j e = let same : k ≡ j = cc in ap (asks_of p) (sym same) ∙ by_no_ask k (asks_of p k) refl h
+  quiet_member S None h j e = absurd (cc)
+  quiet_member S (Some (Scalar s)) h j e = absurd (cc)
+  quiet_member S (Some Text) h j e = absurd (cc)
+  quiet_member S (Some (Struct k)) h j e = absurd (cc)
+  quiet_member S (Some (Union e')) h j e = absurd (cc)
+  quiet_member S (Some (Scalars s)) h j e = absurd (cc)
+  quiet_member S (Some Texts) h j e = absurd (cc)
+  quiet_member S (Some (Structs k)) h j e = absurd (cc)
+  quiet_member S (Some (Tables k)) h j e = absurd (cc)
+  quiet_member S (Some (Unions e')) h j e = absurd (cc)
+
+-- a row without its first word
+asked_on : (p : Passing) (b : List ℕ) (n : ℕ) (leads : Leads) → 0 < n → AreAskedWords p b n leads → AreAskedWords p b (n - 1) (leads_after leads)
+asked_on p b n (All (ATable k)) m h = h
+asked_on p b n (All AText) m h = h
+asked_on p b n (All (AStruct size align)) m h = h
+asked_on p b n (All Nothing) m h = h
+asked_on p b n (ByType e q) m h = (h.0, omega (arith, h.1))
+
+types_on : (leads : Leads) → leads_types (leads_after leads) ≡ next_types (leads_types leads)
+types_on (All referent) = refl
+types_on (ByType e q) = refl
+
+-- The first word of a row that is left.
+module _ (p : Passing) (b : List ℕ) (holds : IsPassing p b) (room : ℕ) (fr : Frame) (ds : List Demand) (l : IsLeft p b room fr ds) (more : 0 < (fr.row).left) where
+  abbrev past : Frame
+  past = record fr { row = past_first fr.row }
+
+  -- what it is asked by its type
+  abbrev pub front : List Demand
+  front = element_demands p.checks b p.rows (fr.table).object fr.number (fr.row).place (leads_types (fr.row).leads)
+
+  -- what stands for it, and for the others
+  record IsFront : Type 0 where
+    y : Element
+    lead : ElementUnfolds y p.checks b p.rows (fr.row).place (first_word b p.rows fr.row).lead
+    deep : element_depth y < room
+    left : List Demand
+    frame : IsLeft p b room past left
+    all : ds ≡ front ++ (demands_below y (asks_of p) p.checks b p.rows (fr.table).object fr.number (fr.row).place ++ left)
+
+  abbrev others : List Demand
+  others = demands_in_fields l.kids (asks_of p) p.checks b p.rows (fr.table).object (fr.table).at l.fields
+
+  by_words : (words : Elements) (x : Entry) → ElementsUnfold words p.checks b p.rows (x ∷ words_of b p.rows (past_first fr.row)) → max (elements_depth words) (kids_depth l.kids) < room
+      → x.place ≡ (fr.row).place → x.lead ≡ (first_word b p.rows fr.row).lead → ds ≡ demands_in_row words (asks_of p) p.checks b p.rows (fr.table).object fr.number (fr.row).place (leads_types (fr.row).leads) ++ others → IsFront
+  unfolding ElementsUnfold demands_in_row elements_depth
+  by_words no_elements x u deep at lead all = absurd u
+  by_words (element y ys) x u deep at lead all = record {
+    y = y;
+    lead = rw (at, lead) at u.0;
+    deep = omega (arith, deep);
+    left = demands_in_row ys (asks_of p) p.checks b p.rows (fr.table).object fr.number ((fr.row).place + 4) (leads_types (leads_after (fr.row).leads)) ++ others;
+    frame = record {
+      object = l.object;
+      near = l.near;
+      head = l.head;
+      fields = l.fields;
+      known = l.known;
+      tasks = l.tasks;
+      kids = l.kids;
+      unfolds = l.unfolds;
+      words = ys;
+      row = u.1;
+      asked = record { near = omega (arith, (l.asked).near, more); leads = λ m. asked_on p b (fr.row).left (fr.row).leads more ((l.asked).leads more) };
+      deep = omega (arith, deep);
+      all = refl;
+    };
+    all = rw (types_on (fr.row).leads) (all ∙ regroup front (demands_below y (asks_of p) p.checks b p.rows (fr.table).object fr.number (fr.row).place) _ others);
+  }
+    where
+      regroup : (ws xs ys zs : List Demand) → (ws ++ (xs ++ ys)) ++ zs ≡ ws ++ (xs ++ (ys ++ zs))
+      regroup ws xs ys zs = simp append_assoc
+
+  front_of : IsFront
+  front_of = by_words l.words (first_word b p.rows fr.row) (subst (λ xs. ElementsUnfold l.words p.checks b p.rows xs) (row_front b p.rows fr.row more) l.row) l.deep (first_place b p.rows fr.row) refl l.all
+
+  -- it leads to a table of this object
+  pub record IsUnder (j : ℕ) : Type 0 where
+    pub tree : Tree
+    pub unfolds : Unfolds tree p.checks b p.rows j (target b (fr.row).place)
+    pub object : IsTrue (is_table p.rows j)
+    pub within : (fr.row).place + 4 ≤ length b
+    pub deep : depth tree ≤ room - 1
+    pub left : List Demand
+    pub frame : IsLeft p b room past left
+    pub all : ds ≡ front ++ (reading (fr.table).object (Some fr.number) (fr.row).place 1 ∷ (demands_in tree (asks_of p) p.checks b p.rows ++ left))
+
+  -- or it doesn't
+  pub record IsBeside : Type 0 where
+    pub left : List Demand
+    pub frame : IsLeft p b room past left
+    pub all : ds ≡ front ++ left
+
+  goes_under : (j : ℕ) → (first_word b p.rows fr.row).lead ≡ to_table j → asks_of p j ≡ true → IsTrue (is_table p.rows j) → IsUnder j
+  goes_under j lead asks is =
+      let f = front_of in
+      let t = table_below p b f.y (fr.table).object fr.number (fr.row).place j (rw lead at f.lead) asks in
+      record { tree = t.tree; unfolds = t.unfolds; object = is; within = t.within; deep = omega (arith, t.deep, f.deep); left = f.left; frame = f.frame; all = rw t.all at f.all }
+
+  goes_beside : ((j : ℕ) → (first_word b p.rows fr.row).lead ≡ to_table j → asks_of p j ≡ false) → IsBeside
+  goes_beside quiet =
+      let f = front_of in
+      record { left = f.left; frame = f.frame; all = rw (none_below p b f.y (fr.table).object fr.number (fr.row).place _ f.lead quiet) at f.all }
+
+  is_member : (member : Option Kind) (j : ℕ) → MemberHolds p.rows member → member ≡ Some (Table j) → IsTrue (is_table p.rows j)
+  is_member member j h e = rw e at h
+
+  under_by : (leads : Leads) → (fr.row).leads ≡ leads → AreAskedWords p b (fr.row).left leads → (j : ℕ) → first_object p b leads ≡ Some j → IsUnder j
+  under_by (All (ATable k)) is h j e = let same : k ≡ j = cc in goes_under j (rw is (ap to_table same)) (ap (asks_of p) (sym same) ∙ h.0) (rw same at h.1)
+  under_by (All AText) is h j e = absurd h
+  under_by (All (AStruct size align)) is h j e = absurd h
+  under_by (All Nothing) is h j e = absurd h
+  under_by (ByType e' q) is h j e =
+      let m = asked_member p b p.rows (member_of p.rows e' (word b q 1)) j e in
+      goes_under j (rw is m.lead) m.asks (is_member _ j ((holds.served).members e' (word b q 1)) m.is)
+
+  pub under : (j : ℕ) → first_object p b (fr.row).leads ≡ Some j → IsUnder j
+  under j e = under_by (fr.row).leads refl ((l.asked).leads more) j e
+
+  beside_by : (leads : Leads) → (fr.row).leads ≡ leads → AreAskedWords p b (fr.row).left leads → first_object p b leads ≡ None → IsBeside
+  beside_by (All (ATable k)) is h e = absurd (cc)
+  beside_by (All AText) is h e = absurd h
+  beside_by (All (AStruct size align)) is h e = absurd h
+  beside_by (All Nothing) is h e = absurd h
+  beside_by (ByType e' q) is h e = goes_beside (rw is (quiet_member p b p.rows (member_of p.rows e' (word b q 1)) e))
+
+  pub beside : first_object p b (fr.row).leads ≡ None → IsBeside
+  beside e = beside_by (fr.row).leads refl ((l.asked).leads more) e
+
+  -- what it is asked by its type comes first
+  pub asked_first : (rest : List Demand) × (ds ≡ front ++ rest)
+  asked_first = let f = front_of in (demands_below f.y (asks_of p) p.checks b p.rows (fr.table).object fr.number (fr.row).place ++ f.left, f.all)

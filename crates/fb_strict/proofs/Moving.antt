@@ -1,0 +1,68 @@
+-- How a pass goes on from demands to those that are left.
+use Rattle.std.proofs.Common.{◌≡◌, ℕ, ◌+◌, ◌≤◌, List, [], ◌∷◌, ◌++◌, Option, Some, None, Result, Ok, Err, refl, sym, ap, subst, ◌∙◌, append_assoc, arith}
+use Rattle.std.specs.Prelude.{IfOk, IfErr}
+use Rattle.std.proofs.lemmas.List.Sums.{sum_by-cons, sum_by-append}
+use Rattle.fb_bytes.specs.Word.{Lent}
+use Rattle.fb_rules.specs.declared.{fault.Fault.Fault, site.Site.Site, site.Stop.Stop}
+use Rattle.fb_rules.specs.{Bounds.Bounds, Bounds.AreAllowed, Stops.reads_failure, Told.told, Told.stopped, Told.IsAskedAt}
+use Rattle.fb_rules.specs.Order.{Failure, ◌▷◌}
+use Rattle.fb_strict.specs.Asked.{Demand, demand_fault, demands_reads, first_fault}
+use Rattle.fb_strict.specs.Passing.{Passing, Moves, Breaks, GoesOn}
+use Rattle.fb_strict.proofs.Asking.{passed}
+
+-- the site of a demand
+abbrev pub site_of : Demand → Site
+site_of d = record { object = d.object; field = d.field }
+
+told_is : (d : Demand) (paid : ℕ) (e : Option Failure) → told (site_of d) paid e ≡ demand_fault d paid e
+told_is d paid None = refl
+told_is d paid (Some e) = refl
+
+pub reads_joined : (xs ys : List Demand) → demands_reads (xs ++ ys) ≡ demands_reads xs + demands_reads ys
+reads_joined xs ys = sum_by-append (λ (d : Demand). d.reads) xs ys
+
+module _ (L : Bounds) where
+  pub still : (paid : ℕ) (ds : List Demand) → Moves L paid ds paid ds
+  still paid ds = record { same = λ more. refl; reads = refl; allowed = λ a. a }
+
+  -- where one demand is met
+  pub one : (paid : ℕ) (d : Demand) (ds : List Demand) → d.chain ≡ None → AreAllowed L.reads (paid + d.reads) → Moves L paid (d ∷ ds) (paid + d.reads) ds
+  unfolding first_fault
+  one paid d ds is a = record {
+    same = λ more. passed L paid d (first_fault L (paid + d.reads) (ds ++ more)) is a;
+    reads = let s = sum_by-cons (λ (x : Demand). x.reads) d ds in omega (arith, s);
+    allowed = λ h. a;
+  }
+
+  pub onward : {paid : ℕ} {ds : List Demand} {mid : ℕ} {left : List Demand} {last : ℕ} {rest : List Demand} → Moves L paid ds mid left → Moves L mid left last rest → Moves L paid ds last rest
+  onward f g = record { same = λ more. f.same more ∙ g.same more; reads = f.reads ∙ g.reads; allowed = λ a. g.allowed (f.allowed a) }
+
+  -- others may follow
+  pub before : {paid : ℕ} {ds : List Demand} {last : ℕ} {left : List Demand} (others : List Demand) → Moves L paid ds last left → Moves L paid (ds ++ others) last (left ++ others)
+  before {paid} {ds} {last} {left} others f = record {
+    same = λ more. ap (first_fault L paid) (append_assoc ds others more) ∙ f.same (others ++ more) ∙ ap (first_fault L last) (sym (append_assoc left others more));
+    reads = omega (arith, f.reads, reads_joined ds others, reads_joined left others);
+    allowed = f.allowed;
+  }
+
+  -- the first isn't met
+  pub breaks : (paid : ℕ) (d : Demand) (ds : List Demand) (f : Fault) → demand_fault d paid (d.chain ▷ reads_failure L paid d.reads d.at) ≡ Some f → Breaks L paid (d ∷ ds) f
+  unfolding first_fault
+  breaks paid d ds f h more = ap (λ o. o ▷ first_fault L (paid + d.reads) (ds ++ more)) h
+
+  pub breaks_before : (paid : ℕ) (ds others : List Demand) (f : Fault) → Breaks L paid ds f → Breaks L paid (ds ++ others) f
+  breaks_before paid ds others f h more = ap (first_fault L paid) (append_assoc ds others more) ∙ h (others ++ more)
+
+  pub breaks_then : {paid : ℕ} {ds : List Demand} {mid : ℕ} {left : List Demand} (f : Fault) → Moves L paid ds mid left → Breaks L mid left f → Breaks L paid ds f
+  breaks_then f m h more = m.same more ∙ h more
+
+-- A demand that was asked of bytes that are lent.
+module _ (p : Passing) (m new : Lent) (d : Demand) (ds : List Demand) where
+  pub met : {A : Type 0} (a : A) (r : Result A Stop) → r ≡ Ok a → IsAskedAt (site_of d) p.limits m new d.chain d.reads d.at r → GoesOn p m new (d ∷ ds) ds
+  met a r is h =
+      let o = rw is at h in
+      let e = o.counted in
+      rw e (record { moves = one p.limits m.count d ds o.ok (rw e at o.reads); grows = omega arith; same = refl })
+
+  pub unmet : {A : Type 0} (s : Stop) (r : Result A Stop) → r ≡ Err s → IsAskedAt (site_of d) p.limits m new d.chain d.reads d.at r → Breaks p.limits m.count (d ∷ ds) (stopped s new.count)
+  unmet s r is h = let o = rw is at h in breaks p.limits m.count d ds (stopped s new.count) (sym (told_is d m.count _) ∙ o.err)

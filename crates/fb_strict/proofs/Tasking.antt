@@ -1,0 +1,190 @@
+-- A frame of whose field no word is left: its next task, or its end.
+use Rattle.std.proofs.Common.{◌≡◌, ℕ, zero, suc, ◌+◌, ◌*◌, ◌-◌, ◌^◌, ◌<◌, ◌≤◌, IsTrue, List, [], ◌∷◌, ◌++◌, length, drop, Option, Some, None, Bool, true, false, Result, Ok, Err, inl, inr, refl, sym, ap, subst, ◌∙◌, append_assoc, max, arith, if◌then◌else◌}
+use Rattle.std.specs.{Prelude.slice_get, Borrow.Bor, Slice.IsItemAt}
+use Rattle.std.proofs.lemmas.{Bool.cases_lt, Option.slice_get_within, Option.slice_get_past, Option.slice_get-get_or}
+use Rattle.fb_bytes.specs.Word.{Lent}
+use Rattle.fb_schema.specs.declared.kinds.Kind.{Kind}
+use Rattle.fb_schema.specs.declared.kinds.Kind.TheVariants.{Scalar, Text, Struct, Table, Union, Scalars, Texts, Structs, Tables, Unions}
+use Rattle.fb_schema.specs.{Rows.Rows, Rows.is_table, Rows.is_some_table, Live.Live, Live.live_fields}
+use Rattle.fb_rules.specs.declared.{offset_row.Row.Row, site.Site.Site, site.Stop.Stop, table.Table.Table as TableOf}
+use Rattle.fb_rules.specs.Told.{stopped}
+use Rattle.fb_rules.specs.{Places.field_place, Fields.type_place, Fields.Entry}
+use Rattle.fb_rules.specs.OffsetRows.{words_of}
+use Rattle.fb_rules.specs.Tree.{Kids, kids_depth, Elements, no_elements, element, elements_depth}
+use Rattle.fb_rules.specs.Unfolds.{FieldsUnfold, ElementsUnfold}
+use Rattle.fb_rules.proofs.{Typed.present, Words.row_none}
+use Rattle.fb_strict.specs.declared.{room.Frame.Frame, tasks.Ask.Ask, tasks.Task.Task}
+use Rattle.fb_strict.specs.declared.tasks.Ask.TheVariants.{Union as AskUnion, Unions as AskUnions, Table as GoInto, Tables as GoIntoEach}
+use Rattle.std.specs.List.{cons_option}
+use Rattle.fb_strict.specs.Planned.{ask_of, task_of, tasks_in, marked, Planned, IsPlan}
+use Rattle.fb_strict.specs.Asked.{Demand, field_demands, demands_in_fields, demands_in_row}
+use Rattle.fb_strict.specs.Passing.{Passing, asks_of, IsPassing, IsTaskable, CountStands, IsAskedRow, leads_types, IsKnown, IsLeft, task_row, frame_work, opened, TaskPassed, GoesOn, Stays, Breaks}
+use Rattle.fb_strict.proofs.Moving.{met, unmet}
+use Rattle.fb_strict.proofs.Fields.{IsNextField, next_field, no_field, task_demand, one_demand, IsTask, task_is}
+use Rattle.fb_strict.proofs.Words.{IsPut, put}
+
+drop_at : {X : Type 0} (xs : List X) (i j : ℕ) (x : X) → slice_get xs i ≡ Some x → j ≡ i + 1 → drop i xs ≡ x ∷ drop j xs
+drop_at [] i j x h e = absurd (cc)
+drop_at (y ∷ xs) zero zero x h e = absurd (omega arith)
+drop_at (y ∷ xs) zero (suc j) x h e = let same : y ≡ x = cc in let none : j ≡ 0 = omega arith in rw (same, none) refl
+drop_at (y ∷ xs) (suc i) zero x h e = absurd (omega arith)
+drop_at (y ∷ xs) (suc i) (suc j) x h e = drop_at xs i j x h (omega arith)
+
+drop_past : {X : Type 0} (xs : List X) (i : ℕ) → slice_get xs i ≡ None → drop i xs ≡ []
+drop_past [] zero h = refl
+drop_past [] (suc i) h = refl
+drop_past (y ∷ xs) zero h = absurd (cc)
+drop_past (y ∷ xs) (suc i) h = drop_past xs i h
+
+-- a field that is known can be asked
+module _ (asks : ℕ → Bool) (p : Passing) (b : List ℕ) (t : ℕ) (f : Live) (known : IsKnown p.checks b p.rows t f) where
+  by_table : (j : ℕ) (ask : Ask) (to : Ask) (x : Bool) → (if x then Some to else None) ≡ Some ask → to ≡ ask
+  by_table j ask to true h = cc
+  by_table j ask to false h = absurd (cc)
+
+  taskable_by : (kind : Kind) → f.kind ≡ kind → (ask : Ask) → ask_of asks kind ≡ Some ask → IsTaskable b p.rows t f.slot (field_place b t f.slot) ask
+  taskable_by (Table j) kind ask h = subst (λ (x : Ask). IsTaskable b p.rows t f.slot (field_place b t f.slot) x) (by_table j ask (GoInto j) (asks j) h) tt
+  taskable_by (Tables j) kind ask h =
+      subst (λ (x : Ask). IsTaskable b p.rows t f.slot (field_place b t f.slot) x) (by_table j ask (GoIntoEach j) (asks j) h)
+      (λ q is. let v = present p.checks b p.rows t f q (Tables j) known.own is kind in record { offset = (v.offset).within; count = (v.vector).count })
+  taskable_by (Union e) kind ask h =
+      let same : AskUnion e ≡ ask = cc in subst (λ (x : Ask). IsTaskable b p.rows t f.slot (field_place b t f.slot) x) same (rw kind at known.kind, rw kind at known.typed)
+  taskable_by (Unions e) kind ask h =
+      let same : AskUnions e ≡ ask = cc in
+      subst (λ (x : Ask). IsTaskable b p.rows t f.slot (field_place b t f.slot) x) same (
+        rw kind at known.typed,
+        λ q is. let v = (present p.checks b p.rows t f q (Unions e) known.own is kind).field in record { offset = (v.offset).within; count = (v.vector).count },
+      )
+  taskable_by (Scalar s) kind ask h = absurd (cc)
+  taskable_by Text kind ask h = absurd (cc)
+  taskable_by (Struct j) kind ask h = absurd (cc)
+  taskable_by (Scalars s) kind ask h = absurd (cc)
+  taskable_by Texts kind ask h = absurd (cc)
+  taskable_by (Structs j) kind ask h = absurd (cc)
+
+module _ (p : Passing) (b : List ℕ) (holds : IsPassing p b) (room : ℕ) (fr : Frame) (ds : List Demand) (l : IsLeft p b room fr ds) (rests : (fr.row).left ≡ 0) where
+  abbrev k : ℕ
+  k = (fr.table).object
+
+  abbrev t : ℕ
+  t = (fr.table).at
+
+  abbrev tasks : List Task
+  tasks = tasks_in (asks_of p) (live_fields p.rows k)
+
+  abbrev of_fields : List Demand
+  of_fields = demands_in_fields l.kids (asks_of p) p.checks b p.rows k t l.fields
+
+  -- its row stands for nothing
+  only_fields : (words : Elements) → ElementsUnfold words p.checks b p.rows [] → ds ≡ demands_in_row words (asks_of p) p.checks b p.rows k fr.number (fr.row).place (leads_types (fr.row).leads) ++ of_fields → ds ≡ of_fields
+  unfolding ElementsUnfold demands_in_row
+  only_fields no_elements u all = all
+  only_fields (element y ys) u all = absurd u
+
+  fields_left : ds ≡ of_fields
+  fields_left = only_fields l.words (subst (λ xs. ElementsUnfold l.words p.checks b p.rows xs) (row_none b p.rows fr.row rests) l.row) l.all
+
+  -- the frame after its next task
+  abbrev pub after_task : Task → Frame
+  after_task task = record {
+    table = fr.table;
+    next = fr.next + 1;
+    number = task.number;
+    row = task_row (asks_of p) b p.rows (type_place b t task.slot) (field_place b t task.slot) task.ask fr.row;
+  }
+
+  pub record IsAtTask (task : Task) : Type 0 where
+    pub taskable : IsTaskable b p.rows t task.slot (field_place b t task.slot) task.ask
+    pub left : List Demand
+    pub frame : IsLeft p b room (after_task task) left
+    pub all : ds ≡ task_demand p.checks b p.rows (asks_of p) k t task.number task.slot (type_place b t task.slot) (field_place b t task.slot) task.ask ∷ left
+    pub falls : frame_work p (after_task task) < frame_work p fr
+
+  at_field : (task : Task) → slice_get tasks fr.next ≡ Some task → (f : IsNextField p.checks b p.rows (asks_of p) k t l.kids l.fields task (drop (fr.next + 1) tasks)) → (n : ℕ) → n ≡ (f.field).number → (o : ℕ) → o ≡ (f.field).slot → (ask : Ask)
+      → ask_of (asks_of p) (f.field).kind ≡ Some ask → task ≡ record { number = n; slot = o; ask = ask } → IsAtTask task
+  at_field task found f n number o slot ask is same =
+      let g = put p b holds k t f.field f.words fr.row rests l.asked f.known ask is f.unfolds in
+      let one = one_demand p.checks b p.rows (asks_of p) k t (f.field).number (f.field).slot (type_place b t (f.field).slot) (field_place b t (f.field).slot) (f.field).kind ask is in
+      let near = (g.asked).near in
+      let within = slice_get_within tasks fr.next task found in
+      let own = taskable_by (asks_of p) p b t f.field f.known (f.field).kind refl ask is in
+      rw (same, number, slot) (record {
+        taskable = own;
+        left = demands_in_row g.left (asks_of p) p.checks b p.rows k (f.field).number _ _ ++ demands_in_fields f.others_kids (asks_of p) p.checks b p.rows k t f.others;
+        frame = record {
+          object = l.object;
+          near = l.near;
+          head = l.head;
+          fields = f.others;
+          known = f.others_known;
+          tasks = f.tasks;
+          kids = f.others_kids;
+          unfolds = f.others_unfold;
+          words = g.left;
+          row = g.unfolds;
+          asked = g.asked;
+          deep = omega (arith, l.deep, f.deep, g.deep);
+          all = refl;
+        };
+        all = fields_left ∙ f.all ∙ rw (one, g.same) refl;
+        falls = omega (arith, near, within);
+      })
+
+  pub at_task : (task : Task) → slice_get tasks fr.next ≡ Some task → IsAtTask task
+  at_task task found =
+      let f = next_field p.checks b p.rows (asks_of p) k t task (drop (fr.next + 1) tasks) l.kids l.fields l.unfolds l.known (sym l.tasks ∙ drop_at tasks fr.next (fr.next + 1) task found refl) in
+      let i = task_is p.checks b p.rows (asks_of p) k t f.field task f.its in
+      at_field task found f task.number i.number task.slot i.slot task.ask i.ask refl
+
+  pub at_end : slice_get tasks fr.next ≡ None → ds ≡ []
+  at_end past = fields_left ∙ no_field p.checks b p.rows (asks_of p) k t l.kids l.fields l.unfolds (sym l.tasks ∙ drop_past tasks fr.next past)
+
+-- The task was done.
+module _ (p : Passing) (m new : Lent) (holds : IsPassing p m.bytes) (room : ℕ) (fr : Frame) (ds : List Demand) (l : IsLeft p m.bytes room fr ds) (rests : (fr.row).left ≡ 0) (task : Task)
+    (found : slice_get (tasks_in (asks_of p) (live_fields p.rows (fr.table).object)) fr.next ≡ Some task) where
+  abbrev here : Site
+  here = record { object = (fr.table).object; field = Some task.number }
+
+  abbrev its_demand : Demand
+  its_demand = task_demand p.checks m.bytes p.rows (asks_of p) (fr.table).object (fr.table).at task.number task.slot (type_place m.bytes (fr.table).at task.slot) (field_place m.bytes (fr.table).at task.slot) task.ask
+
+  pub stays_at : (row : Row) → TaskPassed {A = Unit {0}} p m new (fr.table).at here task.slot task.ask fr.row row (Ok (tt {0})) → Stays p m new room ds fr (record { table = fr.table; next = fr.next + 1; number = task.number; row = row })
+  stays_at row h =
+      let a = at_task p m.bytes holds room fr ds l rests task found in
+      rw h.row (record {
+        left = a.left;
+        on = subst (λ xs. GoesOn p m new xs a.left) (sym a.all) (met p m new its_demand a.left {A = Unit {0}} (tt {0}) (Ok (tt {0})) refl h.asked);
+        frame = a.frame;
+        falls = a.falls;
+      })
+
+  pub stops_at : (row : Row) (s : Stop) → TaskPassed {A = Unit {0}} p m new (fr.table).at here task.slot task.ask fr.row row (Err s) → Breaks p.limits m.count ds (stopped s new.count)
+  stops_at row s h =
+      let a = at_task p m.bytes holds room fr ds l rests task found in
+      subst (λ xs. Breaks p.limits m.count xs (stopped s new.count)) (sym a.all) (unmet p m new its_demand a.left {A = Unit {0}} s (Err s) refl h.asked)
+
+-- the tasks of an object, as the plan has them
+within_objects : (S : Rows) (k : ℕ) → IsTrue (is_table S k) → k < length S.objects
+within_objects S k h = elim (cases_lt k (length S.objects)) [ inl lt ↦ lt | inr past ↦ absurd (let none = ap is_some_table (slice_get_past S.objects k past) in let w : true ≡ false = sym h ∙ none in cc) ]
+
+pub tasks_are : (S : Rows) (plan : Planned) (k : ℕ) (ts : List Task) → IsPlan S plan → IsTrue (is_table S k) → slice_get plan.tasks k ≡ Some ts → ts ≡ tasks_in (marked plan.marks) (live_fields S k)
+tasks_are S plan k ts h is e = let same = sym e ∙ h.tasks k (within_objects S k is) in cc
+
+-- what `get` lends of a slice
+pub item_some : {A : Type 0} (xs : List A) (i : ℕ) (r : Option (Bor A)) (x : Bor A) → IsItemAt xs i r → r ≡ Some x → slice_get xs i ≡ Some x.now
+item_some xs i r x h e =
+    let g = subst (λ o. IsItemAt xs i o) e h in
+    slice_get-get_or xs i x.now g.3.0 ∙ ap Some (sym (g.4 (omega arith) x.now))
+
+-- tasks are few
+
+few_by : (asks : ℕ → Bool) (f : Live) (fs : List Live) (o : Option Task) → length (tasks_in asks fs) ≤ length fs → length (cons_option o (tasks_in asks fs)) ≤ length fs + 1
+few_by asks f fs None h = omega (arith, h)
+few_by asks f fs (Some x) h = omega (arith, h)
+
+pub few_tasks : (asks : ℕ → Bool) (fs : List Live) → length (tasks_in asks fs) ≤ length fs
+few_tasks asks [] = omega arith
+few_tasks asks (f ∷ fs) = omega (arith, few_by asks f fs (task_of asks f) (few_tasks asks fs))
+
+pub opened_few : (p : Passing) (b : List ℕ) (table : TableOf) → IsPassing p b → frame_work p (opened table) < 2 ^ 48
+opened_few p b table holds = let few = few_tasks (asks_of p) (live_fields p.rows table.object) in let most = (holds.served).few table.object in omega (arith, few, most)

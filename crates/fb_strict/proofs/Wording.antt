@@ -1,0 +1,106 @@
+-- The first offset word that is left of a frame is passed.
+use Rattle.std.proofs.Common.{◌≡◌, ℕ, ◌+◌, ◌*◌, ◌-◌, ◌^◌, ◌<◌, ◌≤◌, List, [], ◌∷◌, ◌++◌, length, Option, Some, None, Result, Ok, Err, refl, sym, ap, subst, ◌∙◌, arith}
+use Rattle.fb_bytes.specs.Word.{Lent}
+use Rattle.fb_rules.specs.declared.{site.Site.Site, site.Stop.Stop, table.Child.Child}
+use Rattle.fb_rules.specs.declared.{offset_row.Leads.Leads, offset_row.Leads.TheVariants.All, offset_row.Leads.TheVariants.ByType, offset_row.Row.Row}
+use Rattle.fb_rules.specs.{Places.target, Told.stopped, Told.IsAskedAt, OffsetRows.past_first}
+use Rattle.fb_strict.specs.declared.room.Frame.{Frame}
+use Rattle.fb_strict.specs.InOrder.{element_failure, element_reads}
+use Rattle.fb_strict.specs.Asked.{Demand, reading, element_demands, demands_in}
+use Rattle.fb_strict.specs.Passing.{Passing, asks_of, IsPassing, leads_types, IsLeft, Moves, Breaks, GoesOn, FirstPassed, first_object, IsNext, Stays, GoesDown, frame_work}
+use Rattle.fb_strict.proofs.Moving.{site_of, still, onward, breaks_then, met, unmet}
+use Rattle.fb_strict.proofs.{Few.element_few, Frames.asked_first, Frames.under, Frames.beside}
+
+-- so many reads were made for what it is asked by its type
+pub record IsPaid (m new : Lent) : Type 0 where
+  pub few : new.count ≤ m.count + 2
+  pub grows : m.count ≤ new.count
+  pub same : new ≡ record m { count = new.count }
+
+module _ (p : Passing) (m new : Lent) (site : Site) (place : ℕ) where
+  paid_by : (leads : Leads) (o : Option ℕ) → FirstPassed p m new site place leads (Ok o) → IsPaid m new × (o ≡ first_object p m.bytes leads)
+  paid_by (All referent) o h = (rw h.1 (record { few = omega arith; grows = omega arith; same = refl }), let e = h.0 in cc)
+  paid_by (ByType e q) o h =
+      let few = element_few m.bytes p.rows e q in
+      let c = ap (λ (x : Lent). x.count) h.0.counted in
+      (record { few = omega (arith, c, few); grows = omega (arith, c); same = h.0.counted ∙ ap (λ n. record m { count = n }) (sym c) }, h.1)
+
+  pub first_paid : (leads : Leads) (o : Option ℕ) (r : Result (Option ℕ) Stop) → r ≡ Ok o → FirstPassed p m new site place leads r → IsPaid m new × (o ≡ first_object p m.bytes leads)
+  first_paid leads o r is h = paid_by leads o (rw is at h)
+
+module _ (p : Passing) (m new : Lent) (k n place : ℕ) where
+  abbrev site : Site
+  site = record { object = k; field = Some n }
+
+  abbrev front : Leads → List Demand
+  front leads = element_demands p.checks m.bytes p.rows k n place (leads_types leads)
+
+  -- what it is asked by its type was asked
+  asked_by : (leads : Leads) (o : Option ℕ) (rest : List Demand) → FirstPassed p m new site place leads (Ok o) → GoesOn p m new (front leads ++ rest) rest
+  asked_by (All referent) o rest h = rw h.1 (record { moves = still p.limits m.count rest; grows = omega arith; same = refl })
+  asked_by (ByType e q) o rest h = met p m new (record { object = k; field = Some n; at = place; reads = element_reads m.bytes p.rows e q; chain = element_failure p.checks m.bytes p.rows e q place }) rest o (Ok o) refl h.0
+
+  breaks_by : (leads : Leads) (s : Stop) (rest : List Demand) → FirstPassed p m new site place leads (Err s) → Breaks p.limits m.count (front leads ++ rest) (stopped s new.count)
+  breaks_by (All referent) s rest h = absurd (let e = h.0 in cc)
+  breaks_by (ByType e q) s rest h = unmet p m new (record { object = k; field = Some n; at = place; reads = element_reads m.bytes p.rows e q; chain = element_failure p.checks m.bytes p.rows e q place }) rest {A = Option ℕ} s (Err s) refl h.0
+
+module _ (p : Passing) (m mid : Lent) (holds : IsPassing p m.bytes) (room : ℕ) (fr : Frame) (ds : List Demand) (l : IsLeft p m.bytes room fr ds) (more : 0 < (fr.row).left) where
+  abbrev here : Site
+  here = record { object = (fr.table).object; field = Some fr.number }
+
+  pub first_stops : (s : Stop) → FirstPassed p m mid here (fr.row).place (fr.row).leads (Err s) → Breaks p.limits m.count ds (stopped s mid.count)
+  first_stops s h =
+      let f = asked_first p m.bytes holds room fr ds l more in
+      subst (λ xs. Breaks p.limits m.count xs (stopped s mid.count)) (sym f.1) (breaks_by p m mid (fr.table).object fr.number (fr.row).place (fr.row).leads s f.0 h)
+
+  falls : frame_work p (record fr { row = past_first fr.row }) < frame_work p fr
+  falls = omega (arith, more)
+
+  pub passes_by : FirstPassed p m mid here (fr.row).place (fr.row).leads (Ok None) → (past : Frame) → past ≡ record fr { row = past_first fr.row } → Stays p m mid room ds fr past
+  passes_by h past is =
+      let o = first_paid p m mid here (fr.row).place (fr.row).leads None (Ok None) refl h in
+      let b = beside p m.bytes holds room fr ds l more (sym o.1) in
+      rw is (record {
+        left = b.left;
+        on = subst (λ xs. GoesOn p m mid xs b.left) (sym b.all) (asked_by p m mid (fr.table).object fr.number (fr.row).place (fr.row).leads None b.left h);
+        frame = b.frame;
+        falls = falls;
+      })
+
+  module _ (j : ℕ) (h : FirstPassed p m mid here (fr.row).place (fr.row).leads (Ok (Some j))) where
+    object_is : first_object p m.bytes (fr.row).leads ≡ Some j
+    object_is = sym (first_paid p m mid here (fr.row).place (fr.row).leads (Some j) (Ok (Some j)) refl h).1
+
+    pub within : (fr.row).place + 4 ≤ length m.bytes
+    within = (under p m.bytes holds room fr ds l more j object_is).within
+
+    abbrev word_read : Demand
+    word_read = reading (fr.table).object (Some fr.number) (fr.row).place 1
+
+    pub follow_stops : (new : Lent) (s : Stop) → IsAskedAt {A = ℕ} here p.limits mid new None 1 (fr.row).place (Err s) → Breaks p.limits m.count ds (stopped s new.count)
+    follow_stops new s f =
+        let u = under p m.bytes holds room fr ds l more j object_is in
+        let rest = demands_in u.tree (asks_of p) p.checks m.bytes p.rows ++ u.left in
+        let one = asked_by p m mid (fr.table).object fr.number (fr.row).place (fr.row).leads (Some j) (word_read ∷ rest) h in
+        subst (λ xs. Breaks p.limits m.count xs (stopped s new.count)) (sym u.all) (breaks_then p.limits (stopped s new.count) one.moves (unmet p mid new word_read rest s (Err s) refl f))
+
+    pub goes_down : (new : Lent) (at : ℕ) → IsAskedAt {A = ℕ} here p.limits mid new None 1 (fr.row).place (Ok at) → at ≡ target m.bytes (fr.row).place → at < 2 ^ 33 → (past : Frame) → past ≡ record fr { row = past_first fr.row }
+        → (child : Child) → child ≡ record { object = j; at = at } → GoesDown p m new room ds fr past child
+    goes_down new at f target-is near past is child it =
+        let u = under p m.bytes holds room fr ds l more j object_is in
+        let below = demands_in u.tree (asks_of p) p.checks m.bytes p.rows in
+        let one = asked_by p m mid (fr.table).object fr.number (fr.row).place (fr.row).leads (Some j) (word_read ∷ (below ++ u.left)) h in
+        let two = met p mid new word_read (below ++ u.left) at (Ok at) refl f in
+        rw (is, it) (record {
+          below = below;
+          left = u.left;
+          on = subst (λ xs. GoesOn p m new xs (below ++ u.left)) (sym u.all) (record {
+            moves = onward p.limits one.moves two.moves;
+            grows = omega (arith, one.grows, two.grows);
+            same = two.same ∙ ap (λ (x : Lent). record x { count = new.count }) one.same;
+          });
+          paid = omega (arith, (first_paid p m mid here (fr.row).place (fr.row).leads (Some j) (Ok (Some j)) refl h).0.few, ap (λ (x : Lent). x.count) f.counted);
+          next = record { tree = u.tree; unfolds = rw (sym target-is) at u.unfolds; object = u.object; near = near; deep = u.deep; all = refl };
+          frame = u.frame;
+          falls = omega (arith, falls);
+        })

@@ -1,0 +1,16 @@
+use Rattle.std.proofs.Common.{ap, ◌∙◌}
+use Rattle.fb_strict.specs.Passing.{Passing, asks_of, asked_object}
+use Rattle.fb_strict.proofs.Answered.{ok_for, failed_none}
+use Rattle.fb_strict.proofs.pass.Pass.pass_first.Goals as goal
+
+-- src/pass.rt
+pub returns-in_ok-answer-in-ByType : goal.returns-in_ok-answer-in-ByType
+returns-in_ok-answer-in-ByType g c =
+    let checks = ap (λ (x : Passing). x.checks) c.self.view_is in
+    let rows = ap (λ (x : Passing). x.rows) c.self.view_is in
+    let m = c.args.reads.now in
+    let u = c.test_element-failed in
+    let tested = rw (checks, rows) at u.ensures.tested in
+    let a = c.in_ok-answer-in-ByType.ensures m _ _ tested in
+    let none = failed_none m u.new.reads u.new.at _ u.result _ tested a.ok in
+    rw c.in-ByType.is (ok_for _ _ c.args.site c.args.self.now.limits m u.new.reads _ _ c.args.row.place a, c.asked_object.ensures ∙ ap (asked_object (asks_of c.args.self.now)) (rw rows at (u.ensures.member none)))

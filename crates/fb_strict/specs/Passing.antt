@@ -1,0 +1,269 @@
+-- A pass over a buffer that unfolds: what is left to be asked, as the frames of the open tables hold it.
+use Rattle.std.specs.Prelude.{◌≡◌, ℕ, zero, suc, ◌+◌, ◌-◌, ◌*◌, ◌^◌, ◌<◌, ◌≤◌, nat_le, IsTrue, Bool, true, if◌then◌else◌, max, List, [], ◌∷◌, ◌++◌, length, drop, get_or, slice_get, Option, Some, None, Result, Ok, Err, IfOk}
+use Rattle.std.specs.List.{sum_by}
+use Rattle.fb_bytes.specs.Word.{Lent, word}
+use Rattle.fb_schema.specs.declared.kinds.Kind.{Kind}
+use Rattle.fb_schema.specs.declared.kinds.Kind.TheVariants.{Table as TableKind}
+use Rattle.fb_schema.specs.{Rows.Rows, Rows.is_table, Rows.is_union, Live.Live, Live.live_fields, Members.member_of, Served.IsServed, Served.KindHolds}
+use Rattle.fb_rules.specs.declared.{checks.Checks.Checks, fault.Fault.Fault, site.Site.Site, site.Stop.Stop, table.Table.Table, table.Child.Child}
+use Rattle.fb_rules.specs.declared.{offset_row.Row.Row, offset_row.Leads.Leads, offset_row.Leads.TheVariants.All, offset_row.Leads.TheVariants.ByType}
+use Rattle.fb_rules.specs.declared.offset_row.Referent.TheVariants.{Text as AText, Table as ATable, Struct as AStruct, Nothing}
+use Rattle.fb_rules.specs.{Bounds.Bounds, Bounds.AreAllowed, Bounds.allowed, Places.target, Places.field_place, Fields.IsField, Fields.type_place, Fields.types_begin}
+use Rattle.fb_rules.specs.{Cost.slot_reads, Cost.reads_if_present, Order.Failure, Order.after, Told.IsHead, Told.IsAskedAt, Told.stopped, OffsetRows.words_of, OffsetRows.IsTyped, OffsetRows.TypeFits, OffsetRows.TypesFit}
+use Rattle.fb_rules.specs.Tree.{Tree, Kids, kids_depth, Elements, elements_depth, depth}
+use Rattle.fb_rules.specs.Unfolds.{FieldsUnfold, ElementsUnfold, Unfolds}
+use Rattle.fb_strict.specs.declared.{room.Frame.Frame, tasks.Ask.Ask, tasks.Task.Task, pass.Turn.Turn}
+use Rattle.fb_strict.specs.declared.tasks.Ask.TheVariants.{Union as AskUnion, Unions as AskUnions, Table as GoInto, Tables as GoIntoEach}
+use Rattle.fb_strict.specs.declared.pass.Turn.TheVariants.{Here, Up, Down}
+use Rattle.fb_strict.specs.{Planned.Planned, Planned.IsPlan, Planned.marked, Planned.tasks_in}
+use Rattle.fb_strict.specs.InOrder.{places_reads, union_failure, union_reads, together_failure, element_failure, element_reads, member_at}
+use Rattle.fb_strict.specs.Asked.{Demand, Types, vectors_reads, demands_in_fields, demands_in_row, demands_in, demands_reads, first_fault}
+
+-- what a pass carries: its plan, the rows, its limits and checks
+pub record Passing : Type 0 where
+  pub plan : Planned
+  pub rows : Rows
+  pub limits : Bounds
+  pub checks : Checks
+
+-- which objects are asked
+abbrev pub asks_of : Passing → ℕ → Bool
+asks_of p k = marked (p.plan).marks k
+
+-- what always holds of it, and of the bytes that are read
+pub record IsPassing (p : Passing) (b : List ℕ) : Type 0 where
+  pub plan : IsPlan p.rows p.plan
+  pub served : IsServed p.rows
+  pub short : length b < 2 ^ 31
+
+-- where so many reads were counted before a count of 64 bits began, the limits allow as many of these as the room says
+abbrev pub IsRoom : Bounds → (base room : ℕ) → Type 0
+IsRoom L base room = (n : ℕ) → n < 2 ^ 64 → allowed L.reads (base + n) ≡ nat_le n room
+
+-- what no pass has written
+abbrev pub blank : Frame
+blank = record { table = record { object = 0; at = 0; head = record { vtable = 0; size = 0; inline = 0 } }; next = 0; number = 0; row = record { leads = All Nothing; place = 0; left = 0 } }
+
+-- the frame of a table that was opened
+abbrev pub opened : Table → Frame
+opened table = record { table = table; next = blank.next; number = blank.number; row = blank.row }
+
+-- One task of the table at t, whose field has this slot, and whose type field and value stand at these places.
+
+-- the chain of its tests
+abbrev pub task_failure : Checks → List ℕ → Rows → (t slot : ℕ) → (types place : Option ℕ) → Ask → Option Failure
+task_failure c b S t slot types place (GoInto k) = None
+task_failure c b S t slot types place (AskUnion e) = after (places_reads b t slot) (union_failure c b S e t types place)
+task_failure c b S t slot types place (GoIntoEach k) = None
+task_failure c b S t slot types place (AskUnions e) = after (places_reads b t slot) (together_failure types place)
+
+-- the reads where this finds nothing
+abbrev pub task_reads : List ℕ → Rows → (t slot : ℕ) → (types place : Option ℕ) → Ask → ℕ
+task_reads b S t slot types place (GoInto k) = slot_reads b t slot
+task_reads b S t slot types place (AskUnion e) = places_reads b t slot + union_reads b S e types place
+task_reads b S t slot types place (GoIntoEach k) = slot_reads b t slot + reads_if_present 2 place
+task_reads b S t slot types place (AskUnions e) = places_reads b t slot + vectors_reads types place
+
+-- the object of the table that a member of a union is, if that is asked
+abbrev pub asked_object : (ℕ → Bool) → Option Kind → Option ℕ
+asked_object asks (Some (TableKind k)) = if asks k then Some k else None
+asked_object asks _ = None
+
+-- one offset word at p that leads to a table of this object, if there is one
+abbrev pub word_row : ℕ → Option ℕ → Row → Row
+word_row p None old = old
+word_row p (Some k) old = record { leads = All (ATable k); place = p; left = 1 }
+
+-- the words that are left of the field then
+abbrev pub task_row : (ℕ → Bool) → List ℕ → Rows → (types place : Option ℕ) → Ask → Row → Row
+task_row asks b S types None ask old = old
+task_row asks b S types (Some p) (GoInto k) old = record { leads = All (ATable k); place = p; left = 1 }
+task_row asks b S types (Some p) (AskUnion e) old = word_row p (asked_object asks (member_at b S e types (Some p))) old
+task_row asks b S types (Some p) (GoIntoEach k) old = record { leads = All (ATable k); place = target b p + 4; left = word b (target b p) 4 }
+task_row asks b S types (Some p) (AskUnions e) old = record { leads = ByType e (types_begin b types); place = target b p + 4; left = word b (target b p) 4 }
+
+-- an offset word stands at p, and the count of the vector to which it leads
+pub record CountStands (b : List ℕ) (p : ℕ) : Type 0 where
+  pub offset : p + 4 ≤ length b
+  pub count : target b p + 4 ≤ length b
+
+-- what a task relies on, whose field's value stands at this place
+abbrev pub IsTaskable : List ℕ → Rows → (t slot : ℕ) → Option ℕ → Ask → Type 0
+IsTaskable b S t slot place (GoInto k) = Unit {0}
+IsTaskable b S t slot place (AskUnion e) = IsTrue (is_union S e) × TypeFits b t slot
+IsTaskable b S t slot place (GoIntoEach k) = (p : ℕ) → place ≡ Some p → CountStands b p
+IsTaskable b S t slot place (AskUnions e) = TypesFit b t slot × ((p : ℕ) → place ≡ Some p → CountStands b p)
+
+-- What is left of a frame.
+
+-- a row of words is left of which each leads to a table that is asked, or has a type
+abbrev pub AreAskedWords : Passing → List ℕ → ℕ → Leads → Type 0
+AreAskedWords p b n (All (ATable k)) = (asks_of p k ≡ true) × IsTrue (is_table p.rows k)
+AreAskedWords p b n (All _) = ⊥
+AreAskedWords p b n (ByType e q) = IsTrue (is_union p.rows e) × (q + n ≤ length b)
+
+pub record IsAskedRow (p : Passing) (b : List ℕ) (r : Row) : Type 0 where
+  pub near : r.place + 4 * r.left < 2 ^ 35
+  pub leads : 0 < r.left → AreAskedWords p b r.left r.leads
+
+-- where the types of its words stand
+abbrev pub leads_types : Leads → Option Types
+leads_types (All referent) = None
+leads_types (ByType e q) = Some (record { union = e; at = q })
+
+-- a live field of the table at t, which holds: a union's types were checked before
+pub record IsKnown (c : Checks) (b : List ℕ) (S : Rows) (t : ℕ) (f : Live) : Type 0 where
+  pub own : IsField c b S t f
+  pub typed : IsTyped b t f.slot f.kind
+  pub kind : KindHolds S f f.kind
+
+unfoldable pub AreKnown : Checks → List ℕ → Rows → ℕ → List Live → Type 0
+AreKnown c b S t [] = Unit {0}
+AreKnown c b S t (f ∷ fs) = IsKnown c b S t f × AreKnown c b S t fs
+
+-- the frame of a table that is open stands for these demands: those of the words that are left of a field, and then
+-- those of the other fields. There are frames for so many tables from this one on
+pub record IsLeft (p : Passing) (b : List ℕ) (room : ℕ) (fr : Frame) (ds : List Demand) : Type 0 where
+  pub object : IsTrue (is_table p.rows (fr.table).object)
+  pub near : (fr.table).at < 2 ^ 33
+  pub head : IsHead p.checks b (fr.table).at (fr.table).head
+  pub fields : List Live
+  pub known : AreKnown p.checks b p.rows (fr.table).at fields
+  pub tasks : drop fr.next (tasks_in (asks_of p) (live_fields p.rows (fr.table).object)) ≡ tasks_in (asks_of p) fields
+  pub kids : Kids
+  pub unfolds : FieldsUnfold kids p.checks b p.rows (fr.table).at fields
+  pub words : Elements
+  pub row : ElementsUnfold words p.checks b p.rows (words_of b p.rows fr.row)
+  pub asked : IsAskedRow p b fr.row
+  pub deep : max (elements_depth words) (kids_depth kids) < room
+  pub all : ds ≡ demands_in_row words (asks_of p) p.checks b p.rows (fr.table).object fr.number (fr.row).place (leads_types (fr.row).leads)
+      ++ demands_in_fields kids (asks_of p) p.checks b p.rows (fr.table).object (fr.table).at fields
+
+-- the first so many of these frames stand for these demands, the last of them first
+unfoldable pub AreLeft : Passing → List ℕ → List Frame → ℕ → List Demand → Type 0
+AreLeft p b frames zero ds = ds ≡ []
+AreLeft p b frames (suc n) ds = (own : List Demand) × (others : List Demand) × IsLeft p b (length frames - n) (get_or frames n blank) own × AreLeft p b frames n others × (ds ≡ own ++ others)
+
+-- a pass goes on from these demands after so many reads to those after so many, whatever is demanded afterwards
+pub record Moves (L : Bounds) (paid : ℕ) (ds : List Demand) (last : ℕ) (left : List Demand) : Type 0 where
+  pub same : (more : List Demand) → first_fault L paid (ds ++ more) ≡ first_fault L last (left ++ more)
+  pub reads : paid + demands_reads ds ≡ last + demands_reads left
+  pub allowed : AreAllowed L.reads paid → AreAllowed L.reads last
+
+-- one of these demands isn't met: the fault is told first, whatever is demanded afterwards
+abbrev pub Breaks : Bounds → ℕ → List Demand → Fault → Type 0
+Breaks L paid ds f = (more : List Demand) → first_fault L paid (ds ++ more) ≡ Some f
+
+-- the turns that are left for a frame at most, but for those of tables to be opened
+abbrev pub frame_work : Passing → Frame → ℕ
+frame_work p fr = 1 + 2 ^ 33 * (length (tasks_in (asks_of p) (live_fields p.rows (fr.table).object)) - fr.next) + (fr.row).left
+
+-- and for so many of these frames
+unfoldable pub frames_work : Passing → List Frame → ℕ → ℕ
+frames_work p frames zero = 0
+frames_work p frames (suc n) = frame_work p (get_or frames n blank) + frames_work p frames n
+
+-- The table at this position, of this object, is to be opened: it unfolds into a tree with these demands, for whose
+-- tables there are so many frames.
+pub record IsNext (p : Passing) (b : List ℕ) (room : ℕ) (child : Child) (ds : List Demand) : Type 0 where
+  pub tree : Tree
+  pub unfolds : Unfolds tree p.checks b p.rows child.object child.at
+  pub object : IsTrue (is_table p.rows child.object)
+  pub near : child.at < 2 ^ 33
+  pub deep : depth tree ≤ room
+  pub all : ds ≡ demands_in tree (asks_of p) p.checks b p.rows
+
+-- a task of the table at t was done: its demand is met, and the words of its field were put; or the pass stops
+pub record TaskPassed {A : Type 0} (p : Passing) (m new : Lent) (t : ℕ) (site : Site) (slot : ℕ) (ask : Ask) (old past : Row) (result : Result A Stop) : Type 0 where
+  pub asked : IsAskedAt site p.limits m new (task_failure p.checks m.bytes p.rows t slot (type_place m.bytes t slot) (field_place m.bytes t slot) ask) (task_reads m.bytes p.rows t slot (type_place m.bytes t slot) (field_place m.bytes t slot) ask) t result
+  pub row : IfOk result (λ _. past ≡ task_row (asks_of p) m.bytes p.rows (type_place m.bytes t slot) (field_place m.bytes t slot) ask old)
+
+-- the object of the table to which the first word of a row leads, if that is asked
+abbrev pub first_object : Passing → List ℕ → Leads → Option ℕ
+first_object p b (All (ATable k)) = Some k
+first_object p b (All _) = None
+first_object p b (ByType e q) = asked_object (asks_of p) (member_of p.rows e (word b q 1))
+
+-- that word was asked, where its type tells what it leads to; or the pass stops
+abbrev pub FirstPassed : (p : Passing) → (m new : Lent) → Site → (place : ℕ) → Leads → Result (Option ℕ) Stop → Type 0
+FirstPassed p m new site place (All referent) result = (result ≡ Ok (first_object p m.bytes (All referent))) × (new ≡ m)
+FirstPassed p m new site place (ByType e q) result =
+    IsAskedAt site p.limits m new (element_failure p.checks m.bytes p.rows e q place) (element_reads m.bytes p.rows e q) place result × IfOk result (λ o. o ≡ first_object p m.bytes (ByType e q))
+
+-- One step in the top table, from a frame to another, after which the pass goes on there, in the table above or in one
+-- below; or it stops.
+
+-- of these bytes, so many reads more were counted
+pub record GoesOn (p : Passing) (m new : Lent) (ds left : List Demand) : Type 0 where
+  pub moves : Moves p.limits m.count ds new.count left
+  pub grows : m.count ≤ new.count
+  pub same : new ≡ record m { count = new.count }
+
+pub record Stays (p : Passing) (m new : Lent) (room : ℕ) (ds : List Demand) (top past : Frame) : Type 0 where
+  pub left : List Demand
+  pub on : GoesOn p m new ds left
+  pub frame : IsLeft p m.bytes room past left
+  pub falls : frame_work p past < frame_work p top
+
+pub record GoesDown (p : Passing) (m new : Lent) (room : ℕ) (ds : List Demand) (top past : Frame) (child : Child) : Type 0 where
+  pub below : List Demand
+  pub left : List Demand
+  pub on : GoesOn p m new ds (below ++ left)
+  pub paid : new.count ≤ m.count + 8
+  pub next : IsNext p m.bytes (room - 1) child below
+  pub frame : IsLeft p m.bytes room past left
+  pub falls : frame_work p past ≤ frame_work p top
+
+abbrev pub Stepped : (p : Passing) → (m new : Lent) → (room : ℕ) → (ds : List Demand) → (top past : Frame) → (child : Child) → Result Turn Stop → Type 0
+Stepped p m new room ds top past child (Ok Here) = Stays p m new room ds top past
+Stepped p m new room ds top past child (Ok Up) = (ds ≡ []) × (new ≡ m)
+Stepped p m new room ds top past child (Ok Down) = GoesDown p m new room ds top past child
+Stepped p m new room ds top past child (Err s) = Breaks p.limits m.count ds (stopped s new.count)
+
+-- the same of a whole stack of frames, of which so many are open
+pub record Turns (p : Passing) (m new : Lent) (ds : List Demand) (old : List Frame) (before : ℕ) (frames : List Frame) (after-it : ℕ) : Type 0 where
+  pub left : List Demand
+  pub on : GoesOn p m new ds left
+  pub stack : AreLeft p m.bytes frames after-it left
+  pub falls : frames_work p frames after-it + 2 ^ 49 * m.count < frames_work p old before + 2 ^ 49 * new.count
+
+abbrev pub Turned : (p : Passing) → (m new : Lent) → (ds : List Demand) → (old : List Frame) → ℕ → (frames : List Frame) → Result ℕ Stop → Type 0
+Turned p m new ds old before frames (Ok n) = Turns p m new ds old before frames n × (n ≤ length frames)
+Turned p m new ds old before frames (Err s) = Breaks p.limits m.count ds (stopped s new.count)
+
+-- frames of which so many are open, in a pass within the limits, whose reads a count holds
+pub record IsStanding (p : Passing) (m : Lent) (frames : List Frame) (many : ℕ) : Type 0 where
+  pub left : List Demand
+  pub stack : AreLeft p m.bytes frames many left
+  pub within : many ≤ length frames
+  pub small : length frames ≤ 4096
+  pub allowed : AreAllowed (p.limits).reads m.count
+  pub few : m.count + demands_reads left ≤ 2 ^ 96
+
+-- the turns that are left to it at most
+abbrev pub work_left : Passing → ℕ → List Frame → ℕ → ℕ
+work_left p count frames many = frames_work p frames many + 2 ^ 49 * (2 ^ 96 - count)
+
+-- a pass went on over frames of which so many were open, so that less work is left to it
+pub record WentBy (p : Passing) (m new : Lent) (ds : List Demand) (old : List Frame) (before : ℕ) (frames : List Frame) (many : ℕ) : Type 0 where
+  pub left : List Demand
+  pub on : GoesOn p m new ds left
+  pub stack : AreLeft p m.bytes frames many left
+  pub within : many ≤ length frames
+  pub falls : work_left p new.count frames many < work_left p m.count old before
+
+abbrev pub WentOn : {A : Type 0} → (p : Passing) → (m new : Lent) → (ds : List Demand) → (old : List Frame) → (before : ℕ) → (frames : List Frame) → (many : ℕ) → Result A Stop → Type 0
+WentOn p m new ds old before frames many (Ok a) = WentBy p m new ds old before frames many
+WentOn p m new ds old before frames many (Err s) = Breaks p.limits m.count ds (stopped s new.count)
+
+-- a whole pass found that all of these demands are met within the limits, or it stops at the first that isn't
+abbrev pub Ran : {A : Type 0} → (p : Passing) → (m new : Lent) → (ds : List Demand) → Result A Stop → Type 0
+Ran p m new ds (Ok a) = GoesOn p m new ds []
+Ran p m new ds (Err s) = Breaks p.limits m.count ds (stopped s new.count)
+
+-- the root table at this position, of this object, unfolds into this tree, for whose tables there are so many frames
+pub record IsRooted (p : Passing) (b : List ℕ) (room : ℕ) (root : Child) (y : Tree) : Type 0 where
+  pub unfolds : Unfolds y p.checks b p.rows root.object root.at
+  pub object : IsTrue (is_table p.rows root.object)
+  pub near : root.at < 2 ^ 33
+  pub deep : depth y ≤ room

@@ -1,0 +1,55 @@
+-- What a strict verdict says of a buffer.
+use Rattle.std.specs.Prelude.{◌≡◌, ◌⊎◌, ℕ, ◌+◌, ◌-◌, ◌*◌, Bool, List, Option, Some, None, Result, Ok, Err, option_map}
+use Rattle.fb_schema.specs.{Rows.Rows, Live.widest}
+use Rattle.fb_rules.specs.declared.{fault.Fault.Fault, fault.Report.Report}
+use Rattle.fb_rules.specs.{Bounds.Bounds, Bounds.AreAllowed, Question.Question, Tree.Tree, Tree.size, Tree.depth}
+use Rattle.fb_rules.specs.{WellFormed.IsWellFormed, WellFormed.IsWithin, WellFormed.cost, Stops.Stops, MostReads.within_budget}
+use Rattle.fb_strict.specs.{Strict.IsStrictBuffer, Planned.Planned, Planned.marked}
+use Rattle.fb_strict.specs.Asked.{demands_of, demands_reads, first_fault}
+
+-- all reads of a buffer that unfolds into this tree: those of the walk, and those of the pass by this plan
+abbrev pub strict_cost : Planned → Question → List ℕ → Tree → ℕ
+strict_cost p q b y = cost q b y + demands_reads (demands_of (marked p.marks) q.checks b q.rows q.root y)
+
+-- a tree is well formed, strict, and within the limits with all its reads, and the report counts it
+pub record ReportsStrictly (p : Planned) (q : Question) (b : List ℕ) (r : Report) : Type 0 where
+  pub found : Tree
+  pub well_formed : IsWellFormed q b found
+  pub within : IsWithin q b found
+  pub strict : IsStrictBuffer q.checks b q.rows found
+  pub paid : AreAllowed (q.limits).reads (strict_cost p q b found)
+  pub tables : r.tables ≡ size found
+  pub depth : r.depth ≡ depth found
+  pub reads : r.reads ≡ strict_cost p q b found
+
+-- no tree is well formed, strict, and within the limits with all its reads
+abbrev pub HasNoneStrictly : Planned → Question → List ℕ → Type 0
+HasNoneStrictly p q b = (y : Tree) → IsWellFormed q b y → IsWithin q b y → IsStrictBuffer q.checks b q.rows y → AreAllowed (q.limits).reads (strict_cost p q b y) → ⊥
+
+-- a tree is well formed and within the limits, and the fault is the first of what is demanded of it that isn't met
+pub record FailsStrictly (p : Planned) (q : Question) (b : List ℕ) (f : Fault) : Type 0 where
+  pub found : Tree
+  pub well_formed : IsWellFormed q b found
+  pub within : IsWithin q b found
+  pub first : first_fault q.limits (cost q b found) (demands_of (marked p.marks) q.checks b q.rows q.root found) ≡ Some f
+
+-- the walk's first fault, or else the pass's
+abbrev pub StopsStrictly : Planned → Question → List ℕ → Fault → Type 0
+StopsStrictly p q b f = Stops q b f ⊎ FailsStrictly p q b f
+
+-- the budget that is left after so many reads
+abbrev pub budget_left : Option ℕ → ℕ → Option ℕ
+budget_left budget paid = option_map (λ most. most - paid) budget
+
+-- and the limits
+abbrev pub limits_left : Bounds → ℕ → Bounds
+limits_left L paid = record L { reads = budget_left L.reads paid }
+
+-- a fault after so many reads more
+abbrev pub later : ℕ → Fault → Fault
+later paid f = record f { reads = paid + f.reads }
+
+-- what a pass answers of a buffer that unfolds into this tree: how many reads there were in all, or the first fault
+abbrev pub Asked : Planned → Question → List ℕ → Tree → Result ℕ Fault → Type 0
+Asked p q b y (Ok n) = (first_fault q.limits (cost q b y) (demands_of (marked p.marks) q.checks b q.rows q.root y) ≡ None) × (n ≡ strict_cost p q b y)
+Asked p q b y (Err f) = first_fault q.limits (cost q b y) (demands_of (marked p.marks) q.checks b q.rows q.root y) ≡ Some f

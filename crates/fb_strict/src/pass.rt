@@ -1,0 +1,575 @@
+// The pass over a buffer that unfolds: the tables of its tree that are asked, in the order of the walk's visits.
+
+ghost use Rattle.std.specs.Prelude.{◌≡◌, ◌+◌, ◌^◌, ◌<◌, ◌≤◌, ℕ, List, [], Option, length, IfOk, IfErr, IsTrue, Some, None};
+ghost use Rattle.fb_bytes.specs.Word.{Lent, word};
+ghost use Rattle.fb_schema.specs.{Rows.is_union, Members.member_of};
+ghost use Rattle.fb_rules.specs.{Bounds.AreAllowed, Cost.head_reads, Facts.IsTable, Order.Failure, Places.target, Places.field_place, Places.vtable, Fields.type_place};
+ghost use Rattle.fb_rules.specs.{Plain.IsTested, Told.IsAskedAt, Told.IsHead, Told.IsVtable};
+ghost use Rattle.fb_strict.specs.declared.tasks.Ask.TheVariants.{Union as AskUnion, Unions as AskUnions, Table as GoInto, Tables as GoIntoEach};
+ghost use Rattle.fb_strict.specs.Asked.{Demand, demands_reads};
+ghost use Rattle.fb_strict.specs.Passing.{asks_of, IsPassing, IsRoom, opened, IsTaskable, CountStands, IsAskedRow, asked_object, TaskPassed, FirstPassed, IsLeft, IsNext, AreLeft, IsStanding, Stepped, Turned, WentOn, Ran};
+
+use crate::plan::Plan;
+use crate::room::Frame;
+use crate::tasks::{Ask, Task};
+use crate::unions::{read_places, test_element, test_together, test_union};
+use fb_bytes::{Loan, Reads};
+use fb_rules::checks::Checks;
+use fb_rules::fault::Reason;
+use fb_rules::limits::Limits;
+use fb_rules::offset_row::{Leads, Referent, Row};
+use fb_rules::plain::slot_at;
+use fb_rules::site::{Refusal, Site, Stop};
+use fb_rules::table::{Child, Head, NO_CHILD, Table};
+use fb_schema::{Kind, Schema};
+use std::alloc::Allocator;
+use std::marker::Model;
+
+/// How a pass goes on, once it did a step in the top table.
+#[derive(Clone, Copy)]
+pub enum Turn {
+    /// In the same table.
+    Here,
+    /// In the table above: nothing is left of the top.
+    Up,
+    /// In a table below, which is to be opened.
+    Down,
+}
+
+/// What a pass carries: what it asks, by which rows, checks and limits.
+#[derive(Drop)]
+pub struct Pass<'p, 's, 'n, A: Allocator> {
+    pub plan: &'p Plan<A>,
+    pub schema: &'s Schema<'n>,
+    pub limits: Limits,
+    pub checks: Checks,
+}
+
+impl<'p, 's, 'n, A: Allocator> Model for Pass<'p, 's, 'n, A> {
+    ghost use Rattle.fb_strict.specs.Passing.{Passing};
+
+    ghost Value = { Passing };
+
+    ghost view = { λ p. record { plan = p.plan.now; rows = p.schema.now; limits = p.limits; checks = p.checks } };
+}
+
+/// After so many reads the count of 64 bits begins again.
+const LONG: u64 = 1 << 58;
+
+/// How many reads a count of 64 bits may come to, where so many were counted before it began.
+fn room_of(limits: Limits, base: u128) -> u64
+    requires { AreAllowed limits.reads base }
+    ensures { IsRoom limits base result }
+{
+    match limits.reads() {
+        None => u64::MAX,
+        Some(most) => (u128::from(most) - base) as u64,
+    }
+}
+
+/// Lends the bytes under a count in 64 bits, and tells how many reads that may come to.
+#[inline(always)]
+fn lend<'b>(loan: &mut Loan<'b>, limits: Limits) -> (Reads<'b>, u64)
+    requires allowed { AreAllowed limits.reads loan.old.count }
+    requires few { loan.old.count ≤ 2 ^ 100 }
+    ensures lent { result.0 ≡ record loan.old { base = result.0.base } }
+    ensures few { loan.old.count < result.0.base + 2 ^ 57 }
+    ensures bare { loan.new ≡ record loan.old { bytes = [] } }
+    ensures room { IsRoom limits result.0.base result.1 }
+{
+    let count = loan.reads();
+    let reads = loan.lend();
+    let room = room_of(limits, count - u128::from(reads.count()));
+    (reads, room)
+}
+
+/// Reads where the vtable of a table stands that was verified.
+#[inline(always)]
+#[tactic(auto, unfolding(fb_rules::specs::Places::has_vtable, fb_rules::specs::Places::vtable))]
+fn read_vtable(reads: &mut Reads<'_>, checks: Checks, at: u64) -> u64
+    requires few { reads.old.count < reads.old.base + 2 ^ 60 }
+    requires table { IsTable checks reads.old.bytes at }
+    requires short { length reads.old.bytes < 2 ^ 31 }
+    ensures value { result ≡ vtable reads.old.bytes at }
+    ensures counted { reads.new ≡ record reads.old { count = reads.old.count + 1 } }
+{
+    let _checks = checks;
+    (at as i64 - i64::from(reads.i32_at(at))) as u64
+}
+
+/// Reads the head of a table that was verified.
+#[inline(always)]
+fn read_head(reads: &mut Reads<'_>, checks: Checks, at: u64) -> Head
+    requires few { reads.old.count < reads.old.base + 2 ^ 59 }
+    requires table { IsTable checks reads.old.bytes at }
+    requires short { length reads.old.bytes < 2 ^ 31 }
+    ensures head { IsHead checks reads.old.bytes at result }
+    ensures counted { reads.new ≡ record reads.old { count = reads.old.count + head_reads checks } }
+{
+    let vtable = read_vtable(reads, checks, at);
+    let size = reads.u16_at(vtable);
+    let inline = if checks.inline_size {
+        reads.u16_at(vtable + 2)
+    } else {
+        0
+    };
+    Head {
+        vtable,
+        size,
+        inline,
+    }
+}
+
+impl<'p, 's, 'n, A: Allocator> Pass<'p, 's, 'n, A> {
+    /// Answers whether the limits allow the reads counted so far, where no test failed. A test that failed is told
+    /// where it did, and too many reads at the position of what was asked.
+    #[inline(always)]
+    fn answer(
+        &self,
+        reads: &Reads<'_>,
+        room: u64,
+        site: Site,
+        failed: Option<Reason>,
+        tested: u64,
+        at: u64,
+    ) -> Result<(), Stop>
+        requires room { IsRoom self.now.limits reads.now.base room }
+        ensures { (m : Lent) (chain : Option Failure) (n : ℕ) → IsTested m reads.now tested chain n failed → IsAskedAt site self.now.limits m reads.now chain n at result }
+    {
+        if let Some(reason) = failed {
+            let refusal = Refusal { at: tested, reason };
+            return Err(Stop { refusal, site });
+        }
+        if reads.count() <= room {
+            return Ok(());
+        }
+        let reason = Reason::TooManyReads;
+        let refusal = Refusal { at, reason };
+        Err(Stop { refusal, site })
+    }
+
+    /// Reads where the offset word at a position leads, and asks the budget.
+    #[inline(always)]
+    fn follow(&self, reads: &mut Reads<'_>, room: u64, site: Site, place: u64) -> Result<u64, Stop>
+        requires room { IsRoom self.now.limits reads.old.base room }
+        requires few { reads.old.count < reads.old.base + 2 ^ 60 }
+        requires within { place + 4 ≤ length reads.old.bytes }
+        requires near { place < 2 ^ 32 }
+        ensures asked { IsAskedAt site self.now.limits reads.old reads.new None 1 place result }
+        ensures value { IfOk result (λ at. at ≡ target reads.old.bytes place) }
+        ensures near { IfOk result (λ at. at < 2 ^ 33) }
+        ensures same { reads.new ≡ record reads.old { count = reads.old.count + 1 } }
+    {
+        let at = place + u64::from(reads.u32_at(place));
+        self.answer(reads, room, site, None, place, place)?;
+        Ok(at)
+    }
+
+    /// Opens a table of this object that was verified, and asks the budget.
+    #[inline(always)]
+    fn open(
+        &self,
+        reads: &mut Reads<'_>,
+        room: u64,
+        child: Child,
+        frame: &mut Frame,
+    ) -> Result<(), Stop>
+        requires room { IsRoom self.now.limits reads.old.base room }
+        requires few { reads.old.count < reads.old.base + 2 ^ 59 }
+        requires short { length reads.old.bytes < 2 ^ 31 }
+        requires table { IsTable self.now.checks reads.old.bytes child.at }
+        ensures asked { IsAskedAt (record { object = child.object; field = None }) self.now.limits reads.old reads.new None (head_reads self.now.checks) child.at result }
+        ensures head { IfOk result (λ _. IsHead self.now.checks reads.old.bytes child.at ((frame.new).table).head) }
+        ensures frame { IfOk result (λ _. frame.new ≡ opened (record { object = child.object; at = child.at; head = ((frame.new).table).head })) }
+        ensures same { reads.new ≡ record reads.old { count = reads.old.count + head_reads self.now.checks } }
+    {
+        let site = Site {
+            object: child.object,
+            field: None,
+        };
+        let head = read_head(reads, self.checks, child.at);
+        self.answer(reads, room, site, None, child.at, child.at)?;
+        *frame = Frame::opened(Table {
+            head,
+            object: child.object,
+            at: child.at,
+        });
+        Ok(())
+    }
+
+    /// Passes a field that leads to one table of this object, and puts its offset word, if it is there.
+    #[inline(always)]
+    fn pass_table(
+        &self,
+        reads: &mut Reads<'_>,
+        room: u64,
+        table: Table,
+        site: Site,
+        slot: u16,
+        object: u32,
+        row: &mut Row,
+    ) -> Result<(), Stop>
+        requires room { IsRoom self.now.limits reads.old.base room }
+        requires few { reads.old.count < reads.old.base + 2 ^ 58 }
+        requires near { table.at < 2 ^ 33 }
+        requires head { IsVtable reads.old.bytes table.at table.head }
+        ensures { TaskPassed self.now reads.old reads.new table.at site slot (GoInto object) row.old row.new result }
+    {
+        let at = slot_at(reads, table.at, table.head, slot);
+        self.answer(reads, room, site, None, table.at, table.at)?;
+        if at != table.at {
+            *row = Row::one(Referent::Table(object), at);
+        }
+        Ok(())
+    }
+
+    /// The object of the table that a member of a union is, if that is asked.
+    #[inline(always)]
+    fn asked_object(&self, member: Option<Kind>) -> Option<u32>
+        ensures { result ≡ asked_object (asks_of self.now) member }
+    {
+        match member {
+            Some(Kind::Table(object)) if self.plan.asks(object) => Some(object),
+            _ => None,
+        }
+    }
+
+    /// Asks a union with this number, and puts its offset word, if that leads to a table that is asked.
+    #[inline(always)]
+    fn pass_union(
+        &self,
+        reads: &mut Reads<'_>,
+        room: u64,
+        table: Table,
+        site: Site,
+        slot: u16,
+        union: u32,
+        row: &mut Row,
+    ) -> Result<(), Stop>
+        requires room { IsRoom self.now.limits reads.old.base room }
+        requires few { reads.old.count < reads.old.base + 2 ^ 58 }
+        requires near { table.at < 2 ^ 33 }
+        requires head { IsVtable reads.old.bytes table.at table.head }
+        requires taskable { IsTaskable reads.old.bytes self.now.rows table.at slot (field_place reads.old.bytes table.at slot) (AskUnion union) }
+        ensures { TaskPassed self.now reads.old reads.new table.at site slot (AskUnion union) row.old row.new result }
+    {
+        let places = read_places(reads, table, slot);
+        let mut at = table.at;
+        let mut member = None;
+        let failed = test_union(
+            reads,
+            self.checks,
+            self.schema,
+            table.at,
+            union,
+            places,
+            &mut at,
+            &mut member,
+        );
+        self.answer(reads, room, site, failed, at, table.at)?;
+        if let Some(object) = self.asked_object(member) {
+            *row = Row::one(Referent::Table(object), at);
+        }
+        Ok(())
+    }
+
+    /// Reads where a vector begins, to which the offset word at a position leads, and how many elements it has.
+    #[inline(always)]
+    fn read_row(&self, reads: &mut Reads<'_>, leads: Leads, place: u64) -> Row
+        requires few { reads.old.count < reads.old.base + 2 ^ 60 }
+        requires stands { CountStands reads.old.bytes place }
+        requires short { length reads.old.bytes < 2 ^ 31 }
+        ensures row { result ≡ record { leads = leads; place = target reads.old.bytes place + 4; left = word reads.old.bytes (target reads.old.bytes place) 4 } }
+        ensures counted { reads.new ≡ record reads.old { count = reads.old.count + 2 } }
+    {
+        let at = place + u64::from(reads.u32_at(place));
+        Row {
+            leads,
+            place: at + 4,
+            left: reads.u32_at(at),
+        }
+    }
+
+    /// Passes a field that leads to a vector of tables of this object, and puts its offset words.
+    #[inline(always)]
+    fn pass_tables(
+        &self,
+        reads: &mut Reads<'_>,
+        room: u64,
+        table: Table,
+        site: Site,
+        slot: u16,
+        object: u32,
+        row: &mut Row,
+    ) -> Result<(), Stop>
+        requires room { IsRoom self.now.limits reads.old.base room }
+        requires few { reads.old.count < reads.old.base + 2 ^ 58 }
+        requires near { table.at < 2 ^ 33 }
+        requires head { IsVtable reads.old.bytes table.at table.head }
+        requires taskable { IsTaskable reads.old.bytes self.now.rows table.at slot (field_place reads.old.bytes table.at slot) (GoIntoEach object) }
+        requires short { length reads.old.bytes < 2 ^ 31 }
+        ensures { TaskPassed self.now reads.old reads.new table.at site slot (GoIntoEach object) row.old row.new result }
+    {
+        let at = slot_at(reads, table.at, table.head, slot);
+        if at == table.at {
+            return self.answer(reads, room, site, None, table.at, table.at);
+        }
+        let words = self.read_row(reads, Leads::All(Referent::Table(object)), at);
+        self.answer(reads, room, site, None, table.at, table.at)?;
+        *row = words;
+        Ok(())
+    }
+
+    /// Asks a vector of unions with this number whether it has its types, and puts its offset words.
+    #[inline(always)]
+    fn pass_unions(
+        &self,
+        reads: &mut Reads<'_>,
+        room: u64,
+        table: Table,
+        site: Site,
+        slot: u16,
+        union: u32,
+        row: &mut Row,
+    ) -> Result<(), Stop>
+        requires room { IsRoom self.now.limits reads.old.base room }
+        requires few { reads.old.count < reads.old.base + 2 ^ 58 }
+        requires near { table.at < 2 ^ 33 }
+        requires head { IsVtable reads.old.bytes table.at table.head }
+        requires taskable { IsTaskable reads.old.bytes self.now.rows table.at slot (field_place reads.old.bytes table.at slot) (AskUnions union) }
+        requires short { length reads.old.bytes < 2 ^ 31 }
+        ensures { TaskPassed self.now reads.old reads.new table.at site slot (AskUnions union) row.old row.new result }
+    {
+        let places = read_places(reads, table, slot);
+        let mut at = table.at;
+        let failed = test_together(table.at, places, &mut at);
+        if failed.is_some() {
+            return self.answer(reads, room, site, failed, at, table.at);
+        }
+        if places.value == table.at {
+            return self.answer(reads, room, site, None, table.at, table.at);
+        }
+        let types = places.types + u64::from(reads.u32_at(places.types)) + 4;
+        let words = self.read_row(reads, Leads::ByType(union, types), places.value);
+        self.answer(reads, room, site, None, table.at, table.at)?;
+        *row = words;
+        Ok(())
+    }
+
+    /// Does a task of an open table, and puts the offset words by which its field leads on.
+    #[inline(always)]
+    fn pass_task(
+        &self,
+        reads: &mut Reads<'_>,
+        room: u64,
+        table: Table,
+        site: Site,
+        task: Task,
+        row: &mut Row,
+    ) -> Result<(), Stop>
+        requires room { IsRoom self.now.limits reads.old.base room }
+        requires few { reads.old.count < reads.old.base + 2 ^ 58 }
+        requires near { table.at < 2 ^ 33 }
+        requires head { IsVtable reads.old.bytes table.at table.head }
+        requires taskable { IsTaskable reads.old.bytes self.now.rows table.at task.slot (field_place reads.old.bytes table.at task.slot) task.ask }
+        requires short { length reads.old.bytes < 2 ^ 31 }
+        ensures { TaskPassed self.now reads.old reads.new table.at site task.slot task.ask row.old row.new result }
+    {
+        let slot = task.slot;
+        match task.ask {
+            Ask::Table(object) => self.pass_table(reads, room, table, site, slot, object, row),
+            Ask::Tables(object) => self.pass_tables(reads, room, table, site, slot, object, row),
+            Ask::Union(union) => self.pass_union(reads, room, table, site, slot, union, row),
+            Ask::Unions(union) => self.pass_unions(reads, room, table, site, slot, union, row),
+        }
+    }
+
+    /// Asks the first offset word of a row, where its type tells what it leads to, and tells the object of the table
+    /// to which it leads, if that is asked.
+    #[inline(always)]
+    fn pass_first(
+        &self,
+        reads: &mut Reads<'_>,
+        room: u64,
+        site: Site,
+        row: Row,
+    ) -> Result<Option<u32>, Stop>
+        requires room { IsRoom self.now.limits reads.old.base room }
+        requires few { reads.old.count < reads.old.base + 2 ^ 58 }
+        requires more { 0 < row.left }
+        requires row { IsAskedRow self.now reads.old.bytes row }
+        ensures { FirstPassed self.now reads.old reads.new site row.place row.leads result }
+    {
+        match row.leads {
+            Leads::All(Referent::Table(object)) => Ok(Some(object)),
+            Leads::All(_) => Ok(None),
+            Leads::ByType(union, types) => {
+                let mut at = row.place;
+                let mut member = None;
+                let failed = test_element(
+                    reads,
+                    self.checks,
+                    self.schema,
+                    union,
+                    types,
+                    &mut at,
+                    &mut member,
+                );
+                self.answer(reads, room, site, failed, at, row.place)?;
+                Ok(self.asked_object(member))
+            }
+        }
+    }
+
+    /// Passes the first offset word that is left of the top's field, and comes to the table to which it leads, if that
+    /// is asked.
+    #[inline(always)]
+    fn pass_word(
+        &self,
+        reads: &mut Reads<'_>,
+        room: u64,
+        top: &mut Frame,
+        child: &mut Child,
+    ) -> Result<Turn, Stop>
+        requires passing { IsPassing self.now reads.old.bytes }
+        requires room { IsRoom self.now.limits reads.old.base room }
+        requires few { reads.old.count < reads.old.base + 2 ^ 58 }
+        requires more { 0 < (top.old.row).left }
+        requires left { (deep : ℕ) × (ds : List Demand) × IsLeft self.now reads.old.bytes deep top.old ds }
+        ensures { (deep : ℕ) (ds : List Demand) → IsLeft self.now reads.old.bytes deep top.old ds → Stepped self.now reads.old reads.new deep ds top.old top.new child.new result }
+    {
+        let site = top.site();
+        let row = top.row;
+        top.row.advance();
+        let object = match self.pass_first(reads, room, site, row) {
+            Ok(Some(object)) => object,
+            Ok(None) => return Ok(Turn::Here),
+            Err(stop) => return Err(stop),
+        };
+        match self.follow(reads, room, site, row.place) {
+            Ok(at) => {
+                child.object = object;
+                child.at = at;
+                Ok(Turn::Down)
+            }
+            Err(stop) => Err(stop),
+        }
+    }
+
+    /// One step in the top table: its next offset word, or else its next task.
+    #[inline(always)]
+    fn step(
+        &self,
+        reads: &mut Reads<'_>,
+        room: u64,
+        top: &mut Frame,
+        child: &mut Child,
+    ) -> Result<Turn, Stop>
+        requires passing { IsPassing self.now reads.old.bytes }
+        requires room { IsRoom self.now.limits reads.old.base room }
+        requires few { reads.old.count < reads.old.base + 2 ^ 58 }
+        requires left { (deep : ℕ) × (ds : List Demand) × IsLeft self.now reads.old.bytes deep top.old ds }
+        ensures { (deep : ℕ) (ds : List Demand) → IsLeft self.now reads.old.bytes deep top.old ds → Stepped self.now reads.old reads.new deep ds top.old top.new child.new result }
+    {
+        if top.row.left > 0 {
+            return self.pass_word(reads, room, top, child);
+        }
+        let tasks = self.plan.tasks_of(top.table.object);
+        let Some(task) = tasks.get(top.next as usize) else {
+            return Ok(Turn::Up);
+        };
+        top.next += 1;
+        top.number = task.number;
+        let site = top.site();
+        match self.pass_task(reads, room, top.table, site, *task, &mut top.row) {
+            Ok(()) => Ok(Turn::Here),
+            Err(stop) => Err(stop),
+        }
+    }
+
+    /// One turn over frames of which so many are open: a step in the last of them, behind which a table below it is
+    /// opened or it is closed. Answers how many are open then.
+    #[inline(always)]
+    fn turn(
+        &self,
+        reads: &mut Reads<'_>,
+        room: u64,
+        frames: &mut [Frame],
+        many: u32,
+    ) -> Result<u32, Stop>
+        requires passing { IsPassing self.now reads.old.bytes }
+        requires room { IsRoom self.now.limits reads.old.base room }
+        requires few { reads.old.count < reads.old.base + 2 ^ 58 }
+        requires some { 0 < many }
+        requires within { many ≤ length frames.old }
+        requires small { length frames.old ≤ 4096 }
+        requires left { (ds : List Demand) × AreLeft self.now reads.old.bytes frames.old many ds }
+        ensures { (ds : List Demand) → AreLeft self.now reads.old.bytes frames.old many ds → Turned self.now reads.old reads.new ds frames.old many frames.new result }
+    {
+        let at = many as usize - 1;
+        let mut child = NO_CHILD;
+        match self.step(reads, room, &mut frames[at], &mut child) {
+            Ok(Turn::Here) => Ok(many),
+            Ok(Turn::Up) => Ok(many - 1),
+            Ok(Turn::Down) => match self.open(reads, room, child, &mut frames[at + 1]) {
+                Ok(()) => Ok(many + 1),
+                Err(stop) => Err(stop),
+            },
+            Err(stop) => Err(stop),
+        }
+    }
+
+    /// Goes on with frames of which so many are open until none is, or until so many reads were counted that the count
+    /// of 64 bits is to begin again.
+    fn go_on(
+        &self,
+        reads: &mut Reads<'_>,
+        room: u64,
+        frames: &mut [Frame],
+        many: &mut u32,
+    ) -> Result<(), Stop>
+        requires passing { IsPassing self.now reads.old.bytes }
+        requires room { IsRoom self.now.limits reads.old.base room }
+        requires some { 0 < many.old }
+        requires few { reads.old.count < reads.old.base + 2 ^ 57 }
+        requires stands { IsStanding self.now reads.old frames.old many.old }
+        ensures { (ds : List Demand) → AreLeft self.now reads.old.bytes frames.old many.old ds → WentOn self.now reads.old reads.new ds frames.old many.old frames.new many.new result }
+    {
+        let mut open = *many;
+        while open > 0 && reads.count() < LONG {
+            match self.turn(reads, room, frames, open) {
+                Ok(then) => open = then,
+                Err(stop) => return Err(stop),
+            }
+        }
+        *many = open;
+        Ok(())
+    }
+
+    /// Passes all that is asked of a table that is asked, and of those below it. There are frames for all that are open
+    /// at once.
+    pub fn run(&self, loan: &mut Loan<'_>, frames: &mut [Frame], root: Child) -> Result<(), Stop>
+        requires passing { IsPassing self.now loan.old.bytes }
+        requires allowed { AreAllowed self.now.limits.reads loan.old.count }
+        requires small { length frames.old ≤ 4096 }
+        requires next { (ds : List Demand) × IsNext self.now loan.old.bytes (length frames.old) root ds × (loan.old.count + demands_reads ds ≤ 2 ^ 96) }
+        ensures { (ds : List Demand) → IsNext self.now loan.old.bytes (length frames.old) root ds → Ran self.now loan.old loan.new ds result }
+    {
+        let (mut reads, room) = lend(loan, self.limits);
+        let opened = self.open(&mut reads, room, root, &mut frames[0]);
+        loan.settle(reads);
+        if let Err(stop) = opened {
+            return Err(stop);
+        }
+        let mut many = 1;
+        while many > 0 {
+            let (mut reads, room) = lend(loan, self.limits);
+            let answer = self.go_on(&mut reads, room, frames, &mut many);
+            loan.settle(reads);
+            if let Err(stop) = answer {
+                return Err(stop);
+            }
+        }
+        Ok(())
+    }
+}
