@@ -260,7 +260,7 @@ class Python(LibraryCase):
             self.same(f"{path} of {name}, resolved", checker.read(data, checker.path(path)), want)
         for name, data, path, want, form, *root in [
             ("X", PLACED, "u@W", struct.pack("<q", 7), "B", "R"), ("X", MEMBERS, "us_type", b"\3\0", "B"),
-            ("Z", changed(ASKEW, (16, "0400")), "l", b"", "B"),
+            ("Z", changed(ASKEW, (16, "0400")), "l", b"", "q"),
         ]:
             checker = self.by(name, root=root[0] if root else None, alignment=False)
             if checker.check(data):
