@@ -1,4 +1,4 @@
-// fbcheck for C++17 and later: a schema that frees itself, verdicts that are true of good buffers, values and streams.
+// fbcheck for C++17 and later: a schema that frees itself, verdicts that are true for ok buffers, values and streams.
 //
 //     const fbcheck::Schema schema(file); // a std::string, a std::vector of bytes, a span
 //     if (const auto verdict = schema.check(buffer); !verdict) std::cerr << verdict << "\n";
@@ -7,26 +7,31 @@
 //     if (const auto found = schema.read(buffer, paths))
 //         std::cout << found[0].text().value_or("") << found[1].real().value_or(0);
 //
-// A bad buffer is no exception. What is one tells why in words: SchemaError of a file that is no schema, PathError of a
-// text that is no path, StreamError of a stream, and Misuse of a call that can't be served: no root table, options of
-// another version, a depth without room for it, a schema that was moved from. std::bad_alloc is thrown too.
+// A bad buffer doesn't throw. These do, and say why in words: SchemaError (not a usable schema file), PathError (not a
+// path), StreamError (a stream that can't go on), and Misuse (unusable options or arguments: no root table, another
+// version, max_depth beyond the scratch, a schema that was moved from). std::bad_alloc is thrown too.
 //
-// Any number of threads may use one const Schema; to put another in its place meanwhile, let them share it by
-// std::shared_ptr. A Scratch and a Framer serve one call at a time: give each thread its own. The calls of fbcheck.h
-// that have no method here take get().
+// Any number of threads may use one const Schema; to replace it while they run, hold it in a std::shared_ptr. A Scratch
+// or a Framer must not be used by two calls at once: give each thread its own. For calls of fbcheck.h that aren't
+// wrapped here, pass get().
 //
-// What an ok says: every access of the buffer by the schema stays inside it, by a reader who asks a union's type before
-// its value, and reads the value only where the schema has that type and it isn't 0; who reads a vector of unions only
-// where both of its vectors are there, the types and the values, and asks the length of each; and who takes a field
-// with the attribute nested_flatbuffer or flexbuffer for bytes. UnPack() as flatc generates it doesn't ask: it reads a
-// union's value whatever its type is, and crashes on buffers that are ok, as Pack() does on what it unpacked. Nor do
-// .._nested_root() and .._flexbuffer_root() look before they read.
+// What an ok says: all accesses stay inside the buffer if the reader
 //
-// Nobody may write a buffer while a call has it or its values are read. So make a private copy of what others can
-// write, as shared memory or a mapped file, and check and read that.
+//   1. uses this schema
+//   2. checks a union's type first, and fetches the value only if the type isn't 0 and the schema has it
+//   3. goes through a vector of unions by the length of its vector of values (which may be absent though the types are
+//      there)
+//   4. treats fields with the attributes nested_flatbuffer and flexbuffer as plain vectors of bytes
 //
-// At the start check({nullptr, 0}, options) throws Misuse where the options can't be served, before a first message
-// comes, and read({nullptr, 0}, paths, options) where the paths can't be. fbcheck.h has numbers for a budget.
+// UnPack() as flatc generates it doesn't check: it fetches a union's value whatever its type, and so can crash on
+// buffers that are ok; Pack() can crash on objects that UnPack() made of these. Nor do FIELD_nested_root() and
+// FIELD_flexbuffer_root() check the bytes that they read.
+//
+// A buffer must not change during a call, nor while its values are read. If others can write to it (shared memory, a
+// mapped file), make a private copy, and check and read that.
+//
+// To try options at the start, call check({nullptr, 0}, options): it throws Misuse if they are unusable. With
+// read({nullptr, 0}, paths, options), the same goes for paths. fbcheck.h has numbers for a budget of reads.
 #pragma once
 
 #include <fbcheck.h>
@@ -49,15 +54,15 @@
 
 namespace fbcheck {
 
-// What is asked of a buffer; begins as FBCHECK_OPTIONS_INIT.
+// What is asked of a buffer; initialised by FBCHECK_OPTIONS_INIT.
 struct Options : fbcheck_options {
     Options() noexcept : fbcheck_options FBCHECK_OPTIONS_INIT {}
 };
 
-// A path that was resolved. Only the Schema that resolved it knows it: another one may take it for another field.
+// A resolved path. It is valid only with the Schema that resolved it; with another one it may be a different field.
 using Path = fbcheck_path;
 
-// Bytes that stand elsewhere: a pointer and a length, or what has data() and size() of bytes.
+// A view of bytes, which it doesn't own: a pointer and a length, or a container of bytes with data() and size().
 class Bytes {
   public:
     Bytes(const void *data, std::size_t size) noexcept : data_(static_cast<const std::uint8_t *>(data)), size_(size) {}
@@ -74,7 +79,7 @@ class Bytes {
     std::size_t size_;
 };
 
-// What a status other than FBCHECK_OK says, with what else the verdict tells of it, as "V2 OutOfBuffer at=28".
+// A verdict that isn't FBCHECK_OK in words, with its details, for example "V2 OutOfBuffer at=28 object=1 field=-".
 inline std::string why(const fbcheck_verdict &told) {
     const auto part = [](const char *name, std::uint64_t value) { return name + std::to_string(value); };
     const auto place = [&] {
@@ -93,22 +98,22 @@ inline std::string why(const fbcheck_verdict &told) {
     return told.status == FBCHECK_NULL ? words + ", or the schema was moved from" : words;
 }
 
-// The same of a status alone.
+// The same for a status alone.
 inline std::string why(std::uint32_t status) {
     fbcheck_verdict told{};
     told.status = status;
     return why(told);
 }
 
-// A file gave no schema: verdict.status and what follows it tell why. V5 WrongIdentifier is told of what is no .bfbs,
-// as a schema's text, and V2 OutOfBuffer at=4 of an empty file.
+// A file isn't a usable schema; verdict has the reason. V5 WrongIdentifier means that it isn't a .bfbs (for example
+// .fbs text), V2 OutOfBuffer at=4 that it is empty.
 class SchemaError : public std::runtime_error {
   public:
     explicit SchemaError(const fbcheck_verdict &told) : std::runtime_error("no schema: " + why(told)), verdict(told) {}
     fbcheck_verdict verdict;
 };
 
-// A text is no path from the root: verdict.status and what follows it tell why.
+// A text isn't a path from the root; verdict has the reason.
 class PathError : public std::runtime_error {
   public:
     PathError(std::string_view text, const fbcheck_verdict &told)
@@ -116,8 +121,8 @@ class PathError : public std::runtime_error {
     fbcheck_verdict verdict;
 };
 
-// A stream has ended inside a message (FBCHECK_TRUNCATED), or a message has more bytes than it may (FBCHECK_OVERSIZE),
-// or the stream went on after that (FBCHECK_FAILED).
+// A stream ended inside a message (FBCHECK_TRUNCATED), a message exceeds the maximum (FBCHECK_OVERSIZE), or the Framer
+// was used after such an error (FBCHECK_FAILED).
 class StreamError : public std::runtime_error {
   public:
     StreamError(std::uint32_t told, const fbcheck_framer &framer)
@@ -126,8 +131,8 @@ class StreamError : public std::runtime_error {
     std::uint32_t status;
 };
 
-// A call couldn't be served, and nothing was checked: status is an enum fbcheck_status. With FBCHECK_MISFIT, at is the
-// place of the first path, from 0, that doesn't fit.
+// A call with unusable options or arguments: nothing was checked. status is an enum fbcheck_status. With
+// FBCHECK_MISFIT, at is the index of the first path that doesn't fit.
 class Misuse : public std::logic_error {
   public:
     explicit Misuse(std::uint32_t told, std::uint64_t place = 0)
@@ -138,18 +143,18 @@ class Misuse : public std::logic_error {
     std::uint64_t at;
 };
 
-// What was found of a buffer: true where it is good.
+// The result for a buffer; converts to true if it is ok.
 class Verdict {
   public:
     Verdict(const fbcheck_verdict &told, std::string place) : told_(told), place_(std::move(place)) {}
 
     explicit operator bool() const noexcept { return told_.status == FBCHECK_OK; }
-    // The numbers: of a good buffer its counts, else the reason, the position, the object and the field.
+    // The numbers: for an ok buffer its counts, else the reason, the position, the object and the field.
     const fbcheck_verdict &told() const noexcept { return told_; }
-    // Where the fault is, in words, as "in items[1]@Note [post.Delivery.items]"; empty where the buffer is good.
+    // Where the fault is, in words, for example "in items[1]@Note [post.Delivery.items]"; empty for an ok buffer.
     const std::string &place() const noexcept { return place_; }
 
-    // The line of the program, without the message's number.
+    // The line of the program with --names, without the message's number; 2^31 bytes or more have a text of their own.
     std::string text() const {
         const auto reads = " reads=" + std::to_string(told_.reads);
         if (*this)
@@ -164,7 +169,8 @@ class Verdict {
     std::string place_;
 };
 
-// What stands at the end of a path: true where something does. Its bytes stand in the buffer, which must outlive it.
+// The value at a path; converts to true if there is one, even if it is 0 or false. Its bytes lie in the buffer, which
+// must outlive it.
 class Value {
   public:
     Value() noexcept = default;
@@ -174,7 +180,7 @@ class Value {
     fbcheck_kind kind() const noexcept { return static_cast<fbcheck_kind>(told_.kind); }
     const fbcheck_value &told() const noexcept { return told_; }
 
-    // Each has nothing where the value is of another kind.
+    // Each returns nullopt for values of another kind.
     std::optional<std::string_view> text() const noexcept {
         if (kind() != FBCHECK_TEXT) return std::nullopt;
         return std::string_view(reinterpret_cast<const char *>(bytes_.data()), bytes_.size());
@@ -189,12 +195,12 @@ class Value {
                         kind() == FBCHECK_UNION;
         return is ? std::optional(told_.number) : std::nullopt;
     }
-    // A Float or Double. An absent one has nothing, whatever its default.
+    // A Float or Double. Nullopt for an absent one, even if it has a default.
     std::optional<double> real() const noexcept {
         if (kind() != FBCHECK_FLOAT) return std::nullopt;
         return bytes_.size() == sizeof(float) ? double(as<float>()) : as<double>();
     }
-    // The bytes of a text, a Float, a Double, a struct, or a vector of scalars or structs; none of what else there is.
+    // The bytes of a text, a Float, a Double, a struct, or a vector of scalars or structs; none for other values.
     Bytes bytes() const noexcept { return bytes_; }
 
   private:
@@ -207,7 +213,7 @@ class Value {
     Bytes bytes_{nullptr, 0};
 };
 
-// What was read of a buffer: true where it is good, with the values at the ends of the paths, in their order.
+// What was read of a buffer; converts to true if it is ok. It has the values at the paths, in their order.
 template <std::size_t Count> struct Reading {
     Verdict verdict;
     std::array<Value, Count> values;
@@ -215,13 +221,14 @@ template <std::size_t Count> struct Reading {
     const Value &operator[](std::size_t place) const { return values[place]; }
 };
 
-// How the library's own are freed.
+// The deleter of the library's handles.
 struct Free {
     void operator()(fbcheck_schema *schema) const noexcept { fbcheck_schema_free(schema); }
     void operator()(fbcheck_scratch *scratch) const noexcept { fbcheck_scratch_free(scratch); }
 };
 
-// Room for a walk deeper than FBCHECK_DEEP tables, or for one past three that clears no stack. It serves any Schema.
+// Working memory, for any Schema. Needed for depths beyond FBCHECK_DEEP; for tables nested more than three deep it also
+// spares each call the clearing of its stack.
 class Scratch {
   public:
     explicit Scratch(std::uint32_t depth) : room_(fbcheck_scratch_new(depth)) {
@@ -234,7 +241,7 @@ class Scratch {
     std::unique_ptr<fbcheck_scratch, Free> room_;
 };
 
-// A schema, made of the bytes of a schema file, which it copies. It may be moved, and not be copied.
+// A schema, made from the bytes of a schema file, which it copies. Movable, not copyable.
 class Schema {
   public:
     explicit Schema(Bytes file, const Options &options = {}) {
@@ -245,10 +252,10 @@ class Schema {
     }
     Schema(const void *file, std::size_t length, const Options &options = {}) : Schema(Bytes(file, length), options) {}
 
-    // The number of the table of this name, for Options::root; FBCHECK_NO_TABLE where there is none.
+    // The number of the table of this name, for Options::root; FBCHECK_NO_TABLE if there is none.
     std::uint32_t table(std::string_view name) const noexcept { return fbcheck_table(get(), name.data(), name.size()); }
 
-    // The path of a text, as "items[0]@Parcel.name", from the root that the options ask for.
+    // Resolves a path, for example "items[0]@Parcel.name", from the root that the options ask for.
     Path path(std::string_view text, const Options &options = {}) const {
         Path path;
         fbcheck_verdict told;
@@ -258,7 +265,7 @@ class Schema {
         return served(status), path;
     }
 
-    // The paths of so many texts, for read().
+    // Resolves several paths at once, for read().
     template <class... Texts> std::array<Path, sizeof...(Texts)> paths(const Texts &...texts) const {
         return {{path(texts)...}};
     }
@@ -267,7 +274,7 @@ class Schema {
         return {{path(texts, options)...}};
     }
 
-    // Whether a buffer is good. It takes no memory.
+    // Whether a buffer is ok. It doesn't allocate.
     bool good(Bytes buffer, const Options &options = {}, Scratch *scratch = nullptr) const {
         return served(fbcheck_verify(get(), room(scratch), &options, buffer.data(), buffer.size(), nullptr)) ==
                FBCHECK_OK;
@@ -276,8 +283,8 @@ class Schema {
         return good(Bytes(buffer, length), options, scratch);
     }
 
-    // The verdict on a buffer, which is gone through once, with the place of a fault in words. Where no place is
-    // wanted, good() is quicker.
+    // Checks a buffer in one pass, and returns the verdict with the fault's place in words. If you don't need the
+    // place, good() is quicker.
     Verdict check(Bytes buffer, const Options &options = {}, Scratch *scratch = nullptr) const {
         fbcheck_verdict told;
         char text[longest];
@@ -291,7 +298,7 @@ class Schema {
         return check(Bytes(buffer, length), options, scratch);
     }
 
-    // The same, and of a good buffer the values at the ends of paths. A bad one is gone through again, by check().
+    // The same, and for an ok buffer the values at the paths. A bad one is checked a second time, to name the place.
     template <std::size_t Count>
     Reading<Count> read(Bytes buffer, const std::array<Path, Count> &paths, const Options &options = {},
                         Scratch *scratch = nullptr) const {
@@ -306,7 +313,7 @@ class Schema {
         return reading;
     }
 
-    // The schema for the calls of fbcheck.h; it stays this one's, which frees it.
+    // The handle for the calls of fbcheck.h; this Schema keeps it, and frees it.
     const fbcheck_schema *get() const noexcept { return schema_.get(); }
 
   private:
@@ -321,23 +328,23 @@ class Schema {
     std::unique_ptr<fbcheck_schema, Free> schema_;
 };
 
-// What the size in front of each message of a stream is: a part of it (FinishSizePrefixed), for Options::prefixed, or
-// no part of the bare buffer behind it (Finish).
+// Whether the size before each message of a stream is part of the buffer (Prefixed: FinishSizePrefixed; set
+// Options::prefixed), or precedes a bare buffer (Delimited: Finish).
 enum class Framing { Prefixed, Delimited };
 
-// The messages of a stream that comes in pieces, each message with its size in front.
+// Splits a stream that comes in pieces into messages, each preceded by its size.
 class Framer {
   public:
-    // A message may have so many bytes, its size included; room for them is taken at once.
+    // most is the maximum size of a message, with the 4 bytes of its size; that much is allocated at once.
     explicit Framer(std::size_t most, Framing framing = Framing::Prefixed)
         : apart_(framing == Framing::Delimited ? 4 : 0) {
         if (most < 8 || most > INT32_MAX) throw Misuse(FBCHECK_OUT_OF_RANGE);
         room_.resize(apart_ + most);
     }
 
-    // Calls each(Bytes) with each message that ends in this piece; of a delimited one that is the bare buffer. Its
-    // bytes stand in the framer, aligned for numbers of 8 bytes, until each returns. Where that throws, or returns a
-    // bool that is false, the rest of the piece is lost. Throws a StreamError where the stream is at fault.
+    // Calls each(Bytes) with each message that ends in this piece; for Delimited, with the bare buffer. Its bytes lie
+    // in the framer, aligned for numbers of 8 bytes (no greater force_align), until each returns. If each throws, or
+    // returns false, the rest of the piece is discarded. Throws a StreamError if the stream is at fault.
     template <class Each> void feed(Bytes piece, Each &&each) {
         for (std::size_t at = 0, used = 0; at < piece.size(); at += used) {
             const auto status =
@@ -354,18 +361,18 @@ class Framer {
         }
     }
 
-    // Says that the stream has ended. Throws a StreamError where that is inside a message.
+    // Says that the stream has ended. Throws a StreamError if that is inside a message.
     void finish() {
         const auto status = fbcheck_framer_finish(&framer_, room(), size());
         if (status != FBCHECK_OK) throw StreamError(status, framer_);
     }
 
-    // How many bytes are held of the message that is coming, and how many one that is too long declared.
+    // How many bytes are held of the current message and, after FBCHECK_OVERSIZE, the size that its prefix declared.
     const fbcheck_framer &told() const noexcept { return framer_; }
 
   private:
-    // The room of the framer, null where it was moved from. As many bytes stand before it as its messages' sizes have
-    // that are no part of them, so that what is behind these is aligned.
+    // The room of the framer, null if it was moved from. For Delimited it starts 4 bytes into the allocation, so that
+    // the buffer after the 4 bytes of its size is aligned.
     std::uint8_t *room() noexcept { return room_.empty() ? nullptr : room_.data() + apart_; }
     std::size_t size() const noexcept { return room_.size() - apart_; }
 

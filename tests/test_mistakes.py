@@ -73,34 +73,39 @@ def recipe(stream):
 
 # By what the list says was given: the words, and standard input.
 CALLS = {
-    "messages, given as the schema; of a schema's text (`.fbs`) or JSON, the fault says so": [
+    "messages, given as the schema (for `.fbs` text or JSON the error says which)": [
         (("--schema", EXAMPLES / name), POST) for name in ("deliveries.fbs", "deliveries.jsonl", "deliveries.bin")
     ],
     "an empty file, given as the schema": [(("--schema", file_of("empty.bfbs", b"")), POST)],
     "a root without its namespace (`--root Delivery`), or a struct": [((*BY_POST, "--root", "Delivery"), POST)],
-    'JSON: its `{"id` is read as a number; any text declares more than 100,000,000': [(BY_POST, JSON)],
+    'JSON: its first four bytes, `{"id`, are read as a length; any text gives one above 100,000,000': [(BY_POST, JSON)],
     "a file compressed with `gzip`": [(BY_POST, gzipped(POST))],
-    "what `gzip` packed from a pipe; `held=` is all there is. From 559,907 bytes on, the first message is bad; with "
-    "`--bare` it's `V2` at 559903": [(BY_POST, piped(POST))],
+    "what `gzip` packed from a pipe, whose first four bytes are read as the length 559,903; if it is shorter, `held=` is "
+    "its length, else the first message is bad; with `--bare` it's `V2` at 559903": [(BY_POST, piped(POST))],
     "a file compressed with `zstd`": [(BY_POST, by_zstd(POST))],
     "a file compressed with `zip`": [(BY_POST, zipped(POST))],
-    "big-endian prefixes, as Java and networks have them; also S2, or an ok before": [(BY_POST, turned(POST))],
-    "a message above `--max-bytes 511`; with `--bare` it's `input longer than 511 bytes`": [
+    "big-endian prefixes, as in Java and in network byte order; may also show as S2, or after an ok line": [
+        (BY_POST, turned(POST))
+    ],
+    "a message of 512 bytes with `--max-bytes 511`; with `--bare` it's `input longer than 511 bytes`": [
         ((*BY_POST, "--max-bytes", "511"), FIRST)
     ],
-    "a message behind the five bytes of gRPC (a zero, and its size in big-endian)": [(BY_POST, framed(FIRST))],
-    "the same with a message below 256 bytes; from 1,024 on it is `S1 Oversize`": [(BY_POST, framed(SECOND))],
+    "a message behind gRPC's five-byte header (a zero byte, then a big-endian length)": [(BY_POST, framed(FIRST))],
+    "the same with a message below 256 bytes; with most of 1,024 or more it is `S1 Oversize`": [
+        (BY_POST, framed(SECOND))
+    ],
     "a bare buffer, read as a stream: what follows its first four bytes is taken for an offset": [((), BARE)],
-    "with `--bare` a message that has its prefix, which is taken for an offset (`at=` is the length less 4); rarely ok": [
+    "a size-prefixed message with `--bare`, so that the prefix is taken for the root's offset (`at=` is the length less "
+    "4); rarely ok": [
         ((*BY_POST, "--bare"), FIRST), ((*BY_POST, "--bare"), POST)
     ],
     "a prefix before a message that has one already": [(BY_POST, prefixed(FIRST))],
-    "a prefix put before a finished bare buffer (a dump of a socket), so that all positions moved by four": [
+    "a prefix put before a finished bare buffer (such as a dump of a socket), which shifts every position by four": [
         ((), prefixed(BARE))
     ],
     "with `--bare` a message whose prefix was taken off": [((*BY_POST, "--bare"), FIRST[4:])],
-    "no `--schema`, so that messages are checked as schema files, whose tables are `object=0` to `9`; often `V9 "
-    "MissingRequired`": [((), POST)],
+    "`--schema` was forgotten, so messages are checked as schema files, whose objects are 0 to 9; `V9 MissingRequired` is "
+    "common too": [((), POST)],
     "the same with `--path`; with `--root` it's `no root table`, with tables of `reflection`": [
         (("--path", "to.name"), POST)
     ],

@@ -455,7 +455,7 @@ class Options(Case):
             self.same(f"{words}", run(*words, given=SEVEN), Ran(0, HELP.encode(), b""))
 
     def test_the_version_is_told(self):
-        logic = re.search(r"this repository's `(logic [^`]+)`", (TOP / "README.md").read_text())[1]
+        logic = re.search(r"must end in `(logic [^`]+)`", (TOP / "README.md").read_text())[1]
         number = re.search(r"^Version: (.*)$", (TOP / "c/fbcheck.pc.in").read_text(), re.M)[1]
         for words in [["--version"], ["--bare", "--version"], ["--version", "--nothing"]]:
             self.same(f"{words}", run(*words, given=SEVEN), good(f"fbcheck {number}", f"proved in Rattle, {logic}"))
