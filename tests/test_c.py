@@ -7,6 +7,7 @@ both libraries, and under the address sanitizer too.
 import array
 import ctypes
 import re
+import shutil
 import socket
 import struct
 import subprocess

@@ -316,7 +316,7 @@ class Packages(LibraryCase):
         below = {line.split(":")[0].split()[0]: line.split(":")[1].split()
                  for line in (TOP / "crates.txt").read_text().splitlines() if ":" in line and line[0] != "#"}
         parts = {one["ref"]: one["dependsOn"] for one in told["dependencies"]}
-        logic = re.search(r"this repository's `(logic [^`]+)`", (TOP / "README.md").read_text())[1]
+        logic = re.search(r"must end in `(logic [^`]+)`", (TOP / "README.md").read_text())[1]
         for name, crate, file in [("program", "fbcheck", PROGRAM), ("library", "fbcheck_c", TOP / "out/libfbcheck.a")]:
             wanted = {crate, "liblibc_c"}
             while more := {one for each in wanted for one in below.get(each, [])} - wanted:
