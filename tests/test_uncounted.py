@@ -17,6 +17,7 @@ KNOWN = {
     ("fb_verify/verified.rt", "seal("): 2,  # a good buffer after its walk; a bad one whose links are looked up
     ("fb_bfbs/loading.rt", "Meter::new("): 1,  # a schema file, which `verify` takes
     ("fb_bfbs/marks.rt", "Meter::new("): 1,  # the same, of which marks are read
+    ("fb_strict/strictly.rt", "Meter::new("): 1,  # a good buffer, whose reads are counted on from its walk's
     ("fb_lines/checker.rt", "Meter::new("): 1,  # a message's buffer, which `report` is lent or `verify` takes
     ("fb_run/front.rt", "Meter::new("): 1,  # a piece of a stream, to find the message at its front
     ("fb_run/front.rt", "seal("): 1,

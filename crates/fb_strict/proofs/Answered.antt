@@ -1,11 +1,11 @@
 -- Tests that were made, and the budget that was asked after them.
-use Rattle.std.proofs.Common.{◌≡◌, ℕ, ◌+◌, ◌^◌, ◌<◌, ◌≤◌, nat_le, ◌==◌, Bool, true, false, if◌then◌else◌, List, length, Option, Some, None, Result, Ok, Err, refl, sym, ap, ◌∙◌, subst, arith}
-use Rattle.std.specs.Prelude.{IfOk, IfErr}
+use Rattle.std.proofs.Common.{◌≡◌, ℕ, ◌+◌, ◌^◌, ◌<◌, ◌≤◌, true, false, Option, Some, None, Result, Ok, Err, refl, sym, ap, ◌∙◌, subst, arith}
+use Rattle.std.specs.Prelude.{IfOk}
 use Rattle.std.specs.Option.{is_some}
 use Rattle.std.proofs.lemmas.Bool.Decides.{nat_tests}
-use Rattle.fb_bytes.specs.Word.{Lent, word}
+use Rattle.fb_bytes.specs.Word.{Lent}
 use Rattle.fb_rules.specs.declared.{site.Site.Site, site.Stop.Stop, fault.Reason.Reason}
-use Rattle.fb_rules.specs.{Bounds.Bounds, Bounds.AreAllowed, Bounds.allowed, Plain.tested_by, Plain.place_from, Plain.IsTested, Told.IsAskedAt, Places.target}
+use Rattle.fb_rules.specs.{Bounds.Bounds, Bounds.AreAllowed, Plain.tested_by, Plain.place_from, Plain.IsTested, Told.IsAskedAt}
 use Rattle.fb_rules.specs.Order.{Failure, after}
 use Rattle.fb_strict.specs.{InOrder.together_failure, Passing.IsRoom}
 use Rattle.fb_strict.proofs.Asking.{told_allowed}

@@ -1,22 +1,22 @@
 -- What is demanded of a tree costs few reads.
-use Rattle.std.proofs.Common.{◌≡◌, ℕ, zero, suc, ◌+◌, ◌-◌, ◌*◌, ◌<◌, ◌≤◌, List, [], ◌∷◌, ◌++◌, length, refl, sym, ap, arith, Option, Some, None, Bool, true, false, if◌then◌else◌}
+use Rattle.std.proofs.Common.{◌≡◌, ℕ, ◌+◌, ◌*◌, ◌≤◌, List, [], ◌∷◌, ◌++◌, length, refl, arith, Option, Some, None, Bool, true, false, if◌then◌else◌}
 use Rattle.std.proofs.lemmas.List.Sums.{sum_by-cons}
 use Rattle.fb_bytes.specs.Word.{word}
 use Rattle.fb_schema.specs.declared.kinds.Kind.{Kind}
-use Rattle.fb_schema.specs.{Rows.Rows, Live.Live, Live.live_fields, Live.widest, Members.member_of}
+use Rattle.fb_schema.specs.{Rows.Rows, Live.Live, Live.live_fields, Live.widest}
 use Rattle.fb_schema.proofs.LookLemmas.{within_widest}
 use Rattle.fb_rules.specs.declared.checks.Checks.{Checks}
-use Rattle.fb_rules.specs.{Places.target, Places.field_place, Cost.slot_reads, Cost.reads_if_present, Cost.head_reads}
-use Rattle.fb_rules.specs.Fields.{IsPresent, IsField, Lead, to_table, to_struct, to_string, to_nothing, Entry, row, union_row, entries_of, entries_at, entries, type_place}
+use Rattle.fb_rules.specs.{Places.target, Places.field_place, Cost.head_reads}
+use Rattle.fb_rules.specs.Fields.{IsPresent, IsField, Lead, to_table, to_struct, to_string, to_nothing, Entry, entries_of, entries, type_place}
 use Rattle.fb_rules.specs.Tree.{Tree, node, Kids, no_kids, kid, Elements, no_elements, element, Element, leaf, table, size, kids_size, elements_size, element_size}
 use Rattle.fb_rules.specs.Unfolds.{Unfolds, FieldsUnfold, ElementsUnfold, ElementUnfolds}
 use Rattle.fb_rules.proofs.{Words.row_length, Words.union_row_length}
 use Rattle.fb_rules.proofs.Few.{if_present_few, head_few, slot_few}
-use Rattle.fb_strict.specs.InOrder.{places_reads, union_reads, element_failure, value_reads, typed_reads, element_reads}
+use Rattle.fb_strict.specs.InOrder.{union_reads, element_failure, value_reads, typed_reads, element_reads}
 use Rattle.fb_strict.specs.Asked.{Demand, Types, reading, vectors_reads, field_demands, row_types, row_place, next_types, element_demands, object_of, demands_in, demands_in_fields, demands_in_row, demands_below, demands_reads}
 use Rattle.fb_strict.proofs.Moving.{reads_joined}
 
-first_reads : (d : Demand) (ds : List Demand) → demands_reads (d ∷ ds) ≡ d.reads + demands_reads ds
+pub first_reads : (d : Demand) (ds : List Demand) → demands_reads (d ∷ ds) ≡ d.reads + demands_reads ds
 first_reads d ds = sum_by-cons (λ (x : Demand). x.reads) d ds
 
 value_few : (o : Option Kind) → value_reads o ≤ 1
@@ -47,11 +47,10 @@ module _ (asks : ℕ → Bool) (c : Checks) (b : List ℕ) (S : Rows) where
   words_few_at t f h = grind (arith, words_few)
 
   -- a table costs that much at most
-  pub most : ℕ
+  abbrev pub most : ℕ
   most = 3 + widest S * (8 + length b)
 
   all : (k : ℕ) → 3 + length (live_fields S k) * (8 + length b) ≤ most
-  unfolding most
   all k = grind (arith, within_widest)
 
   types_few : (k n p : ℕ) (types : Option Types) → demands_reads (element_demands c b S k n p types) ≤ 2

@@ -1,21 +1,20 @@
 -- What frames stand for, as the pass goes on.
-use Rattle.std.proofs.Common.{◌≡◌, ℕ, zero, suc, ◌+◌, ◌*◌, ◌-◌, ◌^◌, ◌<◌, ◌≤◌, IsTrue, List, [], ◌∷◌, ◌++◌, length, drop, get_or, Option, Some, None, Bool, true, false, refl, sym, ap, subst, ◌∙◌, append_assoc, max, arith, if◌then◌else◌}
+use Rattle.std.proofs.Common.{◌≡◌, ℕ, ◌+◌, ◌-◌, ◌^◌, ◌<◌, ◌≤◌, IsTrue, List, [], ◌∷◌, ◌++◌, length, Option, Some, None, Bool, true, false, refl, sym, ap, subst, ◌∙◌, append_assoc, max, arith, if◌then◌else◌}
 use Rattle.fb_bytes.specs.Word.{word}
 use Rattle.fb_schema.specs.declared.kinds.Kind.{Kind}
 use Rattle.fb_schema.specs.declared.kinds.Kind.TheVariants.{Scalar, Text, Struct, Table, Union, Scalars, Texts, Structs, Tables, Unions}
 use Rattle.fb_schema.specs.{Rows.Rows, Rows.is_table, Live.live_fields, Members.member_of, Served.MemberHolds}
-use Rattle.fb_rules.specs.declared.{offset_row.Row.Row, offset_row.Leads.Leads, offset_row.Leads.TheVariants.All, offset_row.Leads.TheVariants.ByType, table.Child.Child, table.Head.Head, table.Table.Table as TableOf}
+use Rattle.fb_rules.specs.declared.{offset_row.Leads.Leads, offset_row.Leads.TheVariants.All, offset_row.Leads.TheVariants.ByType, table.Child.Child, table.Head.Head}
 use Rattle.fb_rules.specs.declared.offset_row.Referent.TheVariants.{Text as AText, Table as ATable, Struct as AStruct, Nothing}
 use Rattle.fb_rules.specs.{Places.target, Cost.head_reads, Facts.IsTable, Told.IsHead}
 use Rattle.fb_rules.specs.OffsetRows.{words_of, first_word, past_first, leads_after}
 use Rattle.fb_rules.specs.Fields.{Lead, to_table, to_struct, to_string, to_nothing, lead_of, Entry}
-use Rattle.fb_rules.specs.Tree.{Tree, node, Kids, kids_depth, Elements, no_elements, element, Element, leaf, table, elements_depth, element_depth, depth}
-use Rattle.fb_rules.specs.Unfolds.{Unfolds, FieldsUnfold, ElementsUnfold, ElementUnfolds}
+use Rattle.fb_rules.specs.Tree.{Tree, node, kids_depth, Elements, no_elements, element, Element, leaf, table, elements_depth, element_depth, depth}
+use Rattle.fb_rules.specs.Unfolds.{Unfolds, ElementsUnfold, ElementUnfolds}
 use Rattle.fb_rules.proofs.Words.{row_front, row_none, first_place}
-use Rattle.fb_strict.specs.declared.{room.Frame.Frame, tasks.Task.Task}
-use Rattle.fb_strict.specs.Planned.{tasks_in}
-use Rattle.fb_strict.specs.Asked.{Demand, Types, reading, object_of, next_types, element_demands, demands_in, demands_in_fields, demands_in_row, demands_below}
-use Rattle.fb_strict.specs.Passing.{Passing, asks_of, IsPassing, blank, opened, asked_object, first_object, IsAskedRow, AreAskedWords, leads_types, IsLeft, IsNext}
+use Rattle.fb_strict.specs.declared.{room.Frame.Frame}
+use Rattle.fb_strict.specs.Asked.{Demand, reading, next_types, element_demands, demands_in, demands_in_fields, demands_in_row, demands_below}
+use Rattle.fb_strict.specs.Passing.{Passing, asks_of, IsPassing, blank, opened, asked_object, first_object, AreAskedWords, leads_types, IsLeft, IsNext}
 use Rattle.fb_strict.proofs.Fields.{fields_known}
 
 -- the frame of a table that was opened

@@ -16,3 +16,5 @@ pub mod Few
 pub mod Answered
 pub mod Wording
 pub mod Looping
+pub mod Buffers
+pub mod Verdicts

@@ -1,7 +1,7 @@
 -- The turns of a pass, one after another.
 use Rattle.std.proofs.Math.ListN.{set, length-set}
 use Rattle.std.proofs.lemmas.List.{get_or-set_same, append-nil}
-use Rattle.std.proofs.Common.{◌≡◌, ◌⊎◌, inl, inr, None, ℕ, ◌+◌, ◌*◌, ◌-◌, ◌^◌, ◌<◌, ◌≤◌, List, [], ◌∷◌, ◌++◌, length, Result, Ok, Err, refl, sym, ap, subst, ◌∙◌, arith}
+use Rattle.std.proofs.Common.{◌≡◌, ◌⊎◌, inl, inr, None, ℕ, ◌+◌, ◌*◌, ◌-◌, ◌^◌, ◌<◌, ◌≤◌, List, [], length, Result, Ok, Err, refl, sym, ap, subst, ◌∙◌, arith}
 use Rattle.fb_bytes.specs.Word.{Lent}
 use Rattle.fb_rules.specs.declared.{site.Stop.Stop, table.Child.Child, table.Head.Head, table.Table.Table as TableOf}
 use Rattle.fb_rules.specs.{Bounds.AreAllowed, Cost.head_reads, Told.stopped, Told.IsAskedAt, Told.IsHead}

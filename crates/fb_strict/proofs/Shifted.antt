@@ -1,5 +1,5 @@
 -- A pass after so many reads is one within what is left of the budget.
-use Rattle.std.proofs.Common.{◌≡◌, ℕ, ◌+◌, ◌-◌, ◌≤◌, nat_le, List, [], ◌∷◌, Option, Some, None, option_map, Bool, true, false, refl, sym, ap, ◌∙◌, arith}
+use Rattle.std.proofs.Common.{◌≡◌, ℕ, ◌+◌, ◌-◌, ◌≤◌, nat_le, List, [], ◌∷◌, Option, Some, None, option_map, refl, ap, ◌∙◌, arith}
 use Rattle.std.proofs.lemmas.Bool.Decides.{nat_tests}
 use Rattle.fb_rules.specs.declared.{fault.Fault.Fault, fault.Reason.TheVariants.TooManyReads}
 use Rattle.fb_rules.specs.{Bounds.Bounds, Bounds.AreAllowed, Bounds.allowed, Stops.reads_failure}

@@ -1,5 +1,5 @@
 -- A turn over the frames of the open tables.
-use Rattle.std.proofs.Common.{◌≡◌, ◌≢◌, ℕ, zero, suc, ◌+◌, ◌*◌, ◌-◌, ◌^◌, ◌<◌, ◌≤◌, List, [], ◌∷◌, ◌++◌, length, get_or, refl, sym, ap, subst, ◌∙◌, append_assoc, arith, None, Result, Ok, Err}
+use Rattle.std.proofs.Common.{◌≡◌, ℕ, zero, suc, ◌+◌, ◌-◌, ◌^◌, ◌<◌, ◌≤◌, List, [], ◌++◌, length, get_or, refl, sym, ap, subst, ◌∙◌, append_assoc, arith, None, Ok, Err}
 use Rattle.std.proofs.Math.ListN.{set, length-set}
 use Rattle.std.proofs.lemmas.List.{get_or-set_same, get_or-set_other}
 use Rattle.fb_bytes.specs.Word.{Lent}
@@ -7,7 +7,7 @@ use Rattle.fb_rules.specs.declared.{checks.Checks.Checks, fault.Fault.Fault, sit
 use Rattle.fb_rules.specs.{Tree.Tree, Tree.node, Tree.depth, Told.stopped, Told.IsAskedAt, Told.IsHead, Cost.head_reads, Facts.IsTable}
 use Rattle.fb_strict.specs.declared.room.Frame.{Frame}
 use Rattle.fb_strict.specs.Asked.{Demand}
-use Rattle.fb_strict.specs.Passing.{Passing, IsPassing, opened, blank, IsLeft, AreLeft, Moves, Breaks, GoesOn, frame_work, frames_work, Stays, GoesDown, IsNext, Turns}
+use Rattle.fb_strict.specs.Passing.{Passing, IsPassing, opened, blank, IsLeft, AreLeft, Moves, Breaks, GoesOn, frame_work, frames_work, Stays, GoesDown, Turns}
 use Rattle.fb_strict.proofs.Moving.{onward, before, breaks_before, breaks_then, met, unmet}
 use Rattle.fb_strict.proofs.{Frames.opened_left, Frames.head_first, Frames.next_table, Tasking.opened_few}
 

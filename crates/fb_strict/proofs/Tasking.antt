@@ -1,5 +1,5 @@
 -- A frame of whose field no word is left: its next task, or its end.
-use Rattle.std.proofs.Common.{◌≡◌, ℕ, zero, suc, ◌+◌, ◌*◌, ◌-◌, ◌^◌, ◌<◌, ◌≤◌, IsTrue, List, [], ◌∷◌, ◌++◌, length, drop, Option, Some, None, Bool, true, false, Result, Ok, Err, inl, inr, refl, sym, ap, subst, ◌∙◌, append_assoc, max, arith, if◌then◌else◌}
+use Rattle.std.proofs.Common.{◌≡◌, ℕ, zero, suc, ◌+◌, ◌^◌, ◌<◌, ◌≤◌, IsTrue, List, [], ◌∷◌, ◌++◌, length, drop, Option, Some, None, Bool, true, false, Ok, Err, inl, inr, refl, sym, ap, subst, ◌∙◌, arith, if◌then◌else◌}
 use Rattle.std.specs.{Prelude.slice_get, Borrow.Bor, Slice.IsItemAt}
 use Rattle.std.proofs.lemmas.{Bool.cases_lt, Option.slice_get_within, Option.slice_get_past, Option.slice_get-get_or}
 use Rattle.fb_bytes.specs.Word.{Lent}
@@ -8,20 +8,19 @@ use Rattle.fb_schema.specs.declared.kinds.Kind.TheVariants.{Scalar, Text, Struct
 use Rattle.fb_schema.specs.{Rows.Rows, Rows.is_table, Rows.is_some_table, Live.Live, Live.live_fields}
 use Rattle.fb_rules.specs.declared.{offset_row.Row.Row, site.Site.Site, site.Stop.Stop, table.Table.Table as TableOf}
 use Rattle.fb_rules.specs.Told.{stopped}
-use Rattle.fb_rules.specs.{Places.field_place, Fields.type_place, Fields.Entry}
-use Rattle.fb_rules.specs.OffsetRows.{words_of}
-use Rattle.fb_rules.specs.Tree.{Kids, kids_depth, Elements, no_elements, element, elements_depth}
-use Rattle.fb_rules.specs.Unfolds.{FieldsUnfold, ElementsUnfold}
+use Rattle.fb_rules.specs.{Places.field_place, Fields.type_place}
+use Rattle.fb_rules.specs.Tree.{Elements, no_elements, element}
+use Rattle.fb_rules.specs.Unfolds.{ElementsUnfold}
 use Rattle.fb_rules.proofs.{Typed.present, Words.row_none}
 use Rattle.fb_strict.specs.declared.{room.Frame.Frame, tasks.Ask.Ask, tasks.Task.Task}
 use Rattle.fb_strict.specs.declared.tasks.Ask.TheVariants.{Union as AskUnion, Unions as AskUnions, Table as GoInto, Tables as GoIntoEach}
 use Rattle.std.specs.List.{cons_option}
 use Rattle.fb_strict.specs.Planned.{ask_of, task_of, tasks_in, marked, Planned, IsPlan}
-use Rattle.fb_strict.specs.Asked.{Demand, field_demands, demands_in_fields, demands_in_row}
-use Rattle.fb_strict.specs.Passing.{Passing, asks_of, IsPassing, IsTaskable, CountStands, IsAskedRow, leads_types, IsKnown, IsLeft, task_row, frame_work, opened, TaskPassed, GoesOn, Stays, Breaks}
+use Rattle.fb_strict.specs.Asked.{Demand, demands_in_fields, demands_in_row}
+use Rattle.fb_strict.specs.Passing.{Passing, asks_of, IsPassing, IsTaskable, leads_types, IsKnown, IsLeft, task_row, frame_work, opened, TaskPassed, GoesOn, Stays, Breaks}
 use Rattle.fb_strict.proofs.Moving.{met, unmet}
-use Rattle.fb_strict.proofs.Fields.{IsNextField, next_field, no_field, task_demand, one_demand, IsTask, task_is}
-use Rattle.fb_strict.proofs.Words.{IsPut, put}
+use Rattle.fb_strict.proofs.Fields.{IsNextField, next_field, no_field, task_demand, one_demand, task_is}
+use Rattle.fb_strict.proofs.Words.{put}
 
 drop_at : {X : Type 0} (xs : List X) (i j : ℕ) (x : X) → slice_get xs i ≡ Some x → j ≡ i + 1 → drop i xs ≡ x ∷ drop j xs
 drop_at [] i j x h e = absurd (cc)

@@ -1,14 +1,14 @@
 -- The first offset word that is left of a frame is passed.
-use Rattle.std.proofs.Common.{◌≡◌, ℕ, ◌+◌, ◌*◌, ◌-◌, ◌^◌, ◌<◌, ◌≤◌, List, [], ◌∷◌, ◌++◌, length, Option, Some, None, Result, Ok, Err, refl, sym, ap, subst, ◌∙◌, arith}
+use Rattle.std.proofs.Common.{◌≡◌, ℕ, ◌+◌, ◌^◌, ◌<◌, ◌≤◌, List, ◌∷◌, ◌++◌, length, Option, Some, None, Result, Ok, Err, refl, sym, ap, subst, ◌∙◌, arith}
 use Rattle.fb_bytes.specs.Word.{Lent}
 use Rattle.fb_rules.specs.declared.{site.Site.Site, site.Stop.Stop, table.Child.Child}
-use Rattle.fb_rules.specs.declared.{offset_row.Leads.Leads, offset_row.Leads.TheVariants.All, offset_row.Leads.TheVariants.ByType, offset_row.Row.Row}
+use Rattle.fb_rules.specs.declared.{offset_row.Leads.Leads, offset_row.Leads.TheVariants.All, offset_row.Leads.TheVariants.ByType}
 use Rattle.fb_rules.specs.{Places.target, Told.stopped, Told.IsAskedAt, OffsetRows.past_first}
 use Rattle.fb_strict.specs.declared.room.Frame.{Frame}
 use Rattle.fb_strict.specs.InOrder.{element_failure, element_reads}
 use Rattle.fb_strict.specs.Asked.{Demand, reading, element_demands, demands_in}
-use Rattle.fb_strict.specs.Passing.{Passing, asks_of, IsPassing, leads_types, IsLeft, Moves, Breaks, GoesOn, FirstPassed, first_object, IsNext, Stays, GoesDown, frame_work}
-use Rattle.fb_strict.proofs.Moving.{site_of, still, onward, breaks_then, met, unmet}
+use Rattle.fb_strict.specs.Passing.{Passing, asks_of, IsPassing, leads_types, IsLeft, Breaks, GoesOn, FirstPassed, first_object, Stays, GoesDown, frame_work}
+use Rattle.fb_strict.proofs.Moving.{still, onward, breaks_then, met, unmet}
 use Rattle.fb_strict.proofs.{Few.element_few, Frames.asked_first, Frames.under, Frames.beside}
 
 -- so many reads were made for what it is asked by its type

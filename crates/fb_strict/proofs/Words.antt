@@ -1,22 +1,21 @@
 -- What is left of the offset words of a field.
-use Rattle.std.proofs.Common.{◌≡◌, ℕ, zero, suc, ◌+◌, ◌*◌, ◌-◌, ◌^◌, ◌<◌, ◌≤◌, IsTrue, List, [], ◌∷◌, ◌++◌, length, Option, Some, None, Bool, true, false, refl, sym, ap, subst, ◌∙◌, max, arith, if◌then◌else◌}
+use Rattle.std.proofs.Common.{◌≡◌, ℕ, ◌+◌, ◌≤◌, IsTrue, List, [], ◌∷◌, length, Option, Some, None, Bool, true, false, refl, sym, ap, subst, ◌∙◌, arith, if◌then◌else◌}
 use Rattle.fb_bytes.specs.Word.{word}
 use Rattle.fb_schema.specs.declared.kinds.Kind.{Kind}
 use Rattle.fb_schema.specs.declared.kinds.Kind.TheVariants.{Scalar, Text, Struct, Table, Union, Scalars, Texts, Structs, Tables, Unions}
-use Rattle.fb_schema.specs.{Rows.Rows, Rows.is_table, Rows.is_union, Live.Live, Members.member_of, Served.IsServed, Served.KindHolds, Served.MemberHolds}
-use Rattle.fb_rules.specs.declared.{offset_row.Row.Row, offset_row.Leads.Leads, offset_row.Leads.TheVariants.All, offset_row.Leads.TheVariants.ByType}
-use Rattle.fb_rules.specs.declared.offset_row.Referent.TheVariants.{Text as AText, Table as ATable, Struct as AStruct, Nothing}
-use Rattle.fb_rules.specs.{Places.target, Places.field_place, OffsetRows.words_of, OffsetRows.first_word, OffsetRows.past_first, OffsetRows.leads_after, OffsetRows.IsTyped, OffsetRows.TypesFit}
-use Rattle.fb_rules.specs.Fields.{Lead, to_table, to_struct, to_string, to_nothing, lead_of, Entry, row, union_row, union_entry, entries_of, entries_at, entries, IsField, IsPresent, type_place, types_begin, type_count, union_type}
-use Rattle.fb_rules.specs.Tree.{Tree, node, Elements, no_elements, element, Element, leaf, table, elements_depth, element_depth, depth}
+use Rattle.fb_schema.specs.{Rows.is_table, Live.Live, Members.member_of, Served.MemberHolds}
+use Rattle.fb_rules.specs.declared.{offset_row.Row.Row, offset_row.Leads.TheVariants.All}
+use Rattle.fb_rules.specs.declared.offset_row.Referent.TheVariants.{Table as ATable}
+use Rattle.fb_rules.specs.{Places.target, Places.field_place, OffsetRows.words_of, OffsetRows.TypesFit}
+use Rattle.fb_rules.specs.Fields.{Lead, to_table, to_struct, to_string, to_nothing, row, union_entry, entries_of, entries_at, entries, type_place, types_begin, type_count, union_type}
+use Rattle.fb_rules.specs.Tree.{node, Elements, no_elements, element, leaf, table, elements_depth}
 use Rattle.fb_rules.specs.Unfolds.{Unfolds, ElementsUnfold, ElementUnfolds}
-use Rattle.fb_rules.proofs.{Typed.present, Words.row_front, Words.row_none}
+use Rattle.fb_rules.proofs.{Typed.present, Words.row_none}
 use Rattle.fb_strict.specs.declared.tasks.Ask.{Ask}
 use Rattle.fb_strict.specs.declared.tasks.Ask.TheVariants.{Union as AskUnion, Unions as AskUnions, Table as GoInto, Tables as GoIntoEach}
 use Rattle.fb_strict.specs.Planned.{ask_of}
-use Rattle.fb_strict.specs.InOrder.{member_at, element_failure, element_reads}
-use Rattle.fb_strict.specs.Asked.{Demand, Types, reading, object_of, row_types, row_place, next_types, element_demands, demands_in, demands_in_row, demands_below}
-use Rattle.fb_strict.specs.Passing.{Passing, asks_of, IsPassing, asked_object, word_row, task_row, IsAskedRow, AreAskedWords, leads_types, IsKnown, first_object}
+use Rattle.fb_strict.specs.Asked.{Types, row_types, row_place, demands_in_row, demands_below}
+use Rattle.fb_strict.specs.Passing.{Passing, asks_of, IsPassing, asked_object, word_row, task_row, IsAskedRow, leads_types, IsKnown}
 
 module _ (p : Passing) (b : List ℕ) (holds : IsPassing p b) where
   -- the words of a field were put into a row: they stand for the same demands as those that the field has

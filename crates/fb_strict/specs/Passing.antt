@@ -1,18 +1,17 @@
 -- A pass over a buffer that unfolds: what is left to be asked, as the frames of the open tables hold it.
-use Rattle.std.specs.Prelude.{◌≡◌, ℕ, zero, suc, ◌+◌, ◌-◌, ◌*◌, ◌^◌, ◌<◌, ◌≤◌, nat_le, IsTrue, Bool, true, if◌then◌else◌, max, List, [], ◌∷◌, ◌++◌, length, drop, get_or, slice_get, Option, Some, None, Result, Ok, Err, IfOk}
-use Rattle.std.specs.List.{sum_by}
+use Rattle.std.specs.Prelude.{◌≡◌, ℕ, zero, suc, ◌+◌, ◌-◌, ◌*◌, ◌^◌, ◌<◌, ◌≤◌, nat_le, IsTrue, Bool, true, if◌then◌else◌, max, List, [], ◌∷◌, ◌++◌, length, drop, get_or, Option, Some, None, Result, Ok, Err, IfOk}
 use Rattle.fb_bytes.specs.Word.{Lent, word}
 use Rattle.fb_schema.specs.declared.kinds.Kind.{Kind}
 use Rattle.fb_schema.specs.declared.kinds.Kind.TheVariants.{Table as TableKind}
 use Rattle.fb_schema.specs.{Rows.Rows, Rows.is_table, Rows.is_union, Live.Live, Live.live_fields, Members.member_of, Served.IsServed, Served.KindHolds}
 use Rattle.fb_rules.specs.declared.{checks.Checks.Checks, fault.Fault.Fault, site.Site.Site, site.Stop.Stop, table.Table.Table, table.Child.Child}
 use Rattle.fb_rules.specs.declared.{offset_row.Row.Row, offset_row.Leads.Leads, offset_row.Leads.TheVariants.All, offset_row.Leads.TheVariants.ByType}
-use Rattle.fb_rules.specs.declared.offset_row.Referent.TheVariants.{Text as AText, Table as ATable, Struct as AStruct, Nothing}
+use Rattle.fb_rules.specs.declared.offset_row.Referent.TheVariants.{Table as ATable, Nothing}
 use Rattle.fb_rules.specs.{Bounds.Bounds, Bounds.AreAllowed, Bounds.allowed, Places.target, Places.field_place, Fields.IsField, Fields.type_place, Fields.types_begin}
 use Rattle.fb_rules.specs.{Cost.slot_reads, Cost.reads_if_present, Order.Failure, Order.after, Told.IsHead, Told.IsAskedAt, Told.stopped, OffsetRows.words_of, OffsetRows.IsTyped, OffsetRows.TypeFits, OffsetRows.TypesFit}
 use Rattle.fb_rules.specs.Tree.{Tree, Kids, kids_depth, Elements, elements_depth, depth}
 use Rattle.fb_rules.specs.Unfolds.{FieldsUnfold, ElementsUnfold, Unfolds}
-use Rattle.fb_strict.specs.declared.{room.Frame.Frame, tasks.Ask.Ask, tasks.Task.Task, pass.Turn.Turn}
+use Rattle.fb_strict.specs.declared.{room.Frame.Frame, tasks.Ask.Ask, pass.Turn.Turn}
 use Rattle.fb_strict.specs.declared.tasks.Ask.TheVariants.{Union as AskUnion, Unions as AskUnions, Table as GoInto, Tables as GoIntoEach}
 use Rattle.fb_strict.specs.declared.pass.Turn.TheVariants.{Here, Up, Down}
 use Rattle.fb_strict.specs.{Planned.Planned, Planned.IsPlan, Planned.marked, Planned.tasks_in}

@@ -1,11 +1,10 @@
 -- What a strict verdict says of a buffer.
-use Rattle.std.specs.Prelude.{◌≡◌, ◌⊎◌, ℕ, ◌+◌, ◌-◌, ◌*◌, Bool, List, Option, Some, None, Result, Ok, Err, option_map}
-use Rattle.fb_schema.specs.{Rows.Rows, Live.widest}
+use Rattle.std.specs.Prelude.{◌≡◌, ◌⊎◌, ℕ, ◌+◌, ◌-◌, List, Option, Some, None, Result, Ok, Err, option_map}
 use Rattle.fb_rules.specs.declared.{fault.Fault.Fault, fault.Report.Report}
 use Rattle.fb_rules.specs.{Bounds.Bounds, Bounds.AreAllowed, Question.Question, Tree.Tree, Tree.size, Tree.depth}
-use Rattle.fb_rules.specs.{WellFormed.IsWellFormed, WellFormed.IsWithin, WellFormed.cost, Stops.Stops, MostReads.within_budget}
+use Rattle.fb_rules.specs.{WellFormed.IsWellFormed, WellFormed.IsWithin, WellFormed.cost, Stops.Stops}
 use Rattle.fb_strict.specs.{Strict.IsStrictBuffer, Planned.Planned, Planned.marked}
-use Rattle.fb_strict.specs.Asked.{demands_of, demands_reads, first_fault}
+use Rattle.fb_strict.specs.Asked.{Demand, demands_of, demands_reads, first_fault}
 
 -- all reads of a buffer that unfolds into this tree: those of the walk, and those of the pass by this plan
 abbrev pub strict_cost : Planned → Question → List ℕ → Tree → ℕ
@@ -53,3 +52,13 @@ later paid f = record f { reads = paid + f.reads }
 abbrev pub Asked : Planned → Question → List ℕ → Tree → Result ℕ Fault → Type 0
 Asked p q b y (Ok n) = (first_fault q.limits (cost q b y) (demands_of (marked p.marks) q.checks b q.rows q.root y) ≡ None) × (n ≡ strict_cost p q b y)
 Asked p q b y (Err f) = first_fault q.limits (cost q b y) (demands_of (marked p.marks) q.checks b q.rows q.root y) ≡ Some f
+
+-- what it answers of these demands by themselves, before any read
+abbrev pub AskedAlone : Bounds → List Demand → Result ℕ Fault → Type 0
+AskedAlone L ds (Ok n) = (first_fault L 0 ds ≡ None) × (n ≡ demands_reads ds)
+AskedAlone L ds (Err f) = first_fault L 0 ds ≡ Some f
+
+-- the same after so many reads more
+abbrev pub counted_on : ℕ → Result ℕ Fault → Result ℕ Fault
+counted_on paid (Ok n) = Ok (paid + n)
+counted_on paid (Err f) = Err (later paid f)

@@ -7,9 +7,11 @@ pub mod laws;
 mod pass;
 mod plan;
 mod room;
+mod strictly;
 mod tasks;
 pub mod unions;
 
 pub use plan::Plan;
 pub use room::{Room, RoomFault};
+pub use strictly::{VerifiedStrictly, verify_strictly};
 pub use tasks::{Ask, Task};

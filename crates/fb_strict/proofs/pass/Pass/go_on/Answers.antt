@@ -1,7 +1,6 @@
-use Rattle.std.proofs.Common.{sym, ap, subst, arith, List, ℕ}
-use Rattle.fb_bytes.specs.Word.{Lent}
+use Rattle.std.proofs.Common.{sym, subst}
 use Rattle.fb_strict.specs.Passing.{IsPassing, IsRoom}
-use Rattle.fb_strict.proofs.Looping.{begins, less, turns_on, stops, ends}
+use Rattle.fb_strict.proofs.Looping.{begins, less, turns_on, stops}
 use Rattle.fb_strict.proofs.pass.Pass.go_on.Goals as goal
 
 -- src/pass.rt

@@ -1,4 +1,3 @@
-use Rattle.std.proofs.Common.{◌≡◌, length}
 use Rattle.fb_strict.specs.Passing.{work_left}
 use Rattle.fb_strict.proofs.Looping.{WentSoFar}
 use Rattle.fb_strict.proofs.pass.Pass.go_on.Given as goal

@@ -1,5 +1,4 @@
 use Rattle.std.proofs.Common.{refl, sym, ◌∙◌}
-use Rattle.fb_rules.specs.{Cost.slot_reads}
 use Rattle.fb_strict.proofs.Answered.{only_read, stands, stands_not}
 use Rattle.fb_strict.proofs.pass.Pass.pass_table.Goals as goal
 

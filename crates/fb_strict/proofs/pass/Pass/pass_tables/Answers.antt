@@ -1,6 +1,5 @@
-use Rattle.std.proofs.Common.{◌≡◌, ℕ, ◌+◌, Option, Some, None, refl, sym, ap, ◌∙◌, subst, arith}
+use Rattle.std.proofs.Common.{None, refl, sym, ap, ◌∙◌}
 use Rattle.fb_bytes.specs.Word.{Lent}
-use Rattle.fb_rules.specs.{Places.field_place}
 use Rattle.fb_strict.proofs.Answered.{only_read, stands, stands_not, tested_after, none_tested, always}
 use Rattle.fb_strict.proofs.pass.Pass.pass_tables.Goals as goal
 

@@ -1,9 +1,9 @@
-use Rattle.std.proofs.Common.{◌≡◌, ℕ, ◌+◌, ◌≤◌, List, length, Option, Some, None, refl, sym, ap, ◌∙◌, subst, arith}
+use Rattle.std.proofs.Common.{◌≡◌, Some, None, refl, sym, ap, ◌∙◌}
 use Rattle.std.proofs.lemmas.Result.{IfOk-weaker}
 use Rattle.fb_bytes.specs.Word.{Lent, word}
-use Rattle.fb_rules.specs.{Places.field_place, Fields.type_place, OffsetRows.TypesFit}
+use Rattle.fb_rules.specs.{Places.field_place, Fields.type_place}
 use Rattle.fb_rules.specs.Order.{after}
-use Rattle.fb_strict.specs.{Asked.vectors_reads, Passing.CountStands}
+use Rattle.fb_strict.specs.{Asked.vectors_reads}
 use Rattle.fb_strict.proofs.Answered.{only_read, stands, stands_not, both_stand, none_stands, tested_after, none_tested, together_tested, found_none, none_failed, nothing_after, reads_more, not_none, is_none, always}
 use Rattle.fb_strict.proofs.pass.Pass.pass_unions.Goals as goal
 use Rattle.fb_strict.proofs.pass.Pass.pass_unions.Goals.{After-u32_at-arg-1}

@@ -1,4 +1,4 @@
-use Rattle.std.proofs.Common.{◌+◌, ◌≤◌, length, Some, Ok, refl, ap, ◌∙◌, arith}
+use Rattle.std.proofs.Common.{Some, Ok, refl, ap, arith}
 use Rattle.fb_bytes.specs.Word.{Lent}
 use Rattle.fb_rules.specs.declared.offset_row.Row.{Row}
 use Rattle.fb_strict.proofs.Wording.{first_paid, first_stops, passes_by, within, follow_stops, goes_down}

@@ -1,8 +1,8 @@
-use Rattle.std.proofs.Common.{sym, ap, subst, arith, length, ◌≡◌, ℕ}
+use Rattle.std.proofs.Common.{sym, ap, subst, arith, length}
 use Rattle.fb_bytes.specs.Word.{Lent}
 use Rattle.fb_rules.specs.Facts.{IsTable}
 use Rattle.fb_strict.proofs.Frames.{next_table}
-use Rattle.fb_strict.proofs.Looping.{some_frame, root_stops, begun, lent_stands, pass_stops, pass_less, pass_on, pass_ends}
+use Rattle.fb_strict.proofs.Looping.{some_frame, root_stops, begun, pass_stops, pass_on, pass_ends}
 use Rattle.fb_strict.proofs.pass.Pass.run.Goals as goal
 
 -- src/pass.rt

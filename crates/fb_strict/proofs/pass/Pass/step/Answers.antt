@@ -1,9 +1,7 @@
-use Rattle.std.proofs.Common.{◌≡◌, ◌+◌, ◌<◌, ◌≤◌, ℕ, refl, sym, ap, ◌∙◌, length, List, Some, arith, IsTrue}
+use Rattle.std.proofs.Common.{◌≡◌, ◌≤◌, ℕ, refl, ap, Some, arith, IsTrue}
 use Rattle.std.specs.Prelude.{slice_get}
-use Rattle.std.specs.Borrow.{Bor}
 use Rattle.std.proofs.lemmas.Option.{slice_get_past, slice_get_within}
 use Rattle.fb_schema.specs.{Rows.is_table, Live.live_fields}
-use Rattle.fb_strict.specs.declared.tasks.Task.{Task}
 use Rattle.fb_strict.specs.{Planned.tasks_in, Passing.Passing, Passing.asks_of}
 use Rattle.fb_strict.proofs.Tasking.{at_task, at_end, stays_at, stops_at, tasks_are, item_some, few_tasks}
 use Rattle.fb_strict.proofs.pass.Pass.step.Goals as goal

@@ -1,0 +1,32 @@
+use Rattle.std.proofs.Common.{refl, sym, ap, subst, ◌∙◌, length, arith}
+use Rattle.fb_bytes.specs.Word.{Lent}
+use Rattle.fb_strict.specs.Asked.{demands_in}
+use Rattle.fb_strict.specs.Passing.{Passing, asks_of, IsNext}
+use Rattle.fb_strict.proofs.Buffers.{rest_of, quiet, goes_in, too_short, its_next}
+use Rattle.fb_strict.proofs.strictly.ask_buffer.Goals as goal
+
+-- src/strictly.rt
+pub refuse_short-requires : goal.refuse_short-requires
+refuse_short-requires g c = omega (arith, c.requires.tree.2)
+
+pub returns-in-Some : goal.returns-in-Some
+returns-in-Some g c y h more =
+    let s = c.in-Some.ensures.some in
+    let count = ap (λ (x : Lent). x.count) c.refuse_short.ensures.same in
+    too_short c.args.pass.now c.args.loan.now c.requires.allowed c.args.root c.in-Some.refusal.reason s.1 (rest_of c.args.pass.now c.args.loan.now c.requires.allowed c.args.root y) more ∙ rw (s.0, count) refl
+
+pub returns-then-not-asks : goal.returns-then-not-asks
+returns-then-not-asks g c y h =
+    let plan = ap (λ (x : Passing). x.plan) c.pass.view_is in
+    quiet c.args.pass.now c.args.loan.now c.requires.allowed c.args.root (c.refuse_short.ensures.none c.in_default.is) (sym (rw plan at c.asks.ensures) ∙ c.if-not-asks.true) c.refuse_short.new.loan c.refuse_short.ensures.same y
+
+pub returns : goal.returns
+returns g c y h =
+    let p = c.args.pass.now in
+    let m = c.args.loan.now in
+    let root = c.args.root in
+    let plan = ap (λ (x : Passing). x.plan) c.pass.view_is in
+    let ds = demands_in y (asks_of p) p.checks m.bytes p.rows in
+    let bytes = ap (λ (x : Lent). x.bytes) c.refuse_short.ensures.same in
+    goes_in p m c.requires.allowed root (c.refuse_short.ensures.none c.in_default.is) (sym (rw plan at c.asks.ensures) ∙ c.if-not-asks.false) c.refuse_short.new.loan c.run.new.loan c.refuse_short.ensures.same y c.run.result
+    (c.run.ensures ds (subst (λ b. IsNext p b (length c.args.frames.now) root ds) (sym bytes) (its_next p m c.requires.allowed root (length c.args.frames.now) y h)))

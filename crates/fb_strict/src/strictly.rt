@@ -1,0 +1,241 @@
+// The strict verdict on a buffer.
+
+ghost use Rattle.std.specs.Prelude.{◌≡◌, ◌+◌, ◌^◌, ◌<◌, ◌≤◌, ℕ, length, IfOk, IfErr, IfSome, Some, None, IsTrue};
+ghost use Rattle.fb_schema.specs.Rows.{is_table};
+ghost use Rattle.fb_rules.specs.{Bounds.AreAllowed, Order.after, Places.target, Plain.tested_by, Question.question, Verdict.Reports, Told.stopped, Tree.Tree, WellFormed.base, WellFormed.IsWellFormed};
+ghost use Rattle.fb_verify.specs.Sealed.{asked_of};
+ghost use Rattle.fb_strict.specs.{InOrder.length_failure, Planned.IsPlan, Asked.demands_of, Asked.demands_reads};
+ghost use Rattle.fb_strict.specs.Passing.{asks_of, IsPassing, IsRooted, Ran};
+ghost use Rattle.fb_strict.specs.Strictly.{limits_left, counted_on, Asked, AskedAlone, ReportsStrictly, HasNoneStrictly, StopsStrictly};
+
+use crate::pass::Pass;
+use crate::plan::Plan;
+use crate::room::{Frame, Room};
+use crate::unions::test_length;
+use fb_bytes::{Loan, Meter, Window};
+use fb_rules::checks::Checks;
+use fb_rules::fault::{Fault, Report};
+use fb_rules::limits::{Limits, tables_of};
+use fb_rules::site::{Refusal, Site, Stop};
+use fb_rules::start::{Ident, Start};
+use fb_rules::table::Child;
+use fb_schema::Schema;
+use fb_verify::{Scratch, Verified, verify};
+use std::alloc::Allocator;
+
+/// A buffer that was verified and is strict, and what was counted, with the reads of the pass.
+#[derive(Drop)]
+pub struct VerifiedStrictly<'b, 's, 'n> {
+    pub verified: Verified<'b, 's, 'n>,
+    pub report: Report,
+}
+
+/// Where the root table of a buffer stands that begins so.
+fn root_of(window: &Window<'_>, start: Start) -> u64
+    requires offset { base start + 4 ≤ length window.now }
+    ensures value { result ≡ target window.now (base start) }
+    ensures near { result < 2 ^ 33 }
+{
+    let at = match start {
+        Start::Bare => 0,
+        Start::Prefixed => 4,
+    };
+    at + u64::from(window.u32_at(at))
+}
+
+/// Why a buffer is refused that is shorter than generated code takes, if it is: at its end.
+fn refuse_short(loan: &mut Loan<'_>) -> Option<Refusal>
+    requires few { loan.old.count ≤ 2 ^ 100 }
+    ensures none { result ≡ None → length_failure loan.old.bytes ≡ None }
+    ensures some { IfSome result (λ e. (e.at ≡ length loan.old.bytes) × (tested_by (length loan.old.bytes) loan.old.count (Some e.reason) ≡ after loan.old.count (length_failure loan.old.bytes))) }
+    ensures same { loan.new ≡ loan.old }
+{
+    let reads = loan.lend();
+    let failed = test_length(&reads);
+    let at = reads.len();
+    loan.settle(reads);
+    match failed {
+        Some(reason) => Some(Refusal { at, reason }),
+        None => None,
+    }
+}
+
+/// What is left of these limits after so many reads.
+fn left_of(limits: Limits, walked: u128) -> Limits
+    requires { AreAllowed limits.reads walked }
+    ensures { result ≡ limits_left limits walked }
+{
+    match limits.reads() {
+        None => limits,
+        Some(most) => limits.with_reads((u128::from(most) - walked) as u64),
+    }
+}
+
+/// Asks the buffer's length, and then its root table, with all tables below it.
+fn ask_buffer<A: Allocator>(
+    pass: &Pass<'_, '_, '_, A>,
+    loan: &mut Loan<'_>,
+    frames: &mut [Frame],
+    root: Child,
+) -> Result<(), Stop>
+    requires passing { IsPassing pass.now loan.old.bytes }
+    requires allowed { AreAllowed pass.now.limits.reads loan.old.count }
+    requires small { length frames.old ≤ 4096 }
+    requires tree { (y : Tree) × IsRooted pass.now loan.old.bytes (length frames.old) root y × (loan.old.count + demands_reads (demands_of (asks_of pass.now) pass.now.checks loan.old.bytes pass.now.rows root.object y) ≤ 2 ^ 96) }
+    ensures { (y : Tree) → IsRooted pass.now loan.old.bytes (length frames.old) root y → Ran pass.now loan.old loan.new (demands_of (asks_of pass.now) pass.now.checks loan.old.bytes pass.now.rows root.object y) result }
+{
+    if let Some(refusal) = refuse_short(loan) {
+        let site = Site {
+            object: root.object,
+            field: None,
+        };
+        return Err(Stop { refusal, site });
+    }
+    if !pass.plan.asks(root.object) {
+        return Ok(());
+    }
+    pass.run(loan, frames, root)
+}
+
+/// The fault that this stop is after so many reads.
+fn told(stop: Stop, reads: u128) -> Fault
+    ensures { result ≡ stopped stop reads }
+{
+    Fault {
+        at: stop.refusal.at,
+        object: stop.site.object,
+        field: stop.site.field,
+        reads,
+        reason: stop.refusal.reason,
+    }
+}
+
+/// Asks these bytes, which unfold from this root table, and answers how many reads there were.
+fn ask_bytes<A: Allocator>(
+    bytes: &[u8],
+    pass: &Pass<'_, '_, '_, A>,
+    frames: &mut [Frame],
+    root: Child,
+) -> Result<u128, Fault>
+    requires passing { IsPassing pass.now bytes.now }
+    requires small { length frames.old ≤ 4096 }
+    requires tree { (y : Tree) × IsRooted pass.now bytes.now (length frames.old) root y × (demands_reads (demands_of (asks_of pass.now) pass.now.checks bytes.now pass.now.rows root.object y) ≤ 2 ^ 96) }
+    ensures asked { (y : Tree) → IsRooted pass.now bytes.now (length frames.old) root y → AskedAlone pass.now.limits (demands_of (asks_of pass.now) pass.now.checks bytes.now pass.now.rows root.object y) result }
+    ensures few_of_yes { IfOk result (λ n. n ≤ 2 ^ 101) }
+    ensures few_of_no { IfErr result (λ f. f.reads ≤ 2 ^ 101) }
+{
+    let Ok(mut meter) = Meter::new(bytes) else {
+        unreachable!()
+    };
+    let mut loan = meter.lend();
+    let answer = ask_buffer(pass, &mut loan, frames, root);
+    let reads = loan.reads();
+    match answer {
+        Ok(()) => Ok(reads),
+        Err(stop) => Err(told(stop, reads)),
+    }
+}
+
+/// The same answer after so many reads more.
+fn count_on(walked: u128, answer: Result<u128, Fault>) -> Result<u128, Fault>
+    requires walked { walked ≤ 2 ^ 96 }
+    requires few_of_yes { IfOk answer (λ n. n ≤ 2 ^ 101) }
+    requires few_of_no { IfErr answer (λ f. f.reads ≤ 2 ^ 101) }
+    ensures { result ≡ counted_on walked answer }
+{
+    match answer {
+        Ok(reads) => Ok(walked + reads),
+        Err(fault) => Err(Fault {
+            reads: walked + fault.reads,
+            ..fault
+        }),
+    }
+}
+
+/// Asks a buffer that was verified with this identifier and within these limits, and answers how many reads there were
+/// in all. Only the contract speaks of the identifier.
+fn ask<A: Allocator, B: Allocator>(
+    verified: &Verified<'_, '_, '_>,
+    ident: Ident,
+    limits: Limits,
+    plan: &Plan<A>,
+    room: &mut Room<B>,
+) -> Result<u128, Fault>
+    requires plan { IsPlan (verified.now).schema plan.now }
+    requires reports { Reports (asked_of verified.now ident limits) (verified.now).bytes (verified.now).report }
+    requires short { length (verified.now).bytes < 2 ^ 31 }
+    requires table { IsTrue (is_table (verified.now).schema (verified.now).root) }
+    requires room { limits.depth ≤ room.old }
+    ensures asked { (y : Tree) → IsWellFormed (asked_of verified.now ident limits) (verified.now).bytes y → Asked plan.now (asked_of verified.now ident limits) (verified.now).bytes y result }
+    ensures room { room.new ≡ room.old }
+{
+    let _ident = ident;
+    let window = verified.window();
+    let schema = verified.schema();
+    schema.lawful();
+    let _bounds = (tables_of(limits), schema.widest());
+    let walked = verified.report().reads;
+    let root = Child {
+        object: verified.root(),
+        at: root_of(window, verified.start()),
+    };
+    let pass = Pass {
+        plan,
+        schema,
+        limits: left_of(limits, walked),
+        checks: verified.checks(),
+    };
+    let bytes = window.bytes(0, window.len());
+    let answer = ask_bytes(bytes, &pass, &mut room.frames, root);
+    count_on(walked, answer)
+}
+
+/// Checks a buffer as [`verify`] does, and then asks of each union in it what code that `flatc` generates relies on, by
+/// the plan of the schema: the reads are counted on within the same limits. The room must have as many levels as the
+/// depth limit says, and serves again after every answer, as the scratch does.
+///
+/// # Errors
+///
+/// The fault that `verify` answers, or else the first demand that isn't met, in the order of the visits of tables.
+pub fn verify_strictly<'b, 's, 'n, A: Allocator, B: Allocator, C: Allocator>(
+    meter: Meter<'b>,
+    schema: &'s Schema<'n>,
+    root: u32,
+    start: Start,
+    ident: Ident,
+    limits: Limits,
+    checks: Checks,
+    plan: &Plan<A>,
+    scratch: &mut Scratch<B>,
+    room: &mut Room<C>,
+) -> Result<VerifiedStrictly<'b, 's, 'n>, Fault>
+    requires fresh { meter.count ≡ 0 }
+    requires table { IsTrue (is_table schema.now root) }
+    requires plan { IsPlan schema.now plan.now }
+    requires scratch { limits.depth ≤ scratch.old }
+    requires room { limits.depth ≤ room.old }
+    // A yes: a tree is well formed, strict and within the limits, and the report counts it.
+    ensures yes { IfOk result (λ v. ReportsStrictly plan.now (question schema.now root start ident limits checks) meter.entry.bytes v.report) }
+    ensures walked { IfOk result (λ v. Reports (question schema.now root start ident limits checks) meter.entry.bytes (v.verified).report) }
+    ensures kept { IfOk result (λ v. v.verified ≡ record { bytes = meter.entry.bytes; schema = schema.now; root = root; start = start; checks = checks; report = (v.verified).report }) }
+    // A no: no tree is, and the fault is the first condition that fails, or else the first demand that isn't met.
+    ensures none { IfErr result (λ _. HasNoneStrictly plan.now (question schema.now root start ident limits checks) meter.entry.bytes) }
+    ensures no { IfErr result (λ f. StopsStrictly plan.now (question schema.now root start ident limits checks) meter.entry.bytes f) }
+    ensures scratch { scratch.new ≡ scratch.old }
+    ensures room { room.new ≡ room.old }
+{
+    let verified = match verify(meter, schema, root, start, ident, limits, checks, scratch) {
+        Ok(verified) => verified,
+        Err(fault) => return Err(fault),
+    };
+    match ask(&verified, ident, limits, plan, room) {
+        Ok(reads) => {
+            let report = Report {
+                reads,
+                ..verified.report()
+            };
+            Ok(VerifiedStrictly { verified, report })
+        }
+        Err(fault) => Err(fault),
+    }
+}
