@@ -6,7 +6,8 @@ use Rattle.fb_bytes.specs.Word.{word}
 use Rattle.fb_schema.specs.declared.kinds.Kind.{Kind}
 use Rattle.fb_schema.specs.declared.kinds.Kind.TheVariants.{Scalar, Text, Struct, Table, Union, Scalars, Texts, Structs, Tables, Unions}
 use Rattle.fb_schema.specs.{Rows.Rows, Live.Live, Live.live_fields}
-use Rattle.fb_rules.specs.declared.{checks.Checks.Checks, fault.Fault.Fault, fault.Reason.TheVariants.TooManyReads}
+use Rattle.fb_rules.specs.declared.{checks.Checks.Checks, fault.Fault.Fault, fault.Reason.TheVariants.TooManyReads, link.Link.Link}
+use Rattle.fb_rules.specs.{Links.field_link, Links.element_link}
 use Rattle.fb_rules.specs.{Bounds.Bounds, Bounds.AreAllowed, Bounds.allowed, Stops.reads_failure, Places.target, Places.field_place}
 use Rattle.fb_rules.specs.Fields.{Lead, to_table, to_struct, to_string, to_nothing, Entry, union_row, entries_at, entries_of, entries, type_place, types_begin}
 use Rattle.fb_rules.specs.Order.{Failure, check, after, ◌▷◌}
@@ -64,65 +65,65 @@ module _ (asks : ℕ → Bool) (S : Rows) (closed : IsClosed asks S) (c : Checks
 
   -- a row of offset words without types, and one with them
   abbrev RowTells : Elements → Type 0
-  RowTells ys = (xs : List Entry) (k n p : ℕ) → ElementsUnfold ys c b S xs → AreMet (demands_in_row ys asks c b S k n p None) ↔ ElementsAreStrict ys c b S
+  RowTells ys = (xs : List Entry) (way : ℕ → List Link) (k n j p : ℕ) → ElementsUnfold ys c b S xs → AreMet (demands_in_row ys asks c b S way k n j p None) ↔ ElementsAreStrict ys c b S
 
   abbrev TypedTells : Elements → Type 0
   TypedTells ys =
-      (e q p m k n : ℕ) → ElementsUnfold ys c b S (union_row b S e q p m) → AreMet (demands_in_row ys asks c b S k n p (Some (record { union = e; at = q }))) ↔ (AllTold e q p m × ElementsAreStrict ys c b S)
+      (way : ℕ → List Link) (e q p m k n j : ℕ) → ElementsUnfold ys c b S (union_row b S e q p m) → AreMet (demands_in_row ys asks c b S way k n j p (Some (record { union = e; at = q }))) ↔ (AllTold e q p m × ElementsAreStrict ys c b S)
 
-  reading_met : (x : Bool) (k n at reads : ℕ) → AreMet (if x then record { object = k; field = Some n; at = at; reads = reads; chain = None } ∷ [] else [])
-  reading_met true k n at reads = (refl, tt)
-  reading_met false k n at reads = tt
+  reading_met : (x : Bool) (links : List Link) (k n at reads : ℕ) → AreMet (if x then record { links = links; object = k; field = Some n; at = at; reads = reads; chain = None } ∷ [] else [])
+  reading_met true links k n at reads = (refl, tt)
+  reading_met false links k n at reads = tt
 
   -- a field with its row
-  module _ (k t : ℕ) (f : Live) (ys : Elements) (row : RowTells ys) (typed : TypedTells ys) where
+  module _ (links : List Link) (way : ℕ → List Link) (k t : ℕ) (f : Live) (ys : Elements) (row : RowTells ys) (typed : TypedTells ys) where
     abbrev types : Option ℕ
     types = type_place b t f.slot
 
     abbrev FieldTold : Option ℕ → Kind → Type 0
     FieldTold place kind =
-        AreMet (field_demands asks c b S k f.number t f.slot types place kind) × AreMet (demands_in_row ys asks c b S k f.number (row_place b place kind) (row_types b types kind))
+        AreMet (field_demands asks c b S links k f.number t f.slot types place kind) × AreMet (demands_in_row ys asks c b S way k f.number 0 (row_place b place kind) (row_types b types kind))
 
     abbrev FieldHolds : Option ℕ → Kind → Type 0
     FieldHolds place kind = IsStrictField c b S types place kind × ElementsAreStrict ys c b S
 
     of_none : (kind : Kind) → ElementsUnfold ys c b S [] → FieldTold None kind ↔ FieldHolds None kind
     unfolding union_row
-    of_none (Scalar s) u = let r = row [] k f.number 0 u in ((λ h. (tt, r.0 h.1)), (λ h. (tt, r.1 h.1)))
-    of_none Text u = let r = row [] k f.number 0 u in ((λ h. (tt, r.0 h.1)), (λ h. (tt, r.1 h.1)))
-    of_none (Struct j) u = let r = row [] k f.number 0 u in ((λ h. (tt, r.0 h.1)), (λ h. (tt, r.1 h.1)))
-    of_none (Table j) u = let r = row [] k f.number 0 u in ((λ h. (tt, r.0 h.1)), (λ h. (reading_met (asks j) _ _ _ _, r.1 h.1)))
+    of_none (Scalar s) u = let r = row [] way k f.number 0 0 u in ((λ h. (tt, r.0 h.1)), (λ h. (tt, r.1 h.1)))
+    of_none Text u = let r = row [] way k f.number 0 0 u in ((λ h. (tt, r.0 h.1)), (λ h. (tt, r.1 h.1)))
+    of_none (Struct j) u = let r = row [] way k f.number 0 0 u in ((λ h. (tt, r.0 h.1)), (λ h. (tt, r.1 h.1)))
+    of_none (Table j) u = let r = row [] way k f.number 0 0 u in ((λ h. (tt, r.0 h.1)), (λ h. (reading_met (asks j) _ _ _ _ _, r.1 h.1)))
     of_none (Union e) u =
-        let r = row [] k f.number 0 u in
+        let r = row [] way k f.number 0 0 u in
         let l = later _ (union_failure c b S e t types None) in
         let w = union_none c b S e t types None in
         ((λ h. (w.0 (l.0 h.0.0), r.0 h.1)), (λ h. ((l.1 (w.1 h.0), tt), r.1 h.1)))
-    of_none (Scalars s) u = let r = row [] k f.number 0 u in ((λ h. (tt, r.0 h.1)), (λ h. (tt, r.1 h.1)))
-    of_none Texts u = let r = row [] k f.number 0 u in ((λ h. (tt, r.0 h.1)), (λ h. (tt, r.1 h.1)))
-    of_none (Structs j) u = let r = row [] k f.number 0 u in ((λ h. (tt, r.0 h.1)), (λ h. (tt, r.1 h.1)))
-    of_none (Tables j) u = let r = row [] k f.number 0 u in ((λ h. (tt, r.0 h.1)), (λ h. (reading_met (asks j) _ _ _ _, r.1 h.1)))
+    of_none (Scalars s) u = let r = row [] way k f.number 0 0 u in ((λ h. (tt, r.0 h.1)), (λ h. (tt, r.1 h.1)))
+    of_none Texts u = let r = row [] way k f.number 0 0 u in ((λ h. (tt, r.0 h.1)), (λ h. (tt, r.1 h.1)))
+    of_none (Structs j) u = let r = row [] way k f.number 0 0 u in ((λ h. (tt, r.0 h.1)), (λ h. (tt, r.1 h.1)))
+    of_none (Tables j) u = let r = row [] way k f.number 0 0 u in ((λ h. (tt, r.0 h.1)), (λ h. (reading_met (asks j) _ _ _ _ _, r.1 h.1)))
     of_none (Unions e) u =
-        let r = typed e (types_begin b types) 0 0 k f.number u in
+        let r = typed way e (types_begin b types) 0 0 k f.number 0 u in
         let l = later _ (together_failure types None) in
         let w = unions_none c b S e types None in
         ((λ h. (w.0 (l.0 h.0.0, λ p j is lt. absurd (cc)), (r.0 h.1).1)), (λ h. ((l.1 (w.1 h.0).0, tt), r.1 ((λ j lt. absurd (omega arith)), h.1))))
 
     of_some : (p : ℕ) (kind : Kind) → ElementsUnfold ys c b S (entries_of b S t f p kind) → FieldTold (Some p) kind ↔ FieldHolds (Some p) kind
-    of_some p (Scalar s) u = let r = row _ k f.number p u in ((λ h. (tt, r.0 h.1)), (λ h. (tt, r.1 h.1)))
-    of_some p Text u = let r = row _ k f.number p u in ((λ h. (tt, r.0 h.1)), (λ h. (tt, r.1 h.1)))
-    of_some p (Struct j) u = let r = row _ k f.number p u in ((λ h. (tt, r.0 h.1)), (λ h. (tt, r.1 h.1)))
-    of_some p (Table j) u = let r = row _ k f.number p u in ((λ h. (tt, r.0 h.1)), (λ h. (reading_met (asks j) _ _ _ _, r.1 h.1)))
+    of_some p (Scalar s) u = let r = row _ way k f.number 0 p u in ((λ h. (tt, r.0 h.1)), (λ h. (tt, r.1 h.1)))
+    of_some p Text u = let r = row _ way k f.number 0 p u in ((λ h. (tt, r.0 h.1)), (λ h. (tt, r.1 h.1)))
+    of_some p (Struct j) u = let r = row _ way k f.number 0 p u in ((λ h. (tt, r.0 h.1)), (λ h. (tt, r.1 h.1)))
+    of_some p (Table j) u = let r = row _ way k f.number 0 p u in ((λ h. (tt, r.0 h.1)), (λ h. (reading_met (asks j) _ _ _ _ _, r.1 h.1)))
     of_some p (Union e) u =
-        let r = row _ k f.number p u in
+        let r = row _ way k f.number 0 p u in
         let l = later _ (union_failure c b S e t types (Some p)) in
         let w = union_none c b S e t types (Some p) in
         ((λ h. (w.0 (l.0 h.0.0), r.0 h.1)), (λ h. ((l.1 (w.1 h.0), tt), r.1 h.1)))
-    of_some p (Scalars s) u = let r = row _ k f.number p u in ((λ h. (tt, r.0 h.1)), (λ h. (tt, r.1 h.1)))
-    of_some p Texts u = let r = row _ k f.number p u in ((λ h. (tt, r.0 h.1)), (λ h. (tt, r.1 h.1)))
-    of_some p (Structs j) u = let r = row _ k f.number p u in ((λ h. (tt, r.0 h.1)), (λ h. (tt, r.1 h.1)))
-    of_some p (Tables j) u = let r = row _ k f.number (target b p + 4) u in ((λ h. (tt, r.0 h.1)), (λ h. (reading_met (asks j) _ _ _ _, r.1 h.1)))
+    of_some p (Scalars s) u = let r = row _ way k f.number 0 p u in ((λ h. (tt, r.0 h.1)), (λ h. (tt, r.1 h.1)))
+    of_some p Texts u = let r = row _ way k f.number 0 p u in ((λ h. (tt, r.0 h.1)), (λ h. (tt, r.1 h.1)))
+    of_some p (Structs j) u = let r = row _ way k f.number 0 p u in ((λ h. (tt, r.0 h.1)), (λ h. (tt, r.1 h.1)))
+    of_some p (Tables j) u = let r = row _ way k f.number 0 (target b p + 4) u in ((λ h. (tt, r.0 h.1)), (λ h. (reading_met (asks j) _ _ _ _ _, r.1 h.1)))
     of_some p (Unions e) u =
-        let r = typed e (types_begin b types) (target b p + 4) (word b (target b p) 4) k f.number u in
+        let r = typed way e (types_begin b types) (target b p + 4) (word b (target b p) 4) k f.number 0 u in
         let l = later _ (together_failure types (Some p)) in
         let w = unions_none c b S e types (Some p) in
         ((λ h. (w.0 (l.0 h.0.0, λ o j is lt. of_place e p o is j lt (r.0 h.1).0), (r.0 h.1).1)), (λ h. ((l.1 (w.1 h.0).0, tt), r.1 ((λ j lt. (w.1 h.0).1 p j refl lt), h.1))))
@@ -150,61 +151,62 @@ module _ (asks : ℕ → Bool) (S : Rows) (closed : IsClosed asks S) (c : Checks
   mutual
     unfolding Unfolds FieldsUnfold ElementsUnfold ElementUnfolds IsStrict KidsAreStrict ElementsAreStrict ElementIsStrict demands_in demands_in_fields demands_in_row demands_below entries union_row
 
-    tree : (y : Tree) (k t : ℕ) → Unfolds y c b S k t → AreMet (demands_in y asks c b S) ↔ IsStrict y c b S
-    tree (node k' t' kids) k t u =
-        let r = fields kids k' t' (live_fields S k') (rw (u.0, u.1) u.3) in
+    tree : (y : Tree) (via : List Link) (k t : ℕ) → Unfolds y c b S k t → AreMet (demands_in y asks c b S via) ↔ IsStrict y c b S
+    tree (node k' t' kids) via k t u =
+        let r = fields kids via k' t' (live_fields S k') (rw (u.0, u.1) u.3) in
         ((λ h. r.0 h.1), (λ h. (refl, r.1 h)))
 
-    fields : (kids : Kids) (k t : ℕ) (fs : List Live) → FieldsUnfold kids c b S t fs → AreMet (demands_in_fields kids asks c b S k t fs) ↔ (AreStrictFields t fs × KidsAreStrict kids c b S)
-    fields no_kids k t [] u = ((λ h. ((λ i f e. absurd (cc)), tt)), (λ h. tt))
-    fields no_kids k t (f ∷ fs) u = absurd u
-    fields (kid ys kids) k t [] u = absurd u
-    fields (kid ys kids) k t (f ∷ fs) u =
-        let own = of_field k t f ys (row_tells ys) (typed_tells ys) (field_place b t f.slot) u.1 in
-        let rest = fields kids k t fs u.2 in
-        let one = joined (field_demands asks c b S k f.number t f.slot (type_place b t f.slot) (field_place b t f.slot) f.kind)
-        (demands_in_row ys asks c b S k f.number (row_place b (field_place b t f.slot) f.kind) (row_types b (type_place b t f.slot) f.kind) ++ demands_in_fields kids asks c b S k t fs) in
-        let two = joined (demands_in_row ys asks c b S k f.number (row_place b (field_place b t f.slot) f.kind) (row_types b (type_place b t f.slot) f.kind)) (demands_in_fields kids asks c b S k t fs) in (
+    fields : (kids : Kids) (via : List Link) (k t : ℕ) (fs : List Live) → FieldsUnfold kids c b S t fs → AreMet (demands_in_fields kids asks c b S via k t fs) ↔ (AreStrictFields t fs × KidsAreStrict kids c b S)
+    fields no_kids via k t [] u = ((λ h. ((λ i f e. absurd (cc)), tt)), (λ h. tt))
+    fields no_kids via k t (f ∷ fs) u = absurd u
+    fields (kid ys kids) via k t [] u = absurd u
+    fields (kid ys kids) via k t (f ∷ fs) u =
+        let links = via ++ field_link k f ∷ [] in
+        let own = of_field links (λ j. via ++ element_link b k t f j ∷ []) k t f ys (row_tells ys) (typed_tells ys) (field_place b t f.slot) u.1 in
+        let rest = fields kids via k t fs u.2 in
+        let one = joined (field_demands asks c b S links k f.number t f.slot (type_place b t f.slot) (field_place b t f.slot) f.kind)
+        (demands_in_row ys asks c b S (λ j. via ++ element_link b k t f j ∷ []) k f.number 0 (row_place b (field_place b t f.slot) f.kind) (row_types b (type_place b t f.slot) f.kind) ++ demands_in_fields kids asks c b S via k t fs) in
+        let two = joined (demands_in_row ys asks c b S (λ j. via ++ element_link b k t f j ∷ []) k f.number 0 (row_place b (field_place b t f.slot) f.kind) (row_types b (type_place b t f.slot) f.kind)) (demands_in_fields kids asks c b S via k t fs) in (
           (λ h. let x = one.0 h in let z = two.0 x.1 in let o = own.0 (x.0, z.0) in let r = rest.0 z.1 in (first_field t f fs o.0 r.0, (o.1, r.1))),
           (λ h. let o = own.1 (h.0 0 f refl, h.1.0) in one.1 (o.0, two.1 (o.1, rest.1 ((λ i g e. h.0 (suc i) g e), h.1.1)))),
         )
 
     row_tells : (ys : Elements) → RowTells ys
-    row_tells no_elements xs k n p u = ((λ h. tt), (λ h. tt))
-    row_tells (element y ys) [] k n p u = absurd u
-    row_tells (element y ys) (x ∷ xs) k n p u =
-        let one = below y x.place x.lead k n p u.0 in
-        let rest = row_tells ys xs k n (p + 4) u.1 in
-        let two = joined (demands_below y asks c b S k n p) (demands_in_row ys asks c b S k n (p + 4) None) in
+    row_tells no_elements xs way k n j p u = ((λ h. tt), (λ h. tt))
+    row_tells (element y ys) [] way k n j p u = absurd u
+    row_tells (element y ys) (x ∷ xs) way k n j p u =
+        let one = below y x.place x.lead (way j) k n p u.0 in
+        let rest = row_tells ys xs way k n (j + 1) (p + 4) u.1 in
+        let two = joined (demands_below y asks c b S (way j) k n p) (demands_in_row ys asks c b S way k n (j + 1) (p + 4) None) in
         ((λ h. let z = two.0 h in (one.0 z.0, rest.0 z.1)), (λ h. two.1 (one.1 h.0, rest.1 h.1)))
 
     typed_tells : (ys : Elements) → TypedTells ys
-    typed_tells no_elements e q p zero k n u = ((λ h. ((λ j lt. absurd (omega arith)), tt)), (λ h. tt))
-    typed_tells no_elements e q p (suc m) k n u = absurd u
-    typed_tells (element y ys) e q p zero k n u = absurd u
-    typed_tells (element y ys) e q p (suc m) k n u =
-        let one = below y p _ k n p u.0 in
-        let rest = typed_tells ys e (q + 1) (p + 4) m k n u.1 in
-        let two = joined (demands_below y asks c b S k n p) (demands_in_row ys asks c b S k n (p + 4) (Some (record { union = e; at = q + 1 }))) in (
+    typed_tells no_elements way e q p zero k n j u = ((λ h. ((λ i lt. absurd (omega arith)), tt)), (λ h. tt))
+    typed_tells no_elements way e q p (suc m) k n j u = absurd u
+    typed_tells (element y ys) way e q p zero k n j u = absurd u
+    typed_tells (element y ys) way e q p (suc m) k n j u =
+        let one = below y p _ (way j) k n p u.0 in
+        let rest = typed_tells ys way e (q + 1) (p + 4) m k n (j + 1) u.1 in
+        let two = joined (demands_below y asks c b S (way j) k n p) (demands_in_row ys asks c b S way k n (j + 1) (p + 4) (Some (record { union = e; at = q + 1 }))) in (
           (λ h. let z = two.0 h.1 in let r = rest.0 z.1 in (told_all e q p m h.0 r.0, (one.0 z.0, r.1))),
           (λ h. (told_first e q p m h.0, two.1 (one.1 h.1.0, rest.1 (told_rest e q p m h.0, h.1.1)))),
         )
 
-    below : (y : Element) (p' : ℕ) (lead : Lead) (k n p : ℕ) → ElementUnfolds y c b S p' lead → AreMet (demands_below y asks c b S k n p) ↔ ElementIsStrict y c b S
-    below leaf p' lead k n p u = ((λ h. tt), (λ h. tt))
-    below (table y) p' (to_table j) k n p u =
-        by_ask (asks (object_of y)) _ (demands_in y asks c b S) y refl
-        (λ no. skips asks S closed y c b j (target b p') (subst (λ x. asks x ≡ false) (object_is y j (target b p') u.1) no) u.1) (tree y j (target b p') u.1)
-    below (table y) p' (to_struct size align) k n p u = absurd u
-    below (table y) p' to_string k n p u = absurd u
-    below (table y) p' to_nothing k n p u = absurd u
+    below : (y : Element) (p' : ℕ) (lead : Lead) (links : List Link) (k n p : ℕ) → ElementUnfolds y c b S p' lead → AreMet (demands_below y asks c b S links k n p) ↔ ElementIsStrict y c b S
+    below leaf p' lead links k n p u = ((λ h. tt), (λ h. tt))
+    below (table y) p' (to_table j) links k n p u =
+        by_ask (asks (object_of y)) _ (demands_in y asks c b S links) y refl
+        (λ no. skips asks S closed y c b j (target b p') (subst (λ x. asks x ≡ false) (object_is y j (target b p') u.1) no) u.1) (tree y links j (target b p') u.1)
+    below (table y) p' (to_struct size align) links k n p u = absurd u
+    below (table y) p' to_string links k n p u = absurd u
+    below (table y) p' to_nothing links k n p u = absurd u
 
 length_none : (b : List ℕ) → (length_failure b ≡ None) ↔ (12 ≤ length b)
 length_none b = grind (arith, nat_tests)
 
 pub demands_tell : DemandsLaw
 demands_tell asks S closed y c b root t u =
-    let r = by_root asks S closed c b root (demands_in y asks c b S) y (λ no. skips asks S closed y c b root t no u) (tree asks S closed c b y root t u) (asks root) refl in
+    let r = by_root asks S closed c b root (demands_in y asks c b S []) y (λ no. skips asks S closed y c b root t no u) (tree asks S closed c b y [] root t u) (asks root) refl in
     ((λ h. record { long = (length_none b).0 h.0; tables = r.0 h.1 }), (λ h. ((length_none b).1 h.long, r.1 h.tables)))
 
 -- the first demand that isn't met

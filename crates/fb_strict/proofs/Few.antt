@@ -5,7 +5,8 @@ use Rattle.fb_bytes.specs.Word.{word}
 use Rattle.fb_schema.specs.declared.kinds.Kind.{Kind}
 use Rattle.fb_schema.specs.{Rows.Rows, Live.Live, Live.live_fields, Live.widest}
 use Rattle.fb_schema.proofs.LookLemmas.{within_widest}
-use Rattle.fb_rules.specs.declared.checks.Checks.{Checks}
+use Rattle.fb_rules.specs.declared.{checks.Checks.Checks, link.Link.Link}
+use Rattle.fb_rules.specs.{Links.field_link, Links.element_link}
 use Rattle.fb_rules.specs.{Places.target, Places.field_place, Cost.head_reads}
 use Rattle.fb_rules.specs.Fields.{IsPresent, IsField, Lead, to_table, to_struct, to_string, to_nothing, Entry, entries_of, entries, type_place}
 use Rattle.fb_rules.specs.Tree.{Tree, node, Kids, no_kids, kid, Elements, no_elements, element, Element, leaf, table, size, kids_size, elements_size, element_size}
@@ -36,8 +37,8 @@ vectors_few : (types place : Option ℕ) → vectors_reads types place ≤ 3
 vectors_few types place = grind arith
 
 module _ (asks : ℕ → Bool) (c : Checks) (b : List ℕ) (S : Rows) where
-  own_few : (k n t slot : ℕ) (types place : Option ℕ) (kind : Kind) → demands_reads (field_demands asks c b S k n t slot types place kind) ≤ 5
-  own_few k n t slot types place kind = grind (arith, slot_few, union_few, vectors_few, if_present_few, first_reads)
+  own_few : (links : List Link) (k n t slot : ℕ) (types place : Option ℕ) (kind : Kind) → demands_reads (field_demands asks c b S links k n t slot types place kind) ≤ 5
+  own_few links k n t slot types place kind = grind (arith, slot_few, union_few, vectors_few, if_present_few, first_reads)
 
   words_few : (t : ℕ) (f : Live) (p : ℕ) (kind : Kind) → IsPresent c b S t f p kind → 3 * length (entries_of b S t f p kind) ≤ 3 + length b
   words_few t f p kind h = grind (arith, row_length, union_row_length)
@@ -53,9 +54,9 @@ module _ (asks : ℕ → Bool) (c : Checks) (b : List ℕ) (S : Rows) where
   all : (k : ℕ) → 3 + length (live_fields S k) * (8 + length b) ≤ most
   all k = grind (arith, within_widest)
 
-  types_few : (k n p : ℕ) (types : Option Types) → demands_reads (element_demands c b S k n p types) ≤ 2
-  types_few k n p None = omega arith
-  types_few k n p (Some ts) = omega (arith, first_reads (record { object = k; field = Some n; at = p; reads = element_reads b S ts.union ts.at; chain = element_failure c b S ts.union ts.at p }) [], element_few b S ts.union ts.at)
+  types_few : (links : List Link) (k n p : ℕ) (types : Option Types) → demands_reads (element_demands c b S links k n p types) ≤ 2
+  types_few links k n p None = omega arith
+  types_few links k n p (Some ts) = omega (arith, first_reads (record { links = links; object = k; field = Some n; at = p; reads = element_reads b S ts.union ts.at; chain = element_failure c b S ts.union ts.at p }) [], element_few b S ts.union ts.at)
 
   by_ask : (x : Bool) (d : Demand) (ds : List Demand) (n : ℕ) → d.reads ≡ 1 → demands_reads ds ≤ n → demands_reads (if x then d ∷ ds else []) ≤ 1 + n
   by_ask true d ds n one h = omega (arith, first_reads d ds, one, h)
@@ -64,34 +65,34 @@ module _ (asks : ℕ → Bool) (c : Checks) (b : List ℕ) (S : Rows) where
   mutual
     unfolding Unfolds FieldsUnfold ElementsUnfold ElementUnfolds size kids_size elements_size element_size demands_in demands_in_fields demands_in_row demands_below
 
-    pub tree_few : (y : Tree) (k t : ℕ) → Unfolds y c b S k t → demands_reads (demands_in y asks c b S) ≤ most * size y
-    tree_few (node k' t' kids) k t u =
-        let r = fields_few kids k' t (live_fields S k) u.3 in
-        rw (u.0, u.1) (omega (arith, first_reads (reading k None t (head_reads c)) (demands_in_fields kids asks c b S k t (live_fields S k)), fields_few kids k t (live_fields S k) u.3, all k, head_few c))
+    pub tree_few : (y : Tree) (via : List Link) (k t : ℕ) → Unfolds y c b S k t → demands_reads (demands_in y asks c b S via) ≤ most * size y
+    tree_few (node k' t' kids) via k t u =
+        rw (u.0, u.1) (omega (arith, first_reads (reading via k None t (head_reads c)) (demands_in_fields kids asks c b S via k t (live_fields S k)), fields_few kids via k t (live_fields S k) u.3, all k, head_few c))
 
-    fields_few : (kids : Kids) (k t : ℕ) (fs : List Live) → FieldsUnfold kids c b S t fs → demands_reads (demands_in_fields kids asks c b S k t fs) ≤ length fs * (8 + length b) + most * kids_size kids
-    fields_few no_kids k t fs u = omega arith
-    fields_few (kid ys kids) k t [] u = absurd u
-    fields_few (kid ys kids) k t (f ∷ fs) u =
-        let own = field_demands asks c b S k f.number t f.slot (type_place b t f.slot) (field_place b t f.slot) f.kind in
-        let row = demands_in_row ys asks c b S k f.number (row_place b (field_place b t f.slot) f.kind) (row_types b (type_place b t f.slot) f.kind) in
-        let rest = demands_in_fields kids asks c b S k t fs in
-        let one = own_few k f.number t f.slot (type_place b t f.slot) (field_place b t f.slot) f.kind in
-        let two = row_few ys (entries b S t f) k f.number (row_place b (field_place b t f.slot) f.kind) (row_types b (type_place b t f.slot) f.kind) u.1 in
-        omega (arith, reads_joined own (row ++ rest), reads_joined row rest, one, two, fields_few kids k t fs u.2, words_few_at t f u.0)
+    fields_few : (kids : Kids) (via : List Link) (k t : ℕ) (fs : List Live) → FieldsUnfold kids c b S t fs → demands_reads (demands_in_fields kids asks c b S via k t fs) ≤ length fs * (8 + length b) + most * kids_size kids
+    fields_few no_kids via k t fs u = omega arith
+    fields_few (kid ys kids) via k t [] u = absurd u
+    fields_few (kid ys kids) via k t (f ∷ fs) u =
+        let links = via ++ field_link k f ∷ [] in
+        let own = field_demands asks c b S links k f.number t f.slot (type_place b t f.slot) (field_place b t f.slot) f.kind in
+        let row = demands_in_row ys asks c b S (λ j. via ++ element_link b k t f j ∷ []) k f.number 0 (row_place b (field_place b t f.slot) f.kind) (row_types b (type_place b t f.slot) f.kind) in
+        let rest = demands_in_fields kids asks c b S via k t fs in
+        let one = own_few links k f.number t f.slot (type_place b t f.slot) (field_place b t f.slot) f.kind in
+        let two = row_few ys (entries b S t f) (λ j. via ++ element_link b k t f j ∷ []) k f.number 0 (row_place b (field_place b t f.slot) f.kind) (row_types b (type_place b t f.slot) f.kind) u.1 in
+        omega (arith, reads_joined own (row ++ rest), reads_joined row rest, one, two, fields_few kids via k t fs u.2, words_few_at t f u.0)
 
-    row_few : (ys : Elements) (xs : List Entry) (k n p : ℕ) (types : Option Types) → ElementsUnfold ys c b S xs → demands_reads (demands_in_row ys asks c b S k n p types) ≤ 3 * length xs + most * elements_size ys
-    row_few no_elements xs k n p types u = omega arith
-    row_few (element y ys) [] k n p types u = absurd u
-    row_few (element y ys) (x ∷ xs) k n p types u =
-        let own = element_demands c b S k n p types in
-        let below = demands_below y asks c b S k n p in
-        let rest = demands_in_row ys asks c b S k n (p + 4) (next_types types) in
-        omega (arith, reads_joined own (below ++ rest), reads_joined below rest, types_few k n p types, below_few y x.place x.lead k n p u.0, row_few ys xs k n (p + 4) (next_types types) u.1)
+    row_few : (ys : Elements) (xs : List Entry) (way : ℕ → List Link) (k n j p : ℕ) (types : Option Types) → ElementsUnfold ys c b S xs → demands_reads (demands_in_row ys asks c b S way k n j p types) ≤ 3 * length xs + most * elements_size ys
+    row_few no_elements xs way k n j p types u = omega arith
+    row_few (element y ys) [] way k n j p types u = absurd u
+    row_few (element y ys) (x ∷ xs) way k n j p types u =
+        let own = element_demands c b S (way j) k n p types in
+        let below = demands_below y asks c b S (way j) k n p in
+        let rest = demands_in_row ys asks c b S way k n (j + 1) (p + 4) (next_types types) in
+        omega (arith, reads_joined own (below ++ rest), reads_joined below rest, types_few (way j) k n p types, below_few y x.place x.lead (way j) k n p u.0, row_few ys xs way k n (j + 1) (p + 4) (next_types types) u.1)
 
-    below_few : (y : Element) (p' : ℕ) (lead : Lead) (k n p : ℕ) → ElementUnfolds y c b S p' lead → demands_reads (demands_below y asks c b S k n p) ≤ 1 + most * element_size y
-    below_few leaf p' lead k n p u = omega arith
-    below_few (table y) p' (to_table j) k n p u = by_ask (asks (object_of y)) (reading k (Some n) p 1) (demands_in y asks c b S) (most * size y) refl (tree_few y j (target b p') u.1)
-    below_few (table y) p' (to_struct size align) k n p u = absurd u
-    below_few (table y) p' to_string k n p u = absurd u
-    below_few (table y) p' to_nothing k n p u = absurd u
+    below_few : (y : Element) (p' : ℕ) (lead : Lead) (links : List Link) (k n p : ℕ) → ElementUnfolds y c b S p' lead → demands_reads (demands_below y asks c b S links k n p) ≤ 1 + most * element_size y
+    below_few leaf p' lead links k n p u = omega arith
+    below_few (table y) p' (to_table j) links k n p u = by_ask (asks (object_of y)) (reading links k (Some n) p 1) (demands_in y asks c b S links) (most * size y) refl (tree_few y links j (target b p') u.1)
+    below_few (table y) p' (to_struct size align) links k n p u = absurd u
+    below_few (table y) p' to_string links k n p u = absurd u
+    below_few (table y) p' to_nothing links k n p u = absurd u

@@ -4,8 +4,8 @@ use Rattle.std.specs.List.{cons_option}
 use Rattle.std.specs.Prelude.{slice_get}
 use Rattle.fb_schema.specs.declared.kinds.Kind.{Kind}
 use Rattle.fb_schema.specs.{Rows.Rows, Live.Live, Live.live_fields, Served.IsServed}
-use Rattle.fb_rules.specs.declared.checks.Checks.{Checks}
-use Rattle.fb_rules.specs.{Places.field_place, Fields.type_place, Fields.IsField, Fields.entries}
+use Rattle.fb_rules.specs.declared.{checks.Checks.Checks, link.Link.Link}
+use Rattle.fb_rules.specs.{Links.field_link, Links.element_link, Places.field_place, Fields.type_place, Fields.IsField, Fields.entries}
 use Rattle.fb_rules.specs.Tree.{Kids, no_kids, kid, kids_depth, Elements, elements_depth}
 use Rattle.fb_rules.specs.Unfolds.{FieldsUnfold, ElementsUnfold}
 use Rattle.fb_rules.proofs.Typed.{typed_by}
@@ -38,14 +38,14 @@ module _ (c : Checks) (b : List ℕ) (S : Rows) where
         kind = served.kinds k i f e;
       })
 
-  module _ (asks : ℕ → Bool) (k t : ℕ) where
+  module _ (asks : ℕ → Bool) (via : List Link) (k t : ℕ) where
     -- what is demanded of a field by itself
     abbrev own_demands : Live → List Demand
-    own_demands f = field_demands asks c b S k f.number t f.slot (type_place b t f.slot) (field_place b t f.slot) f.kind
+    own_demands f = field_demands asks c b S (via ++ field_link k f ∷ []) k f.number t f.slot (type_place b t f.slot) (field_place b t f.slot) f.kind
 
     -- and of its offset words
     abbrev word_demands : Live → Elements → List Demand
-    word_demands f ys = demands_in_row ys asks c b S k f.number (row_place b (field_place b t f.slot) f.kind) (row_types b (type_place b t f.slot) f.kind)
+    word_demands f ys = demands_in_row ys asks c b S (λ j. via ++ element_link b k t f j ∷ []) k f.number 0 (row_place b (field_place b t f.slot) f.kind) (row_types b (type_place b t f.slot) f.kind)
 
     -- the next of these fields that has a task, past those that have none
     pub record IsNextField (kids : Kids) (fs : List Live) (task : Task) (more : List Task) : Type 0 where
@@ -60,7 +60,7 @@ module _ (c : Checks) (b : List ℕ) (S : Rows) where
       pub others_unfold : FieldsUnfold others_kids c b S t others
       pub tasks : more ≡ tasks_in asks others
       pub deep : max (elements_depth words) (kids_depth others_kids) ≤ kids_depth kids
-      pub all : demands_in_fields kids asks c b S k t fs ≡ own_demands field ++ (word_demands field words ++ demands_in_fields others_kids asks c b S k t others)
+      pub all : demands_in_fields kids asks c b S via k t fs ≡ own_demands field ++ (word_demands field words ++ demands_in_fields others_kids asks c b S via k t others)
 
     module _ (task : Task) (more : List Task) where
       by_task : (ys : Elements) (kids : Kids) (f : Live) (fs : List Live) (u : FieldsUnfold (kid ys kids) c b S t (f ∷ fs)) → AreKnown c b S t (f ∷ fs) → (tasks_in asks fs ≡ task ∷ more → IsNextField kids fs task more)
@@ -71,7 +71,7 @@ module _ (c : Checks) (b : List ℕ) (S : Rows) where
           record { field = f; its = is ∙ ap Some same; known = a.0; words = ys; unfolds = u.1; others = fs; others_known = a.1; others_kids = kids; others_unfold = u.2; tasks = cc; deep = omega arith; all = refl }
       by_task ys kids f fs u a later None is h =
           let r = later h in
-          let none = nothing_asked asks S f ys c b k t is u.1 in
+          let none = nothing_asked asks S f ys c b k t is u.1 (via ++ field_link k f ∷ []) (λ j. via ++ element_link b k t f j ∷ []) in
           record {
             field = r.field;
             its = r.its;
@@ -94,24 +94,24 @@ module _ (c : Checks) (b : List ℕ) (S : Rows) where
       next_field (kid ys kids) (f ∷ fs) u a h = by_task ys kids f fs u a (next_field kids fs u.2 a.1) (task_of asks f) refl h
 
     -- where no task is left, nothing is demanded
-    none_by : (ys : Elements) (kids : Kids) (f : Live) (fs : List Live) (u : FieldsUnfold (kid ys kids) c b S t (f ∷ fs)) → (tasks_in asks fs ≡ [] → demands_in_fields kids asks c b S k t fs ≡ [])
-        → (o : Option Task) → task_of asks f ≡ o → cons_option o (tasks_in asks fs) ≡ [] → demands_in_fields (kid ys kids) asks c b S k t (f ∷ fs) ≡ []
+    none_by : (ys : Elements) (kids : Kids) (f : Live) (fs : List Live) (u : FieldsUnfold (kid ys kids) c b S t (f ∷ fs)) → (tasks_in asks fs ≡ [] → demands_in_fields kids asks c b S via k t fs ≡ [])
+        → (o : Option Task) → task_of asks f ≡ o → cons_option o (tasks_in asks fs) ≡ [] → demands_in_fields (kid ys kids) asks c b S via k t (f ∷ fs) ≡ []
     unfolding FieldsUnfold demands_in_fields
     none_by ys kids f fs u later (Some x) is h = absurd (cc)
-    none_by ys kids f fs u later None is h = let none = nothing_asked asks S f ys c b k t is u.1 in rw (none.0, none.1) (later h)
+    none_by ys kids f fs u later None is h = let none = nothing_asked asks S f ys c b k t is u.1 (via ++ field_link k f ∷ []) (λ j. via ++ element_link b k t f j ∷ []) in rw (none.0, none.1) (later h)
 
-    pub no_field : (kids : Kids) (fs : List Live) → FieldsUnfold kids c b S t fs → tasks_in asks fs ≡ [] → demands_in_fields kids asks c b S k t fs ≡ []
+    pub no_field : (kids : Kids) (fs : List Live) → FieldsUnfold kids c b S t fs → tasks_in asks fs ≡ [] → demands_in_fields kids asks c b S via k t fs ≡ []
     unfolding FieldsUnfold demands_in_fields
     no_field no_kids fs u h = refl
     no_field (kid ys kids) [] u h = absurd u
     no_field (kid ys kids) (f ∷ fs) u h = none_by ys kids f fs u (no_field kids fs u.2) (task_of asks f) refl h
 
     -- a field with a task is demanded one thing
-    abbrev pub task_demand : ℕ → ℕ → (types place : Option ℕ) → Ask → Demand
-    task_demand n slot types place ask = record { object = k; field = Some n; at = t; reads = task_reads b S t slot types place ask; chain = task_failure c b S t slot types place ask }
+    abbrev pub task_demand : List Link → ℕ → ℕ → (types place : Option ℕ) → Ask → Demand
+    task_demand links n slot types place ask = record { links = links; object = k; field = Some n; at = t; reads = task_reads b S t slot types place ask; chain = task_failure c b S t slot types place ask }
 
-    pub one_demand : (n slot : ℕ) (types place : Option ℕ) (kind : Kind) (ask : Ask) → ask_of asks kind ≡ Some ask → field_demands asks c b S k n t slot types place kind ≡ task_demand n slot types place ask ∷ []
-    one_demand n slot types place kind ask h = grind arith
+    pub one_demand : (links : List Link) (n slot : ℕ) (types place : Option ℕ) (kind : Kind) (ask : Ask) → ask_of asks kind ≡ Some ask → field_demands asks c b S links k n t slot types place kind ≡ task_demand links n slot types place ask ∷ []
+    one_demand links n slot types place kind ask h = grind arith
 
     -- its task
     pub record IsTask (f : Live) (task : Task) : Type 0 where

@@ -4,7 +4,7 @@ use Rattle.fb_bytes.specs.Word.{word}
 use Rattle.fb_schema.specs.declared.kinds.Kind.{Kind}
 use Rattle.fb_schema.specs.declared.kinds.Kind.TheVariants.{Scalar, Text, Struct, Table, Union, Scalars, Texts, Structs, Tables, Unions}
 use Rattle.fb_schema.specs.{Rows.Rows, Rows.is_table, Live.live_fields, Members.member_of, Served.MemberHolds}
-use Rattle.fb_rules.specs.declared.{offset_row.Leads.Leads, offset_row.Leads.TheVariants.All, offset_row.Leads.TheVariants.ByType, table.Child.Child, table.Head.Head}
+use Rattle.fb_rules.specs.declared.{offset_row.Leads.Leads, offset_row.Leads.TheVariants.All, offset_row.Leads.TheVariants.ByType, table.Child.Child, table.Head.Head, link.Link.Link}
 use Rattle.fb_rules.specs.declared.offset_row.Referent.TheVariants.{Text as AText, Table as ATable, Struct as AStruct, Nothing}
 use Rattle.fb_rules.specs.{Places.target, Cost.head_reads, Facts.IsTable, Told.IsHead}
 use Rattle.fb_rules.specs.OffsetRows.{words_of, first_word, past_first, leads_after}
@@ -14,23 +14,23 @@ use Rattle.fb_rules.specs.Unfolds.{Unfolds, ElementsUnfold, ElementUnfolds}
 use Rattle.fb_rules.proofs.Words.{row_front, row_none, first_place}
 use Rattle.fb_strict.specs.declared.{room.Frame.Frame}
 use Rattle.fb_strict.specs.Asked.{Demand, reading, next_types, element_demands, demands_in, demands_in_fields, demands_in_row, demands_below}
-use Rattle.fb_strict.specs.Passing.{Passing, asks_of, IsPassing, blank, opened, asked_object, first_object, AreAskedWords, leads_types, IsLeft, IsNext}
+use Rattle.fb_strict.specs.Passing.{Passing, asks_of, IsPassing, blank, opened, asked_object, first_object, AreAskedWords, leads_types, task_words, task_link, link_behind, frame_link, IsLinked, IsOnWay, IsLeft, IsNext}
 use Rattle.fb_strict.proofs.Fields.{fields_known}
 
 -- the frame of a table that was opened
-module _ (p : Passing) (b : List ℕ) (holds : IsPassing p b) (room : ℕ) (child : Child) (ds : List Demand) where
+module _ (p : Passing) (b : List ℕ) (holds : IsPassing p b) (room : ℕ) (via : List Link) (child : Child) (ds : List Demand) where
   -- it stands for what follows the reading of the head
   pub record IsOpened (fr : Frame) : Type 0 where
     pub left : List Demand
-    pub frame : IsLeft p b room fr left
-    pub all : ds ≡ record { object = child.object; field = None; at = child.at; reads = head_reads p.checks; chain = None } ∷ left
+    pub frame : IsLeft p b room via fr left
+    pub all : ds ≡ record { links = via; object = child.object; field = None; at = child.at; reads = head_reads p.checks; chain = None } ∷ left
 
-  opens : (tree : Tree) → Unfolds tree p.checks b p.rows child.object child.at → IsTrue (is_table p.rows child.object) → child.at < 2 ^ 33 → depth tree ≤ room → ds ≡ demands_in tree (asks_of p) p.checks b p.rows
+  opens : (tree : Tree) → Unfolds tree p.checks b p.rows child.object child.at → IsTrue (is_table p.rows child.object) → child.at < 2 ^ 33 → depth tree ≤ room → ds ≡ demands_in tree (asks_of p) p.checks b p.rows via
       → (head : Head) → IsHead p.checks b child.at head → IsOpened (opened (record { head = head; object = child.object; at = child.at }))
   unfolding Unfolds demands_in depth ElementsUnfold demands_in_row elements_depth
   opens (node k' t' kids) u o near deep all head h =
       record {
-        left = demands_in_fields kids (asks_of p) p.checks b p.rows child.object child.at (live_fields p.rows child.object);
+        left = demands_in_fields kids (asks_of p) p.checks b p.rows via child.object child.at (live_fields p.rows child.object);
         frame = record {
           object = o;
           near = near;
@@ -44,55 +44,58 @@ module _ (p : Passing) (b : List ℕ) (holds : IsPassing p b) (room : ℕ) (chil
           row = rw (row_none b p.rows blank.row refl) tt;
           asked = record { near = omega arith; leads = λ m. absurd (omega arith) };
           deep = omega (arith, deep);
+          way = λ j. via;
+          passed = 0;
+          linked = λ m. absurd (omega arith);
           all = refl;
         };
         all = rw (u.0, u.1) at all;
       }
 
-  pub opened_left : IsNext p b room child ds → (head : Head) → IsHead p.checks b child.at head → IsOpened (opened (record { head = head; object = child.object; at = child.at }))
+  pub opened_left : IsNext p b room via child ds → (head : Head) → IsHead p.checks b child.at head → IsOpened (opened (record { head = head; object = child.object; at = child.at }))
   opened_left n head h = opens n.tree n.unfolds n.object n.near n.deep n.all head h
 
   -- the reading of the head comes first
-  read_first : (tree : Tree) → Unfolds tree p.checks b p.rows child.object child.at → ds ≡ demands_in tree (asks_of p) p.checks b p.rows
-      → (rest : List Demand) × (ds ≡ record { object = child.object; field = None; at = child.at; reads = head_reads p.checks; chain = None } ∷ rest)
+  read_first : (tree : Tree) → Unfolds tree p.checks b p.rows child.object child.at → ds ≡ demands_in tree (asks_of p) p.checks b p.rows via
+      → (rest : List Demand) × (ds ≡ record { links = via; object = child.object; field = None; at = child.at; reads = head_reads p.checks; chain = None } ∷ rest)
   unfolding Unfolds demands_in
-  read_first (node k' t' kids) u all = (demands_in_fields kids (asks_of p) p.checks b p.rows child.object child.at (live_fields p.rows child.object), rw (u.0, u.1) at all)
+  read_first (node k' t' kids) u all = (demands_in_fields kids (asks_of p) p.checks b p.rows via child.object child.at (live_fields p.rows child.object), rw (u.0, u.1) at all)
 
-  pub head_first : IsNext p b room child ds → (rest : List Demand) × (ds ≡ record { object = child.object; field = None; at = child.at; reads = head_reads p.checks; chain = None } ∷ rest)
+  pub head_first : IsNext p b room via child ds → (rest : List Demand) × (ds ≡ record { links = via; object = child.object; field = None; at = child.at; reads = head_reads p.checks; chain = None } ∷ rest)
   head_first n = read_first n.tree n.unfolds n.all
 
   table_of : (tree : Tree) → Unfolds tree p.checks b p.rows child.object child.at → IsTable p.checks b child.at
   unfolding Unfolds
   table_of (node k' t' kids) u = u.2
 
-  pub next_table : IsNext p b room child ds → IsTable p.checks b child.at
+  pub next_table : IsNext p b room via child ds → IsTable p.checks b child.at
   next_table n = table_of n.tree n.unfolds
 
 -- What an element stands for.
 
 module _ (p : Passing) (b : List ℕ) where
   -- it leads to a table that is asked
-  pub record IsTableBelow (y : Element) (k n place j : ℕ) : Type 0 where
+  pub record IsTableBelow (y : Element) (links : List Link) (k n place j : ℕ) : Type 0 where
     pub tree : Tree
     pub unfolds : Unfolds tree p.checks b p.rows j (target b place)
     pub within : place + 4 ≤ length b
     pub deep : depth tree ≤ element_depth y
-    pub all : demands_below y (asks_of p) p.checks b p.rows k n place ≡ reading k (Some n) place 1 ∷ demands_in tree (asks_of p) p.checks b p.rows
+    pub all : demands_below y (asks_of p) p.checks b p.rows links k n place ≡ reading links k (Some n) place 1 ∷ demands_in tree (asks_of p) p.checks b p.rows links
 
-  table_below : (y : Element) (k n place j : ℕ) → ElementUnfolds y p.checks b p.rows place (to_table j) → asks_of p j ≡ true → IsTableBelow y k n place j
+  table_below : (y : Element) (links : List Link) (k n place j : ℕ) → ElementUnfolds y p.checks b p.rows place (to_table j) → asks_of p j ≡ true → IsTableBelow y links k n place j
   unfolding ElementUnfolds Unfolds demands_below element_depth
-  table_below leaf k n place j u asks = absurd u
-  table_below (table (node k' t' kids)) k n place j u asks =
+  table_below leaf links k n place j u asks = absurd u
+  table_below (table (node k' t' kids)) links k n place j u asks =
       let yes : asks_of p k' ≡ true = ap (asks_of p) u.1.0 ∙ asks in
       record { tree = node k' t' kids; unfolds = u.1; within = (u.0).within; deep = omega arith; all = rw yes refl }
 
-  none_below : (y : Element) (k n place : ℕ) (lead : Lead) → ElementUnfolds y p.checks b p.rows place lead → ((j : ℕ) → lead ≡ to_table j → asks_of p j ≡ false) → demands_below y (asks_of p) p.checks b p.rows k n place ≡ []
+  none_below : (y : Element) (links : List Link) (k n place : ℕ) (lead : Lead) → ElementUnfolds y p.checks b p.rows place lead → ((j : ℕ) → lead ≡ to_table j → asks_of p j ≡ false) → demands_below y (asks_of p) p.checks b p.rows links k n place ≡ []
   unfolding ElementUnfolds Unfolds demands_below
-  none_below leaf k n place lead u quiet = refl
-  none_below (table (node k' t' kids)) k n place (to_table j) u quiet = let no : asks_of p k' ≡ false = ap (asks_of p) u.1.0 ∙ quiet j refl in rw no refl
-  none_below (table y) k n place (to_struct size align) u quiet = absurd u
-  none_below (table y) k n place to_string u quiet = absurd u
-  none_below (table y) k n place to_nothing u quiet = absurd u
+  none_below leaf links k n place lead u quiet = refl
+  none_below (table (node k' t' kids)) links k n place (to_table j) u quiet = let no : asks_of p k' ≡ false = ap (asks_of p) u.1.0 ∙ quiet j refl in rw no refl
+  none_below (table y) links k n place (to_struct size align) u quiet = absurd u
+  none_below (table y) links k n place to_string u quiet = absurd u
+  none_below (table y) links k n place to_nothing u quiet = absurd u
 
   -- the member of a union that is a table that is asked
   pub record IsAskedMember (S : Rows) (member : Option Kind) (j : ℕ) : Type 0 where
@@ -147,13 +150,34 @@ types_on (All referent) = refl
 types_on (ByType e q) = refl
 
 -- The first word of a row that is left.
-module _ (p : Passing) (b : List ℕ) (holds : IsPassing p b) (room : ℕ) (fr : Frame) (ds : List Demand) (l : IsLeft p b room fr ds) (more : 0 < (fr.row).left) where
-  abbrev past : Frame
+module _ (p : Passing) (b : List ℕ) (holds : IsPassing p b) (room : ℕ) (via : List Link) (fr : Frame) (ds : List Demand) (l : IsLeft p b room via fr ds) (more : 0 < (fr.row).left) where
+  abbrev pub past : Frame
   past = record fr { row = past_first fr.row }
+
+  -- the links through it
+  abbrev pub through : List Link
+  through = l.way l.passed
+
+  on_way : IsOnWay (asks_of p) p.checks b p.rows via fr l.way l.passed
+  on_way = l.linked more
+
+  -- once it's passed, the frame has its link
+  pub word_linked : IsLinked (asks_of p) p.checks b p.rows past
+  word_linked = let w = on_way in record { last = w.last; more = omega (arith, w.count, more) }
+
+  pub word_link : through ≡ via ++ frame_link (asks_of p) b p.rows past ∷ []
+  word_link =
+      let w = on_way in
+      let before : l.passed ≡ task_words b (fr.table).at (w.last).task - ((fr.row).left - 1) - 1 = omega (arith, w.count, more) in
+      w.through l.passed ∙ ap (λ x. via ++ x ∷ []) (ap (task_link b (fr.table).object (fr.table).at (w.last).task) before ∙ ap (link_behind b past) (sym (w.last).found))
+
+  -- and goes on to the next
+  next_on_way : IsOnWay (asks_of p) p.checks b p.rows via past l.way (l.passed + 1)
+  next_on_way = let w = on_way in record { last = w.last; count = omega (arith, w.count, more); through = w.through }
 
   -- what it is asked by its type
   abbrev pub front : List Demand
-  front = element_demands p.checks b p.rows (fr.table).object fr.number (fr.row).place (leads_types (fr.row).leads)
+  front = element_demands p.checks b p.rows through (fr.table).object fr.number (fr.row).place (leads_types (fr.row).leads)
 
   -- what stands for it, and for the others
   record IsFront : Type 0 where
@@ -161,21 +185,21 @@ module _ (p : Passing) (b : List ℕ) (holds : IsPassing p b) (room : ℕ) (fr :
     lead : ElementUnfolds y p.checks b p.rows (fr.row).place (first_word b p.rows fr.row).lead
     deep : element_depth y < room
     left : List Demand
-    frame : IsLeft p b room past left
-    all : ds ≡ front ++ (demands_below y (asks_of p) p.checks b p.rows (fr.table).object fr.number (fr.row).place ++ left)
+    frame : IsLeft p b room via past left
+    all : ds ≡ front ++ (demands_below y (asks_of p) p.checks b p.rows through (fr.table).object fr.number (fr.row).place ++ left)
 
   abbrev others : List Demand
-  others = demands_in_fields l.kids (asks_of p) p.checks b p.rows (fr.table).object (fr.table).at l.fields
+  others = demands_in_fields l.kids (asks_of p) p.checks b p.rows via (fr.table).object (fr.table).at l.fields
 
   by_words : (words : Elements) (x : Entry) → ElementsUnfold words p.checks b p.rows (x ∷ words_of b p.rows (past_first fr.row)) → max (elements_depth words) (kids_depth l.kids) < room
-      → x.place ≡ (fr.row).place → x.lead ≡ (first_word b p.rows fr.row).lead → ds ≡ demands_in_row words (asks_of p) p.checks b p.rows (fr.table).object fr.number (fr.row).place (leads_types (fr.row).leads) ++ others → IsFront
+      → x.place ≡ (fr.row).place → x.lead ≡ (first_word b p.rows fr.row).lead → ds ≡ demands_in_row words (asks_of p) p.checks b p.rows l.way (fr.table).object fr.number l.passed (fr.row).place (leads_types (fr.row).leads) ++ others → IsFront
   unfolding ElementsUnfold demands_in_row elements_depth
   by_words no_elements x u deep at lead all = absurd u
   by_words (element y ys) x u deep at lead all = record {
     y = y;
     lead = rw (at, lead) at u.0;
     deep = omega (arith, deep);
-    left = demands_in_row ys (asks_of p) p.checks b p.rows (fr.table).object fr.number ((fr.row).place + 4) (leads_types (leads_after (fr.row).leads)) ++ others;
+    left = demands_in_row ys (asks_of p) p.checks b p.rows l.way (fr.table).object fr.number (l.passed + 1) ((fr.row).place + 4) (leads_types (leads_after (fr.row).leads)) ++ others;
     frame = record {
       object = l.object;
       near = l.near;
@@ -189,9 +213,12 @@ module _ (p : Passing) (b : List ℕ) (holds : IsPassing p b) (room : ℕ) (fr :
       row = u.1;
       asked = record { near = omega (arith, (l.asked).near, more); leads = λ m. asked_on p b (fr.row).left (fr.row).leads more ((l.asked).leads more) };
       deep = omega (arith, deep);
+      way = l.way;
+      passed = l.passed + 1;
+      linked = λ m. next_on_way;
       all = refl;
     };
-    all = rw (types_on (fr.row).leads) (all ∙ regroup front (demands_below y (asks_of p) p.checks b p.rows (fr.table).object fr.number (fr.row).place) _ others);
+    all = rw (types_on (fr.row).leads) (all ∙ regroup front (demands_below y (asks_of p) p.checks b p.rows through (fr.table).object fr.number (fr.row).place) _ others);
   }
     where
       regroup : (ws xs ys zs : List Demand) → (ws ++ (xs ++ ys)) ++ zs ≡ ws ++ (xs ++ (ys ++ zs))
@@ -208,25 +235,25 @@ module _ (p : Passing) (b : List ℕ) (holds : IsPassing p b) (room : ℕ) (fr :
     pub within : (fr.row).place + 4 ≤ length b
     pub deep : depth tree ≤ room - 1
     pub left : List Demand
-    pub frame : IsLeft p b room past left
-    pub all : ds ≡ front ++ (reading (fr.table).object (Some fr.number) (fr.row).place 1 ∷ (demands_in tree (asks_of p) p.checks b p.rows ++ left))
+    pub frame : IsLeft p b room via past left
+    pub all : ds ≡ front ++ (reading through (fr.table).object (Some fr.number) (fr.row).place 1 ∷ (demands_in tree (asks_of p) p.checks b p.rows through ++ left))
 
   -- or it doesn't
   pub record IsBeside : Type 0 where
     pub left : List Demand
-    pub frame : IsLeft p b room past left
+    pub frame : IsLeft p b room via past left
     pub all : ds ≡ front ++ left
 
   goes_under : (j : ℕ) → (first_word b p.rows fr.row).lead ≡ to_table j → asks_of p j ≡ true → IsTrue (is_table p.rows j) → IsUnder j
   goes_under j lead asks is =
       let f = front_of in
-      let t = table_below p b f.y (fr.table).object fr.number (fr.row).place j (rw lead at f.lead) asks in
+      let t = table_below p b f.y through (fr.table).object fr.number (fr.row).place j (rw lead at f.lead) asks in
       record { tree = t.tree; unfolds = t.unfolds; object = is; within = t.within; deep = omega (arith, t.deep, f.deep); left = f.left; frame = f.frame; all = rw t.all at f.all }
 
   goes_beside : ((j : ℕ) → (first_word b p.rows fr.row).lead ≡ to_table j → asks_of p j ≡ false) → IsBeside
   goes_beside quiet =
       let f = front_of in
-      record { left = f.left; frame = f.frame; all = rw (none_below p b f.y (fr.table).object fr.number (fr.row).place _ f.lead quiet) at f.all }
+      record { left = f.left; frame = f.frame; all = rw (none_below p b f.y through (fr.table).object fr.number (fr.row).place _ f.lead quiet) at f.all }
 
   is_member : (member : Option Kind) (j : ℕ) → MemberHolds p.rows member → member ≡ Some (Table j) → IsTrue (is_table p.rows j)
   is_member member j h e = rw e at h
@@ -255,4 +282,4 @@ module _ (p : Passing) (b : List ℕ) (holds : IsPassing p b) (room : ℕ) (fr :
 
   -- what it is asked by its type comes first
   pub asked_first : (rest : List Demand) × (ds ≡ front ++ rest)
-  asked_first = let f = front_of in (demands_below f.y (asks_of p) p.checks b p.rows (fr.table).object fr.number (fr.row).place ++ f.left, f.all)
+  asked_first = let f = front_of in (demands_below f.y (asks_of p) p.checks b p.rows through (fr.table).object fr.number (fr.row).place ++ f.left, f.all)

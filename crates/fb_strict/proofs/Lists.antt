@@ -5,7 +5,7 @@ use Rattle.std.specs.List.{cons_option, list_any}
 
 module _ {X Y : Type 0} (f : X → Y) where
   -- one item more
-  one_more : (xs : List X) (i : ℕ) (d : X) → i < length xs → map f (take (i + 1) xs) ≡ map f (take i xs) ++ f (get_or xs i d) ∷ []
+  pub one_more : (xs : List X) (i : ℕ) (d : X) → i < length xs → map f (take (i + 1) xs) ≡ map f (take i xs) ++ f (get_or xs i d) ∷ []
   one_more xs i d lt = ap (map f) (take_at_read xs i d lt).1 ∙ map-append f (take i xs) (get_or xs i d ∷ [])
 
   -- no item passes a test

@@ -1,19 +1,28 @@
 -- The turns of a pass, one after another.
 use Rattle.std.proofs.Math.ListN.{set, length-set}
 use Rattle.std.proofs.lemmas.List.{get_or-set_same, append-nil}
-use Rattle.std.proofs.Common.{◌≡◌, ◌⊎◌, inl, inr, None, ℕ, ◌+◌, ◌*◌, ◌-◌, ◌^◌, ◌<◌, ◌≤◌, List, [], length, Result, Ok, Err, refl, sym, ap, subst, ◌∙◌, arith}
+use Rattle.std.proofs.Common.{◌≡◌, ◌⊎◌, inl, inr, None, ℕ, ◌+◌, ◌*◌, ◌-◌, ◌^◌, ◌<◌, ◌≤◌, List, [], ◌++◌, length, Result, Ok, Err, refl, sym, ap, subst, ◌∙◌, arith}
 use Rattle.fb_bytes.specs.Word.{Lent}
-use Rattle.fb_rules.specs.declared.{site.Stop.Stop, table.Child.Child, table.Head.Head, table.Table.Table as TableOf}
+use Rattle.fb_rules.specs.declared.{site.Stop.Stop, site.Halt.Halt, site.LastLink.TheVariants.Behind, table.Child.Child, table.Head.Head, table.Table.Table as TableOf}
+use Rattle.fb_verify.specs.Stack.{last_link}
 use Rattle.fb_rules.specs.{Bounds.AreAllowed, Cost.head_reads, Told.stopped, Told.IsAskedAt, Told.IsHead}
 use Rattle.fb_strict.specs.declared.room.Frame.{Frame}
 use Rattle.fb_strict.specs.Asked.{Demand, demands_reads}
-use Rattle.fb_strict.specs.Passing.{Passing, IsPassing, blank, opened, IsNext, AreLeft, Breaks, GoesOn, Turns, Turned, IsStanding, work_left, frames_work, WentBy, WentOn}
+use Rattle.fb_strict.specs.Passing.{Passing, asks_of, IsPassing, blank, opened, frame_links, AreLinked, IsNext, AreLeft, Breaks, Moves, GoesOn, Halts, Turns, Turned, IsStanding, work_left, frames_work, WentBy, WentOn}
 use Rattle.fb_strict.proofs.Moving.{still, onward, breaks_then, met, unmet}
 use Rattle.fb_strict.proofs.{Frames.opened_left, Frames.head_first, Stacks.some_deep}
 
 pub joined : (p : Passing) (m mid new : Lent) (ds some left : List Demand) → GoesOn p m mid ds some → GoesOn p mid new some left → GoesOn p m new ds left
 joined p m mid new ds some left f g =
     record { moves = onward p.limits f.moves g.moves; grows = omega (arith, f.grows, g.grows); same = g.same ∙ ap (λ (x : Lent). record x { count = new.count }) f.same }
+
+-- a pass that stops after it went on, over the same bytes
+pub halts_then : (p : Passing) (m mid new : Lent) (ds left : List Demand) (frames : List Frame) (h : Halt) → mid.bytes ≡ m.bytes → Moves p.limits m.count ds mid.count left → Halts p mid new left frames h → Halts p m new ds frames h
+halts_then p m mid new ds left frames h bytes moves s = record {
+  breaks = breaks_then p.limits (stopped h.stop new.count) _ moves (subst (λ b. Breaks p.limits mid.count left (stopped h.stop new.count) (frame_links (asks_of p) b p.rows frames h.links ++ last_link h.last (stopped h.stop new.count))) bytes s.breaks);
+  linked = subst (λ b. AreLinked (asks_of p) p.checks b p.rows frames h.links) bytes s.linked;
+  within = s.within;
+}
 
 -- what the turns so far left of frames of which so many were open
 pub record WentSoFar (p : Passing) (m new : Lent) (old : List Frame) (before : ℕ) (frames : List Frame) (many : ℕ) : Type 0 where
@@ -37,7 +46,7 @@ lesser : (w w' c c' rest rest' : ℕ) → w' + 2 ^ 49 * c < w + 2 ^ 49 * c' → 
 lesser w w' c c' rest rest' falls same most = omega arith
 
 module _ (p : Passing) (m mid : Lent) (old : List Frame) (before : ℕ) (frames : List Frame) (many : ℕ) (h : WentSoFar p m mid old before frames many) where
-  module _ (new : Lent) (past : List Frame) (n : ℕ) (r : Result ℕ Stop) (is : r ≡ Ok n) (turned : (ds : List Demand) → AreLeft p mid.bytes frames many ds → Turned p mid new ds frames many past r) (long : length past ≡ length frames) where
+  module _ (new : Lent) (past : List Frame) (n : ℕ) (r : Result ℕ Halt) (is : r ≡ Ok n) (turned : (ds : List Demand) → AreLeft p mid.bytes frames many ds → Turned p mid new ds frames many past r) (long : length past ≡ length frames) where
     goes : (ds : List Demand) → AreLeft p mid.bytes frames many ds → Turns p mid new ds frames many past n × (n ≤ length past)
     goes ds s = rw is at (turned ds s)
 
@@ -74,12 +83,12 @@ module _ (p : Passing) (m mid : Lent) (old : List Frame) (before : ℕ) (frames 
         falls (inl e) = let same : work_left p mid.count frames many ≡ work_left p m.count old before = ap (λ k. work_left p mid.count frames k) e.0 ∙ ap (λ (x : Lent). work_left p x.count frames before) e.1 ∙ ap (λ fs. work_left p m.count fs before) e.2 in omega (arith, less, same)
         falls (inr lt) = omega (arith, less, lt)
 
-  pub stops : (new : Lent) (past : List Frame) (s : Stop) (r : Result ℕ Stop) → r ≡ Err s → ((ds : List Demand) → AreLeft p mid.bytes frames many ds → Turned p mid new ds frames many past r)
-      → (ds : List Demand) → AreLeft p m.bytes old before ds → Breaks p.limits m.count ds (stopped s new.count)
+  pub stops : (new : Lent) (past : List Frame) (s : Halt) (r : Result ℕ Halt) → r ≡ Err s → ((ds : List Demand) → AreLeft p mid.bytes frames many ds → Turned p mid new ds frames many past r)
+      → (ds : List Demand) → AreLeft p m.bytes old before ds → Halts p m new ds past s
   stops new past s r is turned ds stack =
       let o = h.on ds stack in
-      let b : Breaks p.limits mid.count o.0 (stopped s new.count) = rw is at (turned o.0 (subst (λ b. AreLeft p b frames many o.0) (sym h.bytes) o.2)) in
-      breaks_then p.limits (stopped s new.count) (o.1).moves b
+      let b : Halts p mid new o.0 past s = rw is at (turned o.0 (subst (λ b. AreLeft p b frames many o.0) (sym h.bytes) o.2)) in
+      halts_then p m mid new ds o.0 past s h.bytes (o.1).moves b
 
   -- it ends where none is open, or the count is long, so that it went on
   pub ends : ((many ≡ before) → mid ≡ m → ⊥) → (ds : List Demand) → AreLeft p m.bytes old before ds → WentBy p m mid ds old before frames many
@@ -115,8 +124,14 @@ module _ (m reads then-reads bare new : Lent) (lent : reads ≡ record m { base 
     same = same_loan g.same;
   }
 
-  pub loan_breaks : (p : Passing) (ds : List Demand) (s : Stop) → Breaks p.limits reads.count ds (stopped s then-reads.count) → Breaks p.limits m.count ds (stopped s new.count)
-  loan_breaks p ds s h more = rw (sym settled_count, lent_count) at (h more)
+  pub loan_halts : (p : Passing) (ds : List Demand) (frames : List Frame) (h : Halt) → Halts p reads then-reads ds frames h → Halts p m new ds frames h
+  loan_halts p ds frames h s = record {
+    breaks = subst (λ n. Breaks p.limits m.count ds (stopped h.stop n) (frame_links (asks_of p) m.bytes p.rows frames h.links ++ last_link h.last (stopped h.stop n))) (sym settled_count)
+        (subst (λ b. Breaks p.limits m.count ds (stopped h.stop then-reads.count) (frame_links (asks_of p) b p.rows frames h.links ++ last_link h.last (stopped h.stop then-reads.count))) lent_bytes
+        (subst (λ n. Breaks p.limits n ds (stopped h.stop then-reads.count) (frame_links (asks_of p) reads.bytes p.rows frames h.links ++ last_link h.last (stopped h.stop then-reads.count))) lent_count s.breaks));
+    linked = subst (λ b. AreLinked (asks_of p) p.checks b p.rows frames h.links) lent_bytes s.linked;
+    within = s.within;
+  }
 
 -- a standing is one of the reads that are lent
 pub lent_stands : (p : Passing) (m reads : Lent) (frames : List Frame) (many : ℕ) → reads ≡ record m { base = reads.base } → IsStanding p m frames many → IsStanding p reads frames many
@@ -139,35 +154,38 @@ pub record Begun (p : Passing) (m new : Lent) (deep : ℕ) (root : Child) (frame
   pub stands : IsStanding p new frames many
   pub bytes : new.bytes ≡ m.bytes
   pub long : length frames ≡ deep
-  pub on : (ds : List Demand) → IsNext p m.bytes deep root ds → (left : List Demand) × GoesOn p m new ds left × AreLeft p m.bytes frames many left
+  pub on : (ds : List Demand) → IsNext p m.bytes deep [] root ds → (left : List Demand) × GoesOn p m new ds left × AreLeft p m.bytes frames many left
 
-module _ (p : Passing) (m : Lent) (holds : IsPassing p m.bytes) (allowed : AreAllowed (p.limits).reads m.count) (frames : List Frame) (small : length frames ≤ 4096) (root : Child) (ds0 : List Demand) (next0 : IsNext p m.bytes (length frames) root ds0) (few : m.count + demands_reads ds0 ≤ 2 ^ 96) where
+module _ (p : Passing) (m : Lent) (holds : IsPassing p m.bytes) (allowed : AreAllowed (p.limits).reads m.count) (frames : List Frame) (small : length frames ≤ 4096) (root : Child) (ds0 : List Demand) (next0 : IsNext p m.bytes (length frames) [] root ds0) (few : m.count + demands_reads ds0 ≤ 2 ^ 96) where
   pub some_frame : 0 < length frames
   some_frame = omega (arith, next0.deep, some_deep next0.tree)
 
   abbrev head_read : Demand
-  head_read = record { object = root.object; field = None; at = root.at; reads = head_reads p.checks; chain = None }
+  head_read = record { links = []; object = root.object; field = None; at = root.at; reads = head_reads p.checks; chain = None }
 
   module _ (reads then-reads bare new : Lent) (lent : reads ≡ record m { base = reads.base }) (bare-is : bare ≡ record m { bytes = [] }) (settled : new ≡ record bare { bytes = then-reads.bytes; count = then-reads.count }) where
-    pub root_stops : (s : Stop) → IsAskedAt {A = Unit {0}} (record { object = root.object; field = None }) p.limits reads then-reads None (head_reads p.checks) root.at (Err s) → (ds : List Demand) → IsNext p m.bytes (length frames) root ds
-        → Breaks p.limits m.count ds (stopped s new.count)
-    root_stops s a ds n =
-        let o = head_first p m.bytes holds (length frames) root ds n in
-        loan_breaks m reads then-reads bare new lent bare-is settled p ds s (subst (λ xs. Breaks p.limits reads.count xs (stopped s then-reads.count)) (sym o.1) (unmet p reads then-reads head_read o.0 {A = Unit {0}} s (Err s) refl a))
+    pub root_stops : (s : Stop) → IsAskedAt {A = Unit {0}} (record { object = root.object; field = None }) p.limits reads then-reads None (head_reads p.checks) root.at (Err s) → (past : List Frame) (h : Halt) → h ≡ record { stop = s; links = 0; last = Behind } → (ds : List Demand) → IsNext p m.bytes (length frames) [] root ds → Halts p m new ds past h
+    root_stops s a past h is ds n =
+        let o = head_first p m.bytes holds (length frames) [] root ds n in
+        subst (Halts p m new ds past) (sym is) (loan_halts m reads then-reads bare new lent bare-is settled p ds past (record { stop = s; links = 0; last = Behind }) (record {
+          breaks = subst (λ xs. Breaks p.limits reads.count xs (stopped s then-reads.count) []) (sym o.1) (unmet p reads then-reads head_read o.0 {A = Unit {0}} s (Err s) refl a);
+          linked = λ i lt. absurd (omega (arith, lt));
+          within = omega arith;
+        }))
 
     module _ (a : IsAskedAt {A = Unit {0}} (record { object = root.object; field = None }) p.limits reads then-reads None (head_reads p.checks) root.at (Ok (tt {0}))) (head : Head) (is-head : IsHead p.checks reads.bytes root.at head) where
       abbrev table : TableOf
       table = record { object = root.object; at = root.at; head = head }
 
-      opens : (ds : List Demand) → IsNext p m.bytes (length frames) root ds → (left : List Demand) × GoesOn p m new ds left × AreLeft p m.bytes (set frames 0 (opened table)) 1 left
+      opens : (ds : List Demand) → IsNext p m.bytes (length frames) [] root ds → (left : List Demand) × GoesOn p m new ds left × AreLeft p m.bytes (set frames 0 (opened table)) 1 left
       unfolding AreLeft
       opens ds n =
-          let o = opened_left p m.bytes holds (length frames) root ds n head (subst (λ b. IsHead p.checks b root.at head) (lent_bytes m reads then-reads bare new lent bare-is settled) is-head) in
+          let o = opened_left p m.bytes holds (length frames) [] root ds n head (subst (λ b. IsHead p.checks b root.at head) (lent_bytes m reads then-reads bare new lent bare-is settled) is-head) in
           let none : length frames - 0 ≡ length frames = omega arith in
           let g = subst (λ xs. GoesOn p reads then-reads xs o.left) (sym o.all) (met p reads then-reads head_read o.left {A = Unit {0}} (tt {0}) (Ok (tt {0})) refl a) in (
             o.left,
             loan_on m reads then-reads bare new lent bare-is settled p ds o.left g,
-            (o.left, [], rw (length-set frames 0 (opened table), get_or-set_same frames 0 (opened table) blank some_frame, none) o.frame, refl, sym (append-nil o.left)),
+            (o.left, [], rw (length-set frames 0 (opened table), get_or-set_same frames 0 (opened table) blank some_frame, none) o.frame, refl, sym (append-nil o.left), λ i lt. absurd (omega (arith, lt))),
           )
 
       pub begun : (fr : Frame) → fr ≡ opened table → Begun p m new (length frames) root (set frames 0 fr) 1
@@ -191,19 +209,19 @@ module _ (p : Passing) (m : Lent) (holds : IsPassing p m.bytes) (allowed : AreAl
 -- and goes on
 module _ (p : Passing) (m mid : Lent) (deep : ℕ) (root : Child) (frames : List Frame) (many : ℕ) (h : Begun p m mid deep root frames many)
     (reads then-reads bare new : Lent) (lent : reads ≡ record mid { base = reads.base }) (bare-is : bare ≡ record mid { bytes = [] }) (settled : new ≡ record bare { bytes = then-reads.bytes; count = then-reads.count }) where
-  abbrev Went : List Frame → ℕ → Result Unit Stop → Type 0
+  abbrev Went : List Frame → ℕ → Result Unit Halt → Type 0
   Went past n r = (ds : List Demand) → AreLeft p reads.bytes frames many ds → WentOn {A = Unit {0}} p reads then-reads ds frames many past n r
 
   bytes_are : reads.bytes ≡ m.bytes
   bytes_are = lent_bytes mid reads then-reads bare new lent bare-is settled ∙ h.bytes
 
-  pub pass_stops : (past : List Frame) (n : ℕ) (r : Result Unit Stop) (s : Stop) → r ≡ Err s → Went past n r → (ds : List Demand) → IsNext p m.bytes deep root ds → Breaks p.limits m.count ds (stopped s new.count)
+  pub pass_stops : (past : List Frame) (n : ℕ) (r : Result Unit Halt) (s : Halt) → r ≡ Err s → Went past n r → (ds : List Demand) → IsNext p m.bytes deep [] root ds → Halts p m new ds past s
   pass_stops past n r s is went ds next =
       let o = h.on ds next in
-      let b : Breaks p.limits reads.count o.0 (stopped s then-reads.count) = rw is at (went o.0 (subst (λ b. AreLeft p b frames many o.0) (sym bytes_are) o.2)) in
-      breaks_then p.limits (stopped s new.count) (o.1).moves (loan_breaks mid reads then-reads bare new lent bare-is settled p o.0 s b)
+      let b : Halts p reads then-reads o.0 past s = rw is at (went o.0 (subst (λ b. AreLeft p b frames many o.0) (sym bytes_are) o.2)) in
+      halts_then p m mid new ds o.0 past s h.bytes (o.1).moves (loan_halts mid reads then-reads bare new lent bare-is settled p o.0 past s b)
 
-  module _ (past : List Frame) (n : ℕ) (r : Result Unit Stop) (is : r ≡ Ok (tt {0})) (went : Went past n r) (long : length past ≡ length frames) where
+  module _ (past : List Frame) (n : ℕ) (r : Result Unit Halt) (is : r ≡ Ok (tt {0})) (went : Went past n r) (long : length past ≡ length frames) where
     by : (ds : List Demand) → AreLeft p reads.bytes frames many ds → WentBy p reads then-reads ds frames many past n
     by ds s = rw is at (went ds s)
 
@@ -238,7 +256,7 @@ module _ (p : Passing) (m mid : Lent) (deep : ℕ) (root : Child) (frames : List
         }
 
 -- until none is open
-pub pass_ends : (p : Passing) (m new : Lent) (deep : ℕ) (root : Child) (frames : List Frame) (many : ℕ) → Begun p m new deep root frames many → many ≡ 0 → (ds : List Demand) → IsNext p m.bytes deep root ds → GoesOn p m new ds []
+pub pass_ends : (p : Passing) (m new : Lent) (deep : ℕ) (root : Child) (frames : List Frame) (many : ℕ) → Begun p m new deep root frames many → many ≡ 0 → (ds : List Demand) → IsNext p m.bytes deep [] root ds → GoesOn p m new ds []
 unfolding AreLeft
 pass_ends p m new deep root frames many h none ds next =
     let o = h.on ds next in

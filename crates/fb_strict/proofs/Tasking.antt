@@ -1,14 +1,15 @@
 -- A frame of whose field no word is left: its next task, or its end.
-use Rattle.std.proofs.Common.{◌≡◌, ℕ, zero, suc, ◌+◌, ◌^◌, ◌<◌, ◌≤◌, IsTrue, List, [], ◌∷◌, ◌++◌, length, drop, Option, Some, None, Bool, true, false, Ok, Err, inl, inr, refl, sym, ap, subst, ◌∙◌, arith, if◌then◌else◌}
+use Rattle.std.proofs.Common.{◌≡◌, ℕ, zero, suc, ◌+◌, ◌-◌, ◌^◌, ◌<◌, ◌≤◌, IsTrue, List, [], ◌∷◌, ◌++◌, length, drop, Option, Some, None, Bool, true, false, Ok, Err, inl, inr, refl, sym, ap, subst, ◌∙◌, arith, if◌then◌else◌}
 use Rattle.std.specs.{Prelude.slice_get, Borrow.Bor, Slice.IsItemAt}
 use Rattle.std.proofs.lemmas.{Bool.cases_lt, Option.slice_get_within, Option.slice_get_past, Option.slice_get-get_or}
 use Rattle.fb_bytes.specs.Word.{Lent}
 use Rattle.fb_schema.specs.declared.kinds.Kind.{Kind}
 use Rattle.fb_schema.specs.declared.kinds.Kind.TheVariants.{Scalar, Text, Struct, Table, Union, Scalars, Texts, Structs, Tables, Unions}
 use Rattle.fb_schema.specs.{Rows.Rows, Rows.is_table, Rows.is_some_table, Live.Live, Live.live_fields}
-use Rattle.fb_rules.specs.declared.{offset_row.Row.Row, site.Site.Site, site.Stop.Stop, table.Table.Table as TableOf}
+use Rattle.fb_rules.specs.declared.{checks.Checks.Checks, offset_row.Row.Row, site.Site.Site, site.Stop.Stop, site.Halt.Halt, site.LastLink.TheVariants.InField, table.Table.Table as TableOf, link.Link.Link}
 use Rattle.fb_rules.specs.Told.{stopped}
-use Rattle.fb_rules.specs.{Places.field_place, Fields.type_place}
+use Rattle.fb_rules.specs.{Places.field_place, Fields.type_place, Links.element_of, Links.type_of, Links.element_link}
+use Rattle.fb_verify.specs.Stack.{link_to_number, own_link}
 use Rattle.fb_rules.specs.Tree.{Elements, no_elements, element}
 use Rattle.fb_rules.specs.Unfolds.{ElementsUnfold}
 use Rattle.fb_rules.proofs.{Typed.present, Words.row_none}
@@ -17,10 +18,10 @@ use Rattle.fb_strict.specs.declared.tasks.Ask.TheVariants.{Union as AskUnion, Un
 use Rattle.std.specs.List.{cons_option}
 use Rattle.fb_strict.specs.Planned.{ask_of, task_of, tasks_in, marked, Planned, IsPlan}
 use Rattle.fb_strict.specs.Asked.{Demand, demands_in_fields, demands_in_row}
-use Rattle.fb_strict.specs.Passing.{Passing, asks_of, IsPassing, IsTaskable, leads_types, IsKnown, IsLeft, task_row, frame_work, opened, TaskPassed, GoesOn, Stays, Breaks}
-use Rattle.fb_strict.proofs.Moving.{met, unmet}
-use Rattle.fb_strict.proofs.Fields.{IsNextField, next_field, no_field, task_demand, one_demand, task_is}
-use Rattle.fb_strict.proofs.Words.{put}
+use Rattle.fb_strict.specs.Passing.{Passing, asks_of, IsPassing, IsTaskable, leads_types, IsKnown, IsLeft, ask_words, task_words, ask_element, ask_member, task_link, task_row, frame_work, opened, TaskPassed, GoesOn, Stays, StopsHere, Breaks}
+use Rattle.fb_strict.proofs.Moving.{met, unmet, told_there}
+use Rattle.fb_strict.proofs.Fields.{IsNextField, next_field, no_field, task_demand, one_demand, IsTask, task_is}
+use Rattle.fb_strict.proofs.Words.{put, all_put}
 
 drop_at : {X : Type 0} (xs : List X) (i j : ℕ) (x : X) → slice_get xs i ≡ Some x → j ≡ i + 1 → drop i xs ≡ x ∷ drop j xs
 drop_at [] i j x h e = absurd (cc)
@@ -61,7 +62,25 @@ module _ (asks : ℕ → Bool) (p : Passing) (b : List ℕ) (t : ℕ) (f : Live)
   taskable_by Texts kind ask h = absurd (cc)
   taskable_by (Structs j) kind ask h = absurd (cc)
 
-module _ (p : Passing) (b : List ℕ) (holds : IsPassing p b) (room : ℕ) (fr : Frame) (ds : List Demand) (l : IsLeft p b room fr ds) (rests : (fr.row).left ≡ 0) where
+from_none : {n k : ℕ} → n ≡ k → 0 + n ≡ k
+from_none h = omega (arith, h)
+
+-- the link through a word of a field, by its task
+module _ (asks : ℕ → Bool) (c : Checks) (b : List ℕ) (S : Rows) (via : List Link) (k t : ℕ) (f : Live) (task : Task) (is : IsTask c b S asks via k t f task) (j : ℕ) where
+  same_element : (kind : Kind) (ask : Ask) → ask_of asks kind ≡ Some ask → element_of j kind ≡ ask_element j ask
+  same_element kind ask h = grind arith
+
+  same_member : (kind : Kind) (ask : Ask) → ask_of asks kind ≡ Some ask → type_of b t f j kind ≡ ask_member b (type_place b t f.slot) j ask
+  same_member kind ask h = grind arith
+
+  link_is : element_link b k t f j ≡ task_link b k t task j
+  link_is =
+      let number = sym is.number in
+      let its_element = same_element f.kind task.ask is.ask in
+      let its_member = same_member f.kind task.ask is.ask ∙ ap (λ o. ask_member b (type_place b t o) j task.ask) (sym is.slot) in
+      λ i. record { object = k; field = number i; element = its_element i; member = its_member i }
+
+module _ (p : Passing) (b : List ℕ) (holds : IsPassing p b) (room : ℕ) (via : List Link) (fr : Frame) (ds : List Demand) (l : IsLeft p b room via fr ds) (rests : (fr.row).left ≡ 0) where
   abbrev k : ℕ
   k = (fr.table).object
 
@@ -72,10 +91,10 @@ module _ (p : Passing) (b : List ℕ) (holds : IsPassing p b) (room : ℕ) (fr :
   tasks = tasks_in (asks_of p) (live_fields p.rows k)
 
   abbrev of_fields : List Demand
-  of_fields = demands_in_fields l.kids (asks_of p) p.checks b p.rows k t l.fields
+  of_fields = demands_in_fields l.kids (asks_of p) p.checks b p.rows via k t l.fields
 
   -- its row stands for nothing
-  only_fields : (words : Elements) → ElementsUnfold words p.checks b p.rows [] → ds ≡ demands_in_row words (asks_of p) p.checks b p.rows k fr.number (fr.row).place (leads_types (fr.row).leads) ++ of_fields → ds ≡ of_fields
+  only_fields : (words : Elements) → ElementsUnfold words p.checks b p.rows [] → ds ≡ demands_in_row words (asks_of p) p.checks b p.rows l.way k fr.number l.passed (fr.row).place (leads_types (fr.row).leads) ++ of_fields → ds ≡ of_fields
   unfolding ElementsUnfold demands_in_row
   only_fields no_elements u all = all
   only_fields (element y ys) u all = absurd u
@@ -95,21 +114,26 @@ module _ (p : Passing) (b : List ℕ) (holds : IsPassing p b) (room : ℕ) (fr :
   pub record IsAtTask (task : Task) : Type 0 where
     pub taskable : IsTaskable b p.rows t task.slot (field_place b t task.slot) task.ask
     pub left : List Demand
-    pub frame : IsLeft p b room (after_task task) left
-    pub all : ds ≡ task_demand p.checks b p.rows (asks_of p) k t task.number task.slot (type_place b t task.slot) (field_place b t task.slot) task.ask ∷ left
+    pub frame : IsLeft p b room via (after_task task) left
+    pub all : ds ≡ task_demand p.checks b p.rows (asks_of p) via k t (via ++ link_to_number k (Some task.number)) task.number task.slot (type_place b t task.slot) (field_place b t task.slot) task.ask ∷ left
     pub falls : frame_work p (after_task task) < frame_work p fr
 
-  at_field : (task : Task) → slice_get tasks fr.next ≡ Some task → (f : IsNextField p.checks b p.rows (asks_of p) k t l.kids l.fields task (drop (fr.next + 1) tasks)) → (n : ℕ) → n ≡ (f.field).number → (o : ℕ) → o ≡ (f.field).slot → (ask : Ask)
-      → ask_of (asks_of p) (f.field).kind ≡ Some ask → task ≡ record { number = n; slot = o; ask = ask } → IsAtTask task
-  at_field task found f n number o slot ask is same =
-      let g = put p b holds k t f.field f.words fr.row rests l.asked f.known ask is f.unfolds in
-      let one = one_demand p.checks b p.rows (asks_of p) k t (f.field).number (f.field).slot (type_place b t (f.field).slot) (field_place b t (f.field).slot) (f.field).kind ask is in
+  at_field : (task : Task) → slice_get tasks fr.next ≡ Some task → (f : IsNextField p.checks b p.rows (asks_of p) via k t l.kids l.fields task (drop (fr.next + 1) tasks)) → (n : ℕ) → n ≡ (f.field).number → (o : ℕ) → o ≡ (f.field).slot → (ask : Ask)
+      → ask_of (asks_of p) (f.field).kind ≡ Some ask → task ≡ record { number = n; slot = o; ask = ask } → IsTask p.checks b p.rows (asks_of p) via k t f.field task → IsAtTask task
+  at_field task found f n number o slot ask is same i =
+      let way = λ (j : ℕ). via ++ element_link b k t f.field j ∷ [] in
+      let g = put p b holds way k t f.field f.words fr.row rests l.asked f.known ask is f.unfolds in
+      let one = one_demand p.checks b p.rows (asks_of p) via k t (via ++ link_to_number k (Some (f.field).number)) (f.field).number (f.field).slot (type_place b t (f.field).slot) (field_place b t (f.field).slot) (f.field).kind ask is in
       let near = (g.asked).near in
       let within = slice_get_within tasks fr.next task found in
       let own = taskable_by (asks_of p) p b t f.field f.known (f.field).kind refl ask is in
+      let all_words = all_put p b holds way k t f.field f.words fr.row rests l.asked f.known in
+      let here : fr.next + 1 - 1 ≡ fr.next = omega arith in
+      let asks_same : ask ≡ task.ask = (let e = sym is ∙ i.ask in cc) in
+      let words_same : ask_words b (field_place b t (f.field).slot) ask ≡ task_words b t task = rw (asks_same, i.slot) refl in
       rw (same, number, slot) (record {
         taskable = own;
-        left = demands_in_row g.left (asks_of p) p.checks b p.rows k (f.field).number _ _ ++ demands_in_fields f.others_kids (asks_of p) p.checks b p.rows k t f.others;
+        left = demands_in_row g.left (asks_of p) p.checks b p.rows way k (f.field).number 0 _ _ ++ demands_in_fields f.others_kids (asks_of p) p.checks b p.rows via k t f.others;
         frame = record {
           object = l.object;
           near = l.near;
@@ -123,6 +147,13 @@ module _ (p : Passing) (b : List ℕ) (holds : IsPassing p b) (room : ℕ) (fr :
           row = g.unfolds;
           asked = g.asked;
           deep = omega (arith, l.deep, f.deep, g.deep);
+          way = way;
+          passed = 0;
+          linked = λ m. record {
+            last = record { object = l.object; near = l.near; head = l.head; some = omega arith; task = task; found = rw here found; field = f.field; its = f.its; known = f.known };
+            count = from_none (all_words (field_place b t (f.field).slot) ask m ∙ words_same);
+            through = λ j. ap (λ x. via ++ x ∷ []) (link_is (asks_of p) p.checks b p.rows via k t f.field task i j);
+          };
           all = refl;
         };
         all = fields_left ∙ f.all ∙ rw (one, g.same) refl;
@@ -131,25 +162,25 @@ module _ (p : Passing) (b : List ℕ) (holds : IsPassing p b) (room : ℕ) (fr :
 
   pub at_task : (task : Task) → slice_get tasks fr.next ≡ Some task → IsAtTask task
   at_task task found =
-      let f = next_field p.checks b p.rows (asks_of p) k t task (drop (fr.next + 1) tasks) l.kids l.fields l.unfolds l.known (sym l.tasks ∙ drop_at tasks fr.next (fr.next + 1) task found refl) in
-      let i = task_is p.checks b p.rows (asks_of p) k t f.field task f.its in
-      at_field task found f task.number i.number task.slot i.slot task.ask i.ask refl
+      let f = next_field p.checks b p.rows (asks_of p) via k t task (drop (fr.next + 1) tasks) l.kids l.fields l.unfolds l.known (sym l.tasks ∙ drop_at tasks fr.next (fr.next + 1) task found refl) in
+      let i = task_is p.checks b p.rows (asks_of p) via k t f.field task f.its in
+      at_field task found f task.number i.number task.slot i.slot task.ask i.ask refl i
 
   pub at_end : slice_get tasks fr.next ≡ None → ds ≡ []
-  at_end past = fields_left ∙ no_field p.checks b p.rows (asks_of p) k t l.kids l.fields l.unfolds (sym l.tasks ∙ drop_past tasks fr.next past)
+  at_end past = fields_left ∙ no_field p.checks b p.rows (asks_of p) via k t l.kids l.fields l.unfolds (sym l.tasks ∙ drop_past tasks fr.next past)
 
 -- The task was done.
-module _ (p : Passing) (m new : Lent) (holds : IsPassing p m.bytes) (room : ℕ) (fr : Frame) (ds : List Demand) (l : IsLeft p m.bytes room fr ds) (rests : (fr.row).left ≡ 0) (task : Task)
+module _ (p : Passing) (m new : Lent) (holds : IsPassing p m.bytes) (room : ℕ) (via : List Link) (fr : Frame) (ds : List Demand) (l : IsLeft p m.bytes room via fr ds) (rests : (fr.row).left ≡ 0) (task : Task)
     (found : slice_get (tasks_in (asks_of p) (live_fields p.rows (fr.table).object)) fr.next ≡ Some task) where
   abbrev here : Site
   here = record { object = (fr.table).object; field = Some task.number }
 
   abbrev its_demand : Demand
-  its_demand = task_demand p.checks m.bytes p.rows (asks_of p) (fr.table).object (fr.table).at task.number task.slot (type_place m.bytes (fr.table).at task.slot) (field_place m.bytes (fr.table).at task.slot) task.ask
+  its_demand = task_demand p.checks m.bytes p.rows (asks_of p) via (fr.table).object (fr.table).at (via ++ link_to_number (fr.table).object (Some task.number)) task.number task.slot (type_place m.bytes (fr.table).at task.slot) (field_place m.bytes (fr.table).at task.slot) task.ask
 
-  pub stays_at : (row : Row) → TaskPassed {A = Unit {0}} p m new (fr.table).at here task.slot task.ask fr.row row (Ok (tt {0})) → Stays p m new room ds fr (record { table = fr.table; next = fr.next + 1; number = task.number; row = row })
+  pub stays_at : (row : Row) → TaskPassed {A = Unit {0}} p m new (fr.table).at here task.slot task.ask fr.row row (Ok (tt {0})) → Stays p m new room via ds fr (record { table = fr.table; next = fr.next + 1; number = task.number; row = row })
   stays_at row h =
-      let a = at_task p m.bytes holds room fr ds l rests task found in
+      let a = at_task p m.bytes holds room via fr ds l rests task found in
       rw h.row (record {
         left = a.left;
         on = subst (λ xs. GoesOn p m new xs a.left) (sym a.all) (met p m new its_demand a.left {A = Unit {0}} (tt {0}) (Ok (tt {0})) refl h.asked);
@@ -157,10 +188,21 @@ module _ (p : Passing) (m new : Lent) (holds : IsPassing p m.bytes) (room : ℕ)
         falls = a.falls;
       })
 
-  pub stops_at : (row : Row) (s : Stop) → TaskPassed {A = Unit {0}} p m new (fr.table).at here task.slot task.ask fr.row row (Err s) → Breaks p.limits m.count ds (stopped s new.count)
+  pub stops_at : (row : Row) (s : Stop) → TaskPassed {A = Unit {0}} p m new (fr.table).at here task.slot task.ask fr.row row (Err s) → Breaks p.limits m.count ds (stopped s new.count) (via ++ own_link (stopped s new.count))
   stops_at row s h =
-      let a = at_task p m.bytes holds room fr ds l rests task found in
-      subst (λ xs. Breaks p.limits m.count xs (stopped s new.count)) (sym a.all) (unmet p m new its_demand a.left {A = Unit {0}} s (Err s) refl h.asked)
+      let a = at_task p m.bytes holds room via fr ds l rests task found in
+      let b = unmet p m new its_demand a.left {A = Unit {0}} s (Err s) refl h.asked in
+      let there = told_there p m new its_demand a.left {A = Unit {0}} s (Err s) refl h.asked in
+      let own : via ++ own_link (stopped s new.count) ≡ via ++ link_to_number (fr.table).object (Some task.number) = λ i. via ++ link_to_number (there.0 i) (there.1 i) in
+      rw (a.all, own) b
+
+-- it stops in its field
+one_less : (n : ℕ) → 0 < n → n - 1 + 1 ≡ n
+one_less n h = omega (arith, h)
+
+pub halts_in : (p : Passing) (m new : Lent) (via : List Link) (many : ℕ) (ds : List Demand) (past : Frame) (s : Stop) (h : Halt) → 0 < many → h ≡ record { stop = s; links = many - 1; last = InField }
+    → Breaks p.limits m.count ds (stopped s new.count) (via ++ own_link (stopped s new.count)) → StopsHere p m new via many ds past h h.last
+halts_in p m new via many ds past s h some is b = subst (λ (x : Halt). StopsHere p m new via many ds past x x.last) (sym is) (one_less many some, b)
 
 -- the tasks of an object, as the plan has them
 within_objects : (S : Rows) (k : ℕ) → IsTrue (is_table S k) → k < length S.objects

@@ -2,7 +2,7 @@
 use Rattle.std.proofs.Common.{◌≡◌, ℕ, ◌+◌, List, [], ◌∷◌, arith, Option, None, option_map, Bool, false, refl, ap, ◌∙◌}
 use Rattle.fb_schema.specs.declared.kinds.Kind.{Kind}
 use Rattle.fb_schema.specs.{Rows.Rows, Live.Live}
-use Rattle.fb_rules.specs.declared.checks.Checks.{Checks}
+use Rattle.fb_rules.specs.declared.{checks.Checks.Checks, link.Link.Link}
 use Rattle.fb_rules.specs.{Fields.Lead, Fields.to_table, Fields.to_struct, Fields.to_string, Fields.to_nothing, Fields.Entry}
 use Rattle.fb_rules.specs.Tree.{node, Elements, no_elements, element, Element, leaf, table}
 use Rattle.fb_rules.specs.Unfolds.{Unfolds, ElementsUnfold, ElementUnfolds}
@@ -16,29 +16,29 @@ module _ (asks : ℕ → Bool) (S : Rows) where
   no_task f kind h = grind arith
 
   module _ (c : Checks) (b : List ℕ) where
-    none_of_field : (k n t slot : ℕ) (types place : Option ℕ) (kind : Kind) → is_kind_asked asks kind ≡ false → field_demands asks c b S k n t slot types place kind ≡ []
-    none_of_field k n t slot types place kind h = grind arith
+    none_of_field : (links : List Link) (k n t slot : ℕ) (types place : Option ℕ) (kind : Kind) → is_kind_asked asks kind ≡ false → field_demands asks c b S links k n t slot types place kind ≡ []
+    none_of_field links k n t slot types place kind h = grind arith
 
-    none_below : (y : Element) (p' : ℕ) (lead : Lead) (k n p : ℕ) → IsQuiet asks S lead → ElementUnfolds y c b S p' lead → demands_below y asks c b S k n p ≡ []
+    none_below : (y : Element) (p' : ℕ) (lead : Lead) (links : List Link) (k n p : ℕ) → IsQuiet asks S lead → ElementUnfolds y c b S p' lead → demands_below y asks c b S links k n p ≡ []
     unfolding Unfolds ElementUnfolds demands_below
-    none_below leaf p' lead k n p q u = refl
-    none_below (table (node k' t' kids)) p' (to_table j) k n p q u = let is : asks k' ≡ false = ap asks u.1.0 ∙ q in rw is refl
-    none_below (table y) p' (to_struct size align) k n p q u = absurd u
-    none_below (table y) p' to_string k n p q u = absurd u
-    none_below (table y) p' to_nothing k n p q u = absurd u
+    none_below leaf p' lead links k n p q u = refl
+    none_below (table (node k' t' kids)) p' (to_table j) links k n p q u = let is : asks k' ≡ false = ap asks u.1.0 ∙ q in rw is refl
+    none_below (table y) p' (to_struct size align) links k n p q u = absurd u
+    none_below (table y) p' to_string links k n p q u = absurd u
+    none_below (table y) p' to_nothing links k n p q u = absurd u
 
-    none_in_row : (ys : Elements) (xs : List Entry) (k n p : ℕ) → AreQuiet asks S xs → ElementsUnfold ys c b S xs → demands_in_row ys asks c b S k n p None ≡ []
+    none_in_row : (ys : Elements) (xs : List Entry) (way : ℕ → List Link) (k n j p : ℕ) → AreQuiet asks S xs → ElementsUnfold ys c b S xs → demands_in_row ys asks c b S way k n j p None ≡ []
     unfolding AreQuiet ElementsUnfold demands_in_row
-    none_in_row no_elements xs k n p q u = refl
-    none_in_row (element y ys) [] k n p q u = absurd u
-    none_in_row (element y ys) (x ∷ xs) k n p q u = rw (none_below y x.place x.lead k n p q.0 u.0) (none_in_row ys xs k n (p + 4) q.1 u.1)
+    none_in_row no_elements xs way k n j p q u = refl
+    none_in_row (element y ys) [] way k n j p q u = absurd u
+    none_in_row (element y ys) (x ∷ xs) way k n j p q u = rw (none_below y x.place x.lead (way j) k n p q.0 u.0) (none_in_row ys xs way k n (j + 1) (p + 4) q.1 u.1)
 
   no_types : (b : List ℕ) (types : Option ℕ) (kind : Kind) → is_kind_asked asks kind ≡ false → row_types b types kind ≡ None
   no_types b types kind h = grind arith
 
 pub nothing_asked : TasksLaw
-nothing_asked asks S f ys c b k t none u =
+nothing_asked asks S f ys c b k t none u links way =
     let quiet = no_task asks S f f.kind none in (
-      none_of_field asks S c b k f.number t f.slot _ _ f.kind quiet,
-      rw (no_types asks S b _ f.kind quiet) (none_in_row asks S c b ys _ k f.number _ (quiet_entries asks S b t f quiet) u),
+      none_of_field asks S c b links k f.number t f.slot _ _ f.kind quiet,
+      rw (no_types asks S b _ f.kind quiet) (none_in_row asks S c b ys _ way k f.number 0 _ (quiet_entries asks S b t f quiet) u),
     )

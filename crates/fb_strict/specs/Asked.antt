@@ -4,16 +4,19 @@ use Rattle.std.specs.List.{sum_by}
 use Rattle.fb_schema.specs.declared.kinds.Kind.{Kind}
 use Rattle.fb_schema.specs.declared.kinds.Kind.TheVariants.{Table, Union, Tables, Unions}
 use Rattle.fb_schema.specs.{Rows.Rows, Live.Live, Live.live_fields}
-use Rattle.fb_rules.specs.declared.{checks.Checks.Checks, fault.Fault.Fault}
+use Rattle.fb_rules.specs.declared.{checks.Checks.Checks, fault.Fault.Fault, link.Link.Link}
 use Rattle.fb_rules.specs.{Bounds.Bounds, Bounds.AreAllowed, Places.target, Places.field_place, Fields.type_place, Fields.types_begin, Fields.entries, Unfolds.Unfolds, Unfolds.ElementsUnfold}
+use Rattle.fb_rules.specs.{Links.field_link, Links.element_link}
 use Rattle.fb_rules.specs.{Cost.head_reads, Cost.slot_reads, Cost.reads_if_present, Order.Failure, Order.after, Order.◌▷◌, Stops.reads_failure}
 use Rattle.fb_rules.specs.Tree.{Tree, node, Kids, no_kids, kid, Elements, no_elements, element, Element, leaf, table}
 use Rattle.fb_strict.specs.{Strict.IsStrictBuffer, Skipped.IsClosed, Planned.task_of}
 use Rattle.fb_strict.specs.InOrder.{length_failure, places_reads, union_failure, union_reads, together_failure, element_failure, element_reads}
 
--- one thing that is asked at a table of this object, at the field with this number or at its head: a chain of tests, the
--- reads that are made where it finds nothing, and the position at which these are told to be too many
+-- one thing that is asked at a table of this object, at the field with this number or at its head: a chain of tests,
+-- the reads that are made where it finds nothing, and the position at which these are told to be too many; and the links
+-- that lead there, the root's first
 pub record Demand : Type 0 where
+  pub links : List Link
   pub object : ℕ
   pub field : Option ℕ
   pub at : ℕ
@@ -21,24 +24,24 @@ pub record Demand : Type 0 where
   pub chain : Option Failure
 
 -- reading what is known to hold
-abbrev pub reading : ℕ → Option ℕ → (at reads : ℕ) → Demand
-reading k field at reads = record { object = k; field = field; at = at; reads = reads; chain = None }
+abbrev pub reading : List Link → ℕ → Option ℕ → (at reads : ℕ) → Demand
+reading links k field at reads = record { links = links; object = k; field = field; at = at; reads = reads; chain = None }
 
 -- the reads of a vector of unions that is there, and of where its types begin
 abbrev pub vectors_reads : (types place : Option ℕ) → ℕ
 vectors_reads (Some q) (Some p) = 3
 vectors_reads _ _ = 0
 
--- a field by itself, with this number and slot, of the table at t, of the object k: its type field and its value stand at
--- these places
-abbrev pub field_demands : (ℕ → Bool) → Checks → List ℕ → Rows → (k n t slot : ℕ) → (types place : Option ℕ) → Kind → List Demand
-field_demands asks c b S k n t slot types place (Table j) = if asks j then reading k (Some n) t (slot_reads b t slot) ∷ [] else []
-field_demands asks c b S k n t slot types place (Union e) =
-    record { object = k; field = Some n; at = t; reads = places_reads b t slot + union_reads b S e types place; chain = after (places_reads b t slot) (union_failure c b S e t types place) } ∷ []
-field_demands asks c b S k n t slot types place (Tables j) = if asks j then reading k (Some n) t (slot_reads b t slot + reads_if_present 2 place) ∷ [] else []
-field_demands asks c b S k n t slot types place (Unions e) =
-    record { object = k; field = Some n; at = t; reads = places_reads b t slot + vectors_reads types place; chain = after (places_reads b t slot) (together_failure types place) } ∷ []
-field_demands asks c b S k n t slot types place _ = []
+-- a field by itself, to which these links lead, with this number and slot, of the table at t, of the object k: its type
+-- field and its value stand at these places
+abbrev pub field_demands : (ℕ → Bool) → Checks → List ℕ → Rows → List Link → (k n t slot : ℕ) → (types place : Option ℕ) → Kind → List Demand
+field_demands asks c b S links k n t slot types place (Table j) = if asks j then reading links k (Some n) t (slot_reads b t slot) ∷ [] else []
+field_demands asks c b S links k n t slot types place (Union e) =
+    record { links = links; object = k; field = Some n; at = t; reads = places_reads b t slot + union_reads b S e types place; chain = after (places_reads b t slot) (union_failure c b S e t types place) } ∷ []
+field_demands asks c b S links k n t slot types place (Tables j) = if asks j then reading links k (Some n) t (slot_reads b t slot + reads_if_present 2 place) ∷ [] else []
+field_demands asks c b S links k n t slot types place (Unions e) =
+    record { links = links; object = k; field = Some n; at = t; reads = places_reads b t slot + vectors_reads types place; chain = after (places_reads b t slot) (together_failure types place) } ∷ []
+field_demands asks c b S links k n t slot types place _ = []
 
 -- where the types of offset words stand, and of which union they are
 pub record Types : Type 0 where
@@ -62,38 +65,40 @@ abbrev pub next_types : Option Types → Option Types
 next_types None = None
 next_types (Some ts) = Some (record { union = ts.union; at = ts.at + 1 })
 
--- an offset word at p by itself, where its type tells what it leads to
-abbrev pub element_demands : Checks → List ℕ → Rows → (k n p : ℕ) → Option Types → List Demand
-element_demands c b S k n p None = []
-element_demands c b S k n p (Some ts) =
-    record { object = k; field = Some n; at = p; reads = element_reads b S ts.union ts.at; chain = element_failure c b S ts.union ts.at p } ∷ []
+-- an offset word at p by itself, through which these links lead, where its type tells what it leads to
+abbrev pub element_demands : Checks → List ℕ → Rows → List Link → (k n p : ℕ) → Option Types → List Demand
+element_demands c b S links k n p None = []
+element_demands c b S links k n p (Some ts) =
+    record { links = links; object = k; field = Some n; at = p; reads = element_reads b S ts.union ts.at; chain = element_failure c b S ts.union ts.at p } ∷ []
 
 abbrev pub object_of : Tree → ℕ
 object_of (node k t kids) = k
 
 unfoldable mutual
-  -- a table: its head, and then its fields
-  pub demands_in : Tree → (ℕ → Bool) → Checks → List ℕ → Rows → List Demand
-  demands_in (node k t kids) asks c b S = reading k None t (head_reads c) ∷ demands_in_fields kids asks c b S k t (live_fields S k)
+  -- a table to which these links lead: its head, and then its fields
+  pub demands_in : Tree → (ℕ → Bool) → Checks → List ℕ → Rows → List Link → List Demand
+  demands_in (node k t kids) asks c b S via = reading via k None t (head_reads c) ∷ demands_in_fields kids asks c b S via k t (live_fields S k)
 
   -- each field by itself, and then its offset words
-  pub demands_in_fields : Kids → (ℕ → Bool) → Checks → List ℕ → Rows → ℕ → ℕ → List Live → List Demand
-  demands_in_fields no_kids asks c b S k t fs = []
-  demands_in_fields (kid ys kids) asks c b S k t [] = []
-  demands_in_fields (kid ys kids) asks c b S k t (f ∷ fs) =
-      field_demands asks c b S k f.number t f.slot (type_place b t f.slot) (field_place b t f.slot) f.kind
-      ++ (demands_in_row ys asks c b S k f.number (row_place b (field_place b t f.slot) f.kind) (row_types b (type_place b t f.slot) f.kind)
-      ++ demands_in_fields kids asks c b S k t fs)
+  pub demands_in_fields : Kids → (ℕ → Bool) → Checks → List ℕ → Rows → List Link → ℕ → ℕ → List Live → List Demand
+  demands_in_fields no_kids asks c b S via k t fs = []
+  demands_in_fields (kid ys kids) asks c b S via k t [] = []
+  demands_in_fields (kid ys kids) asks c b S via k t (f ∷ fs) =
+      field_demands asks c b S (via ++ field_link k f ∷ []) k f.number t f.slot (type_place b t f.slot) (field_place b t f.slot) f.kind
+      ++ (demands_in_row ys asks c b S (λ j. via ++ element_link b k t f j ∷ []) k f.number 0 (row_place b (field_place b t f.slot) f.kind) (row_types b (type_place b t f.slot) f.kind)
+      ++ demands_in_fields kids asks c b S via k t fs)
 
-  -- each offset word from p on by itself, and then the table that it leads to
-  pub demands_in_row : Elements → (ℕ → Bool) → Checks → List ℕ → Rows → (k n p : ℕ) → Option Types → List Demand
-  demands_in_row no_elements asks c b S k n p types = []
-  demands_in_row (element y ys) asks c b S k n p types = element_demands c b S k n p types ++ (demands_below y asks c b S k n p ++ demands_in_row ys asks c b S k n (p + 4) (next_types types))
+  -- each offset word from p on by itself, and then the table that it leads to; j others are before it, and by such a
+  -- number its links are told
+  pub demands_in_row : Elements → (ℕ → Bool) → Checks → List ℕ → Rows → (ℕ → List Link) → (k n j p : ℕ) → Option Types → List Demand
+  demands_in_row no_elements asks c b S way k n j p types = []
+  demands_in_row (element y ys) asks c b S way k n j p types =
+      element_demands c b S (way j) k n p types ++ (demands_below y asks c b S (way j) k n p ++ demands_in_row ys asks c b S way k n (j + 1) (p + 4) (next_types types))
 
   -- where anything is asked of that
-  pub demands_below : Element → (ℕ → Bool) → Checks → List ℕ → Rows → (k n p : ℕ) → List Demand
-  demands_below leaf asks c b S k n p = []
-  demands_below (table y) asks c b S k n p = if asks (object_of y) then reading k (Some n) p 1 ∷ demands_in y asks c b S else []
+  pub demands_below : Element → (ℕ → Bool) → Checks → List ℕ → Rows → List Link → (k n p : ℕ) → List Demand
+  demands_below leaf asks c b S links k n p = []
+  demands_below (table y) asks c b S links k n p = if asks (object_of y) then reading links k (Some n) p 1 ∷ demands_in y asks c b S links else []
 
 -- all chains find nothing
 abbrev pub AreMet : List Demand → Type 0
@@ -114,11 +119,21 @@ unfoldable pub first_fault : Bounds → ℕ → List Demand → Option Fault
 first_fault L paid [] = None
 first_fault L paid (d ∷ ds) = demand_fault d paid (d.chain ▷ reads_failure L paid d.reads d.at) ▷ first_fault L (paid + d.reads) ds
 
+-- the links of a demand where its chain or its reads fail, or else these
+abbrev pub links_where : Option Failure → (own later : List Link) → List Link
+links_where None own later = later
+links_where (Some e) own later = own
+
+-- the links that lead to the first of these demands that isn't met within the limits
+unfoldable pub first_links : Bounds → ℕ → List Demand → List Link
+first_links L paid [] = []
+first_links L paid (d ∷ ds) = links_where (d.chain ▷ reads_failure L paid d.reads d.at) d.links (first_links L (paid + d.reads) ds)
+
 -- all that is asked of a buffer that unfolds into this tree, with a root table of this object: its length, and then the
 -- tree, where anything is asked of it
 abbrev pub demands_of : (ℕ → Bool) → Checks → List ℕ → Rows → ℕ → Tree → List Demand
 demands_of asks c b S root y =
-    record { object = root; field = None; at = length b; reads = 0; chain = length_failure b } ∷ (if asks root then demands_in y asks c b S else [])
+    record { links = []; object = root; field = None; at = length b; reads = 0; chain = length_failure b } ∷ (if asks root then demands_in y asks c b S [] else [])
 
 -- it finds nothing exactly where the buffer is strict
 abbrev pub DemandsLaw : Type 0
@@ -132,6 +147,6 @@ FirstLaw = (L : Bounds) (ds : List Demand) (paid : ℕ) → AreAllowed L.reads p
 -- a field without a task is asked nothing, nor is what it leads to
 abbrev pub TasksLaw : Type 0
 TasksLaw =
-    (asks : ℕ → Bool) (S : Rows) (f : Live) (ys : Elements) (c : Checks) (b : List ℕ) (k t : ℕ) → task_of asks f ≡ None → ElementsUnfold ys c b S (entries b S t f)
-    → (field_demands asks c b S k f.number t f.slot (type_place b t f.slot) (field_place b t f.slot) f.kind ≡ [])
-    × (demands_in_row ys asks c b S k f.number (row_place b (field_place b t f.slot) f.kind) (row_types b (type_place b t f.slot) f.kind) ≡ [])
+    (asks : ℕ → Bool) (S : Rows) (f : Live) (ys : Elements) (c : Checks) (b : List ℕ) (k t : ℕ) → task_of asks f ≡ None → ElementsUnfold ys c b S (entries b S t f) → (links : List Link) (way : ℕ → List Link)
+    → (field_demands asks c b S links k f.number t f.slot (type_place b t f.slot) (field_place b t f.slot) f.kind ≡ [])
+    × (demands_in_row ys asks c b S way k f.number 0 (row_place b (field_place b t f.slot) f.kind) (row_types b (type_place b t f.slot) f.kind) ≡ [])

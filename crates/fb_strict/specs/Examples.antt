@@ -1,14 +1,14 @@
 -- Examples of what is demanded: bytes that meet it or don't, most of them beside those around.
 use Rattle.std.specs.Prelude.{◌≡◌, ℕ, List, [], ◌∷◌, ◌++◌, Option, Some, None}
 use Rattle.fb_rules.specs.declared.fault.Reason.TheVariants.{OutOfBuffer, Misaligned, ZeroOffset, MissingRequired, LengthsDiffer, TooManyReads}
-use Rattle.fb_rules.specs.declared.fault.Fault.{Fault}
-use Rattle.fb_rules.specs.Tree.{Tree, node, no_kids, kid, no_elements}
+use Rattle.fb_rules.specs.declared.{fault.Fault.Fault, link.Link.Link}
+use Rattle.fb_rules.specs.Tree.{Tree, node, no_kids, kid, no_elements, element, leaf, table as table_below}
 use Rattle.fb_schema.specs.{Rows.Rows, Live.live_fields}
 use Rattle.fb_rules.specs.{Samples.fault, Samples.published_checks, Samples.unions, Samples.table, Samples.field, Samples.object, Samples.vector, Tests.found}
 use Rattle.fb_rules.specs.Order.{Failure}
 use Rattle.fb_strict.specs.declared.{tasks.Ask.Ask, tasks.Task.Task}
 use Rattle.fb_strict.specs.declared.tasks.Ask.TheVariants.{Union as AskUnion, Unions as AskUnions, Table as GoInto, Tables as GoIntoEach}
-use Rattle.fb_strict.specs.{Skipped.reaches_union, Planned.tasks_in, Asked.demands_of, Asked.first_fault}
+use Rattle.fb_strict.specs.{Skipped.reaches_union, Planned.tasks_in, Asked.demands_of, Asked.first_fault, Asked.first_links}
 use Rattle.fb_strict.specs.InOrder.{length_failure, inside_failure, union_failure, together_failure, element_failure}
 
 -- the union of a table at 4, whose type and value stand at these places of such bytes: 1 is its member, 9 is none
@@ -96,3 +96,38 @@ pub record FaultRows : Type 0 where
   pub one_read_too_many : fault_of 7 9 (Some 15) ≡ Some (fault TooManyReads 12 2 (Some 1) 16)
   pub in_the_head : fault_of 7 9 (Some 11) ≡ Some (fault TooManyReads 12 2 None 12)
   pub the_test_before_its_reads : fault_of 8 9 (Some 15) ≡ Some (fault OutOfBuffer 24 2 (Some 1) 16)
+
+-- the links to the first fault of a buffer whose root is a table of this object within this budget, once ten reads are
+-- made
+abbrev pub links_in : Option ℕ → ℕ → List ℕ → Tree → List Link
+links_in budget root b y = first_links (record { depth = 64; tables = 64; reads = budget }) 10 (demands_of (reaches_union 3 around) published_checks b around root y)
+
+-- a link of an object and a field, and of an element and a type where it has these
+abbrev pub link : (k n : ℕ) → (place type : Option ℕ) → Link
+link k n place type = record { object = k; field = n; element = place; member = type }
+
+-- a table Y with a table R, whose union has this offset word and a type that is unknown
+abbrev pub nested : ℕ → List ℕ
+nested offset =
+    12 ∷ 0 ∷ 0 ∷ 0 ∷ 6 ∷ 0 ∷ 8 ∷ 0 ∷ 4 ∷ 0 ∷ 0 ∷ 0 ∷ 8 ∷ 0 ∷ 0 ∷ 0 ∷ 12 ∷ 0 ∷ 0 ∷ 0 ∷ 8 ∷ 0 ∷ 12 ∷ 0 ∷ 8 ∷ 0 ∷ 4 ∷ 0 ∷ 8 ∷ 0 ∷ 0 ∷ 0 ∷ offset ∷ 0 ∷ 0 ∷ 0 ∷ 9 ∷ 0 ∷ 0 ∷ 0 ∷ []
+
+abbrev pub nested_tree : Tree
+nested_tree = node 5 12 (kid (element (table_below (node 2 28 (kid no_elements (kid no_elements no_kids)))) no_elements) (kid no_elements (kid no_elements no_kids)))
+
+-- a table with a vector of two unions, of type 0 and of a type that is unknown, the second with this offset word
+abbrev pub pair : ℕ → List ℕ
+pair offset =
+    12 ∷ 0 ∷ 0 ∷ 0 ∷ 8 ∷ 0 ∷ 12 ∷ 0 ∷ 4 ∷ 0 ∷ 8 ∷ 0 ∷ 8 ∷ 0 ∷ 0 ∷ 0 ∷ 8 ∷ 0 ∷ 0 ∷ 0 ∷ 12 ∷ 0 ∷ 0 ∷ 0 ∷ 2 ∷ 0 ∷ 0 ∷ 0 ∷ 0 ∷ 9 ∷ 0 ∷ 0 ∷ 2 ∷ 0 ∷ 0 ∷ 0 ∷ 0 ∷ 0 ∷ 0 ∷ 0 ∷ offset ∷ 0 ∷ 0 ∷ 0 ∷ []
+
+abbrev pub pair_tree : Tree
+pair_tree = node 3 12 (kid no_elements (kid (element leaf (element leaf no_elements)) no_kids))
+
+pub record LinkRows : Type 0 where
+  pub too_short : links_in None 2 (4 ∷ 0 ∷ 0 ∷ 0 ∷ 4 ∷ 0 ∷ 0 ∷ 0 ∷ []) (node 2 4 (kid no_elements (kid no_elements no_kids))) ≡ []
+  pub met : links_in None 2 (lone 7 9) lone_tree ≡ []
+  pub the_field_itself : links_in None 2 (lone 8 9) lone_tree ≡ link 2 1 None None ∷ []
+  pub its_reads : links_in (Some 15) 2 (lone 7 9) lone_tree ≡ link 2 1 None None ∷ []
+  pub in_the_head : links_in (Some 11) 2 (lone 7 9) lone_tree ≡ []
+  pub below : links_in None 5 (nested 8) nested_tree ≡ link 5 0 None None ∷ link 2 1 None None ∷ []
+  pub in_the_head_below : links_in (Some 14) 5 (nested 7) nested_tree ≡ link 5 0 None None ∷ []
+  pub in_a_vector : links_in None 3 (pair 4) pair_tree ≡ link 3 1 (Some 1) (Some 9) ∷ []

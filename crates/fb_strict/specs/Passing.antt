@@ -1,22 +1,24 @@
 -- A pass over a buffer that unfolds: what is left to be asked, as the frames of the open tables hold it.
-use Rattle.std.specs.Prelude.{◌≡◌, ℕ, zero, suc, ◌+◌, ◌-◌, ◌*◌, ◌^◌, ◌<◌, ◌≤◌, nat_le, IsTrue, Bool, true, if◌then◌else◌, max, List, [], ◌∷◌, ◌++◌, length, drop, get_or, Option, Some, None, Result, Ok, Err, IfOk}
+use Rattle.std.specs.Prelude.{◌≡◌, ℕ, zero, suc, ◌+◌, ◌-◌, ◌*◌, ◌^◌, ◌<◌, ◌≤◌, nat_le, IsTrue, Bool, true, if◌then◌else◌, max, List, [], ◌∷◌, ◌++◌, length, map, take, drop, get_or, slice_get, Option, Some, None, Result, Ok, Err, IfOk}
 use Rattle.fb_bytes.specs.Word.{Lent, word}
 use Rattle.fb_schema.specs.declared.kinds.Kind.{Kind}
 use Rattle.fb_schema.specs.declared.kinds.Kind.TheVariants.{Table as TableKind}
 use Rattle.fb_schema.specs.{Rows.Rows, Rows.is_table, Rows.is_union, Live.Live, Live.live_fields, Members.member_of, Served.IsServed, Served.KindHolds}
-use Rattle.fb_rules.specs.declared.{checks.Checks.Checks, fault.Fault.Fault, site.Site.Site, site.Stop.Stop, table.Table.Table, table.Child.Child}
+use Rattle.fb_rules.specs.declared.{checks.Checks.Checks, fault.Fault.Fault, site.Site.Site, site.Stop.Stop, site.Halt.Halt, table.Table.Table, table.Child.Child}
+use Rattle.fb_rules.specs.declared.{site.LastLink.LastLink, site.LastLink.TheVariants.Behind, site.LastLink.TheVariants.InField, link.Link.Link}
 use Rattle.fb_rules.specs.declared.{offset_row.Row.Row, offset_row.Leads.Leads, offset_row.Leads.TheVariants.All, offset_row.Leads.TheVariants.ByType}
 use Rattle.fb_rules.specs.declared.offset_row.Referent.TheVariants.{Table as ATable, Nothing}
-use Rattle.fb_rules.specs.{Bounds.Bounds, Bounds.AreAllowed, Bounds.allowed, Places.target, Places.field_place, Fields.IsField, Fields.type_place, Fields.types_begin}
+use Rattle.fb_rules.specs.{Bounds.Bounds, Bounds.AreAllowed, Bounds.allowed, Places.target, Places.field_place, Fields.IsField, Fields.type_place, Fields.types_begin, Fields.union_type}
 use Rattle.fb_rules.specs.{Cost.slot_reads, Cost.reads_if_present, Order.Failure, Order.after, Told.IsHead, Told.IsAskedAt, Told.stopped, OffsetRows.words_of, OffsetRows.IsTyped, OffsetRows.TypeFits, OffsetRows.TypesFit}
 use Rattle.fb_rules.specs.Tree.{Tree, Kids, kids_depth, Elements, elements_depth, depth}
 use Rattle.fb_rules.specs.Unfolds.{FieldsUnfold, ElementsUnfold, Unfolds}
-use Rattle.fb_strict.specs.declared.{room.Frame.Frame, tasks.Ask.Ask, pass.Turn.Turn}
+use Rattle.fb_verify.specs.Stack.{own_link, last_link, links_left}
+use Rattle.fb_strict.specs.declared.{room.Frame.Frame, tasks.Ask.Ask, tasks.Task.Task, pass.Turn.Turn}
 use Rattle.fb_strict.specs.declared.tasks.Ask.TheVariants.{Union as AskUnion, Unions as AskUnions, Table as GoInto, Tables as GoIntoEach}
 use Rattle.fb_strict.specs.declared.pass.Turn.TheVariants.{Here, Up, Down}
-use Rattle.fb_strict.specs.{Planned.Planned, Planned.IsPlan, Planned.marked, Planned.tasks_in}
+use Rattle.fb_strict.specs.{Planned.Planned, Planned.IsPlan, Planned.marked, Planned.task_of, Planned.tasks_in}
 use Rattle.fb_strict.specs.InOrder.{places_reads, union_failure, union_reads, together_failure, element_failure, element_reads, member_at}
-use Rattle.fb_strict.specs.Asked.{Demand, Types, vectors_reads, demands_in_fields, demands_in_row, demands_in, demands_reads, first_fault}
+use Rattle.fb_strict.specs.Asked.{Demand, Types, vectors_reads, demands_in_fields, demands_in_row, demands_in, demands_reads, first_fault, first_links}
 
 -- what a pass carries: its plan, the rows, its limits and checks
 pub record Passing : Type 0 where
@@ -120,9 +122,78 @@ unfoldable pub AreKnown : Checks → List ℕ → Rows → ℕ → List Live →
 AreKnown c b S t [] = Unit {0}
 AreKnown c b S t (f ∷ fs) = IsKnown c b S t f × AreKnown c b S t fs
 
--- the frame of a table that is open stands for these demands: those of the words that are left of a field, and then
--- those of the other fields. There are frames for so many tables from this one on
-pub record IsLeft (p : Passing) (b : List ℕ) (room : ℕ) (fr : Frame) (ds : List Demand) : Type 0 where
+-- The links through offset words that were passed: a frame tells its own by its last task, and by how many words are
+-- left behind it.
+
+-- how many offset words a field with this task has, whose value stands at this place
+abbrev pub ask_words : List ℕ → Option ℕ → Ask → ℕ
+ask_words b None ask = 0
+ask_words b (Some p) (GoIntoEach k) = word b (target b p) 4
+ask_words b (Some p) (AskUnions e) = word b (target b p) 4
+ask_words b (Some p) _ = 1
+
+abbrev pub task_words : List ℕ → (t : ℕ) → Task → ℕ
+task_words b t task = ask_words b (field_place b t task.slot) task.ask
+
+-- the number of an element with j others before it, where the field with this task is a vector
+abbrev pub ask_element : ℕ → Ask → Option ℕ
+ask_element j (GoIntoEach k) = Some j
+ask_element j (AskUnions e) = Some j
+ask_element j _ = None
+
+-- the type of a union with j others before it, where the field is a union or a vector of these, whose types stand here
+abbrev pub ask_member : List ℕ → (types : Option ℕ) → ℕ → Ask → Option ℕ
+ask_member b types j (AskUnion e) = Some (union_type b types)
+ask_member b types j (AskUnions e) = Some (word b (types_begin b types + j) 1)
+ask_member b types j _ = None
+
+-- the link through the offset word with j others before it
+abbrev pub task_link : List ℕ → (k t : ℕ) → Task → ℕ → Link
+task_link b k t task j = record { object = k; field = task.number; element = ask_element j task.ask; member = ask_member b (type_place b t task.slot) j task.ask }
+
+-- the link through the word behind which a frame's row was left, of this task
+abbrev pub link_behind : List ℕ → Frame → Option Task → Link
+link_behind b fr None = record { object = (fr.table).object; field = 0; element = None; member = None }
+link_behind b fr (Some task) = task_link b (fr.table).object (fr.table).at task (task_words b (fr.table).at task - (fr.row).left - 1)
+
+-- the same, of the task before the frame's next
+abbrev pub frame_link : (ℕ → Bool) → List ℕ → Rows → Frame → Link
+frame_link asks b S fr = link_behind b fr (slice_get (tasks_in asks (live_fields S (fr.table).object)) (fr.next - 1))
+
+-- the last task of an open table, before this one, and its field
+pub record IsTasked (asks : ℕ → Bool) (c : Checks) (b : List ℕ) (S : Rows) (table : Table) (next : ℕ) : Type 0 where
+  pub object : IsTrue (is_table S table.object)
+  pub near : table.at < 2 ^ 33
+  pub head : IsHead c b table.at table.head
+  pub some : 0 < next
+  pub task : Task
+  pub found : slice_get (tasks_in asks (live_fields S table.object)) (next - 1) ≡ Some task
+  pub field : Live
+  pub its : task_of asks field ≡ Some task
+  pub known : IsKnown c b S table.at field
+
+-- a word of it stands before the row that was left
+pub record IsLinked (asks : ℕ → Bool) (c : Checks) (b : List ℕ) (S : Rows) (fr : Frame) : Type 0 where
+  pub last : IsTasked asks c b S fr.table fr.next
+  pub more : (fr.row).left < task_words b (fr.table).at last.task
+
+-- the links of the first so many of these frames, and that each has one
+abbrev pub frame_links : (ℕ → Bool) → List ℕ → Rows → List Frame → ℕ → List Link
+frame_links asks b S frames n = map (frame_link asks b S) (take n frames)
+
+abbrev pub AreLinked : (ℕ → Bool) → Checks → List ℕ → Rows → List Frame → ℕ → Type 0
+AreLinked asks c b S frames n = (i : ℕ) → i < n → IsLinked asks c b S (get_or frames i blank)
+
+-- a frame whose next word, with so many before it, is one of its last task: the links of the word's demands are those by
+-- which the table was reached, and then the one through the word
+pub record IsOnWay (asks : ℕ → Bool) (c : Checks) (b : List ℕ) (S : Rows) (via : List Link) (fr : Frame) (way : ℕ → List Link) (passed : ℕ) : Type 0 where
+  pub last : IsTasked asks c b S fr.table fr.next
+  pub count : passed + (fr.row).left ≡ task_words b (fr.table).at last.task
+  pub through : (j : ℕ) → way j ≡ via ++ task_link b (fr.table).object (fr.table).at last.task j ∷ []
+
+-- the frame of a table that is open, to which these links lead, stands for these demands: those of the words that are
+-- left of a field, and then those of the other fields. There are frames for so many tables from this one on
+pub record IsLeft (p : Passing) (b : List ℕ) (room : ℕ) (via : List Link) (fr : Frame) (ds : List Demand) : Type 0 where
   pub object : IsTrue (is_table p.rows (fr.table).object)
   pub near : (fr.table).at < 2 ^ 33
   pub head : IsHead p.checks b (fr.table).at (fr.table).head
@@ -135,23 +206,28 @@ pub record IsLeft (p : Passing) (b : List ℕ) (room : ℕ) (fr : Frame) (ds : L
   pub row : ElementsUnfold words p.checks b p.rows (words_of b p.rows fr.row)
   pub asked : IsAskedRow p b fr.row
   pub deep : max (elements_depth words) (kids_depth kids) < room
-  pub all : ds ≡ demands_in_row words (asks_of p) p.checks b p.rows (fr.table).object fr.number (fr.row).place (leads_types (fr.row).leads)
-      ++ demands_in_fields kids (asks_of p) p.checks b p.rows (fr.table).object (fr.table).at fields
+  pub way : ℕ → List Link
+  pub passed : ℕ
+  pub linked : 0 < (fr.row).left → IsOnWay (asks_of p) p.checks b p.rows via fr way passed
+  pub all : ds ≡ demands_in_row words (asks_of p) p.checks b p.rows way (fr.table).object fr.number passed (fr.row).place (leads_types (fr.row).leads)
+      ++ demands_in_fields kids (asks_of p) p.checks b p.rows via (fr.table).object (fr.table).at fields
 
--- the first so many of these frames stand for these demands, the last of them first
+-- the first so many of these frames stand for these demands, the last of them first, and each but that has its link
 unfoldable pub AreLeft : Passing → List ℕ → List Frame → ℕ → List Demand → Type 0
 AreLeft p b frames zero ds = ds ≡ []
-AreLeft p b frames (suc n) ds = (own : List Demand) × (others : List Demand) × IsLeft p b (length frames - n) (get_or frames n blank) own × AreLeft p b frames n others × (ds ≡ own ++ others)
+AreLeft p b frames (suc n) ds = (own : List Demand) × (others : List Demand) × IsLeft p b (length frames - n) (frame_links (asks_of p) b p.rows frames n) (get_or frames n blank) own × AreLeft p b frames n others × (ds ≡ own ++ others) × AreLinked (asks_of p) p.checks b p.rows frames n
 
 -- a pass goes on from these demands after so many reads to those after so many, whatever is demanded afterwards
 pub record Moves (L : Bounds) (paid : ℕ) (ds : List Demand) (last : ℕ) (left : List Demand) : Type 0 where
   pub same : (more : List Demand) → first_fault L paid (ds ++ more) ≡ first_fault L last (left ++ more)
+  pub links : (more : List Demand) → first_links L paid (ds ++ more) ≡ first_links L last (left ++ more)
   pub reads : paid + demands_reads ds ≡ last + demands_reads left
   pub allowed : AreAllowed L.reads paid → AreAllowed L.reads last
 
--- one of these demands isn't met: the fault is told first, whatever is demanded afterwards
-abbrev pub Breaks : Bounds → ℕ → List Demand → Fault → Type 0
-Breaks L paid ds f = (more : List Demand) → first_fault L paid (ds ++ more) ≡ Some f
+-- one of these demands isn't met: the fault is told first, and these links lead to it, whatever is demanded afterwards
+pub record Breaks (L : Bounds) (paid : ℕ) (ds : List Demand) (f : Fault) (links : List Link) : Type 0 where
+  pub first : (more : List Demand) → first_fault L paid (ds ++ more) ≡ Some f
+  pub along : (more : List Demand) → first_links L paid (ds ++ more) ≡ links
 
 -- the turns that are left for a frame at most, but for those of tables to be opened
 abbrev pub frame_work : Passing → Frame → ℕ
@@ -162,15 +238,15 @@ unfoldable pub frames_work : Passing → List Frame → ℕ → ℕ
 frames_work p frames zero = 0
 frames_work p frames (suc n) = frame_work p (get_or frames n blank) + frames_work p frames n
 
--- The table at this position, of this object, is to be opened: it unfolds into a tree with these demands, for whose
--- tables there are so many frames.
-pub record IsNext (p : Passing) (b : List ℕ) (room : ℕ) (child : Child) (ds : List Demand) : Type 0 where
+-- The table at this position, of this object, to which these links lead, is to be opened: it unfolds into a tree with
+-- these demands, for whose tables there are so many frames.
+pub record IsNext (p : Passing) (b : List ℕ) (room : ℕ) (via : List Link) (child : Child) (ds : List Demand) : Type 0 where
   pub tree : Tree
   pub unfolds : Unfolds tree p.checks b p.rows child.object child.at
   pub object : IsTrue (is_table p.rows child.object)
   pub near : child.at < 2 ^ 33
   pub deep : depth tree ≤ room
-  pub all : ds ≡ demands_in tree (asks_of p) p.checks b p.rows
+  pub all : ds ≡ demands_in tree (asks_of p) p.checks b p.rows via
 
 -- a task of the table at t was done: its demand is met, and the words of its field were put; or the pass stops
 pub record TaskPassed {A : Type 0} (p : Passing) (m new : Lent) (t : ℕ) (site : Site) (slot : ℕ) (ask : Ask) (old past : Row) (result : Result A Stop) : Type 0 where
@@ -198,26 +274,39 @@ pub record GoesOn (p : Passing) (m new : Lent) (ds left : List Demand) : Type 0 
   pub grows : m.count ≤ new.count
   pub same : new ≡ record m { count = new.count }
 
-pub record Stays (p : Passing) (m new : Lent) (room : ℕ) (ds : List Demand) (top past : Frame) : Type 0 where
+pub record Stays (p : Passing) (m new : Lent) (room : ℕ) (via : List Link) (ds : List Demand) (top past : Frame) : Type 0 where
   pub left : List Demand
   pub on : GoesOn p m new ds left
-  pub frame : IsLeft p m.bytes room past left
+  pub frame : IsLeft p m.bytes room via past left
   pub falls : frame_work p past < frame_work p top
 
-pub record GoesDown (p : Passing) (m new : Lent) (room : ℕ) (ds : List Demand) (top past : Frame) (child : Child) : Type 0 where
+pub record GoesDown (p : Passing) (m new : Lent) (room : ℕ) (via : List Link) (ds : List Demand) (top past : Frame) (child : Child) : Type 0 where
   pub below : List Demand
   pub left : List Demand
   pub on : GoesOn p m new ds (below ++ left)
   pub paid : new.count ≤ m.count + 8
-  pub next : IsNext p m.bytes (room - 1) child below
-  pub frame : IsLeft p m.bytes room past left
+  pub next : IsNext p m.bytes (room - 1) (via ++ frame_link (asks_of p) m.bytes p.rows past ∷ []) child below
+  pub frame : IsLeft p m.bytes room via past left
+  pub linked : IsLinked (asks_of p) p.checks m.bytes p.rows past
   pub falls : frame_work p past ≤ frame_work p top
 
-abbrev pub Stepped : (p : Passing) → (m new : Lent) → (room : ℕ) → (ds : List Demand) → (top past : Frame) → (child : Child) → Result Turn Stop → Type 0
-Stepped p m new room ds top past child (Ok Here) = Stays p m new room ds top past
-Stepped p m new room ds top past child (Ok Up) = (ds ≡ []) × (new ≡ m)
-Stepped p m new room ds top past child (Ok Down) = GoesDown p m new room ds top past child
-Stepped p m new room ds top past child (Err s) = Breaks p.limits m.count ds (stopped s new.count)
+-- it stops with so many frames open: behind a word of the top's, or in a field of its table
+abbrev pub StopsHere : (p : Passing) → (m new : Lent) → (via : List Link) → (many : ℕ) → (ds : List Demand) → (past : Frame) → Halt → LastLink → Type 0
+StopsHere p m new via many ds past h Behind =
+    (h.links ≡ many) × IsLinked (asks_of p) p.checks m.bytes p.rows past × Breaks p.limits m.count ds (stopped h.stop new.count) (via ++ frame_link (asks_of p) m.bytes p.rows past ∷ [])
+StopsHere p m new via many ds past h InField = (h.links + 1 ≡ many) × Breaks p.limits m.count ds (stopped h.stop new.count) (via ++ own_link (stopped h.stop new.count))
+
+abbrev pub Stepped : (p : Passing) → (m new : Lent) → (room : ℕ) → (via : List Link) → (many : ℕ) → (ds : List Demand) → (top past : Frame) → (child : Child) → Result Turn Halt → Type 0
+Stepped p m new room via many ds top past child (Ok Here) = Stays p m new room via ds top past
+Stepped p m new room via many ds top past child (Ok Up) = (ds ≡ []) × (new ≡ m)
+Stepped p m new room via many ds top past child (Ok Down) = GoesDown p m new room via ds top past child
+Stepped p m new room via many ds top past child (Err h) = StopsHere p m new via many ds past h h.last
+
+-- a pass stops: the links of so many of these frames lead to the fault, and then what they leave
+pub record Halts (p : Passing) (m new : Lent) (ds : List Demand) (frames : List Frame) (h : Halt) : Type 0 where
+  pub breaks : Breaks p.limits m.count ds (stopped h.stop new.count) (frame_links (asks_of p) m.bytes p.rows frames h.links ++ last_link h.last (stopped h.stop new.count))
+  pub linked : AreLinked (asks_of p) p.checks m.bytes p.rows frames h.links
+  pub within : h.links + links_left h.last ≤ length frames
 
 -- the same of a whole stack of frames, of which so many are open
 pub record Turns (p : Passing) (m new : Lent) (ds : List Demand) (old : List Frame) (before : ℕ) (frames : List Frame) (after-it : ℕ) : Type 0 where
@@ -226,9 +315,9 @@ pub record Turns (p : Passing) (m new : Lent) (ds : List Demand) (old : List Fra
   pub stack : AreLeft p m.bytes frames after-it left
   pub falls : frames_work p frames after-it + 2 ^ 49 * m.count < frames_work p old before + 2 ^ 49 * new.count
 
-abbrev pub Turned : (p : Passing) → (m new : Lent) → (ds : List Demand) → (old : List Frame) → ℕ → (frames : List Frame) → Result ℕ Stop → Type 0
+abbrev pub Turned : (p : Passing) → (m new : Lent) → (ds : List Demand) → (old : List Frame) → ℕ → (frames : List Frame) → Result ℕ Halt → Type 0
 Turned p m new ds old before frames (Ok n) = Turns p m new ds old before frames n × (n ≤ length frames)
-Turned p m new ds old before frames (Err s) = Breaks p.limits m.count ds (stopped s new.count)
+Turned p m new ds old before frames (Err h) = Halts p m new ds frames h
 
 -- frames of which so many are open, in a pass within the limits, whose reads a count holds
 pub record IsStanding (p : Passing) (m : Lent) (frames : List Frame) (many : ℕ) : Type 0 where
@@ -251,14 +340,15 @@ pub record WentBy (p : Passing) (m new : Lent) (ds : List Demand) (old : List Fr
   pub within : many ≤ length frames
   pub falls : work_left p new.count frames many < work_left p m.count old before
 
-abbrev pub WentOn : {A : Type 0} → (p : Passing) → (m new : Lent) → (ds : List Demand) → (old : List Frame) → (before : ℕ) → (frames : List Frame) → (many : ℕ) → Result A Stop → Type 0
+abbrev pub WentOn : {A : Type 0} → (p : Passing) → (m new : Lent) → (ds : List Demand) → (old : List Frame) → (before : ℕ) → (frames : List Frame) → (many : ℕ) → Result A Halt → Type 0
 WentOn p m new ds old before frames many (Ok a) = WentBy p m new ds old before frames many
-WentOn p m new ds old before frames many (Err s) = Breaks p.limits m.count ds (stopped s new.count)
+WentOn p m new ds old before frames many (Err h) = Halts p m new ds frames h
 
--- a whole pass found that all of these demands are met within the limits, or it stops at the first that isn't
-abbrev pub Ran : {A : Type 0} → (p : Passing) → (m new : Lent) → (ds : List Demand) → Result A Stop → Type 0
-Ran p m new ds (Ok a) = GoesOn p m new ds []
-Ran p m new ds (Err s) = Breaks p.limits m.count ds (stopped s new.count)
+-- a whole pass found that all of these demands are met within the limits, or it stops at the first that isn't, by the
+-- links of these frames
+abbrev pub Ran : {A : Type 0} → (p : Passing) → (m new : Lent) → (ds : List Demand) → (frames : List Frame) → Result A Halt → Type 0
+Ran p m new ds frames (Ok a) = GoesOn p m new ds []
+Ran p m new ds frames (Err h) = Halts p m new ds frames h
 
 -- the root table at this position, of this object, unfolds into this tree, for whose tables there are so many frames
 pub record IsRooted (p : Passing) (b : List ℕ) (room : ℕ) (root : Child) (y : Tree) : Type 0 where

@@ -1,10 +1,15 @@
 -- What a strict verdict says of a buffer.
-use Rattle.std.specs.Prelude.{◌≡◌, ◌⊎◌, ℕ, ◌+◌, ◌-◌, List, Option, Some, None, Result, Ok, Err, option_map}
+use Rattle.std.specs.Prelude.{◌≡◌, ◌⊎◌, ℕ, ◌+◌, ◌-◌, ◌≤◌, List, ◌++◌, length, Option, Some, None, Result, Ok, Err, option_map}
 use Rattle.fb_rules.specs.declared.{fault.Fault.Fault, fault.Report.Report}
 use Rattle.fb_rules.specs.{Bounds.Bounds, Bounds.AreAllowed, Question.Question, Tree.Tree, Tree.size, Tree.depth}
 use Rattle.fb_rules.specs.{WellFormed.IsWellFormed, WellFormed.IsWithin, WellFormed.cost, Stops.Stops}
-use Rattle.fb_strict.specs.{Strict.IsStrictBuffer, Planned.Planned, Planned.marked}
-use Rattle.fb_strict.specs.Asked.{Demand, demands_of, demands_reads, first_fault}
+use Rattle.fb_rules.specs.declared.{checks.Checks.Checks, link.Link.Link, site.Halt.Halt}
+use Rattle.fb_rules.specs.{Links.StopsAlong, Told.stopped}
+use Rattle.fb_schema.specs.Rows.{Rows}
+use Rattle.fb_verify.specs.Stack.{last_link, links_left}
+use Rattle.fb_strict.specs.declared.{room.Frame.Frame, strictly.Unmet.Unmet}
+use Rattle.fb_strict.specs.{Strict.IsStrictBuffer, Planned.Planned, Planned.marked, Passing.frame_links, Passing.AreLinked}
+use Rattle.fb_strict.specs.Asked.{Demand, demands_of, demands_reads, first_fault, first_links}
 
 -- all reads of a buffer that unfolds into this tree: those of the walk, and those of the pass by this plan
 abbrev pub strict_cost : Planned → Question → List ℕ → Tree → ℕ
@@ -32,9 +37,21 @@ pub record FailsStrictly (p : Planned) (q : Question) (b : List ℕ) (f : Fault)
   pub within : IsWithin q b found
   pub first : first_fault q.limits (cost q b found) (demands_of (marked p.marks) q.checks b q.rows q.root found) ≡ Some f
 
+-- and these links lead there
+pub record FailsAlong (p : Planned) (q : Question) (b : List ℕ) (f : Fault) (links : List Link) : Type 0 where
+  pub found : Tree
+  pub well_formed : IsWellFormed q b found
+  pub within : IsWithin q b found
+  pub first : first_fault q.limits (cost q b found) (demands_of (marked p.marks) q.checks b q.rows q.root found) ≡ Some f
+  pub along : links ≡ first_links q.limits (cost q b found) (demands_of (marked p.marks) q.checks b q.rows q.root found)
+
 -- the walk's first fault, or else the pass's
 abbrev pub StopsStrictly : Planned → Question → List ℕ → Fault → Type 0
 StopsStrictly p q b f = Stops q b f ⊎ FailsStrictly p q b f
+
+-- the same, with the links that lead there
+abbrev pub StopsAlongStrictly : Planned → Question → List ℕ → Fault → List Link → Type 0
+StopsAlongStrictly p q b f links = StopsAlong q b f links ⊎ FailsAlong p q b f links
 
 -- the budget that is left after so many reads
 abbrev pub budget_left : Option ℕ → ℕ → Option ℕ
@@ -48,17 +65,29 @@ limits_left L paid = record L { reads = budget_left L.reads paid }
 abbrev pub later : ℕ → Fault → Fault
 later paid f = record f { reads = paid + f.reads }
 
--- what a pass answers of a buffer that unfolds into this tree: how many reads there were in all, or the first fault
-abbrev pub Asked : Planned → Question → List ℕ → Tree → Result ℕ Fault → Type 0
-Asked p q b y (Ok n) = (first_fault q.limits (cost q b y) (demands_of (marked p.marks) q.checks b q.rows q.root y) ≡ None) × (n ≡ strict_cost p q b y)
-Asked p q b y (Err f) = first_fault q.limits (cost q b y) (demands_of (marked p.marks) q.checks b q.rows q.root y) ≡ Some f
+-- the first of these demands that isn't met, once so many reads are made: the links of these frames lead there
+pub record IsFirst (p : Planned) (c : Checks) (b : List ℕ) (S : Rows) (L : Bounds) (paid : ℕ) (ds : List Demand) (frames : List Frame) (u : Unmet) : Type 0 where
+  pub first : first_fault L paid ds ≡ Some u.fault
+  pub along : first_links L paid ds ≡ frame_links (marked p.marks) b S frames u.links ++ last_link u.last u.fault
+  pub linked : AreLinked (marked p.marks) c b S frames u.links
+  pub within : u.links + links_left u.last ≤ length frames
+
+-- what a pass answers of a buffer that unfolds into this tree: how many reads there were in all, or the first demand
+-- that isn't met
+abbrev pub Asked : Planned → Question → List ℕ → Tree → List Frame → Result ℕ Unmet → Type 0
+Asked p q b y frames (Ok n) = (first_fault q.limits (cost q b y) (demands_of (marked p.marks) q.checks b q.rows q.root y) ≡ None) × (n ≡ strict_cost p q b y)
+Asked p q b y frames (Err u) = IsFirst p q.checks b q.rows q.limits (cost q b y) (demands_of (marked p.marks) q.checks b q.rows q.root y) frames u
 
 -- what it answers of these demands by themselves, before any read
-abbrev pub AskedAlone : Bounds → List Demand → Result ℕ Fault → Type 0
-AskedAlone L ds (Ok n) = (first_fault L 0 ds ≡ None) × (n ≡ demands_reads ds)
-AskedAlone L ds (Err f) = first_fault L 0 ds ≡ Some f
+abbrev pub AskedAlone : Planned → Checks → List ℕ → Rows → Bounds → List Demand → List Frame → Result ℕ Unmet → Type 0
+AskedAlone p c b S L ds frames (Ok n) = (first_fault L 0 ds ≡ None) × (n ≡ demands_reads ds)
+AskedAlone p c b S L ds frames (Err u) = IsFirst p c b S L 0 ds frames u
+
+-- what isn't met where it halts after so many reads
+abbrev pub unmet_by : Halt → ℕ → Unmet
+unmet_by h reads = record { fault = stopped h.stop reads; links = h.links; last = h.last }
 
 -- the same after so many reads more
-abbrev pub counted_on : ℕ → Result ℕ Fault → Result ℕ Fault
+abbrev pub counted_on : ℕ → Result ℕ Unmet → Result ℕ Unmet
 counted_on paid (Ok n) = Ok (paid + n)
-counted_on paid (Err f) = Err (later paid f)
+counted_on paid (Err u) = Err (record u { fault = later paid u.fault })

@@ -1,6 +1,6 @@
 //! Examples of what is demanded, each a clause of a function that does nothing.
 
-ghost use Rattle.fb_strict.specs.Examples.{FaultRows, LengthRows, PlanRows, UnionRows, UnionsRows, WordRows};
+ghost use Rattle.fb_strict.specs.Examples.{FaultRows, LengthRows, LinkRows, PlanRows, UnionRows, UnionsRows, WordRows};
 
 /// Lengths, words that lead to what nobody knows, unions, and vectors of them.
 #[tactic(auto, unfolding(fb_rules::proofs::Shown::computing, crate::specs::InOrder::inside_failure, crate::specs::InOrder::element_failure))]
@@ -21,4 +21,10 @@ pub fn plans()
 #[tactic(auto, unfolding(fb_rules::proofs::Shown::computing, crate::specs::Skipped::reaches_union, crate::specs::Asked::demands_in, crate::specs::Asked::first_fault, crate::specs::InOrder::inside_failure))]
 pub fn first_faults()
     ensures { FaultRows }
+{}
+
+/// The links that lead to first faults.
+#[tactic(auto, unfolding(fb_rules::proofs::Shown::computing, crate::specs::Skipped::reaches_union, crate::specs::Asked::demands_in, crate::specs::Asked::first_links, crate::specs::InOrder::inside_failure, crate::specs::InOrder::element_failure, crate::specs::InOrder::element_reads))]
+pub fn links()
+    ensures { LinkRows }
 {}

@@ -3,6 +3,7 @@
 ghost use Rattle.std.specs.Prelude.{◌≡◌, ◌+◌, ◌^◌, ◌<◌, ◌≤◌, ℕ, List, [], Option, length, IfOk, IfErr, IsTrue, Some, None};
 ghost use Rattle.fb_bytes.specs.Word.{Lent, word};
 ghost use Rattle.fb_schema.specs.{Rows.is_union, Members.member_of};
+ghost use Rattle.fb_rules.specs.declared.link.Link.{Link};
 ghost use Rattle.fb_rules.specs.{Bounds.AreAllowed, Cost.head_reads, Facts.IsTable, Order.Failure, Places.target, Places.field_place, Places.vtable, Fields.type_place};
 ghost use Rattle.fb_rules.specs.{Plain.IsTested, Told.IsAskedAt, Told.IsHead, Told.IsVtable};
 ghost use Rattle.fb_strict.specs.declared.tasks.Ask.TheVariants.{Union as AskUnion, Unions as AskUnions, Table as GoInto, Tables as GoIntoEach};
@@ -19,7 +20,7 @@ use fb_rules::fault::Reason;
 use fb_rules::limits::Limits;
 use fb_rules::offset_row::{Leads, Referent, Row};
 use fb_rules::plain::slot_at;
-use fb_rules::site::{Refusal, Site, Stop};
+use fb_rules::site::{Halt, LastLink, Refusal, Site, Stop};
 use fb_rules::table::{Child, Head, NO_CHILD, Table};
 use fb_schema::{Kind, Schema};
 use std::alloc::Allocator;
@@ -421,22 +422,23 @@ impl<'p, 's, 'n, A: Allocator> Pass<'p, 's, 'n, A> {
         }
     }
 
-    /// Passes the first offset word that is left of the top's field, and comes to the table to which it leads, if that
-    /// is asked.
+    /// Passes the first offset word that is left of the top's field, where so many frames are open, and comes to the
+    /// table to which it leads, if that is asked.
     #[inline(always)]
     fn pass_word(
         &self,
         reads: &mut Reads<'_>,
         room: u64,
+        many: u32,
         top: &mut Frame,
         child: &mut Child,
-    ) -> Result<Turn, Stop>
+    ) -> Result<Turn, Halt>
         requires passing { IsPassing self.now reads.old.bytes }
         requires room { IsRoom self.now.limits reads.old.base room }
         requires few { reads.old.count < reads.old.base + 2 ^ 58 }
         requires more { 0 < (top.old.row).left }
-        requires left { (deep : ℕ) × (ds : List Demand) × IsLeft self.now reads.old.bytes deep top.old ds }
-        ensures { (deep : ℕ) (ds : List Demand) → IsLeft self.now reads.old.bytes deep top.old ds → Stepped self.now reads.old reads.new deep ds top.old top.new child.new result }
+        requires left { (deep : ℕ) × (via : List Link) × (ds : List Demand) × IsLeft self.now reads.old.bytes deep via top.old ds }
+        ensures { (deep : ℕ) (via : List Link) (ds : List Demand) → IsLeft self.now reads.old.bytes deep via top.old ds → Stepped self.now reads.old reads.new deep via many ds top.old top.new child.new result }
     {
         let site = top.site();
         let row = top.row;
@@ -444,7 +446,7 @@ impl<'p, 's, 'n, A: Allocator> Pass<'p, 's, 'n, A> {
         let object = match self.pass_first(reads, room, site, row) {
             Ok(Some(object)) => object,
             Ok(None) => return Ok(Turn::Here),
-            Err(stop) => return Err(stop),
+            Err(stop) => return Err(stop.halt(many, LastLink::Behind)),
         };
         match self.follow(reads, room, site, row.place) {
             Ok(at) => {
@@ -452,27 +454,29 @@ impl<'p, 's, 'n, A: Allocator> Pass<'p, 's, 'n, A> {
                 child.at = at;
                 Ok(Turn::Down)
             }
-            Err(stop) => Err(stop),
+            Err(stop) => Err(stop.halt(many, LastLink::Behind)),
         }
     }
 
-    /// One step in the top table: its next offset word, or else its next task.
+    /// One step in the top table, where so many frames are open: its next offset word, or else its next task.
     #[inline(always)]
     fn step(
         &self,
         reads: &mut Reads<'_>,
         room: u64,
+        many: u32,
         top: &mut Frame,
         child: &mut Child,
-    ) -> Result<Turn, Stop>
+    ) -> Result<Turn, Halt>
         requires passing { IsPassing self.now reads.old.bytes }
         requires room { IsRoom self.now.limits reads.old.base room }
         requires few { reads.old.count < reads.old.base + 2 ^ 58 }
-        requires left { (deep : ℕ) × (ds : List Demand) × IsLeft self.now reads.old.bytes deep top.old ds }
-        ensures { (deep : ℕ) (ds : List Demand) → IsLeft self.now reads.old.bytes deep top.old ds → Stepped self.now reads.old reads.new deep ds top.old top.new child.new result }
+        requires some { 0 < many }
+        requires left { (deep : ℕ) × (via : List Link) × (ds : List Demand) × IsLeft self.now reads.old.bytes deep via top.old ds }
+        ensures { (deep : ℕ) (via : List Link) (ds : List Demand) → IsLeft self.now reads.old.bytes deep via top.old ds → Stepped self.now reads.old reads.new deep via many ds top.old top.new child.new result }
     {
         if top.row.left > 0 {
-            return self.pass_word(reads, room, top, child);
+            return self.pass_word(reads, room, many, top, child);
         }
         let tasks = self.plan.tasks_of(top.table.object);
         let Some(task) = tasks.get(top.next as usize) else {
@@ -483,7 +487,7 @@ impl<'p, 's, 'n, A: Allocator> Pass<'p, 's, 'n, A> {
         let site = top.site();
         match self.pass_task(reads, room, top.table, site, *task, &mut top.row) {
             Ok(()) => Ok(Turn::Here),
-            Err(stop) => Err(stop),
+            Err(stop) => Err(stop.halt(many - 1, LastLink::InField)),
         }
     }
 
@@ -496,7 +500,7 @@ impl<'p, 's, 'n, A: Allocator> Pass<'p, 's, 'n, A> {
         room: u64,
         frames: &mut [Frame],
         many: u32,
-    ) -> Result<u32, Stop>
+    ) -> Result<u32, Halt>
         requires passing { IsPassing self.now reads.old.bytes }
         requires room { IsRoom self.now.limits reads.old.base room }
         requires few { reads.old.count < reads.old.base + 2 ^ 58 }
@@ -508,14 +512,14 @@ impl<'p, 's, 'n, A: Allocator> Pass<'p, 's, 'n, A> {
     {
         let at = many as usize - 1;
         let mut child = NO_CHILD;
-        match self.step(reads, room, &mut frames[at], &mut child) {
+        match self.step(reads, room, many, &mut frames[at], &mut child) {
             Ok(Turn::Here) => Ok(many),
             Ok(Turn::Up) => Ok(many - 1),
             Ok(Turn::Down) => match self.open(reads, room, child, &mut frames[at + 1]) {
                 Ok(()) => Ok(many + 1),
-                Err(stop) => Err(stop),
+                Err(stop) => Err(stop.halt(many, LastLink::Behind)),
             },
-            Err(stop) => Err(stop),
+            Err(halt) => Err(halt),
         }
     }
 
@@ -527,7 +531,7 @@ impl<'p, 's, 'n, A: Allocator> Pass<'p, 's, 'n, A> {
         room: u64,
         frames: &mut [Frame],
         many: &mut u32,
-    ) -> Result<(), Stop>
+    ) -> Result<(), Halt>
         requires passing { IsPassing self.now reads.old.bytes }
         requires room { IsRoom self.now.limits reads.old.base room }
         requires some { 0 < many.old }
@@ -539,7 +543,7 @@ impl<'p, 's, 'n, A: Allocator> Pass<'p, 's, 'n, A> {
         while open > 0 && reads.count() < LONG {
             match self.turn(reads, room, frames, open) {
                 Ok(then) => open = then,
-                Err(stop) => return Err(stop),
+                Err(halt) => return Err(halt),
             }
         }
         *many = open;
@@ -547,27 +551,27 @@ impl<'p, 's, 'n, A: Allocator> Pass<'p, 's, 'n, A> {
     }
 
     /// Passes all that is asked of a table that is asked, and of those below it. There are frames for all that are open
-    /// at once.
-    pub fn run(&self, loan: &mut Loan<'_>, frames: &mut [Frame], root: Child) -> Result<(), Stop>
+    /// at once. Where it stops, the links of the frames that are open lead there.
+    pub fn run(&self, loan: &mut Loan<'_>, frames: &mut [Frame], root: Child) -> Result<(), Halt>
         requires passing { IsPassing self.now loan.old.bytes }
         requires allowed { AreAllowed self.now.limits.reads loan.old.count }
         requires small { length frames.old ≤ 4096 }
-        requires next { (ds : List Demand) × IsNext self.now loan.old.bytes (length frames.old) root ds × (loan.old.count + demands_reads ds ≤ 2 ^ 96) }
-        ensures { (ds : List Demand) → IsNext self.now loan.old.bytes (length frames.old) root ds → Ran self.now loan.old loan.new ds result }
+        requires next { (ds : List Demand) × IsNext self.now loan.old.bytes (length frames.old) [] root ds × (loan.old.count + demands_reads ds ≤ 2 ^ 96) }
+        ensures { (ds : List Demand) → IsNext self.now loan.old.bytes (length frames.old) [] root ds → Ran self.now loan.old loan.new ds frames.new result }
     {
         let (mut reads, room) = lend(loan, self.limits);
         let opened = self.open(&mut reads, room, root, &mut frames[0]);
         loan.settle(reads);
         if let Err(stop) = opened {
-            return Err(stop);
+            return Err(stop.halt(0, LastLink::Behind));
         }
         let mut many = 1;
         while many > 0 {
             let (mut reads, room) = lend(loan, self.limits);
             let answer = self.go_on(&mut reads, room, frames, &mut many);
             loan.settle(reads);
-            if let Err(stop) = answer {
-                return Err(stop);
+            if let Err(halt) = answer {
+                return Err(halt);
             }
         }
         Ok(())

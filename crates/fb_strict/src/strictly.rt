@@ -6,7 +6,7 @@ ghost use Rattle.fb_rules.specs.{Bounds.AreAllowed, Order.after, Places.target, 
 ghost use Rattle.fb_verify.specs.Sealed.{asked_of};
 ghost use Rattle.fb_strict.specs.{InOrder.length_failure, Planned.IsPlan, Asked.demands_of, Asked.demands_reads};
 ghost use Rattle.fb_strict.specs.Passing.{asks_of, IsPassing, IsRooted, Ran};
-ghost use Rattle.fb_strict.specs.Strictly.{limits_left, counted_on, Asked, AskedAlone, ReportsStrictly, HasNoneStrictly, StopsStrictly};
+ghost use Rattle.fb_strict.specs.Strictly.{limits_left, counted_on, unmet_by, Asked, AskedAlone, ReportsStrictly, HasNoneStrictly, StopsStrictly};
 
 use crate::pass::Pass;
 use crate::plan::Plan;
@@ -16,7 +16,7 @@ use fb_bytes::{Loan, Meter, Window};
 use fb_rules::checks::Checks;
 use fb_rules::fault::{Fault, Report};
 use fb_rules::limits::{Limits, tables_of};
-use fb_rules::site::{Refusal, Site, Stop};
+use fb_rules::site::{Halt, LastLink, Refusal, Site, Stop};
 use fb_rules::start::{Ident, Start};
 use fb_rules::table::Child;
 use fb_schema::Schema;
@@ -28,6 +28,15 @@ use std::alloc::Allocator;
 pub struct VerifiedStrictly<'b, 's, 'n> {
     pub verified: Verified<'b, 's, 'n>,
     pub report: Report,
+}
+
+/// A demand that isn't met: the fault that this is, the number of the frames whose links lead there, and what these
+/// leave.
+#[derive(Clone, Copy)]
+pub(crate) struct Unmet {
+    pub(crate) fault: Fault,
+    pub(crate) links: u32,
+    pub(crate) last: LastLink,
 }
 
 /// Where the root table of a buffer stands that begins so.
@@ -77,19 +86,20 @@ fn ask_buffer<A: Allocator>(
     loan: &mut Loan<'_>,
     frames: &mut [Frame],
     root: Child,
-) -> Result<(), Stop>
+) -> Result<(), Halt>
     requires passing { IsPassing pass.now loan.old.bytes }
     requires allowed { AreAllowed pass.now.limits.reads loan.old.count }
     requires small { length frames.old ≤ 4096 }
     requires tree { (y : Tree) × IsRooted pass.now loan.old.bytes (length frames.old) root y × (loan.old.count + demands_reads (demands_of (asks_of pass.now) pass.now.checks loan.old.bytes pass.now.rows root.object y) ≤ 2 ^ 96) }
-    ensures { (y : Tree) → IsRooted pass.now loan.old.bytes (length frames.old) root y → Ran pass.now loan.old loan.new (demands_of (asks_of pass.now) pass.now.checks loan.old.bytes pass.now.rows root.object y) result }
+    ensures { (y : Tree) → IsRooted pass.now loan.old.bytes (length frames.old) root y → Ran pass.now loan.old loan.new (demands_of (asks_of pass.now) pass.now.checks loan.old.bytes pass.now.rows root.object y) frames.new result }
 {
     if let Some(refusal) = refuse_short(loan) {
         let site = Site {
             object: root.object,
             field: None,
         };
-        return Err(Stop { refusal, site });
+        let stop = Stop { refusal, site };
+        return Err(stop.halt(0, LastLink::Behind));
     }
     if !pass.plan.asks(root.object) {
         return Ok(());
@@ -97,16 +107,21 @@ fn ask_buffer<A: Allocator>(
     pass.run(loan, frames, root)
 }
 
-/// The fault that this stop is after so many reads.
-fn told(stop: Stop, reads: u128) -> Fault
-    ensures { result ≡ stopped stop reads }
+/// What isn't met where a pass halts, after so many reads.
+fn told(halt: Halt, reads: u128) -> Unmet
+    ensures { result ≡ unmet_by halt reads }
 {
-    Fault {
-        at: stop.refusal.at,
-        object: stop.site.object,
-        field: stop.site.field,
-        reads,
-        reason: stop.refusal.reason,
+    let stop = halt.stop;
+    Unmet {
+        fault: Fault {
+            at: stop.refusal.at,
+            object: stop.site.object,
+            field: stop.site.field,
+            reads,
+            reason: stop.refusal.reason,
+        },
+        links: halt.links,
+        last: halt.last,
     }
 }
 
@@ -116,13 +131,13 @@ fn ask_bytes<A: Allocator>(
     pass: &Pass<'_, '_, '_, A>,
     frames: &mut [Frame],
     root: Child,
-) -> Result<u128, Fault>
+) -> Result<u128, Unmet>
     requires passing { IsPassing pass.now bytes.now }
     requires small { length frames.old ≤ 4096 }
     requires tree { (y : Tree) × IsRooted pass.now bytes.now (length frames.old) root y × (demands_reads (demands_of (asks_of pass.now) pass.now.checks bytes.now pass.now.rows root.object y) ≤ 2 ^ 96) }
-    ensures asked { (y : Tree) → IsRooted pass.now bytes.now (length frames.old) root y → AskedAlone pass.now.limits (demands_of (asks_of pass.now) pass.now.checks bytes.now pass.now.rows root.object y) result }
+    ensures asked { (y : Tree) → IsRooted pass.now bytes.now (length frames.old) root y → AskedAlone pass.now.plan pass.now.checks bytes.now pass.now.rows pass.now.limits (demands_of (asks_of pass.now) pass.now.checks bytes.now pass.now.rows root.object y) frames.new result }
     ensures few_of_yes { IfOk result (λ n. n ≤ 2 ^ 101) }
-    ensures few_of_no { IfErr result (λ f. f.reads ≤ 2 ^ 101) }
+    ensures few_of_no { IfErr result (λ u. (u.fault).reads ≤ 2 ^ 101) }
 {
     let Ok(mut meter) = Meter::new(bytes) else {
         unreachable!()
@@ -132,42 +147,45 @@ fn ask_bytes<A: Allocator>(
     let reads = loan.reads();
     match answer {
         Ok(()) => Ok(reads),
-        Err(stop) => Err(told(stop, reads)),
+        Err(halt) => Err(told(halt, reads)),
     }
 }
 
 /// The same answer after so many reads more.
-fn count_on(walked: u128, answer: Result<u128, Fault>) -> Result<u128, Fault>
+fn count_on(walked: u128, answer: Result<u128, Unmet>) -> Result<u128, Unmet>
     requires walked { walked ≤ 2 ^ 96 }
     requires few_of_yes { IfOk answer (λ n. n ≤ 2 ^ 101) }
-    requires few_of_no { IfErr answer (λ f. f.reads ≤ 2 ^ 101) }
+    requires few_of_no { IfErr answer (λ u. (u.fault).reads ≤ 2 ^ 101) }
     ensures { result ≡ counted_on walked answer }
 {
     match answer {
         Ok(reads) => Ok(walked + reads),
-        Err(fault) => Err(Fault {
-            reads: walked + fault.reads,
-            ..fault
-        }),
+        Err(unmet) => {
+            let fault = Fault {
+                reads: walked + unmet.fault.reads,
+                ..unmet.fault
+            };
+            Err(Unmet { fault, ..unmet })
+        }
     }
 }
 
 /// Asks a buffer that was verified with this identifier and within these limits, and answers how many reads there were
-/// in all. Only the contract speaks of the identifier.
-fn ask<A: Allocator, B: Allocator>(
+/// in all. There are frames for as many tables as may be open at once. Only the contract speaks of the identifier.
+pub(crate) fn ask<A: Allocator>(
     verified: &Verified<'_, '_, '_>,
     ident: Ident,
     limits: Limits,
     plan: &Plan<A>,
-    room: &mut Room<B>,
-) -> Result<u128, Fault>
+    frames: &mut [Frame],
+) -> Result<u128, Unmet>
     requires plan { IsPlan (verified.now).schema plan.now }
     requires reports { Reports (asked_of verified.now ident limits) (verified.now).bytes (verified.now).report }
     requires short { length (verified.now).bytes < 2 ^ 31 }
     requires table { IsTrue (is_table (verified.now).schema (verified.now).root) }
-    requires room { limits.depth ≤ room.old }
-    ensures asked { (y : Tree) → IsWellFormed (asked_of verified.now ident limits) (verified.now).bytes y → Asked plan.now (asked_of verified.now ident limits) (verified.now).bytes y result }
-    ensures room { room.new ≡ room.old }
+    requires room { limits.depth ≤ length frames.old }
+    requires small { length frames.old ≤ 4096 }
+    ensures asked { (y : Tree) → IsWellFormed (asked_of verified.now ident limits) (verified.now).bytes y → Asked plan.now (asked_of verified.now ident limits) (verified.now).bytes y frames.new result }
 {
     let _ident = ident;
     let window = verified.window();
@@ -186,8 +204,39 @@ fn ask<A: Allocator, B: Allocator>(
         checks: verified.checks(),
     };
     let bytes = window.bytes(0, window.len());
-    let answer = ask_bytes(bytes, &pass, &mut room.frames, root);
+    let answer = ask_bytes(bytes, &pass, frames, root);
     count_on(walked, answer)
+}
+
+/// The strict verdict on a buffer that was verified with this identifier and within these limits.
+fn verdict<'b, 's, 'n, A: Allocator>(
+    verified: Verified<'b, 's, 'n>,
+    ident: Ident,
+    limits: Limits,
+    plan: &Plan<A>,
+    frames: &mut [Frame],
+) -> Result<VerifiedStrictly<'b, 's, 'n>, Fault>
+    requires plan { IsPlan verified.schema plan.now }
+    requires reports { Reports (asked_of verified ident limits) verified.bytes verified.report }
+    requires short { length verified.bytes < 2 ^ 31 }
+    requires table { IsTrue (is_table verified.schema verified.root) }
+    requires room { limits.depth ≤ length frames.old }
+    requires small { length frames.old ≤ 4096 }
+    ensures yes { IfOk result (λ v. ReportsStrictly plan.now (asked_of verified.entry ident limits) (verified.entry).bytes v.report) }
+    ensures kept { IfOk result (λ v. v.verified ≡ verified.entry) }
+    ensures none { IfErr result (λ _. HasNoneStrictly plan.now (asked_of verified.entry ident limits) (verified.entry).bytes) }
+    ensures no { IfErr result (λ f. StopsStrictly plan.now (asked_of verified.entry ident limits) (verified.entry).bytes f) }
+{
+    match ask(&verified, ident, limits, plan, frames) {
+        Ok(reads) => {
+            let report = Report {
+                reads,
+                ..verified.report()
+            };
+            Ok(VerifiedStrictly { verified, report })
+        }
+        Err(unmet) => Err(unmet.fault),
+    }
 }
 
 /// Checks a buffer as [`verify`] does, and then asks of each union in it what code that `flatc` generates relies on, by
@@ -224,18 +273,9 @@ pub fn verify_strictly<'b, 's, 'n, A: Allocator, B: Allocator, C: Allocator>(
     ensures scratch { scratch.new ≡ scratch.old }
     ensures room { room.new ≡ room.old }
 {
-    let verified = match verify(meter, schema, root, start, ident, limits, checks, scratch) {
-        Ok(verified) => verified,
-        Err(fault) => return Err(fault),
-    };
-    match ask(&verified, ident, limits, plan, room) {
-        Ok(reads) => {
-            let report = Report {
-                reads,
-                ..verified.report()
-            };
-            Ok(VerifiedStrictly { verified, report })
-        }
+    let frames = &mut room.frames;
+    match verify(meter, schema, root, start, ident, limits, checks, scratch) {
+        Ok(verified) => verdict(verified, ident, limits, plan, frames),
         Err(fault) => Err(fault),
     }
 }

@@ -1,8 +1,8 @@
-use Rattle.std.proofs.Common.{refl, sym, ap, subst, ◌∙◌, length, arith}
+use Rattle.std.proofs.Common.{[], sym, ap, subst, ◌∙◌, length, arith}
 use Rattle.fb_bytes.specs.Word.{Lent}
-use Rattle.fb_strict.specs.Asked.{demands_in}
+use Rattle.fb_strict.specs.Asked.{demands_in, demands_of}
 use Rattle.fb_strict.specs.Passing.{Passing, asks_of, IsNext}
-use Rattle.fb_strict.proofs.Buffers.{rest_of, quiet, goes_in, too_short, its_next}
+use Rattle.fb_strict.proofs.Buffers.{rest_of, quiet, goes_in, too_short, short_halts, its_next}
 use Rattle.fb_strict.proofs.strictly.ask_buffer.Goals as goal
 
 -- src/strictly.rt
@@ -10,10 +10,14 @@ pub refuse_short-requires : goal.refuse_short-requires
 refuse_short-requires g c = omega (arith, c.requires.tree.2)
 
 pub returns-in-Some : goal.returns-in-Some
-returns-in-Some g c y h more =
+returns-in-Some g c y h =
+    let p = c.args.pass.now in
+    let m = c.args.loan.now in
     let s = c.in-Some.ensures.some in
     let count = ap (λ (x : Lent). x.count) c.refuse_short.ensures.same in
-    too_short c.args.pass.now c.args.loan.now c.requires.allowed c.args.root c.in-Some.refusal.reason s.1 (rest_of c.args.pass.now c.args.loan.now c.requires.allowed c.args.root y) more ∙ rw (s.0, count) refl
+    let ds = demands_of (asks_of p) p.checks m.bytes p.rows c.args.root.object y in
+    let short = too_short p m c.requires.allowed c.args.root c.in-Some.refusal.reason s.1 (rest_of p m c.requires.allowed c.args.root y) in
+    short_halts p m c.requires.allowed c.args.root _ c.args.frames.now c.refuse_short.new.loan ds (rw (s.0, count) short) c.halt.result c.halt.ensures
 
 pub returns-then-not-asks : goal.returns-then-not-asks
 returns-then-not-asks g c y h =
@@ -26,7 +30,7 @@ returns g c y h =
     let m = c.args.loan.now in
     let root = c.args.root in
     let plan = ap (λ (x : Passing). x.plan) c.pass.view_is in
-    let ds = demands_in y (asks_of p) p.checks m.bytes p.rows in
+    let ds = demands_in y (asks_of p) p.checks m.bytes p.rows [] in
     let bytes = ap (λ (x : Lent). x.bytes) c.refuse_short.ensures.same in
-    goes_in p m c.requires.allowed root (c.refuse_short.ensures.none c.in_default.is) (sym (rw plan at c.asks.ensures) ∙ c.if-not-asks.false) c.refuse_short.new.loan c.run.new.loan c.refuse_short.ensures.same y c.run.result
-    (c.run.ensures ds (subst (λ b. IsNext p b (length c.args.frames.now) root ds) (sym bytes) (its_next p m c.requires.allowed root (length c.args.frames.now) y h)))
+    goes_in p m c.requires.allowed root (c.refuse_short.ensures.none c.in_default.is) (sym (rw plan at c.asks.ensures) ∙ c.if-not-asks.false) c.refuse_short.new.loan c.run.new.loan c.refuse_short.ensures.same y c.run.new.frames c.run.result
+    (c.run.ensures ds (subst (λ b. IsNext p b (length c.args.frames.now) [] root ds) (sym bytes) (its_next p m c.requires.allowed root (length c.args.frames.now) y h)))

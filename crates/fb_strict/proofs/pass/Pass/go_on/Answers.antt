@@ -26,4 +26,4 @@ turn-requires-clause-left g c = (c.loop-open.invariant.stands.left, c.loop-open.
 
 pub returns-in-Err : goal.returns-in-Err
 returns-in-Err g c ds stack =
-    stops c.args.self.now c.args.reads.now c.loop-open.reads c.args.frames.now c.args.many.now c.loop-open.frames c.loop-open.open c.loop-open.invariant c.turn.new.reads c.turn.new.frames c.in-Err.stop c.turn.result c.in-Err.is c.turn.ensures ds stack
+    stops c.args.self.now c.args.reads.now c.loop-open.reads c.args.frames.now c.args.many.now c.loop-open.frames c.loop-open.open c.loop-open.invariant c.turn.new.reads c.turn.new.frames c.in-Err.halt c.turn.result c.in-Err.is c.turn.ensures ds stack

@@ -1,18 +1,23 @@
 use Rattle.std.proofs.Common.{Some, Ok, refl, ap, arith}
 use Rattle.fb_bytes.specs.Word.{Lent}
 use Rattle.fb_rules.specs.declared.offset_row.Row.{Row}
-use Rattle.fb_strict.proofs.Wording.{first_paid, first_stops, passes_by, within, follow_stops, goes_down}
+use Rattle.fb_strict.proofs.Wording.{first_paid, first_stops, passes_by, within, halts_behind, follow_stops, goes_down}
 use Rattle.fb_strict.proofs.pass.Pass.pass_word.Goals as goal
 
 -- src/pass.rt
 pub returns-in-Err : goal.returns-in-Err
-returns-in-Err g c deep ds l =
-    first_stops c.args.self.now c.args.reads.now c.pass_first.new.reads c.requires.passing deep c.args.top.now ds l c.requires.more c.in-Err.stop (rw (c.site-site.ensures, c.in-Err.is) at c.pass_first.ensures)
+returns-in-Err g c deep via ds l =
+    let p = c.args.self.now in
+    let m = c.args.reads.now in
+    let mid = c.pass_first.new.reads in
+    let top = c.args.top.now in
+    let stops = first_stops p m mid c.requires.passing deep via top ds l c.requires.more c.in-Err.stop (rw (c.site-site.ensures, c.in-Err.is) at c.pass_first.ensures) in
+    halts_behind p m mid c.requires.passing deep via top ds l c.requires.more mid c.args.many c.in-Err.stop c.halt.result _ c.halt.ensures (ap (λ (r : Row). record top { row = r }) c.advance.ensures) stops
 
 pub returns-in-Ok-None : goal.returns-in-Ok-None
-returns-in-Ok-None g c deep ds l =
+returns-in-Ok-None g c deep via ds l =
     let top = c.args.top.now in
-    passes_by c.args.self.now c.args.reads.now c.pass_first.new.reads c.requires.passing deep top ds l c.requires.more (rw (c.site-site.ensures, c.in-Ok-None.is, c.in-Ok-None.field-0-is) at c.pass_first.ensures) _
+    passes_by c.args.self.now c.args.reads.now c.pass_first.new.reads c.requires.passing deep via top ds l c.requires.more (rw (c.site-site.ensures, c.in-Ok-None.is, c.in-Ok-None.field-0-is) at c.pass_first.ensures) _
     (ap (λ (r : Row). record top { row = r }) c.advance.ensures)
 
 pub follow-requires-clause-few : goal.follow-requires-clause-few
@@ -29,25 +34,30 @@ follow-requires-clause-within g c =
     let new = c.pass_first.new.reads in
     let h = rw (c.in-Ok-Some.is, c.in-Ok-Some.field-0-is) at c.pass_first.ensures in
     let r = (first_paid c.args.self.now m new c.site-site.result c.args.top.now.row.place c.args.top.now.row.leads (Some c.in-Ok-Some.object) (Ok (Some c.in-Ok-Some.object)) refl h).0 in
-    rw (ap (λ (x : Lent). x.bytes) r.same) (within c.args.self.now m new c.requires.passing c.requires.left.0 c.args.top.now c.requires.left.1 c.requires.left.2 c.requires.more c.in-Ok-Some.object (rw c.site-site.ensures at h))
+    rw (ap (λ (x : Lent). x.bytes) r.same) (within c.args.self.now m new c.requires.passing c.requires.left.0 c.requires.left.1 c.args.top.now c.requires.left.2 c.requires.left.3 c.requires.more c.in-Ok-Some.object (rw c.site-site.ensures at h))
 
 pub follow-requires-clause-near : goal.follow-requires-clause-near
 follow-requires-clause-near g c =
     let h = rw (c.site-site.ensures, c.in-Ok-Some.is, c.in-Ok-Some.field-0-is) at c.pass_first.ensures in
-    let w = within c.args.self.now c.args.reads.now c.pass_first.new.reads c.requires.passing c.requires.left.0 c.args.top.now c.requires.left.1 c.requires.left.2 c.requires.more c.in-Ok-Some.object h in
+    let w = within c.args.self.now c.args.reads.now c.pass_first.new.reads c.requires.passing c.requires.left.0 c.requires.left.1 c.args.top.now c.requires.left.2 c.requires.left.3 c.requires.more c.in-Ok-Some.object h in
     omega (arith, w, c.requires.passing.short)
 
 pub returns-in-Ok : goal.returns-in-Ok
-returns-in-Ok g c deep ds l =
+returns-in-Ok g c deep via ds l =
     let m = c.args.reads.now in
     let mid = c.pass_first.new.reads in
     let top = c.args.top.now in
     let h = rw (c.in-Ok-Some.is, c.in-Ok-Some.field-0-is) at c.pass_first.ensures in
     let r = (first_paid c.args.self.now m mid c.site-site.result top.row.place top.row.leads (Some c.in-Ok-Some.object) (Ok (Some c.in-Ok-Some.object)) refl h).0 in
-    goes_down c.args.self.now m mid c.requires.passing deep top ds l c.requires.more c.in-Ok-Some.object (rw c.site-site.ensures at h) c.follow.new.reads c.in-Ok.at (rw c.site-site.ensures at c.in-Ok.ensures.asked)
+    goes_down c.args.self.now m mid c.requires.passing deep via top ds l c.requires.more c.in-Ok-Some.object (rw c.site-site.ensures at h) c.follow.new.reads c.in-Ok.at (rw c.site-site.ensures at c.in-Ok.ensures.asked)
     (rw (ap (λ (x : Lent). x.bytes) r.same) at c.in-Ok.ensures.value) c.in-Ok.ensures.near _ (ap (λ (r : Row). record top { row = r }) c.advance.ensures) _ refl
 
 pub returns-in-Err-follow : goal.returns-in-Err-follow
-returns-in-Err-follow g c deep ds l =
+returns-in-Err-follow g c deep via ds l =
     let h = rw (c.site-site.ensures, c.in-Ok-Some.is, c.in-Ok-Some.field-0-is) at c.pass_first.ensures in
-    follow_stops c.args.self.now c.args.reads.now c.pass_first.new.reads c.requires.passing deep c.args.top.now ds l c.requires.more c.in-Ok-Some.object h c.follow.new.reads c.in-Err-follow.stop (rw c.site-site.ensures at c.in-Err-follow.ensures.asked)
+    let p = c.args.self.now in
+    let m = c.args.reads.now in
+    let mid = c.pass_first.new.reads in
+    let top = c.args.top.now in
+    let stops = follow_stops p m mid c.requires.passing deep via top ds l c.requires.more c.in-Ok-Some.object h c.follow.new.reads c.in-Err-follow.stop (rw c.site-site.ensures at c.in-Err-follow.ensures.asked) in
+    halts_behind p m mid c.requires.passing deep via top ds l c.requires.more c.follow.new.reads c.args.many c.in-Err-follow.stop c.halt-in-Err-follow.result _ c.halt-in-Err-follow.ensures (ap (λ (r : Row). record top { row = r }) c.advance.ensures) stops

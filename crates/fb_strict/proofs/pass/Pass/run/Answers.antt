@@ -1,4 +1,4 @@
-use Rattle.std.proofs.Common.{sym, ap, subst, arith, length}
+use Rattle.std.proofs.Common.{[], sym, ap, subst, arith, length}
 use Rattle.fb_bytes.specs.Word.{Lent}
 use Rattle.fb_rules.specs.Facts.{IsTable}
 use Rattle.fb_strict.proofs.Frames.{next_table}
@@ -11,12 +11,12 @@ bounds-frames-0 g c = some_frame c.args.self.now c.args.loan.now c.requires.pass
 
 pub open-opened-requires-clause-table : goal.open-opened-requires-clause-table
 open-opened-requires-clause-table g c =
-    subst (λ b. IsTable c.args.self.now.checks b c.args.root.at) (sym (ap (λ (x : Lent). x.bytes) c.lend-reads.ensures.lent)) (next_table c.args.self.now c.args.loan.now.bytes c.requires.passing (length c.args.frames.now) c.args.root c.requires.next.0 c.requires.next.1)
+    subst (λ b. IsTable c.args.self.now.checks b c.args.root.at) (sym (ap (λ (x : Lent). x.bytes) c.lend-reads.ensures.lent)) (next_table c.args.self.now c.args.loan.now.bytes c.requires.passing (length c.args.frames.now) [] c.args.root c.requires.next.0 c.requires.next.1)
 
 pub returns-in-Err : goal.returns-in-Err
 returns-in-Err g c ds n =
     root_stops c.args.self.now c.args.loan.now c.requires.passing c.requires.allowed c.args.frames.now c.requires.small c.args.root c.requires.next.0 c.requires.next.1 c.requires.next.2
-    c.lend-reads.result.0 c.open-opened.new.reads c.lend-reads.new.loan c.settle.new.self c.lend-reads.ensures.lent c.lend-reads.ensures.bare c.settle.ensures c.in-Err.stop c.in-Err.ensures.asked ds n
+    c.lend-reads.result.0 c.open-opened.new.reads c.lend-reads.new.loan c.settle.new.self c.lend-reads.ensures.lent c.lend-reads.ensures.bare c.settle.ensures c.in-Err.stop c.in-Err.ensures.asked _ c.halt.result c.halt.ensures ds n
 
 pub loop-many-init : goal.loop-many-init
 loop-many-init g c =
@@ -27,7 +27,7 @@ pub returns-in-Err-answer : goal.returns-in-Err-answer
 returns-in-Err-answer g c ds n =
     pass_stops c.args.self.now c.args.loan.now c.loop-many.loan (length c.args.frames.now) c.args.root c.loop-many.frames c.loop-many.many c.loop-many.invariant
     c.lend-reads-in-loop-many.result.0 c.go_on-answer.new.reads c.lend-reads-in-loop-many.new.loan c.settle-in-loop-many.new.self c.lend-reads-in-loop-many.ensures.lent c.lend-reads-in-loop-many.ensures.bare c.settle-in-loop-many.ensures
-    c.go_on-answer.new.frames c.go_on-answer.new.many c.go_on-answer.result c.in-Err-answer.stop c.in-Err-answer.is c.go_on-answer.ensures ds n
+    c.go_on-answer.new.frames c.go_on-answer.new.many c.go_on-answer.result c.in-Err-answer.halt c.in-Err-answer.is c.go_on-answer.ensures ds n
 
 pub loop-many-preserved : goal.loop-many-preserved
 loop-many-preserved g c =

@@ -2,7 +2,8 @@ use Rattle.std.proofs.Common.{◌≡◌, ◌-◌, ℕ, List, length, get_or, ref
 use Rattle.std.proofs.Math.ListN.{length-set}
 use Rattle.fb_bytes.specs.Word.{Lent}
 use Rattle.fb_strict.specs.Asked.{Demand}
-use Rattle.fb_strict.specs.Passing.{blank, IsRoom, IsLeft, GoesDown}
+use Rattle.fb_rules.specs.declared.link.Link.{Link}
+use Rattle.fb_strict.specs.Passing.{asks_of, blank, frame_links, IsRoom, IsLeft, GoesDown}
 use Rattle.fb_strict.proofs.Stacks.{top_of, stays_turned, up_turned, stops_turned, has_frame, its_table, its_reads, its_paid, open_stops, down_turned}
 use Rattle.fb_strict.proofs.pass.Pass.turn.Goals as goal
 use Rattle.fb_strict.proofs.pass.Pass.turn.Goals.{After-open-arg-1}
@@ -11,27 +12,27 @@ use Rattle.fb_strict.proofs.pass.Pass.turn.Goals.{After-open-arg-1}
 pub step-requires-clause-left : goal.step-requires-clause-left
 step-requires-clause-left g c =
     let t = top_of c.args.self.now c.args.reads.now.bytes c.args.frames.now c.args.many (c.args.many - 1) c.requires.left.0 c.requires.some refl c.requires.left.1 in
-    (length c.args.frames.now - (c.args.many - 1), t.own, t.left)
+    (length c.args.frames.now - (c.args.many - 1), frame_links (asks_of c.args.self.now) c.args.reads.now.bytes c.args.self.now.rows c.args.frames.now (c.args.many - 1), t.own, t.left)
 
 pub returns-in-Ok-Here : goal.returns-in-Ok-Here
 returns-in-Ok-Here g c ds stack =
     stays_turned c.args.self.now c.args.reads.now c.step.new.reads c.args.frames.now c.args.many (c.args.many - 1) c.requires.some c.requires.within refl ds stack c.step.new.top
-    (λ room own l. rw (c.in-Ok-Here.is, c.in-Ok-Here.field-0-is) at (c.step.ensures room own l))
+    (λ room via own l. rw (c.in-Ok-Here.is, c.in-Ok-Here.field-0-is) at (c.step.ensures room via own l))
 
 pub returns-in-Ok-Up : goal.returns-in-Ok-Up
 returns-in-Ok-Up g c ds stack =
     up_turned c.args.self.now c.args.reads.now c.step.new.reads c.args.frames.now c.args.many (c.args.many - 1) c.requires.some c.requires.within refl ds stack c.step.new.top
-    (λ room own l. rw (c.in-Ok-Up.is, c.in-Ok-Up.field-0-is) at (c.step.ensures room own l))
+    (λ room via own l. rw (c.in-Ok-Up.is, c.in-Ok-Up.field-0-is) at (c.step.ensures room via own l))
 
 pub returns-in-Err : goal.returns-in-Err
 returns-in-Err g c ds stack =
-    stops_turned c.args.self.now c.args.reads.now c.step.new.reads c.args.frames.now c.args.many (c.args.many - 1) c.requires.some c.requires.within refl ds stack _
-    (λ room own l. rw c.in-Err.is at (c.step.ensures room own l))
+    stops_turned c.args.self.now c.args.reads.now c.step.new.reads c.args.frames.now c.args.many (c.args.many - 1) c.requires.some c.requires.within refl ds stack c.step.new.top c.in-Err.halt
+    (λ room via own l. rw c.in-Err.is at (c.step.ensures room via own l))
 
 -- what the step leaves of a frame that goes down
-down : (g : _) (c : After-open-arg-1 g) (room : ℕ) (own : List Demand) → IsLeft c.args.self.now c.args.reads.now.bytes room (get_or c.args.frames.now (c.args.many - 1) blank) own
-    → GoesDown c.args.self.now c.args.reads.now c.step.new.reads room own (get_or c.args.frames.now (c.args.many - 1) blank) c.step.new.top c.step.new.child
-down g c room own l = rw (c.in-Ok-Down.is, c.in-Ok-Down.field-0-is) at (c.step.ensures room own l)
+down : (g : _) (c : After-open-arg-1 g) (room : ℕ) (via : List Link) (own : List Demand) → IsLeft c.args.self.now c.args.reads.now.bytes room via (get_or c.args.frames.now (c.args.many - 1) blank) own
+    → GoesDown c.args.self.now c.args.reads.now c.step.new.reads room via own (get_or c.args.frames.now (c.args.many - 1) blank) c.step.new.top c.step.new.child
+down g c room via own l = rw (c.in-Ok-Down.is, c.in-Ok-Down.field-0-is) at (c.step.ensures room via own l)
 
 pub bounds-frames-at-in-Ok-Down : goal.bounds-frames-at-in-Ok-Down
 bounds-frames-at-in-Ok-Down g c =
@@ -78,4 +79,4 @@ returns-in-Ok g c ds stack =
 pub returns-in-Err-open : goal.returns-in-Err-open
 returns-in-Err-open g c ds stack =
     let o = (goal.at.returns-in-Err-open g c).After-open-arg-1 in
-    open_stops c.args.self.now c.args.reads.now c.open.new.reads c.args.frames.now c.args.many (c.args.many - 1) c.requires.some c.requires.within refl ds stack c.step.new.reads c.step.new.top c.step.new.child (down g o) c.requires.passing c.in-Err-open.stop c.in-Err-open.ensures.asked
+    open_stops c.args.self.now c.args.reads.now c.open.new.reads c.args.frames.now c.args.many (c.args.many - 1) c.requires.some c.requires.within refl ds stack c.step.new.reads c.step.new.top c.step.new.child (down g o) c.requires.passing c.in-Err-open.stop c.in-Err-open.ensures.asked c.open.new.frame c.halt.result c.halt.ensures
