@@ -42,7 +42,7 @@ module _ (asks : ℕ → Bool) (p : Passing) (b : List ℕ) (t : ℕ) (f : Live)
   by_table j ask to true h = cc
   by_table j ask to false h = absurd (cc)
 
-  taskable_by : (kind : Kind) → f.kind ≡ kind → (ask : Ask) → ask_of asks kind ≡ Some ask → IsTaskable b p.rows t f.slot (field_place b t f.slot) ask
+  pub taskable_by : (kind : Kind) → f.kind ≡ kind → (ask : Ask) → ask_of asks kind ≡ Some ask → IsTaskable b p.rows t f.slot (field_place b t f.slot) ask
   taskable_by (Table j) kind ask h = subst (λ (x : Ask). IsTaskable b p.rows t f.slot (field_place b t f.slot) x) (by_table j ask (GoInto j) (asks j) h) tt
   taskable_by (Tables j) kind ask h =
       subst (λ (x : Ask). IsTaskable b p.rows t f.slot (field_place b t f.slot) x) (by_table j ask (GoIntoEach j) (asks j) h)

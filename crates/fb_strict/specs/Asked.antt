@@ -13,8 +13,8 @@ use Rattle.fb_strict.specs.{Strict.IsStrictBuffer, Skipped.IsClosed, Planned.tas
 use Rattle.fb_strict.specs.InOrder.{length_failure, places_reads, union_failure, union_reads, together_failure, element_failure, element_reads}
 
 -- one thing that is asked at a table of this object, at the field with this number or at its head: a chain of tests,
--- the reads that are made where it finds nothing, and the position at which these are told to be too many; and the links
--- that lead there, the root's first
+-- the reads that are made where it finds nothing, and the position at which these are told to be too many; and the
+-- links that lead there, the root's first
 pub record Demand : Type 0 where
   pub links : List Link
   pub object : ℕ

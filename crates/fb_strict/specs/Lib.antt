@@ -6,5 +6,6 @@ pub mod Leaves
 pub mod Planned
 pub mod Asked
 pub mod Passing
+pub mod Reread
 pub mod Strictly
 pub mod Examples

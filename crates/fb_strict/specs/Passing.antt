@@ -184,8 +184,8 @@ frame_links asks b S frames n = map (frame_link asks b S) (take n frames)
 abbrev pub AreLinked : (ℕ → Bool) → Checks → List ℕ → Rows → List Frame → ℕ → Type 0
 AreLinked asks c b S frames n = (i : ℕ) → i < n → IsLinked asks c b S (get_or frames i blank)
 
--- a frame whose next word, with so many before it, is one of its last task: the links of the word's demands are those by
--- which the table was reached, and then the one through the word
+-- a frame whose next word, with so many before it, is one of its last task: the links of the word's demands are those
+-- by which the table was reached, and then the one through the word
 pub record IsOnWay (asks : ℕ → Bool) (c : Checks) (b : List ℕ) (S : Rows) (via : List Link) (fr : Frame) (way : ℕ → List Link) (passed : ℕ) : Type 0 where
   pub last : IsTasked asks c b S fr.table fr.next
   pub count : passed + (fr.row).left ≡ task_words b (fr.table).at last.task

@@ -4,6 +4,8 @@
 
 pub mod examples;
 pub mod laws;
+mod links;
+mod located;
 mod pass;
 mod plan;
 mod room;
@@ -11,6 +13,7 @@ mod strictly;
 mod tasks;
 pub mod unions;
 
+pub use located::verify_strictly_and_locate;
 pub use plan::Plan;
 pub use room::{Room, RoomFault};
 pub use strictly::{VerifiedStrictly, verify_strictly};

@@ -1,0 +1,24 @@
+use Rattle.std.proofs.Common.{inl}
+use Rattle.fb_rules.specs.Question.{question}
+use Rattle.fb_strict.proofs.Locating.{told_no, told_along}
+use Rattle.fb_strict.proofs.located.verify_strictly_and_locate.Goals as goal
+use Rattle.fb_strict.proofs.located.verify_strictly_and_locate.Goals.{in-Ok, in-Err}
+
+-- src/located.rt
+pub returns-clause-no : goal.returns-clause-no
+returns-clause-no g c =
+    let a = c.args in
+    let q = question a.schema.now a.root a.start a.ident a.limits a.checks in
+    elim c.match-verify_and_locate.branch [
+      | in-Ok w ↦ rw w.result-is (told_no a.plan.now q a.meter.bytes w.verdict.result w.in-Ok.verified w.in-Ok.ensures.kept w.verdict.ensures.no)
+      | in-Err w ↦ rw w.result-is (inl w.in-Err.ensures.no)
+    ]
+
+pub returns-clause-along : goal.returns-clause-along
+returns-clause-along g c =
+    let a = c.args in
+    let q = question a.schema.now a.root a.start a.ident a.limits a.checks in
+    elim c.match-verify_and_locate.branch [
+      | in-Ok w ↦ rw (w.result-is, w.links-is) (told_along a.plan.now q a.meter.bytes w.verdict.result w.in-Ok.verified w.in-Ok.ensures.kept w.verdict.new.links w.verdict.ensures.along)
+      | in-Err w ↦ rw (w.result-is, w.links-is) (inl w.in-Err.ensures.along)
+    ]

@@ -1,0 +1,116 @@
+// The strict verdict on a buffer, with the way to its fault.
+
+ghost use Rattle.std.specs.Prelude.{◌≡◌, ◌^◌, ◌<◌, ◌≤◌, length, take, IfOk, IfErr, IsTrue};
+ghost use Rattle.fb_schema.specs.Rows.{is_table};
+ghost use Rattle.fb_rules.specs.{Question.question, Verdict.Reports};
+ghost use Rattle.fb_verify.specs.Sealed.{asked_of};
+ghost use Rattle.fb_strict.specs.Planned.{IsPlan};
+ghost use Rattle.fb_strict.specs.Strictly.{ReportsStrictly, HasNoneStrictly, StopsStrictly, StopsAlongStrictly};
+
+use crate::pass::Pass;
+use crate::plan::Plan;
+use crate::room::{Frame, Room};
+use crate::strictly::{VerifiedStrictly, ask};
+use fb_bytes::Meter;
+use fb_rules::checks::Checks;
+use fb_rules::fault::Report;
+use fb_rules::limits::Limits;
+use fb_rules::link::Link;
+use fb_rules::start::{Ident, Start};
+use fb_schema::Schema;
+use fb_verify::{Located, Scratch, Verified, verify_and_locate};
+use std::alloc::Allocator;
+
+/// The strict verdict on a buffer that was verified with this identifier and within these limits. Where a demand isn't
+/// met, the links that lead there are put at the front of `links`.
+fn verdict<'b, 's, 'n, A: Allocator>(
+    verified: Verified<'b, 's, 'n>,
+    ident: Ident,
+    limits: Limits,
+    plan: &Plan<A>,
+    frames: &mut [Frame],
+    links: &mut [Link],
+) -> Result<VerifiedStrictly<'b, 's, 'n>, Located>
+    requires plan { IsPlan verified.schema plan.now }
+    requires reports { Reports (asked_of verified ident limits) verified.bytes verified.report }
+    requires short { length verified.bytes < 2 ^ 31 }
+    requires table { IsTrue (is_table verified.schema verified.root) }
+    requires room { limits.depth ≤ length frames.old }
+    requires small { length frames.old ≤ 4096 }
+    requires links { length frames.old ≤ length links.old }
+    ensures yes { IfOk result (λ v. ReportsStrictly plan.now (asked_of verified.entry ident limits) (verified.entry).bytes v.report) }
+    ensures kept { IfOk result (λ v. v.verified ≡ verified.entry) }
+    ensures none { IfErr result (λ _. HasNoneStrictly plan.now (asked_of verified.entry ident limits) (verified.entry).bytes) }
+    ensures no { IfErr result (λ l. StopsStrictly plan.now (asked_of verified.entry ident limits) (verified.entry).bytes l.fault) }
+    ensures along { IfErr result (λ l. StopsAlongStrictly plan.now (asked_of verified.entry ident limits) (verified.entry).bytes l.fault (take l.links links.new)) }
+    ensures few { IfErr result (λ l. l.links ≤ length links.new) }
+{
+    match ask(&verified, ident, limits, plan, frames) {
+        Ok(reads) => {
+            let report = Report {
+                reads,
+                ..verified.report()
+            };
+            Ok(VerifiedStrictly { verified, report })
+        }
+        Err(unmet) => {
+            let pass = Pass {
+                plan,
+                schema: verified.schema(),
+                limits,
+                checks: verified.checks(),
+            };
+            let links = pass.put_links(verified.window(), frames, &unmet, links);
+            let fault = unmet.fault;
+            Err(Located { fault, links })
+        }
+    }
+}
+
+/// Checks a buffer as [`verify_strictly`](crate::verify_strictly) does, and where there is a fault, the links that lead
+/// to it are put at the front of `links`, the root's first. There must be room for as many as the depth limit says. No
+/// link leads to a fault at the start of a buffer, at its end where it is too short, or at the head of its root table.
+/// For each link at most six numbers are read again, which the fault's reads don't count.
+///
+/// # Errors
+///
+/// The fault that `verify_strictly` answers, with the number of these links.
+pub fn verify_strictly_and_locate<'b, 's, 'n, A: Allocator, B: Allocator, C: Allocator>(
+    meter: Meter<'b>,
+    schema: &'s Schema<'n>,
+    root: u32,
+    start: Start,
+    ident: Ident,
+    limits: Limits,
+    checks: Checks,
+    plan: &Plan<A>,
+    scratch: &mut Scratch<B>,
+    room: &mut Room<C>,
+    links: &mut [Link],
+) -> Result<VerifiedStrictly<'b, 's, 'n>, Located>
+    requires fresh { meter.count ≡ 0 }
+    requires table { IsTrue (is_table schema.now root) }
+    requires plan { IsPlan schema.now plan.now }
+    requires scratch { limits.depth ≤ scratch.old }
+    requires room { limits.depth ≤ room.old }
+    requires links { limits.depth ≤ length links.old }
+    ensures yes { IfOk result (λ v. ReportsStrictly plan.now (question schema.now root start ident limits checks) meter.entry.bytes v.report) }
+    ensures walked { IfOk result (λ v. Reports (question schema.now root start ident limits checks) meter.entry.bytes (v.verified).report) }
+    ensures kept { IfOk result (λ v. v.verified ≡ record { bytes = meter.entry.bytes; schema = schema.now; root = root; start = start; checks = checks; report = (v.verified).report }) }
+    ensures none { IfErr result (λ _. HasNoneStrictly plan.now (question schema.now root start ident limits checks) meter.entry.bytes) }
+    ensures no { IfErr result (λ l. StopsStrictly plan.now (question schema.now root start ident limits checks) meter.entry.bytes l.fault) }
+    // The way to the fault, link by link.
+    ensures along { IfErr result (λ l. StopsAlongStrictly plan.now (question schema.now root start ident limits checks) meter.entry.bytes l.fault (take l.links links.new)) }
+    ensures few { IfErr result (λ l. l.links ≤ length links.new) }
+    ensures scratch { scratch.new ≡ scratch.old }
+    ensures room { room.new ≡ room.old }
+    ensures long { length links.new ≡ length links.old }
+{
+    let frames = &mut room.frames[..limits.depth() as usize];
+    match verify_and_locate(
+        meter, schema, root, start, ident, limits, checks, scratch, links,
+    ) {
+        Ok(verified) => verdict(verified, ident, limits, plan, frames, links),
+        Err(located) => Err(located),
+    }
+}
