@@ -18,3 +18,5 @@ pub mod Wording
 pub mod Looping
 pub mod Buffers
 pub mod Verdicts
+pub mod OneVerdict
+pub mod Price

@@ -46,13 +46,15 @@ module _ (p : Planned) (q : Question) (b : List ℕ) where
   abbrev pub asked : Tree → List Demand
   asked y = demands_of (marked p.marks) q.checks b q.rows q.root y
 
-  pub answers_yes : (y : Tree) (walked n : ℕ) → walked ≡ cost q b y → AreAllowed (q.limits).reads (cost q b y) → AskedAlone (limits_left q.limits walked) (asked y) (Ok n) → Asked p q b y (Ok (walked + n))
+  pub answers_yes : (y : Tree) (walked n : ℕ) → walked ≡ cost q b y → AreAllowed (q.limits).reads (cost q b y)
+      → AskedAlone (limits_left q.limits walked) (asked y) (Ok n) → Asked p q b y (Ok (walked + n))
   answers_yes y walked n cost-is allowed h =
       let a : AreAllowed (q.limits).reads walked = rw cost-is allowed in
       let zero : walked + 0 ≡ cost q b y = omega (arith, cost-is) in
       (subst (λ n. first_fault q.limits n (asked y) ≡ None) zero (shifted q.limits walked a 0 (asked y) ∙ ap (option_map (later walked)) h.0), omega (arith, h.1, cost-is))
 
-  pub answers_no : (y : Tree) (walked : ℕ) (f : Fault) → walked ≡ cost q b y → AreAllowed (q.limits).reads (cost q b y) → AskedAlone (limits_left q.limits walked) (asked y) (Err f) → Asked p q b y (Err (later walked f))
+  pub answers_no : (y : Tree) (walked : ℕ) (f : Fault) → walked ≡ cost q b y → AreAllowed (q.limits).reads (cost q b y)
+      → AskedAlone (limits_left q.limits walked) (asked y) (Err f) → Asked p q b y (Err (later walked f))
   answers_no y walked f cost-is allowed h =
       let a : AreAllowed (q.limits).reads walked = rw cost-is allowed in
       let zero : walked + 0 ≡ cost q b y = omega (arith, cost-is) in
@@ -62,7 +64,8 @@ module _ (p : Planned) (q : Question) (b : List ℕ) where
     pub same_tree : (y z : Tree) → IsWellFormed q b y → IsWellFormed q b z → y ≡ z
     same_tree y z h i = one_tree q.checks b q.rows y z q.root (target b (base q.start)) h.unfolds i.unfolds
 
-    tells : (y : Tree) → IsWellFormed q b y → AreAllowed (q.limits).reads (cost q b y) → (first_fault q.limits (cost q b y) (asked y) ≡ None) ↔ (IsStrictBuffer q.checks b q.rows y × AreAllowed (q.limits).reads (strict_cost p q b y))
+    pub tells : (y : Tree) → IsWellFormed q b y → AreAllowed (q.limits).reads (cost q b y)
+        → (first_fault q.limits (cost q b y) (asked y) ≡ None) ↔ (IsStrictBuffer q.checks b q.rows y × AreAllowed (q.limits).reads (strict_cost p q b y))
     tells y h a =
         let f = first_tells q.limits (asked y) (cost q b y) a in
         let d = demands_tell (marked p.marks) q.rows (plan_closed q.rows p plan) y q.checks b q.root (target b (base q.start)) h.unfolds in
@@ -110,12 +113,6 @@ module _ (p : Planned) (q : Question) (b : List ℕ) where
       total (Ok n) h = answers_yes y walk.reads n paid_is allowed_y h
       total (Err f) h = answers_no y walk.reads f paid_is allowed_y h
 
-      pub total_yes : (n : ℕ) → AskedAlone (limits_left q.limits walk.reads) (asked y) (Ok n) → Asked p q b y (Ok (walk.reads + n))
-      total_yes n h = answers_yes y walk.reads n paid_is allowed_y h
-
-      pub total_no : (f : Fault) → AskedAlone (limits_left q.limits walk.reads) (asked y) (Err f) → Asked p q b y (Err (later walk.reads f))
-      total_no f h = answers_no y walk.reads f paid_is allowed_y h
-
 -- Counts that 128 bits hold.
 
 few_reads : (tables wide len : ℕ) → tables < 2 ^ 32 → wide < 2 ^ 32 → len < 2 ^ 31 → 4 + tables * (4 + wide * (8 + len)) ≤ 2 ^ 96
@@ -124,7 +121,7 @@ few_reads tables wide len t w l =
     let two : tables * (4 + wide * (8 + len)) ≤ tables * (2 ^ 63 + 2 ^ 36) = mul-le-mul_left tables (omega (arith, one, l)) in
     omega (arith, two, t)
 
-least_of : (o : Option ℕ) (n : ℕ) → within_budget o n ≤ n
+pub least_of : (o : Option ℕ) (n : ℕ) → within_budget o n ≤ n
 least_of None n = omega arith
 least_of (Some most) n = omega arith
 
@@ -141,7 +138,7 @@ few_demands size wide len n t w l h =
     let two : (3 + wide * (8 + len)) * size ≤ (2 ^ 63 + 2 ^ 36) * size = mul-le-mul_right size (omega (arith, one, l)) in
     omega (arith, two, t, h)
 
-first_few : (x : Bool) (d : Demand) (ds : List Demand) (n : ℕ) → d.reads ≡ 0 → demands_reads ds ≤ n → demands_reads (d ∷ (if x then ds else [])) ≤ n
+pub first_few : (x : Bool) (d : Demand) (ds : List Demand) (n : ℕ) → d.reads ≡ 0 → demands_reads ds ≤ n → demands_reads (d ∷ (if x then ds else [])) ≤ n
 first_few true d ds n none h = omega (arith, first_reads d ds, none, h)
 first_few false d ds n none h = omega (arith, first_reads d [], none)
 

@@ -7,4 +7,6 @@ pub mod Planned
 pub mod Asked
 pub mod Passing
 pub mod Strictly
+pub mod MostReads
+pub mod Laws
 pub mod Examples

@@ -4,6 +4,7 @@
 
 pub mod examples;
 pub mod laws;
+mod most;
 mod pass;
 mod plan;
 mod room;
@@ -11,6 +12,7 @@ mod strictly;
 mod tasks;
 pub mod unions;
 
+pub use most::most_reads_strictly;
 pub use plan::Plan;
 pub use room::{Room, RoomFault};
 pub use strictly::{VerifiedStrictly, verify_strictly};
