@@ -20,3 +20,4 @@ pub mod Buffers
 pub mod Verdicts
 pub mod OneVerdict
 pub mod Price
+pub mod Calls

@@ -3,6 +3,7 @@ use Rattle.std.specs.Prelude.{◌≡◌, ◌⊎◌, ℕ, ◌+◌, ◌-◌, List,
 use Rattle.fb_rules.specs.declared.{fault.Fault.Fault, fault.Report.Report}
 use Rattle.fb_rules.specs.{Bounds.Bounds, Bounds.AreAllowed, Question.Question, Tree.Tree, Tree.size, Tree.depth}
 use Rattle.fb_rules.specs.{WellFormed.IsWellFormed, WellFormed.IsWithin, WellFormed.cost, Stops.Stops}
+use Rattle.fb_verify.specs.Sealed.{Sealed}
 use Rattle.fb_strict.specs.{Strict.IsStrictBuffer, Planned.Planned, Planned.marked}
 use Rattle.fb_strict.specs.Asked.{Demand, demands_of, demands_reads, first_fault}
 
@@ -35,6 +36,10 @@ pub record FailsStrictly (p : Planned) (q : Question) (b : List ℕ) (f : Fault)
 -- the walk's first fault, or else the pass's
 abbrev pub StopsStrictly : Planned → Question → List ℕ → Fault → Type 0
 StopsStrictly p q b f = Stops q b f ⊎ FailsStrictly p q b f
+
+-- a buffer that was verified by this question, as contracts see it
+abbrev pub sealed_by : Question → List ℕ → Report → Sealed
+sealed_by q b r = record { bytes = b; schema = q.rows; root = q.root; start = q.start; checks = q.checks; report = r }
 
 -- the budget that is left after so many reads
 abbrev pub budget_left : Option ℕ → ℕ → Option ℕ

@@ -15,5 +15,5 @@ pub mod unions;
 pub use most::most_reads_strictly;
 pub use plan::Plan;
 pub use room::{Room, RoomFault};
-pub use strictly::{VerifiedStrictly, verify_strictly};
+pub use strictly::{VerifiedStrictly, verify_strictly, verify_strictly_shallow};
 pub use tasks::{Ask, Task};

@@ -1,4 +1,4 @@
-use Rattle.std.proofs.Common.{◌≡◌, ◌<◌, ◌≤◌, ◌^◌, ℕ, List, length, refl, sym, ap, subst, ◌∙◌, arith}
+use Rattle.std.proofs.Common.{◌≡◌, ◌<◌, ◌^◌, ℕ, List, length, refl, sym, ap, subst, ◌∙◌, arith}
 use Rattle.fb_rules.specs.declared.{fault.Report.Report, start.Start.Start, table.Child.Child}
 use Rattle.fb_strict.specs.{Passing.Passing, Strictly.limits_left}
 use Rattle.fb_rules.specs.{Bounds.AreAllowed, Places.target, WellFormed.base}
@@ -6,7 +6,7 @@ use Rattle.fb_schema.specs.{Live.widest, Rows.Rows}
 use Rattle.fb_verify.specs.Sealed.{asked_of}
 use Rattle.fb_strict.proofs.Verdicts.{total, paid_allowed, deep_enough, size_enough, walk_few, pass_few, rooted, alone_of, take_all}
 use Rattle.fb_strict.proofs.strictly.ask.Goals as goal
-use Rattle.fb_strict.proofs.strictly.ask.Goals.{After-deref_mut, After-root_of}
+use Rattle.fb_strict.proofs.strictly.ask.Goals.{After-bytes-bytes, After-root_of}
 
 walked_is : (g : _) (c : After-root_of g) → c.report-walked.result.reads ≡ c.args.verified.now.report.reads
 walked_is g c = ap (λ (x : Report). x.reads) c.report-walked.ensures.value
@@ -20,18 +20,15 @@ left_of-requires g c =
 
 -- the bytes, and where the root table stands
 
-same_bytes : (g : _) (c : After-deref_mut g) → c.bytes-bytes.result.now ≡ c.args.verified.now.bytes
+same_bytes : (g : _) (c : After-bytes-bytes g) → c.bytes-bytes.result.now ≡ c.args.verified.now.bytes
 same_bytes g c = c.bytes-bytes.ensures ∙ take_all c.window-window.result.now c.len.result c.len.ensures.len ∙ c.window-window.ensures.value
 
-root_at : (g : _) (c : After-deref_mut g) → c.root_of.result ≡ target c.args.verified.now.bytes (base c.args.verified.now.start)
+root_at : (g : _) (c : After-bytes-bytes g) → c.root_of.result ≡ target c.args.verified.now.bytes (base c.args.verified.now.start)
 root_at g c = c.root_of.ensures.value ∙ ap (λ (b : List ℕ). target b (base c.start.result)) c.window-window.ensures.value ∙ ap (λ (s : Start). target c.args.verified.now.bytes (base s)) c.start.ensures.value
-
-frames_deep : (g : _) (c : After-deref_mut g) → c.args.limits.depth ≤ length c.deref_mut.result.now
-frames_deep g c = omega (arith, c.requires.room, c.deref_mut.ensures.value, c.room.view_is, ap length c.deref_mut.ensures.value)
 
 pub ask_bytes-answer-requires-clause-tree : goal.ask_bytes-answer-requires-clause-tree
 ask_bytes-answer-requires-clause-tree g c =
-    let d = (goal.at.ask_bytes-answer-requires-clause-tree g c).After-deref_mut in
+    let d = (goal.at.ask_bytes-answer-requires-clause-tree g c).After-bytes-bytes in
     let v = c.args.verified.now in
     let q = asked_of v c.args.ident c.args.limits in
     let r = c.requires.reports in
@@ -42,8 +39,8 @@ ask_bytes-answer-requires-clause-tree g c =
     let wide : widest c.schema-schema.result.now < 2 ^ 32 = omega (arith, c.widest.ensures, c.widest.type_inv) in
     let p : Passing = record { plan = c.args.plan.now; rows = c.schema-schema.result.now; limits = c.left_of.result; checks = c.checks.result } in
     let child : Child = record { object = c.root.result; at = c.root_of.result } in
-    let root = rooted p c.bytes-bytes.result.now (length c.deref_mut.result.now) child q v.bytes c.checks.ensures.value (same_bytes g d) rows c.root.ensures.value (root_at g d) y r.well_formed c.root_of.ensures.near c.requires.table (omega (arith, deep, frames_deep g d)) in
-    (y, root, pass_few p c.bytes-bytes.result.now (length c.deref_mut.result.now) child y root (omega (arith, many, c.tables_of.ensures, c.tables_of.type_inv)) wide (rw (same_bytes g d) c.requires.short))
+    let root = rooted p c.bytes-bytes.result.now (length c.args.frames.now) child q v.bytes c.checks.ensures.value (same_bytes g d) rows c.root.ensures.value (root_at g d) y r.well_formed c.root_of.ensures.near c.requires.table (omega (arith, deep, c.requires.room)) in
+    (y, root, pass_few p c.bytes-bytes.result.now (length c.args.frames.now) child y root (omega (arith, many, c.tables_of.ensures, c.tables_of.type_inv)) wide (rw (same_bytes g d) c.requires.short))
 
 pub count_on-requires-clause-walked : goal.count_on-requires-clause-walked
 count_on-requires-clause-walked g c =
@@ -55,21 +52,23 @@ count_on-requires-clause-walked g c =
     let same = ap (λ (x : Report). x.reads) c.report-walked.ensures.value in
     omega (arith, few, same, r.reads)
 
-pub returns-clause-asked : goal.returns-clause-asked
-returns-clause-asked g c y wf =
-    let d = (goal.at.returns-clause-asked g c).After-deref_mut in
-    let v = c.args.verified.now in
-    let q = asked_of v c.args.ident c.args.limits in
-    let r = c.requires.reports in
-    let deep = deep_enough c.args.plan.now q v.bytes c.requires.plan v.report r y wf in
-    let walked = ap (λ (x : Report). x.reads) c.report-walked.ensures.value in
-    let rows = c.schema-schema.ensures.value in
-    let checks = c.checks.ensures.value in
-    let object = c.root.ensures.value in
-    let p : Passing = record { plan = c.args.plan.now; rows = c.schema-schema.result.now; limits = c.left_of.result; checks = c.checks.result } in
-    let child : Child = record { object = c.root.result; at = c.root_of.result } in
-    let n = length c.deref_mut.result.now in
-    let root = rooted p c.bytes-bytes.result.now n child q v.bytes checks (same_bytes g d) rows object (root_at g d) y wf c.root_of.ensures.near c.requires.table (omega (arith, deep, frames_deep g d)) in
-    let alone = alone_of p c.bytes-bytes.result.now n child q v.bytes checks (same_bytes g d) rows object (root_at g d) c.args.plan.now refl (limits_left c.args.limits v.report.reads)
-    (c.left_of.ensures ∙ ap (limits_left c.args.limits) walked) y c.ask_bytes-answer.result (c.ask_bytes-answer.ensures.asked y root) in
-    rw (c.count_on.ensures, walked) (total c.args.plan.now q v.bytes c.requires.plan v.report r y wf c.ask_bytes-answer.result alone)
+pub returns : goal.returns
+returns g c = record {
+  asked = λ y wf.
+      let d = (goal.at.returns g c).After-bytes-bytes in
+      let v = c.args.verified.now in
+      let q = asked_of v c.args.ident c.args.limits in
+      let r = c.requires.reports in
+      let deep = deep_enough c.args.plan.now q v.bytes c.requires.plan v.report r y wf in
+      let walked = ap (λ (x : Report). x.reads) c.report-walked.ensures.value in
+      let rows = c.schema-schema.ensures.value in
+      let checks = c.checks.ensures.value in
+      let object = c.root.ensures.value in
+      let p : Passing = record { plan = c.args.plan.now; rows = c.schema-schema.result.now; limits = c.left_of.result; checks = c.checks.result } in
+      let child : Child = record { object = c.root.result; at = c.root_of.result } in
+      let n = length c.args.frames.now in
+      let root = rooted p c.bytes-bytes.result.now n child q v.bytes checks (same_bytes g d) rows object (root_at g d) y wf c.root_of.ensures.near c.requires.table (omega (arith, deep, c.requires.room)) in
+      let alone = alone_of p c.bytes-bytes.result.now n child q v.bytes checks (same_bytes g d) rows object (root_at g d) c.args.plan.now refl (limits_left c.args.limits v.report.reads)
+      (c.left_of.ensures ∙ ap (limits_left c.args.limits) walked) y c.ask_bytes-answer.result (c.ask_bytes-answer.ensures.asked y root) in
+      rw (c.count_on.ensures, walked) (total c.args.plan.now q v.bytes c.requires.plan v.report r y wf c.ask_bytes-answer.result alone);
+}
