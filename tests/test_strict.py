@@ -6,6 +6,7 @@ there. bench/strict does the same with far more messages.
 """
 
 import itertools
+import re
 import unittest
 
 from tests.support import schemas
@@ -16,7 +17,7 @@ from tests.support.cases import Case
 from tests.support.file_rows import FileReader
 from tests.support.generated import Generated, Kept, missing
 from tests.support.naive import UNION, VECTOR, Schema, number_at
-from tests.support.program import FOLDER
+from tests.support.program import FOLDER, TOP
 from tests.support.random_buffers import Builder
 from tests.support.random_buffers import damaged as damaged_at_random
 from tests.support.random_rows import Maker, Random
@@ -198,6 +199,23 @@ class PlainChecker(Case):
                 data = bytes_of(SAMPLES, data)
                 got = Strict(Plan(schema, demands, marks), root, data, **limits).verdict(prefix=is_prefixed)
                 self.same(f"{name}: {words}", short(got), want)
+
+    def test_the_message_of_the_library_test(self):
+        """What a test in crates/library_tests wants of its message is what this checker tells."""
+        text = (TOP / "crates/library_tests/src/tests/strict.rt").read_text()
+        given = re.search(r'ITEMS: &\[u8\] = b"(.*?)";', text, re.S)[1]
+        data = bytes.fromhex(re.sub(r"[\\x\s]", "", given))
+        cut_at = int(re.search(r"&ITEMS\[\.\.(\d+)\]", text)[1])
+        plan = Plan(Schema(*rows_of(UNIONS)), Demands(unions=True))
+        wants = {
+            name: [int(number) for number in re.findall(r"(?:tables|depth|reads|at): (\d+)", part)]
+            for name, part in re.findall(r"const ([A-Z]+): (?:Report|Fault) = (.*?)};", text, re.S)
+        }
+        for name, message, reads in ("COUNTS", data, 296), ("LATE", data, 295), ("FAULT", data[:cut_at], 296):
+            told = Strict(plan, 3, message, reads=reads).verdict(prefix=False)
+            words = [word.partition("=") for word in told.split()]
+            numbers = [int(number) for key, _, number in words if key in ("tables", "depth", "reads", "at")]
+            self.same(f"{name}: {told}", numbers, wants[name])
 
     def test_each_budget(self):
         """A message is good at exactly its own tables, depth and reads, and at no less."""

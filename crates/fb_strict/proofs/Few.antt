@@ -30,10 +30,10 @@ pub element_few : (b : List ℕ) (S : Rows) (e q : ℕ) → element_reads b S e 
 unfolding element_reads
 element_few b S e q = omega (arith, typed_few S e (word b q 1))
 
-union_few : (b : List ℕ) (S : Rows) (e : ℕ) (types place : Option ℕ) → union_reads b S e types place ≤ 2
+pub union_few : (b : List ℕ) (S : Rows) (e : ℕ) (types place : Option ℕ) → union_reads b S e types place ≤ 2
 union_few b S e types place = grind (arith, value_few, if_present_few)
 
-vectors_few : (types place : Option ℕ) → vectors_reads types place ≤ 3
+pub vectors_few : (types place : Option ℕ) → vectors_reads types place ≤ 3
 vectors_few types place = grind arith
 
 module _ (asks : ℕ → Bool) (c : Checks) (b : List ℕ) (S : Rows) where

@@ -19,4 +19,7 @@ pub mod Looping
 pub mod Buffers
 pub mod Verdicts
 pub mod Rereading
+pub mod OneVerdict
+pub mod Price
+pub mod Calls
 pub mod Locating

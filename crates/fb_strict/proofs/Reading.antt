@@ -62,8 +62,9 @@ pub tables_met : TablesLaw
 tables_met y c b S = ((λ h k t n. node_met c b S k t y h n), node_strict c b S y)
 
 pub value_inside : ValuesLaw
-value_inside y c b S k t i f e p h n at is place none = may_follow c b S p ((of_union c b S e (type_place b t f.slot) (field_place b t f.slot) f.kind is (node_met c b S k t y h n i f at)).leads p place none)
+value_inside y c b S h k t i f e p n at is place none =
+    may_follow c b S p ((of_union c b S e (type_place b t f.slot) (field_place b t f.slot) f.kind is (node_met c b S k t y h n i f at)).leads p place none)
 
 pub element_inside : ElementsLaw
-element_inside y c b S k t i f e p j h n at is place lt typed none =
+element_inside y c b S h k t i f e p j n at is place lt typed none =
     may_follow c b S _ ((of_unions c b S e (type_place b t f.slot) (field_place b t f.slot) f.kind is (node_met c b S k t y h n i f at)).leads p j place lt typed none)

@@ -83,7 +83,8 @@ module _ (p : Planned) (q : Question) (b : List ℕ) where
     pub same_tree : (y z : Tree) → IsWellFormed q b y → IsWellFormed q b z → y ≡ z
     same_tree y z h i = one_tree q.checks b q.rows y z q.root (target b (base q.start)) h.unfolds i.unfolds
 
-    tells : (y : Tree) → IsWellFormed q b y → AreAllowed (q.limits).reads (cost q b y) → (first_fault q.limits (cost q b y) (asked y) ≡ None) ↔ (IsStrictBuffer q.checks b q.rows y × AreAllowed (q.limits).reads (strict_cost p q b y))
+    pub tells : (y : Tree) → IsWellFormed q b y → AreAllowed (q.limits).reads (cost q b y)
+        → (first_fault q.limits (cost q b y) (asked y) ≡ None) ↔ (IsStrictBuffer q.checks b q.rows y × AreAllowed (q.limits).reads (strict_cost p q b y))
     tells y h a =
         let f = first_tells q.limits (asked y) (cost q b y) a in
         let d = demands_tell (marked p.marks) q.rows (plan_closed q.rows p plan) y q.checks b q.root (target b (base q.start)) h.unfolds in
@@ -143,7 +144,7 @@ few_reads tables wide len t w l =
     let two : tables * (4 + wide * (8 + len)) ≤ tables * (2 ^ 63 + 2 ^ 36) = mul-le-mul_left tables (omega (arith, one, l)) in
     omega (arith, two, t)
 
-least_of : (o : Option ℕ) (n : ℕ) → within_budget o n ≤ n
+pub least_of : (o : Option ℕ) (n : ℕ) → within_budget o n ≤ n
 least_of None n = omega arith
 least_of (Some most) n = omega arith
 
@@ -160,7 +161,7 @@ few_demands size wide len n t w l h =
     let two : (3 + wide * (8 + len)) * size ≤ (2 ^ 63 + 2 ^ 36) * size = mul-le-mul_right size (omega (arith, one, l)) in
     omega (arith, two, t, h)
 
-first_few : (x : Bool) (d : Demand) (ds : List Demand) (n : ℕ) → d.reads ≡ 0 → demands_reads ds ≤ n → demands_reads (d ∷ (if x then ds else [])) ≤ n
+pub first_few : (x : Bool) (d : Demand) (ds : List Demand) (n : ℕ) → d.reads ≡ 0 → demands_reads ds ≤ n → demands_reads (d ∷ (if x then ds else [])) ≤ n
 first_few true d ds n none h = omega (arith, first_reads d ds, none, h)
 first_few false d ds n none h = omega (arith, first_reads d [], none)
 

@@ -8,4 +8,6 @@ pub mod Asked
 pub mod Passing
 pub mod Reread
 pub mod Strictly
+pub mod MostReads
+pub mod Laws
 pub mod Examples

@@ -34,16 +34,24 @@ pub record MayFollow (b : List ℕ) (p : ℕ) : Type 0 where
   pub within : p + 4 ≤ length b
   pub inside : target b p < length b
 
--- what `u()` follows may be followed, where nobody knows what it leads to: the value of a union whose type is 0 or
--- unknown
-abbrev pub ValuesLaw : Type 0
-ValuesLaw =
-    (y : Tree) (c : Checks) (b : List ℕ) (S : Rows) (k t i : ℕ) (f : Live) (e p : ℕ) → IsStrict y c b S → HasNode y k t → slice_get (live_fields S k) i ≡ Some f
-    → f.kind ≡ Union e → field_place b t f.slot ≡ Some p → member_of S e (union_type b (type_place b t f.slot)) ≡ None → MayFollow b p
+-- what `u()` follows may be followed, where nobody knows what it leads to: wherever a table of this tree stands, the
+-- value of a union whose type is 0 or unknown
+abbrev pub ValuesLeadInside : Tree → List ℕ → Rows → Type 0
+ValuesLeadInside y b S =
+    (k t i : ℕ) (f : Live) (e p : ℕ) → HasNode y k t → slice_get (live_fields S k) i ≡ Some f → f.kind ≡ Union e → field_place b t f.slot ≡ Some p
+    → member_of S e (union_type b (type_place b t f.slot)) ≡ None → MayFollow b p
 
 -- so may the j-th offset word of a vector of unions, whose type isn't 0 and is unknown
+abbrev pub ElementsLeadInside : Tree → List ℕ → Rows → Type 0
+ElementsLeadInside y b S =
+    (k t i : ℕ) (f : Live) (e p j : ℕ) → HasNode y k t → slice_get (live_fields S k) i ≡ Some f → f.kind ≡ Unions e → field_place b t f.slot ≡ Some p
+    → j < word b (target b p) 4 → word b (types_begin b (type_place b t f.slot) + j) 1 ≢ 0 → member_of S e (word b (types_begin b (type_place b t f.slot) + j) 1) ≡ None
+    → MayFollow b (target b p + 4 + 4 * j)
+
+-- both hold of a strict tree
+
+abbrev pub ValuesLaw : Type 0
+ValuesLaw = (y : Tree) (c : Checks) (b : List ℕ) (S : Rows) → IsStrict y c b S → ValuesLeadInside y b S
+
 abbrev pub ElementsLaw : Type 0
-ElementsLaw =
-    (y : Tree) (c : Checks) (b : List ℕ) (S : Rows) (k t i : ℕ) (f : Live) (e p j : ℕ) → IsStrict y c b S → HasNode y k t → slice_get (live_fields S k) i ≡ Some f
-    → f.kind ≡ Unions e → field_place b t f.slot ≡ Some p → j < word b (target b p) 4
-    → word b (types_begin b (type_place b t f.slot) + j) 1 ≢ 0 → member_of S e (word b (types_begin b (type_place b t f.slot) + j) 1) ≡ None → MayFollow b (target b p + 4 + 4 * j)
+ElementsLaw = (y : Tree) (c : Checks) (b : List ℕ) (S : Rows) → IsStrict y c b S → ElementsLeadInside y b S

@@ -6,7 +6,7 @@ use Rattle.fb_rules.specs.{WellFormed.IsWellFormed, WellFormed.IsWithin, WellFor
 use Rattle.fb_rules.specs.declared.{checks.Checks.Checks, link.Link.Link, site.Halt.Halt}
 use Rattle.fb_rules.specs.{Links.StopsAlong, Told.stopped}
 use Rattle.fb_schema.specs.Rows.{Rows}
-use Rattle.fb_verify.specs.Stack.{last_link, links_left}
+use Rattle.fb_verify.specs.{Sealed.Sealed, Stack.last_link, Stack.links_left}
 use Rattle.fb_strict.specs.declared.{room.Frame.Frame, strictly.Unmet.Unmet}
 use Rattle.fb_strict.specs.{Strict.IsStrictBuffer, Planned.Planned, Planned.marked, Passing.frame_links, Passing.AreLinked}
 use Rattle.fb_strict.specs.Asked.{Demand, demands_of, demands_reads, first_fault, first_links}
@@ -52,6 +52,10 @@ StopsStrictly p q b f = Stops q b f ⊎ FailsStrictly p q b f
 -- the same, with the links that lead there
 abbrev pub StopsAlongStrictly : Planned → Question → List ℕ → Fault → List Link → Type 0
 StopsAlongStrictly p q b f links = StopsAlong q b f links ⊎ FailsAlong p q b f links
+
+-- a buffer that was verified by this question, as contracts see it
+abbrev pub sealed_by : Question → List ℕ → Report → Sealed
+sealed_by q b r = record { bytes = b; schema = q.rows; root = q.root; start = q.start; checks = q.checks; report = r }
 
 -- the budget that is left after so many reads
 abbrev pub budget_left : Option ℕ → ℕ → Option ℕ

@@ -1,6 +1,7 @@
 //! Laws of the definitions: each is the contract of a function that does nothing.
 
 ghost use Rattle.fb_strict.specs.Asked.{DemandsLaw, FirstLaw, TasksLaw};
+ghost use Rattle.fb_strict.specs.Laws.{HasOneStrictVerdict, StrictCostIsBounded, StrictIsOk, StrictReadsAreBounded, UnionsLeadInside};
 ghost use Rattle.fb_strict.specs.InOrder.{ElementLaw, InsideLaw, LengthLaw, UnionLaw, UnionsLaw};
 ghost use Rattle.fb_strict.specs.Readers.{ElementsLaw, TablesLaw, ValuesLaw};
 ghost use Rattle.fb_strict.specs.Skipped.{SkipLaw};
@@ -47,4 +48,26 @@ pub fn demands_tell()
 /// A field without a task is asked nothing, nor is what it leads to.
 pub fn tasks_are_all()
     ensures { TasksLaw }
+{}
+
+/// A strict ok is an ok: the walk alone reports as many tables, as deep, and no more reads.
+pub fn strict_is_ok()
+    ensures { StrictIsOk }
+{}
+
+/// In a buffer that is reported strictly, such values and offset words lead inside, wherever a table of its tree stands.
+pub fn unions_lead_inside()
+    ensures { UnionsLeadInside }
+{}
+
+/// At most one answer of `verify_strictly` applies to a question: one report, or one fault, and never one of each.
+#[tactic(auto, using(crate::proofs::OneVerdict::one_verdict))]
+pub fn one_strict_answer_applies()
+    ensures { HasOneStrictVerdict }
+{}
+
+/// What is reported strictly costs at most `most_reads_strictly`, and a fault comes after at most so many reads.
+pub fn strict_reads_are_bounded()
+    ensures of_yes { StrictCostIsBounded }
+    ensures of_no { StrictReadsAreBounded }
 {}

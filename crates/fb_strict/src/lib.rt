@@ -6,6 +6,7 @@ pub mod examples;
 pub mod laws;
 mod links;
 mod located;
+mod most;
 mod pass;
 mod plan;
 mod room;
@@ -14,7 +15,8 @@ mod tasks;
 pub mod unions;
 
 pub use located::verify_strictly_and_locate;
+pub use most::most_reads_strictly;
 pub use plan::Plan;
 pub use room::{Room, RoomFault};
-pub use strictly::{VerifiedStrictly, verify_strictly};
+pub use strictly::{VerifiedStrictly, verify_strictly, verify_strictly_shallow};
 pub use tasks::{Ask, Task};

@@ -4,8 +4,8 @@ ghost use Rattle.std.specs.Prelude.{◌≡◌, ◌^◌, ◌<◌, ◌≤◌, leng
 ghost use Rattle.fb_schema.specs.Rows.{is_table};
 ghost use Rattle.fb_rules.specs.{Question.question, Verdict.Reports};
 ghost use Rattle.fb_verify.specs.Sealed.{asked_of};
-ghost use Rattle.fb_strict.specs.Planned.{IsPlan};
-ghost use Rattle.fb_strict.specs.Strictly.{ReportsStrictly, HasNoneStrictly, StopsStrictly, StopsAlongStrictly};
+ghost use Rattle.fb_strict.specs.{Planned.IsPlan, MostReads.most_reads_strictly};
+ghost use Rattle.fb_strict.specs.Strictly.{sealed_by, ReportsStrictly, HasNoneStrictly, StopsStrictly, StopsAlongStrictly};
 
 use crate::pass::Pass;
 use crate::plan::Plan;
@@ -96,12 +96,15 @@ pub fn verify_strictly_and_locate<'b, 's, 'n, A: Allocator, B: Allocator, C: All
     requires links { limits.depth ≤ length links.old }
     ensures yes { IfOk result (λ v. ReportsStrictly plan.now (question schema.now root start ident limits checks) meter.entry.bytes v.report) }
     ensures walked { IfOk result (λ v. Reports (question schema.now root start ident limits checks) meter.entry.bytes (v.verified).report) }
-    ensures kept { IfOk result (λ v. v.verified ≡ record { bytes = meter.entry.bytes; schema = schema.now; root = root; start = start; checks = checks; report = (v.verified).report }) }
+    ensures kept { IfOk result (λ v. v.verified ≡ sealed_by (question schema.now root start ident limits checks) meter.entry.bytes (v.verified).report) }
     ensures none { IfErr result (λ _. HasNoneStrictly plan.now (question schema.now root start ident limits checks) meter.entry.bytes) }
     ensures no { IfErr result (λ l. StopsStrictly plan.now (question schema.now root start ident limits checks) meter.entry.bytes l.fault) }
     // The way to the fault, link by link.
     ensures along { IfErr result (λ l. StopsAlongStrictly plan.now (question schema.now root start ident limits checks) meter.entry.bytes l.fault (take l.links links.new)) }
     ensures few { IfErr result (λ l. l.links ≤ length links.new) }
+    // The price.
+    ensures price_of_yes { IfOk result (λ v. (v.report).reads ≤ most_reads_strictly schema.now limits (length meter.entry.bytes)) }
+    ensures price_of_no { IfErr result (λ l. (l.fault).reads ≤ most_reads_strictly schema.now limits (length meter.entry.bytes)) }
     ensures scratch { scratch.new ≡ scratch.old }
     ensures room { room.new ≡ room.old }
     ensures long { length links.new ≡ length links.old }

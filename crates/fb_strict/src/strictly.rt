@@ -6,11 +6,12 @@ ghost use Rattle.fb_rules.specs.{Bounds.AreAllowed, Order.after, Places.target, 
 ghost use Rattle.fb_verify.specs.Sealed.{asked_of};
 ghost use Rattle.fb_strict.specs.{InOrder.length_failure, Planned.IsPlan, Asked.demands_of, Asked.demands_reads};
 ghost use Rattle.fb_strict.specs.Passing.{asks_of, IsPassing, IsRooted, Ran};
-ghost use Rattle.fb_strict.specs.Strictly.{limits_left, counted_on, unmet_by, Asked, AskedAlone, ReportsStrictly, HasNoneStrictly, StopsStrictly};
+ghost use Rattle.fb_strict.specs.MostReads.{most_reads_strictly};
+ghost use Rattle.fb_strict.specs.Strictly.{limits_left, counted_on, sealed_by, unmet_by, Asked, AskedAlone, ReportsStrictly, HasNoneStrictly, StopsStrictly};
 
 use crate::pass::Pass;
 use crate::plan::Plan;
-use crate::room::{Frame, Room};
+use crate::room::{BLANK, Frame, Room};
 use crate::unions::test_length;
 use fb_bytes::{Loan, Meter, Window};
 use fb_rules::checks::Checks;
@@ -20,7 +21,7 @@ use fb_rules::site::{Halt, LastLink, Refusal, Site, Stop};
 use fb_rules::start::{Ident, Start};
 use fb_rules::table::Child;
 use fb_schema::Schema;
-use fb_verify::{Scratch, Verified, verify};
+use fb_verify::{Scratch, Verified, verify, verify_shallow};
 use std::alloc::Allocator;
 
 /// A buffer that was verified and is strict, and what was counted, with the reads of the pass.
@@ -266,16 +267,54 @@ pub fn verify_strictly<'b, 's, 'n, A: Allocator, B: Allocator, C: Allocator>(
     // A yes: a tree is well formed, strict and within the limits, and the report counts it.
     ensures yes { IfOk result (λ v. ReportsStrictly plan.now (question schema.now root start ident limits checks) meter.entry.bytes v.report) }
     ensures walked { IfOk result (λ v. Reports (question schema.now root start ident limits checks) meter.entry.bytes (v.verified).report) }
-    ensures kept { IfOk result (λ v. v.verified ≡ record { bytes = meter.entry.bytes; schema = schema.now; root = root; start = start; checks = checks; report = (v.verified).report }) }
+    ensures kept { IfOk result (λ v. v.verified ≡ sealed_by (question schema.now root start ident limits checks) meter.entry.bytes (v.verified).report) }
     // A no: no tree is, and the fault is the first condition that fails, or else the first demand that isn't met.
     ensures none { IfErr result (λ _. HasNoneStrictly plan.now (question schema.now root start ident limits checks) meter.entry.bytes) }
     ensures no { IfErr result (λ f. StopsStrictly plan.now (question schema.now root start ident limits checks) meter.entry.bytes f) }
+    // The price.
+    ensures price_of_yes { IfOk result (λ v. (v.report).reads ≤ most_reads_strictly schema.now limits (length meter.entry.bytes)) }
+    ensures price_of_no { IfErr result (λ f. f.reads ≤ most_reads_strictly schema.now limits (length meter.entry.bytes)) }
     ensures scratch { scratch.new ≡ scratch.old }
     ensures room { room.new ≡ room.old }
 {
-    let frames = &mut room.frames;
-    match verify(meter, schema, root, start, ident, limits, checks, scratch) {
-        Ok(verified) => verdict(verified, ident, limits, plan, frames),
-        Err(fault) => Err(fault),
-    }
+    let verified = match verify(meter, schema, root, start, ident, limits, checks, scratch) {
+        Ok(verified) => verified,
+        Err(fault) => return Err(fault),
+    };
+    verdict(verified, ident, limits, plan, &mut room.frames)
+}
+
+/// Checks a buffer as [`verify_strictly`] does, in room for 64 tables on the call's own stack.
+///
+/// # Errors
+///
+/// The fault that `verify_strictly` answers.
+pub fn verify_strictly_shallow<'b, 's, 'n, A: Allocator>(
+    meter: Meter<'b>,
+    schema: &'s Schema<'n>,
+    root: u32,
+    start: Start,
+    ident: Ident,
+    limits: Limits,
+    checks: Checks,
+    plan: &Plan<A>,
+) -> Result<VerifiedStrictly<'b, 's, 'n>, Fault>
+    requires fresh { meter.count ≡ 0 }
+    requires table { IsTrue (is_table schema.now root) }
+    requires plan { IsPlan schema.now plan.now }
+    requires room { limits.depth ≤ 64 }
+    ensures yes { IfOk result (λ v. ReportsStrictly plan.now (question schema.now root start ident limits checks) meter.entry.bytes v.report) }
+    ensures walked { IfOk result (λ v. Reports (question schema.now root start ident limits checks) meter.entry.bytes (v.verified).report) }
+    ensures kept { IfOk result (λ v. v.verified ≡ sealed_by (question schema.now root start ident limits checks) meter.entry.bytes (v.verified).report) }
+    ensures none { IfErr result (λ _. HasNoneStrictly plan.now (question schema.now root start ident limits checks) meter.entry.bytes) }
+    ensures no { IfErr result (λ f. StopsStrictly plan.now (question schema.now root start ident limits checks) meter.entry.bytes f) }
+    ensures price_of_yes { IfOk result (λ v. (v.report).reads ≤ most_reads_strictly schema.now limits (length meter.entry.bytes)) }
+    ensures price_of_no { IfErr result (λ f. f.reads ≤ most_reads_strictly schema.now limits (length meter.entry.bytes)) }
+{
+    let verified = match verify_shallow(meter, schema, root, start, ident, limits, checks) {
+        Ok(verified) => verified,
+        Err(fault) => return Err(fault),
+    };
+    let mut frames = [BLANK; 64];
+    verdict(verified, ident, limits, plan, &mut frames)
 }

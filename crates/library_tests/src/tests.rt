@@ -3,6 +3,7 @@ mod bytes;
 mod compare;
 mod extents;
 mod reader;
+mod strict;
 mod texts;
 mod unions;
 mod verify;

@@ -1,0 +1,41 @@
+-- The laws of strict verdicts.
+use Rattle.std.specs.Prelude.{◌≡◌, ℕ, ◌≤◌, List, length, Result, Ok, Err}
+use Rattle.fb_rules.specs.declared.{fault.Fault.Fault, fault.Report.Report}
+use Rattle.fb_rules.specs.{Question.Question, Places.target, Tree.Tree, Unfolds.Unfolds, WellFormed.base, Verdict.Reports}
+use Rattle.fb_strict.specs.{Planned.Planned, Planned.IsPlan, MostReads.most_reads_strictly, Readers.ValuesLeadInside, Readers.ElementsLeadInside}
+use Rattle.fb_strict.specs.Strictly.{ReportsStrictly, StopsStrictly}
+
+-- the walk alone reports as many tables, as deep, and no more reads
+pub record IsOk (q : Question) (b : List ℕ) (r : Report) : Type 0 where
+  pub walked : Report
+  pub reports : Reports q b walked
+  pub tables : walked.tables ≡ r.tables
+  pub depth : walked.depth ≡ r.depth
+  pub reads : walked.reads ≤ r.reads
+
+-- a strict ok is an ok
+abbrev pub StrictIsOk : Type 0
+StrictIsOk = (p : Planned) (q : Question) (b : List ℕ) (r : Report) → ReportsStrictly p q b r → IsOk q b r
+
+-- the tree into which the buffer unfolds then is one whose unions lead inside
+abbrev pub UnionsLeadInside : Type 0
+UnionsLeadInside =
+    (p : Planned) (q : Question) (b : List ℕ) (r : Report) (y : Tree) → ReportsStrictly p q b r → Unfolds y q.checks b q.rows q.root (target b (base q.start))
+    → ValuesLeadInside y b q.rows × ElementsLeadInside y b q.rows
+
+-- an answer applies: a report that counts a strict tree, or the fault that is the first
+abbrev pub AppliesStrictly : Planned → Question → List ℕ → Result Report Fault → Type 0
+AppliesStrictly p q b (Ok r) = ReportsStrictly p q b r
+AppliesStrictly p q b (Err f) = StopsStrictly p q b f
+
+-- at most one applies to a question
+abbrev pub HasOneStrictVerdict : Type 0
+HasOneStrictVerdict = (p : Planned) (q : Question) (b : List ℕ) (x y : Result Report Fault) → IsPlan q.rows p → AppliesStrictly p q b x → AppliesStrictly p q b y → x ≡ y
+
+-- what is reported costs at most that many reads
+abbrev pub StrictCostIsBounded : Type 0
+StrictCostIsBounded = (p : Planned) (q : Question) (b : List ℕ) (r : Report) → ReportsStrictly p q b r → r.reads ≤ most_reads_strictly q.rows q.limits (length b)
+
+-- so does a fault: within a budget of reads it comes after at most 7 more than these
+abbrev pub StrictReadsAreBounded : Type 0
+StrictReadsAreBounded = (p : Planned) (q : Question) (b : List ℕ) (f : Fault) → StopsStrictly p q b f → f.reads ≤ most_reads_strictly q.rows q.limits (length b)
