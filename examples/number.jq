@@ -1,8 +1,8 @@
-# The number of a float in lines of `fbcheck --json`, which tell its bytes as they stand in the buffer:
+# The number of a float in lines of `fbcheck --json`, which have its bytes as they are in the buffer:
 #
 #   fbcheck --schema my.bfbs --json --path pos.lat <in | jq -L examples 'include "number"; .values["pos.lat"] | number'
 #
-# Of a NaN and of what is no float comes null. Where one isn't there, `if . == null then 0 else number end` gives 0.
+# A NaN, and whatever isn't a float, gives null. `if . == null then 0 else number end` takes an absent one as 0.
 
 def number: (.float? // null) | if . then [explode | range(length - 2; -1; -2) as $i | .[$i, $i + 1] % 39 - 9]
   | (if length == 8 then 8 else 1 end) as $w | (.[0] * 256 + .[1] * 16 + .[2]) as $h

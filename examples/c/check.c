@@ -1,16 +1,16 @@
 /*
- * Checks one buffer by a schema file, and tells what the verifier finds.
+ * Checks one buffer against a schema file, and prints the verdict.
  *
  *     cc check.c $(pkg-config --cflags --libs fbcheck) -o check
  *     ./check SCHEMA.bfbs BUFFER [ROOT]
  *
- * The status is 0 for a good buffer, 1 for a bad one, and 2 where none was checked.
+ * The exit status is 0 for an ok buffer, 1 for a bad one, and 2 if none was checked.
  */
 #include "telling.h"
 
 #include <string.h>
 
-/* The bytes of a file by its name, from malloc; null, and told, where it can't be read. */
+/* The bytes of a file, from malloc; or null, after a message on standard error. */
 static uint8_t *contents(const char *path, size_t *length)
 {
     FILE *file = fopen(path, "rb");
@@ -22,7 +22,7 @@ static uint8_t *contents(const char *path, size_t *length)
     return bytes;
 }
 
-/* Tells by name where a fault is: in which table, and in which of its fields, if in one. */
+/* Prints the names of the table and the field, if any, in which a fault is. */
 static void tell_names(const fbcheck_schema *schema, const fbcheck_verdict *verdict)
 {
     char table[256], field[256];
@@ -33,7 +33,7 @@ static void tell_names(const fbcheck_schema *schema, const fbcheck_verdict *verd
         printf("in %.*s%s%.*s\n", (int)lengths[0], table, lengths[1] > 0 ? "." : "", (int)lengths[1], field);
 }
 
-/* Checks the buffer of a file by a schema, from this root table on. */
+/* Checks the buffer in a file against a schema, from this root table. */
 static int check(const fbcheck_schema *schema, uint32_t root, const char *path)
 {
     fbcheck_options options = FBCHECK_OPTIONS_INIT;

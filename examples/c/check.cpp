@@ -1,4 +1,4 @@
-// Checks one buffer by a schema file: check SCHEMA.bfbs BUFFER [ROOT]
+// Checks one buffer against a schema file: check SCHEMA.bfbs BUFFER [ROOT]
 //
 //     c++ -std=c++17 check.cpp $(pkg-config --cflags --libs fbcheck) -o check
 #include <fbcheck.hpp>
@@ -8,7 +8,7 @@
 #include <iterator>
 #include <vector>
 
-// The bytes of a file by its name, which is thrown where it can't be read.
+// The bytes of a file. Throws an exception with its name if it can't be read.
 static std::vector<char> bytes_of(const char *path) try {
     std::ifstream file;
     file.exceptions(std::ios::failbit);

@@ -1,11 +1,11 @@
 /*
- * Checks the messages of a stream, each with its size in front, as they come through a pipe or a socket.
+ * Checks the size-prefixed messages of a stream as they come through a pipe or a socket.
  *
  *     cc stream.c $(pkg-config --cflags --libs fbcheck) -o stream
  *     ./stream SCHEMA.bfbs [ROOT] < PIPE
  *
- * Each message gets a line as soon as it is whole, as of the program fbcheck. The status is 0 where all were good, 1
- * where one was bad, 2 where there was nothing to check them by, and 3 where the stream breaks off or a message is too
+ * Prints a line for each message as soon as it is complete, as the program fbcheck does. The exit status is 0 if all
+ * were ok, 1 if one was bad, 2 if there is no usable schema, and 3 if the stream ends inside a message or one is too
  * long.
  */
 #include "telling.h"
@@ -13,10 +13,10 @@
 #include <string.h>
 #include <unistd.h>
 
-/* What a message may have at most, its prefix included. */
+/* The longest message, prefix included. */
 static uint8_t room[1 << 24];
 
-/* What a stream is checked by, and what was found so far. */
+/* What checks a stream, and what it found so far. */
 struct checker {
     fbcheck_schema *schema;
     fbcheck_scratch *scratch;
@@ -26,7 +26,7 @@ struct checker {
     int status;
 };
 
-/* Tells the verdict on the message that is held. */
+/* Prints the verdict on the message that is held. */
 static void check_message(struct checker *checker)
 {
     fbcheck_verdict verdict;
@@ -37,7 +37,7 @@ static void check_message(struct checker *checker)
         checker->status = 1;
 }
 
-/* Checks the messages that end in a piece of the stream. What the last call answered. */
+/* Checks the messages that end in a piece of the stream. Returns the last call's result. */
 static uint32_t check_piece(struct checker *checker, const uint8_t *piece, size_t length)
 {
     uint32_t status = FBCHECK_MORE;
@@ -57,7 +57,7 @@ static uint32_t check_piece(struct checker *checker, const uint8_t *piece, size_
     return status;
 }
 
-/* Checks the stream of standard input to its end. The status of the program. */
+/* Checks the stream of standard input to its end. Returns the program's exit status. */
 static int check_stream(struct checker *checker)
 {
     static uint8_t piece[65536];

@@ -1,4 +1,4 @@
-/* What the examples share: the bytes of a file, and a verdict in the words of the program. */
+/* What the examples share: the bytes of a file, and a verdict as the program prints it. */
 #ifndef FBCHECK_TELLING_H
 #define FBCHECK_TELLING_H
 
@@ -7,7 +7,7 @@
 #include <stdio.h>
 #include <stdlib.h>
 
-/* The bytes of a file, from malloc; null where there is no file, or it can't be read. */
+/* The bytes of a file, from malloc; null if there is no file, or it can't be read. */
 static inline uint8_t *bytes_of(FILE *file, size_t *length)
 {
     uint8_t *bytes = NULL;
@@ -29,7 +29,7 @@ static inline uint8_t *bytes_of(FILE *file, size_t *length)
     return bytes;
 }
 
-/* Tells a verdict on a buffer as the program fbcheck does. */
+/* Prints a verdict on a buffer as the program fbcheck does. */
 static inline void tell(const fbcheck_verdict *verdict)
 {
     char reason[20];

@@ -4,9 +4,9 @@
  *     cc consumer.c $(pkg-config --cflags --libs fbcheck rdkafka) -o consumer
  *     ./consumer BROKERS GROUP TOPIC SCHEMA.bfbs
  *
- * Each message is told by a line on standard output, with its partition and offset. It runs until SIGINT or SIGTERM. The
- * status is 0 then, 2 where it couldn't begin, and 3 where the client has failed for good. Consumers of one group share
- * the topic's partitions, as processes or machines; each loads the schema for itself.
+ * It prints a line for each message, with its partition and offset, until SIGINT or SIGTERM. The exit status is 0 then,
+ * 2 if it couldn't begin, and 3 if the client has failed for good. Consumers of one group share the topic's partitions,
+ * as processes or machines; each loads the schema for itself.
  */
 #include <fbcheck.h>
 #include <inttypes.h>
@@ -14,8 +14,8 @@
 #include <signal.h>
 #include <stdio.h>
 
-/* At most so many reads of one message, so that none holds up its partition: some ten times those of the largest honest
- * one (`reads=` in the line that the program fbcheck has for it). */
+/* At most so many reads of one message, so that none holds up its partition. Choose some ten times the reads of your
+ * largest honest message (`reads=` in the program's line for it). */
 #define MOST_READS 1000000
 
 static volatile sig_atomic_t stopped;
@@ -26,14 +26,14 @@ static void stop(int signal)
     stopped = 1;
 }
 
-/* A good message, which may be read as docs/REFERENCE.md says of an ok. The rest of a server begins here. */
+/* An ok message, to be read as docs/REFERENCE.md says ("What an ok asks of readers"). Your code goes here. */
 static void take(const rd_kafka_message_t *message, const fbcheck_verdict *verdict)
 {
     printf("%" PRId32 "@%" PRId64 " ok tables=%" PRIu32 "\n", message->partition, message->offset, verdict->tables);
 }
 
-/* A message that nothing may read. It is passed over: the verdict would be the same another time. Who wants to look at
- * such messages later writes them to a topic of their own here. */
+/* A bad message, which nothing may read. It is skipped: the verdict would be the same another time. To look at such
+ * messages later, write them to a topic of their own here. */
 static void refuse(const fbcheck_schema *schema, const rd_kafka_message_t *message, const fbcheck_verdict *verdict)
 {
     char reason[21] = "", table[256] = "";
@@ -65,7 +65,7 @@ static int consume(rd_kafka_t *client, const fbcheck_schema *schema)
     return stopped ? 0 : 3;
 }
 
-/* A client of the group that gets the topic from its beginning on, or null, which is told. */
+/* A client of the group that gets the topic from its beginning, or null, after a message on standard error. */
 static rd_kafka_t *client_of(const char *brokers, const char *group, const char *topic)
 {
     const char *settings[][2] = { { "bootstrap.servers", brokers }, { "group.id", group },
@@ -91,7 +91,7 @@ static rd_kafka_t *client_of(const char *brokers, const char *group, const char 
     return client;
 }
 
-/* The schema of a file by which checks can be made, or null: an empty buffer gets a verdict, which is a no. */
+/* The schema of a file, or null if it can't be used for checks; one that can says bad to an empty buffer. */
 static fbcheck_schema *schema_of(const char *path)
 {
     static uint8_t bytes[1 << 20];
