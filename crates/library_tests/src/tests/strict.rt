@@ -83,16 +83,16 @@ const LATE: Fault = Fault {
     reason: Reason::TooManyReads,
 };
 
-/// What a strict verdict on these bytes reports, within this budget of reads: in room of a caller's.
+/// What a strict verdict on these bytes reports within this budget of reads, in room that the caller lends.
 fn in_room(
     rt: &impl Abort,
     alloc: Global,
     schema: &Schema<'_>,
-    plan: &Plan,
     bytes: &[u8],
-    limits: Limits,
+    budget: u64,
 ) -> Result<Report, Fault> {
     let meter = Meter::new(bytes).expect(rt, "a short buffer");
+    let plan = Plan::new(alloc, schema).expect(rt, "memory");
     let mut scratch = Scratch::new(alloc, 64).expect(rt, "memory");
     let mut room = Room::new(alloc, 64).expect(rt, "memory");
     assert!(rt; schema.is_table(Q));
@@ -102,9 +102,9 @@ fn in_room(
         Q,
         Start::Bare,
         Ident::Any,
-        limits,
+        Limits::published().with_reads(budget),
         Checks::published(),
-        plan,
+        &plan,
         &mut scratch,
         &mut room,
     )?;
@@ -114,12 +114,13 @@ fn in_room(
 /// The same in the call's own room.
 fn on_the_stack(
     rt: &impl Abort,
+    alloc: Global,
     schema: &Schema<'_>,
-    plan: &Plan,
     bytes: &[u8],
-    limits: Limits,
+    budget: u64,
 ) -> Result<Report, Fault> {
     let meter = Meter::new(bytes).expect(rt, "a short buffer");
+    let plan = Plan::new(alloc, schema).expect(rt, "memory");
     assert!(rt; schema.is_table(Q));
     let strict = verify_strictly_shallow(
         meter,
@@ -127,28 +128,24 @@ fn on_the_stack(
         Q,
         Start::Bare,
         Ident::Any,
-        limits,
+        Limits::published().with_reads(budget),
         Checks::published(),
-        plan,
+        &plan,
     )?;
     Ok(strict.report)
 }
 
-/// Asserts what both calls answer to these bytes, within this budget of reads.
-fn both_tell(
+/// Asserts what both calls answer to these bytes within this budget of reads.
+fn both_answer(
     rt: &impl Abort,
     alloc: Global,
     schema: &Schema<'_>,
-    plan: &Plan,
     bytes: &[u8],
     budget: u64,
     want: Result<Report, Fault>,
 ) {
-    let limits = Limits::published().with_reads(budget);
-    let told = in_room(rt, alloc, schema, plan, bytes, limits);
-    same(rt, told, want);
-    let told = on_the_stack(rt, schema, plan, bytes, limits);
-    same(rt, told, want);
+    same(rt, in_room(rt, alloc, schema, bytes, budget), want);
+    same(rt, on_the_stack(rt, alloc, schema, bytes, budget), want);
 }
 
 /// Asserts that a verdict costs no more than a budget and 7 reads.
@@ -160,10 +157,9 @@ fn costs_little_more_than_its_budget(rt: &impl Abort, schema: &Schema<'_>) {
 #[test]
 fn a_message_of_sixty_items_is_strict_up_to_its_last_word(rt: HostRuntime) {
     let schema = unions(&rt, rt.alloc());
-    let plan = Plan::new(rt.alloc(), &schema).expect(&rt, "memory");
-    both_tell(&rt, rt.alloc(), &schema, &plan, ITEMS, 296, Ok(COUNTS));
-    both_tell(&rt, rt.alloc(), &schema, &plan, ITEMS, 295, Err(LATE));
     let cut = &ITEMS[..1112];
-    both_tell(&rt, rt.alloc(), &schema, &plan, cut, 296, Err(FAULT));
+    both_answer(&rt, rt.alloc(), &schema, ITEMS, 296, Ok(COUNTS));
+    both_answer(&rt, rt.alloc(), &schema, ITEMS, 295, Err(LATE));
+    both_answer(&rt, rt.alloc(), &schema, cut, 296, Err(FAULT));
     costs_little_more_than_its_budget(&rt, &schema);
 }
