@@ -26,7 +26,7 @@ import zipfile
 
 HERE = pathlib.Path(__file__).resolve().parent
 TOP = HERE.parents[1]
-PARTS = ("__init__.py", "_fbcheck.pyi", "_formats.py", "py.typed")
+PARTS = ("__init__.py", "_codes.py", "_fbcheck.pyi", "_formats.py", "py.typed")
 EXTENSION = "_fbcheck.abi3.so"
 WARNINGS = ("-Wall", "-Wextra")
 

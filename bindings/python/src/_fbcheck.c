@@ -613,17 +613,6 @@ static PyType_Spec framer_spec = {
 
 /* ---- the module ---- */
 
-/* The numbers of fbcheck.h that the package tells apart. */
-#define NUMBER(name) { #name, FBCHECK_##name }
-static const struct {
-    const char *name;
-    uint32_t number;
-} numbers[] = {
-    NUMBER(NONE),      NUMBER(TABLE),           NUMBER(UNION),      NUMBER(NO_IDENT),        NUMBER(NO_ROOT),
-    NUMBER(TOO_LONG),  NUMBER(NOT_WELL_FORMED), NUMBER(BAD_SCHEMA), NUMBER(ROOT_NOT_LISTED), NUMBER(NO_MEMORY),
-    NUMBER(OVERSIZE),  NUMBER(BAD_PATH),        NUMBER(NO_ROOM),    NUMBER(MISFIT),          NUMBER(TOO_MUCH_SHARED),
-};
-
 static int module_exec(PyObject *module)
 {
     PyType_Spec *const specs[] = { &verdict_spec, &schema_spec, &framer_spec };
@@ -641,9 +630,6 @@ static int module_exec(PyObject *module)
         if (answer != 0)
             return -1;
     }
-    for (at = 0; at < sizeof numbers / sizeof *numbers; at++)
-        if (PyModule_AddIntConstant(module, numbers[at].name, numbers[at].number) != 0)
-            return -1;
     return 0;
 }
 
