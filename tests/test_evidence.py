@@ -96,7 +96,7 @@ class Evidence(unittest.TestCase):
                     self.carries(claim)
 
     def test_names_on_the_pages_are_there(self):
-        tops = ("bench", "c", "crates", "examples", "include", "tests")
+        tops = ("bench", "bindings", "c", "crates", "examples", "include", "tests")
         paths = [path for top in tops for path in (TOP / top).rglob("*") if "out" not in path.parts and path.is_file()]
         named = {*EVIDENCE.crates(), *(path.stem for path in paths)}
         for path in paths:
