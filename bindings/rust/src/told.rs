@@ -197,7 +197,7 @@ pub enum Error {
     NotWellFormed(Fault),
     /// Its rows are no schema.
     BadSchema {
-        /// The number of the code: 1 to 8 for `C1` to `C8`.
+        /// The number of the code: 2 for `C2`.
         code: u32,
         /// The number of the object or enum.
         owner: u32,
@@ -222,7 +222,7 @@ pub enum Error {
     OutOfRange,
     /// The text is no path of the schema.
     BadPath {
-        /// The number of the code: 1 to 6 for `P1` to `P6`.
+        /// The number of the code: 2 for `P2`.
         code: u32,
         /// With `P1` the place in the text, else the number of the step.
         at: u64,
