@@ -10,6 +10,7 @@ DEEPEST = 4096
 NONE = 0xffffffff
 NO_TABLE = 0xfffffffe
 STEPS = 31
+LONGEST_PLACE = 4098
 
 U8, U32, U64, I64 = ctypes.c_uint8, ctypes.c_uint32, ctypes.c_uint64, ctypes.c_int64
 SIZE, TEXT, ADDRESS, to = ctypes.c_size_t, ctypes.c_char_p, ctypes.c_void_p, ctypes.POINTER

@@ -23,8 +23,7 @@
 #define SHORT_MESSAGE 2048
 #define FEW_READS 64
 
-/* The longest place of a fault, and how long a name is without memory of its own. */
-#define LONGEST_PLACE 4098
+/* How long a name is without memory of its own. */
 #define SHORT_NAME 128
 
 /* The longest message. */
@@ -367,7 +366,7 @@ static PyObject *judged(Schema *self, const fbcheck_verdict *told, const char *p
 /* The verdict on a message that begin() took. */
 static PyObject *located(Schema *self, Check *check)
 {
-    char place[LONGEST_PLACE];
+    char place[FBCHECK_LONGEST_PLACE];
     size_t length = 0;
     fbcheck_verdict told;
     uint32_t status = fbcheck_locate(self->schema, check->scratch, &self->options, check->bytes,

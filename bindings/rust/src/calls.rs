@@ -10,6 +10,7 @@ pub const DEEPEST: u32 = 4096;
 pub const NONE: u32 = 0xffffffff;
 pub const NO_TABLE: u32 = 0xfffffffe;
 pub const STEPS: u32 = 31;
+pub const LONGEST_PLACE: u32 = 4098;
 
 // enum fbcheck_status
 pub const OK: u32 = 0;

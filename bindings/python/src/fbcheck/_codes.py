@@ -10,6 +10,7 @@ DEEPEST: Final = 4096
 NONE: Final = 0xffffffff
 NO_TABLE: Final = 0xfffffffe
 STEPS: Final = 31
+LONGEST_PLACE: Final = 4098
 
 # Where the steps of a path begin, how many bytes each has, and where its number stands.
 PATH_STEPS: Final = 8
