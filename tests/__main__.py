@@ -1,10 +1,11 @@
 """Runs the tests from outside and counts their cases: each subtest, and each test that has none.
 
-  python3 -m tests                     all files side by side, those that need the library for C once ./build_c ends
+  python3 -m tests                     all files side by side, those that need the library for C once
+                                       scripts/build_c ends
   python3 -m tests tests.test_filter   these files here, one after another
 
 The last line is the count, and the status is 0 where nothing failed. The line before it tells why what was left out, as
-for want of a tool. What stands before the names of files is handed on to ./build_c.
+for want of a tool. What stands before the names of files is handed on to scripts/build_c.
 """
 
 import concurrent.futures
@@ -44,7 +45,7 @@ def apart(name):
 
 def library(words):
     """Makes the library for C, and answers the same of it."""
-    ran = ended(TOP / "build_c", *words)
+    ran = ended(TOP / "scripts/build_c", *words)
     return ran.stdout, 0, int(ran.returncode != 0), []
 
 
@@ -53,14 +54,14 @@ def side_by_side(words):
     files = sorted((TOP / "tests").glob("test_*.py"))
     needing = {file for file in files if "tests.support.library" in file.read_text()}
     with concurrent.futures.ThreadPoolExecutor(os.cpu_count()) as pool:
-        begun = {"./build_c": pool.submit(library, words)}
+        begun = {"scripts/build_c": pool.submit(library, words)}
         begun |= {file: pool.submit(apart, f"tests.{file.stem}") for file in files if file not in needing}
-        begun["./build_c"].result()
+        begun["scripts/build_c"].result()
         begun |= {file: pool.submit(apart, f"tests.{file.stem}") for file in needing}
         passed, failed, left_out = 0, 0, set()
-        for part in ["./build_c", *files]:
+        for part in ["scripts/build_c", *files]:
             said, good, bad, reasons = begun[part].result()
-            print(f"== {part if part == './build_c' else part.relative_to(TOP)}\n{said}", end="", flush=True)
+            print(f"== {part if part == 'scripts/build_c' else part.relative_to(TOP)}\n{said}", end="", flush=True)
             passed, failed, left_out = passed + good, failed + bad, left_out | {*reasons}
     return passed, failed, sorted(left_out)
 

@@ -25,7 +25,7 @@ class Folder(Scripts):
         for command, text in {"rt": tells(7, 0), "cc": "exit 0", **commands}.items():
             if text is not None:
                 self.stand_in(f"bin/{command}", text)
-        self.stand_in("build_c", "echo build_c; > library")
+        self.stand_in("scripts/build_c", "echo build_c; > library")
         for number, text in enumerate(tests):
             self.write(f"tests/test_{number}.py", text)
 
@@ -104,7 +104,7 @@ class TestCommand(Case):
                  case("from tests.support.tools import there", "there('no-such-tool')", "with self.subTest(1):",
                       "    self.skipTest('b isn\\'t there')")]
         folder = Folder("left out", tests)
-        folder.stand_in("build", "exit 0")
+        folder.stand_in("scripts/build", "exit 0")
         _, out, _ = folder.call("--outside")
         told = "left out: b isn't there; no-such-tool isn't there"
         self.same("what is left out", out[-4:-2], [told, "1 passed, 0 failed"])
@@ -148,7 +148,7 @@ done"""
         finds = case("import tests.support.library", "self.assertTrue(os.path.exists('library'))")
         folder = Folder("library", [finds])
         self.same("it is built before a test that names it", folder.call()[1][-1], "8 passed, 0 failed")
-        folder.stand_in("build_c", """echo "words: $*"
+        folder.stand_in("scripts/build_c", """echo "words: $*"
 >met_library
 for tenth in {1..200}; do [ ! -e met_test ] || break; sleep 0.1; done
 [ -e met_test ] && >library""")
@@ -157,7 +157,7 @@ for tenth in {1..200}; do [ ! -e met_test ] || break; sleep 0.1; done
         _, out, _ = folder.call()
         self.same("and beside one that doesn't", out[-1], "9 passed, 0 failed")
         self.holds("of what rt ci left", "words: --after-ci" in out, out)
-        folder.stand_in("build_c", "echo broken; exit 1")
+        folder.stand_in("scripts/build_c", "echo broken; exit 1")
         status, out, _ = folder.call()
         self.same("where it can't be, that is a failure", (status, out[-1]), (1, "9 passed, 1 failed"))
         self.holds("and it is shown", "broken" in out, out)
@@ -166,19 +166,19 @@ for tenth in {1..200}; do [ ! -e met_test ] || break; sleep 0.1; done
         kit = Scripts("kit", [])
         rt = kit.write("bin/rt", "#!/bin/bash\n")
         kit.write("bin/rattle", '#!/bin/bash\necho "$@" >words\n')
-        folder = Scripts("archive", ["build_c"], TOOLS)
+        folder = Scripts("archive", ["scripts/build_c"], TOOLS)
         (folder.bin / "rt").symlink_to(rt)
-        folder.write("build", "#!/bin/bash\nexit 2\n")
+        folder.write("scripts/build", "#!/bin/bash\nexit 2\n")
         folder.write("crates.txt", "low: core\nfbcheck_c staticlib: core low\nother: low\n")
         for crate in ("low", "fbcheck_c"):
             folder.write(f"crates/{crate}/src/lib.rt", "text\n")
-        folder.call("build_c", "--after-ci")
+        folder.call("scripts/build_c", "--after-ci")
         words = (folder.top / "crates/fbcheck_c/words").read_text().split()
         libraries = [word for at, word in enumerate(words) if words[at - 1] == "--extern"]
         crate = folder.top / "crates/low/out/rlib/low.rlib"
         self.same("by what rt ci left of each crate", libraries,
                   [f"std={kit.top}/rlibs/std.rlib", f"core={kit.top}/rlibs/core.rlib", f"low={crate}"])
-        self.same("into the place where ./build looks", words[-2:], ["-o", "out/libfbcheck_c.a"])
+        self.same("into the place where scripts/build looks", words[-2:], ["-o", "out/libfbcheck_c.a"])
 
     def test_what_is_missing_is_named(self):
         for missing, text in [("rt", "rt, the command of the Rattle toolchain"), ("python3", "python3, which runs"),
@@ -190,10 +190,10 @@ for tenth in {1..200}; do [ ! -e met_test ] || break; sleep 0.1; done
 
     def test_from_outside_alone(self):
         folder = Folder("outside", [cases(5, 0)], rt="echo rt was called; exit 1")
-        folder.stand_in("build", '[ "$*" = fbcheck ]')
+        folder.stand_in("scripts/build", '[ "$*" = fbcheck ]')
         status, out, _ = folder.call("--outside")
         self.same("no rt ci", (status, out[-1], "rt was called" in out), (0, "5 passed, 0 failed", False))
-        for command in ("build_c", "build"):
+        for command in ("scripts/build_c", "scripts/build"):
             folder.stand_in(command, "exit 2")
             self.same(f"what {command} can't build", folder.call("--outside")[:2], (2, []))
 

@@ -28,7 +28,7 @@ TOP = pathlib.Path(__file__).resolve().parents[2]
 PROGRAM = pathlib.Path(os.environ.get("FBCHECK_PROGRAM") or TOP / "crates/fbcheck/out/fbcheck")
 SECONDS = 60
 if not os.access(PROGRAM, os.X_OK):
-    print(f"no program at {PROGRAM}: ./build fbcheck builds it", file=sys.stderr)
+    print(f"no program at {PROGRAM}: scripts/build fbcheck builds it", file=sys.stderr)
 
 
 # What is told of a schema file that is empty, and of one that is none.
@@ -175,8 +175,8 @@ atexit.register(shutil.rmtree, FOLDER, ignore_errors=True)
 
 
 def built(crate):
-    """The program of a crate, which ./build builds where it's stale."""
-    told = subprocess.run([TOP / "build", crate], stdout=subprocess.PIPE, text=True, check=True)
+    """The program of a crate, which scripts/build builds where it's stale."""
+    told = subprocess.run([TOP / "scripts/build", crate], stdout=subprocess.PIPE, text=True, check=True)
     return pathlib.Path(told.stdout.strip())
 
 

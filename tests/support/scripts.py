@@ -16,6 +16,7 @@ class Scripts:
         for tool in tools:
             (self.bin / tool).symlink_to(shutil.which(tool))
         for script in scripts:
+            (self.top / script).parent.mkdir(exist_ok=True)
             shutil.copy(TOP / script, self.top / script)
 
     def write(self, name, text):
