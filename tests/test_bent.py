@@ -3,7 +3,7 @@
 import re
 
 from tests.support.cases import Case
-from tests.support.program import TOP, loaded
+from tests.support.clone import TOP, loaded
 
 BENT = loaded(TOP / "tests/bent")
 

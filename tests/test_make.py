@@ -5,7 +5,7 @@ import shutil
 import unittest
 
 from tests.support.cases import Case
-from tests.support.program import TOP
+from tests.support.clone import TOP
 from tests.support.scripts import Scripts
 
 SCRIPTS = ["scripts/build", "scripts/build_c", "scripts/package", "scripts/reproduce", "test", "install",

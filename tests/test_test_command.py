@@ -3,14 +3,17 @@
 They run in a folder of their own, beside a command rt that only prints what a case says, and small tests.
 """
 
+import hashlib
 import re
 import shutil
+import subprocess
 
 from tests.support.cases import Case
-from tests.support.program import TOP
+from tests.support.clone import TOP
 from tests.support.scripts import Scripts
 
-TOOLS = ["bash", "cat", "dirname", "env", "mkdir", "mktemp", "python3", "readlink", "rm", "sed", "sleep", "tail", "tee"]
+TOOLS = ["bash", "cat", "cp", "dirname", "env", "grep", "gzip", "ln", "mkdir", "mktemp", "python3", "readlink", "rm",
+         "sed", "sha256sum", "sleep", "tail", "tar", "tee"]
 
 
 class Folder(Scripts):
@@ -60,6 +63,31 @@ def meets(mine, other):
     return (f"pathlib.Path('met_{mine}').touch()", f"met = pathlib.Path('met_{other}')",
             "ends = time.monotonic() + 20", "while not met.exists() and time.monotonic() < ends: time.sleep(0.1)",
             "self.assertTrue(met.exists())")
+
+
+# A test that asks the program, with all tools but rt.
+ASKS = case("import shutil", "from tests.support.program import run", "print(run().out.decode(), end='')",
+            "self.assertEqual([shutil.which(tool) is None for tool in ('rt', 'tail')], [True, False])")
+
+
+class Packages(Folder):
+    """The same beside a folder of packages, whose programs are scripts that tell where they are from."""
+
+    def __init__(self, name, tests, **commands):
+        unpack = 'mkdir -p "$3/usr/bin"; cp "$2" "$3/usr/bin/fbcheck"'
+        super().__init__(name, tests, **{"dpkg-deb": unpack, **commands})
+        self.write("VERSION", "7\n")
+        self.made = self.top / "made here"
+        self.tarball = self.made / "fbcheck-7-x86_64-linux.tar.gz"
+        for deb in ("fbcheck", "libfbcheck1"):
+            self.stand_in(f"made here/{deb}_7_amd64.deb", "echo the deb is asked")
+        self.pack("the tarball")
+        sums = [f"{hashlib.sha256(path.read_bytes()).hexdigest()}  {path.name}\n" for path in self.made.iterdir()]
+        (self.made / "SHA256SUMS").write_text("".join(sums))
+
+    def pack(self, name):
+        self.stand_in("fbcheck-7-x86_64-linux/bin/fbcheck", f"echo {name} is asked")
+        subprocess.run(["tar", "-czf", self.tarball, "fbcheck-7-x86_64-linux"], cwd=self.top, check=True)
 
 
 class TestCommand(Case):
@@ -197,7 +225,50 @@ for tenth in {1..200}; do [ ! -e met_test ] || break; sleep 0.1; done
             folder.stand_in(command, "exit 2")
             self.same(f"what {command} can't build", folder.call("--outside")[:2], (2, []))
 
+    def test_packaged_programs(self):
+        """The program of each package is asked by what needs no more than it, and no rt is there meanwhile."""
+        other = case("from tests.support.program import built", "built('probe')")
+        folder = Packages("packaged", [ASKS, other, case("import tests.support.library"), case("self.fail()")],
+                          rt="echo rt was called")
+        status, out, err = folder.call("--packaged", "made here", folder=folder.top)
+        self.same("of each a sum, what is unpacked, and a test", (status, out[-1], err), (0, "6 passed, 0 failed", ""))
+        self.same("both are asked", [line for line in out if " is asked" in line],
+                  ["the tarball is asked", "the deb is asked"])
+        told = "left out: probe is in no package; test_2 need the library for C; test_3 don't ask the program"
+        self.same("what isn't asked is named, of each", out.count(told), 2)
+        self.same("and so is what has no program", out[-2],
+                  "left out: what is no package of a program of version 7: libfbcheck1_7_amd64.deb")
+        self.same("rt isn't called, and nothing is built",
+                  [line for line in out if "rt was" in line or "build_c" in line], [])
+        (folder.bin / "rt").unlink()
+        self.same("without rt it's the same", folder.call("--packaged", folder.made)[1][-1], "6 passed, 0 failed")
+
+    def test_packages_that_fail(self):
+        for name, change, tests, want, told in [
+            ("another program", lambda folder: folder.pack("the other"), [ASKS], "5 passed, 1 failed",
+             "test: fbcheck-7-x86_64-linux.tar.gz hasn't the sum that SHA256SUMS tells of it"),
+            ("no sums", lambda folder: (folder.made / "SHA256SUMS").unlink(), [ASKS], "4 passed, 2 failed",
+             "test: fbcheck_7_amd64.deb hasn't the sum that SHA256SUMS tells of it"),
+            ("no tarball", lambda folder: folder.tarball.write_bytes(b"none"), [ASKS], "3 passed, 2 failed",
+             "test: fbcheck-7-x86_64-linux.tar.gz can't be unpacked"),
+            ("no dpkg-deb", lambda folder: (folder.bin / "dpkg-deb").unlink(), [ASKS], "3 passed, 0 failed",
+             "left out: fbcheck_7_amd64.deb, since dpkg-deb isn't there"),
+            ("a test", lambda folder: None, [f"{ASKS}        self.fail()\n"], "4 passed, 2 failed", "FAILED (failures=1)"),
+        ]:
+            folder = Packages(f"packaged, {name} fails", tests)
+            change(folder)
+            status, out, _ = folder.call("--packaged", folder.made)
+            self.same(name, (status, out[-1]), (int(" 0 failed" not in want), want))
+            self.holds(f"{name}: it is told", told in out, out)
+
+    def test_no_packages(self):
+        folder = Packages("none", [ASKS])
+        for name in ("there.7", "tests", "VERSION"):
+            told = f"test: no package to test is in {folder.top / name}, neither fbcheck-7-x86_64-linux.tar.gz nor, for " \
+                   "dpkg-deb, fbcheck_7_amd64.deb (scripts/package makes both)\n"
+            self.same(f"{name} is refused", folder.call("--packaged", name, folder=folder.top), (2, [], told))
+
     def test_other_words_are_refused(self):
         folder = Folder("words")
-        for words in [["--nothing"], ["--outside", "more"], ["ci"]]:
-            self.same(f"{words}", folder.call(*words), (2, [], "usage: ./test [--outside]\n"))
+        for words in [["--nothing"], ["--outside", "more"], ["ci"], ["--packaged"], ["--packaged", "a", "b"]]:
+            self.same(f"{words}", folder.call(*words), (2, [], "usage: ./test [--outside | --packaged FOLDER]\n"))
