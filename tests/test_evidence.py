@@ -5,7 +5,7 @@ import functools
 import re
 import unittest
 
-from tests.support.program import TOP, loaded
+from tests.support.clone import TOP, loaded
 
 EVIDENCE = loaded(TOP / "tests/make_evidence")
 
