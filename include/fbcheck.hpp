@@ -287,11 +287,11 @@ class Schema {
     // place, good() is quicker.
     Verdict check(Bytes buffer, const Options &options = {}, Scratch *scratch = nullptr) const {
         fbcheck_verdict told;
-        char text[longest];
+        char text[FBCHECK_LONGEST_PLACE];
         std::size_t whole = 0;
-        served(fbcheck_locate(get(), room(scratch), &options, buffer.data(), buffer.size(), text, longest, &whole,
+        served(fbcheck_locate(get(), room(scratch), &options, buffer.data(), buffer.size(), text, sizeof text, &whole,
                               &told));
-        return Verdict(told, std::string(text, std::min(whole, longest)));
+        return Verdict(told, std::string(text, std::min(whole, sizeof text)));
     }
     Verdict check(const void *buffer, std::size_t length, const Options &options = {},
                   Scratch *scratch = nullptr) const {
@@ -317,8 +317,6 @@ class Schema {
     const fbcheck_schema *get() const noexcept { return schema_.get(); }
 
   private:
-    static constexpr std::size_t longest = 4098; // bytes of a place
-
     static fbcheck_scratch *room(Scratch *scratch) noexcept { return scratch ? scratch->get() : nullptr; }
     static std::uint32_t served(std::uint32_t status, std::uint64_t at = 0) {
         if (status != FBCHECK_OK && status != FBCHECK_BAD && status != FBCHECK_TOO_LONG) throw Misuse(status, at);

@@ -1,11 +1,11 @@
-"""The bends of bench/bent fit the code as it stands, and the tests and tables that catch them are there."""
+"""The bends of tests/bent fit the code as it stands, and the tests and tables that catch them are there."""
 
 import re
 
 from tests.support.cases import Case
-from tests.support.program import TOP, loaded
+from tests.support.clone import TOP, loaded
 
-BENT = loaded(TOP / "bench/bent")
+BENT = loaded(TOP / "tests/bent")
 
 
 class Bent(Case):

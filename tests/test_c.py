@@ -1,4 +1,4 @@
-"""The library for C: what ./build_c makes, against the header, the program, and the examples that use it.
+"""The library for C: what scripts/build_c makes, against the header, the program, and the examples that use it.
 
 The program is the other voice: a buffer must get the same verdict of the library. Everything is compiled here, against
 both libraries, and under the address sanitizer too.
@@ -16,6 +16,7 @@ from tests.support import buffers, schemas
 from tests.support.buffers import MEMBER, ORC, POST
 from tests.support.builder import buffer, messages_of, prefixed
 from tests.support.every_kind import FILE, LITTLE, OPTIONS, WHOLE, variants, words_of
+from tests.support.header import Reason
 from tests.support.library import OUT, SANITIZED, SHARED, STATIC, LibraryCase, module, ran
 from tests.support.program import FOLDER, TOP, file_of, run
 from tests.support.schemas import INT, an_object, field, schema, table
@@ -99,8 +100,8 @@ def reason_of_load(python, file, options):
 
 class LibraryForC(LibraryCase):
     def test_what_is_built(self):
-        status, out, err = ran(TOP / "build_c", seconds=3600)
-        self.same("./build_c builds", (status, out), (0, ""))
+        status, out, err = ran(TOP / "scripts/build_c", seconds=3600)
+        self.same("scripts/build_c builds", (status, out), (0, ""))
         calls = sorted(re.findall(r"^(?:\w+ )+\*?(fbcheck_\w+)\(", HEADER, re.M))
         self.same("of which the header has so many", len(calls), 22)
         for library, words in [("libfbcheck.a", ["-g"]), ("libfbcheck.so.1", ["-D"])]:
@@ -116,10 +117,10 @@ class LibraryForC(LibraryCase):
                 self.same("each with the version of the interface", versions, {"FBCHECK_1"})
             self.holds(f"{library} needs the C library's heap and memory alone",
                        wanted <= {"malloc", "free", "realloc", "memcpy", "memmove", "memset", "memcmp", "bcmp"}, wanted)
-        self.same("a word is refused", ran(TOP / "build_c", "here")[0], 2)
+        self.same("a word is refused", ran(TOP / "scripts/build_c", "here")[0], 2)
         before = (OUT / "libfbcheck.a").stat().st_mtime_ns
         self.same("once all is made, nothing is done, and no rt is needed",
-                  (ran(TOP / "build_c", PATH="/usr/bin:/bin")[0], (OUT / "libfbcheck.a").stat().st_mtime_ns),
+                  (ran(TOP / "scripts/build_c", PATH="/usr/bin:/bin")[0], (OUT / "libfbcheck.a").stat().st_mtime_ns),
                   (0, before))
 
     def test_the_header(self):
@@ -172,7 +173,7 @@ class LibraryForC(LibraryCase):
             seen |= set(re.findall(rb"bad (V\d+)", want))
         self.holds("there are more than 10,000 buffers", buffers > 10_000, buffers)
         self.same("with each reason but a wrong prefix", sorted(seen, key=lambda code: int(code[1:])),
-                  [b"V%d" % number for number in range(2, 14)])
+                  [b"V%d" % number for number in [*Reason][1:]])
 
     def test_batches(self):
         """Spans that overlap, stand in any order, are empty, or don't lie in the block."""

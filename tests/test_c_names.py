@@ -26,17 +26,20 @@ class NamesForC(LibraryCase):
         reasons = re.findall(r"V\d+ [A-Z]\w+", page.split("## Reasons")[1].split("\n## ")[0])
         rows = [table.split() for table in ["A v", "W", "R u_type u", "Q us_type us"]]
         with python.Verifier(schemas.X) as verifier:
-            self.same("reasons", [verifier.reason_name(n) for n in range(15)], [None, *reasons, None])
-            codes = [*re.findall(r"`(C\d+ \w+)`", page), "C9 OutOfMemory"]
-            steps = [*re.findall(r"`(P\d \w+) ", page), "P7 OutOfMemory"]
-            told = {1: reasons, 8: reasons, 9: codes, 17: steps}
-            for status in range(25):
-                given = [verifier.fault_name(status, n) for n in range(15)]
-                named = told.get(status, [])
-                self.same(f"faults of status {status}", given, [None, *named, *[None] * (14 - len(named))])
-            self.same("each status has words", len(STATUS_TEXTS), len(python.Status))
+            last = len(reasons) + 1
+            self.same("reasons", [verifier.reason_name(n) for n in range(last + 1)], [None, *reasons, None])
+            codes = [*re.findall(r"`(C\d+ \w+)`", page), f"C{len(python.Code) + 1} OutOfMemory"]
+            steps = [*re.findall(r"`(P\d \w+) ", page), f"P{len(python.PathFault) + 1} OutOfMemory"]
+            status = python.Status
+            told = {status.BAD: reasons, status.NOT_WELL_FORMED: reasons, status.BAD_SCHEMA: codes,
+                    status.BAD_PATH: steps}
+            for number in range(25):
+                given = [verifier.fault_name(number, n) for n in range(last + 1)]
+                named = told.get(number, [])
+                self.same(f"faults of status {number}", given, [None, *named, *[None] * (last - len(named))])
+            self.same("each status has words", len(STATUS_TEXTS), len(status))
             self.same("of at most 64 bytes", max(map(len, STATUS_TEXTS)) <= 64, True)
-            self.same("statuses", [verifier.status_text(n) for n in (*range(21), 21, 2**32 - 1)],
+            self.same("statuses", [verifier.status_text(n) for n in (*status, len(status), 2**32 - 1)],
                       [*STATUS_TEXTS, None, None])
             for number, (table, *fields) in enumerate(rows):
                 self.same(f"object {number}", verifier.object_name(number), table)
@@ -53,7 +56,7 @@ class NamesForC(LibraryCase):
                       (calls.fbcheck_field_name(schema, 3, 0, None, 9), calls.fbcheck_reason_name(1, None, 9),
                        calls.fbcheck_fault_name(1, 1, None, 9), calls.fbcheck_object_name(schema, 0, None, 9),
                        calls.fbcheck_status_text(1, None, 9)), (0, 0, 0, 0, 0))
-            got = calls.fbcheck_status_text(6, text, 8)
+            got = calls.fbcheck_status_text(status.NO_ROOT, text, 8)
             self.same("too little room for words", (got, text.raw), (13, b"us_type?"))
             self.same("no schema",
                       (calls.fbcheck_object_name(None, 0, text, 8), calls.fbcheck_field_name(None, 0, 0, text, 8)),

@@ -7,9 +7,9 @@ to those with one byte changed to each other value.
 import re
 
 from tests.support.cases import Case
+from tests.support.clone import TOP
 from tests.support.many import each
 from tests.support.naive import Schema, Walk
-from tests.support.program import TOP
 from tests.support.schemas import TEXT, an_object, field, table
 
 TESTS = TOP / "crates/library_tests/src/tests"

@@ -5,7 +5,7 @@ import functools
 import re
 import unittest
 
-from tests.support.program import TOP, loaded
+from tests.support.clone import TOP, loaded
 
 EVIDENCE = loaded(TOP / "tests/make_evidence")
 
@@ -96,7 +96,7 @@ class Evidence(unittest.TestCase):
                     self.carries(claim)
 
     def test_names_on_the_pages_are_there(self):
-        tops = ("bench", "c", "crates", "examples", "include", "tests")
+        tops = ("bench", "bindings", "c", "crates", "examples", "include", "tests")
         paths = [path for top in tops for path in (TOP / top).rglob("*") if "out" not in path.parts and path.is_file()]
         named = {*EVIDENCE.crates(), *(path.stem for path in paths)}
         for path in paths:

@@ -11,6 +11,7 @@ from tests.support import schemas
 from tests.support.buffers import NOTHING, ODD, ORC, SEVEN
 from tests.support.builder import spelled
 from tests.support.cases import Case
+from tests.support.header import Reason
 from tests.support.preloaded import narrowed
 from tests.support.program import (
     FOLDER, FULL, NOT_UTF_8, NO_BYTES, PROGRAM, SECONDS, SHIFTED, Ran, Talk, failed, file_of, lines, overlong, refused,
@@ -267,7 +268,7 @@ class Files(Case):
                     last = run(*BY_N, "--summary", given=name.read_bytes()).err.decode().splitlines()[0]
                     for key, count in SUM.findall(last):
                         sums[key] = sums.get(key, 0) + int(count)
-            reasons = [f"V{number}" for number in range(1, 14) if f"V{number}" in sums]
+            reasons = [f"V{number}" for number in Reason if f"V{number}" in sums]
             keys = ["messages", "yes", "no", *reasons, "bytes", "tables", "reads"]
             want = each(BY_N, names)
             line = "summary: " + " ".join(f"{key}={sums[key]}" for key in keys)

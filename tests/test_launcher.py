@@ -1,4 +1,5 @@
-"""The scripts ./fbcheck and ./build: when something is built, what is told where it can't be, and what is handed on.
+"""The scripts ./fbcheck and scripts/build: when something is built, what is told where it can't be, and what is handed
+on.
 
 They run in a small copy of the repository, in which the command rt is a script that writes down that it was called.
 """
@@ -44,6 +45,7 @@ exit 3
 """
 RAN = Ran(3, b"<--bare><two words><>input", b"")
 WORDS = ["--bare", "two words", ""]
+BUILD = "scripts/build"
 ONE_CALL = "rt run\nthe stored input\n"
 
 
@@ -51,7 +53,7 @@ class Copy(Scripts):
     """The launcher beside crates of one file each."""
 
     def __init__(self, name, rt=RT):
-        super().__init__(name, ["fbcheck", "build"], TOOLS)
+        super().__init__(name, ["fbcheck", BUILD], TOOLS)
         self.write("crates.txt", CRATES)
         self.write("program", SHOWS)
         for crate in ("low", "middle", "fbcheck", "fbcheck_more", "other", "ffi"):
@@ -147,31 +149,32 @@ class Launcher(Case):
         self.holds("rt that builds nothing", ran.status == 2 and not ran.out and b"isn't there" in ran.err, ran)
 
     def test_other_crates(self):
-        """./build builds each crate: a program with its words, or a static library."""
+        """scripts/build builds each crate: a program with its words, or a static library."""
         copy = Copy("other crates")
         copy.write("crates/other/args", "list\nall of it\n")
         for crate, made, calls in [("other", "other", "rt run -- list all of it\n"), ("ffi", "libffi.a", "rt lib\n")]:
             path = copy.top / "crates" / crate / "out" / made
             told = Ran(0, f"{path}\n".encode(), b"")
-            ran = copy.call(crate, script="build")
+            ran = copy.call(crate, script=BUILD)
             self.same(f"{crate}: where it is", (ran._replace(err=b""), path.is_file()), (told, True))
             self.same(f"{crate}: the call of rt", copy.calls(), calls)
-            self.same(f"{crate}: a second time", (copy.call(crate, script="build"), copy.calls()), (told, ""))
+            self.same(f"{crate}: a second time", (copy.call(crate, script=BUILD), copy.calls()), (told, ""))
             copy.write("crates/low/src/lib.rt", "changed\n")
-            copy.call(crate, script="build")
+            copy.call(crate, script=BUILD)
             self.same(f"{crate}: once a crate below has changed", copy.calls(), calls)
         for words in [[], [""], ["nothing"], ["low", "other"]]:
-            self.same(f"{words} are refused", copy.call(*words, script="build"), Ran(2, b"", b"usage: ./build CRATE\n"))
+            self.same(f"{words} are refused", copy.call(*words, script=BUILD),
+                      Ran(2, b"", b"usage: scripts/build CRATE\n"))
 
     def test_what_is_fresh(self):
         copy = Copy("fresh").built()
-        fresh = lambda *words: copy.call("--fresh", copy.top / "crates/fbcheck/out/fbcheck", *words, script="build")
+        fresh = lambda *words: copy.call("--fresh", copy.top / "crates/fbcheck/out/fbcheck", *words, script=BUILD)
         self.same("newer than its crate", (fresh("fbcheck"), copy.calls()), (Ran(0, b"", b""), ""))
         self.same("and than a folder", fresh("fbcheck", copy.top / "crates/other").status, 0)
         copy.write("crates/other/src/lib.rt", "changed\n")
         self.same("older than that", fresh("fbcheck", copy.top / "crates/other").status, 1)
         self.same("but not than its crate", fresh("fbcheck").status, 0)
-        self.same("a file that isn't there", copy.call("--fresh", copy.top / "no", "fbcheck", script="build").status, 1)
+        self.same("a file that isn't there", copy.call("--fresh", copy.top / "no", "fbcheck", script=BUILD).status, 1)
 
     @unittest.skipIf(PROGRAM != TOP / "crates/fbcheck/out/fbcheck", "another program is tested")
     def test_the_program_of_this_repository(self):

@@ -1,5 +1,5 @@
-"""What ./package makes: a tarball and Debian packages, which are unpacked and used below roots of their own, and the
-version, which stands in one place and is told everywhere. The packages of languages are used in test_packages.py.
+"""What scripts/package makes: a tarball and Debian packages, which are unpacked and used below roots of their own, and
+the version, which stands in one place and is told everywhere. The packages of languages are used in test_packages.py.
 """
 
 import hashlib
@@ -39,8 +39,8 @@ print(importlib.metadata.version("fbcheck"), fbcheck.__file__)
 
 
 def packed(folder, **environment):
-    """How ./package ends, and the files that it makes."""
-    told = subprocess.run([TOP / "package", folder], capture_output=True, text=True, timeout=600,
+    """How scripts/package ends, and the files that it makes."""
+    told = subprocess.run([TOP / "scripts/package", folder], capture_output=True, text=True, timeout=600,
                           env={**os.environ, "DEBEMAIL": "fbcheck@fbcheck.dev", **with_jdk(), **environment})
     # The wheel's name has the glibc that it needs.
     names = sorted(re.sub(r"(manylinux)_\d+_\d+", r"\1", name) for name in os.listdir(folder))
@@ -106,8 +106,8 @@ class Package(LibraryCase):
                 "package: the packages of languages aren't made: no Python 3.11 or later\n")
         for python in ("", "/bin/false"):
             self.same(f"without a Python, {python!r}", packed(FOLDER / "without", PYTHON=python), (0, told, want))
-        status, out, err = ran(TOP / "package", "--help")
-        self.same("a word with dashes is refused", (status, out, err), (2, "", "usage: ./package [FOLDER]\n"))
+        status, out, err = ran(TOP / "scripts/package", "--help")
+        self.same("a word with dashes is refused", (status, out, err), (2, "", "usage: scripts/package [FOLDER]\n"))
 
     def test_the_tarball(self):
         top = FOLDER / "prefix"

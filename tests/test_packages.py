@@ -1,5 +1,5 @@
-"""The packages of languages that ./package makes: each is installed into an empty environment by its language's own
-tool, without a network, and used there on a good message and on a bad one, whose place it tells.
+"""The packages of languages that scripts/package makes: each is installed into an empty environment by its language's
+own tool, without a network, and used there on a good message and on a bad one, whose place it tells.
 """
 
 import json
@@ -147,9 +147,9 @@ class Packages(LibraryCase):
     @classmethod
     def setUpClass(cls):
         super().setUpClass()
-        told = ran(TOP / "package", FOLDER / "dist", seconds=600, **with_jdk())
+        told = ran(TOP / "scripts/package", FOLDER / "dist", seconds=600, **with_jdk())
         if told[0] != 0:
-            raise RuntimeError(f"./package has failed:\n{told}")
+            raise RuntimeError(f"scripts/package has failed:\n{told}")
         cls.told = told[2]
         cls.prefix = cls.unpacked(made("*-x86_64-linux.tar.gz"))
 

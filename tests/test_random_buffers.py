@@ -12,6 +12,7 @@ import re
 from tests.support import schemas
 from tests.support.builder import prefixed
 from tests.support.every_kind import words_of
+from tests.support.header import Reason
 from tests.support.library import LibraryCase, module
 from tests.support.many import each
 from tests.support.naive import Reader, Schema, Walk
@@ -23,7 +24,7 @@ from tests.support.told import line
 from tests.support.told import text_of as value_text
 
 SEEDS, SCHEMAS, BUFFERS = range(100, 140), 53, 100
-CODES = [f"V{number}" for number in range(1, 14)]
+CODES = [f"V{number}" for number in Reason]
 PYTHON = None
 
 

@@ -1,7 +1,7 @@
-"""The script ./reproduce: what it compares, what it says, and its status.
+"""The script scripts/reproduce: what it compares, what it says, and its status.
 
 It runs in a small repository, in which the command rt is a script that makes a program of a file. That the program
-itself is the same each time takes two builds to show, which ./reproduce does where it is called.
+itself is the same each time takes two builds to show, which scripts/reproduce does where it is called.
 """
 
 import hashlib
@@ -29,7 +29,7 @@ class Repository(Scripts):
     """A repository with the scripts and one file of sources, and its own rt."""
 
     def __init__(self, name, committed=True):
-        super().__init__(name, ["build", "reproduce", ".gitignore"])
+        super().__init__(name, ["scripts/build", "scripts/reproduce", ".gitignore"])
         self.write("crates.txt", "fbcheck:\n")
         self.write("crates/fbcheck/stdin", "")
         self.source = self.write("crates/fbcheck/src/main.rt", SOURCE)
@@ -47,7 +47,7 @@ class Repository(Scripts):
         """The status of a call, the lines that it prints, and what it tells."""
         environment = {**os.environ, "CALLS": str(self.calls), **more}
         environment["PATH"] = path or f"{self.bin}:{os.environ['PATH']}"
-        ran = subprocess.run([self.top / "reproduce", *words], capture_output=True, text=True, timeout=60,
+        ran = subprocess.run([self.top / "scripts/reproduce", *words], capture_output=True, text=True, timeout=60,
                              cwd=self.top, env=environment)
         return ran.returncode, ran.stdout.splitlines(), ran.stderr
 
@@ -105,7 +105,7 @@ class Reproduce(Case):
     def test_what_can_not_be_told(self):
         here = Repository("faults")
         for name, words, more, text in [
-            ("two words", ["a", "b"], {}, "usage: ./reproduce [FILE]"),
+            ("two words", ["a", "b"], {}, "usage: scripts/reproduce [FILE]"),
             ("no such file", ["nothing"], {}, "there is no file nothing"),
             ("a folder", ["crates"], {}, "there is no file crates"),
             ("a build that fails", [], {"FAILS": "1"}, "has failed; what it says stands above"),

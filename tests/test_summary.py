@@ -4,6 +4,7 @@ from tests.support import buffers, schemas
 from tests.support.buffers import BY_POST, NOTHING, ODD, ORC, POST, SEVEN
 from tests.support.builder import changed, prefixed, spelled
 from tests.support.cases import Case
+from tests.support.header import Reason
 from tests.support.preloaded import ALONE, WITH_LATER, narrowed, sweep
 from tests.support.program import (
     FULL, PROGRAM, SECONDS, Ran, Talk, fieldless, lines, overlong, oversize, refused, rootless, run, run_broken_off,
@@ -78,7 +79,7 @@ class Summary(Case):
             ran = run(*BY_POST, "--summary", *limits, given=POST)
             words = [line.split() for line in ran.out.decode().splitlines()]
             bad = [line[2] for line in words if line[1] == "bad"]
-            reasons = "".join(f" V{n}={bad.count(f'V{n}')}" for n in range(1, 14) if f"V{n}" in bad)
+            reasons = "".join(f" V{n}={bad.count(f'V{n}')}" for n in Reason if f"V{n}" in bad)
             sums = {key: sum(int(word[len(key) + 1:]) for line in words for word in line if word.startswith(f"{key}="))
                     for key in ["tables", "reads"]}
             self.same(f"deliveries, {limits}", ran.err, lines(

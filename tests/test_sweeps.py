@@ -10,6 +10,7 @@ import collections
 import itertools
 
 from tests.support.beside import Beside
+from tests.support.header import Reason
 from tests.support.library import LibraryCase, module
 from tests.support.many import each
 from tests.support.random_rows import Random
@@ -23,7 +24,6 @@ SMALL = [*itertools.product(range(4), [1_000_000]), *itertools.product([64], ran
 BUDGETS = [None, 0, 1, 2, 3, 5, 8, 12]
 # Depth, tables and budgets, of which each ends a walk in another place under each choice of the checks.
 MIXED = [(1, 1_000_000, None), (2, 2, None), (3, 6, None), (0, 0, None), (64, 3, 8), (64, 0, 3)]
-REASONS = range(1, 14)
 PYTHON = None
 
 
@@ -55,7 +55,7 @@ def of_budgets(name):
         whole = beside.ask(SWEPT[name].data, **checks)
         for reads in range(whole.reads + 2):
             verdict = beside.ask(SWEPT[name].data, reads=reads, **checks)
-            if verdict != whole and not (verdict.reason == 13 and reads < whole.reads):
+            if verdict != whole and not (verdict.reason == Reason.TOO_MANY_READS and reads < whole.reads):
                 beside.wrong.append((verdict, whole, reads))
             if verdict == whole and whole.ok and reads < whole.reads:
                 beside.wrong.append((verdict, "too many reads", reads))
@@ -124,11 +124,11 @@ class Sweeps(LibraryCase):
             told[name, checks] += counts
             sums += counts
         for (name, checks), counts in told.items():
-            some = 0 < counts[0] < counts.total() and counts[13] >= 20
+            some = 0 < counts[0] < counts.total() and counts[Reason.TOO_MANY_READS] >= 20
             self.holds(f"{name}, {CHECKS[checks]}: of each answer some", some, counts)
         self.holds("there are 700,000 buffers", sums.total() >= 700_000, sums)
         self.holds("each reason is there, but for those of limits and of an identifier",
-                   set(sums) == {0, *REASONS} - {5, 6, 7}, sums)
+                   set(sums) == {0, *Reason} - {5, 6, 7}, sums)
 
     def test_every_budget(self):
         for name, wrong in zip(SWEPT, each(of_budgets, SWEPT)):

@@ -3,14 +3,17 @@
 They run in a folder of their own, beside a command rt that only prints what a case says, and small tests.
 """
 
+import hashlib
 import re
 import shutil
+import subprocess
 
 from tests.support.cases import Case
-from tests.support.program import TOP
+from tests.support.clone import TOP
 from tests.support.scripts import Scripts
 
-TOOLS = ["bash", "cat", "dirname", "env", "mkdir", "mktemp", "python3", "readlink", "rm", "sed", "sleep", "tail", "tee"]
+TOOLS = ["bash", "cat", "cp", "dirname", "env", "grep", "gzip", "ln", "mkdir", "mktemp", "python3", "readlink", "rm",
+         "sed", "sha256sum", "sleep", "tail", "tar", "tee"]
 
 
 class Folder(Scripts):
@@ -25,7 +28,7 @@ class Folder(Scripts):
         for command, text in {"rt": tells(7, 0), "cc": "exit 0", **commands}.items():
             if text is not None:
                 self.stand_in(f"bin/{command}", text)
-        self.stand_in("build_c", "echo build_c; > library")
+        self.stand_in("scripts/build_c", "echo build_c; > library")
         for number, text in enumerate(tests):
             self.write(f"tests/test_{number}.py", text)
 
@@ -60,6 +63,31 @@ def meets(mine, other):
     return (f"pathlib.Path('met_{mine}').touch()", f"met = pathlib.Path('met_{other}')",
             "ends = time.monotonic() + 20", "while not met.exists() and time.monotonic() < ends: time.sleep(0.1)",
             "self.assertTrue(met.exists())")
+
+
+# A test that asks the program, with all tools but rt.
+ASKS = case("import shutil", "from tests.support.program import run", "print(run().out.decode(), end='')",
+            "self.assertEqual([shutil.which(tool) is None for tool in ('rt', 'tail')], [True, False])")
+
+
+class Packages(Folder):
+    """The same beside a folder of packages, whose programs are scripts that tell where they are from."""
+
+    def __init__(self, name, tests, **commands):
+        unpack = 'mkdir -p "$3/usr/bin"; cp "$2" "$3/usr/bin/fbcheck"'
+        super().__init__(name, tests, **{"dpkg-deb": unpack, **commands})
+        self.write("VERSION", "7\n")
+        self.made = self.top / "made here"
+        self.tarball = self.made / "fbcheck-7-x86_64-linux.tar.gz"
+        for deb in ("fbcheck", "libfbcheck1"):
+            self.stand_in(f"made here/{deb}_7_amd64.deb", "echo the deb is asked")
+        self.pack("the tarball")
+        sums = [f"{hashlib.sha256(path.read_bytes()).hexdigest()}  {path.name}\n" for path in self.made.iterdir()]
+        (self.made / "SHA256SUMS").write_text("".join(sums))
+
+    def pack(self, name):
+        self.stand_in("fbcheck-7-x86_64-linux/bin/fbcheck", f"echo {name} is asked")
+        subprocess.run(["tar", "-czf", self.tarball, "fbcheck-7-x86_64-linux"], cwd=self.top, check=True)
 
 
 class TestCommand(Case):
@@ -104,7 +132,7 @@ class TestCommand(Case):
                  case("from tests.support.tools import there", "there('no-such-tool')", "with self.subTest(1):",
                       "    self.skipTest('b isn\\'t there')")]
         folder = Folder("left out", tests)
-        folder.stand_in("build", "exit 0")
+        folder.stand_in("scripts/build", "exit 0")
         _, out, _ = folder.call("--outside")
         told = "left out: b isn't there; no-such-tool isn't there"
         self.same("what is left out", out[-4:-2], [told, "1 passed, 0 failed"])
@@ -148,7 +176,7 @@ done"""
         finds = case("import tests.support.library", "self.assertTrue(os.path.exists('library'))")
         folder = Folder("library", [finds])
         self.same("it is built before a test that names it", folder.call()[1][-1], "8 passed, 0 failed")
-        folder.stand_in("build_c", """echo "words: $*"
+        folder.stand_in("scripts/build_c", """echo "words: $*"
 >met_library
 for tenth in {1..200}; do [ ! -e met_test ] || break; sleep 0.1; done
 [ -e met_test ] && >library""")
@@ -157,7 +185,7 @@ for tenth in {1..200}; do [ ! -e met_test ] || break; sleep 0.1; done
         _, out, _ = folder.call()
         self.same("and beside one that doesn't", out[-1], "9 passed, 0 failed")
         self.holds("of what rt ci left", "words: --after-ci" in out, out)
-        folder.stand_in("build_c", "echo broken; exit 1")
+        folder.stand_in("scripts/build_c", "echo broken; exit 1")
         status, out, _ = folder.call()
         self.same("where it can't be, that is a failure", (status, out[-1]), (1, "9 passed, 1 failed"))
         self.holds("and it is shown", "broken" in out, out)
@@ -166,19 +194,19 @@ for tenth in {1..200}; do [ ! -e met_test ] || break; sleep 0.1; done
         kit = Scripts("kit", [])
         rt = kit.write("bin/rt", "#!/bin/bash\n")
         kit.write("bin/rattle", '#!/bin/bash\necho "$@" >words\n')
-        folder = Scripts("archive", ["build_c"], TOOLS)
+        folder = Scripts("archive", ["scripts/build_c"], TOOLS)
         (folder.bin / "rt").symlink_to(rt)
-        folder.write("build", "#!/bin/bash\nexit 2\n")
+        folder.write("scripts/build", "#!/bin/bash\nexit 2\n")
         folder.write("crates.txt", "low: core\nfbcheck_c staticlib: core low\nother: low\n")
         for crate in ("low", "fbcheck_c"):
             folder.write(f"crates/{crate}/src/lib.rt", "text\n")
-        folder.call("build_c", "--after-ci")
+        folder.call("scripts/build_c", "--after-ci")
         words = (folder.top / "crates/fbcheck_c/words").read_text().split()
         libraries = [word for at, word in enumerate(words) if words[at - 1] == "--extern"]
         crate = folder.top / "crates/low/out/rlib/low.rlib"
         self.same("by what rt ci left of each crate", libraries,
                   [f"std={kit.top}/rlibs/std.rlib", f"core={kit.top}/rlibs/core.rlib", f"low={crate}"])
-        self.same("into the place where ./build looks", words[-2:], ["-o", "out/libfbcheck_c.a"])
+        self.same("into the place where scripts/build looks", words[-2:], ["-o", "out/libfbcheck_c.a"])
 
     def test_what_is_missing_is_named(self):
         for missing, text in [("rt", "rt, the command of the Rattle toolchain"), ("python3", "python3, which runs"),
@@ -190,14 +218,57 @@ for tenth in {1..200}; do [ ! -e met_test ] || break; sleep 0.1; done
 
     def test_from_outside_alone(self):
         folder = Folder("outside", [cases(5, 0)], rt="echo rt was called; exit 1")
-        folder.stand_in("build", '[ "$*" = fbcheck ]')
+        folder.stand_in("scripts/build", '[ "$*" = fbcheck ]')
         status, out, _ = folder.call("--outside")
         self.same("no rt ci", (status, out[-1], "rt was called" in out), (0, "5 passed, 0 failed", False))
-        for command in ("build_c", "build"):
+        for command in ("scripts/build_c", "scripts/build"):
             folder.stand_in(command, "exit 2")
             self.same(f"what {command} can't build", folder.call("--outside")[:2], (2, []))
 
+    def test_packaged_programs(self):
+        """The program of each package is asked by what needs no more than it, and no rt is there meanwhile."""
+        other = case("from tests.support.program import built", "built('probe')")
+        folder = Packages("packaged", [ASKS, other, case("import tests.support.library"), case("self.fail()")],
+                          rt="echo rt was called")
+        status, out, err = folder.call("--packaged", "made here", folder=folder.top)
+        self.same("of each a sum, what is unpacked, and a test", (status, out[-1], err), (0, "6 passed, 0 failed", ""))
+        self.same("both are asked", [line for line in out if " is asked" in line],
+                  ["the tarball is asked", "the deb is asked"])
+        told = "left out: probe is in no package; test_2 need the library for C; test_3 don't ask the program"
+        self.same("what isn't asked is named, of each", out.count(told), 2)
+        self.same("and so is what has no program", out[-2],
+                  "left out: what is no package of a program of version 7: libfbcheck1_7_amd64.deb")
+        self.same("rt isn't called, and nothing is built",
+                  [line for line in out if "rt was" in line or "build_c" in line], [])
+        (folder.bin / "rt").unlink()
+        self.same("without rt it's the same", folder.call("--packaged", folder.made)[1][-1], "6 passed, 0 failed")
+
+    def test_packages_that_fail(self):
+        for name, change, tests, want, told in [
+            ("another program", lambda folder: folder.pack("the other"), [ASKS], "5 passed, 1 failed",
+             "test: fbcheck-7-x86_64-linux.tar.gz hasn't the sum that SHA256SUMS tells of it"),
+            ("no sums", lambda folder: (folder.made / "SHA256SUMS").unlink(), [ASKS], "4 passed, 2 failed",
+             "test: fbcheck_7_amd64.deb hasn't the sum that SHA256SUMS tells of it"),
+            ("no tarball", lambda folder: folder.tarball.write_bytes(b"none"), [ASKS], "3 passed, 2 failed",
+             "test: fbcheck-7-x86_64-linux.tar.gz can't be unpacked"),
+            ("no dpkg-deb", lambda folder: (folder.bin / "dpkg-deb").unlink(), [ASKS], "3 passed, 0 failed",
+             "left out: fbcheck_7_amd64.deb, since dpkg-deb isn't there"),
+            ("a test", lambda folder: None, [f"{ASKS}        self.fail()\n"], "4 passed, 2 failed", "FAILED (failures=1)"),
+        ]:
+            folder = Packages(f"packaged, {name} fails", tests)
+            change(folder)
+            status, out, _ = folder.call("--packaged", folder.made)
+            self.same(name, (status, out[-1]), (int(" 0 failed" not in want), want))
+            self.holds(f"{name}: it is told", told in out, out)
+
+    def test_no_packages(self):
+        folder = Packages("none", [ASKS])
+        for name in ("there.7", "tests", "VERSION"):
+            told = f"test: no package to test is in {folder.top / name}, neither fbcheck-7-x86_64-linux.tar.gz nor, for " \
+                   "dpkg-deb, fbcheck_7_amd64.deb (scripts/package makes both)\n"
+            self.same(f"{name} is refused", folder.call("--packaged", name, folder=folder.top), (2, [], told))
+
     def test_other_words_are_refused(self):
         folder = Folder("words")
-        for words in [["--nothing"], ["--outside", "more"], ["ci"]]:
-            self.same(f"{words}", folder.call(*words), (2, [], "usage: ./test [--outside]\n"))
+        for words in [["--nothing"], ["--outside", "more"], ["ci"], ["--packaged"], ["--packaged", "a", "b"]]:
+            self.same(f"{words}", folder.call(*words), (2, [], "usage: ./test [--outside | --packaged FOLDER]\n"))

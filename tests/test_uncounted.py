@@ -5,7 +5,7 @@ import collections
 import re
 import unittest
 
-from tests.support.program import TOP
+from tests.support.clone import TOP
 
 # fb_bytes makes all this, and tests may do as they like.
 UNSEARCHED = {"fb_bytes", "library_tests"}

@@ -96,9 +96,9 @@ def fbcheck():
     named = os.environ.get("FBCHECK_PROGRAM")
     if named:
         return pathlib.Path(named).resolve()
-    ran = subprocess.run([TOP / "build", "fbcheck"], stdout=subprocess.PIPE, text=True)
+    ran = subprocess.run([TOP / "scripts/build", "fbcheck"], stdout=subprocess.PIPE, text=True)
     if ran.returncode != 0:
-        raise Failed("./build fbcheck fails")
+        raise Failed("scripts/build fbcheck fails")
     return pathlib.Path(ran.stdout.strip())
 
 
@@ -148,7 +148,7 @@ def in_process(corpus):
 
 def build_in_process():
     """These programs, and the library for C where it is stale."""
-    run(TOP / "build_c")
+    run(TOP / "scripts/build_c")
     archive, header = TOP / "out/libfbcheck.a", TOP / "include/fbcheck.h"
     words = [f"-I{header.parent}", archive, *LINKED, "-lpthread"]
     wanted = [(in_process(corpus), "in_process.cpp", *made_for(corpus), *words) for corpus in CORPORA]

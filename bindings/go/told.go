@@ -11,27 +11,6 @@ import (
 	"unsafe"
 )
 
-// A Reason tells why a message is refused: the number of its code, as 10 for V10.
-type Reason uint32
-
-// Why a message is refused.
-const (
-	TooLong         Reason = iota // it has 2^31 bytes or more; nothing of it was read
-	WrongPrefix                   // the prefix isn't the number of bytes after it
-	OutOfBuffer                   // what should be read doesn't lie in the message
-	Misaligned                    // the position isn't a multiple of the alignment
-	ZeroOffset                    // an offset is 0
-	WrongIdentifier               // the file identifier isn't the one asked for
-	TooDeep                       // one table more than MaxDepth allows
-	TooManyTables                 // one table more than MaxTables allows
-	BadVtable                     // a vtable's size is odd or below 4
-	MissingRequired               // a required field is absent
-	NoTerminator                  // the byte after a string isn't 0
-	LengthsDiffer                 // a vector of unions and its vector of types differ in length
-	PastTable                     // a field ends past its table's inline size
-	TooManyReads                  // more reads were counted than the options allow
-)
-
 // String is the code and name, as "V10 NoTerminator".
 func (r Reason) String() string {
 	if r == TooLong {
@@ -129,14 +108,14 @@ const (
 )
 
 var texts = map[Status]string{
-	OutOfRange:    "MaxDepth is above 4096",
+	OutOfRange:    fmt.Sprintf("MaxDepth is above %d", C.FBCHECK_DEEPEST),
 	NoIdent:       "the schema's identifier isn't four bytes",
 	NoRoot:        "no root table",
 	LongFile:      "schema: L5 TooLong",
 	RootNotListed: "schema: L3 RootNotListed",
 	NoMemory:      "out of memory",
 	Failed:        "stream: S4 Failed",
-	TooManySteps:  "the path has more than 31 steps",
+	TooManySteps:  fmt.Sprintf("the path has more than %d steps", C.FBCHECK_STEPS),
 	Misfit:        "a path is none of this schema from this root",
 	TooMuchShared: "schema: L6 TooMuchShared",
 }
@@ -182,28 +161,6 @@ func errorOf(verdict C.fbcheck_verdict, asked string) *Error {
 func naming(text, asked string) string {
 	return fmt.Sprintf("%s (%q)", text, asked)
 }
-
-// A Kind tells what stands at the end of a path.
-type Kind uint32
-
-// What stands at the end of a path.
-const (
-	Absent      Kind = iota // nothing: the field, or one on the way, is absent and has no default
-	NoElement               // nothing: the vector has fewer elements
-	OtherMember             // nothing: the union has another type
-	Bool                    // Uint: 0 or 1
-	Int                     // Int: a Byte, Short, Int or Long
-	Uint                    // Uint: a UType, UByte, UShort, UInt or ULong
-	Float                   // Float: a Float or Double
-	Text                    // Bytes: those of a string, which need not be UTF-8
-	Struct                  // Bytes: those of a struct as they stand, padding included
-	Vector                  // Uint: how many elements; of scalars and structs their Bytes in a row
-	Table                   // a table
-	Union                   // Uint: its type, 0 for none
-)
-
-var kinds = [...]string{"Absent", "NoElement", "OtherMember", "Bool", "Int", "Uint", "Float", "Text", "Struct",
-	"Vector", "Table", "Union"}
 
 // String is the name of the kind.
 func (k Kind) String() string {

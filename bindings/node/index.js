@@ -1,31 +1,24 @@
 'use strict';
 
 const fs = require('node:fs');
+const {
+  CODES, KINDS, LIMITS, OPTIONS, OPTIONS_BYTES, PATH_BYTES, PATH_FAULTS, REASONS, STATUSES, VALUE, VALUE_BYTES, VERSION,
+  ...numbers
+} = require('./codes.js');
 const native = require('./fbcheck.node');
+
+const { BAD, BAD_TEXT, DEEPEST, MORE, NONE, NO_ROOT, NO_TABLE, OK, OVERSIZE, TOO_LONG } = numbers;
 
 // What a call tells beside its answer, by the places that the enum in fbcheck.c gives.
 const told = new Float64Array(16);
 const [STATUS, REASON, OBJECT, FIELD, TABLES, DEPTH, AT, READS, USED, LEFT] = Array(10).keys();
-if (native.begin(told) !== 1) throw new Error('another libfbcheck is linked');
+if (native.begin(told) !== VERSION) throw new Error('another libfbcheck is linked');
 
-// Statuses and other numbers of fbcheck.h.
-const STATUSES = ['OK', 'BAD', 'NULL', 'UNKNOWN_OPTIONS', 'OUT_OF_RANGE', 'NO_IDENT', 'NO_ROOT', 'TOO_LONG',
-  'NOT_WELL_FORMED', 'BAD_SCHEMA', 'ROOT_NOT_LISTED', 'NO_MEMORY', 'NO_SPAN', 'MORE', 'OVERSIZE', 'TRUNCATED', 'FAILED',
-  'BAD_PATH', 'NO_ROOM', 'MISFIT', 'TOO_MUCH_SHARED'];
-const { OK, BAD, NO_ROOT, TOO_LONG, MORE, OVERSIZE } = Object.fromEntries(STATUSES.map((name, n) => [name, n]));
-const NONE = 0xffffffff;
-const NO_TABLE = 0xfffffffe;
-const DEEPEST = 4096;
-const PATH_BYTES = 256;
-const VALUE_WORDS = 10;
+// Where the numbers of a value stand, in words of 32 bits.
+const VALUE_WORDS = VALUE_BYTES / 4;
+const [KIND, NUMBER, INTEGER, BEGIN, SIZE] =
+  [VALUE.kind, VALUE.number, VALUE.integer, VALUE.at, VALUE.size].map(([at]) => at / 4);
 
-const REASONS = ['TooLong', 'WrongPrefix', 'OutOfBuffer', 'Misaligned', 'ZeroOffset', 'WrongIdentifier', 'TooDeep',
-  'TooManyTables', 'BadVtable', 'MissingRequired', 'NoTerminator', 'LengthsDiffer', 'PastTable', 'TooManyReads'];
-const CODES = ['', 'NoSuchObject', 'NoSuchEnum', 'Unsupported', 'BadSlot', 'NoTypeField', 'BadStruct', 'BadMember',
-  'NameTwice'];
-const PATH_FAULTS = ['', 'BadText', 'NoSuchField', 'NotIndexable', 'NotAUnion', 'NoSuchMember', 'NotATable'];
-const KINDS = ['absent', 'no-element', 'other-member', 'bool', 'int', 'uint', 'float', 'text', 'struct', 'vector',
-  'table', 'union'];
 const TEXTS = {
   NO_IDENT: "the schema's identifier isn't four bytes",
   NO_ROOT: 'no root table',
@@ -33,7 +26,7 @@ const TEXTS = {
   ROOT_NOT_LISTED: 'schema: L3 RootNotListed',
   NO_MEMORY: 'out of memory',
   FAILED: 'stream: S4 Failed',
-  NO_ROOM: 'the path has more than 31 steps',
+  NO_ROOM: `the path has more than ${numbers.STEPS} steps`,
   MISFIT: 'a path is none of this schema from this root',
   TOO_MUCH_SHARED: 'schema: L6 TooMuchShared',
 };
@@ -105,7 +98,7 @@ function errorOf(status, asked) {
     const part = told[FIELD] === NONE ? '-' : told[FIELD];
     text = `schema: L2 C${code} ${CODES[code]} owner=${told[OBJECT]} part=${part}`;
   } else if (name === 'BAD_PATH') {
-    text = `path: P${code} ${PATH_FAULTS[code]} ${code === 1 ? 'at' : 'step'}=${told[AT]}`;
+    text = `path: P${code} ${PATH_FAULTS[code]} ${code === BAD_TEXT ? 'at' : 'step'}=${told[AT]}`;
   }
   return new FbcheckError(name, asked === undefined ? text : `${text} ('${asked}')`);
 }
@@ -117,33 +110,34 @@ function whole(name, given, most) {
   throw new RangeError(`${name} is ${given}, which isn't a whole number up to ${most}`);
 }
 
-// Where each option of a number stands in the library's options, and how many bits it has.
-const NUMBERS = { maxReads: [8, 64n], maxDepth: [16, 32n], maxTables: [20, 32n], readsPerByte: [24, 32n] };
-const SWITCHES = { prefixed: 33, alignment: 34, inlineSize: 35 };
+// The switches by the options of the library that they are, one of which says the opposite.
+const SWITCHES = { prefixed: OPTIONS.prefixed, alignment: OPTIONS.noAlignment, inlineSize: OPTIONS.inlineSize };
 
 /** The library's options by these, as bytes. */
 function bytesOf(schema, options) {
-  const bytes = Buffer.alloc(64);
-  const given = { root: undefined, maxReads: 100_000_000, maxDepth: 64, maxTables: 1_000_000, readsPerByte: 64,
-    prefixed: false, alignment: true, inlineSize: false, ident: undefined, ...options };
-  bytes.writeUInt32LE(1, 0);
-  bytes.writeUInt32LE(given.root === undefined ? NONE : native.table(schema, Buffer.from(given.root)), 4);
-  if (bytes.readUInt32LE(4) === NO_TABLE) throw errorOf(NO_ROOT, given.root);
+  const bytes = Buffer.alloc(OPTIONS_BYTES);
+  const put = (number, [at, size]) => bytes.writeUIntLE(number, at, size);
+  const given = { root: undefined, ...LIMITS, prefixed: false, alignment: true, inlineSize: false, ident: undefined,
+    ...options };
+  const root = given.root === undefined ? NONE : native.table(schema, Buffer.from(given.root));
+  if (root === NO_TABLE) throw errorOf(NO_ROOT, given.root);
+  put(VERSION, OPTIONS.version);
+  put(root, OPTIONS.root);
   for (const [name, value] of Object.entries(given)) {
-    if (name in NUMBERS) {
-      const [at, bits] = NUMBERS[name];
-      const number = whole(name, value, (1n << bits) - 1n);
+    if (name in LIMITS) {
+      const [at, size] = OPTIONS[name];
+      const number = whole(name, value, (1n << BigInt(8 * size)) - 1n);
       if (name === 'maxDepth' && number > DEEPEST) throw new RangeError(`maxDepth is above ${DEEPEST}`);
-      if (bits === 64n) bytes.writeBigUInt64LE(number, at);
-      else bytes.writeUInt32LE(Number(number), at);
+      if (size === 8) bytes.writeBigUInt64LE(number, at);
+      else put(Number(number), OPTIONS[name]);
     } else if (name in SWITCHES) {
       if (typeof value !== 'boolean') throw new TypeError(`${name} is true or false, and not ${value}`);
-      bytes[SWITCHES[name]] = value !== (name === 'alignment');
+      put(Number(value !== (name === 'alignment')), SWITCHES[name]);
     } else if (name === 'ident' && value !== undefined) {
-      bytes[32] = value === 'own' ? 2 : 1;
+      put(value === 'own' ? numbers.IDENT_OWN : numbers.IDENT_THIS, OPTIONS.identFrom);
       const four = value === 'own' ? Buffer.alloc(4) : Buffer.from(value, 'latin1');
       if (four.length !== 4) throw new RangeError(`ident must be four bytes, or 'own'`);
-      four.copy(bytes, 28);
+      four.copy(bytes, OPTIONS.ident[0]);
     } else if (name !== 'root' && name !== 'ident') {
       throw new TypeError(`no option ${name}`);
     }
@@ -181,9 +175,9 @@ class Value {
 
   constructor(message, words) {
     this.#message = message;
-    this.#at = joined(words[7], words[6]);
-    this.#end = this.#at + joined(words[9], words[8]);
-    this.kind = KINDS[words[0]];
+    this.#at = joined(words[BEGIN + 1], words[BEGIN]);
+    this.#end = this.#at + joined(words[SIZE + 1], words[SIZE]);
+    this.kind = KINDS[words[KIND]];
     this.value = this.#valueOf(words);
   }
 
@@ -194,9 +188,9 @@ class Value {
   #valueOf(words) {
     const { buffer, byteOffset, length } = this.bytes;
     switch (this.kind) {
-      case 'bool': return words[2] === 1;
-      case 'int': return joined(words[5] | 0, words[4]);
-      case 'uint': case 'vector': case 'union': return joined(words[3], words[2]);
+      case 'bool': return words[NUMBER] === 1;
+      case 'int': return joined(words[INTEGER + 1] | 0, words[INTEGER]);
+      case 'uint': case 'vector': case 'union': return joined(words[NUMBER + 1], words[NUMBER]);
       case 'text': return Buffer.from(buffer, byteOffset, length).toString();
       case 'struct': return this.bytes;
       case 'float': {

@@ -1,10 +1,11 @@
-"""Builds the package by a C compiler alone: what pip asks for (PEP 517), and what ./install and ./package do.
+"""Builds the package by a C compiler alone: what pip asks for (PEP 517), and what ./install and scripts/package do.
 
     python3 backend.py FOLDER    puts the package into this folder, as it is imported
 
-The library is libfbcheck.a of the clone (../../out, which ./build_c makes), or else what pkg-config knows as fbcheck;
-of this the static form is taken, where it is there. The extension serves every later CPython. The same files are packed
-as the same bytes: names are sorted, and all have the time that SOURCE_DATE_EPOCH tells, or one that is fixed.
+The library is libfbcheck.a of the clone (../../out, which scripts/build_c makes), or else what pkg-config knows as
+fbcheck; of this the static form is taken, where it is there. The extension serves every later CPython. The same files
+are packed as the same bytes: names are sorted, and all have the time that SOURCE_DATE_EPOCH tells, or one that is
+fixed.
 """
 
 import base64
@@ -26,7 +27,7 @@ import zipfile
 
 HERE = pathlib.Path(__file__).resolve().parent
 TOP = HERE.parents[1]
-PARTS = ("__init__.py", "_fbcheck.pyi", "_formats.py", "py.typed")
+PARTS = ("__init__.py", "_codes.py", "_fbcheck.pyi", "_formats.py", "py.typed")
 EXTENSION = "_fbcheck.abi3.so"
 WARNINGS = ("-Wall", "-Wextra")
 

@@ -13,7 +13,7 @@ fn main() {
     let found = named.or_else(|| beside("lib"));
     let found = found.or_else(|| beside("../../out")).or_else(by_pkg_config);
     let Some(folder) = found else {
-        eprintln!("libfbcheck.a isn't found: run ./build_c in the clone, or name its folder in FBCHECK_LIB_DIR");
+        eprintln!("libfbcheck.a isn't found: run make library in the clone, or name its folder in FBCHECK_LIB_DIR");
         exit(1);
     };
     println!("cargo:rerun-if-changed={folder}/libfbcheck.a");

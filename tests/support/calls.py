@@ -4,79 +4,16 @@ The library is the file that the variable FBCHECK_LIBRARY names, and else it is 
 """
 
 import ctypes
-import enum
 import functools
 import os
 import struct
 import typing
 
-VERSION = 1
-NONE, NO_TABLE = 0xFFFFFFFF, 0xFFFFFFFE
-DEEP = 64
-STEPS = 31
+from tests.support import header
+from tests.support.header import DEEP, NO_TABLE, NONE, STEPS, VERSION, Code, Ident, Kind, PathFault, Reason, Status
+
 PLACE = 4096
-_U8, _U32, _U64, _SIZE = ctypes.c_uint8, ctypes.c_uint32, ctypes.c_uint64, ctypes.c_size_t
-
-
-class Status(enum.IntEnum):
-    """What a call answers."""
-
-    OK = 0
-    BAD = 1
-    NULL = 2
-    UNKNOWN_OPTIONS = 3
-    OUT_OF_RANGE = 4
-    NO_IDENT = 5
-    NO_ROOT = 6
-    TOO_LONG = 7
-    NOT_WELL_FORMED = 8
-    BAD_SCHEMA = 9
-    ROOT_NOT_LISTED = 10
-    NO_MEMORY = 11
-    NO_SPAN = 12
-    MORE = 13
-    OVERSIZE = 14
-    TRUNCATED = 15
-    FAILED = 16
-    BAD_PATH = 17
-    NO_ROOM = 18
-    MISFIT = 19
-    TOO_MUCH_SHARED = 20
-
-
-class Reason(enum.IntEnum):
-    """Why a buffer is refused."""
-
-    WRONG_PREFIX = 1
-    OUT_OF_BUFFER = 2
-    MISALIGNED = 3
-    ZERO_OFFSET = 4
-    WRONG_IDENTIFIER = 5
-    TOO_DEEP = 6
-    TOO_MANY_TABLES = 7
-    BAD_VTABLE = 8
-    MISSING_REQUIRED = 9
-    NO_TERMINATOR = 10
-    LENGTHS_DIFFER = 11
-    PAST_TABLE = 12
-    TOO_MANY_READS = 13
-
-
-class Kind(enum.IntEnum):
-    """What stands at the end of a path."""
-
-    ABSENT = 0
-    NO_ELEMENT = 1
-    OTHER_MEMBER = 2
-    BOOL = 3
-    INT = 4
-    UINT = 5
-    FLOAT = 6
-    TEXT = 7
-    STRUCT = 8
-    VECTOR = 9
-    TABLE = 10
-    UNION = 11
+_SIZE = ctypes.c_size_t
 
 
 def _bytes(given) -> bytes:
@@ -84,74 +21,29 @@ def _bytes(given) -> bytes:
     return given if isinstance(given, bytes) else memoryview(given).tobytes()
 
 
-def _fields(of, names: str) -> list:
-    """Neighbours in a structure that are all of this type."""
-    return [(name, of) for name in names.split()]
-
-
-class Options(ctypes.Structure):
+class Options(header.Options):
     """fbcheck_options. Made with no words it is what the library begins with."""
-
-    _fields_ = [
-        *_fields(_U32, "version root"),
-        ("max_reads", _U64),
-        *_fields(_U32, "max_depth max_tables reads_per_byte"),
-        ("ident", _U8 * 4),
-        *_fields(_U8, "ident_from prefixed no_alignment inline_size"),
-        ("reserved", _U32 * 7),
-    ]
-
-    _first = {"version": VERSION, "root": NONE, "max_reads": 100_000_000, "max_depth": DEEP, "max_tables": 1_000_000,
-              "reads_per_byte": 64, "ident_from": 0, "prefixed": 0, "no_alignment": 0, "inline_size": 0}
 
     def __init__(self, ident: bytes | None = None, **words):
         for name in words:
-            if name not in self._first:
+            if name not in header.OPTIONS_INIT:
                 raise TypeError(f"no option {name}")
-        super().__init__(**{**self._first, **words})
+        super().__init__(**{**header.OPTIONS_INIT, **words})
         if ident is not None:
             given = _bytes(ident)
             if len(given) != 4:
                 raise ValueError(f"a file identifier has 4 bytes, and {given} has {len(given)}")
             self.ident[:] = given
-            self.ident_from = 1
+            self.ident_from = Ident.THIS
 
 
-class _Verdict(ctypes.Structure):
-    _fields_ = [
-        *_fields(_U32, "status reason object field tables depth"),
-        *_fields(_U64, "at reads"),
-        ("reserved", _U64 * 3),
-    ]
-
-
-class _Span(ctypes.Structure):
-    _fields_ = _fields(_SIZE, "at length")
-
-
-class _Step(ctypes.Structure):
-    _fields_ = _fields(_U32, "kind number")
-
-
-class _Path(ctypes.Structure):
-    _fields_ = [*_fields(_U32, "count reserved"), ("steps", _Step * STEPS)]
-
+class _Path(header.Path):
     def numbers(self) -> list:
         """The kind and the number of each step."""
-        return list(struct.iter_unpack("2I", bytes(self.steps)[: 8 * self.count]))
+        return [(step.kind, step.number) for step in self.steps[: self.count]]
 
 
-class _Value(ctypes.Structure):
-    _fields_ = [
-        *_fields(_U32, "kind reserved"),
-        ("number", _U64),
-        ("integer", ctypes.c_int64),
-        *_fields(_U64, "at size"),
-    ]
-
-
-class _Framer(ctypes.Structure):
-    _fields_ = [("held", _SIZE), *_fields(_U32, "failed declared")]
+_Verdict, _Span, _Step, _Value, _Framer = header.Verdict, header.Span, header.Step, header.Value, header.Framer
 
 
 def _numbers(of) -> struct.Struct:
@@ -196,33 +88,7 @@ def _told(verdict: _Verdict) -> Verdict:
 @functools.cache
 def _library():
     found = ctypes.CDLL(os.environ.get("FBCHECK_LIBRARY") or "libfbcheck.so.1")
-    options, verdict, span, framer, path, value, byte, size, reads = (
-        ctypes.POINTER(of) for of in (Options, _Verdict, _Span, _Framer, _Path, _Value, _U8, _SIZE, _U64)
-    )
-    schema = scratch = ctypes.c_void_p
-    text, room = [ctypes.c_char_p, _SIZE], [byte, _SIZE]
-    for result, name, words in [
-        (schema, "fbcheck_schema_new", [*text, options, verdict]),
-        (None, "fbcheck_schema_free", [schema]),
-        (scratch, "fbcheck_scratch_new", [_U32]),
-        (None, "fbcheck_scratch_free", [scratch]),
-        (_U32, "fbcheck_table", [schema, *text]),
-        (_U32, "fbcheck_verify", [schema, scratch, options, *text, verdict]),
-        (_U32, "fbcheck_verify_each", [schema, scratch, options, *text, span, verdict, _SIZE]),
-        (_U32, "fbcheck_locate", [schema, scratch, options, *text, *text, size, verdict]),
-        (_U32, "fbcheck_most_reads", [schema, options, _U64, reads]),
-        (_U32, "fbcheck_framer_feed", [framer, *room, *text, size]),
-        (_U32, "fbcheck_framer_next", [framer, *room]),
-        (_U32, "fbcheck_framer_finish", [framer, *room]),
-        (_U32, "fbcheck_resolve", [schema, options, *text, path, verdict]),
-        (_U32, "fbcheck_read", [schema, scratch, options, *text, path, value, _SIZE, verdict]),
-        (_SIZE, "fbcheck_reason_name", [_U32, *text]),
-        (_SIZE, "fbcheck_fault_name", [_U32, _U32, *text]),
-        (_SIZE, "fbcheck_status_text", [_U32, *text]),
-        (_SIZE, "fbcheck_object_name", [schema, _U32, *text]),
-        (_SIZE, "fbcheck_field_name", [schema, _U32, _U32, *text]),
-        (_U32, "fbcheck_version", []),
-    ]:
+    for result, name, words in header.CALLS:
         call = getattr(found, name)
         call.argtypes, call.restype = words, result
     return found

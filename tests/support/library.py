@@ -1,4 +1,4 @@
-"""The library for C where ./build_c puts it, and how programs are made with it.
+"""The library for C where scripts/build_c puts it, and how programs are made with it.
 
 python3 -m tests runs the files that name this one once the library is there.
 """
@@ -35,7 +35,7 @@ class LibraryCase(Case):
 
     @classmethod
     def setUpClass(cls):
-        subprocess.run([TOP / "build_c"], check=True)
+        subprocess.run([TOP / "scripts/build_c"], check=True)
 
     def compiled(self, name, source, *words, compiler="cc", standard="-std=gnu99"):
         """The program that a source is compiled to."""

@@ -5,30 +5,28 @@ otherwise is held against the same cases. Expected values are worked out by hand
 from what the program says.
 """
 
-import atexit
 import fcntl
-import importlib.machinery
-import importlib.util
 import os
 import pathlib
 import resource
 import select
-import shutil
 import signal
 import struct
 import subprocess
 import sys
-import tempfile
 import termios
 import time
 import tty
 import typing
+import unittest
 
-TOP = pathlib.Path(__file__).resolve().parents[2]
+from tests.support.clone import FOLDER, TOP, file_of, loaded  # noqa: F401  (whoever asks the program takes these here)
+
 PROGRAM = pathlib.Path(os.environ.get("FBCHECK_PROGRAM") or TOP / "crates/fbcheck/out/fbcheck")
 SECONDS = 60
+IS_PACKAGED = False  # whether the program is all that is there (python3 -m tests --packaged)
 if not os.access(PROGRAM, os.X_OK):
-    print(f"no program at {PROGRAM}: ./build fbcheck builds it", file=sys.stderr)
+    print(f"no program at {PROGRAM}: scripts/build fbcheck builds it", file=sys.stderr)
 
 
 # What is told of a schema file that is empty, and of one that is none.
@@ -170,29 +168,12 @@ def unschemed(*told):
     return Ran(1, lines(*told), lines(f"fbcheck: no message was good: {UNSCHEMED}"))
 
 
-FOLDER = pathlib.Path(tempfile.mkdtemp(prefix="fbcheck-tests-"))
-atexit.register(shutil.rmtree, FOLDER, ignore_errors=True)
-
-
 def built(crate):
-    """The program of a crate, which ./build builds where it's stale."""
-    told = subprocess.run([TOP / "build", crate], stdout=subprocess.PIPE, text=True, check=True)
+    """The program of a crate, which scripts/build builds where it's stale."""
+    if IS_PACKAGED:
+        raise unittest.SkipTest(f"{crate} is in no package")
+    told = subprocess.run([TOP / "scripts/build", crate], stdout=subprocess.PIPE, text=True, check=True)
     return pathlib.Path(told.stdout.strip())
-
-
-def loaded(path):
-    """A script as a module."""
-    loader = importlib.machinery.SourceFileLoader(path.stem, str(path))
-    module = importlib.util.module_from_spec(importlib.util.spec_from_loader(path.stem, loader))
-    loader.exec_module(module)
-    return module
-
-
-def file_of(name, data):
-    """The path of a new file with these bytes, in a folder that is gone after the tests."""
-    path = FOLDER / name
-    path.write_bytes(data)
-    return path
 
 
 class Talk:

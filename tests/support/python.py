@@ -7,7 +7,7 @@ from tests.support.program import FOLDER, TOP
 
 
 def package(python=sys.executable):
-    """The folder with the package as this interpreter imports it, built on the library that ./build_c made."""
+    """The folder with the package as this interpreter imports it, built on the library that scripts/build_c made."""
     made = FOLDER / f"python-{str(python).strip('/').replace('/', '-')}"
     if not made.exists():
         ran = subprocess.run([python, "-B", TOP / "bindings/python/backend.py", made], capture_output=True, text=True,

@@ -16,6 +16,7 @@ class Scripts:
         for tool in tools:
             (self.bin / tool).symlink_to(shutil.which(tool))
         for script in scripts:
+            (self.top / script).parent.mkdir(exist_ok=True)
             shutil.copy(TOP / script, self.top / script)
 
     def write(self, name, text):
@@ -31,5 +32,5 @@ class Scripts:
         """How a call of a script ends."""
         environment = {"PATH": str(path or self.bin), **environment}
         ran = subprocess.run([self.top / script, *words], input=given, capture_output=True, cwd=folder,
-                             env=environment, timeout=60)
+                             env=environment, timeout=300)
         return Ran(ran.returncode, ran.stdout, ran.stderr)

@@ -23,8 +23,7 @@
 #define SHORT_MESSAGE 2048
 #define FEW_READS 64
 
-/* The longest place of a fault, and how long a name is without memory of its own. */
-#define LONGEST_PLACE 4098
+/* How long a name is without memory of its own. */
 #define SHORT_NAME 128
 
 /* The longest message. */
@@ -367,7 +366,7 @@ static PyObject *judged(Schema *self, const fbcheck_verdict *told, const char *p
 /* The verdict on a message that begin() took. */
 static PyObject *located(Schema *self, Check *check)
 {
-    char place[LONGEST_PLACE];
+    char place[FBCHECK_LONGEST_PLACE];
     size_t length = 0;
     fbcheck_verdict told;
     uint32_t status = fbcheck_locate(self->schema, check->scratch, &self->options, check->bytes,
@@ -613,17 +612,6 @@ static PyType_Spec framer_spec = {
 
 /* ---- the module ---- */
 
-/* The numbers of fbcheck.h that the package tells apart. */
-#define NUMBER(name) { #name, FBCHECK_##name }
-static const struct {
-    const char *name;
-    uint32_t number;
-} numbers[] = {
-    NUMBER(NONE),      NUMBER(TABLE),           NUMBER(UNION),      NUMBER(NO_IDENT),        NUMBER(NO_ROOT),
-    NUMBER(TOO_LONG),  NUMBER(NOT_WELL_FORMED), NUMBER(BAD_SCHEMA), NUMBER(ROOT_NOT_LISTED), NUMBER(NO_MEMORY),
-    NUMBER(OVERSIZE),  NUMBER(BAD_PATH),        NUMBER(NO_ROOM),    NUMBER(MISFIT),          NUMBER(TOO_MUCH_SHARED),
-};
-
 static int module_exec(PyObject *module)
 {
     PyType_Spec *const specs[] = { &verdict_spec, &schema_spec, &framer_spec };
@@ -641,9 +629,6 @@ static int module_exec(PyObject *module)
         if (answer != 0)
             return -1;
     }
-    for (at = 0; at < sizeof numbers / sizeof *numbers; at++)
-        if (PyModule_AddIntConstant(module, numbers[at].name, numbers[at].number) != 0)
-            return -1;
     return 0;
 }
 

@@ -1,17 +1,22 @@
+// made from fbcheck.h by bindings/make; don't edit
 //! The library for C as its header `fbcheck.h` declares it.
+#![allow(dead_code)]
 
 use std::ffi::c_char;
 
 pub const VERSION: u32 = 1;
-pub const NONE: u32 = u32::MAX;
-pub const NO_TABLE: u32 = u32::MAX - 1;
-/// The greatest depth for which a check needs no scratch.
 pub const DEEP: u32 = 64;
-/// The greatest depth of all.
 pub const DEEPEST: u32 = 4096;
+pub const NONE: u32 = 0xffffffff;
+pub const NO_TABLE: u32 = 0xfffffffe;
+pub const STEPS: u32 = 31;
+pub const LONGEST_PLACE: u32 = 4098;
 
+// enum fbcheck_status
 pub const OK: u32 = 0;
 pub const BAD: u32 = 1;
+pub const NULL: u32 = 2;
+pub const UNKNOWN_OPTIONS: u32 = 3;
 pub const OUT_OF_RANGE: u32 = 4;
 pub const NO_IDENT: u32 = 5;
 pub const NO_ROOT: u32 = 6;
@@ -20,11 +25,72 @@ pub const NOT_WELL_FORMED: u32 = 8;
 pub const BAD_SCHEMA: u32 = 9;
 pub const ROOT_NOT_LISTED: u32 = 10;
 pub const NO_MEMORY: u32 = 11;
+pub const NO_SPAN: u32 = 12;
 pub const MORE: u32 = 13;
 pub const OVERSIZE: u32 = 14;
+pub const TRUNCATED: u32 = 15;
+pub const FAILED: u32 = 16;
 pub const BAD_PATH: u32 = 17;
 pub const NO_ROOM: u32 = 18;
+pub const MISFIT: u32 = 19;
 pub const TOO_MUCH_SHARED: u32 = 20;
+
+// enum fbcheck_reason
+pub const WRONG_PREFIX: u32 = 1;
+pub const OUT_OF_BUFFER: u32 = 2;
+pub const MISALIGNED: u32 = 3;
+pub const ZERO_OFFSET: u32 = 4;
+pub const WRONG_IDENTIFIER: u32 = 5;
+pub const TOO_DEEP: u32 = 6;
+pub const TOO_MANY_TABLES: u32 = 7;
+pub const BAD_VTABLE: u32 = 8;
+pub const MISSING_REQUIRED: u32 = 9;
+pub const NO_TERMINATOR: u32 = 10;
+pub const LENGTHS_DIFFER: u32 = 11;
+pub const PAST_TABLE: u32 = 12;
+pub const TOO_MANY_READS: u32 = 13;
+
+// enum fbcheck_code
+pub const NO_SUCH_OBJECT: u32 = 1;
+pub const NO_SUCH_ENUM: u32 = 2;
+pub const UNSUPPORTED: u32 = 3;
+pub const BAD_SLOT: u32 = 4;
+pub const NO_TYPE_FIELD: u32 = 5;
+pub const BAD_STRUCT: u32 = 6;
+pub const BAD_MEMBER: u32 = 7;
+pub const NAME_TWICE: u32 = 8;
+
+// enum fbcheck_path_fault
+pub const BAD_TEXT: u32 = 1;
+pub const NO_SUCH_FIELD: u32 = 2;
+pub const NOT_INDEXABLE: u32 = 3;
+pub const NOT_A_UNION: u32 = 4;
+pub const NO_SUCH_MEMBER: u32 = 5;
+pub const NOT_A_TABLE: u32 = 6;
+
+// enum fbcheck_kind
+pub const ABSENT: u32 = 0;
+pub const NO_ELEMENT: u32 = 1;
+pub const OTHER_MEMBER: u32 = 2;
+pub const BOOL: u32 = 3;
+pub const INT: u32 = 4;
+pub const UINT: u32 = 5;
+pub const FLOAT: u32 = 6;
+pub const TEXT: u32 = 7;
+pub const STRUCT: u32 = 8;
+pub const VECTOR: u32 = 9;
+pub const TABLE: u32 = 10;
+pub const UNION: u32 = 11;
+
+// enum fbcheck_ident
+pub const IDENT_ANY: u32 = 0;
+pub const IDENT_THIS: u32 = 1;
+pub const IDENT_OWN: u32 = 2;
+
+// enum fbcheck_step_kind
+pub const STEP_FIELD: u32 = 1;
+pub const STEP_ELEMENT: u32 = 2;
+pub const STEP_MEMBER: u32 = 3;
 
 /// `fbcheck_schema`
 #[repr(C)]
@@ -39,7 +105,7 @@ pub struct Scratch {
 }
 
 /// `fbcheck_options`
-#[derive(Clone, Copy, Debug)]
+#[derive(Clone, Copy, Debug, Default)]
 #[repr(C)]
 pub struct Options {
     pub version: u32,
@@ -57,9 +123,9 @@ pub struct Options {
 }
 
 /// `FBCHECK_OPTIONS_INIT`
-pub const OPTIONS: Options = Options {
-    version: VERSION,
-    root: NONE,
+pub const OPTIONS_INIT: Options = Options {
+    version: 1,
+    root: 0xffffffff,
     max_reads: 100_000_000,
     max_depth: 64,
     max_tables: 1_000_000,
@@ -73,7 +139,7 @@ pub const OPTIONS: Options = Options {
 };
 
 /// `fbcheck_verdict`
-#[derive(Clone, Copy, Default)]
+#[derive(Clone, Copy, Debug, Default)]
 #[repr(C)]
 pub struct Verdict {
     pub status: u32,
@@ -87,8 +153,16 @@ pub struct Verdict {
     pub reserved: [u64; 3],
 }
 
+/// `fbcheck_span`
+#[derive(Clone, Copy, Debug, Default)]
+#[repr(C)]
+pub struct Span {
+    pub at: usize,
+    pub length: usize,
+}
+
 /// `fbcheck_framer`
-#[derive(Debug, Default)]
+#[derive(Clone, Copy, Debug, Default)]
 #[repr(C)]
 pub struct Framer {
     pub held: usize,
@@ -96,17 +170,32 @@ pub struct Framer {
     pub declared: u32,
 }
 
+/// `FBCHECK_FRAMER_INIT`
+pub const FRAMER_INIT: Framer = Framer {
+    held: 0,
+    failed: 0,
+    declared: 0,
+};
+
+/// `fbcheck_step`
+#[derive(Clone, Copy, Debug, Default)]
+#[repr(C)]
+pub struct Step {
+    pub kind: u32,
+    pub number: u32,
+}
+
 /// `fbcheck_path`
-#[derive(Clone, Copy, Debug)]
+#[derive(Clone, Copy, Debug, Default)]
 #[repr(C)]
 pub struct Path {
     pub count: u32,
     pub reserved: u32,
-    pub steps: [[u32; 2]; 31],
+    pub steps: [Step; 31],
 }
 
 /// `fbcheck_value`
-#[derive(Clone, Copy, Default)]
+#[derive(Clone, Copy, Debug, Default)]
 #[repr(C)]
 pub struct Value {
     pub kind: u32,
@@ -117,8 +206,19 @@ pub struct Value {
     pub size: u64,
 }
 
+/// `fbcheck_sizes`
+#[derive(Clone, Copy, Debug, Default)]
+#[repr(C)]
+pub struct Sizes {
+    pub options: usize,
+    pub verdict: usize,
+    pub span: usize,
+    pub framer: usize,
+    pub path: usize,
+    pub value: usize,
+}
+
 extern "C" {
-    pub fn fbcheck_version() -> u32;
     pub fn fbcheck_schema_new(
         file: *const u8,
         length: usize,
@@ -129,6 +229,24 @@ extern "C" {
     pub fn fbcheck_scratch_new(depth: u32) -> *mut Scratch;
     pub fn fbcheck_scratch_free(scratch: *mut Scratch);
     pub fn fbcheck_table(schema: *const Schema, name: *const c_char, length: usize) -> u32;
+    pub fn fbcheck_verify(
+        schema: *const Schema,
+        scratch: *mut Scratch,
+        options: *const Options,
+        buffer: *const u8,
+        length: usize,
+        verdict: *mut Verdict,
+    ) -> u32;
+    pub fn fbcheck_verify_each(
+        schema: *const Schema,
+        scratch: *mut Scratch,
+        options: *const Options,
+        block: *const u8,
+        length: usize,
+        spans: *const Span,
+        verdicts: *mut Verdict,
+        count: usize,
+    ) -> u32;
     pub fn fbcheck_locate(
         schema: *const Schema,
         scratch: *mut Scratch,
@@ -166,6 +284,8 @@ extern "C" {
         reads: *mut u64,
     ) -> u32;
     pub fn fbcheck_fault_name(status: u32, reason: u32, text: *mut c_char, room: usize) -> usize;
+    pub fn fbcheck_reason_name(reason: u32, text: *mut c_char, room: usize) -> usize;
+    pub fn fbcheck_status_text(status: u32, text: *mut c_char, room: usize) -> usize;
     pub fn fbcheck_object_name(
         schema: *const Schema,
         object: u32,
@@ -189,4 +309,7 @@ extern "C" {
     ) -> u32;
     pub fn fbcheck_framer_next(framer: *mut Framer, room: *const u8, size: usize) -> u32;
     pub fn fbcheck_framer_finish(framer: *mut Framer, room: *const u8, size: usize) -> u32;
+    pub fn fbcheck_options_init(options: *mut Options) -> u32;
+    pub fn fbcheck_version() -> u32;
+    pub fn fbcheck_struct_sizes(sizes: *mut Sizes) -> u32;
 }

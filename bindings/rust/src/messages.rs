@@ -42,7 +42,7 @@ impl<R: Read> Messages<R> {
             schema,
             reader,
             max_bytes: 64 << 20,
-            framer: calls::Framer::default(),
+            framer: calls::FRAMER_INIT,
             room: Vec::new(),
             piece: vec![0; PIECE],
             at: 0,

@@ -24,7 +24,7 @@ impl Options {
     pub fn new() -> Options {
         Options {
             root: None,
-            asked: calls::OPTIONS,
+            asked: calls::OPTIONS_INIT,
         }
     }
 
@@ -68,13 +68,14 @@ impl Options {
 
     /// This file identifier, whatever the schema declares.
     pub fn ident(mut self, ident: [u8; 4]) -> Options {
-        (self.asked.ident, self.asked.ident_from) = (ident, 1);
+        self.asked.ident = ident;
+        self.asked.ident_from = calls::IDENT_THIS as u8;
         self
     }
 
     /// The schema's own file identifier, as generated verifiers ask; any where it declares none.
     pub fn own_ident(mut self) -> Options {
-        self.asked.ident_from = 2;
+        self.asked.ident_from = calls::IDENT_OWN as u8;
         self
     }
 

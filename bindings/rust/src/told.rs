@@ -3,6 +3,7 @@
 use std::fmt;
 
 use crate::calls;
+use crate::reason::{Reason, REASONS};
 
 /// What a check tells of a message.
 pub type Verdict = Result<Report, Fault>;
@@ -38,58 +39,6 @@ impl fmt::Display for Report {
         write!(to, "tables={tables} depth={depth} reads={reads}")
     }
 }
-
-/// Why a message is refused.
-#[derive(Clone, Copy, Debug, PartialEq, Eq, Hash)]
-#[non_exhaustive]
-pub enum Reason {
-    /// The message has 2^31 bytes or more. Nothing of it was read.
-    TooLong = 0,
-    /// The prefix isn't the number of bytes after it.
-    WrongPrefix = 1,
-    /// What should be read doesn't lie in the message.
-    OutOfBuffer = 2,
-    /// The position isn't a multiple of the alignment.
-    Misaligned = 3,
-    /// An offset is 0.
-    ZeroOffset = 4,
-    /// The file identifier isn't the one asked for.
-    WrongIdentifier = 5,
-    /// One table more than [`max_depth`](crate::Options::max_depth) allows.
-    TooDeep = 6,
-    /// One table more than [`max_tables`](crate::Options::max_tables) allows.
-    TooManyTables = 7,
-    /// A vtable's size is odd or below 4.
-    BadVtable = 8,
-    /// A required field is absent.
-    MissingRequired = 9,
-    /// The byte after a string isn't 0.
-    NoTerminator = 10,
-    /// A vector of unions and its vector of types differ in length.
-    LengthsDiffer = 11,
-    /// A field ends past its table's inline size.
-    PastTable = 12,
-    /// More reads were counted than the options allow.
-    TooManyReads = 13,
-}
-
-/// The reasons by their numbers.
-const REASONS: [Reason; 14] = [
-    Reason::TooLong,
-    Reason::WrongPrefix,
-    Reason::OutOfBuffer,
-    Reason::Misaligned,
-    Reason::ZeroOffset,
-    Reason::WrongIdentifier,
-    Reason::TooDeep,
-    Reason::TooManyTables,
-    Reason::BadVtable,
-    Reason::MissingRequired,
-    Reason::NoTerminator,
-    Reason::LengthsDiffer,
-    Reason::PastTable,
-    Reason::TooManyReads,
-];
 
 impl Reason {
     /// The number of its code: 10 for `V10`.
@@ -191,18 +140,18 @@ impl<'m> Value<'m> {
     pub(crate) fn of(value: &calls::Value, message: &'m [u8]) -> Value<'m> {
         let bytes = &message[value.at as usize..][..value.size as usize];
         match value.kind {
-            0 => Value::Absent,
-            1 => Value::NoElement,
-            2 => Value::OtherMember,
-            3 => Value::Bool(value.number != 0),
-            4 => Value::Int(value.integer),
-            5 => Value::UInt(value.number),
-            6 => Value::Float(float(bytes)),
-            7 => Value::Text(bytes),
-            8 => Value::Struct(bytes),
-            9 => Value::Vector(value.number, bytes),
-            10 => Value::Table,
-            11 => Value::Union(value.number),
+            calls::ABSENT => Value::Absent,
+            calls::NO_ELEMENT => Value::NoElement,
+            calls::OTHER_MEMBER => Value::OtherMember,
+            calls::BOOL => Value::Bool(value.number != 0),
+            calls::INT => Value::Int(value.integer),
+            calls::UINT => Value::UInt(value.number),
+            calls::FLOAT => Value::Float(float(bytes)),
+            calls::TEXT => Value::Text(bytes),
+            calls::STRUCT => Value::Struct(bytes),
+            calls::VECTOR => Value::Vector(value.number, bytes),
+            calls::TABLE => Value::Table,
+            calls::UNION => Value::Union(value.number),
             kind => unreachable!("fbcheck tells no kind {kind}"),
         }
     }
@@ -248,7 +197,7 @@ pub enum Error {
     NotWellFormed(Fault),
     /// Its rows are no schema.
     BadSchema {
-        /// The number of the code: 1 to 8 for `C1` to `C8`.
+        /// The number of the code: 2 for `C2`.
         code: u32,
         /// The number of the object or enum.
         owner: u32,
@@ -273,7 +222,7 @@ pub enum Error {
     OutOfRange,
     /// The text is no path of the schema.
     BadPath {
-        /// The number of the code: 1 to 6 for `P1` to `P6`.
+        /// The number of the code: 2 for `P2`.
         code: u32,
         /// With `P1` the place in the text, else the number of the step.
         at: u64,
@@ -338,14 +287,16 @@ impl fmt::Display for Error {
             Error::NoRoot => write!(to, "no root table"),
             Error::NoSuchRoot(ref name) => write!(to, "no root table ({name:?})"),
             Error::NoIdent => write!(to, "the schema's identifier isn't four bytes"),
-            Error::OutOfRange => write!(to, "max_depth is above 4096"),
+            Error::OutOfRange => write!(to, "max_depth is above {}", calls::DEEPEST),
             Error::BadPath { code, at, ref path } => {
                 let name = fault_name(calls::BAD_PATH, code);
-                let at_or_step = if code == 1 { "at" } else { "step" };
+                let is_text = code == calls::BAD_TEXT;
+                let at_or_step = if is_text { "at" } else { "step" };
                 write!(to, "path: {name} {at_or_step}={at} ({path:?})")
             }
             Error::TooManySteps(ref path) => {
-                write!(to, "the path has more than 31 steps ({path:?})")
+                let steps = calls::STEPS;
+                write!(to, "the path has more than {steps} steps ({path:?})")
             }
         }
     }

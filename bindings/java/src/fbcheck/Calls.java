@@ -1,9 +1,5 @@
 package fbcheck;
 
-import static java.lang.foreign.ValueLayout.ADDRESS;
-import static java.lang.foreign.ValueLayout.JAVA_INT;
-import static java.lang.foreign.ValueLayout.JAVA_LONG;
-
 import java.io.IOException;
 import java.io.InputStream;
 import java.io.UncheckedIOException;
@@ -20,68 +16,38 @@ import java.nio.file.StandardCopyOption;
 import java.util.Optional;
 
 /**
- * The library for C, as its header {@code fbcheck.h} declares it. The system property {@code fbcheck.library} names the
- * file libfbcheck.so.1; else it is the one in the jar, or else it is looked for where the system looks.
+ * The calls of the library for C, which take what {@link Codes} says. The system property {@code fbcheck.library} names
+ * the file libfbcheck.so.1; else it is the one in the jar, or else it is looked for where the system looks.
  *
  * <p>Calls are critical ones, so that arrays of Java are read where they are; a garbage collection waits for them.
  */
 @SuppressWarnings("restricted") // the calls of another language
 final class Calls {
-    static final int VERSION = 1;
-    static final int NONE = -1;
-    static final int NO_TABLE = -2;
-    static final int DEEP = 64;
-    static final int DEEPEST = 4096;
-
-    static final int OK = 0;
-    static final int BAD = 1;
-    static final int TOO_LONG = 7;
-    static final int MORE = 13;
-
-    static final int OPTIONS_BYTES = 64;
-    static final int VERDICT_LONGS = 8;
-    static final int FRAMER_LONGS = 2;
-    static final int PATH_LONGS = 32;
-    static final int VALUE_LONGS = 5;
-
     private static final Linker LINKER = Linker.nativeLinker();
     private static final String NAME = "libfbcheck.so.1";
     private static final SymbolLookup LIBRARY = library(System.getProperty("fbcheck.library"));
     private static final Linker.Option CRITICAL = Linker.Option.critical(true);
 
-    private static final FunctionDescriptor LOCATE_WORDS = FunctionDescriptor.of(JAVA_INT, ADDRESS, ADDRESS, ADDRESS,
-            ADDRESS, JAVA_LONG, ADDRESS, JAVA_LONG, ADDRESS, ADDRESS);
-    private static final MethodHandle LOCATE = call("fbcheck_locate", LOCATE_WORDS, CRITICAL);
-    private static final MethodHandle LOCATE_LONG = call("fbcheck_locate", LOCATE_WORDS);
-    private static final MethodHandle READ = call("fbcheck_read", FunctionDescriptor.of(JAVA_INT, ADDRESS, ADDRESS,
-            ADDRESS, ADDRESS, JAVA_LONG, ADDRESS, ADDRESS, JAVA_LONG, ADDRESS), CRITICAL);
-    private static final MethodHandle RESOLVE = call("fbcheck_resolve",
-            FunctionDescriptor.of(JAVA_INT, ADDRESS, ADDRESS, ADDRESS, JAVA_LONG, ADDRESS, ADDRESS), CRITICAL);
-    private static final MethodHandle TABLE =
-            call("fbcheck_table", FunctionDescriptor.of(JAVA_INT, ADDRESS, ADDRESS, JAVA_LONG), CRITICAL);
-    private static final MethodHandle MOST_READS = call("fbcheck_most_reads",
-            FunctionDescriptor.of(JAVA_INT, ADDRESS, ADDRESS, JAVA_LONG, ADDRESS), CRITICAL);
-    private static final MethodHandle FAULT_NAME = call("fbcheck_fault_name",
-            FunctionDescriptor.of(JAVA_LONG, JAVA_INT, JAVA_INT, ADDRESS, JAVA_LONG), CRITICAL);
-    private static final MethodHandle OBJECT_NAME = call("fbcheck_object_name",
-            FunctionDescriptor.of(JAVA_LONG, ADDRESS, JAVA_INT, ADDRESS, JAVA_LONG), CRITICAL);
-    private static final MethodHandle FIELD_NAME = call("fbcheck_field_name",
-            FunctionDescriptor.of(JAVA_LONG, ADDRESS, JAVA_INT, JAVA_INT, ADDRESS, JAVA_LONG), CRITICAL);
-    private static final MethodHandle SCHEMA_NEW = call("fbcheck_schema_new",
-            FunctionDescriptor.of(ADDRESS, ADDRESS, JAVA_LONG, ADDRESS, ADDRESS), CRITICAL);
-    private static final MethodHandle SCHEMA_FREE = call("fbcheck_schema_free", FunctionDescriptor.ofVoid(ADDRESS));
-    private static final MethodHandle SCRATCH_NEW =
-            call("fbcheck_scratch_new", FunctionDescriptor.of(ADDRESS, JAVA_INT));
-    private static final MethodHandle SCRATCH_FREE = call("fbcheck_scratch_free", FunctionDescriptor.ofVoid(ADDRESS));
-    private static final MethodHandle FEED = call("fbcheck_framer_feed",
-            FunctionDescriptor.of(JAVA_INT, ADDRESS, ADDRESS, JAVA_LONG, ADDRESS, JAVA_LONG, ADDRESS), CRITICAL);
-    private static final MethodHandle FINISH =
-            call("fbcheck_framer_finish", FunctionDescriptor.of(JAVA_INT, ADDRESS, ADDRESS, JAVA_LONG), CRITICAL);
+    private static final MethodHandle LOCATE = call("fbcheck_locate", Codes.LOCATE_WORDS, CRITICAL);
+    private static final MethodHandle LOCATE_LONG = call("fbcheck_locate", Codes.LOCATE_WORDS);
+    private static final MethodHandle READ = call("fbcheck_read", Codes.READ_WORDS, CRITICAL);
+    private static final MethodHandle RESOLVE = call("fbcheck_resolve", Codes.RESOLVE_WORDS, CRITICAL);
+    private static final MethodHandle TABLE = call("fbcheck_table", Codes.TABLE_WORDS, CRITICAL);
+    private static final MethodHandle MOST_READS = call("fbcheck_most_reads", Codes.MOST_READS_WORDS, CRITICAL);
+    private static final MethodHandle FAULT_NAME = call("fbcheck_fault_name", Codes.FAULT_NAME_WORDS, CRITICAL);
+    private static final MethodHandle OBJECT_NAME = call("fbcheck_object_name", Codes.OBJECT_NAME_WORDS, CRITICAL);
+    private static final MethodHandle FIELD_NAME = call("fbcheck_field_name", Codes.FIELD_NAME_WORDS, CRITICAL);
+    private static final MethodHandle SCHEMA_NEW = call("fbcheck_schema_new", Codes.SCHEMA_NEW_WORDS, CRITICAL);
+    private static final MethodHandle SCHEMA_FREE = call("fbcheck_schema_free", Codes.SCHEMA_FREE_WORDS);
+    private static final MethodHandle SCRATCH_NEW = call("fbcheck_scratch_new", Codes.SCRATCH_NEW_WORDS);
+    private static final MethodHandle SCRATCH_FREE = call("fbcheck_scratch_free", Codes.SCRATCH_FREE_WORDS);
+    private static final MethodHandle FEED = call("fbcheck_framer_feed", Codes.FRAMER_FEED_WORDS, CRITICAL);
+    private static final MethodHandle FINISH = call("fbcheck_framer_finish", Codes.FRAMER_FINISH_WORDS, CRITICAL);
 
     static {
-        MethodHandle version = call("fbcheck_version", FunctionDescriptor.of(JAVA_INT));
+        MethodHandle version = call("fbcheck_version", Codes.VERSION_WORDS);
         int found = told(() -> (int) version.invokeExact());
-        if (found != VERSION) {
+        if (found != Codes.VERSION) {
             throw new LinkageError("another libfbcheck was found: its version is " + found);
         }
     }

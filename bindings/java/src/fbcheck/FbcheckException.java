@@ -7,37 +7,37 @@ public class FbcheckException extends RuntimeException {
     /** Why a call couldn't be served: the statuses of {@code fbcheck.h}. */
     public enum Status {
         /** A message was refused: {@link BadBufferException} has the verdict. */
-        BAD(1, ""),
+        BAD(Codes.BAD, ""),
         /** {@link Options#maxDepth} is above 4,096. */
-        OUT_OF_RANGE(4, "maxDepth is above 4096"),
+        OUT_OF_RANGE(Codes.OUT_OF_RANGE, "maxDepth is above " + Codes.DEEPEST),
         /** The schema's own identifier was asked for, and it has some bytes, but not 4. */
-        NO_IDENT(5, "the schema's identifier isn't four bytes"),
+        NO_IDENT(Codes.NO_IDENT, "the schema's identifier isn't four bytes"),
         /** The schema has no root table of its own, or none of the name that was asked for. */
-        NO_ROOT(6, "no root table"),
+        NO_ROOT(Codes.NO_ROOT, "no root table"),
         /** The schema file has 2^31 bytes or more. */
-        TOO_LONG(7, "schema: L5 TooLong"),
+        TOO_LONG(Codes.TOO_LONG, "schema: L5 TooLong"),
         /** The file is no binary schema, or a damaged one. */
-        NOT_WELL_FORMED(8, ""),
+        NOT_WELL_FORMED(Codes.NOT_WELL_FORMED, ""),
         /** Its rows are no schema. */
-        BAD_SCHEMA(9, ""),
+        BAD_SCHEMA(Codes.BAD_SCHEMA, ""),
         /** Its root table isn't listed in it. */
-        ROOT_NOT_LISTED(10, "schema: L3 RootNotListed"),
+        ROOT_NOT_LISTED(Codes.ROOT_NOT_LISTED, "schema: L3 RootNotListed"),
         /** Memory was refused. */
-        NO_MEMORY(11, "out of memory"),
+        NO_MEMORY(Codes.NO_MEMORY, "out of memory"),
         /** A message of the stream is longer than is allowed. */
-        OVERSIZE(14, ""),
+        OVERSIZE(Codes.OVERSIZE, ""),
         /** The stream ends inside a message. */
-        TRUNCATED(15, ""),
+        TRUNCATED(Codes.TRUNCATED, ""),
         /** The stream has failed before. */
-        FAILED(16, "stream: S4 Failed"),
+        FAILED(Codes.FAILED, "stream: S4 Failed"),
         /** The text is no path of the schema. */
-        BAD_PATH(17, ""),
+        BAD_PATH(Codes.BAD_PATH, ""),
         /** The path has more than 31 steps. */
-        TOO_MANY_STEPS(18, "the path has more than 31 steps"),
+        TOO_MANY_STEPS(Codes.NO_ROOM, "the path has more than " + Codes.STEPS + " steps"),
         /** A path is none of this schema from this root. */
-        MISFIT(19, "a path is none of this schema from this root"),
+        MISFIT(Codes.MISFIT, "a path is none of this schema from this root"),
         /** The schema file has more rows, or longer names, than its length pays for. */
-        TOO_MUCH_SHARED(20, "schema: L6 TooMuchShared");
+        TOO_MUCH_SHARED(Codes.TOO_MUCH_SHARED, "schema: L6 TooMuchShared");
 
         private final int number;
         private final String text;
@@ -84,8 +84,8 @@ public class FbcheckException extends RuntimeException {
                     + NO_SCHEMA;
             case BAD_SCHEMA -> "schema: L2 " + Calls.faultName(status.number, code) + " owner=" + Told.object(told)
                     + " part=" + Told.dash(Told.field(told));
-            case BAD_PATH -> "path: " + Calls.faultName(status.number, code) + (code == 1 ? " at=" : " step=")
-                    + Told.at(told);
+            case BAD_PATH -> "path: " + Calls.faultName(status.number, code)
+                    + (code == Codes.BAD_TEXT ? " at=" : " step=") + Told.at(told);
             default -> status.text;
         }));
     }

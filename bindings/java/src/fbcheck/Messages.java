@@ -70,7 +70,7 @@ public final class Messages implements Iterable<Messages.Message>, Iterator<Mess
         try {
             while (next == null) {
                 if (feed()) {
-                    int length = (int) framer[0];
+                    int length = held();
                     next = new Message(schema, room == small ? Arrays.copyOf(room, length) : room);
                     begin(small);
                 } else if (at == end && !fill()) {
@@ -96,24 +96,29 @@ public final class Messages implements Iterable<Messages.Message>, Iterator<Mess
     /** Begins a message in this room. */
     private void begin(byte[] room) {
         this.room = room;
-        framer = new long[Calls.FRAMER_LONGS];
+        framer = new long[Codes.FRAMER_BYTES / Long.BYTES];
+    }
+
+    /** How many bytes are held of a message. */
+    private int held() {
+        return (int) Told.longAt(framer, Codes.FRAMER_HELD);
     }
 
     /** Feeds what is left of the piece, and tells whether a whole message is held. */
     private boolean feed() {
-        int held = (int) framer[0];
+        int held = held();
         long[] used = {0};
         int status = Calls.feed(MemorySegment.ofArray(framer), MemorySegment.ofArray(room),
                 pieces.asSlice(at, end - at), MemorySegment.ofArray(used));
         at += (int) used[0];
-        if (status == Calls.OK || status == Calls.MORE) {
-            return status == Calls.OK;
+        if (status == Codes.OK || status == Codes.MORE) {
+            return status == Codes.OK;
         }
         FbcheckException.Status why = FbcheckException.Status.of(status);
         if (why != FbcheckException.Status.OVERSIZE) {
             throw FbcheckException.of(why, null);
         }
-        int declared = Told.high(framer[1]);
+        int declared = Told.numberAt(framer, Codes.FRAMER_DECLARED);
         if (Integer.compareUnsigned(declared, maxBytes - 4) > 0) {
             throw new FbcheckException(why, "stream: S1 Oversize declared=" + Integer.toUnsignedString(declared));
         }
@@ -130,8 +135,8 @@ public final class Messages implements Iterable<Messages.Message>, Iterator<Mess
         int length = stream.read(piece, front, piece.length - front);
         at = front;
         end = front + Math.max(length, 0);
-        if (length < 0 && Calls.finish(MemorySegment.ofArray(framer), MemorySegment.ofArray(room)) != Calls.OK) {
-            throw new FbcheckException(FbcheckException.Status.TRUNCATED, "stream: S2 Truncated held=" + framer[0]);
+        if (length < 0 && Calls.finish(MemorySegment.ofArray(framer), MemorySegment.ofArray(room)) != Codes.OK) {
+            throw new FbcheckException(FbcheckException.Status.TRUNCATED, "stream: S2 Truncated held=" + held());
         }
         return length >= 0;
     }

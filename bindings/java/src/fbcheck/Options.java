@@ -27,7 +27,8 @@ public record Options(String root, int maxDepth, int maxTables, long maxReads, i
         boolean ownIdent, boolean prefixed, boolean alignment, boolean inlineSize) {
     /** What is asked unless it's said otherwise. */
     public static final Options DEFAULT =
-            new Options(null, 64, 1_000_000, 100_000_000, 64, null, false, false, true, false);
+            new Options(null, Codes.INIT_MAX_DEPTH, Codes.INIT_MAX_TABLES, Codes.INIT_MAX_READS,
+                    Codes.INIT_READS_PER_BYTE, null, false, false, true, false);
 
     /** Begins at the table of this name. */
     public Options root(String name) {
@@ -95,19 +96,20 @@ public record Options(String root, int maxDepth, int maxTables, long maxReads, i
         if (four.length != 4) {
             throw new IllegalArgumentException("ident must be four bytes");
         }
-        if (Integer.compareUnsigned(maxDepth, Calls.DEEPEST) > 0) {
+        if (Integer.compareUnsigned(maxDepth, Codes.DEEPEST) > 0) {
             throw FbcheckException.of(FbcheckException.Status.OUT_OF_RANGE, null);
         }
-        to.set(JAVA_INT, 0, Calls.VERSION);
-        to.set(JAVA_INT, 4, table);
-        to.set(JAVA_LONG, 8, maxReads);
-        to.set(JAVA_INT, 16, maxDepth);
-        to.set(JAVA_INT, 20, maxTables);
-        to.set(JAVA_INT, 24, readsPerByte);
-        MemorySegment.copy(four, 0, to, JAVA_BYTE, 28, 4);
-        to.set(JAVA_BYTE, 32, (byte) (ownIdent ? 2 : ident == null ? 0 : 1));
-        to.set(JAVA_BYTE, 33, (byte) (prefixed ? 1 : 0));
-        to.set(JAVA_BYTE, 34, (byte) (alignment ? 0 : 1));
-        to.set(JAVA_BYTE, 35, (byte) (inlineSize ? 1 : 0));
+        int from = ownIdent ? Codes.IDENT_OWN : ident == null ? Codes.IDENT_ANY : Codes.IDENT_THIS;
+        to.set(JAVA_INT, Codes.OPTIONS_VERSION, Codes.VERSION);
+        to.set(JAVA_INT, Codes.OPTIONS_ROOT, table);
+        to.set(JAVA_LONG, Codes.OPTIONS_MAX_READS, maxReads);
+        to.set(JAVA_INT, Codes.OPTIONS_MAX_DEPTH, maxDepth);
+        to.set(JAVA_INT, Codes.OPTIONS_MAX_TABLES, maxTables);
+        to.set(JAVA_INT, Codes.OPTIONS_READS_PER_BYTE, readsPerByte);
+        MemorySegment.copy(four, 0, to, JAVA_BYTE, Codes.OPTIONS_IDENT, four.length);
+        to.set(JAVA_BYTE, Codes.OPTIONS_IDENT_FROM, (byte) from);
+        to.set(JAVA_BYTE, Codes.OPTIONS_PREFIXED, (byte) (prefixed ? 1 : 0));
+        to.set(JAVA_BYTE, Codes.OPTIONS_NO_ALIGNMENT, (byte) (alignment ? 0 : 1));
+        to.set(JAVA_BYTE, Codes.OPTIONS_INLINE_SIZE, (byte) (inlineSize ? 1 : 0));
     }
 }

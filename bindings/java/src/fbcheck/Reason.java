@@ -2,11 +2,12 @@ package fbcheck;
 
 /** Why a message is refused, by the number of its code. As a text it is code and name: {@code V10 NoTerminator}. */
 public enum Reason {
-    /** The message has 2^31 bytes or more. Nothing of it was read. */
+    // made from fbcheck.h by bindings/make; don't edit
+    /** The message has 2^31 bytes or more; nothing of it was read. */
     TOO_LONG,
     /** The prefix isn't the number of bytes after it. */
     WRONG_PREFIX,
-    /** What should be read doesn't lie in the message. */
+    /** The data there doesn't lie wholly in the buffer. */
     OUT_OF_BUFFER,
     /** The position isn't a multiple of the alignment. */
     MISALIGNED,
@@ -29,7 +30,9 @@ public enum Reason {
     /** A field ends past its table's inline size. */
     PAST_TABLE,
     /** More reads were counted than the options allow. */
-    TOO_MANY_READS;
+    TOO_MANY_READS,
+    // end of what is made
+    ;
 
     private static final Reason[] ALL = values();
 
@@ -39,6 +42,6 @@ public enum Reason {
 
     @Override
     public String toString() {
-        return this == TOO_LONG ? "TooLong" : Calls.faultName(1, ordinal());
+        return this == TOO_LONG ? "TooLong" : Calls.faultName(Codes.BAD, ordinal());
     }
 }

@@ -13,7 +13,7 @@ final class Room implements AutoCloseable {
     static final int PLACE = 1024;
 
     private static final ThreadLocal<Room> KEPT = new ThreadLocal<>();
-    private static final Room STACK = new Room(Calls.DEEP, MemorySegment.NULL, null, null);
+    private static final Room STACK = new Room(Codes.DEEP, MemorySegment.NULL, null, null);
 
     private final int depth;
     private final MemorySegment scratch;
@@ -30,11 +30,11 @@ final class Room implements AutoCloseable {
     /** Room for a check to this depth on this thread. */
     static Room of(int depth) {
         if (Thread.currentThread().isVirtual()) {
-            return depth <= Calls.DEEP ? STACK : forOnce(depth);
+            return depth <= Codes.DEEP ? STACK : forOnce(depth);
         }
         Room kept = KEPT.get();
         if (kept == null || kept.depth < depth) {
-            int most = Math.max(depth, Calls.DEEP);
+            int most = Math.max(depth, Codes.DEEP);
             kept = new Room(most, Calls.scratchNew(most, Arena.ofAuto()), null, new byte[PLACE]);
             KEPT.set(kept);
         }

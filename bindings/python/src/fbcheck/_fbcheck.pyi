@@ -4,23 +4,6 @@ from _typeshed import ReadableBuffer
 
 import fbcheck
 
-# Numbers of fbcheck.h.
-NONE: int
-TABLE: int
-UNION: int
-NO_IDENT: int
-NO_ROOT: int
-TOO_LONG: int
-NOT_WELL_FORMED: int
-BAD_SCHEMA: int
-ROOT_NOT_LISTED: int
-NO_MEMORY: int
-OVERSIZE: int
-BAD_PATH: int
-NO_ROOM: int
-MISFIT: int
-TOO_MUCH_SHARED: int
-
 class Verdict:
     def __new__(cls, status: int, reason: int, object_number: int, field_number: int, tables: int, depth: int,
                 at: int, reads: int, place: str | None, object: str | None, field: str | None, /) -> Self: ...

@@ -10,6 +10,8 @@ import re
 import struct
 from typing import Final
 
+from fbcheck import _codes
+
 # The base types of reflection.fbs, and the letters of numbers among them.
 _VECTOR: Final = 14
 _OBJECT: Final = 15
@@ -80,7 +82,8 @@ def format_of(file: bytes, root: str | None, path: str, steps: bytes) -> str:
             base, element = element, 0
             continue
         if kind == "@":
-            value = struct.unpack_from("<I", steps, 12 + 8 * at)[0]
+            place = _codes.PATH_STEPS + _codes.STEP_BYTES * at + _codes.STEP_NUMBER
+            value = struct.unpack_from("<I", steps, place)[0]
             row = next(member for member in enums[index].rows(1) if member.number(1, "q") == value).row(3)
         else:
             row = _field(objects[index].rows(1), word.encode()).row(1)
