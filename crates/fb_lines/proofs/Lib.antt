@@ -13,4 +13,5 @@ pub mod PutsLemmas
 pub mod Shown
 pub mod ShownJson
 pub mod Splitting
+pub mod StrictLemmas
 pub mod SumsLemmas

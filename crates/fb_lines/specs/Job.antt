@@ -1,16 +1,16 @@
 -- What the buffers of a run are checked by, and what a verdict on one of them says.
-use Rattle.std.specs.Prelude.{◌≡◌, ℕ, ◌<◌, ◌≤◌, ◌^◌, All, IsTrue, Bool, true, false, List, [], drop, length, map, Option, Some, None, Result, Ok, Err, option_map}
+use Rattle.std.specs.Prelude.{◌≡◌, ℕ, ◌<◌, ◌≤◌, ◌^◌, All, IsTrue, Bool, true, false, List, [], drop, length, map, IfSome, Option, Some, None, Result, Ok, Err, option_map}
 use Rattle.std.specs.{Borrow.Bor, List.AllZip, declared.alloc.AllocError.AllocError}
 use Rattle.fb_schema.specs.Rows.{Rows, is_table}
-use Rattle.fb_rules.specs.{Bounds.Bounds, Bounds.limits_of_length, Question.Question, Question.question, Stops.Stops, Links.StopsAlong}
-use Rattle.fb_rules.specs.Verdict.{Reports}
-use Rattle.fb_verify.specs.Sealed.{Sealed}
+use Rattle.fb_rules.specs.{Bounds.Bounds, Bounds.limits_of_length, Question.Question, Question.question}
+use Rattle.fb_strict.specs.{Planned.Planned, Planned.IsPlan, AsAsked.ReportsBy, AsAsked.StopsBy, AsAsked.StopsAlongBy}
 use Rattle.fb_rules.specs.declared.{link.Link.Link, checks.Checks.Checks, fault.Fault.Fault, fault.Report.Report, start.Ident.Ident}
 use Rattle.fb_rules.specs.declared.{start.Start.Start, start.Start.TheVariants.Bare, start.Start.TheVariants.Prefixed}
 use Rattle.fb_schema.specs.declared.kinds.Kind.TheVariants.{Table}
 use Rattle.fb_access.specs.{Denotes.Denotes, Denotes.Shown, Denotes.shown, Fitting.StepsFit, Location.location_text, Location.place_text}
 use Rattle.fb_lines.specs.{AnswerText.label_text, Wanted.Wanted}
-use Rattle.fb_lines.specs.declared.{checker.Found.Found, checker.Wrong.Wrong, options.Form.Form}
+use Rattle.fb_lines.specs.declared.{checker.Checked.Checked, checker.Course.Course, checker.Found.Found, checker.Wrong.Wrong, options.Form.Form}
+use Rattle.fb_lines.specs.declared.checker.Course.TheVariants.{Brief, BriefStrictly, AtLength}
 use Rattle.fb_lines.specs.declared.{options.Form.TheVariants.Plain, options.Form.TheVariants.Json, options.Mode.Mode, options.Places.Places}
 use Rattle.fb_lines.specs.declared.{options.Places.TheVariants.Numbers, options.Places.TheVariants.Words, options.Prefix.Prefix}
 use Rattle.fb_lines.specs.declared.{options.Prefix.TheVariants.Part, options.Prefix.TheVariants.Apart, options.Options.Options}
@@ -18,7 +18,8 @@ use Rattle.fb_lines.specs.declared.{options.Prefix.TheVariants.Part, options.Pre
 -- a schema with its root, whether the input is one bare buffer, how many bytes of a message stand before the buffer, how
 -- the buffer starts, the identifier, the limits, the reads that each byte of a buffer allows, the checks, the values
 -- that are asked for, the most bytes that a message may have, what is told of messages, how of the places of faults,
--- the name of the input, where lines tell it, and how they are written
+-- the name of the input, where lines tell it, how they are written, and the plan by which buffers are to be strict, if
+-- they are
 pub record Job : Type 0 where
   pub rows : Rows
   pub root : ℕ
@@ -35,6 +36,7 @@ pub record Job : Type 0 where
   pub names : Places
   pub label : Option (List ℕ)
   pub form : Form
+  pub plan : Option Planned
 
 -- the buffer in a message
 abbrev pub buffer_in : Job → List ℕ → List ℕ
@@ -76,13 +78,13 @@ place_told Json rows fault links = place_text rows links
 abbrev pub IsPlace : Job → List ℕ → Fault → Option (List ℕ) → Type 0
 IsPlace job bytes fault None = job.names ≡ Numbers
 IsPlace job bytes fault (Some text) =
-    (job.names ≡ Words) × (links : List Link) × StopsAlong (asked_of job bytes) bytes fault links × (text ≡ place_told job.form job.rows fault links)
+    (job.names ≡ Words) × (links : List Link) × StopsAlongBy job.plan (asked_of job bytes) bytes fault links × (text ≡ place_told job.form job.rows fault links)
 
--- what a verdict on these bytes says: a yes counts a tree that is well formed and within the limits, and has the values
--- that are asked for; a no is the one fault that stops, with its place
+-- what a verdict on these bytes says: a yes counts a tree that is well formed and within the limits, and strict where
+-- there is a plan, and has the values that are asked for; a no is the one fault that stops, with its place
 abbrev pub IsVerdict : Job → List ℕ → Verdict → Type 0
-IsVerdict job bytes (Ok found) = Reports (asked_of job bytes) bytes found.report × AreAnswers bytes job.rows job.start job.root job.paths found.answers
-IsVerdict job bytes (Err bad) = Stops (asked_of job bytes) bytes bad.fault × IsPlace job bytes bad.fault bad.place
+IsVerdict job bytes (Ok found) = ReportsBy job.plan (asked_of job bytes) bytes found.report × AreAnswers bytes job.rows job.start job.root job.paths found.answers
+IsVerdict job bytes (Err bad) = StopsBy job.plan (asked_of job bytes) bytes bad.fault × IsPlace job bytes bad.fault bad.place
 
 -- a verdict without where the bytes of its values or place lie in memory
 abbrev pub verdict_of : Result Found Wrong → Verdict
@@ -108,20 +110,32 @@ asks_little _ _ _ _ = false
 abbrev pub is_brief : Job → Bool
 is_brief job = asks_little job.paths job.names job.label job.form
 
+-- by which course a message is checked: where no more is asked by one without a plan or by one with it
+abbrev pub course_by : Bool → Option Planned → Course
+course_by true None = Brief
+course_by true (Some p) = BriefStrictly
+course_by false plan = AtLength
+
+abbrev pub course_of : Job → Course
+course_of job = course_by (is_brief job) job.plan
+
 -- a verdict where no more is asked
 abbrev pub brief_verdict : Result Report Fault → Verdict
 brief_verdict (Ok report) = Ok (record { report = report; answers = [] })
 brief_verdict (Err fault) = Err (record { fault = fault; place = None })
 
--- a buffer that is well formed by a job, or its fault with these words
-abbrev pub IsVerified : Job → List ℕ → List ℕ → Result Sealed Fault → Type 0
-IsVerified job bytes text (Ok v) =
-    Reports (asked_of job bytes) bytes v.report
-    × (v ≡ record { bytes = bytes; schema = job.rows; root = job.root; start = job.start; checks = job.checks; report = v.report })
+-- a buffer that is well formed by a job, and strict where there is a plan
+pub record IsChecked (job : Job) (bytes : List ℕ) (checked : Checked) : Type 0 where
+  pub reports : ReportsBy job.plan (asked_of job bytes) bytes checked.report
+  pub kept : checked.verified ≡ record { bytes = bytes; schema = job.rows; root = job.root; start = job.start; checks = job.checks; report = checked.verified.report }
+
+-- the same, or its fault with these words
+abbrev pub IsVerified : Job → List ℕ → List ℕ → Result Checked Fault → Type 0
+IsVerified job bytes text (Ok checked) = IsChecked job bytes checked
 IsVerified job bytes text (Err fault) = IsVerdict job bytes (Err (record { fault = fault; place = place_beside job.names text }))
 
 -- the same, or there was no memory for these words, which were asked for
-abbrev pub VerifiesBy : Job → List ℕ → List ℕ → Result (Result Sealed Fault) AllocError → Type 0
+abbrev pub VerifiesBy : Job → List ℕ → List ℕ → Result (Result Checked Fault) AllocError → Type 0
 VerifiesBy job bytes text (Ok verified) = IsVerified job bytes text verified
 VerifiesBy job bytes text (Err refused) = ((verdict : Verdict) × IsVerdict job bytes verdict) × (job.names ≡ Words)
 
@@ -153,31 +167,36 @@ job_of rows options = record {
   names = options.names;
   label = option_map (λ name. name.items) options.label;
   form = options.form;
+  plan = options.plan;
 }
 
 -- the steps of each path fit from this table on
 abbrev pub PathsFit : Rows → ℕ → List Wanted → Type 0
 PathsFit rows root = All (λ (wanted : Wanted). StepsFit rows (Table root) wanted.steps)
 
--- the options serve the schema: the root is a table of it, at most 16 paths fit from there, and a framer may have the
--- limit
+-- the options serve the schema: the root is a table of it, at most 16 paths fit from there, a framer may have the
+-- limit, and a plan is that of this schema
 pub record Serves (rows : Rows) (options : Options) : Type 0 where
   pub table : IsTrue (is_table rows options.root)
   pub fits : PathsFit rows options.root options.paths.items
   pub few : length options.paths.items ≤ 16
   pub least : 8 ≤ options.max_bytes
   pub most : options.max_bytes < 2 ^ 31
+  pub planned : IfSome options.plan (IsPlan rows)
 
--- what a checker needs beside a buffer: so many levels for open tables, so many links, the words of the last place, and
--- what lines begin with
+-- what a checker needs beside a buffer: so many levels for open tables, so many for those of a pass, so many links, the
+-- words of the last place, and what lines begin with
 pub record Beside : Type 0 where
   pub levels : ℕ
+  pub pass : ℕ
   pub links : ℕ
   pub text : List ℕ
   pub label : List ℕ
 
--- the levels suffice for a job, where it asks for words the links do, and lines begin with the name that it gives
+-- the levels suffice for a job, where it has a plan those of a pass do, where it asks for words the links do, and lines
+-- begin with the name that it gives
 pub record HasRoom (job : Job) (room : Beside) : Type 0 where
   pub deep : job.limits.depth ≤ room.levels
+  pub strict : IfSome job.plan (λ _. job.limits.depth ≤ room.pass)
   pub long : job.names ≡ Words → job.limits.depth ≤ room.links
   pub label_is : room.label ≡ label_text job.label

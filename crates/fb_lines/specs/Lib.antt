@@ -16,5 +16,6 @@ pub mod JsonLaws
 pub mod Faults
 pub mod FaultText
 pub mod FilterLaws
+pub mod StrictLaws
 -- What proofs alone need.
 pub mod Puts

@@ -1,9 +1,11 @@
 //! The verifier, with what a run hands it for every buffer.
 
-ghost use Rattle.std.specs.Prelude.{IfOk, IfErr, OnOk, IsTrue, ◌≡◌, ◌++◌, ◌<◌, ◌≤◌, ◌^◌, length, map};
+ghost use Rattle.std.specs.Prelude.{IfOk, IfErr, IfSome, None, OnOk, IsTrue, ◌≡◌, ◌++◌, ◌<◌, ◌≤◌, ◌^◌, length, map, take};
 ghost use Rattle.fb_access.specs.Denotes.{shown};
 ghost use Rattle.fb_lines.specs.declared.options.Places.TheVariants.{Words};
-ghost use Rattle.fb_lines.specs.Job.{AreAnswers, HasRoom, IsVerdict, PathsFit, Serves, Verdict, VerifiesBy, brief_verdict, buffer_in, is_brief, job_of, limits_for, place_told, skip_of, start_of, verdict_beside, verdict_of};
+ghost use Rattle.fb_lines.specs.declared.checker.Course.TheVariants.{Brief, BriefStrictly};
+ghost use Rattle.fb_lines.specs.Job.{AreAnswers, HasRoom, IsChecked, IsVerdict, PathsFit, Serves, Verdict, VerifiesBy, asked_of, brief_verdict, buffer_in, course_by, course_of, is_brief, job_of, limits_for, place_told, skip_of, start_of, verdict_beside, verdict_of};
+ghost use Rattle.fb_strict.specs.AsAsked.{StopsBy, StopsAlongBy};
 ghost use Rattle.fb_schema.specs.Rows.{Rows};
 ghost use Rattle.fb_lines.specs.Line.{json_line};
 
@@ -14,14 +16,44 @@ use crate::room::Room;
 use fb_access::{get, place_of, put_location};
 use fb_bytes::Meter;
 use fb_schema::Schema;
+use fb_strict::{Room as PassRoom, VerifiedStrictly, verify_strictly, verify_strictly_and_locate};
 use fb_verify::{
-    Fault, Limits, Link, Located, Report, Start, Verified, verify, verify_and_locate, walk,
+    Fault, Limits, Link, Located, Report, Scratch, Start, Verified, verify, verify_and_locate, walk,
 };
 use std::alloc::{AllocError, Allocator};
 use std::marker::Model;
 
 /// How many bytes a message's prefix has.
 const PREFIX: usize = 4;
+
+/// By which course a message is checked and told.
+#[derive(Clone, Copy)]
+pub enum Course {
+    /// No more is asked of a buffer than a report, or a fault by its numbers.
+    Brief,
+    /// The same, and there is a plan.
+    BriefStrictly,
+    /// Values, words or a name are asked, or JSON.
+    AtLength,
+}
+
+/// A buffer that is well formed, and strict where there is a plan, and what was counted.
+#[derive(Drop)]
+pub struct Checked<'b, 's, 'n> {
+    pub verified: Verified<'b, 's, 'n>,
+    pub report: Report,
+}
+
+impl<'b, 's, 'n> Checked<'b, 's, 'n> {
+    /// A buffer of which a walk alone was made.
+    fn of(verified: Verified<'b, 's, 'n>) -> Self
+        ensures verified { result.verified ≡ verified.entry }
+        ensures report { result.report ≡ verified.entry.report }
+    {
+        let report = verified.report();
+        Checked { verified, report }
+    }
+}
 
 /// What is found in a buffer that is well formed.
 #[derive(Drop)]
@@ -48,22 +80,22 @@ pub struct Checker<'s, 'n, 'o> {
     schema: &'s Schema<'n>,
     options: &'o Options,
     /// What the options say for every buffer, asked once: how it begins, how many bytes of its message stand before it,
-    /// and whether no more is asked of it than a report.
+    /// and by which course it is checked.
     start: Start,
     skip: usize,
-    brief: bool,
+    course: Course,
 }
 
 impl<'s, 'n, 'o> Model for Checker<'s, 'n, 'o> {
     ghost use Rattle.std.specs.Prelude.{◌≡◌};
-    ghost use Rattle.fb_lines.specs.Job.{Job, Serves, is_brief, job_of, skip_of, start_of};
+    ghost use Rattle.fb_lines.specs.Job.{Job, Serves, course_of, job_of, skip_of, start_of};
 
     ghost Value = { Job };
 
     ghost view = { λ c. job_of c.schema.now c.options.now };
 
     ghost invariant = { λ c. Serves c.schema.now c.options.now × (c.start ≡ start_of c.options.now.bare c.options.now.prefix)
-        × (c.skip ≡ skip_of c.options.now.bare c.options.now.prefix) × (c.brief ≡ is_brief (job_of c.schema.now c.options.now)) };
+        × (c.skip ≡ skip_of c.options.now.bare c.options.now.prefix) × (c.course ≡ course_of (job_of c.schema.now c.options.now)) };
 }
 
 impl<'s, 'n, 'o> Checker<'s, 'n, 'o> {
@@ -77,7 +109,7 @@ impl<'s, 'n, 'o> Checker<'s, 'n, 'o> {
             options,
             start: start(options),
             skip: skip(options),
-            brief: is_brief(options),
+            course: course_by(options),
         }
     }
 
@@ -127,16 +159,12 @@ impl<'s, 'n, 'o> Checker<'s, 'n, 'o> {
         }
     }
 
-    /// Room for as many open tables as the limits allow, and for as many links where words are asked for.
+    /// Room for as many open tables as the limits allow, for as many of a pass where there is a plan, and for as many
+    /// links where words are asked for.
     pub fn room<'a, A: Allocator>(&self, alloc: &'a A) -> Result<Room<&'a A>, AllocError>
         ensures { IfOk result (HasRoom self.now) }
     {
-        let Options {
-            names,
-            ref label,
-            ..
-        } = *self.options;
-        Room::new(alloc, self.options.limits.depth(), names, label)
+        Room::new(alloc, self.options)
     }
 
     /// The verdict on the buffer in a message: what is found in it, with the values at the ends of the paths, or the
@@ -158,8 +186,7 @@ impl<'s, 'n, 'o> Checker<'s, 'n, 'o> {
         ensures room { HasRoom self.now room.new }
     {
         match self.verified(room, self.metered(message))? {
-            Ok(verified) => {
-                let report = verified.report();
+            Ok(Checked { verified, report }) => {
                 let answers = answers_in(&verified, self.options.paths.as_slice());
                 Ok(Ok(Found { report, answers }))
             }
@@ -167,16 +194,19 @@ impl<'s, 'n, 'o> Checker<'s, 'n, 'o> {
         }
     }
 
-    /// Whether no more is asked of a buffer than a report, or a fault by its numbers.
+    /// By which course messages are checked.
     #[inline(always)]
-    pub fn is_brief(&self) -> bool
-        ensures { result ≡ is_brief self.now }
+    pub fn course(&self) -> Course
+        ensures value { result ≡ course_of self.now }
+        ensures brief { result ≡ Brief → IsTrue (is_brief self.now) }
+        ensures lenient { result ≡ Brief → self.now.plan ≡ None }
+        ensures strict { result ≡ BriefStrictly → IsTrue (is_brief self.now) }
     {
-        self.brief
+        self.course
     }
 
-    /// The verdict on a buffer of which nothing was read yet, where no more is asked: the report, or the fault. Afterwards
-    /// the meter has counted the reads that it tells.
+    /// The verdict on a buffer of which nothing was read yet, where no more is asked and there is no plan: the report,
+    /// or the fault. Afterwards the meter has counted the reads that it tells.
     #[inline(always)]
     pub fn report<A: Allocator>(
         &self,
@@ -184,6 +214,7 @@ impl<'s, 'n, 'o> Checker<'s, 'n, 'o> {
         meter: &mut Meter<'_>,
     ) -> Result<Report, Fault>
         requires brief { IsTrue (is_brief self.now) }
+        requires lenient { self.now.plan ≡ None }
         requires room { HasRoom self.now room.old }
         requires fresh { meter.old.count ≡ 0 }
         ensures verdict { IsVerdict self.now meter.old.bytes (brief_verdict result) }
@@ -205,6 +236,25 @@ impl<'s, 'n, 'o> Checker<'s, 'n, 'o> {
             self.options.checks,
             &mut room.scratch,
         )
+    }
+
+    /// The verdict on a buffer of which nothing was read yet, where no more is asked: the report, with the reads of the
+    /// pass where there is a plan, or the fault.
+    pub fn report_strictly<A: Allocator>(
+        &self,
+        room: &mut Room<A>,
+        meter: Meter<'_>,
+    ) -> Result<Report, Fault>
+        requires brief { IsTrue (is_brief self.now) }
+        requires room { HasRoom self.now room.old }
+        requires fresh { meter.count ≡ 0 }
+        ensures verdict { IsVerdict self.now meter.entry.bytes (brief_verdict result) }
+        ensures room { HasRoom self.now room.new }
+    {
+        match self.checked(room, meter) {
+            Ok(checked) => Ok(checked.report),
+            Err(fault) => Err(fault),
+        }
     }
 
     /// Whether the input is one bare buffer.
@@ -253,33 +303,27 @@ impl<'s, 'n, 'o> Checker<'s, 'n, 'o> {
         limits.of_length(reads_per_byte, meter.len())
     }
 
-    /// The buffer, where it is well formed, or its fault.
+    /// The buffer, where it is well formed, and strict where there is a plan, or its fault, whose place in words is
+    /// left in the room where the options ask for it.
     #[tactic(auto, using(std::proofs::lemmas::Grind::common_steps))]
     fn verified<'b, A: Allocator>(
         &self,
         room: &mut Room<A>,
         meter: Meter<'b>,
-    ) -> Result<Result<Verified<'b, 's, 'n>, Fault>, AllocError>
+    ) -> Result<Result<Checked<'b, 's, 'n>, Fault>, AllocError>
         requires room { HasRoom self.now room.old }
         requires fresh { meter.count ≡ 0 }
         ensures verdict { VerifiesBy self.now meter.entry.bytes room.new.text result }
         ensures room { HasRoom self.now room.new }
     {
         let schema = self.schema;
-        let Options { root, ident, .. } = *self.options;
-        let limits = self.limits_for(&meter);
-        let start = self.start();
-        let checks = self.options.checks;
         let scratch = &mut room.scratch;
+        let pass = &mut room.pass;
         let links = &mut room.links;
         match self.options.names {
-            Places::Numbers => Ok(verify(
-                meter, schema, root, start, ident, limits, checks, scratch,
-            )),
-            Places::Words => match verify_and_locate(
-                meter, schema, root, start, ident, limits, checks, scratch, links,
-            ) {
-                Ok(verified) => Ok(Ok(verified)),
+            Places::Numbers => Ok(self.checked(room, meter)),
+            Places::Words => match self.located(meter, scratch, pass, links) {
+                Ok(checked) => Ok(Ok(checked)),
                 Err(Located { fault, links }) => {
                     room.text.clear();
                     let links = &room.links[..links as usize];
@@ -288,6 +332,87 @@ impl<'s, 'n, 'o> Checker<'s, 'n, 'o> {
                         Err(refused) => Err(refused),
                     }
                 }
+            },
+        }
+    }
+
+    /// The buffer, where it is well formed, and strict where there is a plan, or its fault.
+    fn checked<'b, A: Allocator>(
+        &self,
+        room: &mut Room<A>,
+        meter: Meter<'b>,
+    ) -> Result<Checked<'b, 's, 'n>, Fault>
+        requires room { HasRoom self.now room.old }
+        requires fresh { meter.count ≡ 0 }
+        ensures yes { IfOk result (IsChecked self.now meter.entry.bytes) }
+        ensures no { IfErr result (StopsBy self.now.plan (asked_of self.now meter.entry.bytes) meter.entry.bytes) }
+        ensures room { room.new ≡ room.old }
+    {
+        let Options {
+            root,
+            ident,
+            checks,
+            ref plan,
+            ..
+        } = *self.options;
+        let limits = self.limits_for(&meter);
+        let (schema, start) = (self.schema, self.start());
+        let scratch = &mut room.scratch;
+        let pass = &mut room.pass;
+        match plan {
+            None => match verify(meter, schema, root, start, ident, limits, checks, scratch) {
+                Ok(verified) => Ok(Checked::of(verified)),
+                Err(fault) => Err(fault),
+            },
+            Some(plan) => match verify_strictly(
+                meter, schema, root, start, ident, limits, checks, plan, scratch, pass,
+            ) {
+                Ok(VerifiedStrictly { verified, report }) => Ok(Checked { verified, report }),
+                Err(fault) => Err(fault),
+            },
+        }
+    }
+
+    /// The same, and where there is a fault, the links that lead to it are put at the front of `links`.
+    fn located<'b, A: Allocator>(
+        &self,
+        meter: Meter<'b>,
+        scratch: &mut Scratch<A>,
+        pass: &mut PassRoom<A>,
+        links: &mut [Link],
+    ) -> Result<Checked<'b, 's, 'n>, Located>
+        requires fresh { meter.count ≡ 0 }
+        requires scratch { self.now.limits.depth ≤ scratch.old }
+        requires pass { IfSome self.now.plan (λ _. self.now.limits.depth ≤ pass.old) }
+        requires links { self.now.limits.depth ≤ length links.old }
+        ensures yes { IfOk result (IsChecked self.now meter.entry.bytes) }
+        ensures no { IfErr result (λ l. StopsBy self.now.plan (asked_of self.now meter.entry.bytes) meter.entry.bytes l.fault) }
+        ensures along { IfErr result (λ l. StopsAlongBy self.now.plan (asked_of self.now meter.entry.bytes) meter.entry.bytes l.fault (take l.links links.new)) }
+        ensures few { IfErr result (λ l. l.links ≤ length links.new) }
+        ensures scratch { scratch.new ≡ scratch.old }
+        ensures pass { pass.new ≡ pass.old }
+        ensures long { length links.new ≡ length links.old }
+    {
+        let Options {
+            root,
+            ident,
+            checks,
+            ..
+        } = *self.options;
+        let limits = self.limits_for(&meter);
+        let (schema, start) = (self.schema, self.start());
+        match &self.options.plan {
+            None => match verify_and_locate(
+                meter, schema, root, start, ident, limits, checks, scratch, links,
+            ) {
+                Ok(verified) => Ok(Checked::of(verified)),
+                Err(located) => Err(located),
+            },
+            Some(plan) => match verify_strictly_and_locate(
+                meter, schema, root, start, ident, limits, checks, plan, scratch, pass, links,
+            ) {
+                Ok(VerifiedStrictly { verified, report }) => Ok(Checked { verified, report }),
+                Err(located) => Err(located),
             },
         }
     }
@@ -352,6 +477,17 @@ fn is_brief(options: &Options) -> bool
     match (names, form) {
         (Places::Numbers, Form::Plain) => paths.is_empty() && label.is_none(),
         _ => false,
+    }
+}
+
+/// By which course messages are checked.
+fn course_by(options: &Options) -> Course
+    ensures { (rows : Rows) → result ≡ course_of (job_of rows options.now) }
+{
+    match (is_brief(options), &options.plan) {
+        (true, None) => Course::Brief,
+        (true, Some(_)) => Course::BriefStrictly,
+        (false, _) => Course::AtLength,
     }
 }
 

@@ -2,7 +2,7 @@
 //! theorems.
 
 ghost use Rattle.fb_schema.specs.Rows.{Rows};
-ghost use Rattle.fb_lines.specs.{FilterLaws.PassesAgain, JobTests.Buffers, JsonLaws.NoReadsBack, JsonLaws.YesReadsBack, JsonSums.Summaries};
+ghost use Rattle.fb_lines.specs.{FilterLaws.PassesAgain, JobTests.Buffers, JsonLaws.NoReadsBack, JsonLaws.YesReadsBack, JsonSums.Summaries, StrictLaws.StrictIsOk};
 ghost use Rattle.fb_lines.specs.JsonTests.{JsonLines, JsonTexts, JsonValues};
 ghost use Rattle.fb_lines.specs.LineTests.{Lines, Names, Values, Texts};
 ghost use Rattle.fb_lines.specs.declared.options.Options.{Options};
@@ -45,4 +45,11 @@ pub fn buffers()
 /// message has a yes.
 pub fn passed_on_passes_again()
     ensures { PassesAgain }
+{}
+
+/// A buffer that is ok by a plan is ok without it, with the same values, tables and depth, in no more reads: to ask
+/// more makes no bad buffer ok.
+#[tactic(auto, using(crate::proofs::StrictLemmas::strict_is_ok))]
+pub fn strict_is_ok()
+    ensures { StrictIsOk }
 {}

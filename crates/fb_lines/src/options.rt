@@ -3,6 +3,7 @@
 ghost use Rattle.std.specs.Prelude.{◌≡◌};
 
 use fb_access::Path;
+use fb_strict::Plan;
 use fb_verify::{Checks, Ident, Limits};
 use std::marker::Model;
 
@@ -112,4 +113,6 @@ pub struct Options {
     pub label: Option<Vec<u8>>,
     /// How lines are written.
     pub form: Form,
+    /// What is asked beside the rules of the format: the plan of the schema, where each buffer is to be strict.
+    pub plan: Option<Plan>,
 }

@@ -8,7 +8,7 @@ ghost use Rattle.fb_lines.specs.Job.{HasRoom, brief_verdict, is_brief, verdict_o
 ghost use Rattle.fb_lines.specs.Lines.{Adds, AddsThrough, AddsTold, ComesBehind, StopsBehind, StopsIn, WritesFronts};
 ghost use Rattle.fb_lines.specs.Texts.{silent, size, waiting, written_by};
 
-use crate::checker::{Checker, Found, Wrong};
+use crate::checker::{Checker, Course, Found, Wrong};
 use crate::counter::Counter;
 use crate::fault::RunFault;
 use crate::line::Line;
@@ -75,8 +75,37 @@ impl<A: Allocator> Output<A> {
         ensures noted { self.new.notes.written ≡ self.old.notes.written }
         ensures room { HasRoom checker.now room.new }
     {
-        if checker.is_brief() {
+        if let Course::Brief = checker.course() {
             return match checker.report(room, &mut checker.metered(message)) {
+                Ok(report) => self.add_yes(checker.mode(), message, &report),
+                Err(fault) => self.add_no(checker, message, fault),
+            };
+        }
+        self.add_otherwise(checker, room, message)
+    }
+
+    /// Adds what is told of the next message, where there is a plan or more is asked, and counts its verdict.
+    #[inline(never)]
+    fn add_otherwise<B: Allocator>(
+        &mut self,
+        checker: &Checker<'_, '_, '_>,
+        room: &mut Room<B>,
+        message: &[u8],
+    ) -> Result<(), AllocError>
+        requires room { HasRoom checker.now room.old }
+        requires few { count_of self.old.counter < 2 ^ 63 }
+        requires short { length message.now < 2 ^ 31 }
+        ensures ok { OnOk result (AddsTold checker.now (1 + count_of self.old.counter) message.now
+            (waiting self.old) self.old.counter (waiting self.new) self.new.counter) }
+        ensures one { OnOk result (count_of self.new.counter ≡ count_of self.old.counter + 1) }
+        ensures err_text { OnErr result (waiting self.new ≡ waiting self.old) }
+        ensures err_counted { OnErr result (self.new.counter ≡ self.old.counter) }
+        ensures written { self.new.out.written ≡ self.old.out.written }
+        ensures noted { self.new.notes.written ≡ self.old.notes.written }
+        ensures room { HasRoom checker.now room.new }
+    {
+        if let Course::BriefStrictly = checker.course() {
+            return match checker.report_strictly(room, checker.metered(message)) {
                 Ok(report) => self.add_yes(checker.mode(), message, &report),
                 Err(fault) => self.add_no(checker, message, fault),
             };
@@ -134,7 +163,6 @@ impl<A: Allocator> Output<A> {
     }
 
     /// Adds what is told of the next message, also where a value or words are asked for, and counts its verdict.
-    #[inline(never)]
     fn add_at_length<B: Allocator>(
         &mut self,
         checker: &Checker<'_, '_, '_>,

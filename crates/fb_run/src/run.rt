@@ -44,7 +44,8 @@ impl Ran {
 }
 
 /// Checks the buffers of an input by a schema, and writes what the mode of the options tells of each, with at most
-/// `turns` reads. Where the options have paths, the line of a yes ends with the values there.
+/// `turns` reads. Where the options have paths, the line of a yes ends with the values there; where they have a plan,
+/// a buffer has a yes only if it is strict.
 ///
 /// The input is a stream of size-prefixed buffers (FlatBuffers Internals), or of bare ones behind their lengths by
 /// `prefix` of the options, or with `bare` one bare buffer. What is told of all messages that are whole is written

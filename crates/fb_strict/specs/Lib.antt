@@ -8,6 +8,7 @@ pub mod Asked
 pub mod Passing
 pub mod Reread
 pub mod Strictly
+pub mod AsAsked
 pub mod MostReads
 pub mod Laws
 pub mod Examples

@@ -1,0 +1,26 @@
+-- What a verdict says where a plan is given, and where none is.
+use Rattle.std.specs.Prelude.{ℕ, List, Option, Some, None}
+use Rattle.fb_rules.specs.declared.{fault.Fault.Fault, fault.Report.Report, link.Link.Link}
+use Rattle.fb_rules.specs.{Question.Question, Verdict.Reports, Verdict.HasNone, Stops.Stops, Links.StopsAlong}
+use Rattle.fb_strict.specs.Planned.{Planned}
+use Rattle.fb_strict.specs.Strictly.{ReportsStrictly, HasNoneStrictly, StopsStrictly, StopsAlongStrictly}
+
+-- a yes: a tree is well formed and within the limits, by a plan also strict, and the report counts it
+abbrev pub ReportsBy : Option Planned → Question → List ℕ → Report → Type 0
+ReportsBy None = Reports
+ReportsBy (Some p) = ReportsStrictly p
+
+-- a no: no such tree is
+abbrev pub HasNoneBy : Option Planned → Question → List ℕ → Type 0
+HasNoneBy None = HasNone
+HasNoneBy (Some p) = HasNoneStrictly p
+
+-- the fault that stops: the walk's first, or else by a plan the pass's
+abbrev pub StopsBy : Option Planned → Question → List ℕ → Fault → Type 0
+StopsBy None = Stops
+StopsBy (Some p) = StopsStrictly p
+
+-- and the links that lead to it
+abbrev pub StopsAlongBy : Option Planned → Question → List ℕ → Fault → List Link → Type 0
+StopsAlongBy None = StopsAlong
+StopsAlongBy (Some p) = StopsAlongStrictly p
