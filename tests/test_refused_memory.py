@@ -66,6 +66,8 @@ GROWING = b"".join(sorted(MESSAGES, key=len))
 BARE = MESSAGES[0][4:]
 NAMED = [file_of("post.bin", POST), file_of("growing.bin", GROWING)]
 LOADED = ["--schema", str(SCHEMA)]
+BYTES = file_of("bytes.bfbs", schemas.schema(
+    [schemas.table("T", schemas.field("b", schemas.vector(schemas.U_BYTE), 4))], root="T"))
 PATH = ["--path", "items[0]@Parcel.tags[1]"]
 MANY_WORDS = [
     "--root", "post.Delivery", "--ident", "POST", "--max-depth", "9", "--max-tables=77", "--max-reads", "999",
@@ -81,6 +83,7 @@ RUNS = [
     Plan("a schema and a path, over a bare input", [*LOADED, *PATH, "--bare", "--no-alignment"], BARE, 0),
     Plan("the same bare input, by 100 bytes", [*LOADED, *PATH, "--bare", "--no-alignment"], BARE, 0, most=100),
     Plan("many words, over a stream", [*LOADED, *MANY_WORDS], POST, 1),
+    Plan("strict checks, over a stream", [*LOADED, *PATH, "--strict"], POST, 1),
     Plan("no schema, over a schema file", ["--bare"], SCHEMA.read_bytes(), 0),
     # Want of memory ends it all: no file behind is begun, and none is named beside it.
     Plan("two files, one behind another", [*LOADED, *PATH, *NAMED], b"", 1),
@@ -102,6 +105,7 @@ ANSWERS = [
     Plan("a schema file that isn't one", ["--schema", str(EXAMPLES / "deliveries.fbs")], b"", 2),
     Plan("a root that isn't there", [*LOADED, "--root", "post.None"], POST, 2),
     Plan("a path that doesn't fit", [*LOADED, "--path", "none"], POST, 2),
+    Plan("bytes that may hold a buffer", ["--schema", str(BYTES), "--strict"], POST, 2),
 ]
 
 # Runs of a filter over good messages. Where memory is refused, a front of whole messages is passed on.

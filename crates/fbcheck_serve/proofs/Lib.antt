@@ -1,8 +1,10 @@
 mod AskedLemmas
+mod ByteLemmas
 mod InputsLemmas
 mod NoteLemmas
 mod OneAsk
 mod PathLemmas
 mod ServingLemmas
+mod StrictLemmas
 pub mod ShownInputs
 pub mod ShownStops

@@ -1,5 +1,5 @@
 -- A schema file and the settings ask at most one thing.
-use Rattle.std.proofs.Common.{◌≡◌, ℕ, List, [], ◌∷◌, refl, sym, ◌∙◌, ap, subst, Option, Some, None, Result, Ok, Err, length}
+use Rattle.std.proofs.Common.{◌≡◌, ℕ, List, [], ◌∷◌, refl, sym, ◌∙◌, ap, subst, map, Bool, true, false, Option, Some, None, Result, Ok, Err, length}
 use mathlib.Core.Logic.{inl, inr}
 use Rattle.std.specs.{Borrow.Bor, Global.Global, Prelude.Vec}
 use Rattle.fb_schema.specs.Rows.{Rows}
@@ -9,17 +9,24 @@ use Rattle.fb_access.proofs.OneAnswer.{one_answer}
 use Rattle.fb_rules.specs.declared.start.Ident.{Ident}
 use Rattle.fb_lines.specs.Wanted.{Wanted}
 use Rattle.fb_bfbs.proofs.OneLoad.{one_answer as one_load}
+use Rattle.fb_bfbs.proofs.OneMarks.{marks_once}
+use Rattle.fb_bfbs.specs.Marks.{Marked, marked as seen_mark}
+use Rattle.fb_bfbs.specs.declared.marks.Builtins.{Builtins}
 use Rattle.fb_bfbs.specs.declared.load_fault.LoadFault.{LoadFault}
 use Rattle.fb_bfbs.specs.declared.load_fault.LoadFault.TheVariants as load
 use Rattle.fb_bfbs.specs.LoadLaws.{Applies, IsSameLoad, ident_bytes}
 use Rattle.fb_bfbs.specs.declared.loading.Loaded.{Loaded}
 use Rattle.fb_lines.specs.Job.{Job, job_of}
-use Rattle.fbcheck_serve.specs.Asked.{ArePaths, AsksBy, IsAsked, IsPath, IsPathFault, HasPathFault, Own, asked_root, options_of, own_label, path_texts}
+use Rattle.fb_schema.specs.Live.{live_fields}
+use Rattle.fb_strict.specs.Planned.{IsPlan, Planned, marked, tasks_in}
+use Rattle.fbcheck_serve.specs.Asked.{ArePaths, AsksBy, IsAsked, IsAskedPlan, IsFound, IsPath, LacksIdent, IsPathFault, HasPathFault, Own, asked_root, options_of, own_label, path_texts}
 use Rattle.fbcheck_serve.specs.Inputs.{with_label}
-use Rattle.fbcheck_serve.specs.Checking.{Asks, IsSchema, IsNoSchema, own_of, schema_limits}
+use Rattle.fbcheck_serve.specs.CheckLaws.{AreAlike, AsksOnce, IsSameAnswer, IsSameJob}
+use Rattle.fbcheck_serve.specs.ByteFields.{HasMarked, HasUnmarked}
+use Rattle.fbcheck_serve.specs.Checking.{AsksMarks, HasMarkedBytes, HasUnmarkedBytes, IsMarkedFile, MayAsk, IsSchema, IsNoSchema, own_of, schema_limits}
 use Rattle.fbcheck_words.specs.declared.choices.Settings.{Settings}
 use Rattle.fbcheck_texts.specs.declared.fault.AskFault.{AskFault}
-use Rattle.fbcheck_texts.specs.declared.fault.AskFault.TheVariants.{Load, Path, NoRoot, NoIdent, OutOfMemory}
+use Rattle.fbcheck_texts.specs.declared.fault.AskFault.TheVariants.{Load, Path, NoRoot, NoIdent, MarkedBytes, UnmarkedBytes, OutOfMemory}
 
 module _ (rows : Rows) (root : ℕ) where
   one_path : (text : List ℕ) (x y : Wanted) → IsPath rows root text x → IsPath rows root text y → x ≡ y
@@ -53,6 +60,43 @@ module _ (rows : Rows) (root : ℕ) where
   one_path_fault (t ∷ texts) f g (inr (steps, resolves, rest)) (inl i) = absurd (steps_or_fault t steps g resolves i)
   one_path_fault (t ∷ texts) f g (inr (steps, resolves, rest)) (inr (others, leads, more)) = one_path_fault texts f g rest more
 
+-- a job without its plan
+abbrev planless : Job → Job
+planless job = record job { plan = None }
+
+same_bools : (a b : Bool) → (a ≡ true → b ≡ true) → (b ≡ true → a ≡ true) → a ≡ b
+same_bools true true h i = refl
+same_bools false false h i = refl
+same_bools true false h i = sym (h refl)
+same_bools false true h i = i refl
+
+-- a file says one list of marks
+same_marks : (file : Option (Bor (List ℕ))) (marks others : List Marked) (builtins other : Builtins) → IsMarkedFile file marks builtins → IsMarkedFile file others other
+    → (marks ≡ others) × (builtins ≡ other)
+same_marks None marks others builtins other h i = absurd h
+same_marks (Some bytes) marks others builtins other h i =
+    let w = marks_once bytes.now (map seen_mark h.0.fields.items) (map seen_mark i.0.fields.items) h.0.builtins i.0.builtins h.1.says i.1.says in
+    (h.2 ∙ w.0 ∙ sym i.2, h.3 ∙ w.1 ∙ sym i.3)
+
+-- where strict checks may be asked, no mark keeps them from it
+module _ (file : Option (Bor (List ℕ))) (rows : Rows) (settings : Settings) where
+  may_or_marked : MayAsk file rows settings → HasMarkedBytes file rows settings → ⊥
+  may_or_marked may has =
+      let asked = may has.0 in
+      let w = same_marks file asked.0 has.1 asked.1 has.2 asked.2 has.3 in
+      asked.3.none (subst (HasMarked rows) (sym w.0) has.4)
+
+  may_or_unmarked : MayAsk file rows settings → HasUnmarkedBytes file rows settings → ⊥
+  may_or_unmarked may has =
+      let asked = may has.0 in
+      let w = same_marks file asked.0 has.1 asked.1 has.2 asked.2 has.3 in
+      asked.3.told (subst (λ m. HasUnmarked rows m asked.1) (sym w.0) (subst (λ b. HasUnmarked rows has.1 b) (sym w.1) has.4))
+
+  marked_or_unmarked : HasMarkedBytes file rows settings → HasUnmarkedBytes file rows settings → ⊥
+  marked_or_unmarked h i =
+      let w = same_marks file h.1 i.1 h.2 i.2 h.3 i.3 in
+      i.4.2.none (subst (HasMarked rows) w.0 h.4)
+
 same_root : (r : Option ℕ) (n m : ℕ) → r ≡ Some n → r ≡ Some m → n ≡ m
 same_root r n m e f = let w : Some n ≡ Some m = sym e ∙ f in cc
 
@@ -61,18 +105,41 @@ module _ (rows : Rows) (own : Own) (settings : Settings) where
   texts = path_texts settings
 
   -- a job is the same by the same paths
-  same_job : (root : ℕ) (ident : Ident) (x y : Vec Wanted Global) → x.items ≡ y.items → job_of rows (options_of settings root x ident) ≡ job_of rows (options_of settings root y ident)
-  same_job root ident x y same = ap (λ (paths : List Wanted). record (job_of rows (options_of settings root x ident)) { paths = paths }) same
+  same_job : (root : ℕ) (ident : Ident) (x y : Vec Wanted Global) → x.items ≡ y.items → job_of rows (options_of settings root x ident None) ≡ job_of rows (options_of settings root y ident None)
+  same_job root ident x y same = ap (λ (paths : List Wanted). record (job_of rows (options_of settings root x ident None)) { paths = paths }) same
 
-  one_job : (x y : Job) → IsAsked rows own settings x → IsAsked rows own settings y → x ≡ y
-  one_job x y h i =
+  same_found : (h i : IsFound rows own settings) → job_of rows (options_of settings h.root h.paths h.ident None) ≡ job_of rows (options_of settings i.root i.paths i.ident None)
+  same_found h i =
       let r = same_root (asked_root rows own settings) h.root i.root h.root_is i.root_is in
       let s = one_paths rows i.root texts h.paths.items i.paths.items (subst (λ n. ArePaths rows n texts h.paths.items) r h.paths_are) i.paths_are in
       let w : Some h.ident ≡ Some i.ident = sym h.ident_is ∙ i.ident_is in
       let a : h.ident ≡ i.ident = cc in
-      let same = ap (λ n. job_of rows (options_of settings n h.paths h.ident)) r ∙ same_job i.root h.ident h.paths i.paths s
-      ∙ ap (λ d. job_of rows (options_of settings i.root i.paths d)) a in
-      h.job_is ∙ ap (λ (j : Job). with_label (own_label settings) j) same ∙ sym i.job_is
+      ap (λ n. job_of rows (options_of settings n h.paths h.ident None)) r ∙ same_job i.root h.ident h.paths i.paths s ∙ ap (λ d. job_of rows (options_of settings i.root i.paths d None)) a
+
+  -- plans of the same rows ask the same
+  same_marked : (k : ℕ) (p q : Planned) → IsPlan rows p → IsPlan rows q → marked p.marks k ≡ marked q.marks k
+  same_marked k p q h i = same_bools (marked p.marks k) (marked q.marks k) (λ e. (i.asked k).1 ((h.asked k).0 e)) (λ e. (h.asked k).1 ((i.asked k).0 e))
+
+  alike : (p q : Option Planned) → IsAskedPlan rows settings p → IsAskedPlan rows settings q → AreAlike (length rows.objects) p q
+  alike None None h i = tt
+  alike None (Some q) h i = let w : true ≡ false = sym i.0 ∙ h in cc
+  alike (Some p) None h i = let w : true ≡ false = sym h.0 ∙ i in cc
+  alike (Some p) (Some q) h i =
+      let same : (k : ℕ) → marked p.marks k ≡ marked q.marks k = λ k. same_marked k p q h.1 i.1 in
+      record {
+        asked = same;
+        tasks = λ k within. h.1.tasks k within ∙ ap (λ (asks : ℕ → Bool). Some (tasks_in asks (live_fields rows k))) (λ n j. same j n) ∙ sym (i.1.tasks k within);
+      }
+
+  one_job : (x y : Job) → IsAsked rows own settings x → IsAsked rows own settings y → IsSameJob x y
+  one_job x y h i =
+      let first : x.plan ≡ h.plan = ap (λ (j : Job). j.plan) h.job_is in
+      let second : y.plan ≡ i.plan = ap (λ (j : Job). j.plan) i.job_is in
+      let by : x.rows ≡ rows = ap (λ (j : Job). j.rows) h.job_is in
+      record {
+        rest = ap planless h.job_is ∙ ap (λ (j : Job). with_label (own_label settings) j) (same_found h.found i.found) ∙ sym (ap planless i.job_is);
+        plan = rw (first, second, by) (alike h.plan i.plan h.plan_is i.plan_is);
+      }
 
   found_or_fault : (root : ℕ) (paths : List Wanted) (f : PathFault) → asked_root rows own settings ≡ Some root → ArePaths rows root texts paths → HasPathFault rows own settings f → ⊥
   found_or_fault root paths f is are i =
@@ -84,26 +151,64 @@ module _ (rows : Rows) (own : Own) (settings : Settings) where
       let r = same_root (asked_root rows own settings) h.0 i.0 h.1 i.1 in
       one_path_fault rows i.0 texts f g (subst (λ n. IsPathFault rows n texts f) r h.2) i.2
 
-  asks_by_once : (x y : Result Job AskFault) → AsksBy rows own settings x → AsksBy rows own settings y → x ≡ y
-  asks_by_once (Ok x) (Ok y) h i = ap Ok (one_job x y h i)
-  asks_by_once (Ok x) (Err NoRoot) h i = let some = h.root_is in cc
-  asks_by_once (Ok x) (Err (Path f)) h i = absurd (found_or_fault h.root h.paths.items f h.root_is h.paths_are i)
-  asks_by_once (Ok x) (Err NoIdent) h i = let some = h.ident_is in let none = i.none in cc
-  asks_by_once (Err NoIdent) (Ok y) h i = let some = i.ident_is in let none = h.none in cc
-  asks_by_once (Err NoIdent) (Err NoIdent) h i = refl
-  asks_by_once (Err NoIdent) (Err NoRoot) h i = let some = h.root_is in cc
-  asks_by_once (Err NoIdent) (Err (Path f)) h i = absurd (found_or_fault h.root h.paths f h.root_is h.paths_are i)
-  asks_by_once (Err NoRoot) (Ok y) h i = let some = i.root_is in cc
-  asks_by_once (Err NoRoot) (Err NoIdent) h i = let some = i.root_is in cc
+  -- where there are a root, paths and an identifier, none is missing
+  rooted_or_not : (root : ℕ) → asked_root rows own settings ≡ Some root → asked_root rows own settings ≡ None → ⊥
+  rooted_or_not root some none = let w : Some root ≡ None = sym some ∙ none in cc
+
+  no_root_found : IsFound rows own settings → asked_root rows own settings ≡ None → ⊥
+  no_root_found h none = rooted_or_not h.root h.root_is none
+
+  no_path_found : IsFound rows own settings → (f : PathFault) → HasPathFault rows own settings f → ⊥
+  no_path_found h f i = found_or_fault h.root h.paths.items f h.root_is h.paths_are i
+
+  no_ident_found : IsFound rows own settings → LacksIdent rows own settings → ⊥
+  no_ident_found h i = let w : Some h.ident ≡ None = sym h.ident_is ∙ i.none in cc
+
+-- what is asked by these rows, with what is asked of a file's marks
+abbrev AsksAll : Option (Bor (List ℕ)) → Rows → Own → Settings → Result Job AskFault → Type 0
+AsksAll file rows own settings answer = AsksBy rows own settings answer × AsksMarks file rows settings answer
+
+module _ (file : Option (Bor (List ℕ))) (rows : Rows) (own : Own) (settings : Settings) where
+  asks_by_once : (x y : Result Job AskFault) → AsksAll file rows own settings x → AsksAll file rows own settings y → IsSameAnswer x y
+  asks_by_once (Ok x) (Ok y) h i = one_job rows own settings x y h.0 i.0
+  asks_by_once (Ok x) (Err NoRoot) h i = absurd (no_root_found rows own settings h.0.found i.0)
+  asks_by_once (Ok x) (Err (Path g)) h i = absurd (no_path_found rows own settings h.0.found g i.0)
+  asks_by_once (Ok x) (Err NoIdent) h i = absurd (no_ident_found rows own settings h.0.found i.0)
+  asks_by_once (Ok x) (Err MarkedBytes) h i = absurd (may_or_marked file rows settings h.1 i.1)
+  asks_by_once (Ok x) (Err UnmarkedBytes) h i = absurd (may_or_unmarked file rows settings h.1 i.1)
+  asks_by_once (Err NoRoot) (Ok y) h i = absurd (no_root_found rows own settings i.0.found h.0)
   asks_by_once (Err NoRoot) (Err NoRoot) h i = refl
-  asks_by_once (Err NoRoot) (Err (Path f)) h i = let some = i.1 in cc
-  asks_by_once (Err (Path f)) (Ok y) h i = absurd (found_or_fault i.root i.paths.items f i.root_is i.paths_are h)
-  asks_by_once (Err (Path f)) (Err NoIdent) h i = absurd (found_or_fault i.root i.paths f i.root_is i.paths_are h)
-  asks_by_once (Err (Path f)) (Err NoRoot) h i = let some = h.1 in cc
-  asks_by_once (Err (Path f)) (Err (Path g)) h i = ap (λ f. Err (Path f)) (one_fault_of_path f g h i)
-  asks_by_once (Err (Load f)) y h i = absurd h
-  asks_by_once (Err OutOfMemory) y h i = absurd h
-  asks_by_once x (Err _) h i = absurd i
+  asks_by_once (Err NoRoot) (Err (Path g)) h i = absurd (rooted_or_not rows own settings (i.0).0 (i.0).1 h.0)
+  asks_by_once (Err NoRoot) (Err NoIdent) h i = absurd (rooted_or_not rows own settings (i.0).root (i.0).root_is h.0)
+  asks_by_once (Err NoRoot) (Err MarkedBytes) h i = absurd (no_root_found rows own settings i.0 h.0)
+  asks_by_once (Err NoRoot) (Err UnmarkedBytes) h i = absurd (no_root_found rows own settings i.0 h.0)
+  asks_by_once (Err (Path f)) (Ok y) h i = absurd (no_path_found rows own settings i.0.found f h.0)
+  asks_by_once (Err (Path f)) (Err NoRoot) h i = absurd (rooted_or_not rows own settings (h.0).0 (h.0).1 i.0)
+  asks_by_once (Err (Path f)) (Err (Path g)) h i = ap (λ f. Path f) (one_fault_of_path rows own settings f g h.0 i.0)
+  asks_by_once (Err (Path f)) (Err NoIdent) h i = absurd (found_or_fault rows own settings (i.0).root (i.0).paths f (i.0).root_is (i.0).paths_are h.0)
+  asks_by_once (Err (Path f)) (Err MarkedBytes) h i = absurd (no_path_found rows own settings i.0 f h.0)
+  asks_by_once (Err (Path f)) (Err UnmarkedBytes) h i = absurd (no_path_found rows own settings i.0 f h.0)
+  asks_by_once (Err NoIdent) (Ok y) h i = absurd (no_ident_found rows own settings i.0.found h.0)
+  asks_by_once (Err NoIdent) (Err NoRoot) h i = absurd (rooted_or_not rows own settings (h.0).root (h.0).root_is i.0)
+  asks_by_once (Err NoIdent) (Err (Path g)) h i = absurd (found_or_fault rows own settings (h.0).root (h.0).paths g (h.0).root_is (h.0).paths_are i.0)
+  asks_by_once (Err NoIdent) (Err NoIdent) h i = refl
+  asks_by_once (Err NoIdent) (Err MarkedBytes) h i = absurd (no_ident_found rows own settings i.0 h.0)
+  asks_by_once (Err NoIdent) (Err UnmarkedBytes) h i = absurd (no_ident_found rows own settings i.0 h.0)
+  asks_by_once (Err MarkedBytes) (Ok y) h i = absurd (may_or_marked file rows settings i.1 h.1)
+  asks_by_once (Err MarkedBytes) (Err NoRoot) h i = absurd (no_root_found rows own settings h.0 i.0)
+  asks_by_once (Err MarkedBytes) (Err (Path g)) h i = absurd (no_path_found rows own settings h.0 g i.0)
+  asks_by_once (Err MarkedBytes) (Err NoIdent) h i = absurd (no_ident_found rows own settings h.0 i.0)
+  asks_by_once (Err MarkedBytes) (Err MarkedBytes) h i = refl
+  asks_by_once (Err MarkedBytes) (Err UnmarkedBytes) h i = absurd (marked_or_unmarked file rows settings h.1 i.1)
+  asks_by_once (Err UnmarkedBytes) (Ok y) h i = absurd (may_or_unmarked file rows settings i.1 h.1)
+  asks_by_once (Err UnmarkedBytes) (Err NoRoot) h i = absurd (no_root_found rows own settings h.0 i.0)
+  asks_by_once (Err UnmarkedBytes) (Err (Path g)) h i = absurd (no_path_found rows own settings h.0 g i.0)
+  asks_by_once (Err UnmarkedBytes) (Err NoIdent) h i = absurd (no_ident_found rows own settings h.0 i.0)
+  asks_by_once (Err UnmarkedBytes) (Err MarkedBytes) h i = absurd (marked_or_unmarked file rows settings i.1 h.1)
+  asks_by_once (Err UnmarkedBytes) (Err UnmarkedBytes) h i = refl
+  asks_by_once (Err (Load f)) y h i = absurd h.0
+  asks_by_once (Err OutOfMemory) y h i = absurd h.0
+  asks_by_once x (Err _) h i = absurd i.0
 
 -- a file that gives no schema has that fault
 as_fault : (bytes : Bor (List ℕ)) (f : LoadFault) → IsNoSchema (Some bytes) f → Applies bytes.now (schema_limits (length bytes.now)) (Err f)
@@ -136,16 +241,16 @@ same_own (Some bytes) rows others own other h i =
 
 -- what is asked by the rows of a file
 abbrev AsksOf : Option (Bor (List ℕ)) → Settings → Result Job AskFault → Type 0
-AsksOf file settings answer = (rows : Rows) × (own : Own) × IsSchema file rows own × AsksBy rows own settings answer
+AsksOf file settings answer = (rows : Rows) × (own : Own) × IsSchema file rows own × AsksBy rows own settings answer × AsksMarks file rows settings answer
 
-of_one_file : (file : Option (Bor (List ℕ))) (settings : Settings) (x y : Result Job AskFault) → AsksOf file settings x → AsksOf file settings y → x ≡ y
+of_one_file : (file : Option (Bor (List ℕ))) (settings : Settings) (x y : Result Job AskFault) → AsksOf file settings x → AsksOf file settings y → IsSameAnswer x y
 of_one_file file settings x y h i =
     let r = same_rows file h.0 i.0 h.1 i.1 h.2 i.2 in
     let o = same_own file h.0 i.0 h.1 i.1 h.2 i.2 in
-    asks_by_once i.0 i.1 settings x y (subst (λ own. AsksBy i.0 own settings x) o (subst (λ rows. AsksBy rows h.1 settings x) r h.3)) i.3
+    asks_by_once file i.0 i.1 settings x y (subst (λ own. AsksAll file i.0 own settings x) o (subst (λ rows. AsksAll file rows h.1 settings x) r (h.3, h.4))) (i.3, i.4)
 
-pub asks_once : (file : Option (Bor (List ℕ))) (settings : Settings) (x y : Result Job AskFault) → Asks file settings x → Asks file settings y → x ≡ y
-asks_once file settings (Err (Load f)) (Err (Load g)) h i = ap (λ f. Err (Load f)) (one_no_schema file f g h i)
+pub asks_once : AsksOnce
+asks_once file settings (Err (Load f)) (Err (Load g)) h i = ap (λ f. Load f) (one_no_schema file f g h i)
 asks_once file settings (Err (Load f)) y h i = absurd (schema_or_none file i.0 i.1 f i.2 h)
 asks_once file settings x (Err (Load g)) h i = absurd (schema_or_none file h.0 h.1 g h.2 i)
 asks_once file settings x y h i = of_one_file file settings x y h i

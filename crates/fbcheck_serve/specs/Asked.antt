@@ -1,11 +1,12 @@
 -- What the settings ask, by a schema that has a root table of its own, or none.
-use Rattle.std.specs.Prelude.{◌≡◌, ℕ, Bool, true, false, List, Option, Some, None, Result, Ok, Err, Vec, option_map, map, string_bytes, [], ◌∷◌, ◌⊎◌, codes, if◌then◌else◌}
+use Rattle.std.specs.Prelude.{◌≡◌, ℕ, Bool, IsTrue, true, false, List, Option, Some, None, Result, Ok, Err, Vec, option_map, map, string_bytes, [], ◌∷◌, ◌⊎◌, codes, if◌then◌else◌}
 use Rattle.std.specs.{Global.Global, List.AllZip}
 use Rattle.fb_schema.specs.Rows.{Rows, table_named}
 use Rattle.fb_access.specs.declared.{step.Step.Step, path_fault.PathFault.PathFault}
 use Rattle.fb_access.specs.Resolving.{Resolves, IsFault}
 use Rattle.fb_rules.specs.declared.{start.Ident.Ident, start.Ident.TheVariants.Any, start.Ident.TheVariants.Want}
 use Rattle.fb_bfbs.specs.LoadLaws.{own_ident}
+use Rattle.fb_strict.specs.Planned.{IsPlan, Planned}
 use Rattle.fb_lines.specs.{Job.Job, Job.job_of, Job.start_of, Wanted.Wanted}
 use Rattle.fbcheck_words.specs.declared.choices.Form as asked
 use Rattle.fbcheck_words.specs.declared.choices.Form.TheVariants as words
@@ -17,7 +18,7 @@ use Rattle.fb_lines.specs.declared.{options.Prefix.TheVariants.Part, options.Pre
 use Rattle.fbcheck_texts.specs.Framing.{by_of, framing_of}
 use Rattle.fbcheck_texts.specs.declared.{framing.Framing.Framing, framing.Manner.Manner, fault.AskFault.AskFault}
 use Rattle.fbcheck_serve.specs.Inputs.{label_of, with_label}
-use Rattle.fbcheck_texts.specs.declared.fault.AskFault.TheVariants.{Path, NoRoot, NoIdent, OutOfMemory}
+use Rattle.fbcheck_texts.specs.declared.fault.AskFault.TheVariants.{Path, NoRoot, NoIdent, MarkedBytes, UnmarkedBytes, OutOfMemory}
 
 -- the root table: the listed one of the name that is asked for, or else the schema's own
 abbrev pub root_of : Rows → Option (List ℕ) → Option ℕ → Option ℕ
@@ -90,9 +91,9 @@ framing_in settings = framing_of settings.bare (start_of settings.bare (prefix_o
 abbrev pub manner_in : Settings → Manner
 manner_in settings = record { framing = framing_in settings; by = by_of settings.schema }
 
--- what the settings ask of each buffer, from this root, with these paths and this identifier
-abbrev pub options_of : Settings → ℕ → Vec Wanted Global → Ident → Options
-options_of settings root paths ident = record {
+-- what the settings ask of each buffer, from this root, with these paths, this identifier and this plan
+abbrev pub options_of : Settings → ℕ → Vec Wanted Global → Ident → Option Planned → Options
+options_of settings root paths ident plan = record {
   root = root;
   ident = ident;
   paths = paths;
@@ -106,21 +107,33 @@ options_of settings root paths ident = record {
   names = places_of settings.names settings.form;
   label = None;
   form = form_of settings.form;
+  plan = plan;
 }
 
 -- what lines of standard input begin with where no file is named: its name, where names are asked for
 abbrev pub own_label : Settings → Option (List ℕ)
 own_label settings = label_of settings.with_filename (codes "-")
 
--- the buffers are checked from the root, with the paths and by the identifier that the settings ask for
-pub record IsAsked (rows : Rows) (own : Own) (settings : Settings) (job : Job) : Type 0 where
+-- the settings ask for a root, paths and an identifier, which there are
+pub record IsFound (rows : Rows) (own : Own) (settings : Settings) : Type 0 where
   pub root : ℕ
   pub root_is : asked_root rows own settings ≡ Some root
   pub paths : Vec Wanted Global
   pub paths_are : ArePaths rows root (path_texts settings) paths.items
   pub ident : Ident
   pub ident_is : asked_ident own settings ≡ Some ident
-  pub job_is : job ≡ with_label (own_label settings) (job_of rows (options_of settings root paths ident))
+
+-- where the settings ask for strict checks, the plan of the rows is asked, and else none
+abbrev pub IsAskedPlan : Rows → Settings → Option Planned → Type 0
+IsAskedPlan rows settings None = settings.strict ≡ false
+IsAskedPlan rows settings (Some plan) = IsTrue settings.strict × IsPlan rows plan
+
+-- the buffers are checked from the root, with the paths, by the identifier and as strictly as the settings ask
+pub record IsAsked (rows : Rows) (own : Own) (settings : Settings) (job : Job) : Type 0 where
+  pub found : IsFound rows own settings
+  pub plan : Option Planned
+  pub plan_is : IsAskedPlan rows settings plan
+  pub job_is : job ≡ with_label (own_label settings) (job_of rows (options_of settings found.root found.paths found.ident plan))
 
 -- the settings ask for a root and paths, and for the schema's own identifier, which has neither no bytes nor four
 pub record LacksIdent (rows : Rows) (own : Own) (settings : Settings) : Type 0 where
@@ -136,12 +149,14 @@ HasPathFault rows own settings fault =
     (root : ℕ) × (asked_root rows own settings ≡ Some root) × IsPathFault rows root (path_texts settings) fault
 
 -- by these rows and what the schema has of its own, the settings ask that the buffers are checked by a job, or have
--- nothing to check them by
+-- nothing to check them by; what a schema file's marks are asked comes beside that
 abbrev pub AsksBy : Rows → Own → Settings → Result Job AskFault → Type 0
 AsksBy rows own settings (Ok job) = IsAsked rows own settings job
 AsksBy rows own settings (Err NoRoot) = asked_root rows own settings ≡ None
 AsksBy rows own settings (Err (Path fault)) = HasPathFault rows own settings fault
 AsksBy rows own settings (Err NoIdent) = LacksIdent rows own settings
+AsksBy rows own settings (Err MarkedBytes) = IsFound rows own settings
+AsksBy rows own settings (Err UnmarkedBytes) = IsFound rows own settings
 AsksBy rows own settings (Err _) = ⊥
 
 -- why a text gives no path

@@ -1,4 +1,5 @@
 -- What public contracts say, in reading order.
+pub mod ByteFields
 pub mod Asked
 pub mod Inputs
 pub mod Checking

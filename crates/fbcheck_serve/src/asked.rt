@@ -6,7 +6,7 @@ ghost use Rattle.fb_bfbs.specs.LoadLaws.{ident_bytes};
 ghost use Rattle.fbcheck_texts.specs.{Framing.by_of, Hints.hint_text};
 ghost use Rattle.fbcheck_serve.specs.Asked.{ArePaths, IsPath, PathFails, asked_ident, form_of, framing_in, ident_of, manner_in, mode_of, options_of, places_of, prefix_of, root_of};
 ghost use Rattle.fbcheck_serve.specs.Inputs.{label_of};
-ghost use Rattle.fbcheck_serve.specs.Checking.{Asks, IsPathless, IsSchema, IsUntold, LacksSchema, own_of, schema_limits};
+ghost use Rattle.fbcheck_serve.specs.Checking.{Asks, IsPathless, IsSchema, IsUntold, LacksSchema, own_of};
 ghost use Rattle.fbcheck_words.specs.Ranges.{AreInRange};
 ghost use Rattle.fbcheck_words.specs.declared.choices.Settings.{Settings};
 ghost use Rattle.fb_lines.specs.Job.{PathsFit, Serves, job_of};
@@ -14,11 +14,14 @@ ghost use Rattle.fb_access.specs.Fitting.{StepsFit};
 ghost use Rattle.fb_schema.specs.declared.kinds.Kind.TheVariants.{Table};
 
 use crate::inputs::{STANDARD, label};
+use crate::limits::schema_limits;
+use crate::strict::plan_of;
 use fb_access::{Path, misfit_at};
 use fb_bfbs::{Loaded, load, own_ident, reflection};
 use fb_run::{AskedPath, Form, Mode, Options, Places, Prefix};
 use fb_schema::Schema;
-use fb_verify::{Ident, Limits};
+use fb_strict::Plan;
+use fb_verify::Ident;
 use fbcheck_texts::fault::AskFault;
 use fbcheck_texts::framing::{By, Framing, Manner};
 use fbcheck_texts::hint::{Unasked, path_hint, root_hint, schema_hint};
@@ -27,18 +30,6 @@ use std::alloc::Global;
 
 /// The number of the table `reflection.Schema` in the fixed table (reflection.fbs).
 const SCHEMA: u32 = 9;
-
-/// The longest buffer, in bytes.
-const LONGEST: u64 = 0x7FFF_FFFF;
-
-/// The limits by which a schema file of so many bytes is verified, whatever the settings say: the published ones with
-/// a budget of 100,000,000 reads, and of 64 a byte and 4,096 beside.
-fn schema_limits(length: u64) -> Limits
-    ensures { result ≡ schema_limits length }
-{
-    let limits = Limits::published().with_reads(100_000_000);
-    limits.of_length(64, length.min(LONGEST))
-}
 
 /// The schema of a schema file with its root table and identifier; without a file the fixed table, with its table
 /// `Schema` and the identifier of schema files.
@@ -219,15 +210,16 @@ pub fn manner(settings: &Settings) -> Manner
     }
 }
 
-/// What the settings ask of each buffer, from this root, with these paths, this identifier and this label.
+/// What the settings ask of each buffer, from this root, with these paths, this identifier, this plan and this label.
 fn options(
     settings: &Settings,
     root: u32,
     paths: Vec<AskedPath>,
     ident: Ident,
+    plan: Option<Plan>,
     label: Option<Vec<u8>>,
 ) -> Options
-    ensures { result ≡ record (options_of settings.now root paths ident) { label = label } }
+    ensures { result ≡ record (options_of settings.now root paths ident plan) { label = label } }
 {
     Options {
         root,
@@ -243,6 +235,7 @@ fn options(
         names: places(settings),
         label,
         form: form(settings),
+        plan,
     }
 }
 
@@ -272,8 +265,9 @@ pub struct Asked<'b> {
 /// # Errors
 ///
 /// `Load` where the schema file gives no schema, then `NoRoot` where there is no root table, then `Path` where a path
-/// isn't one from there, and then `NoIdent` where the schema's own identifier is asked for and has neither no bytes nor
-/// four;
+/// isn't one from there, then `NoIdent` where the schema's own identifier is asked for and has neither no bytes nor four,
+/// and then, where strict checks are asked for by a schema file and bytes aren't plain, `MarkedBytes` where it marks a
+/// field of bytes, and `UnmarkedBytes` where it has one without a mark and doesn't show that it would mark it;
 /// `OutOfMemory` in place of any where memory was refused. Each with what is told behind it.
 pub fn asked_of<'b>(
     alloc: Global,
@@ -301,9 +295,10 @@ pub fn asked_of<'b>(
     let Some(ident) = find_ident(settings, ident) else {
         return Err(Unasked::plain(AskFault::NoIdent));
     };
+    let plan = plan_of(alloc, &schema, schema_bytes, settings)?;
     let Ok(label) = label(alloc, settings.with_filename, STANDARD) else {
         return Err(Unasked::plain(AskFault::OutOfMemory));
     };
-    let options = options(settings, root, paths, ident, label);
+    let options = options(settings, root, paths, ident, plan, label);
     Ok(Asked { schema, options })
 }

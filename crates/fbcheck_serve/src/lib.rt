@@ -5,12 +5,15 @@
 #![tactic(auto)]
 
 mod asked;
+mod byte_fields;
 pub mod check;
 pub mod check_laws;
 mod files;
 mod inputs;
+mod limits;
 pub mod serve;
 mod stop;
+mod strict;
 
 pub use fbcheck_texts::causes::{Explained, Explains};
 pub use fbcheck_texts::fault::{AskFault, CheckFault, FileFault, WordsFault, WrongWord};

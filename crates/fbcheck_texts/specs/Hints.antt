@@ -13,7 +13,7 @@ use Rattle.fb_schema.specs.declared.kinds.Scalar as scalars
 use Rattle.fb_schema.specs.declared.kinds.Scalar.TheVariants as scalar
 use Rattle.fb_schema.specs.{Live.Live, Live.live_fields, Members.member_name, Parts.parts_of, Rows.Field, Rows.Object, Rows.Rows}
 use Rattle.fbcheck_texts.specs.Alike.{is_alike, step_name}
-use Rattle.fbcheck_texts.specs.declared.{fault.AskFault.AskFault, fault.AskFault.TheVariants.OutOfMemory, fault.AskFault.TheVariants.Path}
+use Rattle.fbcheck_texts.specs.declared.{fault.AskFault.AskFault, fault.AskFault.TheVariants.MarkedBytes, fault.AskFault.TheVariants.OutOfMemory, fault.AskFault.TheVariants.Path, fault.AskFault.TheVariants.UnmarkedBytes}
 use Rattle.fbcheck_texts.specs.declared.{fault.FileFault.FileFault, hint.Unasked.Unasked}
 use Rattle.std.specs.declared.alloc.AllocError.{AllocError}
 use Rattle.fbcheck_texts.specs.declared.fault.FileFault.TheVariants as file
@@ -240,6 +240,16 @@ abbrev pub path_hint : Rows → Option (List ℕ) → List ℕ → AskFault → 
 path_hint rows path text (Path fault) (Some kind) = in_which path ++ misfit_hint rows text fault kind ++ codes "\n"
 path_hint rows path text (Path fault) None = in_which path ++ codes "\n"
 path_hint rows path text fault at = codes "\n"
+
+-- what can be done where strict checks can't be made of a field of bytes
+abbrev pub remedy : AskFault → List ℕ
+remedy MarkedBytes = codes "; --plain-bytes takes such fields as bytes\n"
+remedy UnmarkedBytes = codes "; flatc --bfbs-builtins writes it to the .bfbs, --plain-bytes takes such fields as bytes\n"
+remedy fault = codes "\n"
+
+-- behind such a fault stand the field, by its table's name and its own, and what can be done
+abbrev pub bytes_hint : AskFault → List ℕ → List ℕ → List ℕ
+bytes_hint fault table field = codes ":" ++ named table ++ codes "." ++ flat_map byte_text field ++ remedy fault
 
 -- the text of a hint, where there is one, and else the end of the line
 abbrev pub hint_text : {A : Type 0} → Option (Vec ℕ A) → List ℕ

@@ -8,7 +8,7 @@ use Rattle.fb_schema.specs.declared.{fault.Code.TheVariants.BadSlot, fault.Schem
 use Rattle.fb_rules.specs.declared.{fault.Fault.Fault, fault.Reason.TheVariants.TooDeep, fault.Reason.TheVariants.WrongIdentifier}
 use Rattle.fb_lines.specs.{FaultText.fault_text, FaultText.stream_text, Sums.no_tally}
 use Rattle.fb_lines.specs.declared.fault.RunFault.TheVariants as run
-use Rattle.fbcheck_texts.specs.{Hints.front_hint, Framing.by_hint, Framing.end_hint, Framing.run_hint}
+use Rattle.fbcheck_texts.specs.{Hints.bytes_hint, Hints.front_hint, Framing.by_hint, Framing.end_hint, Framing.run_hint}
 use Rattle.fbcheck_texts.specs.declared.framing.By.TheVariants.{Fixed, Named}
 use Rattle.fbcheck_texts.specs.declared.framing.Framing.TheVariants.{Bare, Delimited, Prefixed}
 use Rattle.fb_lines.specs.declared.tally.Tally.{Tally}
@@ -63,6 +63,8 @@ pub record AskTexts : Type 0 where
   pub table : path_text (path.NotATable 1) ≡ codes "P6 NotATable step=1"
   pub path_memory : path_text path.OutOfMemory ≡ codes "P7 OutOfMemory"
   pub ident : ask_text ask.NoIdent ≡ codes "the schema's identifier isn't four bytes"
+  pub marked : ask_text ask.MarkedBytes ≡ codes "strict doesn't look inside nested buffers and flexbuffers yet"
+  pub unmarked : ask_text ask.UnmarkedBytes ≡ codes "strict can't tell which bytes are nested buffers or flexbuffers"
   pub memory : ask_text ask.OutOfMemory ≡ codes "out of memory"
 
 -- what stands behind a run's fault, and what is told of a run's end
@@ -70,6 +72,8 @@ abbrev pub ones : ℕ → ℕ → ℕ → Tally
 ones good aligned bad = record no_tally { yes = good; no = bad; reasons = 0 ∷ aligned ∷ (bad - aligned) ∷ 0 ∷ [] }
 
 pub record HintTexts : Type 0 where
+  pub marked : bytes_hint ask.MarkedBytes (codes "t.M") (codes "inner") ≡ codes ": t.M.inner; --plain-bytes takes such fields as bytes\n"
+  pub unmarked : bytes_hint ask.UnmarkedBytes (codes "M") (codes "data") ≡ codes ": M.data; flatc --bfbs-builtins writes it to the .bfbs, --plain-bytes takes such fields as bytes\n"
   pub stray : run_hint Prefixed (run.Stream stream.Failed) (ones 0 2 3) ≡ codes "; no good message came before: --bare is for a buffer without a prefix, --delimited for prefixes outside the buffers\n"
   pub delimited : run_hint Delimited (run.Stream stream.Failed) (ones 0 2 3) ≡ codes "; no good message came before: --bare is for a buffer without a prefix\n"
   pub some_good : run_hint Prefixed (run.Stream stream.Failed) (ones 1 2 3) ≡ codes "\n"

@@ -27,6 +27,12 @@ pub enum AskFault {
     Path(PathFault),
     /// The schema's own identifier is asked for, and it has neither no bytes nor four.
     NoIdent,
+    /// Strict checks are asked for, and the schema file marks a field of bytes as a nested buffer or a flexbuffer, into
+    /// which they don't look yet.
+    MarkedBytes,
+    /// Strict checks are asked for, and the schema file has a field of bytes without such a mark, and doesn't show that
+    /// it would have one.
+    UnmarkedBytes,
     /// Memory was refused.
     OutOfMemory,
 }
@@ -72,7 +78,8 @@ impl From<PathFault> for AskFault {
 }
 
 impl AskFault {
-    /// The exit status: 2 where the schema file, the root, the path or the identifier is wrong, 3 for want of memory.
+    /// The exit status: 2 where the schema file, the root, the path or the identifier is wrong, or strict checks can't
+    /// be made by the schema file, 3 for want of memory.
     pub fn status(&self) -> u8
         ensures { result ≡ ask_status self.now }
     {

@@ -3,7 +3,7 @@
 ghost use Rattle.std.specs.Prelude.{IfOk, IfSome, OnOk, Some, ◌≡◌, ◌≤◌, ◌++◌, length, option_map, slice_get, string_bytes, codes, find, take};
 ghost use Rattle.std.specs.List.{list_all};
 ghost use Rattle.fb_access.specs.Kept.{IsThere};
-ghost use Rattle.fbcheck_texts.specs.Hints.{fields_at, file_hint, front_hint, hint_text, is_blank, is_plain, known_reason, listed, named, opens, path_hint, reason_text, root_hint, schema_hint, schemaless, tables_in, with_hint, has_ident, ident_hint, ident_in, in_which, kind_text, meant, members_from, past_blanks, begins_schema, text_hint, misfit_hint, other_ident, scalar_text, what_hint, words_hint};
+ghost use Rattle.fbcheck_texts.specs.Hints.{bytes_hint, fields_at, file_hint, front_hint, hint_text, is_blank, is_plain, known_reason, listed, named, opens, path_hint, reason_text, remedy, root_hint, schema_hint, schemaless, tables_in, with_hint, has_ident, ident_hint, ident_in, in_which, kind_text, meant, members_from, past_blanks, begins_schema, text_hint, misfit_hint, other_ident, scalar_text, what_hint, words_hint};
 ghost use Rattle.fb_access.specs.declared.path_fault.PathFault.TheVariants.{NoSuchField};
 ghost use Rattle.fb_schema.specs.declared.kinds.Kind.TheVariants.{Union};
 ghost use Rattle.fbcheck_texts.specs.Alike.{is_alike};
@@ -441,6 +441,37 @@ pub fn path_hint(
         }
     }
     text.extend_from_slice(b"\n")?;
+    Ok(text)
+}
+
+/// What can be done where strict checks can't be made of a field of bytes.
+fn remedy(fault: AskFault) -> &'static [u8]
+    ensures { result.now ≡ remedy fault }
+{
+    match fault {
+        AskFault::MarkedBytes => b"; --plain-bytes takes such fields as bytes\n",
+        AskFault::UnmarkedBytes =>
+            b"; flatc --bfbs-builtins writes it to the .bfbs, --plain-bytes takes such fields as bytes\n",
+        _ => b"\n",
+    }
+}
+
+/// What is told behind the fault of a field of bytes of which strict checks can't be made: its table, its name, and
+/// what can be done.
+pub fn bytes_hint(
+    alloc: Global,
+    fault: AskFault,
+    table: &[u8],
+    field: &[u8],
+) -> Result<Vec<u8>, AllocError>
+    ensures { IfOk result (λ hint. hint.items ≡ bytes_hint fault table.now field.now) }
+{
+    let mut text = Vec::new(alloc);
+    text.extend_from_slice(b":")?;
+    put_name(&mut text, table)?;
+    text.extend_from_slice(b".")?;
+    put_bytes(&mut text, field)?;
+    text.extend_from_slice(remedy(fault))?;
     Ok(text)
 }
 

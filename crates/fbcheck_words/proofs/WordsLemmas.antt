@@ -12,7 +12,7 @@ use Rattle.std.proofs.lemmas.Bool.{ltb-false}
 use Rattle.fbcheck_words.specs.Ranges.{AreInRange}
 use Rattle.fbcheck_words.specs.Values.{IsGiven, IsNumberIn, IsNumberOf, text_of, texts_of}
 use Rattle.fbcheck_words.specs.declared.{choices.Settings.Settings, choices.SettingsFault.SettingsFault}
-use Rattle.fbcheck_words.specs.declared.choices.SettingsFault.TheVariants.{PathInFilter, TwoIdents, TooManyPaths, BareDelimited, PathTwiceInJson}
+use Rattle.fbcheck_words.specs.declared.choices.SettingsFault.TheVariants.{PathInFilter, TwoIdents, TooManyPaths, BareDelimited, PlainUnstrict, PathTwiceInJson}
 
 simple : (is_simple program ≡ true) × (is_simple_and_free program ≡ true)
 unfolding clap_on_literals
@@ -64,37 +64,40 @@ reads_by_words words m (Some n) read told = number_by_words words m (codes "max-
 reads_by_words words m None read told = absurd told
 
 -- the rule that settings break, by whether they break each
-abbrev broken : Bool → Bool → Bool → Bool → Bool → Option SettingsFault
-broken a b c d e = if a then Some PathInFilter else if b then Some TwoIdents else if c then Some TooManyPaths else if d then Some BareDelimited else if e then Some PathTwiceInJson else None
+abbrev broken : Bool → Bool → Bool → Bool → Bool → Bool → Option SettingsFault
+broken a b c d e f =
+    if a then Some PathInFilter else if b then Some TwoIdents else if c then Some TooManyPaths else if d then Some BareDelimited else if e then Some PlainUnstrict
+    else if f then Some PathTwiceInJson else None
 
--- what holds of each of these five holds of the one that is broken
-any_broken : (P : SettingsFault → Type 0) (a b c d e : Bool) (fault : SettingsFault) → broken a b c d e ≡ Some fault
-    → P PathInFilter → P TwoIdents → P TooManyPaths → P BareDelimited → P PathTwiceInJson → P fault
-any_broken P true b c d e fault is first second third fourth fifth = let same : PathInFilter ≡ fault = cc in subst P same first
-any_broken P false true c d e fault is first second third fourth fifth = let same : TwoIdents ≡ fault = cc in subst P same second
-any_broken P false false true d e fault is first second third fourth fifth = let same : TooManyPaths ≡ fault = cc in subst P same third
-any_broken P false false false true e fault is first second third fourth fifth = let same : BareDelimited ≡ fault = cc in subst P same fourth
-any_broken P false false false false true fault is first second third fourth fifth = let same : PathTwiceInJson ≡ fault = cc in subst P same fifth
-any_broken P false false false false false fault is first second third fourth fifth = cc
+-- what holds of each of these six holds of the one that is broken
+any_broken : (P : SettingsFault → Type 0) (a b c d e f : Bool) (fault : SettingsFault) → broken a b c d e f ≡ Some fault
+    → P PathInFilter → P TwoIdents → P TooManyPaths → P BareDelimited → P PlainUnstrict → P PathTwiceInJson → P fault
+any_broken P true b c d e f fault is first second third fourth fifth sixth = let same : PathInFilter ≡ fault = cc in subst P same first
+any_broken P false true c d e f fault is first second third fourth fifth sixth = let same : TwoIdents ≡ fault = cc in subst P same second
+any_broken P false false true d e f fault is first second third fourth fifth sixth = let same : TooManyPaths ≡ fault = cc in subst P same third
+any_broken P false false false true e f fault is first second third fourth fifth sixth = let same : BareDelimited ≡ fault = cc in subst P same fourth
+any_broken P false false false false true f fault is first second third fourth fifth sixth = let same : PlainUnstrict ≡ fault = cc in subst P same fifth
+any_broken P false false false false false true fault is first second third fourth fifth sixth = let same : PathTwiceInJson ≡ fault = cc in subst P same sixth
+any_broken P false false false false false false fault is first second third fourth fifth sixth = cc
 
 -- what is refused of settings that words say
 pub contradicted : (words : List Text) (settings : Settings) (fault : SettingsFault) → Say words settings → contradiction settings ≡ Some fault → Refuses words fault
 contradicted words settings fault said is =
-    any_broken (λ f. contradiction settings ≡ Some f → Refuses words f) _ _ _ _ _ fault is
-    (λ e. (settings, said, e)) (λ e. (settings, said, e)) (λ e. (settings, said, e)) (λ e. (settings, said, e)) (λ e. (settings, said, e)) is
+    any_broken (λ f. contradiction settings ≡ Some f → Refuses words f) _ _ _ _ _ _ fault is
+    (λ e. (settings, said, e)) (λ e. (settings, said, e)) (λ e. (settings, said, e)) (λ e. (settings, said, e)) (λ e. (settings, said, e)) (λ e. (settings, said, e)) is
 
 -- those that agree have no more paths than may be
-few_paths : (a b c d e : Bool) → broken a b c d e ≡ None → c ≡ false
-few_paths a b false d e none = refl
-few_paths true b true d e none = cc
-few_paths false true true d e none = cc
-few_paths false false true d e none = cc
+few_paths : (a b c d e f : Bool) → broken a b c d e f ≡ None → c ≡ false
+few_paths a b false d e f none = refl
+few_paths true b true d e f none = cc
+few_paths false true true d e f none = cc
+few_paths false false true d e f none = cc
 
 pub in_range : (words : List Text) (settings : Settings) → Say words settings → contradiction settings ≡ None → AreInRange settings
 in_range words settings said agree = record {
   least = said.bytes.1;
   most = omega (arith, said.bytes.2);
-  few = ltb-false 16 (length settings.paths.items) (few_paths _ _ _ _ _ agree);
+  few = ltb-false 16 (length settings.paths.items) (few_paths _ _ _ _ _ _ agree);
 }
 
 -- a flag that is turned round

@@ -1,11 +1,11 @@
 -- What words ask for.
-use Rattle.std.specs.Prelude.{◌≡◌, ◌↔◌, ◌&&◌, ◌||◌, ℕ, Bool, false, true, IsTrue, IfSome, IsSomeAnd, List, [], ◌∷◌, Option, Some, None, codes, if◌then◌else◌, is_some, length, map, nat_lt, option_map, string_bytes}
+use Rattle.std.specs.Prelude.{◌≡◌, ◌↔◌, ◌&&◌, ◌||◌, ℕ, Bool, false, true, IsTrue, IfSome, IsSomeAnd, List, [], ◌∷◌, Option, Some, None, codes, if◌then◌else◌, is_some, length, map, nat_lt, not, option_map, string_bytes}
 use Rattle.std.specs.{List.list_any, Str.bytes_eq}
 use Rattle.clap.specs.{Walk.Text, Faults.fault_of}
 use Rattle.fbcheck_words.specs.CommandLine.{program}
 use Rattle.fbcheck_words.specs.Values.{IsGiven, IsNumberOf, text_of, texts_of}
 use Rattle.fbcheck_words.specs.declared.{choices.Form.Form, choices.Form.TheVariants.Plain, choices.Form.TheVariants.Json, choices.Settings.Settings, choices.SettingsFault.SettingsFault}
-use Rattle.fbcheck_words.specs.declared.choices.SettingsFault.TheVariants.{PathInFilter, TwoIdents, TooManyPaths, BareDelimited, PathTwiceInJson}
+use Rattle.fbcheck_words.specs.declared.choices.SettingsFault.TheVariants.{PathInFilter, TwoIdents, TooManyPaths, BareDelimited, PlainUnstrict, PathTwiceInJson}
 
 -- the words say these settings
 pub record Say (given : List Text) (settings : Settings) : Type 0 where
@@ -25,6 +25,8 @@ pub record Say (given : List Text) (settings : Settings) : Type 0 where
   pub delimited : IsTrue settings.delimited ↔ IsGiven (codes "delimited") given
   pub alignment : (settings.checks.alignment ≡ false) ↔ IsGiven (codes "no-alignment") given
   pub inline_size : IsTrue settings.checks.inline_size ↔ IsGiven (codes "inline-size") given
+  pub strict : IsTrue settings.strict ↔ IsGiven (codes "strict") given
+  pub plain_bytes : IsTrue settings.plain_bytes ↔ IsGiven (codes "plain-bytes") given
   pub quiet : IsTrue settings.quiet ↔ IsGiven (codes "quiet") given
   pub filter : IsTrue settings.filter ↔ IsGiven (codes "filter") given
   pub summary : IsTrue settings.summary ↔ IsGiven (codes "summary") given
@@ -53,6 +55,7 @@ contradiction settings =
     else if settings.schema_ident && is_some settings.ident then Some TwoIdents
     else if nat_lt 16 (length settings.paths.items) then Some TooManyPaths
     else if settings.bare && settings.delimited then Some BareDelimited
+    else if settings.plain_bytes && not settings.strict then Some PlainUnstrict
     else if is_json settings.form && has_twice (map string_bytes settings.paths.items) then Some PathTwiceInJson
     else None
 

@@ -19,8 +19,8 @@ use std::alloc::{AllocError, Global};
 /// `Usage` where `clap` refuses them, help included, and `BadIdent` where it reads them and the identifier isn't four
 /// bytes long. Then, where they say what doesn't agree, `PathInFilter` for a filter with a path, then `TwoIdents` for
 /// an identifier beside the schema's own, then `TooManyPaths` for more than 16, then `BareDelimited` for a bare buffer
-/// behind its length, and then `PathTwiceInJson` for a path that lines of JSON would name twice. `OutOfMemory` for want
-/// of memory.
+/// behind its length, then `PlainUnstrict` for plain bytes without strict checks, and then `PathTwiceInJson` for a path
+/// that lines of JSON would name twice. `OutOfMemory` for want of memory.
 pub fn settings(alloc: Global, words: &[String]) -> Result<Settings, SettingsFault>
     ensures given { IfOk result (AreGiven (map string_bytes words.now)) }
     ensures ranges { IfOk result AreInRange }
@@ -62,6 +62,8 @@ fn said(alloc: Global, matches: &ArgMatches<'_>) -> Result<Settings, SettingsFau
             alignment: !flag(matches, "no-alignment"),
             inline_size: flag(matches, "inline-size"),
         },
+        strict: flag(matches, "strict"),
+        plain_bytes: flag(matches, "plain-bytes"),
         quiet: flag(matches, "quiet"),
         filter: flag(matches, "filter"),
         summary: flag(matches, "summary"),
@@ -84,6 +86,8 @@ fn contradiction(settings: &Settings) -> Option<SettingsFault>
         Some(SettingsFault::TooManyPaths)
     } else if settings.bare && settings.delimited {
         Some(SettingsFault::BareDelimited)
+    } else if settings.plain_bytes && !settings.strict {
+        Some(SettingsFault::PlainUnstrict)
     } else if settings.form.is_json() && has_twice(settings.paths.as_slice()) {
         Some(SettingsFault::PathTwiceInJson)
     } else {

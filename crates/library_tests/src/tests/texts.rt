@@ -103,7 +103,7 @@ const OF_RUNS: [(RunFault, &str); 7] = [
 ];
 
 /// Why nothing can be asked of buffers.
-const OF_ASKING: [(AskFault, &str); 5] = [
+const OF_ASKING: [(AskFault, &str); 7] = [
     (
         AskFault::Load(LoadFault::RootNotListed),
         "schema: L3 RootNotListed",
@@ -116,6 +116,14 @@ const OF_ASKING: [(AskFault, &str); 5] = [
     (
         AskFault::NoIdent,
         "the schema's identifier isn't four bytes",
+    ),
+    (
+        AskFault::MarkedBytes,
+        "strict doesn't look inside nested buffers and flexbuffers yet",
+    ),
+    (
+        AskFault::UnmarkedBytes,
+        "strict can't tell which bytes are nested buffers or flexbuffers",
     ),
     (AskFault::OutOfMemory, "out of memory"),
 ];

@@ -1,28 +1,34 @@
 use Rattle.std.proofs.Common.{IfErr, List, Option, Result, ap, ℕ, refl, rules, subst, sym, ◌∙◌}
 use Rattle.fbcheck_serve.specs.declared.asked.Asked.{Asked}
 use Rattle.fbcheck_texts.specs.declared.hint.Unasked.{Unasked}
-use Rattle.fbcheck_serve.specs.{Asked.LacksIdent, Asked.options_of, Inputs.with_label, Checking.IsUntold, Checking.own_of}
+use Rattle.fbcheck_serve.specs.{Asked.IsFound, Asked.LacksIdent, Asked.options_of, Inputs.with_label, Checking.IsUntold, Checking.own_of}
 use Rattle.fb_lines.specs.Job.{Serves, job_of}
 use Rattle.fb_run.proofs.RunLemmas.{err_exit}
-use Rattle.fbcheck_serve.proofs.AskedLemmas.{path_untold, rootless_untold}
+use Rattle.fbcheck_serve.proofs.AskedLemmas.{path_untold, planless_untold, planned, rootless_untold}
 use Rattle.fbcheck_serve.proofs.asked.asked_of.Goals as goal
 
 pub returns-clause-job : goal.returns-clause-job
 returns-clause-job c =
-    let loaded = c.in-Ok.loaded in (
+    let loaded = c.in-Ok.loaded in
+    let found : IsFound loaded.schema (own_of loaded) c.args.settings.now = record {
+      root = c.in-Some.root;
+      root_is = sym c.find_root.ensures.number ∙ c.in-Some.is;
+      paths = c.in_ok-paths.paths;
+      paths_are = rw c.as_slice.ensures.value at c.in_ok-paths.ensures.paths;
+      ident = c.in-Some-find_ident.ident;
+      ident_is = sym (c.find_ident.ensures loaded.root) ∙ c.in-Some-find_ident.is;
+    } in (
       loaded.schema,
       own_of loaded,
       c.in-Ok.ensures.schema,
       record {
-        root = c.in-Some.root;
-        root_is = sym c.find_root.ensures.number ∙ c.in-Some.is;
-        paths = c.in_ok-paths.paths;
-        paths_are = rw c.as_slice.ensures.value at c.in_ok-paths.ensures.paths;
-        ident = c.in-Some-find_ident.ident;
-        ident_is = sym (c.find_ident.ensures loaded.root) ∙ c.in-Some-find_ident.is;
+        found = found;
+        plan = c.in_ok-plan.plan;
+        plan_is = c.in_ok-plan.ensures.plan;
         job_is = ap (job_of loaded.schema) c.options-options.ensures ∙ ap (λ (label : Option (List ℕ)). with_label label (job_of loaded.schema (options_of c.args.settings.now c.in-Some.root c.in_ok-paths.paths
-            c.in-Some-find_ident.ident))) c.in-Ok-label.ensures;
+            c.in-Some-find_ident.ident c.in_ok-plan.plan))) c.in-Ok-label.ensures;
       },
+      c.in_ok-plan.ensures.may,
     )
 
 pub returns-in_default-find_ident-clause-none : goal.returns-in_default-find_ident-clause-none
@@ -36,7 +42,7 @@ returns-in_default-find_ident-clause-none c =
       none = sym (c.find_ident.ensures loaded.root) ∙ search rules;
     } in
     subst (IsUntold c.args.schema_bytes c.args.settings.now) (sym c.plain.ensures)
-    (record { lacks = (loaded.schema, own_of loaded, c.in-Ok.ensures.schema, lacks); hint = refl })
+    (record { lacks = (loaded.schema, own_of loaded, c.in-Ok.ensures.schema, lacks, tt); hint = refl })
 
 pub returns-in-Err-clause-none : goal.returns-in-Err-clause-none
 returns-in-Err-clause-none c = c.schemaless.ensures
@@ -47,6 +53,24 @@ returns-in_err-paths-clause-none c =
     err_exit c.from_residual.result _ (λ (r : Result Asked Unasked). IfErr r (IsUntold c.args.schema_bytes c.args.settings.now)) c.from_residual.ensures.1
     (let (lacks, hint) = path_untold c.args.schema_bytes c.args.settings.now loaded.schema (own_of loaded) c.in-Some.root _ _ c.in-Ok.ensures.schema
     (sym c.find_root.ensures.number ∙ c.in-Some.is) (rw c.as_slice.ensures.value at c.in_err-paths.ensures.none) in
+    record { lacks = lacks; hint = hint })
+
+pub plan_of-requires : goal.plan_of-requires
+plan_of-requires c = (own_of c.in-Ok.loaded, c.in-Ok.ensures.schema)
+
+pub returns-in_err-plan-clause-none : goal.returns-in_err-plan-clause-none
+returns-in_err-plan-clause-none c =
+    let loaded = c.in-Ok.loaded in
+    let found : IsFound loaded.schema (own_of loaded) c.args.settings.now = record {
+      root = c.in-Some.root;
+      root_is = sym c.find_root.ensures.number ∙ c.in-Some.is;
+      paths = c.in_ok-paths.paths;
+      paths_are = rw c.as_slice.ensures.value at c.in_ok-paths.ensures.paths;
+      ident = c.in-Some-find_ident.ident;
+      ident_is = sym (c.find_ident.ensures loaded.root) ∙ c.in-Some-find_ident.is;
+    } in
+    err_exit c.from_residual-in_err-plan.result _ (λ (r : Result Asked Unasked). IfErr r (IsUntold c.args.schema_bytes c.args.settings.now)) c.from_residual-in_err-plan.ensures.1
+    (let (lacks, hint) = planless_untold c.args.schema_bytes c.args.settings.now loaded.schema (own_of loaded) _ _ c.in-Ok.ensures.schema found c.in_err-plan.ensures.no in
     record { lacks = lacks; hint = hint })
 
 pub returns-in_default-clause-none : goal.returns-in_default-clause-none
@@ -66,4 +90,5 @@ returns-clause-serves c =
       few = rw (c.in_ok-paths.ensures.count, c.as_slice.ensures.value) c.requires.few;
       least = c.requires.least;
       most = c.requires.most;
+      planned = planned c.in-Ok.loaded.schema c.args.settings.now c.in_ok-plan.plan c.in_ok-plan.ensures.plan;
     })

@@ -1,5 +1,5 @@
 use Rattle.std.proofs.Common.{rules}
-use Rattle.fbcheck_serve.proofs.asked.schema_limits.Goals as goal
+use Rattle.fbcheck_serve.proofs.limits.schema_limits.Goals as goal
 
 pub returns : goal.returns
 returns c = search rules
