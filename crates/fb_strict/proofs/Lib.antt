@@ -3,6 +3,8 @@ pub mod Skips
 pub mod Reading
 pub mod Lists
 pub mod Marks
+pub mod Leading
+pub mod Queues
 pub mod Asking
 pub mod Unasked
 pub mod Moving

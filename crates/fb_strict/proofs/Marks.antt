@@ -1,15 +1,14 @@
 -- Objects are marked exactly where a union is reached from their tables.
-use Rattle.std.proofs.Common.{◌≡◌, ◌↔◌, ℕ, zero, suc, ◌+◌, ◌<◌, ◌≤◌, List, [], ◌∷◌, ◌++◌, length, length-append, slice_get, subst, inl, inr, ◌⊎◌, Option, Some, None, Bool, true, false, not, cond, sym, ◌∙◌, ap, refl, arith}
-use Rattle.std.specs.List.{list_any, count_by}
-use Rattle.std.specs.Prelude.{◌||◌, ◌&&◌}
-use Rattle.std.proofs.Math.ListN.{set}
-use Rattle.std.proofs.lemmas.{List.Sums.sum_by-set, Option.slice_get_past, Bool.cases_lt}
+use Rattle.std.proofs.Common.{◌≡◌, ◌↔◌, ℕ, zero, suc, ◌+◌, ◌<◌, ◌≤◌, List, [], ◌∷◌, ◌++◌, length, length-append, slice_get, inl, inr, Option, Some, None, Bool, true, false, sym, ◌∙◌, ap, refl, arith}
+use Rattle.std.specs.List.{list_any}
+use Rattle.std.specs.Prelude.{◌||◌}
+use Rattle.std.proofs.lemmas.{Option.slice_get_past, Bool.cases_lt}
 use Rattle.fb_schema.specs.declared.kinds.Kind.{Kind}
 use Rattle.fb_schema.specs.declared.kinds.Kind.TheVariants.{Scalar, Text, Struct, Table, Union, Scalars, Texts, Structs, Tables, Unions}
 use Rattle.fb_schema.specs.{Rows.Rows, Rows.Object, Rows.is_table, Rows.is_some_table, Live.Live, Live.live_in, Live.live_fields}
 use Rattle.fb_strict.specs.Skipped.{is_kind_asked, has_asked, IsClosed, reaches_union, ReachesUnion}
 use Rattle.fb_strict.specs.declared.tasks.Task.{Task}
-use Rattle.fb_strict.specs.Planned.{marked, tasks_in, AreFounded, AreTasks}
+use Rattle.fb_strict.specs.Planned.{marked, tasks_in, AreTasks}
 
 -- an object that is no table has no live fields
 no_fields_in : (S : Rows) (o : Option Object) → is_some_table o ≡ false → live_in S o ≡ []
@@ -20,7 +19,7 @@ pub no_fields : (S : Rows) (k : ℕ) → is_table S k ≡ false → live_fields 
 unfolding live_fields
 no_fields S k h = no_fields_in S (slice_get S.objects k) h
 
-past_all : (S : Rows) (k : ℕ) → length S.objects ≤ k → is_table S k ≡ false
+pub past_all : (S : Rows) (k : ℕ) → length S.objects ≤ k → is_table S k ≡ false
 past_all S k h = ap is_some_table (slice_get_past S.objects k h)
 
 module _ (S : Rows) (asks : ℕ → Bool) where
@@ -81,77 +80,13 @@ module _ (S : Rows) (asks : ℕ → Bool) where
   pub exact : ((k : ℕ) → asks k ≡ true → ReachesUnion S k) → IsClosed asks S → (k : ℕ) → (asks k ≡ true) ↔ ReachesUnion S k
   exact founded closed k = (founded k, λ r. reached closed r.0 k r.1)
 
--- marking an object
-
-marked_then : (marks : List Bool) (k j : ℕ) → marked (set marks k true) j ≡ true → (j ≡ k) ⊎ (marked marks j ≡ true)
-marked_then [] k j h = absurd (grind arith)
-marked_then (m ∷ ms) zero zero h = inl refl
-marked_then (m ∷ ms) zero (suc j) h = inr h
-marked_then (m ∷ ms) (suc k) zero h = inr h
-marked_then (m ∷ ms) (suc k) (suc j) h = elim (marked_then ms k j h) [ inl e ↦ inl (ap suc e) | inr l ↦ inr l ]
-
-pub founded_then : (S : Rows) (marks : List Bool) (k : ℕ) → AreFounded S marks → has_asked (marked marks) S k ≡ true → AreFounded S (set marks k true)
-founded_then S marks k h is j m = elim (marked_then marks k j m) [ inl e ↦ subst (ReachesUnion S) (sym e) (reaches S (marked marks) h k is) | inr l ↦ h j l ]
-
--- fewer objects are left
-abbrev left : Bool → ℕ
-left m = cond (not m) 1 0
-
-fewer_then : (marks : List Bool) (k : ℕ) → k < length marks → marked marks k ≡ false → count_by not (set marks k true) < count_by not marks
-fewer_then marks k lt is =
-    let moved = sum_by-set left marks k true false lt in
-    let one = ap (λ m. left m) is in
-    omega (arith, moved, one)
-
--- so many objects of a round are passed, which began with these marks
-pub record IsRound (S : Rows) (first marks : List Bool) (more : Bool) (n : ℕ) : Type 0 where
-  pub founded : AreFounded S marks
-  pub closed : more ≡ false → (k : ℕ) → k < n → marked marks k ≡ false → has_asked (marked marks) S k ≡ false
-  pub same : more ≡ false → marks ≡ first
-  pub fewer : more ≡ true → count_by not marks < count_by not first
-
-no_more : (first marks : List Bool) (more : Bool) → (more ≡ false → marks ≡ first) → (more ≡ true → count_by not marks < count_by not first) → count_by not marks ≤ count_by not first
-no_more first marks true same fewer = let less = fewer refl in omega arith
-no_more first marks false same fewer = let e = ap (count_by not) (same refl) in omega arith
-
-both : (a b : Bool) → (not a && b) ≡ true → (a ≡ false) × (b ≡ true)
-both true b h = absurd (let w : false ≡ true = h in cc)
-both false b h = (refl, h)
-
-not_both : (a b : Bool) → (not a && b) ≡ false → a ≡ false → b ≡ false
-not_both true b h is = absurd (cc)
-not_both false b h is = h
-
-module _ (S : Rows) (first marks : List Bool) (more : Bool) (n : ℕ) (r : IsRound S first marks more n) where
-  pub round_marks : n < length marks → (not (marked marks n) && has_asked (marked marks) S n) ≡ true → IsRound S first (set marks n true) true (n + 1)
-  round_marks lt is =
-      let b = both _ _ is in
-      let less = fewer_then marks n lt b.0 in
-      let most = no_more first marks more r.same r.fewer in
-      record {
-        founded = founded_then S marks n r.founded b.1;
-        closed = λ e. absurd (let w : true ≡ false = e in cc);
-        same = λ e. absurd (let w : true ≡ false = e in cc);
-        fewer = λ e. omega arith;
-      }
-
-  pub round_passes : (not (marked marks n) && has_asked (marked marks) S n) ≡ false → IsRound S first marks more (n + 1)
-  round_passes is = record {
-    founded = r.founded;
-    closed = λ e k lt un. elim (cases_lt k n) [ inl below ↦ r.closed e k below un | inr here ↦ let at : k ≡ n = omega arith in rw at (not_both _ _ is (rw at at un)) ];
-    same = r.same;
-    fewer = r.fewer;
-  }
-
-  pub round_ends : length S.objects ≤ n → more ≡ false → IsClosed (marked marks) S
-  round_ends all e k un = elim (cases_lt k n) [ inl below ↦ r.closed e k below un | inr past ↦ ap (list_any (λ (f : Live). is_kind_asked (marked marks) f.kind)) (no_fields S k (past_all S k (omega arith))) ]
-
-before : {X : Type 0} (xs : List X) (x : X) (k : ℕ) → k < length xs → slice_get (xs ++ x ∷ []) k ≡ slice_get xs k
+-- a list with an item more at its end
+pub before : {X : Type 0} (xs : List X) (x : X) (k : ℕ) → k < length xs → slice_get (xs ++ x ∷ []) k ≡ slice_get xs k
 before [] x k lt = absurd (omega arith)
 before (y ∷ xs) x zero lt = refl
 before (y ∷ xs) x (suc k) lt = before xs x k (omega arith)
 
-last : {X : Type 0} (xs : List X) (x : X) (k : ℕ) → k ≡ length xs → slice_get (xs ++ x ∷ []) k ≡ Some x
+pub last : {X : Type 0} (xs : List X) (x : X) (k : ℕ) → k ≡ length xs → slice_get (xs ++ x ∷ []) k ≡ Some x
 last [] x zero e = refl
 last [] x (suc k) e = absurd (omega arith)
 last (y ∷ xs) x zero e = absurd (omega arith)

@@ -4,6 +4,8 @@ pub mod Skipped
 pub mod Readers
 pub mod Leaves
 pub mod Planned
+pub mod Leading
+pub mod Marking
 pub mod Asked
 pub mod Passing
 pub mod Reread

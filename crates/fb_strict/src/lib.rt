@@ -4,8 +4,10 @@
 
 pub mod examples;
 pub mod laws;
+mod leads;
 mod links;
 mod located;
+mod marking;
 mod most;
 mod pass;
 mod plan;

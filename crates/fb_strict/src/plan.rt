@@ -1,19 +1,18 @@
 //! The plan of a pass over buffers of a schema.
 
-ghost use Rattle.std.specs.Prelude.{◌≡◌, ◌<◌, ◌≤◌, ℕ, length, map, slice_get, Some, IfOk, OnOk, true, false, not, ◌&&◌};
-ghost use Rattle.std.specs.List.{count_by};
+ghost use Rattle.std.specs.Prelude.{◌≡◌, ◌<◌, length, map, slice_get, Some, IfOk};
 ghost use Rattle.fb_schema.specs.{Rows.Rows, Live.live_fields};
-ghost use Rattle.fb_strict.specs.Skipped.{has_asked, IsClosed};
-ghost use Rattle.fb_strict.specs.Planned.{marked, tasks_in, IsPlan, AreFounded, AreTasks};
+ghost use Rattle.fb_strict.specs.Planned.{marked, tasks_in, IsPlan, AreTasks};
 
-use crate::tasks::{Task, has_asked, is_marked, tasks_in};
+use crate::marking::marks_of;
+use crate::tasks::{Task, is_marked, tasks_in};
 use fb_schema::Schema;
 use std::alloc::{AllocError, Allocator, Global};
 use std::marker::Model;
 
 /// What a pass asks of the tables of a schema: for each object its tasks, none where no union is reached from a table
-/// of it. It takes 25 bytes an object and 12 a task. It is made in rounds over all fields, at most one more than there
-/// are objects that are asked.
+/// of it. It takes 25 bytes an object and 12 a task. While it is made, it takes 12 bytes an object and 16 a live field
+/// beside them, and a time that grows as the objects and their live fields do.
 #[derive(Drop)]
 pub struct Plan<A: Allocator = Global> {
     marks: Vec<bool, A>,
@@ -27,45 +26,6 @@ impl<A: Allocator> Model for Plan<A> {
     ghost Value = { Planned };
 
     ghost view = { λ p. record { marks = p.marks.items; tasks = map (λ v. v.items) p.tasks.items } };
-}
-
-/// Whether an object isn't marked, but has a field that is asked, where the marked ones are.
-#[tactic(auto, using(crate::proofs::Marks::no_fields))]
-fn is_left_out(schema: &Schema<'_>, marks: &[bool], object: u32) -> bool
-    ensures { result ≡ (not (marked marks.now object) && has_asked (marked marks.now) schema.now object) }
-{
-    if is_marked(marks, object) || !schema.is_table(object) {
-        return false;
-    }
-    has_asked(marks, schema.fields_of(object))
-}
-
-/// Marks each object with a field that is asked, where these are; and tells whether any was marked.
-fn mark_more(schema: &Schema<'_>, marks: &mut [bool]) -> bool
-    requires long { length marks.old ≡ length schema.now.objects }
-    requires founded { AreFounded schema.now marks.old }
-    ensures founded { AreFounded schema.now marks.new }
-    ensures closed { result ≡ false → IsClosed (marked marks.new) schema.now }
-    ensures fewer { result ≡ true → count_by not marks.new < count_by not marks.old }
-{
-    let mut more = false;
-    for object in 0..schema.object_count() {
-        if is_left_out(schema, marks, object) {
-            marks[object as usize] = true;
-            more = true;
-        }
-    }
-    more
-}
-
-/// Marks the objects that are asked, where none is marked yet: in rounds, of which the last finds none more.
-fn mark_all(schema: &Schema<'_>, marks: &mut [bool])
-    requires long { length marks.old ≡ length schema.now.objects }
-    requires founded { AreFounded schema.now marks.old }
-    ensures founded { AreFounded schema.now marks.new }
-    ensures closed { IsClosed (marked marks.new) schema.now }
-{
-    'rounds: while mark_more(schema, marks) {}
 }
 
 /// The tasks of an object, none where it is a struct.
@@ -103,8 +63,7 @@ impl<A: Allocator + Copy> Plan<A> {
     pub fn new(alloc: A, schema: &Schema<'_>) -> Result<Plan<A>, AllocError>
         ensures { IfOk result (λ p. IsPlan schema.now p) }
     {
-        let mut marks = vec![in alloc; false; schema.object_count() as usize]?;
-        mark_all(schema, &mut marks);
+        let marks = marks_of(alloc, schema)?;
         let tasks = tasks_of_all(alloc, schema, &marks)?;
         Ok(Plan { marks, tasks })
     }

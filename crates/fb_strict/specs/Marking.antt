@@ -1,0 +1,36 @@
+-- Marks while they are made, and the marked objects in the order in which they were marked.
+use Rattle.std.specs.Prelude.{◌≡◌, ◌⊎◌, ◌+◌, ◌<◌, ℕ, Bool, true, false, not, List, [], length, replicate, slice_get, Some, count_by}
+use Rattle.fb_schema.specs.{Rows.Rows}
+use Rattle.fb_strict.specs.Skipped.{has_asked}
+use Rattle.fb_strict.specs.Planned.{marked, AreFounded}
+
+-- exactly the objects that are marked are in the queue
+pub record IsQueue (marks : List Bool) (queue : List ℕ) : Type 0 where
+  pub all : (k : ℕ) → marked marks k ≡ true → (i : ℕ) × (slice_get queue i ≡ Some k)
+  pub only : (i k : ℕ) → slice_get queue i ≡ Some k → marked marks k ≡ true
+
+-- no object is marked of so many
+pub record NoneMarked (n : ℕ) (marks : List Bool) (queue : List ℕ) : Type 0 where
+  pub marks_are : marks ≡ replicate n false
+  pub queue_is : queue ≡ []
+
+-- only objects of which P holds were marked beside, each at the end of the queue
+pub record Grew (P : ℕ → Type 0) (marks : List Bool) (queue : List ℕ) (marks' : List Bool) (queue' : List ℕ) : Type 0 where
+  pub queued : IsQueue marks' queue'
+  pub long : length marks' ≡ length marks
+  pub kept : (k : ℕ) → marked marks k ≡ true → marked marks' k ≡ true
+  pub only : (k : ℕ) → marked marks' k ≡ true → (marked marks k ≡ true) ⊎ P k
+  pub ahead : (i k : ℕ) → slice_get queue i ≡ Some k → slice_get queue' i ≡ Some k
+  pub weight : count_by not marks' + length queue' ≡ count_by not marks + length queue
+
+-- and all of these are
+pub record Spread (P : ℕ → Type 0) (marks : List Bool) (queue : List ℕ) (marks' : List Bool) (queue' : List ℕ) : Type 0 where
+  pub grew : Grew P marks queue marks' queue'
+  pub all : (k : ℕ) → P k → marked marks' k ≡ true
+
+-- of the first n objects those are marked that have a union, and no others
+pub record UnionsMarked (S : Rows) (n : ℕ) (marks : List Bool) (queue : List ℕ) : Type 0 where
+  pub queued : IsQueue marks queue
+  pub long : length marks ≡ length S.objects
+  pub founded : AreFounded S marks
+  pub all : (k : ℕ) → k < n → has_asked (marked []) S k ≡ true → marked marks k ≡ true
