@@ -1,8 +1,8 @@
 """What is demanded beside the rules of the format: the plain checker by rows that were worked out by hand, the program
 beside the plain checker, and beside what flatc generates.
 
-The program is asked where it has --strict, and generated code where flatc, g++ and the headers of flatbuffers are
-there. bench/strict does the same with far more messages.
+Generated code is asked where flatc, g++ and the headers of flatbuffers are there. bench/strict does the same with far
+more messages.
 """
 
 import itertools
@@ -17,14 +17,14 @@ from tests.support.cases import Case
 from tests.support.file_rows import FileReader
 from tests.support.generated import Generated, Kept, missing
 from tests.support.naive import UNION, VECTOR, Schema, number_at
-from tests.support.program import FOLDER, TOP
+from tests.support.program import FOLDER, TOP, run
 from tests.support.random_buffers import Builder
 from tests.support.random_buffers import damaged as damaged_at_random
 from tests.support.random_rows import Maker, Random
 from tests.support.schemas import U_BYTE, field, table, vector
-from tests.support.strict import FLEX, Demands, Plan, Strict, found_from, holds_bytes, lacks_marks, marks_of
+from tests.support.strict import EVERYTHING, FLEX, STRICT, Demands, Plan, Strict, found_from, holds_bytes, lacks_marks, marks_of
 from tests.support.strict_messages import MESSAGES, bytes_changed, cut, every_byte, words_changed
-from tests.support.strict_program import SETS, has, has_strict, lines_of, words_of_limits
+from tests.support.strict_program import DEMANDED, lines_of, refusal_of, strict_words, words_of_limits
 
 # - `LONE`: a union whose value is the word at 16 and whose type stands at 20; `ALONE`: a type at 16 without a value
 # - `UNTYPED`, `ODD`: a value without a type field, at 16 and at 17
@@ -221,7 +221,7 @@ class PlainChecker(Case):
         """A message is good at exactly its own tables, depth and reads, and at no less."""
         for name, messages in MESSAGES.items():
             kept = Kept(name)
-            for (_, demands), data in itertools.product(SETS, messages):
+            for demands, data in itertools.product(DEMANDS, messages):
                 plan = Plan(kept.schema, demands, kept.marks)
                 verdict = Strict(plan, kept.root, data).verdict(prefix=False)
                 counts = dict(word.split("=") for word in verdict.split() if "=" in word)
@@ -290,10 +290,11 @@ def damaged(dice, messages, step):
 class Made:
     """A schema that is no kept one."""
 
-    def __init__(self, data, schema, marks, root):
+    def __init__(self, data, objects, schema, root):
         self.file = FOLDER / "random.bfbs"
         self.file.write_bytes(data)
-        self.schema, self.marks, self.root = schema, marks, root
+        self.objects, self.schema, self.root = objects, schema, root
+        self.marks = marks_of(objects)
 
 
 def mark(dice, row, names):
@@ -305,43 +306,38 @@ def mark(dice, row, names):
             part[9] = [{0: "flexbuffer", 1: "0"} if dice.once_in(6) else {0: "nested_flatbuffer", 1: dice.choice(names)}]
 
 
+# What the plain checker is asked.
+DEMANDS = [
+    Demands(unions=True), STRICT, Demands(known_fields=True), Demands(utf8=True), EVERYTHING,
+    Demands(known_fields=True, utf8=True),
+]
 LIMITS = [{}, {"alignment": False}, {"inline_size": True}, {"depth": 2}, {"tables": 3}, {"reads": 40}, {"reads": 90}]
 
 
-LACKING = [] if has_strict() else ["a program with --strict"]
-
-
-def skipped_without(lacking):
-    """Skips a class where something isn't there that it needs, and tells what."""
-    if lacking:
-        print(f"tests.test_strict: a part is skipped, for these aren't there: {', '.join(lacking)}")
-    return unittest.skipIf(lacking, f"not there: {', '.join(lacking)}")
-
-
-@skipped_without(LACKING)
 class Program(Case):
-    def told_alike(self, name, kept, messages, flags, demands, limits):
-        told = lines_of(kept.file, messages, *flags, *words_of_limits(limits))
-        plan = Plan(kept.schema, demands, kept.marks)
+    def told_alike(self, name, kept, messages, limits):
+        words = [*strict_words(kept.objects), *words_of_limits(limits)]
+        told = lines_of(kept.file, messages, *words)
+        plan = Plan(kept.schema, DEMANDED, kept.marks)
         wants = [Strict(plan, kept.root, data, **limits).verdict(prefix=False) for data in messages]
         wrong = [row for row in zip(told, wants, messages) if row[0] != row[1]]
-        self.same(f"{name}, {flags}, {limits}: a line for each", len(told), len(wants))
-        self.same(f"{name}, {flags}, {limits}: what is told otherwise, with what should be", wrong[:3], [])
-        self.same(f"{name}, {flags}, {limits}: how many", len(wrong), 0)
+        self.same(f"{name}, {words}: a line for each", len(told), len(wants))
+        self.same(f"{name}, {words}: what is told otherwise, with what should be", wrong[:3], [])
+        self.same(f"{name}, {words}: how many", len(wrong), 0)
         return {want.split()[1] for want in wants if want.startswith("bad")}
 
     def test_beside_the_plain_checker(self):
         dice, reasons = Random(62), set()
         for name, messages in MESSAGES.items():
             kept = Kept(name)
-            for limits, (flags, demands) in zip(LIMITS * 2, itertools.cycle(SETS)):
+            for limits in LIMITS * 4:
                 some = list(damaged(dice, [dice.choice(messages)], 397))
-                reasons |= self.told_alike(name, kept, some, flags, demands, limits)
-        self.holds("the reasons", reasons >= {f"V{code}" for code in (2, 3, 4, 6, 7, 8, 9, 10, 11, 12, 13, 14, 15, 16)}, reasons)
+                reasons |= self.told_alike(name, kept, some, limits)
+        self.holds("the reasons", reasons >= {f"V{code}" for code in (2, 3, 4, 6, 7, 8, 9, 10, 11, 12, 13)}, reasons)
 
     def test_schemas_at_random(self):
         """Buffers at random by schemas at random, of which some vectors of bytes are marked."""
-        dice = Random(64)
+        dice, refused = Random(64), set()
         for number in range(120):
             objects, enums = Maker(dice, 0).rows()
             tables = [row for row in objects if not number_at(row, 2)]
@@ -350,44 +346,50 @@ class Program(Case):
             if not tables:
                 continue
             schema, root = Schema(objects, enums), dice.choice(tables)[0]
-            made = Made(schemas.schema(objects, enums, root=root), schema, marks_of(objects), schema.names.index(root))
+            made = Made(schemas.schema(objects, enums, root=root), objects, schema, schema.names.index(root))
             some = [damaged_at_random(dice, Builder(dice, schema).built(made.root, False, None)) for _ in range(60)]
-            flags, demands = SETS[number % len(SETS)]
-            flags = [*flags, "--plain-bytes"] if "--strict" in flags and has("--plain-bytes") and lacks_marks(objects) else flags
-            self.told_alike(f"schema {number}", made, some, flags, demands, LIMITS[number % len(LIMITS)])
+            self.told_alike(f"schema {number}", made, some, LIMITS[number % len(LIMITS)])
+            refused.add(self.refused_alike(f"schema {number}", made))
+        self.same("why strict checks are refused, or aren't", len(refused), 3)
+
+    def refused_alike(self, name, made):
+        """--strict by itself is refused by what a schema file's marks say, and by that alone."""
+        why, ran = refusal_of(made.objects), run("--schema", made.file, "--strict")
+        text = ran.err.decode().partition("\n")[0]
+        self.same(f"{name}: the status", ran.status, 2 if why else 0)
+        self.same(f"{name}: why", text.startswith(f"fbcheck: {why}") if why else text == "", True)
+        return why
 
     def test_each_budget(self):
         for name, messages in MESSAGES.items():
             kept, some = Kept(name), [messages[1], messages[2]]
             for reads in range(0, 130, 3):
-                for flags, demands in (SETS[0], SETS[3]):
-                    self.told_alike(name, kept, some, flags, demands, {"reads": reads})
+                self.told_alike(name, kept, some, {"reads": reads})
 
 
 # By kinds.fbs, what plain checks take and generated code doesn't bear: the value of a type 0 that is far away, a type
-# without its value, types without a vector of values, and bytes that hold no buffer.
-UNBORNE = [
-    buffer({11: "n", 22: ("I", 0x7FFFFFF0)}), buffer({11: "n", 21: ("B", 1)}), buffer({11: "n", 23: Plain(b"\1", 1, 1)}),
-    buffer({11: "n", 27: Plain(b"\xff\xff\xff\x7f" * 4, 8, 16)}),
-]
+# without its value, and types without a vector of values.
+UNBORNE = [buffer({11: "n", 22: ("I", 0x7FFFFFF0)}), buffer({11: "n", 21: ("B", 1)}), buffer({11: "n", 23: Plain(b"\1", 1, 1)})]
 
 
-@skipped_without([*LACKING, *missing()])
+@unittest.skipIf(missing(), f"not there: {', '.join(missing())}")
 class GeneratedCode(Case):
-    """What --strict takes is taken by the generated verifier, and accessors and UnPack read nothing outside of it."""
+    """What --strict takes is taken by the generated verifier, and accessors and UnPack read nothing outside of it, where
+    a schema has no buffers inside others."""
 
     def test_beside_generated_code(self):
-        dice = Random(63)
-        made = Generated("kinds", FOLDER / "generated")
-        made.build("all")
-        messages = list(damaged(dice, MESSAGES["kinds"], 61))
-        told = lines_of(made.file, messages, "--strict")
-        taken = made.verdicts(messages, "all")
-        good = [data for data, line in zip(messages, told, strict=True) if line.startswith("ok")]
-        refused = [data.hex() for data, line, is_taken in zip(messages, told, taken) if line.startswith("ok") > is_taken]
-        self.holds("some are good", len(good) > 1000, len(good))
-        self.same("what the generated verifier refuses", refused[:3], [])
-        self.same("what its code doesn't bear", made.failures("reads", good, "good", "all"), [])
+        for name in ["unions", "kinds"]:
+            dice = Random(63)
+            made = Generated(name, FOLDER / "generated", marked=False)
+            made.build("all")
+            messages = list(damaged(dice, MESSAGES[name], 61))
+            told = lines_of(made.file, messages, "--strict")
+            taken = made.verdicts(messages, "all")
+            good = [data for data, line in zip(messages, told, strict=True) if line.startswith("ok")]
+            refused = [data.hex() for data, line, is_taken in zip(messages, told, taken) if line.startswith("ok") > is_taken]
+            self.holds(f"{name}: some are good", len(good) > 500, len(good))
+            self.same(f"{name}: what the generated verifier refuses", refused[:3], [])
+            self.same(f"{name}: what its code doesn't bear", made.failures("reads", good, "good", "all"), [])
         self.same("plain checks take these", {line[:2] for line in lines_of(made.file, UNBORNE)}, {"ok"})
         self.same("--strict refuses them", {line[:3] for line in lines_of(made.file, UNBORNE, "--strict")}, {"bad"})
         fell = [data for data, _ in made.failures("reads", UNBORNE, "bad", "all")]

@@ -5,13 +5,24 @@ import subprocess
 from tests.support.builder import prefixed
 from tests.support.every_kind import words_of
 from tests.support.program import PROGRAM, run
-from tests.support.strict import EVERYTHING, STRICT, Demands
+from tests.support.strict import Demands, lacks_marks, marks_of
 
-# The words by which the program demands something, and what that is.
-SETS = [
-    (["--strict"], STRICT), (["--known-fields"], Demands(known_fields=True)), (["--utf8"], Demands(utf8=True)),
-    (["--strict", "--known-fields", "--utf8"], EVERYTHING), (["--known-fields", "--utf8"], Demands(known_fields=True, utf8=True)),
-]
+# What --strict demands. It doesn't look into buffers inside others.
+DEMANDED = Demands(unions=True)
+MARKED = "strict doesn't look inside nested buffers and flexbuffers yet"
+UNMARKED = "strict can't tell which bytes are nested buffers or flexbuffers"
+
+
+def refusal_of(objects):
+    """Why --strict is refused by a schema file with these rows, None where it isn't."""
+    if marks_of(objects):
+        return MARKED
+    return UNMARKED if lacks_marks(objects) else None
+
+
+def strict_words(objects):
+    """The words that make strict checks by a schema file with these rows."""
+    return ["--strict", "--plain-bytes"] if refusal_of(objects) else ["--strict"]
 
 
 def words_of_limits(limits):
