@@ -1,17 +1,13 @@
 """What --strict asks of a schema's tables is found in a time that grows as the schema does, whatever its order: chains
 of tables, each of which leads to the next one or to the one before, and of which the last has a union.
-
-It is asked of a program that has --strict.
 """
 
 import resource
 import subprocess
-import unittest
 
 from tests.support.cases import Case
 from tests.support.program import PROGRAM, file_of
 from tests.support.schemas import NONE, U_TYPE, a_union, an_object, field, schema, table, union
-from tests.support.strict_program import has_strict
 
 TABLES = 8_192
 RUNS = 5
@@ -37,7 +33,6 @@ def seconds(file):
     return min(times)
 
 
-@unittest.skipUnless(has_strict(), "the program has no --strict")
 class PlanTime(Case):
     def test_twice_the_tables_take_about_twice_the_time(self):
         for name, step in [("to the next", 1), ("to the one before", -1)]:
