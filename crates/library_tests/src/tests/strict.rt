@@ -4,8 +4,11 @@ use crate::tests::compare::same;
 use crate::tests::unions::{Q, unions};
 use fb_bytes::Meter;
 use fb_schema::Schema;
-use fb_strict::{Plan, Room, most_reads_strictly, verify_strictly, verify_strictly_shallow};
-use fb_verify::{Checks, Fault, Ident, Limits, Reason, Report, Scratch, Start};
+use fb_strict::{
+    Plan, Room, most_reads_strictly, verify_strictly, verify_strictly_and_locate,
+    verify_strictly_shallow,
+};
+use fb_verify::{Checks, Fault, Ident, Limits, Link, Located, Reason, Report, Scratch, Start};
 use std::alloc::Global;
 use std::process::Abort;
 
@@ -83,6 +86,21 @@ const LATE: Fault = Fault {
     reason: Reason::TooManyReads,
 };
 
+/// The way to the last item, and what stands where no link was put.
+const LAST: Link = Link {
+    object: Q,
+    field: 1,
+    element: Some(59),
+    member: Some(9),
+};
+
+const BLANK: Link = Link {
+    object: 0,
+    field: 0,
+    element: None,
+    member: None,
+};
+
 /// What a strict verdict on these bytes reports within this budget of reads, in room that the caller lends.
 fn in_room(
     rt: &impl Abort,
@@ -148,6 +166,42 @@ fn both_answer(
     same(rt, on_the_stack(rt, alloc, schema, bytes, budget), want);
 }
 
+/// Asserts that these bytes have this fault within this budget of reads, and that the last item alone leads to it.
+fn leads_to_the_last_item(
+    rt: &impl Abort,
+    alloc: Global,
+    schema: &Schema<'_>,
+    bytes: &[u8],
+    budget: u64,
+    fault: Fault,
+) {
+    let meter = Meter::new(bytes).expect(rt, "a short buffer");
+    let plan = Plan::new(alloc, schema).expect(rt, "memory");
+    let mut scratch = Scratch::new(alloc, 64).expect(rt, "memory");
+    let mut room = Room::new(alloc, 64).expect(rt, "memory");
+    let mut links = [BLANK; 64];
+    assert!(rt; schema.is_table(Q));
+    let answer = verify_strictly_and_locate(
+        meter,
+        schema,
+        Q,
+        Start::Bare,
+        Ident::Any,
+        Limits::published().with_reads(budget),
+        Checks::published(),
+        &plan,
+        &mut scratch,
+        &mut room,
+        &mut links,
+    );
+    match answer {
+        Ok(_) => panic!(rt; "no fault"),
+        Err(located) => same(rt, located, Located { fault, links: 1 }),
+    }
+    same(rt, links[0], LAST);
+    same(rt, links[1], BLANK);
+}
+
 /// Asserts that a verdict costs no more than a budget and 7 reads.
 fn costs_little_more_than_its_budget(rt: &impl Abort, schema: &Schema<'_>) {
     let limits = Limits::published().with_reads(296);
@@ -161,5 +215,7 @@ fn a_message_of_sixty_items_is_strict_up_to_its_last_word(rt: HostRuntime) {
     both_answer(&rt, rt.alloc(), &schema, ITEMS, 296, Ok(COUNTS));
     both_answer(&rt, rt.alloc(), &schema, ITEMS, 295, Err(LATE));
     both_answer(&rt, rt.alloc(), &schema, cut, 296, Err(FAULT));
+    leads_to_the_last_item(&rt, rt.alloc(), &schema, ITEMS, 295, LATE);
+    leads_to_the_last_item(&rt, rt.alloc(), &schema, cut, 296, FAULT);
     costs_little_more_than_its_budget(&rt, &schema);
 }
