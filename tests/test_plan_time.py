@@ -22,19 +22,25 @@ def chain(tables, step):
     return schema(objects, [union("U", ("NONE", 0, NONE), ("A", 1, an_object(0)))], root=f"T{begin:05}")
 
 
+def used():
+    """The processor's time of all programs that ended."""
+    usage = resource.getrusage(resource.RUSAGE_CHILDREN)
+    return usage.ru_utime + usage.ru_stime
+
+
 def seconds(file):
     """The processor's time of the fastest run of the program over an empty input: it loads the schema and makes the
     plan."""
     times = []
     for _ in range(RUNS):
-        begun = resource.getrusage(resource.RUSAGE_CHILDREN).ru_utime
+        begun = used()
         subprocess.run([PROGRAM, "--schema", file, "--strict"], stdin=subprocess.DEVNULL, check=True)
-        times.append(resource.getrusage(resource.RUSAGE_CHILDREN).ru_utime - begun)
+        times.append(used() - begun)
     return min(times)
 
 
 class PlanTime(Case):
-    def test_twice_the_tables_take_about_twice_the_time(self):
+    def test_four_times_the_tables_take_about_four_times_the_time(self):
         for name, step in [("to the next", 1), ("to the one before", -1)]:
-            one, two = (seconds(file_of(f"chain {n} {step}.bfbs", chain(n, step))) for n in (TABLES, 2 * TABLES))
-            self.holds(name, two <= 3 * one, (one, two))
+            one, four = (seconds(file_of(f"chain {n} {step}.bfbs", chain(n, step))) for n in (TABLES, 4 * TABLES))
+            self.holds(name, four <= 8 * one + 0.05, (one, four))
