@@ -17,7 +17,7 @@ use Rattle.fb_lines.proofs.JsonLemmas.{first_member, next_member, no_more, numbe
 abbrev IsKey : ℕ → Type 0
 IsKey n = quoted (codes "V" ++ decimal n) ≡ codes "\"V" ++ (decimal n ++ codes "\"")
 
-key_text : (n : ℕ) → n ≤ reason_count → IsKey n
+key_text : (n : ℕ) → n < reason_count + 1 → IsKey n
 unfolding digits escape_byte
 key_text =
     let m = below_more IsKey in
@@ -28,7 +28,7 @@ key_text =
 abbrev given_part : ℕ → ℕ → List ℕ
 given_part k count = in_form form.Json (codes " V") (codes ",\"V") ++ decimal k ++ in_form form.Json (codes "=") (codes "\":") ++ decimal count
 
-given_text : (k count : ℕ) (more : Members) → k ≤ reason_count
+given_text : (k count : ℕ) (more : Members) → k < reason_count + 1
     → following (member (codes "V" ++ decimal k) (count_json count) more) ++ codes "\n" ≡ given_part k count ++ (following more ++ codes "\n")
 given_text k count more few =
     ap (λ l. l ++ codes "\n") (
@@ -37,7 +37,7 @@ given_text k count more few =
     )
     ∙ simp (number_text, append_assoc)
 
-reason_text : (none : Bool) (k count : ℕ) (more : Members) (text : List ℕ) → k ≤ reason_count → following more ++ codes "\n" ≡ text
+reason_text : (none : Bool) (k count : ℕ) (more : Members) (text : List ℕ) → k < reason_count + 1 → following more ++ codes "\n" ≡ text
     → following (if none then more else member (codes "V" ++ decimal k) (count_json count) more) ++ codes "\n" ≡ (if none then [] else given_part k count) ++ text
 reason_text true k count more text few is = is
 reason_text false k count more text few is = given_text k count more few ∙ ap (λ l. given_part k count ++ l) is
