@@ -68,7 +68,7 @@ schema root ident = record {
 
 -- one that was made with these demands, whose plan asks nothing
 abbrev pub no_tasks : Planned
-no_tasks = record { demands = record { unions = true; nested = true; known_fields = false; utf8 = false }; marks = []; tasks = [] }
+no_tasks = record { marks = []; tasks = [] }
 
 abbrev pub made_with : ℕ → Based
 made_with demands = record { loaded = schema (Some 2) None; demands = demands; plan = Some no_tasks }

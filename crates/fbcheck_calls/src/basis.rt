@@ -4,14 +4,14 @@ ghost use Rattle.std.specs.Prelude.{◌≡◌, ◌↔◌, IfErr, IfOk, IfSome, I
 ghost use Rattle.fb_bfbs.specs.Loads.{IsLoaded};
 ghost use Rattle.fb_schema.specs.Live.{live_of_view};
 ghost use Rattle.fb_strict.specs.Planned.{IsPlan};
-ghost use Rattle.fbcheck_calls.specs.Answered.{HasPlainBytes, IsNotOpened, IsNumbered, IsOpened, IsPlanFor, demanded};
+ghost use Rattle.fbcheck_calls.specs.Answered.{HasPlainBytes, IsNotOpened, IsNumbered, IsOpened, IsPlanFor};
 ghost use Rattle.fbcheck_calls.specs.Asked.{HasLimits, limits_of, plan_asked, plan_for};
 
 use crate::answer::{Answer, FieldAt};
 use crate::options::{DEEPEST, Options, STRICT};
 use fb_bfbs::{ByteField, BytesFault, LoadFault, Loaded, load, load_marks, test_bytes};
 use fb_schema::Schema;
-use fb_strict::{Demands, Plan};
+use fb_strict::Plan;
 use fb_verify::Limits;
 use std::alloc::{AllocError, Global};
 use std::marker::Model;
@@ -33,7 +33,7 @@ impl Model for Basis {
 
     ghost view = { λ b. record { loaded = b.loaded; demands = b.demands; plan = b.plan } };
 
-    ghost invariant = { λ b. IfSome b.plan (λ p. IsPlan b.loaded.schema p.demands p) };
+    ghost invariant = { λ b. IfSome b.plan (IsPlan b.loaded.schema) };
 }
 
 impl Basis {
@@ -48,7 +48,7 @@ impl Basis {
     /// The plan for these demands; none where the schema was made with others.
     pub fn plan_for(&self, demands: u32) -> Option<&Plan>
         ensures plan { option_map (λ p. p.now) result ≡ plan_for self.now demands }
-        ensures fits { IfSome result (λ p. IsPlan self.now.loaded.schema (p.now).demands p.now) }
+        ensures fits { IfSome result (λ p. IsPlan self.now.loaded.schema p.now) }
     {
         if demands == self.demands {
             self.plan.as_ref()
@@ -110,18 +110,6 @@ fn test_file(
     }
 }
 
-/// What these demands, which aren't 0, ask of a buffer beside the rules of the format.
-fn demanded(demands: u32) -> Demands
-    ensures { result ≡ demanded demands }
-{
-    Demands {
-        unions: true,
-        nested: demands == STRICT,
-        known_fields: false,
-        utf8: false,
-    }
-}
-
 /// The plan of a schema for these demands, none where there are none.
 fn plan_of(alloc: Global, schema: &Schema<'_>, demands: u32) -> Result<Option<Plan>, AllocError>
     ensures { IfOk result (IsPlanFor schema.now demands) }
@@ -129,7 +117,7 @@ fn plan_of(alloc: Global, schema: &Schema<'_>, demands: u32) -> Result<Option<Pl
     if demands == 0 {
         return Ok(None);
     }
-    Ok(Some(Plan::new(alloc, schema, demanded(demands))?))
+    Ok(Some(Plan::new(alloc, schema)?))
 }
 
 /// Loads a schema file within the limits of the options, and makes the plan for their demands.
