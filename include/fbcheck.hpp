@@ -9,7 +9,8 @@
 //
 // A bad buffer doesn't throw. These do, and say why in words: SchemaError (not a usable schema file), PathError (not a
 // path), StreamError (a stream that can't go on), and Misuse (unusable options or arguments: no root table, another
-// version, max_depth beyond the scratch, a schema that was moved from). std::bad_alloc is thrown too.
+// version, max_depth beyond the scratch, demands without which the Schema was made, a schema that was moved from).
+// std::bad_alloc is thrown too.
 //
 // Any number of threads may use one const Schema; to replace it while they run, hold it in a std::shared_ptr. A Scratch
 // or a Framer must not be used by two calls at once: give each thread its own. For calls of fbcheck.h that aren't
@@ -25,7 +26,11 @@
 //
 // UnPack() as flatc generates it doesn't check: it fetches a union's value whatever its type, and so can crash on
 // buffers that are ok; Pack() can crash on objects that UnPack() made of these. Nor do FIELD_nested_root() and
-// FIELD_flexbuffer_root() check the bytes that they read.
+// FIELD_flexbuffer_root() check the bytes that they read. With FBCHECK_STRICT (Options::demands) an ok says more: a
+// reader may fetch a union's value before it checks the type, as long as it follows no more than the value's own offset
+// then, and may go through a vector of unions by the length of either vector. UnPack() does no more than that. Make the
+// Schema with these demands, and pass them to each call: without them a call isn't strict, whatever the Schema was made
+// with.
 //
 // A buffer must not change during a call, nor while its values are read. If others can write to it (shared memory, a
 // mapped file), make a private copy, and check and read that.
@@ -105,11 +110,12 @@ inline std::string why(std::uint32_t status) {
     return why(told);
 }
 
-// A file isn't a usable schema; verdict has the reason. V5 WrongIdentifier means that it isn't a .bfbs (for example
-// .fbs text), V2 OutOfBuffer at=4 that it is empty.
+// A file isn't a usable schema, or doesn't say enough for the demands (then its text names a field); verdict has the
+// reason. V5 WrongIdentifier means that it isn't a .bfbs (for example .fbs text), V2 OutOfBuffer at=4 that it is empty.
 class SchemaError : public std::runtime_error {
   public:
-    explicit SchemaError(const fbcheck_verdict &told) : std::runtime_error("no schema: " + why(told)), verdict(told) {}
+    explicit SchemaError(const fbcheck_verdict &told, const std::string &field = {})
+        : std::runtime_error("no schema: " + why(told) + (field.empty() ? "" : ": " + field)), verdict(told) {}
     fbcheck_verdict verdict;
 };
 
@@ -248,7 +254,7 @@ class Schema {
         fbcheck_verdict told;
         schema_.reset(fbcheck_schema_new(file.data(), file.size(), &options, &told));
         if (schema_ == nullptr && told.status == FBCHECK_NO_MEMORY) throw std::bad_alloc();
-        if (schema_ == nullptr) throw SchemaError(told);
+        if (schema_ == nullptr) throw SchemaError(told, unplanned(file, options, told));
     }
     Schema(const void *file, std::size_t length, const Options &options = {}) : Schema(Bytes(file, length), options) {}
 
@@ -317,6 +323,22 @@ class Schema {
     const fbcheck_schema *get() const noexcept { return schema_.get(); }
 
   private:
+    // The field that keeps demands from being asked, as "Table.field", if that is why there is no schema.
+    static std::string unplanned(Bytes file, Options options, const fbcheck_verdict &told) {
+        if (told.status != FBCHECK_UNMARKED_BYTES && told.status != FBCHECK_MARKED_BYTES) return {};
+        options.demands = 0;
+        const Schema plain(file, options);
+        const auto name = [](auto &&call) {
+            std::string text(call(nullptr, 0), 0);
+            return call(text.data(), text.size()), text;
+        };
+        return name([&](char *text, std::size_t size) {
+                   return fbcheck_object_name(plain.get(), told.object, text, size);
+               }) +
+               "." + name([&](char *text, std::size_t size) {
+                   return fbcheck_field_name(plain.get(), told.object, told.field, text, size);
+               });
+    }
     static fbcheck_scratch *room(Scratch *scratch) noexcept { return scratch ? scratch->get() : nullptr; }
     static std::uint32_t served(std::uint32_t status, std::uint64_t at = 0) {
         if (status != FBCHECK_OK && status != FBCHECK_BAD && status != FBCHECK_TOO_LONG) throw Misuse(status, at);

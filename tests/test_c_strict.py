@@ -5,17 +5,18 @@ import itertools
 
 from tests.support import schemas
 from tests.support.buffers import ORC
-from tests.support.builder import prefixed
+from tests.support.builder import buffer, prefixed
 from tests.support.generated import Kept
 from tests.support.library import SANITIZED, SHARED, STATIC, LibraryCase, module, ran
 from tests.support.naive import Schema, number_at
-from tests.support.program import TOP, run
+from tests.support.program import TOP, file_of, run
 from tests.support.random_buffers import Builder
 from tests.support.random_buffers import damaged as damaged_at_random
 from tests.support.random_rows import Maker, Random
 from tests.support.strict import Plan, Strict
 from tests.support.strict_messages import MESSAGES, PREFIXED
 from tests.support.strict_program import DEMANDED, strict_words, words_of_limits
+from tests.support.tools import there
 from tests.test_strict import Made, damaged, mark
 
 STRICT, PLAIN_BYTES = 1, 8
@@ -169,6 +170,26 @@ class StrictForC(LibraryCase):
     def numbers(lines):
         """Lines without names of reasons behind their codes."""
         return [[word for word in line.split() if not word.isalpha() or word in ("ok", "bad")] for line in lines.split("\n")]
+
+    def test_in_cpp(self):
+        """The classes of fbcheck.hpp: strict verdicts and others by one Schema, and what is thrown."""
+        if not there("c++"):
+            self.skipTest("c++ isn't there")
+        source = TOP / "tests/c/demands.cpp"
+        program = self.compiled("demands", source, *SANITIZED, *STATIC, compiler="c++", standard="-std=c++17")
+        kept = Kept("kinds")
+        words = ["--bare", "--names", "--schema", kept.file]
+        refused = run("--schema", kept.file, "--strict").err.decode().removeprefix("fbcheck: ")
+        for data in [MESSAGES["kinds"][1], buffer({11: "n", 21: ("B", 1)}), b""]:
+            plain, strict = (run(*words, *more, given=data).out.decode().strip().removeprefix("1 ")
+                             for more in ([], ["--strict", "--plain-bytes"]))
+            status, out, _ = ran(program, kept.file, file_of("kinds.bin", data))
+            *verdicts, unplanned, unmade = out.splitlines()
+            want = [strict, strict, strict, str(int(strict.startswith("ok"))), plain]
+            self.same(f"the verdicts on {data.hex()}", (status, verdicts), (0, want))
+            self.same("another Schema", unplanned, "nothing was checked: the schema was made with other demands")
+            self.same("a file", refused.startswith(unmade.removeprefix("no schema: ")), True)
+            self.holds("with the field", ": strict.kinds." in unmade, unmade)
 
     def test_unplanned(self):
         """Demands that a schema wasn't made with are refused by each call, in its turn; no demands never are."""

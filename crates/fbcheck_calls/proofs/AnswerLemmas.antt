@@ -1,5 +1,5 @@
 -- To whom a yes is due, and to whom a no.
-use Rattle.std.proofs.Common.{length, ◌≡◌, ◌≢◌, ◌==◌, ℕ, ◌≤◌, ◌<◌, ◌^◌, List, refl, sym, subst, arith, Bool, true, false, Option, Some, None, option_map, IsSome, IsSomeAnd, if◌then◌else◌, eqb-true}
+use Rattle.std.proofs.Common.{length, ◌≡◌, ◌==◌, ℕ, ◌≤◌, ◌<◌, ◌^◌, List, refl, sym, subst, arith, Bool, true, false, Option, Some, None, option_map, IsSome, IsSomeAnd, if◌then◌else◌, eqb-true}
 use Rattle.std.proofs.lemmas.Bool.{ne_eqb}
 use Rattle.fb_rules.specs.{Question.Question, Tree.Tree}
 use Rattle.fb_rules.specs.declared.start.Ident.{Ident}

@@ -10,7 +10,7 @@ use Rattle.fb_strict.specs.AsAsked.{ReportsBy, HasNoneBy, StopsBy}
 use Rattle.fbcheck_calls.specs.declared.{answer.Answer.Answer, answer.FieldAt.FieldAt, answer.Verdict.Verdict, checking.Begun.Begun, held.Held.Held}
 use Rattle.fbcheck_calls.specs.declared.{held.Held.TheVariants.Schema, held.Held.TheVariants.Room, options.Options.Options}
 use Rattle.fbcheck_calls.specs.declared.answer.Answer.TheVariants.{Done, Good, Bad, OutOfRange, NoIdent, NoRoot, TooLong, NoSchema, NotPlanned, UnmarkedBytes, MarkedBytes}
-use Rattle.fbcheck_calls.specs.Asked.{HasLimits, LimitsFail, checks_asked, ident_asked, limits_of, plan_asked, question_of, root_asked, start_asked}
+use Rattle.fbcheck_calls.specs.Asked.{HasLimits, LimitsFail, asks_marks, checks_asked, demands_of, ident_asked, limits_of, plan_asked, question_of, root_asked, start_asked}
 use Rattle.fbcheck_calls.specs.Bases.{Based}
 use Rattle.fbcheck_calls.specs.Told.{blank, low, told}
 
@@ -19,15 +19,15 @@ use Rattle.fbcheck_calls.specs.Told.{blank, low, told}
 -- the plan of rows for these demands, none where there are none
 abbrev pub IsPlanFor : Rows → ℕ → Option Planned → Type 0
 IsPlanFor rows n None = n ≡ 0
-IsPlanFor rows n (Some plan) = (n ≢ 0) × IsPlan rows plan
+IsPlanFor rows n (Some plan) = (n ≢ 0) × IsPlan rows (demands_of n) plan
 
 -- these are the marks of a file that are asked where checks are strict and bytes aren't taken for plain
 abbrev pub AreMarksAsked : List ℕ → Options → Marks → Type 0
-AreMarksAsked file o marks = (o.demands ≡ 1) × AreMarks file (limits_of o (length file)) marks
+AreMarksAsked file o marks = IsTrue (asks_marks o.demands) × AreMarks file (limits_of o (length file)) marks
 
 -- by them no field of bytes holds a buffer or a flexbuffer
 abbrev pub HasPlainBytes : List ℕ → Options → Rows → Type 0
-HasPlainBytes file o rows = o.demands ≡ 1 → (marks : Marks) × AreMarksAsked file o marks × AreAllPlain rows (map marked marks.fields.items) marks.builtins
+HasPlainBytes file o rows = IsTrue (asks_marks o.demands) → (marks : Marks) × AreMarksAsked file o marks × AreAllPlain rows (map marked marks.fields.items) marks.builtins
 
 -- the schema that the file describes, with the plan for the demands
 pub record IsOpened (file : List ℕ) (o : Options) (s : Based) : Type 0 where

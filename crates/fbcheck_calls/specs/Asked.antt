@@ -1,11 +1,12 @@
 -- What options ask.
-use Rattle.std.specs.Prelude.{◌≡◌, ℕ, ◌<◌, ◌≤◌, ◌==◌, ◌||◌, min, Bool, true, false, not, List, length, replicate, Option, Some, None, option_map, IsTrue, if◌then◌else◌}
+use Rattle.std.specs.Prelude.{◌≡◌, ℕ, ◌<◌, ◌≤◌, ◌==◌, ◌||◌, ◌&&◌, ◌/◌, ◌%◌, nat_le, min, Bool, true, false, not, List, length, replicate, Option, Some, None, option_map, IsTrue, if◌then◌else◌}
 use Rattle.fb_bfbs.specs.LoadLaws.{ident_bytes, own_ident}
 use Rattle.fb_bfbs.specs.declared.loading.Loaded.{Loaded}
 use Rattle.fb_schema.specs.Rows.{Rows, is_table}
 use Rattle.fb_rules.specs.{Bounds.Bounds, Bounds.limits_of_length, Question.Question, Question.question}
 use Rattle.fb_rules.specs.declared.{checks.Checks.Checks, start.Ident.Ident, start.Ident.TheVariants.Any, start.Ident.TheVariants.Want}
 use Rattle.fb_strict.specs.Planned.{Planned}
+use Rattle.fb_strict.specs.declared.demands.Demands.{Demands}
 use Rattle.fb_rules.specs.declared.{start.Start.Start, start.Start.TheVariants.Bare, start.Start.TheVariants.Prefixed}
 use Rattle.fbcheck_calls.specs.declared.{answer.Answer.Answer, answer.Answer.TheVariants.UnknownOptions, answer.Answer.TheVariants.OutOfRange}
 use Rattle.fbcheck_calls.specs.declared.options.Options.{Options}
@@ -34,6 +35,14 @@ limits_of o n = limits_of_length (record { depth = o.max_depth; tables = o.max_t
 -- this library knows these demands: none, strict checks, and such of plain bytes
 abbrev pub known_demands : ℕ → Bool
 known_demands n = n == 0 || (n == 1 || n == 9)
+
+-- such as a schema file's marks are asked for: strict checks, in which bytes aren't plain
+abbrev pub asks_marks : ℕ → Bool
+asks_marks n = n % 2 == 1 && nat_le n 7
+
+-- what is demanded of buffers by them; of buffers inside others nothing is asked yet
+abbrev pub demands_of : ℕ → Demands
+demands_of n = record { unions = n % 2 == 1; nested = false; known_fields = (n / 2) % 2 == 1; utf8 = (n / 4) % 2 == 1 }
 
 -- this library knows the options
 pub record AreKnown (o : Options) : Type 0 where

@@ -16,7 +16,8 @@ use Rattle.fbcheck_calls.specs.declared.{answer.Answer.Answer, answer.Verdict.Ve
 use Rattle.fbcheck_calls.specs.declared.steps.PlainStep.{PlainStep}
 use Rattle.fbcheck_calls.specs.declared.answer.Answer.TheVariants.{Done, Good, Bad, UnknownOptions, OutOfRange, NoIdent, NoRoot, TooLong, NoSchema, NoSpan, BadStream, BadPath, NoRoom, Misfit, NotPlanned, UnmarkedBytes, MarkedBytes}
 use Rattle.fb_strict.specs.Planned.{Planned}
-use Rattle.fbcheck_calls.specs.Asked.{checks_asked, ident_asked, known_demands, limits_of, plan_asked, published, root_asked, start_asked}
+use Rattle.fb_strict.specs.declared.demands.Demands.{Demands}
+use Rattle.fbcheck_calls.specs.Asked.{asks_marks, checks_asked, demands_of, ident_asked, known_demands, limits_of, plan_asked, published, root_asked, start_asked}
 use Rattle.fbcheck_calls.specs.Bases.{Based}
 use Rattle.fbcheck_calls.specs.{Framers.IsRoom, Framers.fed_status, Framers.used_or, Names.filled, Names.number_or_none, Placed.cut_to}
 use Rattle.fbcheck_calls.specs.{Spans.all_good, Spans.cut, Steps.no_step, Steps.step_of, Steps.steps_in, Told.blank, Told.code_number, Told.told}
@@ -66,9 +67,12 @@ schema root ident = record {
   ident = ident;
 }
 
+abbrev pub unions_alone : Demands
+unions_alone = record { unions = true; nested = false; known_fields = false; utf8 = false }
+
 -- one that was made with these demands, whose plan asks nothing
 abbrev pub no_tasks : Planned
-no_tasks = record { marks = []; tasks = [] }
+no_tasks = record { demands = demands_of 1; marks = []; tasks = [] }
 
 abbrev pub made_with : ℕ → Based
 made_with demands = record { loaded = schema (Some 2) None; demands = demands; plan = Some no_tasks }
@@ -96,6 +100,8 @@ pub record Questions : Type 0 where
   pub empty_ident : ident_asked (schema None (name [])) (with_ident 2) ≡ Some Any
   pub long_ident : ident_asked (schema None (name (codes "LONGER"))) (with_ident 2) ≡ None
   pub demands : filter known_demands (0 ∷ 1 ∷ 2 ∷ 3 ∷ 4 ∷ 8 ∷ 9 ∷ 16 ∷ []) ≡ 0 ∷ 1 ∷ 9 ∷ []
+  pub of_unions : map demands_of (1 ∷ 9 ∷ []) ≡ unions_alone ∷ unions_alone ∷ []
+  pub marks : filter asks_marks (0 ∷ 1 ∷ 9 ∷ []) ≡ 1 ∷ []
   pub no_demands : plan_asked (made_with 1) published ≡ Some None
   pub planned : plan_asked (made_with 1) (record published { demands = 1 }) ≡ Some (Some no_tasks)
   pub unplanned : map (λ n. plan_asked (made_with n) (record published { demands = 1 })) (0 ∷ 9 ∷ []) ≡ None ∷ None ∷ []

@@ -8,7 +8,7 @@ ghost use Rattle.fbcheck_calls.specs.Answered.{HasPlainBytes, IsNotOpened, IsNum
 ghost use Rattle.fbcheck_calls.specs.Asked.{HasLimits, limits_of, plan_asked, plan_for};
 
 use crate::answer::{Answer, FieldAt};
-use crate::options::{DEEPEST, Options, STRICT};
+use crate::options::{DEEPEST, Options, asks_marks, demands_of};
 use fb_bfbs::{ByteField, BytesFault, LoadFault, Loaded, load, load_marks, test_bytes};
 use fb_schema::Schema;
 use fb_strict::Plan;
@@ -33,7 +33,7 @@ impl Model for Basis {
 
     ghost view = { λ b. record { loaded = b.loaded; demands = b.demands; plan = b.plan } };
 
-    ghost invariant = { λ b. IfSome b.plan (IsPlan b.loaded.schema) };
+    ghost invariant = { λ b. IfSome b.plan (λ p. IsPlan b.loaded.schema p.demands p) };
 }
 
 impl Basis {
@@ -48,7 +48,7 @@ impl Basis {
     /// The plan for these demands; none where the schema was made with others.
     pub fn plan_for(&self, demands: u32) -> Option<&Plan>
         ensures plan { option_map (λ p. p.now) result ≡ plan_for self.now demands }
-        ensures fits { IfSome result (λ p. IsPlan self.now.loaded.schema p.now) }
+        ensures fits { IfSome result (λ p. IsPlan self.now.loaded.schema (p.now).demands p.now) }
     {
         if demands == self.demands {
             self.plan.as_ref()
@@ -96,7 +96,7 @@ fn test_file(
     ensures ok { OnOk result (HasPlainBytes file.now options.now loaded.now.schema) }
     ensures no { IfErr result (IsNotOpened file.now options.now) }
 {
-    if options.demands != STRICT {
+    if !asks_marks(options.demands) {
         return Ok(());
     }
     let marks = match load_marks(alloc, file, limits) {
@@ -117,7 +117,7 @@ fn plan_of(alloc: Global, schema: &Schema<'_>, demands: u32) -> Result<Option<Pl
     if demands == 0 {
         return Ok(None);
     }
-    Ok(Some(Plan::new(alloc, schema)?))
+    Ok(Some(Plan::new(alloc, schema, demands_of(demands))?))
 }
 
 /// Loads a schema file within the limits of the options, and makes the plan for their demands.

@@ -3,18 +3,19 @@
 ghost use Rattle.std.specs.Prelude.{◌≡◌, ◌≤◌, IsTrue, ◌↔◌, MatchResult};
 ghost use Rattle.fb_schema.specs.Rows.{is_table};
 ghost use Rattle.std.specs.Prelude.{IfSome};
-ghost use Rattle.fbcheck_calls.specs.Asked.{AreKnown, HasLimits, LimitsFail, checks_asked, ident_asked, if_table, known_demands, limits_of, published, root_asked, start_asked};
+ghost use Rattle.fbcheck_calls.specs.Asked.{AreKnown, HasLimits, LimitsFail, asks_marks, checks_asked, demands_of, ident_asked, if_table, known_demands, limits_of, published, root_asked, start_asked};
 
 use crate::answer::Answer;
 use fb_bfbs::{Loaded, own_ident};
 use fb_schema::Schema;
+use fb_strict::Demands;
 use fb_verify::{Checks, Ident, Limits, Start};
 
 /// The version of the options that this library knows.
 const VERSION: u32 = 1;
 
-/// The demands by which a schema file's marks are asked: strict checks, and bytes aren't taken for plain.
-pub const STRICT: u32 = 1;
+/// The demand of strict checks that bytes are taken for plain. Those before it come in any set.
+const PLAIN_BYTES: u32 = 8;
 
 /// The most levels that there may be room for.
 pub const DEEPEST: u32 = 4096;
@@ -78,6 +79,25 @@ fn are_known(demands: u32) -> bool
     ensures { result ≡ known_demands demands }
 {
     matches!(demands, 0 | 1 | 9)
+}
+
+/// Whether the marks of a schema file are asked by these demands: by strict checks, in which bytes aren't plain.
+pub fn asks_marks(demands: u32) -> bool
+    ensures { result ≡ asks_marks demands }
+{
+    demands % 2 == 1 && demands < PLAIN_BYTES
+}
+
+/// What is demanded of buffers by these.
+pub fn demands_of(demands: u32) -> Demands
+    ensures { result ≡ demands_of demands }
+{
+    Demands {
+        unions: demands % 2 == 1,
+        nested: false,
+        known_fields: demands / 2 % 2 == 1,
+        utf8: demands / 4 % 2 == 1,
+    }
 }
 
 impl Options {

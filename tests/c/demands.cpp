@@ -1,0 +1,36 @@
+// Strict checks by the classes of fbcheck.hpp: demands SCHEMA.bfbs BUFFER
+//
+// Prints the verdicts of strict checks and of one that isn't, by a Schema that was made for both; and then what is
+// thrown by one that wasn't, and where the schema file doesn't say what its fields of bytes hold.
+#include <fbcheck.hpp>
+
+#include <fstream>
+#include <iostream>
+#include <iterator>
+
+static std::string bytes(const char *path) {
+    std::ifstream file(path, std::ios::binary);
+    return std::string(std::istreambuf_iterator<char>(file), {});
+}
+
+template <class Call> static void tell(Call &&call) try {
+    std::cout << call() << "\n";
+} catch (const std::exception &error) {
+    std::cout << error.what() << "\n";
+}
+
+int main(int, char **words) {
+    const std::string file = bytes(words[1]), buffer = bytes(words[2]);
+    fbcheck::Options strict, marked;
+    strict.demands = FBCHECK_STRICT | FBCHECK_PLAIN_BYTES;
+    marked.demands = FBCHECK_STRICT;
+    const fbcheck::Schema schema(file, strict), plain(file);
+    fbcheck::Scratch scratch(FBCHECK_DEEP);
+    tell([&] { return schema.check(buffer, strict); });
+    tell([&] { return schema.check(buffer, strict, &scratch); });
+    tell([&] { return schema.read(buffer, std::array{fbcheck::Path{}}, strict).verdict; });
+    tell([&] { return schema.good(buffer, strict); });
+    tell([&] { return schema.check(buffer); });
+    tell([&] { return plain.check(buffer, strict); });
+    tell([&] { return fbcheck::Schema(file, marked).good(buffer, marked); });
+}
