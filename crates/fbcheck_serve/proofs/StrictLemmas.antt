@@ -1,5 +1,5 @@
 -- What a schema file's marks let strict checks ask.
-use Rattle.std.proofs.Common.{◌≡◌, IfErr, OnOk, ℕ, Bool, List, None, Option, Result, Some, map, not, true, false, refl, sym, ◌∙◌, length}
+use Rattle.std.proofs.Common.{◌≡◌, IfErr, OnOk, ℕ, Bool, List, None, Option, Result, Some, map, true, false, refl, sym, ◌∙◌, length}
 use Rattle.std.specs.Prelude.{◌||◌, Err, Ok}
 use Rattle.std.specs.Borrow.{Bor}
 use Rattle.fb_schema.specs.Rows.{Rows}
@@ -12,36 +12,28 @@ use Rattle.fbcheck_texts.specs.Hints.{hint_text}
 use Rattle.fbcheck_texts.specs.declared.{fault.AskFault.AskFault, fault.AskFault.TheVariants.OutOfMemory, hint.Unasked.Unasked}
 use Rattle.fbcheck_words.specs.declared.choices.Settings.{Settings}
 
--- nothing is asked of marks where strict checks aren't asked for, or bytes are plain
-abbrev pub needs_none : Settings → Bool
-needs_none settings = not settings.strict || settings.plain_bytes
+-- nothing is asked of marks where strict checks aren't asked for, and where bytes are plain
+unneeded : (file : Option (Bor (List ℕ))) (settings : Settings) → settings.strict ≡ false → NeedsMarks file settings → ⊥
+unneeded None settings lax needs = needs
+unneeded (Some bytes) settings lax needs = let w : true ≡ false = sym needs.0 ∙ lax in cc
 
-unneeded : (strict plain : Bool) → (not strict || plain) ≡ true → strict ≡ true → plain ≡ false → ⊥
-unneeded false plain none is off = cc
-unneeded true true none is off = cc
-unneeded true false none is off = cc
+unneeded_of_plain : (file : Option (Bor (List ℕ))) (settings : Settings) → settings.plain_bytes ≡ true → NeedsMarks file settings → ⊥
+unneeded_of_plain None settings plain needs = needs
+unneeded_of_plain (Some bytes) settings plain needs = let w : true ≡ false = sym plain ∙ needs.1 in cc
 
-pub may_unneeded : (file : Option (Bor (List ℕ))) (rows : Rows) (settings : Settings) → needs_none settings ≡ true → MayAsk file rows settings
-may_unneeded None rows settings none needs = absurd needs
-may_unneeded (Some bytes) rows settings none needs = absurd (unneeded settings.strict settings.plain_bytes none needs.0 needs.1)
+pub may_unless_strict : (file : Option (Bor (List ℕ))) (rows : Rows) (settings : Settings) → settings.strict ≡ false → MayAsk file rows settings
+may_unless_strict file rows settings lax needs = absurd (unneeded file settings lax needs)
 
--- and where nothing is demanded
-nothing_strict : (strict other : Bool) → (strict || other) ≡ false → (not strict || false) ≡ true
-nothing_strict false other none = refl
-nothing_strict true other none = cc
+pub may_of_plain : (file : Option (Bor (List ℕ))) (rows : Rows) (settings : Settings) → settings.plain_bytes ≡ true → MayAsk file rows settings
+may_of_plain file rows settings plain needs = absurd (unneeded_of_plain file settings plain needs)
+
+-- nor where nothing is demanded
+not_strict : (strict other : Bool) → (strict || other) ≡ false → strict ≡ false
+not_strict false other none = refl
+not_strict true other none = cc
 
 pub may_undemanded : (file : Option (Bor (List ℕ))) (rows : Rows) (settings : Settings) → is_demanding settings ≡ false → MayAsk file rows settings
-may_undemanded None rows settings none needs = absurd needs
-may_undemanded (Some bytes) rows settings none needs = absurd (unneeded settings.strict false (nothing_strict settings.strict _ none) needs.0 refl)
-
--- strict checks are asked for, and bytes aren't plain
-is_needed : (strict plain : Bool) → (not strict || plain) ≡ false → (strict ≡ true) × (plain ≡ false)
-is_needed true false some = (refl, refl)
-is_needed true true some = cc
-is_needed false plain some = cc
-
-pub needs_marks : (bytes : Bor (List ℕ)) (settings : Settings) → needs_none settings ≡ false → NeedsMarks (Some bytes) settings
-needs_marks bytes settings some = is_needed settings.strict settings.plain_bytes some
+may_undemanded file rows settings none = may_unless_strict file rows settings (not_strict settings.strict _ none)
 
 module _ (bytes : Bor (List ℕ)) (rows : Rows) (settings : Settings) (marks : Marks) (are : AreMarks bytes.now (schema_limits (length bytes.now)) marks) where
   -- where no field of bytes holds anything

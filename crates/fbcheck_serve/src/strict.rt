@@ -67,7 +67,10 @@ fn test_file(
     let Some(bytes) = file else {
         return Ok(());
     };
-    if !settings.strict || settings.plain_bytes {
+    if !settings.strict {
+        return Ok(());
+    }
+    if settings.plain_bytes {
         return Ok(());
     }
     match marks_of(alloc, bytes) {
