@@ -2,11 +2,12 @@
 'use strict';
 
 const NUMBERS = {
-  VERSION: 1, DEEP: 64, DEEPEST: 4096, NONE: 0xffffffff, NO_TABLE: 0xfffffffe, STEPS: 31, LONGEST_PLACE: 4098,
+  VERSION: 1, DEEP: 64, DEEPEST: 4096, NONE: 0xffffffff, NO_TABLE: 0xfffffffe, STRICT: 1, PLAIN_BYTES: 8, STEPS: 31,
+  LONGEST_PLACE: 4098,
   // enum fbcheck_status
   OK: 0, BAD: 1, NULL: 2, UNKNOWN_OPTIONS: 3, OUT_OF_RANGE: 4, NO_IDENT: 5, NO_ROOT: 6, TOO_LONG: 7, NOT_WELL_FORMED: 8,
   BAD_SCHEMA: 9, ROOT_NOT_LISTED: 10, NO_MEMORY: 11, NO_SPAN: 12, MORE: 13, OVERSIZE: 14, TRUNCATED: 15, FAILED: 16,
-  BAD_PATH: 17, NO_ROOM: 18, MISFIT: 19, TOO_MUCH_SHARED: 20,
+  BAD_PATH: 17, NO_ROOM: 18, MISFIT: 19, TOO_MUCH_SHARED: 20, NOT_PLANNED: 21, UNMARKED_BYTES: 22, MARKED_BYTES: 23,
   // enum fbcheck_reason
   WRONG_PREFIX: 1, OUT_OF_BUFFER: 2, MISALIGNED: 3, ZERO_OFFSET: 4, WRONG_IDENTIFIER: 5, TOO_DEEP: 6,
   TOO_MANY_TABLES: 7, BAD_VTABLE: 8, MISSING_REQUIRED: 9, NO_TERMINATOR: 10, LENGTHS_DIFFER: 11, PAST_TABLE: 12,
@@ -28,7 +29,7 @@ const NUMBERS = {
 // Names by their numbers.
 const STATUSES = ['OK', 'BAD', 'NULL', 'UNKNOWN_OPTIONS', 'OUT_OF_RANGE', 'NO_IDENT', 'NO_ROOT', 'TOO_LONG',
   'NOT_WELL_FORMED', 'BAD_SCHEMA', 'ROOT_NOT_LISTED', 'NO_MEMORY', 'NO_SPAN', 'MORE', 'OVERSIZE', 'TRUNCATED', 'FAILED',
-  'BAD_PATH', 'NO_ROOM', 'MISFIT', 'TOO_MUCH_SHARED'];
+  'BAD_PATH', 'NO_ROOM', 'MISFIT', 'TOO_MUCH_SHARED', 'NOT_PLANNED', 'UNMARKED_BYTES', 'MARKED_BYTES'];
 const REASONS = ['TooLong', 'WrongPrefix', 'OutOfBuffer', 'Misaligned', 'ZeroOffset', 'WrongIdentifier', 'TooDeep',
   'TooManyTables', 'BadVtable', 'MissingRequired', 'NoTerminator', 'LengthsDiffer', 'PastTable', 'TooManyReads'];
 const CODES = ['', 'NoSuchObject', 'NoSuchEnum', 'Unsupported', 'BadSlot', 'NoTypeField', 'BadStruct', 'BadMember',
@@ -40,7 +41,7 @@ const KINDS = ['absent', 'no-element', 'other-member', 'bool', 'int', 'uint', 'f
 // Structs: where each field stands, with how many bytes; and how many bytes there are.
 const OPTIONS = { version: [0, 4], root: [4, 4], maxReads: [8, 8], maxDepth: [16, 4], maxTables: [20, 4],
   readsPerByte: [24, 4], ident: [28, 4], identFrom: [32, 1], prefixed: [33, 1], noAlignment: [34, 1],
-  inlineSize: [35, 1], reserved: [36, 28] };
+  inlineSize: [35, 1], demands: [36, 4], reserved: [40, 24] };
 const OPTIONS_BYTES = 64;
 const VERDICT = { status: [0, 4], reason: [4, 4], object: [8, 4], field: [12, 4], tables: [16, 4], depth: [20, 4],
   at: [24, 8], reads: [32, 8], reserved: [40, 24] };

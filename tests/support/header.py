@@ -9,6 +9,8 @@ DEEP = 64
 DEEPEST = 4096
 NONE = 0xffffffff
 NO_TABLE = 0xfffffffe
+STRICT = 1
+PLAIN_BYTES = 8
 STEPS = 31
 LONGEST_PLACE = 4098
 
@@ -40,6 +42,9 @@ class Status(enum.IntEnum):
     NO_ROOM = 18
     MISFIT = 19
     TOO_MUCH_SHARED = 20
+    NOT_PLANNED = 21
+    UNMARKED_BYTES = 22
+    MARKED_BYTES = 23
 
 
 class Reason(enum.IntEnum):
@@ -130,7 +135,8 @@ class Options(ctypes.Structure):
         ("prefixed", U8),
         ("no_alignment", U8),
         ("inline_size", U8),
-        ("reserved", U32 * 7),
+        ("demands", U32),
+        ("reserved", U32 * 6),
     ]
 
 
@@ -202,7 +208,7 @@ class Sizes(ctypes.Structure):
 
 # What each struct begins with.
 OPTIONS_INIT = {"version": 1, "root": 0xffffffff, "max_reads": 100000000, "max_depth": 64, "max_tables": 1000000,
-    "reads_per_byte": 64, "ident_from": 0, "prefixed": 0, "no_alignment": 0, "inline_size": 0}
+    "reads_per_byte": 64, "ident_from": 0, "prefixed": 0, "no_alignment": 0, "inline_size": 0, "demands": 0}
 FRAMER_INIT = {"held": 0, "failed": 0, "declared": 0}
 
 # What each call returns, its name, and what it takes.

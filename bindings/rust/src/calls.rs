@@ -9,6 +9,8 @@ pub const DEEP: u32 = 64;
 pub const DEEPEST: u32 = 4096;
 pub const NONE: u32 = 0xffffffff;
 pub const NO_TABLE: u32 = 0xfffffffe;
+pub const STRICT: u32 = 1;
+pub const PLAIN_BYTES: u32 = 8;
 pub const STEPS: u32 = 31;
 pub const LONGEST_PLACE: u32 = 4098;
 
@@ -34,6 +36,9 @@ pub const BAD_PATH: u32 = 17;
 pub const NO_ROOM: u32 = 18;
 pub const MISFIT: u32 = 19;
 pub const TOO_MUCH_SHARED: u32 = 20;
+pub const NOT_PLANNED: u32 = 21;
+pub const UNMARKED_BYTES: u32 = 22;
+pub const MARKED_BYTES: u32 = 23;
 
 // enum fbcheck_reason
 pub const WRONG_PREFIX: u32 = 1;
@@ -119,7 +124,8 @@ pub struct Options {
     pub prefixed: u8,
     pub no_alignment: u8,
     pub inline_size: u8,
-    pub reserved: [u32; 7],
+    pub demands: u32,
+    pub reserved: [u32; 6],
 }
 
 /// `FBCHECK_OPTIONS_INIT`
@@ -135,7 +141,8 @@ pub const OPTIONS_INIT: Options = Options {
     prefixed: 0,
     no_alignment: 0,
     inline_size: 0,
-    reserved: [0; 7],
+    demands: 0,
+    reserved: [0; 6],
 };
 
 /// `fbcheck_verdict`

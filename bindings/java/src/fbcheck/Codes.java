@@ -14,6 +14,8 @@ final class Codes {
     static final int DEEPEST = 4096;
     static final int NONE = -1;
     static final int NO_TABLE = -2;
+    static final int STRICT = 1;
+    static final int PLAIN_BYTES = 8;
     static final int STEPS = 31;
     static final int LONGEST_PLACE = 4098;
 
@@ -39,6 +41,9 @@ final class Codes {
     static final int NO_ROOM = 18;
     static final int MISFIT = 19;
     static final int TOO_MUCH_SHARED = 20;
+    static final int NOT_PLANNED = 21;
+    static final int UNMARKED_BYTES = 22;
+    static final int MARKED_BYTES = 23;
 
     // enum fbcheck_reason
     static final int WRONG_PREFIX = 1;
@@ -109,7 +114,8 @@ final class Codes {
     static final int OPTIONS_PREFIXED = 33;
     static final int OPTIONS_NO_ALIGNMENT = 34;
     static final int OPTIONS_INLINE_SIZE = 35;
-    static final int OPTIONS_RESERVED = 36;
+    static final int OPTIONS_DEMANDS = 36;
+    static final int OPTIONS_RESERVED = 40;
     static final int OPTIONS_BYTES = 64;
 
     // fbcheck_verdict: the place of each field in it, and how many bytes it has

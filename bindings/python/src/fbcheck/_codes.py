@@ -9,6 +9,8 @@ DEEP: Final = 64
 DEEPEST: Final = 4096
 NONE: Final = 0xffffffff
 NO_TABLE: Final = 0xfffffffe
+STRICT: Final = 1
+PLAIN_BYTES: Final = 8
 STEPS: Final = 31
 LONGEST_PLACE: Final = 4098
 
@@ -48,6 +50,9 @@ class Status(enum.IntEnum):
     NO_ROOM = 18
     MISFIT = 19
     TOO_MUCH_SHARED = 20
+    NOT_PLANNED = 21
+    UNMARKED_BYTES = 22
+    MARKED_BYTES = 23
 
 
 class Code(enum.IntEnum):
