@@ -14,7 +14,9 @@ STATUS_TEXTS = [
     "its root table isn't listed", "out of memory", "the span isn't in the block", "the message goes on",
     "a message is too long for the room", "the stream ends inside a message", "the stream has failed before", "no path",
     "too many steps", "a path is none of this schema's from this root",
-    "its rows or names are more than its length pays for",
+    "its rows or names are more than its length pays for", "the schema was made with other demands",
+    "strict can't tell which bytes are nested buffers or flexbuffers",
+    "strict doesn't look inside nested buffers and flexbuffers yet",
 ]
 
 

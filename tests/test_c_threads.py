@@ -55,16 +55,19 @@ class LibraryOnThreads(LibraryCase):
         """Eight threads on one schema are told what one is, 10,000,000 times."""
         made = self.compiled("threads", TOP / "tests/c/threads.c", "-O2", *STATIC, "-lpthread")
         self.same("each time", self.by_threads(made, rounds=52_084), (0, "10000128\n", ""))
+        self.same("by a plan too", self.by_threads(made, rounds=5_208, demands=[9]), (0, "999936\n", ""))
 
     def test_races(self):
         """Neither helgrind, which sees each access of the library, nor the thread sanitizer has anything to say."""
         tsan = self.compiled("threads_tsan", TOP / "tests/c/threads.c", "-g", "-fsanitize=thread", *STATIC, "-lpthread")
-        self.same("the thread sanitizer", self.by_threads(tsan, rounds=500), (0, "96000\n", ""))
+        for demands in [], [9]:
+            told = self.by_threads(tsan, rounds=500, demands=demands)
+            self.same(f"the thread sanitizer, {demands}", told, (0, "96000\n", ""))
         if not shutil.which("valgrind"):
             self.skipTest("valgrind isn't there")
         made = self.compiled("threads_plain", TOP / "tests/c/threads.c", "-g", *SHARED, "-lpthread")
         self.same("helgrind", self.by_threads(*VALGRIND, "--tool=helgrind", made, rounds=100), (0, "19200\n", ""))
 
-    def by_threads(self, *words, rounds):
-        """How eight threads end that check good and bad messages so often."""
-        return ran(*words, ORDERS, STREAM, "to.name", 8, rounds, seconds=900)
+    def by_threads(self, *words, rounds, demands=()):
+        """How eight threads end that check good and bad messages so often, with these demands."""
+        return ran(*words, ORDERS, STREAM, "to.name", 8, rounds, *demands, seconds=900)

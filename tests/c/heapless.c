@@ -1,7 +1,7 @@
 /*
- * Makes every call but those that make and free something, with a scratch and without, in a thread with 32 KB of stack,
- * while a request for memory ends the process: heapless SCHEMA.bfbs BUFFER PATH, of which the buffer is good. Only
- * fbcheck_resolve may ask.
+ * Makes every call but those that make and free something, with a scratch and without, with demands and without, in a
+ * thread with 32 KB of stack, while a request for memory ends the process: heapless SCHEMA.bfbs BUFFER PATH, of which
+ * the buffer is good. Only fbcheck_resolve may ask.
  */
 #include <fbcheck.h>
 #include <fcntl.h>
@@ -16,6 +16,7 @@ static int is_shut;
 static fbcheck_schema *schema;
 static fbcheck_scratch *scratch;
 static fbcheck_path path;
+static fbcheck_options strict = FBCHECK_OPTIONS_INIT;
 
 void *__libc_malloc(size_t size);
 void *__libc_realloc(void *old, size_t size);
@@ -43,7 +44,7 @@ static void read_file(int which, const char *path)
     lengths[which] = (size_t)length;
 }
 
-static void call_each(fbcheck_scratch *scratch)
+static void call_each(fbcheck_scratch *scratch, const fbcheck_options *asked)
 {
     char name[64];
     uint64_t reads;
@@ -56,13 +57,13 @@ static void call_each(fbcheck_scratch *scratch)
     fbcheck_value value;
     fbcheck_span spans[2] = { { 0, 0 }, { 0, 3 } };
     spans[0].length = lengths[1];
-    if (fbcheck_verify(schema, scratch, NULL, bytes[1], lengths[1], verdicts) != FBCHECK_OK
-        || fbcheck_verify(schema, scratch, NULL, bytes[1], 3, verdicts) != FBCHECK_BAD
-        || fbcheck_verify_each(schema, scratch, NULL, bytes[1], lengths[1], spans, verdicts, 2) != FBCHECK_BAD
-        || fbcheck_read(schema, scratch, NULL, bytes[1], lengths[1], &path, &value, 1, verdicts) != FBCHECK_OK
-        || fbcheck_locate(schema, scratch, NULL, bytes[1], lengths[1], name, 64, &written, verdicts) != FBCHECK_OK
-        || fbcheck_locate(schema, scratch, NULL, bytes[1], 3, name, 64, &written, verdicts) != FBCHECK_BAD
-        || fbcheck_most_reads(schema, NULL, 99, &reads) != FBCHECK_OK
+    if (fbcheck_verify(schema, scratch, asked, bytes[1], lengths[1], verdicts) != FBCHECK_OK
+        || fbcheck_verify(schema, scratch, asked, bytes[1], 3, verdicts) != FBCHECK_BAD
+        || fbcheck_verify_each(schema, scratch, asked, bytes[1], lengths[1], spans, verdicts, 2) != FBCHECK_BAD
+        || fbcheck_read(schema, scratch, asked, bytes[1], lengths[1], &path, &value, 1, verdicts) != FBCHECK_OK
+        || fbcheck_locate(schema, scratch, asked, bytes[1], lengths[1], name, 64, &written, verdicts) != FBCHECK_OK
+        || fbcheck_locate(schema, scratch, asked, bytes[1], 3, name, 64, &written, verdicts) != FBCHECK_BAD
+        || fbcheck_most_reads(schema, asked, 99, &reads) != FBCHECK_OK
         || fbcheck_table(schema, "?", 1) != FBCHECK_NO_TABLE
         || fbcheck_framer_feed(&framer, room, sizeof room, (const uint8_t *)"abc", 3, &used) != FBCHECK_MORE
         || fbcheck_framer_next(&framer, room, sizeof room) != FBCHECK_OK
@@ -80,8 +81,10 @@ static void call_each(fbcheck_scratch *scratch)
 static void *call_all(void *unused)
 {
     is_shut = 1;
-    call_each(NULL);
-    call_each(scratch);
+    call_each(NULL, NULL);
+    call_each(scratch, NULL);
+    call_each(NULL, &strict);
+    call_each(scratch, &strict);
     is_shut = 0;
     return unused;
 }
@@ -94,7 +97,8 @@ int main(int count, char **words)
         return 2;
     read_file(0, words[1]);
     read_file(1, words[2]);
-    schema = fbcheck_schema_new(bytes[0], lengths[0], NULL, NULL);
+    strict.demands = FBCHECK_STRICT | FBCHECK_PLAIN_BYTES;
+    schema = fbcheck_schema_new(bytes[0], lengths[0], &strict, NULL);
     scratch = fbcheck_scratch_new(FBCHECK_DEEPEST);
     if (schema == NULL || scratch == NULL
         || fbcheck_resolve(schema, NULL, words[3], strlen(words[3]), &path, NULL) != FBCHECK_OK)

@@ -1,5 +1,5 @@
 /*
- * Makes a schema and a scratch and resolves a path, where a request for memory may be refused (tests/memory/refuse.c),
+ * Makes a schema with demands and a scratch, and resolves a path, where a request for memory may be refused (tests/memory/refuse.c),
  * has a fault told in words, and asks the heap for nothing itself: starved SCHEMA.bfbs GOOD BAD PATH, of two buffers
  * with their size in front.
  *
@@ -41,7 +41,10 @@ static int was_refused(int call, uint32_t status, uint32_t wanted)
 static fbcheck_schema *make_schema(void)
 {
     fbcheck_verdict why;
-    fbcheck_schema *schema = fbcheck_schema_new(bytes[0], lengths[0], NULL, &why);
+    fbcheck_options options = FBCHECK_OPTIONS_INIT;
+    fbcheck_schema *schema;
+    options.demands = FBCHECK_STRICT | FBCHECK_PLAIN_BYTES;
+    schema = fbcheck_schema_new(bytes[0], lengths[0], &options, &why);
     if ((schema == NULL) != (why.status != FBCHECK_OK))
         exit(4);
     return was_refused(11, why.status, FBCHECK_OK) ? make_schema() : schema;

@@ -52,6 +52,10 @@ static struct asked asked_by(int count, char **words)
             options->no_alignment = 1;
         else if (strcmp(word, "--inline-size") == 0)
             options->inline_size = 255;
+        else if (strcmp(word, "--strict") == 0)
+            options->demands |= FBCHECK_STRICT;
+        else if (strcmp(word, "--plain-bytes") == 0)
+            options->demands |= FBCHECK_PLAIN_BYTES;
         else if (i++, strcmp(word, "--schema") == 0)
             asked.path = value;
         else if (strcmp(word, "--root") == 0)
@@ -135,6 +139,7 @@ static void check_at_once(const fbcheck_schema *schema, fbcheck_scratch *scratch
 int main(int count, char **words)
 {
     struct asked asked = asked_by(count, words);
+    fbcheck_options made_with = FBCHECK_OPTIONS_INIT;
     fbcheck_schema *schema;
     fbcheck_scratch *scratch;
     size_t length, stream_length, messages;
@@ -145,7 +150,8 @@ int main(int count, char **words)
     fbcheck_verdict *verdicts;
     if (file == NULL || stream == NULL)
         fail("no schema file, or no stream");
-    schema = fbcheck_schema_new(file, length, NULL, NULL);
+    made_with.demands = asked.options.demands;
+    schema = fbcheck_schema_new(file, length, &made_with, NULL);
     scratch = fbcheck_scratch_new(asked.options.max_depth);
     free(file);
     if (schema == NULL || scratch == NULL)

@@ -1,5 +1,5 @@
 /*
- * Has threads check buffers by one schema at the same time: threads SCHEMA.bfbs STREAM PATH THREADS ROUNDS
+ * Has threads check buffers by one schema at the same time: threads SCHEMA.bfbs STREAM PATH THREADS ROUNDS [DEMANDS]
  *
  * The stream's messages have their size in front. One thread checks each message first, reads the value at the path's
  * end in it, and tells the names of its fault; then every thread does so as often as there are rounds, and must be told
@@ -81,8 +81,9 @@ int main(int count, char **words)
 {
     pthread_t threads[64];
     size_t length, many;
-    uint8_t *file = count == 6 ? bytes_of(fopen(words[1], "rb"), &length) : NULL;
-    if (file == NULL || (schema = fbcheck_schema_new(file, length, NULL, NULL)) == NULL)
+    uint8_t *file = count == 6 || count == 7 ? bytes_of(fopen(words[1], "rb"), &length) : NULL;
+    options.demands = count == 7 ? (uint32_t)strtoul(words[6], NULL, 10) : 0;
+    if (file == NULL || (schema = fbcheck_schema_new(file, length, &options, NULL)) == NULL)
         fail("no schema");
     memset(file, 0, length);
     free(file);

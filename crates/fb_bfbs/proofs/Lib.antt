@@ -7,6 +7,7 @@ pub mod Outcomes
 pub mod OneFile
 pub mod Counts
 pub mod Together
+pub mod ByteLemmas
 pub mod OneLoad
 pub mod OneMarks
 pub mod Shown

@@ -7,6 +7,7 @@ pub mod FileRows
 pub mod Loads
 pub mod LoadLaws
 pub mod Marks
+pub mod ByteFields
 pub mod Codes
 pub mod Samples
 pub mod Examples

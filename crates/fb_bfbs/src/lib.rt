@@ -2,6 +2,7 @@
 #![tactic(auto)]
 
 mod attributes;
+mod byte_fields;
 mod copied;
 mod counted;
 pub mod examples;
@@ -17,6 +18,7 @@ mod tags;
 mod taking;
 mod values;
 
+pub use byte_fields::{ByteField, BytesFault, test_bytes};
 pub use fixed::reflection;
 pub use load_fault::{LoadFault, code_text};
 pub use loading::{Loaded, load, own_ident};

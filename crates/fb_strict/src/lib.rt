@@ -16,7 +16,7 @@ mod strictly;
 mod tasks;
 pub mod unions;
 
-pub use located::verify_strictly_and_locate;
+pub use located::{verify_strictly_and_locate, verify_strictly_and_locate_shallow};
 pub use most::most_reads_strictly;
 pub use plan::Plan;
 pub use room::{Room, RoomFault};

@@ -9,7 +9,7 @@ ghost use Rattle.fb_strict.specs.Strictly.{sealed_by, ReportsStrictly, HasNoneSt
 
 use crate::pass::Pass;
 use crate::plan::Plan;
-use crate::room::{Frame, Room};
+use crate::room::{BLANK, Frame, Room};
 use crate::strictly::{VerifiedStrictly, ask};
 use fb_bytes::Meter;
 use fb_rules::checks::Checks;
@@ -18,7 +18,7 @@ use fb_rules::limits::Limits;
 use fb_rules::link::Link;
 use fb_rules::start::{Ident, Start};
 use fb_schema::Schema;
-use fb_verify::{Located, Scratch, Verified, verify_and_locate};
+use fb_verify::{Located, Scratch, Verified, verify_and_locate, verify_and_locate_shallow};
 use std::alloc::Allocator;
 
 /// The strict verdict on a buffer that was verified with this identifier and within these limits. Where a demand isn't
@@ -114,6 +114,48 @@ pub fn verify_strictly_and_locate<'b, 's, 'n, A: Allocator, B: Allocator, C: All
         meter, schema, root, start, ident, limits, checks, scratch, links,
     ) {
         Ok(verified) => verdict(verified, ident, limits, plan, frames, links),
+        Err(located) => Err(located),
+    }
+}
+
+/// Checks a buffer as [`verify_strictly_and_locate`] does, in room for 64 tables on the call's own stack.
+///
+/// # Errors
+///
+/// The fault that `verify_strictly` answers, with the number of these links.
+pub fn verify_strictly_and_locate_shallow<'b, 's, 'n, A: Allocator>(
+    meter: Meter<'b>,
+    schema: &'s Schema<'n>,
+    root: u32,
+    start: Start,
+    ident: Ident,
+    limits: Limits,
+    checks: Checks,
+    plan: &Plan<A>,
+    links: &mut [Link],
+) -> Result<VerifiedStrictly<'b, 's, 'n>, Located>
+    requires fresh { meter.count ≡ 0 }
+    requires table { IsTrue (is_table schema.now root) }
+    requires plan { IsPlan schema.now plan.now }
+    requires room { limits.depth ≤ 64 }
+    requires links { limits.depth ≤ length links.old }
+    ensures yes { IfOk result (λ v. ReportsStrictly plan.now (question schema.now root start ident limits checks) meter.entry.bytes v.report) }
+    ensures walked { IfOk result (λ v. Reports (question schema.now root start ident limits checks) meter.entry.bytes (v.verified).report) }
+    ensures kept { IfOk result (λ v. v.verified ≡ sealed_by (question schema.now root start ident limits checks) meter.entry.bytes (v.verified).report) }
+    ensures none { IfErr result (λ _. HasNoneStrictly plan.now (question schema.now root start ident limits checks) meter.entry.bytes) }
+    ensures no { IfErr result (λ l. StopsStrictly plan.now (question schema.now root start ident limits checks) meter.entry.bytes l.fault) }
+    ensures along { IfErr result (λ l. StopsAlongStrictly plan.now (question schema.now root start ident limits checks) meter.entry.bytes l.fault (take l.links links.new)) }
+    ensures few { IfErr result (λ l. l.links ≤ length links.new) }
+    ensures price_of_yes { IfOk result (λ v. (v.report).reads ≤ most_reads_strictly schema.now limits (length meter.entry.bytes)) }
+    ensures price_of_no { IfErr result (λ l. (l.fault).reads ≤ most_reads_strictly schema.now limits (length meter.entry.bytes)) }
+    ensures long { length links.new ≡ length links.old }
+{
+    match verify_and_locate_shallow(meter, schema, root, start, ident, limits, checks, links) {
+        Ok(verified) => {
+            let mut frames = [BLANK; 64];
+            let frames = &mut frames[..limits.depth() as usize];
+            verdict(verified, ident, limits, plan, frames, links)
+        }
         Err(located) => Err(located),
     }
 }

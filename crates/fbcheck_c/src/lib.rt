@@ -125,7 +125,7 @@ pub extern "C" fn fbcheck_verify_proved(
     buffer: &[u8],
     verdict: &mut Verdict,
 ) -> u32
-    ensures told { (a : Answer) × (verdict.new ≡ told a) × IfSchema schema.held a (λ l. IsChecked l (levels room.old.inside) options.now buffer.now a) }
+    ensures told { (a : Answer) × (verdict.new ≡ told a) × IfSchema schema.held a (λ s. IsChecked s (levels room.old.inside) options.now buffer.now a) }
     ensures status { result ≡ verdict.new.status }
     ensures kept { room.new.inside ≡ room.old.inside }
 {
@@ -140,7 +140,7 @@ pub extern "C" fn fbcheck_verify_alone_proved(
     options: &Options,
     buffer: &[u8],
 ) -> u32
-    ensures told { (a : Answer) × (verdict.new ≡ told a) × IfSchema schema.held a (λ l. IsChecked l 64 options.now buffer.now a) }
+    ensures told { (a : Answer) × (verdict.new ≡ told a) × IfSchema schema.held a (λ s. IsChecked s 64 options.now buffer.now a) }
     ensures status { result ≡ verdict.new.status }
 {
     check_alone(schema.held(), verdict, options, buffer)

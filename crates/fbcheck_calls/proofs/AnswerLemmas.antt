@@ -1,44 +1,75 @@
 -- To whom a yes is due, and to whom a no.
-use Rattle.std.proofs.Common.{length, ◌≡◌, ℕ, ◌≤◌, ◌<◌, ◌^◌, List, refl, subst, arith, Option, Some, IsSomeAnd}
-use Rattle.fb_rules.specs.{Tree.Tree, Verdict.HasNone, WellFormed.IsWellFormed, WellFormed.IsWithin}
+use Rattle.std.proofs.Common.{length, ◌≡◌, ◌≢◌, ◌==◌, ℕ, ◌≤◌, ◌<◌, ◌^◌, List, refl, sym, subst, arith, Bool, true, false, Option, Some, None, option_map, IsSome, IsSomeAnd, if◌then◌else◌, eqb-true}
+use Rattle.std.proofs.lemmas.Bool.{ne_eqb}
+use Rattle.fb_rules.specs.{Question.Question, Tree.Tree}
 use Rattle.fb_rules.specs.declared.start.Ident.{Ident}
-use Rattle.fb_bfbs.specs.declared.loading.Loaded.{Loaded}
+use Rattle.fb_rules.specs.declared.fault.Report.{Report}
+use Rattle.fb_strict.specs.{AsAsked.HasNoneBy, AsAsked.ReportsBy, Planned.Planned}
 use Rattle.fbcheck_calls.specs.declared.{answer.Answer.Answer, options.Options.Options}
-use Rattle.fbcheck_calls.specs.declared.answer.Answer.TheVariants.{Good, Bad, UnknownOptions, OutOfRange, NoIdent, NoRoot, TooLong}
+use Rattle.fbcheck_calls.specs.declared.answer.Answer.TheVariants.{Good, Bad, UnknownOptions, OutOfRange, NoIdent, NoRoot, TooLong, NotPlanned}
 use Rattle.fbcheck_calls.specs.Answered.{IsBadFrom, IsChecked, IsGoodFrom, IsUnserved, Serves}
-use Rattle.fbcheck_calls.specs.{AnswerLaws.CanServe, Asked.ident_asked, Asked.question_of, Asked.root_asked, Told.told}
+use Rattle.fbcheck_calls.specs.{AnswerLaws.CanServe, AnswerLaws.DemandsArePlanned, AnswerLaws.IsAsAsked, AnswerLaws.PlainIsPlain, Asked.ident_asked, Asked.plan_asked, Asked.plan_for, Asked.question_of, Asked.root_asked, Bases.Based, Told.told}
 
 -- what holds of the value that there is
 at_value : {X : Type 0} (o : Option X) (x : X) (P : X → Type 0) → o ≡ Some x → IsSomeAnd o P → P x
 at_value o x P e h = subst (λ v. IsSomeAnd v P) e h
 
-module _ (l : Loaded) (n : ℕ) (o : Options) (b : List ℕ) (root : ℕ) (ident : Ident) (c : CanServe l n o root ident) where
-  served : (P : ℕ → Ident → Type 0) → Serves l n o P → P root ident
-  served P h = at_value (ident_asked l o) ident (P root) c.ident_is (at_value (root_asked l o) root (λ r. IsSomeAnd (ident_asked l o) (P r)) c.root_is h.1)
+-- no tree is as it is asked for where none is said to be, and some is where a report counts it
+none_asked : (plan : Option Planned) (q : Question) (b : List ℕ) (y : Tree) → HasNoneBy plan q b → IsAsAsked plan q b y → ⊥
+none_asked None q b y none is = none y is.well_formed is.within
+none_asked (Some plan) q b y none is = none y is.well_formed is.within is.strict.0 is.strict.1
+
+some_asked : (plan : Option Planned) (q : Question) (b : List ℕ) (r : Report) → ReportsBy plan q b r → (y : Tree) × IsAsAsked plan q b y
+some_asked None q b r h = (h.found, record { well_formed = h.well_formed; within = h.within; strict = tt })
+some_asked (Some plan) q b r h = (h.found, record { well_formed = h.well_formed; within = h.within; strict = (h.strict, h.paid) })
+
+module _ (s : Based) (n : ℕ) (o : Options) (b : List ℕ) (plan : Option Planned) (root : ℕ) (ident : Ident) (c : CanServe s n o plan root ident) where
+  served : (P : Option Planned → ℕ → Ident → Type 0) → Serves s n o P → P plan root ident
+  served P h =
+      let by_plan = at_value (plan_asked s o) plan (λ p. IsSomeAnd (root_asked s.loaded o) (λ r. IsSomeAnd (ident_asked s.loaded o) (P p r))) c.plan_is h.1 in
+      at_value (ident_asked s.loaded o) ident (P plan root) c.ident_is (at_value (root_asked s.loaded o) root (λ r. IsSomeAnd (ident_asked s.loaded o) (P plan r)) c.root_is by_plan)
 
   -- no answer is that a check can't begin
-  never_unserved : (a : Answer) → IsUnserved l n o a → ⊥
+  never_unserved : (a : Answer) → IsUnserved s n o a → ⊥
   never_unserved UnknownOptions h = h c.limits.known
   never_unserved OutOfRange h = let room = c.limits.depth in let past = h.1 in omega arith
-  never_unserved NoIdent h = let e = c.ident_is in let none = h.2 in cc
-  never_unserved NoRoot h = let e = c.root_is in let none = h.1 in cc
+  never_unserved NotPlanned h = let e = c.plan_is in let none = h.1 in cc
+  never_unserved NoIdent h = let e = c.ident_is in let none = h.3 in cc
+  never_unserved NoRoot h = let e = c.root_is in let none = h.2 in cc
   never_unserved _ h = h
 
-  pub good_gets_yes : (y : Tree) (a : Answer) → IsWellFormed (question_of l o b root ident) b y
-      → IsWithin (question_of l o b root ident) b y → length b < 2 ^ 31 → IsChecked l n o b a → (told a).status ≡ 0
-  good_gets_yes y (Good r) w i short h = refl
-  good_gets_yes y (Bad f) w i short h = let bad = served (IsBadFrom l o b f) h.1 in absurd (bad.none y w i)
-  good_gets_yes y TooLong w i short h = let long = served (λ r d. 2 ^ 31 ≤ length b) h in absurd (omega arith)
-  good_gets_yes y a w i short h = absurd (never_unserved a h)
+  pub good_gets_yes : (y : Tree) (a : Answer) → IsAsAsked plan (question_of s.loaded o b root ident) b y → length b < 2 ^ 31 → IsChecked s n o b a → (told a).status ≡ 0
+  good_gets_yes y (Good r) is short h = refl
+  good_gets_yes y (Bad f) is short h = let bad = served (IsBadFrom s o b f) h.1 in absurd (none_asked plan (question_of s.loaded o b root ident) b y bad.none is)
+  good_gets_yes y TooLong is short h = let long = served (λ p r d. 2 ^ 31 ≤ length b) h in absurd (omega arith)
+  good_gets_yes y a is short h = absurd (never_unserved a h)
 
-  pub bad_gets_no : (a : Answer) → HasNone (question_of l o b root ident) b → length b < 2 ^ 31 → IsChecked l n o b a → (told a).status ≡ 1
-  bad_gets_no (Good r) none short h = let good = served (IsGoodFrom l o b r) h.1 in absurd (none good.found good.well_formed good.within)
+  pub bad_gets_no : (a : Answer) → ((y : Tree) → IsAsAsked plan (question_of s.loaded o b root ident) b y → ⊥) → length b < 2 ^ 31 → IsChecked s n o b a → (told a).status ≡ 1
+  bad_gets_no (Good r) none short h =
+      let good = served (IsGoodFrom s o b r) h.1 in
+      let some = some_asked plan (question_of s.loaded o b root ident) b r good in absurd (none some.0 some.1)
   bad_gets_no (Bad f) none short h = refl
-  bad_gets_no TooLong none short h = let long = served (λ r d. 2 ^ 31 ≤ length b) h in absurd (omega arith)
+  bad_gets_no TooLong none short h = let long = served (λ p r d. 2 ^ 31 ≤ length b) h in absurd (omega arith)
   bad_gets_no a none short h = absurd (never_unserved a h)
 
-  pub long_gets_its_number : (a : Answer) → 2 ^ 31 ≤ length b → IsChecked l n o b a → (told a).status ≡ 7
+  pub long_gets_its_number : (a : Answer) → 2 ^ 31 ≤ length b → IsChecked s n o b a → (told a).status ≡ 7
   long_gets_its_number (Good r) long h = let short = h.0 in absurd (omega arith)
   long_gets_its_number (Bad f) long h = let short = h.0 in absurd (omega arith)
   long_gets_its_number TooLong long h = refl
   long_gets_its_number a long h = absurd (never_unserved a h)
+
+-- by which plan is asked
+pub plain_is_plain : PlainIsPlain
+plain_is_plain s o e = subst (λ (t : Bool). (if t then Some None else option_map Some (plan_for s o.demands)) ≡ Some None) (sym (subst (λ m. (m == 0) ≡ true) (sym e) refl)) refl
+
+planned_by : (same : Bool) (own plan : Option Planned) → option_map Some (if same then own else None) ≡ Some plan → IsSome plan × (plan ≡ own) × (same ≡ true)
+planned_by true (Some p) (Some q) e = (refl, cc, refl)
+planned_by true (Some p) None e = cc
+planned_by true None plan e = cc
+planned_by false own plan e = cc
+
+pub demands_are_planned : DemandsArePlanned
+demands_are_planned s o plan some e =
+    let by : option_map Some (plan_for s o.demands) ≡ Some plan = subst (λ (t : Bool). (if t then Some None else option_map Some (plan_for s o.demands)) ≡ Some plan) (ne_eqb o.demands 0 some) e in
+    let h = planned_by (o.demands == s.demands) s.plan plan by in
+    (h.0, h.1, eqb-true o.demands s.demands h.2)

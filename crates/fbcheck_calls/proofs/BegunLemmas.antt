@@ -1,119 +1,137 @@
 -- What is answered of a buffer, by what its check found once it has begun.
-use Rattle.std.proofs.Common.{◌≡◌, ℕ, ◌<◌, ◌≤◌, ◌^◌, List, length, take, Result, Ok, Err, sym, subst, refl, IfOk, IfErr, IsSomeAnd, MatchResult}
+use Rattle.std.proofs.Common.{◌≡◌, ℕ, ◌<◌, ◌≤◌, ◌^◌, List, length, take, Option, Some, None, Result, Ok, Err, sym, subst, refl, IfOk, IfErr, IsSome, IsSomeAnd, MatchResult}
+use Rattle.std.proofs.lemmas.Bool.{false≢true}
 use Rattle.fb_access.specs.Location.{location_text}
-use Rattle.fb_rules.specs.{Links.StopsAlong, Question.Question, Question.question, Stops.Stops, Verdict.HasNone, Verdict.Reports}
+use Rattle.fb_schema.specs.Rows.{Rows}
+use Rattle.fb_rules.specs.{Question.Question, Question.question}
 use Rattle.fb_rules.specs.declared.{fault.Fault.Fault, fault.Report.Report, link.Link.Link, start.Ident.Ident}
 use Rattle.fb_verify.specs.Sealed.{Sealed}
 use Rattle.fb_verify.specs.declared.links.Located.{Located}
-use Rattle.fb_bfbs.specs.declared.loading.Loaded.{Loaded}
+use Rattle.fb_strict.specs.{AsAsked.ReportsBy, AsAsked.HasNoneBy, AsAsked.StopsBy, AsAsked.StopsAlongBy, Planned.Planned}
 use Rattle.fbcheck_calls.specs.declared.{answer.Answer.Answer, checking.Begun.Begun, held.Held.Held, held.Held.TheVariants.Schema, options.Options.Options, steps.PlainPath.PlainPath, values.Value.Value}
 use Rattle.fbcheck_calls.specs.declared.answer.Answer.TheVariants.{Good, Bad, TooLong, Misfit}
 use Rattle.fbcheck_calls.specs.Answered.{Begins, IfSchema, IsBadFrom, IsChecked, IsGoodFrom, IsUnchecked, IsUnserved, Serves, question_begun}
-use Rattle.fbcheck_calls.specs.Asked.{ident_asked, question_of, root_asked, start_asked}
+use Rattle.fbcheck_calls.specs.Asked.{ident_asked, plan_asked, question_of, root_asked, start_asked}
+use Rattle.fbcheck_calls.specs.Bases.{Based}
 use Rattle.fbcheck_calls.specs.{Placed.IsLocated, Placed.IsPlaceTold, Placed.IsTextTold, Placed.IsUntold, Told.found_by}
 use Rattle.fbcheck_calls.specs.{Reached.IsRead, Reached.IsUnread, Steps.AllFit, Steps.IsFirstMisfit, Values.AreValues}
 
 -- what a call answers by a schema
-pub by_schema : {held : Held} {l : Loaded} (a : Answer) (P : Loaded → Type 0) → held ≡ Schema l → P l → IfSchema held a P
+pub by_schema : {held : Held} {s : Based} (a : Answer) (P : Based → Type 0) → held ≡ Schema s → P s → IfSchema held a P
 by_schema a P is h = subst (λ (v : Held). IfSchema v a P) (sym is) h
 
-module _ (l : Loaded) (n : ℕ) (o : Options) (b : List ℕ) where
+-- what holds of every plan holds of that which there is
+any_plan : (o : Option (Option Planned)) (P : Option Planned → Type 0) → IsSome o → ((plan : Option Planned) → P plan) → IsSomeAnd o P
+any_plan (Some plan) P h all = all plan
+any_plan None P h all = absurd (false≢true h)
+
+module _ (s : Based) (n : ℕ) (o : Options) (b : List ℕ) where
   -- why a buffer isn't checked is an answer of every call
-  pub unserved_is_unchecked : (a : Answer) → IsUnserved l n o a → IsUnchecked l n o b a
+  pub unserved_is_unchecked : (a : Answer) → IsUnserved s n o a → IsUnchecked s n o b a
   unserved_is_unchecked TooLong h = absurd h
   unserved_is_unchecked _ h = h
 
-  pub unserved_is_unread : (paths : List PlainPath) (a : Answer) → IsUnserved l n o a → IsUnread l n o b paths a
+  pub unserved_is_unread : (paths : List PlainPath) (a : Answer) → IsUnserved s n o a → IsUnread s n o b paths a
   unserved_is_unread paths TooLong h = absurd h
   unserved_is_unread paths (Misfit place) h = absurd h
   unserved_is_unread paths _ h = h
 
-  pub unchecked_is_checked : (a : Answer) → IsUnchecked l n o b a → IsChecked l n o b a
+  pub unchecked_is_checked : (a : Answer) → IsUnchecked s n o b a → IsChecked s n o b a
   unchecked_is_checked (Good r) h = absurd h
   unchecked_is_checked (Bad f) h = absurd h
   unchecked_is_checked _ h = h
 
-  pub unchecked_is_located : (text : List ℕ) (written : ℕ) (a : Answer) → IsUnchecked l n o b a → IsLocated l n o b text text written written a
+  pub unchecked_is_located : (text : List ℕ) (written : ℕ) (a : Answer) → IsUnchecked s n o b a → IsLocated s n o b text text written written a
   unchecked_is_located text written (Good r) h = absurd h
   unchecked_is_located text written (Bad f) h = absurd h
   unchecked_is_located text written _ h = (h, record { length_is = refl; room_is = refl })
 
-  pub unread_is_read : (paths : List PlainPath) (values : List Value) (a : Answer) → IsUnread l n o b paths a → IsRead l n o b paths values values a
+  pub unread_is_read : (paths : List PlainPath) (values : List Value) (a : Answer) → IsUnread s n o b paths a → IsRead s n o b paths values values a
   unread_is_read paths values (Good r) h = absurd h
   unread_is_read paths values (Bad f) h = absurd h
   unread_is_read paths values _ h = (h, refl)
 
-  module _ (begun : Begun) (begins : Begins l n o (length b) begun) where
-    -- what holds of the root and the identifier with which a check begins
-    pub serve : (P : ℕ → Ident → Type 0) → P begun.root begun.ident → Serves l n o P
-    serve P h =
-        let inner : IsSomeAnd (ident_asked l o) (P begun.root) = subst (λ v. IsSomeAnd v (P begun.root)) (sym begins.ident_is) h in
-        (begins.has, subst (λ v. IsSomeAnd v (λ r. IsSomeAnd (ident_asked l o) (P r))) (sym begins.root_is) inner)
+  module _ (begun : Begun) (begins : Begins s n o (length b) begun) where
+    -- what holds of the root and the identifier with which a check begins, whatever the plan is
+    serve_all : (P : Option Planned → ℕ → Ident → Type 0) → ((plan : Option Planned) → P plan begun.root begun.ident) → Serves s n o P
+    serve_all P all = (begins.has, any_plan (plan_asked s o) (λ plan. IsSomeAnd (root_asked s.loaded o) (λ r. IsSomeAnd (ident_asked s.loaded o) (P plan r))) begins.planned (λ plan. rooted plan (P plan) (all plan))) where
+      rooted : (plan : Option Planned) (Q : ℕ → Ident → Type 0) → Q begun.root begun.ident → IsSomeAnd (root_asked s.loaded o) (λ r. IsSomeAnd (ident_asked s.loaded o) (Q r))
+      rooted plan Q h =
+          let inner : IsSomeAnd (ident_asked s.loaded o) (Q begun.root) = subst (λ v. IsSomeAnd v (Q begun.root)) (sym begins.ident_is) h in
+          subst (λ v. IsSomeAnd v (λ r. IsSomeAnd (ident_asked s.loaded o) (Q r))) (sym begins.root_is) inner
 
-    pub long_is_unchecked : 2 ^ 31 ≤ length b → IsUnchecked l n o b TooLong
-    long_is_unchecked long = serve (λ root ident. 2 ^ 31 ≤ length b) long
+    pub long_is_unchecked : 2 ^ 31 ≤ length b → IsUnchecked s n o b TooLong
+    long_is_unchecked long = serve_all (λ plan root ident. 2 ^ 31 ≤ length b) (λ plan. long)
 
     -- what holds of the root with which it begins
-    at_root : (P : ℕ → Type 0) → P begun.root → IsSomeAnd (root_asked l o) P
+    at_root : (P : ℕ → Type 0) → P begun.root → IsSomeAnd (root_asked s.loaded o) P
     at_root P h = subst (λ v. IsSomeAnd v P) (sym begins.root_is) h
 
-    pub long_is_unread : (paths : List PlainPath) → AllFit l.schema begun.root paths → 2 ^ 31 ≤ length b → IsUnread l n o b paths TooLong
-    long_is_unread paths fit long = (long_is_unchecked long, at_root (λ root. AllFit l.schema root paths) fit)
+    pub long_is_unread : (paths : List PlainPath) → AllFit s.loaded.schema begun.root paths → 2 ^ 31 ≤ length b → IsUnread s n o b paths TooLong
+    long_is_unread paths fit long = (long_is_unchecked long, at_root (λ root. AllFit s.loaded.schema root paths) fit)
 
-    pub misfit_is_unread : (paths : List PlainPath) (place : ℕ) → IsFirstMisfit l.schema begun.root paths place → IsUnread l n o b paths (Misfit place)
-    misfit_is_unread paths place first = serve (λ root ident. IsFirstMisfit l.schema root paths place) first
+    pub misfit_is_unread : (paths : List PlainPath) (place : ℕ) → IsFirstMisfit s.loaded.schema begun.root paths place → IsUnread s n o b paths (Misfit place)
+    misfit_is_unread paths place first = serve_all (λ plan root ident. IsFirstMisfit s.loaded.schema root paths place) (λ plan. first)
 
-    -- what the check of these bytes, which are the buffer's, found
-    module _ (short : length b < 2 ^ 31) (bytes : List ℕ) (same : bytes ≡ b) where
-      by_options : (P : Question → List ℕ → Type 0) → P (question_begun l begun) bytes → P (question_of l o b begun.root begun.ident) b
+    -- what the check of these bytes, which are the buffer's, found by these rows and this plan
+    module _ (short : length b < 2 ^ 31) (bytes : List ℕ) (same : bytes ≡ b) (rows : Rows) (rows_are : rows ≡ s.loaded.schema) (plan : Option Planned) (plan_is : plan_asked s o ≡ Some plan) where
+      -- what holds of the plan, the root and the identifier
+      serve : (P : Option Planned → ℕ → Ident → Type 0) → P plan begun.root begun.ident → Serves s n o P
+      serve P h =
+          let inner : IsSomeAnd (ident_asked s.loaded o) (P plan begun.root) = subst (λ v. IsSomeAnd v (P plan begun.root)) (sym begins.ident_is) h in
+          let outer : IsSomeAnd (root_asked s.loaded o) (λ r. IsSomeAnd (ident_asked s.loaded o) (P plan r)) = subst (λ v. IsSomeAnd v (λ r. IsSomeAnd (ident_asked s.loaded o) (P plan r))) (sym begins.root_is) inner in
+          (begins.has, subst (λ v. IsSomeAnd v (λ p. IsSomeAnd (root_asked s.loaded o) (λ r. IsSomeAnd (ident_asked s.loaded o) (P p r)))) (sym plan_is) outer)
+
+      by_options : (P : Question → List ℕ → Type 0) → P (question_begun rows begun) bytes → P (question_of s.loaded o b begun.root begun.ident) b
       by_options P h =
-          let asks : question_begun l begun ≡ question_of l o b begun.root begun.ident = λ i. question l.schema begun.root (begins.start_is i) begun.ident (begins.limits_are i) (begins.checks_are i) in
-          subst (λ q. P q b) asks (subst (P (question_begun l begun)) same h)
+          let asks : question_begun rows begun ≡ question_of s.loaded o b begun.root begun.ident = λ i. question (rows_are i) begun.root (begins.start_is i) begun.ident (begins.limits_are i) (begins.checks_are i) in
+          subst (λ q. P q b) asks (subst (P (question_begun rows begun)) same h)
 
       abbrev pub Yes : {G B : Type 0} → (G → Report) → Result G B → Type 0
-      Yes report found = IfOk found (λ g. Reports (question_begun l begun) bytes (report g))
+      Yes report found = IfOk found (λ g. ReportsBy plan (question_begun rows begun) bytes (report g))
 
       abbrev pub HasNo : {G B : Type 0} → Result G B → Type 0
-      HasNo found = IfErr found (λ _. HasNone (question_begun l begun) bytes)
+      HasNo found = IfErr found (λ _. HasNoneBy plan (question_begun rows begun) bytes)
 
       abbrev pub No : {G B : Type 0} → (B → Fault) → Result G B → Type 0
-      No fault found = IfErr found (λ e. Stops (question_begun l begun) bytes (fault e))
+      No fault found = IfErr found (λ e. StopsBy plan (question_begun rows begun) bytes (fault e))
 
       pub found_is_checked : {G B : Type 0} (report : G → Report) (fault : B → Fault) (found : Result G B)
-          → Yes report found → HasNo found → No fault found → IsChecked l n o b (found_by report fault found)
-      found_is_checked report fault (Ok g) good none stops = (short, serve (IsGoodFrom l o b (report g)) (by_options (λ q y. Reports q y (report g)) good))
+          → Yes report found → HasNo found → No fault found → IsChecked s n o b (found_by report fault found)
+      found_is_checked report fault (Ok g) good none stops = (short, serve (IsGoodFrom s o b (report g)) (by_options (λ q y. ReportsBy plan q y (report g)) good))
       found_is_checked report fault (Err e) good none stops =
-          (short, serve (IsBadFrom l o b (fault e)) (record { none = by_options HasNone none; stops = by_options (λ q y. Stops q y (fault e)) stops }))
+          (short, serve (IsBadFrom s o b (fault e)) (record { none = by_options (HasNoneBy plan) none; stops = by_options (λ q y. StopsBy plan q y (fault e)) stops }))
 
-      pub found_is_located : (found : Result Sealed Located) (links : List Link) (text text' : List ℕ) (written written' : ℕ)
-          → Yes (λ v. v.report) found → HasNo found → No (λ e. e.fault) found
-          → IfErr found (λ e. StopsAlong (question_begun l begun) bytes e.fault (take e.links links))
-          → MatchResult found (λ _. IsUntold text text' written written') (λ e. IsTextTold (location_text l.schema e.fault (take e.links links)) text text' written')
-          → IsLocated l n o b text text' written written' (found_by (λ v. v.report) (λ e. e.fault) found)
-      found_is_located (Ok v) links text text' written written' good none stops along told = (found_is_checked (λ v. v.report) (λ (e : Located). e.fault) (Ok v) good none stops, told)
-      found_is_located (Err e) links text text' written written' good none stops along told = (
-        found_is_checked (λ (v : Sealed). v.report) (λ e. e.fault) (Err e) good none stops,
-        serve (IsPlaceTold l o b e.fault text text' written') (take e.links links, by_options (λ q y. StopsAlong q y e.fault (take e.links links)) along, told),
+      pub found_is_located : {G : Type 0} (report : G → Report) (found : Result G Located) (links : List Link) (text text' : List ℕ) (written written' : ℕ)
+          → Yes report found → HasNo found → No (λ e. e.fault) found
+          → IfErr found (λ e. StopsAlongBy plan (question_begun rows begun) bytes e.fault (take e.links links))
+          → MatchResult found (λ _. IsUntold text text' written written') (λ e. IsTextTold (location_text rows e.fault (take e.links links)) text text' written')
+          → IsLocated s n o b text text' written written' (found_by report (λ e. e.fault) found)
+      found_is_located report (Ok v) links text text' written written' good none stops along told = (found_is_checked report (λ (e : Located). e.fault) (Ok v) good none stops, told)
+      found_is_located report (Err e) links text text' written written' good none stops along told = (
+        found_is_checked report (λ e. e.fault) (Err e) good none stops,
+        serve (IsPlaceTold s o b e.fault text text' written') (take e.links links, by_options (λ q y. StopsAlongBy plan q y e.fault (take e.links links)) along, subst (λ (S : Rows). IsTextTold (location_text S e.fault (take e.links links)) text text' written') rows_are told),
       )
 
       -- what was verified is what was asked, and the paths fit
-      module _ (paths : List PlainPath) (fit : AllFit l.schema begun.root paths) where
-        abbrev pub Kept : Result Sealed Fault → Type 0
-        Kept found = IfOk found (λ v. v ≡ record { bytes = bytes; schema = l.schema; root = begun.root; start = begun.start; checks = begun.checks; report = v.report })
+      module _ {G : Type 0} (report : G → Report) (verified : G → Sealed) (paths : List PlainPath) (fit : AllFit s.loaded.schema begun.root paths) where
+        abbrev pub Kept : Result G Fault → Type 0
+        Kept found = IfOk found (λ g. verified g ≡ record { bytes = bytes; schema = rows; root = begun.root; start = begun.start; checks = begun.checks; report = (verified g).report })
 
-        pub found_fits : (found : Result Sealed Fault) → Kept found → IfOk found (λ v. AllFit v.schema v.root paths)
-        found_fits (Ok v) kept = subst (λ (x : Sealed). AllFit x.schema x.root paths) (sym kept) fit
+        pub found_fits : (found : Result G Fault) → Kept found → IfOk found (λ g. AllFit (verified g).schema (verified g).root paths)
+        found_fits (Ok g) kept = subst (λ (x : Sealed). AllFit x.schema x.root paths) (sym kept) (subst (λ (S : Rows). AllFit S begun.root paths) (sym rows_are) fit)
         found_fits (Err f) kept = tt
 
-        pub found_is_read : (found : Result Sealed Fault) (values values' : List Value)
-            → Yes (λ v. v.report) found → Kept found → HasNo found → No (λ f. f) found
-            → MatchResult found (λ v. AreValues v.bytes v.schema v.start v.root paths values') (λ _. values' ≡ values)
-            → IsRead l n o b paths values values' (found_by (λ v. v.report) (λ f. f) found)
-        found_is_read (Ok v) values values' good kept none stops told =
-            let here : AreValues bytes l.schema begun.start begun.root paths values' = subst (λ (x : Sealed). AreValues x.bytes x.schema x.start x.root paths values') kept told in (
-              found_is_checked (λ v. v.report) (λ (f : Fault). f) (Ok v) good none stops,
-              at_root (λ root. AllFit l.schema root paths) fit,
-              at_root (λ root. AreValues b l.schema (start_asked o) root paths values') (subst (λ y. AreValues y l.schema (start_asked o) begun.root paths values') same (subst (λ s. AreValues bytes l.schema s begun.root paths values') begins.start_is here)),
+        pub found_is_read : (found : Result G Fault) (values values' : List Value)
+            → Yes report found → Kept found → HasNo found → No (λ f. f) found
+            → MatchResult found (λ g. AreValues (verified g).bytes (verified g).schema (verified g).start (verified g).root paths values') (λ _. values' ≡ values)
+            → IsRead s n o b paths values values' (found_by report (λ f. f) found)
+        found_is_read (Ok g) values values' good kept none stops told =
+            let there : AreValues bytes rows begun.start begun.root paths values' = subst (λ (x : Sealed). AreValues x.bytes x.schema x.start x.root paths values') kept told in
+            let here : AreValues bytes s.loaded.schema begun.start begun.root paths values' = subst (λ (S : Rows). AreValues bytes S begun.start begun.root paths values') rows_are there in (
+              found_is_checked report (λ (f : Fault). f) (Ok g) good none stops,
+              at_root (λ root. AllFit s.loaded.schema root paths) fit,
+              at_root (λ root. AreValues b s.loaded.schema (start_asked o) root paths values') (subst (λ y. AreValues y s.loaded.schema (start_asked o) begun.root paths values') same (subst (λ t. AreValues bytes s.loaded.schema t begun.root paths values') begins.start_is here)),
             )
         found_is_read (Err f) values values' good kept none stops told =
-            (found_is_checked (λ (v : Sealed). v.report) (λ f. f) (Err f) good none stops, at_root (λ root. AllFit l.schema root paths) fit, told)
+            (found_is_checked report (λ f. f) (Err f) good none stops, at_root (λ root. AllFit s.loaded.schema root paths) fit, told)

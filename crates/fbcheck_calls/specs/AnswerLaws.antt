@@ -1,45 +1,64 @@
 -- The laws of what a check answers: to whom a yes is due, and to whom a no; and where a value's bytes are.
-use Rattle.std.specs.Prelude.{◌≡◌, ℕ, ◌<◌, ◌≤◌, ◌^◌, List, length, Option, Some, None, option_and_then}
+use Rattle.std.specs.Prelude.{◌≡◌, ◌≢◌, ⊤, ℕ, ◌<◌, ◌≤◌, ◌^◌, List, length, IsSome, Option, Some, None, option_and_then}
 use Rattle.fb_schema.specs.Rows.{Rows}
-use Rattle.fb_rules.specs.{Tree.Tree, Verdict.HasNone, WellFormed.IsWellFormed, WellFormed.IsWithin}
+use Rattle.fb_rules.specs.{Bounds.AreAllowed, Question.Question, Tree.Tree, WellFormed.IsWellFormed, WellFormed.IsWithin}
+use Rattle.fb_strict.specs.{Planned.Planned, Strict.IsStrictBuffer, Strictly.strict_cost}
 use Rattle.fb_rules.specs.declared.start.Ident.{Ident}
 use Rattle.fb_access.specs.declared.{extent.Extent.Extent, spot.Spot.Spot}
 use Rattle.fb_access.specs.Denotes as denotes
 use Rattle.fb_access.specs.{Denotes.Shown, Denotes.bytes_at, Denotes.value, Extents.extent, Spots.kind_at, StepLaws.size_in_place, StepLaws.HoldsElements}
-use Rattle.fb_bfbs.specs.declared.loading.Loaded.{Loaded}
 use Rattle.fbcheck_calls.specs.declared.{answer.Answer.Answer, options.Options.Options}
-use Rattle.fbcheck_calls.specs.{Answered.IsChecked, Told.told}
-use Rattle.fbcheck_calls.specs.Asked.{HasLimits, ident_asked, question_of, root_asked}
+use Rattle.fbcheck_calls.specs.{Answered.IsChecked, Bases.Based, Told.told}
+use Rattle.fbcheck_calls.specs.Asked.{HasLimits, ident_asked, plan_asked, question_of, root_asked}
 
--- the schema has the root and the identifier that the options ask, and there is room for their depth
-pub record CanServe (l : Loaded) (n : ℕ) (o : Options) (root : ℕ) (ident : Ident) : Type 0 where
+-- the schema has the plan, the root and the identifier that the options ask, and there is room for their depth
+pub record CanServe (s : Based) (n : ℕ) (o : Options) (plan : Option Planned) (root : ℕ) (ident : Ident) : Type 0 where
   pub limits : HasLimits o n
-  pub root_is : root_asked l o ≡ Some root
-  pub ident_is : ident_asked l o ≡ Some ident
+  pub plan_is : plan_asked s o ≡ Some plan
+  pub root_is : root_asked s.loaded o ≡ Some root
+  pub ident_is : ident_asked s.loaded o ≡ Some ident
 
--- where the buffer is short enough and some tree of it is well formed and within the limits, every answer is the number of a yes
+-- by a plan, a tree is strict, and its reads are within the limits with those of the pass
+abbrev pub IsStrictBy : Option Planned → Question → List ℕ → Tree → Type 0
+IsStrictBy None q b y = ⊤
+IsStrictBy (Some plan) q b y = IsStrictBuffer q.checks b q.rows y × AreAllowed (q.limits).reads (strict_cost plan q b y)
+
+-- a tree is as it is asked for
+pub record IsAsAsked (plan : Option Planned) (q : Question) (b : List ℕ) (y : Tree) : Type 0 where
+  pub well_formed : IsWellFormed q b y
+  pub within : IsWithin q b y
+  pub strict : IsStrictBy plan q b y
+
+-- where the buffer is short enough and some tree of it is as it is asked for, every answer is the number of a yes
 abbrev pub GoodGetsYes : Type 0
-GoodGetsYes = (l : Loaded) (n : ℕ) (o : Options) (b : List ℕ) (root : ℕ) (ident : Ident) (y : Tree) (a : Answer)
-    → CanServe l n o root ident
+GoodGetsYes = (s : Based) (n : ℕ) (o : Options) (b : List ℕ) (plan : Option Planned) (root : ℕ) (ident : Ident) (y : Tree) (a : Answer)
+    → CanServe s n o plan root ident
     → length b < 2 ^ 31
-    → IsWellFormed (question_of l o b root ident) b y
-    → IsWithin (question_of l o b root ident) b y
-    → IsChecked l n o b a → (told a).status ≡ 0
+    → IsAsAsked plan (question_of s.loaded o b root ident) b y
+    → IsChecked s n o b a → (told a).status ≡ 0
 
 -- where none is, every answer is the number of a no
 abbrev pub BadGetsNo : Type 0
-BadGetsNo = (l : Loaded) (n : ℕ) (o : Options) (b : List ℕ) (root : ℕ) (ident : Ident) (a : Answer)
-    → CanServe l n o root ident
+BadGetsNo = (s : Based) (n : ℕ) (o : Options) (b : List ℕ) (plan : Option Planned) (root : ℕ) (ident : Ident) (a : Answer)
+    → CanServe s n o plan root ident
     → length b < 2 ^ 31
-    → HasNone (question_of l o b root ident) b
-    → IsChecked l n o b a → (told a).status ≡ 1
+    → ((y : Tree) → IsAsAsked plan (question_of s.loaded o b root ident) b y → ⊥)
+    → IsChecked s n o b a → (told a).status ≡ 1
 
 -- where it is too long, whatever is in it, every answer is that number
 abbrev pub LongGetsItsNumber : Type 0
-LongGetsItsNumber = (l : Loaded) (n : ℕ) (o : Options) (b : List ℕ) (root : ℕ) (ident : Ident) (a : Answer)
-    → CanServe l n o root ident
+LongGetsItsNumber = (s : Based) (n : ℕ) (o : Options) (b : List ℕ) (plan : Option Planned) (root : ℕ) (ident : Ident) (a : Answer)
+    → CanServe s n o plan root ident
     → 2 ^ 31 ≤ length b
-    → IsChecked l n o b a → (told a).status ≡ 7
+    → IsChecked s n o b a → (told a).status ≡ 7
+
+-- without demands a check is by no plan, whatever the schema was made with
+abbrev pub PlainIsPlain : Type 0
+PlainIsPlain = (s : Based) (o : Options) → o.demands ≡ 0 → plan_asked s o ≡ Some None
+
+-- with demands it is by a plan, that with which the schema was made for them
+abbrev pub DemandsArePlanned : Type 0
+DemandsArePlanned = (s : Based) (o : Options) (plan : Option Planned) → o.demands ≢ 0 → plan_asked s o ≡ Some plan → IsSome plan × (plan ≡ s.plan) × (o.demands ≡ s.demands)
 
 -- the bytes that the value at a spot shows stand where the extent says; the extent of a vector or array is that of its
 -- elements, where they stand in place; what shows no bytes and has no such elements has no extent

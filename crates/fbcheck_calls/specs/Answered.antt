@@ -1,42 +1,77 @@
 -- Which answer a call gives.
-use Rattle.std.specs.Prelude.{◌≡◌, ℕ, ◌<◌, ◌≤◌, ◌^◌, List, length, Option, Some, None, Result, Ok, Err, IsSomeAnd, IsSome, IsTrue}
-use Rattle.fb_schema.specs.Rows.{is_table}
-use Rattle.fb_rules.specs.{MostReads.most_reads, Question.Question, Question.question, Stops.Stops, Verdict.Reports, Verdict.HasNone}
+use Rattle.std.specs.Prelude.{◌≡◌, ◌≢◌, ℕ, ◌<◌, ◌≤◌, ◌^◌, List, length, map, Option, Some, None, Result, Ok, Err, IsSomeAnd, IsSome, IsTrue}
+use Rattle.fb_schema.specs.{Live.Live, Rows.Rows, Rows.is_table}
+use Rattle.fb_rules.specs.{Bounds.Bounds, MostReads.most_reads, Question.Question, Question.question}
 use Rattle.fb_rules.specs.declared.{fault.Fault.Fault, fault.Report.Report, start.Ident.Ident}
-use Rattle.fb_bfbs.specs.Loads.{IsLoaded, IsLoadFault}
-use Rattle.fb_bfbs.specs.declared.{loading.Loaded.Loaded, load_fault.LoadFault.TheVariants.OutOfMemory}
-use Rattle.fbcheck_calls.specs.declared.{answer.Answer.Answer, answer.Verdict.Verdict, checking.Begun.Begun, held.Held.Held}
+use Rattle.fb_bfbs.specs.{ByteFields.AreAllPlain, ByteFields.IsMarkedField, ByteFields.LacksMark, Loads.IsLoaded, Loads.IsLoadFault, Marks.AreMarks, Marks.marked}
+use Rattle.fb_bfbs.specs.declared.{loading.Loaded.Loaded, load_fault.LoadFault.TheVariants.OutOfMemory, marks.Marks.Marks}
+use Rattle.fb_strict.specs.{Planned.Planned, Planned.IsPlan, MostReads.most_reads_strictly}
+use Rattle.fb_strict.specs.AsAsked.{ReportsBy, HasNoneBy, StopsBy}
+use Rattle.fbcheck_calls.specs.declared.{answer.Answer.Answer, answer.FieldAt.FieldAt, answer.Verdict.Verdict, checking.Begun.Begun, held.Held.Held}
 use Rattle.fbcheck_calls.specs.declared.{held.Held.TheVariants.Schema, held.Held.TheVariants.Room, options.Options.Options}
-use Rattle.fbcheck_calls.specs.declared.answer.Answer.TheVariants.{Done, Good, Bad, OutOfRange, NoIdent, NoRoot, TooLong, NoSchema}
-use Rattle.fbcheck_calls.specs.Asked.{HasLimits, LimitsFail, checks_asked, ident_asked, limits_of, question_of, root_asked, start_asked}
+use Rattle.fbcheck_calls.specs.declared.answer.Answer.TheVariants.{Done, Good, Bad, OutOfRange, NoIdent, NoRoot, TooLong, NoSchema, NotPlanned, UnmarkedBytes, MarkedBytes}
+use Rattle.fbcheck_calls.specs.Asked.{HasLimits, LimitsFail, checks_asked, ident_asked, limits_of, plan_asked, question_of, root_asked, start_asked}
+use Rattle.fbcheck_calls.specs.Bases.{Based}
 use Rattle.fbcheck_calls.specs.Told.{blank, low, told}
 
 -- ---- to load a schema
 
--- the schema that the file describes
-pub record IsOpened (file : List ℕ) (o : Options) (l : Loaded) : Type 0 where
+-- the plan of rows for these demands, none where there are none
+abbrev pub IsPlanFor : Rows → ℕ → Option Planned → Type 0
+IsPlanFor rows n None = n ≡ 0
+IsPlanFor rows n (Some plan) = (n ≢ 0) × IsPlan rows plan
+
+-- these are the marks of a file that are asked where checks are strict and bytes aren't taken for plain
+abbrev pub AreMarksAsked : List ℕ → Options → Marks → Type 0
+AreMarksAsked file o marks = (o.demands ≡ 1) × AreMarks file (limits_of o (length file)) marks
+
+-- by them no field of bytes holds a buffer or a flexbuffer
+abbrev pub HasPlainBytes : List ℕ → Options → Rows → Type 0
+HasPlainBytes file o rows = o.demands ≡ 1 → (marks : Marks) × AreMarksAsked file o marks × AreAllPlain rows (map marked marks.fields.items) marks.builtins
+
+-- the schema that the file describes, with the plan for the demands
+pub record IsOpened (file : List ℕ) (o : Options) (s : Based) : Type 0 where
   pub limits : HasLimits o 4096
-  pub loaded : IsLoaded file (limits_of o (length file)) l
+  pub loaded : IsLoaded file (limits_of o (length file)) s.loaded
+  pub demands : s.demands ≡ o.demands
+  pub bytes : HasPlainBytes file o s.loaded.schema
+  pub plan : IsPlanFor s.loaded.schema o.demands s.plan
+
+-- a live field has these numbers
+pub record IsNumbered (object : ℕ) (f : Live) (at : FieldAt) : Type 0 where
+  pub object_is : at.object ≡ object
+  pub field_is : at.field ≡ f.number
+
+-- the field is one of bytes that the file marks, or one that may have to be
+abbrev pub HasMarkedAt : List ℕ → Options → FieldAt → Type 0
+HasMarkedAt file o at = (loaded : Loaded) × IsLoaded file (limits_of o (length file)) loaded × (marks : Marks) × AreMarksAsked file o marks
+    × (object : ℕ) × (f : Live) × IsNumbered object f at × IsMarkedField loaded.schema (map marked marks.fields.items) object f
+
+abbrev pub HasUnmarkedAt : List ℕ → Options → FieldAt → Type 0
+HasUnmarkedAt file o at = (loaded : Loaded) × IsLoaded file (limits_of o (length file)) loaded × (marks : Marks) × AreMarksAsked file o marks
+    × (object : ℕ) × (f : Live) × IsNumbered object f at × LacksMark loaded.schema (map marked marks.fields.items) marks.builtins object f
 
 -- why there is none
 abbrev pub IsNotOpened : List ℕ → Options → Answer → Type 0
 IsNotOpened file o (NoSchema fault) = HasLimits o 4096 × IsLoadFault file (limits_of o (length file)) fault
+IsNotOpened file o (MarkedBytes at) = HasLimits o 4096 × HasMarkedAt file o at
+IsNotOpened file o (UnmarkedBytes at) = HasLimits o 4096 × HasUnmarkedAt file o at
 IsNotOpened file o a = LimitsFail o 4096 a
 
 -- ---- what a pointer leads to: a schema, or room
 
 -- what a call answers that asks a schema; of what is none it has no root
-abbrev pub IfSchema : Held → Answer → (Loaded → Type 0) → Type 0
-IfSchema (Schema l) a P = P l
+abbrev pub IfSchema : Held → Answer → (Based → Type 0) → Type 0
+IfSchema (Schema s) a P = P s
 IfSchema (Room r) a P = a ≡ NoRoot
 
 -- a handle holds a schema of which this holds, or room for so many levels
-abbrev pub HoldsSchema : (Loaded → Type 0) → Held → Type 0
-HoldsSchema P (Schema l) = P l
+abbrev pub HoldsSchema : (Based → Type 0) → Held → Type 0
+HoldsSchema P (Schema s) = P s
 HoldsSchema P (Room r) = ⊥
 
 abbrev pub HoldsRoom : ℕ → Held → Type 0
-HoldsRoom depth (Schema l) = ⊥
+HoldsRoom depth (Schema s) = ⊥
 HoldsRoom depth (Room r) = r ≡ depth
 
 -- for how many levels there is room: those of a handle that holds room, else 64
@@ -60,55 +95,58 @@ IsRoomMade depth held held' _ = ⊥
 -- ---- to check a buffer
 
 -- what a check of so many bytes asks
-pub record Begins (l : Loaded) (n : ℕ) (o : Options) (bytes : ℕ) (begun : Begun) : Type 0 where
+pub record Begins (s : Based) (n : ℕ) (o : Options) (bytes : ℕ) (begun : Begun) : Type 0 where
   pub has : HasLimits o n
+  pub planned : IsSome (plan_asked s o)
   pub limits_are : begun.limits ≡ limits_of o bytes
-  pub root_is : root_asked l o ≡ Some begun.root
-  pub is_table : IsTrue (is_table l.schema begun.root)
-  pub ident_is : ident_asked l o ≡ Some begun.ident
+  pub root_is : root_asked s.loaded o ≡ Some begun.root
+  pub is_table : IsTrue (is_table s.loaded.schema begun.root)
+  pub ident_is : ident_asked s.loaded o ≡ Some begun.ident
   pub start_is : begun.start ≡ start_asked o
   pub checks_are : begun.checks ≡ checks_asked o
 
 -- that of a buffer which isn't too long
-abbrev pub Starts : Loaded → ℕ → Options → List ℕ → Begun → Type 0
-Starts l n o b begun = Begins l n o (length b) begun × (length b < 2 ^ 31)
+abbrev pub Starts : Based → ℕ → Options → List ℕ → Begun → Type 0
+Starts s n o b begun = Begins s n o (length b) begun × (length b < 2 ^ 31)
 
-abbrev pub question_begun : Loaded → Begun → Question
-question_begun l begun = question l.schema begun.root begun.start begun.ident begun.limits begun.checks
+abbrev pub question_begun : Rows → Begun → Question
+question_begun rows begun = question rows begun.root begun.start begun.ident begun.limits begun.checks
 
 -- why nothing can be checked by these options, in room for so many levels
-abbrev pub IsUnserved : Loaded → ℕ → Options → Answer → Type 0
-IsUnserved l n o NoRoot = HasLimits o n × (root_asked l o ≡ None)
-IsUnserved l n o NoIdent = HasLimits o n × IsSome (root_asked l o) × (ident_asked l o ≡ None)
-IsUnserved l n o a = LimitsFail o n a
+abbrev pub IsUnserved : Based → ℕ → Options → Answer → Type 0
+IsUnserved s n o NotPlanned = HasLimits o n × (plan_asked s o ≡ None)
+IsUnserved s n o NoRoot = HasLimits o n × IsSome (plan_asked s o) × (root_asked s.loaded o ≡ None)
+IsUnserved s n o NoIdent = HasLimits o n × IsSome (plan_asked s o) × IsSome (root_asked s.loaded o) × (ident_asked s.loaded o ≡ None)
+IsUnserved s n o a = LimitsFail o n a
 
 -- that by its status, with nothing more to tell
-abbrev pub IsUnservedBy : Loaded → ℕ → Options → ℕ → Type 0
-IsUnservedBy l n o status = (a : Answer) × IsUnserved l n o a × (told a ≡ blank status)
+abbrev pub IsUnservedBy : Based → ℕ → Options → ℕ → Type 0
+IsUnservedBy s n o status = (a : Answer) × IsUnserved s n o a × (told a ≡ blank status)
 
--- a check can begin, and this holds of its root and its identifier
-abbrev pub Serves : Loaded → ℕ → Options → (ℕ → Ident → Type 0) → Type 0
-Serves l n o P = HasLimits o n × IsSomeAnd (root_asked l o) (λ root. IsSomeAnd (ident_asked l o) (P root))
+-- a check can begin, and this holds of its plan, its root and its identifier
+abbrev pub Serves : Based → ℕ → Options → (Option Planned → ℕ → Ident → Type 0) → Type 0
+Serves s n o P = HasLimits o n × IsSomeAnd (plan_asked s o) (λ plan. IsSomeAnd (root_asked s.loaded o) (λ root. IsSomeAnd (ident_asked s.loaded o) (P plan root)))
 
--- some tree of the buffer is well formed by the schema from this root, within the limits, and the report counts it
-abbrev pub IsGoodFrom : Loaded → Options → List ℕ → Report → ℕ → Ident → Type 0
-IsGoodFrom l o b r root ident = Reports (question_of l o b root ident) b r
+-- some tree of the buffer is well formed by the schema from this root, within the limits, and by a plan also strict; and
+-- the report counts it
+abbrev pub IsGoodFrom : Based → Options → List ℕ → Report → Option Planned → ℕ → Ident → Type 0
+IsGoodFrom s o b r plan root ident = ReportsBy plan (question_of s.loaded o b root ident) b r
 
 -- none is, and this is the first condition that fails
-pub record IsBadFrom (l : Loaded) (o : Options) (b : List ℕ) (f : Fault) (root : ℕ) (ident : Ident) : Type 0 where
-  pub none : HasNone (question_of l o b root ident) b
-  pub stops : Stops (question_of l o b root ident) b f
+pub record IsBadFrom (s : Based) (o : Options) (b : List ℕ) (f : Fault) (plan : Option Planned) (root : ℕ) (ident : Ident) : Type 0 where
+  pub none : HasNoneBy plan (question_of s.loaded o b root ident) b
+  pub stops : StopsBy plan (question_of s.loaded o b root ident) b f
 
 -- why a buffer isn't checked
-abbrev pub IsUnchecked : Loaded → ℕ → Options → List ℕ → Answer → Type 0
-IsUnchecked l n o b TooLong = Serves l n o (λ root ident. 2 ^ 31 ≤ length b)
-IsUnchecked l n o b a = IsUnserved l n o a
+abbrev pub IsUnchecked : Based → ℕ → Options → List ℕ → Answer → Type 0
+IsUnchecked s n o b TooLong = Serves s n o (λ plan root ident. 2 ^ 31 ≤ length b)
+IsUnchecked s n o b a = IsUnserved s n o a
 
 -- what a check of a buffer answers
-abbrev pub IsChecked : Loaded → ℕ → Options → List ℕ → Answer → Type 0
-IsChecked l n o b (Good r) = (length b < 2 ^ 31) × Serves l n o (IsGoodFrom l o b r)
-IsChecked l n o b (Bad f) = (length b < 2 ^ 31) × Serves l n o (IsBadFrom l o b f)
-IsChecked l n o b a = IsUnchecked l n o b a
+abbrev pub IsChecked : Based → ℕ → Options → List ℕ → Answer → Type 0
+IsChecked s n o b (Good r) = (length b < 2 ^ 31) × Serves s n o (IsGoodFrom s o b r)
+IsChecked s n o b (Bad f) = (length b < 2 ^ 31) × Serves s n o (IsBadFrom s o b f)
+IsChecked s n o b a = IsUnchecked s n o b a
 
 -- a verdict and its status tell an answer of which this holds
 pub record IsTold (v : Verdict) (P : Answer → Type 0) (number : ℕ) : Type 0 where
@@ -117,13 +155,19 @@ pub record IsTold (v : Verdict) (P : Answer → Type 0) (number : ℕ) : Type 0 
   pub holds : P answer
   pub status : number ≡ v.status
 
+-- how many reads a check of so many bytes makes at most, by a plan also those of the pass
+abbrev pub most_reads_by : Option Planned → Rows → Bounds → ℕ → ℕ
+most_reads_by None = most_reads
+most_reads_by (Some plan) = most_reads_strictly
+
 -- what the most reads of a check are said to be
-abbrev pub IsPricedBy : Loaded → Options → ℕ → Result ℕ Answer → Type 0
-IsPricedBy l o n (Ok most) = HasLimits o 4096 × (most ≡ low (most_reads l.schema (limits_of o n) n))
-IsPricedBy l o n (Err a) = LimitsFail o 4096 a
+abbrev pub IsPricedBy : Based → Options → ℕ → Result ℕ Answer → Type 0
+IsPricedBy s o n (Ok most) = HasLimits o 4096 × IsSomeAnd (plan_asked s o) (λ plan. most ≡ low (most_reads_by plan s.loaded.schema (limits_of o n) n))
+IsPricedBy s o n (Err NotPlanned) = HasLimits o 4096 × (plan_asked s o ≡ None)
+IsPricedBy s o n (Err a) = LimitsFail o 4096 a
 
 abbrev pub IsPriced : Held → Options → ℕ → Result ℕ Answer → Type 0
-IsPriced (Schema l) o n answer = IsPricedBy l o n answer
+IsPriced (Schema s) o n answer = IsPricedBy s o n answer
 IsPriced (Room r) o n answer = answer ≡ Err NoRoot
 
 -- the number of an answer, or of none where a number was found

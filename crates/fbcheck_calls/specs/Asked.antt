@@ -1,13 +1,15 @@
 -- What options ask.
-use Rattle.std.specs.Prelude.{◌≡◌, ℕ, ◌<◌, ◌≤◌, ◌==◌, min, Bool, true, false, not, List, length, replicate, Option, Some, None, if◌then◌else◌}
+use Rattle.std.specs.Prelude.{◌≡◌, ℕ, ◌<◌, ◌≤◌, ◌==◌, ◌||◌, min, Bool, true, false, not, List, length, replicate, Option, Some, None, option_map, IsTrue, if◌then◌else◌}
 use Rattle.fb_bfbs.specs.LoadLaws.{ident_bytes, own_ident}
 use Rattle.fb_bfbs.specs.declared.loading.Loaded.{Loaded}
 use Rattle.fb_schema.specs.Rows.{Rows, is_table}
 use Rattle.fb_rules.specs.{Bounds.Bounds, Bounds.limits_of_length, Question.Question, Question.question}
 use Rattle.fb_rules.specs.declared.{checks.Checks.Checks, start.Ident.Ident, start.Ident.TheVariants.Any, start.Ident.TheVariants.Want}
+use Rattle.fb_strict.specs.Planned.{Planned}
 use Rattle.fb_rules.specs.declared.{start.Start.Start, start.Start.TheVariants.Bare, start.Start.TheVariants.Prefixed}
 use Rattle.fbcheck_calls.specs.declared.{answer.Answer.Answer, answer.Answer.TheVariants.UnknownOptions, answer.Answer.TheVariants.OutOfRange}
 use Rattle.fbcheck_calls.specs.declared.options.Options.{Options}
+use Rattle.fbcheck_calls.specs.Bases.{Based}
 
 -- how a buffer begins, by whether the flag for a prefix is off
 abbrev pub start_of : Bool → Start
@@ -29,10 +31,15 @@ checks_asked o = checks_of (o.no_alignment == 0) (o.inline_size == 0)
 abbrev pub limits_of : Options → ℕ → Bounds
 limits_of o n = limits_of_length (record { depth = o.max_depth; tables = o.max_tables; reads = Some o.max_reads }) o.reads_per_byte (min n 2147483647)
 
+-- this library knows these demands: none, strict checks, and such of plain bytes
+abbrev pub known_demands : ℕ → Bool
+known_demands n = n == 0 || (n == 1 || n == 9)
+
 -- this library knows the options
 pub record AreKnown (o : Options) : Type 0 where
   pub version : o.version ≡ 1
   pub ident : o.ident_from ≤ 2
+  pub demands : IsTrue (known_demands o.demands)
 
 -- the options ask for no more than there is room for
 pub record HasLimits (o : Options) (levels : ℕ) : Type 0 where
@@ -55,6 +62,14 @@ abbrev pub root_asked : Loaded → Options → Option ℕ
 root_asked l o =
     if o.root == 4294967295 then if_table l.schema l.root
     else (if o.root == 4294967294 then None else if_table l.schema (Some o.root))
+
+-- the plan of a schema for these demands; none where it was made with others
+abbrev pub plan_for : Based → ℕ → Option Planned
+plan_for s n = if n == s.demands then s.plan else None
+
+-- by which plan a buffer is checked, if it can be: by none without demands, else by that for these demands
+abbrev pub plan_asked : Based → Options → Option (Option Planned)
+plan_asked s o = if o.demands == 0 then Some None else option_map Some (plan_for s o.demands)
 
 -- the identifier that is asked of a buffer: any, that of the options, or the schema's own
 abbrev pub ident_asked : Loaded → Options → Option Ident
@@ -81,5 +96,6 @@ published = record {
   prefixed = 0;
   no_alignment = 0;
   inline_size = 0;
-  reserved = replicate 7 0;
+  demands = 0;
+  reserved = replicate 6 0;
 }

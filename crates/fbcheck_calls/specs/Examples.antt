@@ -1,5 +1,5 @@
 -- What C is told, by example. The numbers are those that a caller in C knows from its header.
-use Rattle.std.specs.Prelude.{◌≡◌, ℕ, pos, true, false, List, [], ◌∷◌, map, codes, replicate, Option, Some, None, Ok, Err}
+use Rattle.std.specs.Prelude.{◌≡◌, ℕ, pos, true, false, List, [], ◌∷◌, filter, map, codes, replicate, Option, Some, None, Ok, Err}
 use Rattle.std.specs.Borrow.{Bor}
 use Rattle.fb_bfbs.specs.declared.load_fault.LoadFault.TheVariants as load
 use Rattle.fb_bfbs.specs.declared.loading.Loaded.{Loaded}
@@ -8,14 +8,16 @@ use Rattle.fb_schema.specs.declared.fault.Code.TheVariants.{NoSuchObject, NoSuch
 use Rattle.fb_rules.specs.{Samples.table, Reasons.reason_number}
 use Rattle.fb_rules.specs.declared.{fault.Fault.Fault, start.Ident.TheVariants.Any, start.Ident.TheVariants.Want}
 use Rattle.fb_rules.specs.declared.start.Start.TheVariants.{Bare, Prefixed}
-use Rattle.fb_rules.specs.declared.fault.Reason.TheVariants.{WrongPrefix, OutOfBuffer, Misaligned, ZeroOffset, WrongIdentifier, TooDeep, TooManyTables, BadVtable, MissingRequired, NoTerminator, LengthsDiffer, PastTable, TooManyReads}
+use Rattle.fb_rules.specs.declared.fault.Reason.TheVariants.{WrongPrefix, OutOfBuffer, Misaligned, ZeroOffset, WrongIdentifier, TooDeep, TooManyTables, BadVtable, MissingRequired, NoTerminator, LengthsDiffer, PastTable, TooManyReads, FlexContent, NotUtf8, UnknownField}
 use Rattle.fb_access.specs.Denotes as denotes
 use Rattle.fb_access.specs.declared.path_fault.PathFault.TheVariants as path
 use Rattle.fb_access.specs.declared.step.Step.TheVariants.{Field, Element, Member}
 use Rattle.fbcheck_calls.specs.declared.{answer.Answer.Answer, answer.Verdict.Verdict, options.Options.Options, steps.PlainPath.PlainPath}
 use Rattle.fbcheck_calls.specs.declared.steps.PlainStep.{PlainStep}
-use Rattle.fbcheck_calls.specs.declared.answer.Answer.TheVariants.{Done, Good, Bad, UnknownOptions, OutOfRange, NoIdent, NoRoot, TooLong, NoSchema, NoSpan, BadStream, BadPath, NoRoom, Misfit}
-use Rattle.fbcheck_calls.specs.Asked.{checks_asked, ident_asked, limits_of, published, root_asked, start_asked}
+use Rattle.fbcheck_calls.specs.declared.answer.Answer.TheVariants.{Done, Good, Bad, UnknownOptions, OutOfRange, NoIdent, NoRoot, TooLong, NoSchema, NoSpan, BadStream, BadPath, NoRoom, Misfit, NotPlanned, UnmarkedBytes, MarkedBytes}
+use Rattle.fb_strict.specs.Planned.{Planned}
+use Rattle.fbcheck_calls.specs.Asked.{checks_asked, ident_asked, known_demands, limits_of, plan_asked, published, root_asked, start_asked}
+use Rattle.fbcheck_calls.specs.Bases.{Based}
 use Rattle.fbcheck_calls.specs.{Framers.IsRoom, Framers.fed_status, Framers.used_or, Names.filled, Names.number_or_none, Placed.cut_to}
 use Rattle.fbcheck_calls.specs.{Spans.all_good, Spans.cut, Steps.no_step, Steps.step_of, Steps.steps_in, Told.blank, Told.code_number, Told.told}
 use Rattle.fbcheck_calls.specs.Values.{placed, plain, value_told}
@@ -36,11 +38,11 @@ status a = (told a).status
 pub record Verdicts : Type 0 where
   pub good : told (Good (record { tables = 3; depth = 2; reads = 40 })) ≡ record (verdict 0 0 0 4294967295) { tables = 3; depth = 2; reads = 40 }
   pub bad : told (Bad torn) ≡ record (verdict 1 2 2 3) { at = 28; reads = 7 }
-  pub reasons : map reason_number (WrongPrefix ∷ OutOfBuffer ∷ Misaligned ∷ ZeroOffset ∷ WrongIdentifier ∷ TooDeep ∷ TooManyTables ∷ BadVtable ∷ MissingRequired ∷ NoTerminator ∷ LengthsDiffer ∷ PastTable ∷ TooManyReads ∷ []) ≡ 1 ∷ 2 ∷ 3 ∷ 4 ∷ 5 ∷ 6 ∷ 7 ∷ 8 ∷ 9 ∷ 10 ∷ 11 ∷ 12 ∷ 13 ∷ []
+  pub reasons : map reason_number (WrongPrefix ∷ OutOfBuffer ∷ Misaligned ∷ ZeroOffset ∷ WrongIdentifier ∷ TooDeep ∷ TooManyTables ∷ BadVtable ∷ MissingRequired ∷ NoTerminator ∷ LengthsDiffer ∷ PastTable ∷ TooManyReads ∷ FlexContent ∷ NotUtf8 ∷ UnknownField ∷ []) ≡ 1 ∷ 2 ∷ 3 ∷ 4 ∷ 5 ∷ 6 ∷ 7 ∷ 8 ∷ 9 ∷ 10 ∷ 11 ∷ 12 ∷ 13 ∷ 14 ∷ 15 ∷ 16 ∷ []
   pub of_no_field : told (Bad (record torn { field = None; reason = TooManyReads })) ≡ record (verdict 1 13 2 4294967295) { at = 28; reads = 7 }
   pub of_more_reads : (told (Bad (record torn { reads = 18446744073709551616 }))).reads ≡ 18446744073709551615
   pub unserved : map status (UnknownOptions ∷ OutOfRange ∷ NoIdent ∷ NoRoot ∷ TooLong ∷ []) ≡ 3 ∷ 4 ∷ 5 ∷ 6 ∷ 7 ∷ []
-  pub others : map status (Done ∷ NoSpan ∷ NoRoom ∷ Misfit 0 ∷ []) ≡ 0 ∷ 12 ∷ 18 ∷ 19 ∷ []
+  pub others : map status (Done ∷ NoSpan ∷ NoRoom ∷ Misfit 0 ∷ NotPlanned ∷ []) ≡ 0 ∷ 12 ∷ 18 ∷ 19 ∷ 21 ∷ []
   pub misfit : told (Misfit 4) ≡ record (verdict 19 0 0 4294967295) { at = 4 }
   pub nothing_else : told NoRoot ≡ verdict 6 0 0 4294967295
   pub no_schema : told (NoSchema (load.NotWellFormed torn)) ≡ record (verdict 8 2 2 3) { at = 28; reads = 7 }
@@ -48,6 +50,7 @@ pub record Verdicts : Type 0 where
   pub demands : map code_number (NoSuchObject ∷ NoSuchEnum ∷ Unsupported ∷ BadSlot ∷ NoTypeField ∷ BadStruct ∷ BadMember ∷ NameTwice ∷ []) ≡ 1 ∷ 2 ∷ 3 ∷ 4 ∷ 5 ∷ 6 ∷ 7 ∷ 8 ∷ []
   pub of_no_part : told (NoSchema (load.BadSchema (record { code = NameTwice; owner = 5; part = None }))) ≡ verdict 9 8 5 4294967295
   pub other_files : map (λ f. status (NoSchema f)) (load.TooLong ∷ load.RootNotListed ∷ load.OutOfMemory ∷ load.TooMuchShared ∷ []) ≡ 7 ∷ 10 ∷ 11 ∷ 20 ∷ []
+  pub of_bytes : map told (UnmarkedBytes (record { object = 5; field = 1 }) ∷ MarkedBytes (record { object = 5; field = 0 }) ∷ []) ≡ verdict 22 0 5 1 ∷ verdict 23 0 5 0 ∷ []
   pub no_path : told (BadPath (path.NoSuchField 4)) ≡ record (verdict 17 2 0 4294967295) { at = 4 }
   pub other_paths : map (λ f. (told (BadPath f)).reason) (path.BadText 0 ∷ path.NotIndexable 0 ∷ path.NotAUnion 0 ∷ path.NoSuchMember 0 ∷ path.NotATable 0 ∷ []) ≡ 1 ∷ 3 ∷ 4 ∷ 5 ∷ 6 ∷ []
   pub no_memory : told (BadPath path.OutOfMemory) ≡ verdict 11 0 0 4294967295
@@ -62,6 +65,13 @@ schema root ident = record {
   root = root;
   ident = ident;
 }
+
+-- one that was made with these demands, whose plan asks nothing
+abbrev pub no_tasks : Planned
+no_tasks = record { marks = []; tasks = [] }
+
+abbrev pub made_with : ℕ → Based
+made_with demands = record { loaded = schema (Some 2) None; demands = demands; plan = Some no_tasks }
 
 abbrev pub with_root : ℕ → Options
 with_root n = record published { root = n }
@@ -85,6 +95,10 @@ pub record Questions : Type 0 where
   pub no_own_ident : ident_asked (schema None None) (with_ident 2) ≡ Some Any
   pub empty_ident : ident_asked (schema None (name [])) (with_ident 2) ≡ Some Any
   pub long_ident : ident_asked (schema None (name (codes "LONGER"))) (with_ident 2) ≡ None
+  pub demands : filter known_demands (0 ∷ 1 ∷ 2 ∷ 3 ∷ 4 ∷ 8 ∷ 9 ∷ 16 ∷ []) ≡ 0 ∷ 1 ∷ 9 ∷ []
+  pub no_demands : plan_asked (made_with 1) published ≡ Some None
+  pub planned : plan_asked (made_with 1) (record published { demands = 1 }) ≡ Some (Some no_tasks)
+  pub unplanned : map (λ n. plan_asked (made_with n) (record published { demands = 1 })) (0 ∷ 9 ∷ []) ≡ None ∷ None ∷ []
   pub bare : start_asked published ≡ Bare
   pub prefixed : start_asked (record published { prefixed = 255 }) ≡ Prefixed
   pub checks : checks_asked published ≡ record { alignment = true; inline_size = false }

@@ -1,4 +1,5 @@
 -- What public contracts say, in reading order.
+pub mod Bases
 pub mod Asked
 pub mod Told
 pub mod Answered

@@ -32,7 +32,7 @@ IsNameTold None room room' told = (told ≡ 0) × (room' ≡ room)
 
 -- a name by what is shared, none where it is no schema
 abbrev pub held_name : Held → (Rows → Option (List ℕ)) → Option (List ℕ)
-held_name (Schema l) name = name l.schema
+held_name (Schema s) name = name s.loaded.schema
 held_name (Room r) name = None
 
 -- the number of a table by its name, or the number of none
@@ -41,7 +41,7 @@ number_or_none (Some n) = n
 number_or_none None = 4294967294
 
 abbrev pub table_number : Held → List ℕ → ℕ
-table_number (Schema l) name = number_or_none (table_named l.schema name)
+table_number (Schema s) name = number_or_none (table_named s.loaded.schema name)
 table_number (Room r) name = 4294967294
 
 -- the name of the reason with this number, or that there is none
@@ -76,7 +76,9 @@ status_texts =
     ∷ codes "out of memory" ∷ codes "the span isn't in the block" ∷ codes "the message goes on"
     ∷ codes "a message is too long for the room" ∷ codes "the stream ends inside a message"
     ∷ codes "the stream has failed before" ∷ codes "no path" ∷ codes "too many steps"
-    ∷ codes "a path is none of this schema's from this root" ∷ codes "its rows or names are more than its length pays for" ∷ []
+    ∷ codes "a path is none of this schema's from this root" ∷ codes "its rows or names are more than its length pays for"
+    ∷ codes "the schema was made with other demands" ∷ codes "strict can't tell which bytes are nested buffers or flexbuffers"
+    ∷ codes "strict doesn't look inside nested buffers and flexbuffers yet" ∷ []
 
 abbrev pub status_text : ℕ → Option (List ℕ)
 status_text n = slice_get status_texts n

@@ -1,12 +1,11 @@
 -- What is written of where a fault is.
-use Rattle.std.specs.Prelude.{◌≡◌, ℕ, List, ◌++◌, drop, length, take}
-use Rattle.fb_rules.specs.Links.{StopsAlong}
+use Rattle.std.specs.Prelude.{◌≡◌, ℕ, List, ◌++◌, drop, length, take, Option}
+use Rattle.fb_strict.specs.{AsAsked.StopsAlongBy, Planned.Planned}
 use Rattle.fb_rules.specs.declared.{fault.Fault.Fault, link.Link.Link, start.Ident.Ident}
 use Rattle.fb_access.specs.Location.{location_text}
-use Rattle.fb_bfbs.specs.declared.loading.Loaded.{Loaded}
 use Rattle.fbcheck_calls.specs.declared.{answer.Answer.Answer, answer.Answer.TheVariants.Bad, answer.Answer.TheVariants.NoRoot, held.Held.Held}
 use Rattle.fbcheck_calls.specs.declared.{held.Held.TheVariants.Schema, held.Held.TheVariants.Room, options.Options.Options}
-use Rattle.fbcheck_calls.specs.{Answered.IsChecked, Answered.Serves, Asked.question_of}
+use Rattle.fbcheck_calls.specs.{Answered.IsChecked, Answered.Serves, Asked.question_of, Bases.Based}
 
 -- room after as much of a text was copied to its front as there is place for
 abbrev pub cut_to : List ℕ → List ℕ → List ℕ
@@ -23,16 +22,16 @@ pub record IsUntold (room room' : List ℕ) (told told' : ℕ) : Type 0 where
   pub room_is : room' ≡ room
 
 -- the place of this fault is told, by the links that lead to it from the root
-abbrev pub IsPlaceTold : Loaded → Options → List ℕ → Fault → List ℕ → List ℕ → ℕ → ℕ → Ident → Type 0
-IsPlaceTold l o b f room room' told root ident = (links : List Link)
-    × StopsAlong (question_of l o b root ident) b f links
-    × IsTextTold (location_text l.schema f links) room room' told
+abbrev pub IsPlaceTold : Based → Options → List ℕ → Fault → List ℕ → List ℕ → ℕ → Option Planned → ℕ → Ident → Type 0
+IsPlaceTold s o b f room room' told plan root ident = (links : List Link)
+    × StopsAlongBy plan (question_of s.loaded o b root ident) b f links
+    × IsTextTold (location_text s.loaded.schema f links) room room' told
 
 -- what is answered where the place of a fault is asked for: what a check answers, with the place of a bad buffer's
-abbrev pub IsLocated : Loaded → ℕ → Options → List ℕ → List ℕ → List ℕ → ℕ → ℕ → Answer → Type 0
-IsLocated l n o b room room' told told' (Bad f) = IsChecked l n o b (Bad f) × Serves l n o (IsPlaceTold l o b f room room' told')
-IsLocated l n o b room room' told told' a = IsChecked l n o b a × IsUntold room room' told told'
+abbrev pub IsLocated : Based → ℕ → Options → List ℕ → List ℕ → List ℕ → ℕ → ℕ → Answer → Type 0
+IsLocated s n o b room room' told told' (Bad f) = IsChecked s n o b (Bad f) × Serves s n o (IsPlaceTold s o b f room room' told')
+IsLocated s n o b room room' told told' a = IsChecked s n o b a × IsUntold room room' told told'
 
 abbrev pub IsLocatedBy : Held → ℕ → Options → List ℕ → List ℕ → List ℕ → ℕ → Answer → Type 0
-IsLocatedBy (Schema l) n o b room room' told a = IsLocated l n o b room room' 0 told a
+IsLocatedBy (Schema s) n o b room room' told a = IsLocated s n o b room room' 0 told a
 IsLocatedBy (Room r) n o b room room' told a = (a ≡ NoRoot) × IsUntold room room' 0 told

@@ -7,7 +7,7 @@ use Rattle.fb_bfbs.specs.declared.loading.Loaded.{Loaded}
 use Rattle.fbcheck_calls.specs.declared.{answer.Answer.Answer, checking.Begun.Begun, held.Held.Held, held.Held.TheVariants.Schema, held.Held.TheVariants.Room}
 use Rattle.fbcheck_calls.specs.declared.{options.Options.Options, steps.PlainPath.PlainPath, values.Value.Value}
 use Rattle.fbcheck_calls.specs.declared.answer.Answer.TheVariants.{Done, Good, Bad, UnknownOptions, NoRoot, NoRoom, BadPath, Misfit, TooLong}
-use Rattle.fbcheck_calls.specs.{Answered.IsChecked, Answered.IsUnserved, Answered.Serves, Answered.Starts, Asked.AreKnown, Asked.root_asked, Asked.start_asked}
+use Rattle.fbcheck_calls.specs.{Answered.IsChecked, Answered.IsUnserved, Answered.Serves, Answered.Starts, Asked.AreKnown, Asked.root_asked, Asked.start_asked, Bases.Based}
 use Rattle.fbcheck_calls.specs.{Steps.AllFit, Steps.IsFirstMisfit, Steps.IsPathOf, Values.AreValues}
 
 -- the text resolves from the root to the steps of the path
@@ -42,7 +42,7 @@ IsPathBy l o text p p' Done = IsResolved l o text p'
 IsPathBy l o text p p' a = IsUnresolved l o text a × (p' ≡ p)
 
 abbrev pub IsPath : Held → Options → List ℕ → PlainPath → PlainPath → Answer → Type 0
-IsPath (Schema l) o text p p' a = IsPathBy l o text p p' a
+IsPath (Schema s) o text p p' a = IsPathBy s.loaded o text p p' a
 IsPath (Room r) o text p p' a = (a ≡ NoRoot) × (p' ≡ p)
 
 -- the paths fit the schema from the root that the options ask
@@ -50,22 +50,23 @@ abbrev pub AllFitAsked : Loaded → Options → List PlainPath → Type 0
 AllFitAsked l o paths = IsSomeAnd (root_asked l o) (λ root. AllFit l.schema root paths)
 
 -- the check of a buffer begins, and the paths fit from its root
-abbrev pub StartsRead : Loaded → ℕ → Options → List ℕ → List PlainPath → Begun → Type 0
-StartsRead l n o b paths begun = Starts l n o b begun × AllFit l.schema begun.root paths
+abbrev pub StartsRead : Based → ℕ → Options → List ℕ → List PlainPath → Begun → Type 0
+StartsRead s n o b paths begun = Starts s n o b begun × AllFit s.loaded.schema begun.root paths
 
 -- why no values are looked for
-abbrev pub IsUnread : Loaded → ℕ → Options → List ℕ → List PlainPath → Answer → Type 0
-IsUnread l n o b paths TooLong = IsChecked l n o b TooLong × AllFitAsked l o paths
-IsUnread l n o b paths (Misfit place) = Serves l n o (λ root ident. IsFirstMisfit l.schema root paths place)
-IsUnread l n o b paths a = IsUnserved l n o a
+abbrev pub IsUnread : Based → ℕ → Options → List ℕ → List PlainPath → Answer → Type 0
+IsUnread s n o b paths TooLong = IsChecked s n o b TooLong × AllFitAsked s.loaded o paths
+IsUnread s n o b paths (Misfit place) = Serves s n o (λ plan root ident. IsFirstMisfit s.loaded.schema root paths place)
+IsUnread s n o b paths a = IsUnserved s n o a
 
 -- what is answered where the values in a buffer are asked for: where all paths fit, what a check answers, with the
 -- values of a good buffer; else the first that doesn't, whatever is in the buffer
-abbrev pub IsRead : Loaded → ℕ → Options → List ℕ → List PlainPath → List Value → List Value → Answer → Type 0
-IsRead l n o b paths v v' (Good r) = IsChecked l n o b (Good r) × AllFitAsked l o paths × IsSomeAnd (root_asked l o) (λ root. AreValues b l.schema (start_asked o) root paths v')
-IsRead l n o b paths v v' (Bad f) = IsChecked l n o b (Bad f) × AllFitAsked l o paths × (v' ≡ v)
-IsRead l n o b paths v v' a = IsUnread l n o b paths a × (v' ≡ v)
+abbrev pub IsRead : Based → ℕ → Options → List ℕ → List PlainPath → List Value → List Value → Answer → Type 0
+IsRead s n o b paths v v' (Good r) =
+    IsChecked s n o b (Good r) × AllFitAsked s.loaded o paths × IsSomeAnd (root_asked s.loaded o) (λ root. AreValues b s.loaded.schema (start_asked o) root paths v')
+IsRead s n o b paths v v' (Bad f) = IsChecked s n o b (Bad f) × AllFitAsked s.loaded o paths × (v' ≡ v)
+IsRead s n o b paths v v' a = IsUnread s n o b paths a × (v' ≡ v)
 
 abbrev pub IsReadBy : Held → ℕ → Options → List ℕ → List PlainPath → List Value → List Value → Answer → Type 0
-IsReadBy (Schema l) n o b paths v v' a = IsRead l n o b paths v v' a
+IsReadBy (Schema s) n o b paths v v' a = IsRead s n o b paths v v' a
 IsReadBy (Room r) n o b paths v v' a = (a ≡ NoRoot) × (v' ≡ v)

@@ -10,8 +10,8 @@ use Rattle.fb_bytes.specs.declared.stream_fault.StreamFault.{StreamFault}
 use Rattle.fb_bytes.specs.declared.stream_fault.StreamFault.TheVariants as stream
 use Rattle.fb_bfbs.specs.declared.load_fault.LoadFault.{LoadFault}
 use Rattle.fb_bfbs.specs.declared.load_fault.LoadFault.TheVariants as load
-use Rattle.fbcheck_calls.specs.declared.{answer.Answer.Answer, answer.Verdict.Verdict}
-use Rattle.fbcheck_calls.specs.declared.answer.Answer.TheVariants.{Done, Good, Bad, UnknownOptions, OutOfRange, NoIdent, NoRoot, TooLong, NoSchema, NoSpan, BadStream, BadPath, NoRoom, Misfit}
+use Rattle.fbcheck_calls.specs.declared.{answer.Answer.Answer, answer.FieldAt.FieldAt, answer.Verdict.Verdict}
+use Rattle.fbcheck_calls.specs.declared.answer.Answer.TheVariants.{Done, Good, Bad, UnknownOptions, OutOfRange, NoIdent, NoRoot, TooLong, NoSchema, NoSpan, BadStream, BadPath, NoRoom, Misfit, NotPlanned, UnmarkedBytes, MarkedBytes}
 
 -- what is wrong with rows, by the number of its code
 abbrev pub code_number : Code → ℕ
@@ -79,6 +79,10 @@ path_told (path.NoSuchMember step) = misplaced 5 step
 path_told (path.NotATable step) = misplaced 6 step
 path_told path.OutOfMemory = blank 11
 
+-- a field that keeps demands from being asked, by the numbers of its table and its own
+abbrev pub field_told : ℕ → FieldAt → Verdict
+field_told status f = record (blank status) { object = f.object; field = f.field }
+
 -- the answer by what a check found
 abbrev pub found_by : {G B : Type 0} → (G → Report) → (B → Fault) → Result G B → Answer
 found_by report fault (Ok good) = Good (report good)
@@ -100,3 +104,6 @@ told (BadStream fault) = blank (stream_number fault)
 told (BadPath fault) = path_told fault
 told NoRoom = blank 18
 told (Misfit place) = record (blank 19) { at = place }
+told NotPlanned = blank 21
+told (UnmarkedBytes f) = field_told 22 f
+told (MarkedBytes f) = field_told 23 f

@@ -3,7 +3,7 @@
 ghost use Rattle.std.specs.Prelude.{◌≡◌, min};
 ghost use Rattle.fb_rules.specs.Reasons.{reason_number};
 ghost use Rattle.fbcheck_calls.specs.declared.answer.Answer.TheVariants.{Bad, Good};
-ghost use Rattle.fbcheck_calls.specs.Told.{blank, code_number, fault_told, field_number, load_told, low, misplaced, path_told, stream_number, told};
+ghost use Rattle.fbcheck_calls.specs.Told.{blank, code_number, fault_told, field_number, field_told, load_told, low, misplaced, path_told, stream_number, told};
 
 use fb_access::PathFault;
 use fb_bfbs::LoadFault;
@@ -23,7 +23,7 @@ pub enum Answer {
     Good(Report),
     /// 1: the buffer has this fault.
     Bad(Fault),
-    /// 3: the options have another version than 1, or an unknown source of the identifier.
+    /// 3: the options have another version than 1, an unknown source of the identifier, or unknown demands.
     UnknownOptions,
     /// 4: a limit of depth is above the room for open tables, or the room above 4,096 levels.
     OutOfRange,
@@ -45,6 +45,19 @@ pub enum Answer {
     Misfit(u64),
     /// 11 and 14 to 16: the stream of a framer isn't one of messages within its limit.
     BadStream(StreamFault),
+    /// 21: the options have demands, and the schema was made with others.
+    NotPlanned,
+    /// 22: the schema file doesn't show what this field of bytes holds.
+    UnmarkedBytes(FieldAt),
+    /// 23: the schema file marks this field of bytes, into which strict checks don't look.
+    MarkedBytes(FieldAt),
+}
+
+/// A live field of a table, by the table's number and its own.
+#[derive(Clone, Copy)]
+pub struct FieldAt {
+    pub object: u32,
+    pub field: u16,
 }
 
 /// What is told of an answer in numbers (`fbcheck_verdict`).
@@ -53,13 +66,14 @@ pub enum Answer {
 pub struct Verdict {
     /// The number of the answer, which the call returns too.
     pub status: u32,
-    /// The reason's number, 1 to 13, where a buffer or a schema file is refused; where its rows are no schema, their
+    /// The reason's number, 1 to 16, where a buffer or a schema file is refused; where its rows are no schema, their
     /// code's, 1 to 8; else 0.
     pub reason: u32,
-    /// With a reason, the number of the object (or the enum, where a member is at fault), else 0.
+    /// With a reason, the number of the object (or the enum, where a member is at fault), and that of the table whose
+    /// field keeps demands from being asked; else 0.
     pub object: u32,
-    /// With a reason, the number of the field, or the place of the field or member of rows that are no schema;
-    /// 2^32 - 1 for none.
+    /// The number of the field of that object; the place of the field or member of rows that are no schema; 2^32 - 1
+    /// for none.
     pub field: u32,
     /// Of a good buffer, the tables that were visited, else 0.
     pub tables: u32,
@@ -187,6 +201,17 @@ fn path_told(fault: PathFault) -> Verdict
     }
 }
 
+/// A field that keeps demands from being asked.
+fn field_told(status: u32, field: FieldAt) -> Verdict
+    ensures { result ≡ field_told status field }
+{
+    Verdict {
+        object: field.object,
+        field: u32::from(field.field),
+        ..blank(status)
+    }
+}
+
 /// The number of what is wrong with a stream.
 fn stream_number(fault: StreamFault) -> u32
     ensures { result ≡ stream_number fault }
@@ -253,6 +278,9 @@ impl Answer {
             Answer::NoRoom => blank(18),
             Answer::Misfit(at) => Verdict { at, ..blank(19) },
             Answer::BadStream(fault) => blank(stream_number(fault)),
+            Answer::NotPlanned => blank(21),
+            Answer::UnmarkedBytes(field) => field_told(22, field),
+            Answer::MarkedBytes(field) => field_told(23, field),
         }
     }
 

@@ -1,23 +1,28 @@
-//! Loading a schema, and the checks of buffers by it.
+//! The checks of buffers by a schema.
 
 ghost use Rattle.std.specs.Prelude.{◌≡◌, ◌<◌, ◌≤◌, ◌^◌, IfOk, MatchResult, length};
 ghost use Rattle.fb_rules.specs.declared.fault.{Fault.Fault, Report.Report};
 ghost use Rattle.fb_verify.specs.Sealed.{Sealed};
-ghost use Rattle.fbcheck_calls.specs.Answered.{Begins, IfSchema, IsChecked, IsNotOpened, IsOpened, IsPriced, IsTold, IsUnchecked, IsUnservedBy, Starts, levels};
+ghost use Rattle.fbcheck_calls.specs.Answered.{Begins, IfSchema, IsChecked, IsPriced, IsTold, IsUnchecked, IsUnservedBy, Starts, levels};
 ghost use Rattle.fbcheck_calls.specs.{Steps.AllFit, Told.found_by, Told.told, Values.AreValues};
 ghost use Rattle.fbcheck_calls.specs.declared.{answer.Answer.Answer, checking.Begun.Begun};
 ghost use Rattle.fbcheck_calls.specs.Reached.{IsPath, IsRead, IsReadBy, IsResolved, IsUnread, IsUnresolved, StartsRead};
 
 use crate::answer::{Answer, Verdict, low, tell_bad, tell_blank, tell_good};
+use crate::basis::Basis;
 use crate::fits::first_misfit;
 use crate::handle::Handle;
 use crate::held::{Held, Room};
 use crate::options::{DEEPEST, LONGEST, Options};
 use crate::steps::PlainPath;
+use crate::strict::{
+    check_alone_strictly, check_within_strictly, read_in_strictly, read_shallow_strictly,
+};
 use crate::values::{Value, tell_values};
 use fb_access::Path;
-use fb_bfbs::{Loaded, load};
+use fb_bfbs::Loaded;
 use fb_bytes::Meter;
+use fb_strict::most_reads_strictly;
 use fb_verify::{
     Checks, Fault, Ident, Limits, Report, Start, Verified, most_reads, verify, verify_shallow,
     walk, walk_shallow,
@@ -26,25 +31,6 @@ use std::alloc::Global;
 
 /// The levels for which a call has room on its own stack.
 pub const SHALLOW: u32 = 64;
-
-/// Loads a schema file within the limits of the options.
-///
-/// # Errors
-///
-/// As [`Options::limits`] has it for 4,096 levels; then `NoSchema`.
-pub fn open(
-    alloc: Global,
-    file: &'static [u8],
-    options: &Options,
-) -> Result<Loaded<'static>, Answer>
-    ensures { MatchResult result (IsOpened file.now options.now) (IsNotOpened file.now options.now) }
-{
-    let limits = options.limits(DEEPEST, file.len() as u64)?;
-    match load(alloc, file, limits) {
-        Ok(loaded) => Ok(loaded),
-        Err(fault) => Err(Answer::NoSchema(fault)),
-    }
-}
 
 /// What a check begins with.
 #[derive(Clone, Copy)]
@@ -62,13 +48,8 @@ pub struct Begun {
 ///
 /// The status of why it can't begin.
 #[inline(always)]
-fn begin(
-    loaded: &Loaded<'static>,
-    levels: u32,
-    options: &Options,
-    length: u64,
-) -> Result<Begun, u32>
-    ensures begins { MatchResult result (Begins loaded.now levels options.now length) (IsUnservedBy loaded.now levels options.now) }
+fn begin(basis: &Basis, levels: u32, options: &Options, length: u64) -> Result<Begun, u32>
+    ensures begins { MatchResult result (Begins basis.now levels options.now length) (IsUnservedBy basis.now levels options.now) }
     ensures depth { IfOk result (λ (begun : Begun). begun.limits.depth ≤ levels) }
 {
     if !options.are_known() {
@@ -77,10 +58,13 @@ fn begin(
     if !options.have_limits(levels) {
         return Err(4);
     }
-    let Some(table) = options.root(loaded) else {
+    if !basis.serves(options) {
+        return Err(21);
+    }
+    let Some(table) = options.root(basis.loaded()) else {
         return Err(6);
     };
-    let Some(ident) = options.ident(loaded) else {
+    let Some(ident) = options.ident(basis.loaded()) else {
         return Err(5);
     };
     Ok(Begun {
@@ -100,17 +84,17 @@ fn begin(
 /// The status of that verdict.
 #[inline(always)]
 pub fn prepare(
-    loaded: &Loaded<'static>,
+    basis: &Basis,
     levels: u32,
     options: &Options,
     buffer: &[u8],
     verdict: &mut Verdict,
 ) -> Result<Begun, u32>
-    ensures starts { MatchResult result (Starts loaded.now levels options.now buffer.now) (IsTold verdict.new (IsUnchecked loaded.now levels options.now buffer.now)) }
+    ensures starts { MatchResult result (Starts basis.now levels options.now buffer.now) (IsTold verdict.new (IsUnchecked basis.now levels options.now buffer.now)) }
     ensures depth { IfOk result (λ (begun : Begun). begun.limits.depth ≤ levels) }
 {
     let length = buffer.len() as u64;
-    let begun = match begin(loaded, levels, options, length) {
+    let begun = match begin(basis, levels, options, length) {
         Ok(begun) => begun,
         Err(status) => return Err(tell_blank(status, verdict)),
     };
@@ -149,19 +133,22 @@ fn tell_found(found: Result<Report, Fault>, verdict: &mut Verdict) -> u32
 /// status.
 #[inline(never)]
 pub fn check_alone(held: &Held, verdict: &mut Verdict, options: &Options, buffer: &[u8]) -> u32
-    ensures told { (a : Answer) × (verdict.new ≡ told a) × IfSchema held.now a (λ l. IsChecked l 64 options.now buffer.now a) }
+    ensures told { (a : Answer) × (verdict.new ≡ told a) × IfSchema held.now a (λ s. IsChecked s 64 options.now buffer.now a) }
     ensures status { result ≡ verdict.new.status }
 {
-    let Held::Schema(loaded) = held else {
+    let Held::Schema(basis) = held else {
         return tell_blank(6, verdict);
     };
-    let begun = match prepare(loaded, SHALLOW, options, buffer, verdict) {
+    if options.demands != 0 {
+        return check_alone_strictly(basis, verdict, options, buffer);
+    }
+    let begun = match prepare(basis, SHALLOW, options, buffer, verdict) {
         Ok(begun) => begun,
         Err(status) => return status,
     };
     let found = walk_shallow(
         &mut metered(buffer),
-        &loaded.schema,
+        &basis.loaded().schema,
         begun.root,
         begun.start,
         begun.ident,
@@ -180,20 +167,23 @@ fn check_within(
     options: &Options,
     buffer: &[u8],
 ) -> u32
-    ensures told { (a : Answer) × (verdict.new ≡ told a) × IfSchema held.now a (λ l. IsChecked l room.old options.now buffer.now a) }
+    ensures told { (a : Answer) × (verdict.new ≡ told a) × IfSchema held.now a (λ s. IsChecked s room.old options.now buffer.now a) }
     ensures status { result ≡ verdict.new.status }
     ensures kept { room.new ≡ room.old }
 {
-    let Held::Schema(loaded) = held else {
+    let Held::Schema(basis) = held else {
         return tell_blank(6, verdict);
     };
-    let begun = match prepare(loaded, room.levels(), options, buffer, verdict) {
+    if options.demands != 0 {
+        return check_within_strictly(basis, room, verdict, options, buffer);
+    }
+    let begun = match prepare(basis, room.levels(), options, buffer, verdict) {
         Ok(begun) => begun,
         Err(status) => return status,
     };
     let found = walk(
         &mut metered(buffer),
-        &loaded.schema,
+        &basis.loaded().schema,
         begun.root,
         begun.start,
         begun.ident,
@@ -215,7 +205,7 @@ pub fn check(
     options: &Options,
     buffer: &[u8],
 ) -> u32
-    ensures told { (a : Answer) × (verdict.new ≡ told a) × IfSchema held.now a (λ l. IsChecked l (levels handle.old.inside) options.now buffer.now a) }
+    ensures told { (a : Answer) × (verdict.new ≡ told a) × IfSchema held.now a (λ s. IsChecked s (levels handle.old.inside) options.now buffer.now a) }
     ensures status { result ≡ verdict.new.status }
     ensures kept { handle.new.inside ≡ handle.old.inside }
 {
@@ -238,23 +228,23 @@ pub fn check(
 ///
 /// The status of the verdict that says why it can't begin.
 #[inline(always)]
-fn prepare_read(
-    loaded: &Loaded<'static>,
+pub fn prepare_read(
+    basis: &Basis,
     levels: u32,
     options: &Options,
     buffer: &[u8],
     paths: &[PlainPath],
     verdict: &mut Verdict,
 ) -> Result<Begun, u32>
-    ensures starts { MatchResult result (StartsRead loaded.now levels options.now buffer.now paths.now) (IsTold verdict.new (IsUnread loaded.now levels options.now buffer.now paths.now)) }
+    ensures starts { MatchResult result (StartsRead basis.now levels options.now buffer.now paths.now) (IsTold verdict.new (IsUnread basis.now levels options.now buffer.now paths.now)) }
     ensures depth { IfOk result (λ (begun : Begun). begun.limits.depth ≤ levels) }
 {
     let length = buffer.len() as u64;
-    let begun = match begin(loaded, levels, options, length) {
+    let begun = match begin(basis, levels, options, length) {
         Ok(begun) => begun,
         Err(status) => return Err(tell_blank(status, verdict)),
     };
-    if let Some(place) = first_misfit(&loaded.schema, begun.root, paths) {
+    if let Some(place) = first_misfit(&basis.loaded().schema, begun.root, paths) {
         return Err(Answer::Misfit(place).tell(verdict));
     }
     if length > LONGEST {
@@ -287,23 +277,26 @@ fn tell_read(
 
 /// Checks a buffer in room on the call's own stack, and tells of a good one the values at the ends of these paths.
 fn read_shallow(
-    loaded: &Loaded<'static>,
+    basis: &Basis,
     verdict: &mut Verdict,
     options: &Options,
     buffer: &[u8],
     paths: &[PlainPath],
     values: &mut [Value],
 ) -> u32
-    ensures told { (a : Answer) × (verdict.new ≡ told a) × IsRead loaded.now 64 options.now buffer.now paths.now values.old values.new a }
+    ensures told { (a : Answer) × (verdict.new ≡ told a) × IsRead basis.now 64 options.now buffer.now paths.now values.old values.new a }
     ensures status { result ≡ verdict.new.status }
 {
-    let begun = match prepare_read(loaded, SHALLOW, options, buffer, paths, verdict) {
+    if options.demands != 0 {
+        return read_shallow_strictly(basis, verdict, options, buffer, paths, values);
+    }
+    let begun = match prepare_read(basis, SHALLOW, options, buffer, paths, verdict) {
         Ok(begun) => begun,
         Err(status) => return status,
     };
     let found = verify_shallow(
         metered(buffer),
-        &loaded.schema,
+        &basis.loaded().schema,
         begun.root,
         begun.start,
         begun.ident,
@@ -315,7 +308,7 @@ fn read_shallow(
 
 /// The same in the room that is given.
 fn read_in(
-    loaded: &Loaded<'static>,
+    basis: &Basis,
     room: &mut Room,
     verdict: &mut Verdict,
     options: &Options,
@@ -323,17 +316,20 @@ fn read_in(
     paths: &[PlainPath],
     values: &mut [Value],
 ) -> u32
-    ensures told { (a : Answer) × (verdict.new ≡ told a) × IsRead loaded.now room.old options.now buffer.now paths.now values.old values.new a }
+    ensures told { (a : Answer) × (verdict.new ≡ told a) × IsRead basis.now room.old options.now buffer.now paths.now values.old values.new a }
     ensures status { result ≡ verdict.new.status }
     ensures kept { room.new ≡ room.old }
 {
-    let begun = match prepare_read(loaded, room.levels(), options, buffer, paths, verdict) {
+    if options.demands != 0 {
+        return read_in_strictly(basis, room, verdict, options, buffer, paths, values);
+    }
+    let begun = match prepare_read(basis, room.levels(), options, buffer, paths, verdict) {
         Ok(begun) => begun,
         Err(status) => return status,
     };
     let found = verify(
         metered(buffer),
-        &loaded.schema,
+        &basis.loaded().schema,
         begun.root,
         begun.start,
         begun.ident,
@@ -359,16 +355,16 @@ pub fn read(
     ensures status { result ≡ verdict.new.status }
     ensures kept { handle.new.inside ≡ handle.old.inside }
 {
-    let Held::Schema(loaded) = held else {
+    let Held::Schema(basis) = held else {
         return tell_blank(6, verdict);
     };
     let Some(mut taken) = handle.take(alloc) else {
-        return read_shallow(loaded, verdict, options, buffer, paths, values);
+        return read_shallow(basis, verdict, options, buffer, paths, values);
     };
     let inside = &mut *taken;
     let status = match inside {
-        Held::Room(room) => read_in(loaded, room, verdict, options, buffer, paths, values),
-        Held::Schema(_) => read_shallow(loaded, verdict, options, buffer, paths, values),
+        Held::Room(room) => read_in(basis, room, verdict, options, buffer, paths, values),
+        Held::Schema(_) => read_shallow(basis, verdict, options, buffer, paths, values),
     };
     handle.put(taken);
     status
@@ -414,10 +410,10 @@ pub fn resolve(
 ) -> Answer
     ensures { IsPath held.now options.now text.now path.old path.new result }
 {
-    let Held::Schema(loaded) = held else {
+    let Held::Schema(basis) = held else {
         return Answer::NoRoot;
     };
-    match steps_of(alloc, loaded, options, text) {
+    match steps_of(alloc, basis.loaded(), options, text) {
         Ok(plain) => {
             *path = plain;
             Answer::Done
@@ -426,17 +422,24 @@ pub fn resolve(
     }
 }
 
-/// How many reads a check of so many bytes makes at most.
+/// How many reads a check of so many bytes makes at most, with those of the pass where the options have demands.
 ///
 /// # Errors
 ///
-/// As [`Options::limits`] has it for 4,096 levels.
+/// As [`Options::limits`] has it for 4,096 levels; then `NotPlanned`.
 pub fn price(held: &Held, options: &Options, length: u64) -> Result<u64, Answer>
     ensures { IsPriced held.now options.now length result }
 {
-    let Held::Schema(loaded) = held else {
+    let Held::Schema(basis) = held else {
         return Err(Answer::NoRoot);
     };
     let limits = options.limits(DEEPEST, length)?;
-    Ok(low(most_reads(&loaded.schema, limits, length)))
+    if !basis.serves(options) {
+        return Err(Answer::NotPlanned);
+    }
+    let schema = &basis.loaded().schema;
+    if options.demands == 0 {
+        return Ok(low(most_reads(schema, limits, length)));
+    }
+    Ok(low(most_reads_strictly(schema, limits, length)))
 }

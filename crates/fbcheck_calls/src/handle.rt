@@ -6,7 +6,7 @@ ghost use Rattle.fbcheck_calls.specs.Answered.{IsRoomMade, IsTaken};
 ghost use Rattle.fbcheck_calls.specs.declared.held.Held.{Held};
 
 use crate::answer::Answer;
-use crate::checking::open;
+use crate::basis::open;
 use crate::detached::Detached;
 use crate::held::{Held, Room};
 use crate::options::Options;
@@ -123,11 +123,11 @@ impl Handle {
     pub fn load(&mut self, alloc: Global, file: &'static [u8], options: &Options) -> Answer
         ensures { IsTaken file.now options.now self.old.inside self.new.inside result }
     {
-        let loaded = match open(alloc, file, options) {
-            Ok(loaded) => loaded,
+        let basis = match open(alloc, file, options) {
+            Ok(basis) => basis,
             Err(answer) => return answer,
         };
-        match self.hold(alloc, Held::Schema(loaded)) {
+        match self.hold(alloc, Held::Schema(basis)) {
             Ok(()) => Answer::Done,
             Err(_) => Answer::NoSchema(LoadFault::OutOfMemory),
         }

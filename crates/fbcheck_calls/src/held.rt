@@ -3,7 +3,8 @@
 ghost use Rattle.std.specs.Prelude.{◌≡◌, ◌<◌, ◌≤◌, length, IfErr, IfOk};
 ghost use Rattle.fb_verify.specs.declared.scratch.ScratchFault.TheVariants.{LimitOutOfRange, OutOfMemory};
 
-use fb_bfbs::Loaded;
+use crate::basis::Basis;
+use fb_strict::Room as PassRoom;
 use fb_verify::{Link, Scratch, ScratchFault};
 use std::alloc::{AllocError, Global};
 use std::marker::Model;
@@ -16,11 +17,12 @@ pub const NO_LINK: Link = Link {
     member: None,
 };
 
-/// Room for the open tables of a check, and for as many links of the way to a fault. A contract sees it as the number
-/// of its levels.
+/// Room for the open tables of a check, for as many of a pass, and for as many links of the way to a fault. A contract
+/// sees it as the number of its levels.
 #[derive(Drop)]
 pub struct Room {
     pub scratch: Scratch,
+    pub pass: PassRoom,
     pub links: Vec<Link>,
 }
 
@@ -31,13 +33,13 @@ impl Model for Room {
 
     ghost view = { λ r. r.scratch };
 
-    ghost invariant = { λ r. length r.links.items ≡ r.scratch };
+    ghost invariant = { λ r. (r.pass ≡ r.scratch) × (length r.links.items ≡ r.scratch) };
 }
 
-/// What a pointer of a caller in C leads to: a schema, or room for a check.
+/// What a pointer of a caller in C leads to: a schema with its plan, or room for a check.
 #[derive(Drop)]
 pub enum Held {
-    Schema(Loaded<'static>),
+    Schema(Basis),
     Room(Room),
 }
 
@@ -62,8 +64,15 @@ impl Room {
         ensures memory { IfErr result (λ f. f ≡ OutOfMemory → depth ≤ 4096) }
     {
         let scratch = Scratch::new(alloc, depth)?;
+        let Ok(pass) = PassRoom::new(alloc, depth) else {
+            return Err(ScratchFault::OutOfMemory);
+        };
         match links_of(alloc, depth) {
-            Ok(links) => Ok(Room { scratch, links }),
+            Ok(links) => Ok(Room {
+                scratch,
+                pass,
+                links,
+            }),
             Err(_) => Err(ScratchFault::OutOfMemory),
         }
     }

@@ -1,10 +1,10 @@
 //! What follows from the definitions of answers alone. These functions have no body: their contracts are the theorems.
 
-ghost use Rattle.fbcheck_calls.specs.AnswerLaws.{BadGetsNo, GoodGetsYes, LongGetsItsNumber, ValuesStand};
+ghost use Rattle.fbcheck_calls.specs.AnswerLaws.{BadGetsNo, DemandsArePlanned, GoodGetsYes, LongGetsItsNumber, PlainIsPlain, ValuesStand};
 ghost use Rattle.fbcheck_calls.specs.Names.{FaultsHaveTheirNames, StatusesHaveWords};
 
-/// Where the schema, the room and the options can serve a buffer of less than 2^31 bytes, and some tree of it is well
-/// formed and within the limits, the answer is 0.
+/// Where the schema, the room and the options can serve a buffer of less than 2^31 bytes, and some tree of it is as they
+/// ask, the answer is 0.
 #[tactic(auto, using(crate::proofs::AnswerLemmas::good_gets_yes))]
 pub fn a_good_buffer_gets_a_yes()
     ensures { GoodGetsYes }
@@ -20,6 +20,14 @@ pub fn a_bad_buffer_gets_a_no()
 #[tactic(auto, using(crate::proofs::AnswerLemmas::long_gets_its_number))]
 pub fn a_long_buffer_gets_its_number()
     ensures { LongGetsItsNumber }
+{}
+
+/// Without demands a check is by no plan, whatever the schema was made with; with demands it is by a plan, which the
+/// schema has for the same ones.
+#[tactic(auto, using(crate::proofs::AnswerLemmas::plain_is_plain, crate::proofs::AnswerLemmas::demands_are_planned))]
+pub fn a_plan_is_asked_for()
+    ensures plain { PlainIsPlain }
+    ensures planned { DemandsArePlanned }
 {}
 
 /// The bytes that are told of a float, a string and a struct are its value, those of a vector or array of scalars or

@@ -3,6 +3,7 @@
 #![tactic(auto)]
 
 mod answer;
+mod basis;
 mod checking;
 mod detached;
 pub mod examples;
@@ -17,9 +18,11 @@ mod place;
 mod shared;
 mod spans;
 mod steps;
+mod strict;
 mod values;
 
-pub use answer::{Answer, Verdict};
+pub use answer::{Answer, FieldAt, Verdict};
+pub use basis::Basis;
 pub use checking::{check, check_alone, price, read, resolve};
 pub use framer::Framer;
 pub use handle::Handle;

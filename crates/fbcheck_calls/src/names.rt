@@ -34,6 +34,9 @@ pub fn reason_of(number: u32) -> Option<Reason>
         11 => Some(Reason::LengthsDiffer),
         12 => Some(Reason::PastTable),
         13 => Some(Reason::TooManyReads),
+        14 => Some(Reason::FlexContent),
+        15 => Some(Reason::NotUtf8),
+        16 => Some(Reason::UnknownField),
         _ => None,
     }
 }
@@ -170,6 +173,9 @@ fn status_text(status: u32) -> Option<&'static str>
         18 => Some("too many steps"),
         19 => Some("a path is none of this schema's from this root"),
         20 => Some("its rows or names are more than its length pays for"),
+        21 => Some("the schema was made with other demands"),
+        22 => Some("strict can't tell which bytes are nested buffers or flexbuffers"),
+        23 => Some("strict doesn't look inside nested buffers and flexbuffers yet"),
         _ => None,
     }
 }
@@ -189,7 +195,7 @@ pub fn object_told(held: &Held, object: u32, room: &mut [u8]) -> usize
     ensures { IsNameTold (held_name held.now (λ rows. object_name rows object)) room.old room.new result }
 {
     match held {
-        Held::Schema(loaded) => told(object_name(&loaded.schema, object), room),
+        Held::Schema(basis) => told(object_name(&basis.loaded().schema, object), room),
         Held::Room(_) => 0,
     }
 }
@@ -199,7 +205,7 @@ pub fn field_told(held: &Held, object: u32, number: u32, room: &mut [u8]) -> usi
     ensures { IsNameTold (held_name held.now (λ rows. field_name rows object number)) room.old room.new result }
 {
     match held {
-        Held::Schema(loaded) => told(field_name(&loaded.schema, object, number), room),
+        Held::Schema(basis) => told(field_name(&basis.loaded().schema, object, number), room),
         Held::Room(_) => 0,
     }
 }
@@ -209,7 +215,10 @@ pub fn table_of(held: &Held, name: &[u8]) -> u32
     ensures { result ≡ table_number held.now name.now }
 {
     match held {
-        Held::Schema(loaded) => loaded.schema.table_named(name).unwrap_or(NO_TABLE),
+        Held::Schema(basis) => {
+            let schema = &basis.loaded().schema;
+            schema.table_named(name).unwrap_or(NO_TABLE)
+        }
         Held::Room(_) => NO_TABLE,
     }
 }

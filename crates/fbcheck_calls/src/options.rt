@@ -3,7 +3,7 @@
 ghost use Rattle.std.specs.Prelude.{◌≡◌, ◌≤◌, IsTrue, ◌↔◌, MatchResult};
 ghost use Rattle.fb_schema.specs.Rows.{is_table};
 ghost use Rattle.std.specs.Prelude.{IfSome};
-ghost use Rattle.fbcheck_calls.specs.Asked.{AreKnown, HasLimits, LimitsFail, checks_asked, ident_asked, if_table, limits_of, published, root_asked, start_asked};
+ghost use Rattle.fbcheck_calls.specs.Asked.{AreKnown, HasLimits, LimitsFail, checks_asked, ident_asked, if_table, known_demands, limits_of, published, root_asked, start_asked};
 
 use crate::answer::Answer;
 use fb_bfbs::{Loaded, own_ident};
@@ -12,6 +12,9 @@ use fb_verify::{Checks, Ident, Limits, Start};
 
 /// The version of the options that this library knows.
 const VERSION: u32 = 1;
+
+/// The demands by which a schema file's marks are asked: strict checks, and bytes aren't taken for plain.
+pub const STRICT: u32 = 1;
 
 /// The most levels that there may be room for.
 pub const DEEPEST: u32 = 4096;
@@ -53,8 +56,10 @@ pub struct Options {
     pub no_alignment: u8,
     /// Whether a field must end within the inline size of its table.
     pub inline_size: u8,
+    /// What is demanded beside the rules: 0 for nothing, 1 for strict checks, 9 for such that take bytes for plain.
+    pub demands: u32,
     /// Room for what later versions ask. Version 1 doesn't read it.
-    pub reserved: [u32; 7],
+    pub reserved: [u32; 6],
 }
 
 /// A number that is a table's.
@@ -66,6 +71,13 @@ fn if_table(schema: &Schema<'_>, number: Option<u32>) -> Option<u32>
         Some(n) if schema.is_table(n) => Some(n),
         _ => None,
     }
+}
+
+/// Whether this library knows these demands.
+fn are_known(demands: u32) -> bool
+    ensures { result ≡ known_demands demands }
+{
+    matches!(demands, 0 | 1 | 9)
 }
 
 impl Options {
@@ -86,7 +98,8 @@ impl Options {
             prefixed: 0,
             no_alignment: 0,
             inline_size: 0,
-            reserved: [0; 7],
+            demands: 0,
+            reserved: [0; 6],
         }
     }
 
@@ -94,7 +107,7 @@ impl Options {
     pub fn are_known(&self) -> bool
         ensures { IsTrue result ↔ AreKnown self.now }
     {
-        self.version == VERSION && self.ident_from <= 2
+        self.version == VERSION && self.ident_from <= 2 && are_known(self.demands)
     }
 
     /// Whether this library knows the options, and they ask for no more than 4,096 levels and these.
@@ -120,8 +133,8 @@ impl Options {
     ///
     /// # Errors
     ///
-    /// `UnknownOptions` where the version is another than 1, or the identifier's source above 2, then `OutOfRange`
-    /// where the depth is above 4,096 or above these levels.
+    /// `UnknownOptions` where the version is another than 1, the identifier's source above 2, or the demands unknown;
+    /// then `OutOfRange` where the depth is above 4,096 or above these levels.
     pub fn limits(&self, levels: u32, length: u64) -> Result<Limits, Answer>
         ensures { MatchResult result (λ l. HasLimits self.now levels × (l ≡ limits_of self.now length)) (LimitsFail self.now levels) }
     {

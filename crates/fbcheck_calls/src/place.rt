@@ -9,12 +9,13 @@ ghost use Rattle.fbcheck_calls.specs.Placed.{IsLocated, IsLocatedBy, IsTextTold,
 ghost use Rattle.fbcheck_calls.specs.declared.answer.Answer.{Answer};
 
 use crate::answer::{Verdict, tell_bad, tell_blank, tell_good};
+use crate::basis::Basis;
 use crate::checking::{SHALLOW, metered, prepare};
 use crate::handle::Handle;
 use crate::held::{Held, NO_LINK, Room};
 use crate::options::Options;
+use crate::strict::{locate_in_strictly, locate_shallow_strictly};
 use fb_access::{LocationText, write_location};
-use fb_bfbs::Loaded;
 use fb_schema::Schema;
 use fb_verify::{Fault, Link, Located, Verified, verify_and_locate, verify_and_locate_shallow};
 use std::alloc::Global;
@@ -32,7 +33,7 @@ fn cut_into(text: &[u8], room: &mut [u8]) -> usize
 /// Writes where a fault is, to which these links lead, as much of it as there is room for. How long the whole is. It
 /// stands apart, so that a good buffer pays nothing for the text.
 #[inline(never)]
-fn write_place(schema: &Schema<'_>, fault: &Fault, links: &[Link], text: &mut [u8]) -> usize
+pub fn write_place(schema: &Schema<'_>, fault: &Fault, links: &[Link], text: &mut [u8]) -> usize
     ensures { IsTextTold (location_text schema.now fault.now links.now) text.old text.new result }
 {
     let mut place = LocationText::new();
@@ -68,24 +69,28 @@ fn tell_located(
 /// Checks a buffer as the options ask, in room on the call's own stack, and writes where the fault of a bad one is.
 /// Writes the verdict too, and answers its status.
 fn locate_shallow(
-    loaded: &Loaded<'static>,
+    basis: &Basis,
     verdict: &mut Verdict,
     options: &Options,
     buffer: &[u8],
     text: &mut [u8],
     written: &mut usize,
 ) -> u32
-    ensures told { (a : Answer) × (verdict.new ≡ told a) × IsLocated loaded.now 64 options.now buffer.now text.old text.new written.old written.new a }
+    ensures told { (a : Answer) × (verdict.new ≡ told a) × IsLocated basis.now 64 options.now buffer.now text.old text.new written.old written.new a }
     ensures status { result ≡ verdict.new.status }
 {
-    let begun = match prepare(loaded, SHALLOW, options, buffer, verdict) {
+    if options.demands != 0 {
+        return locate_shallow_strictly(basis, verdict, options, buffer, text, written);
+    }
+    let begun = match prepare(basis, SHALLOW, options, buffer, verdict) {
         Ok(begun) => begun,
         Err(status) => return status,
     };
+    let schema = &basis.loaded().schema;
     let mut links = [NO_LINK; 64];
     let found = verify_and_locate_shallow(
         metered(buffer),
-        &loaded.schema,
+        schema,
         begun.root,
         begun.start,
         begun.ident,
@@ -93,12 +98,12 @@ fn locate_shallow(
         begun.checks,
         &mut links,
     );
-    tell_located(&found, &loaded.schema, &links, text, written, verdict)
+    tell_located(&found, schema, &links, text, written, verdict)
 }
 
 /// The same in the room that is given.
 fn locate_in(
-    loaded: &Loaded<'static>,
+    basis: &Basis,
     room: &mut Room,
     verdict: &mut Verdict,
     options: &Options,
@@ -106,18 +111,22 @@ fn locate_in(
     text: &mut [u8],
     written: &mut usize,
 ) -> u32
-    ensures told { (a : Answer) × (verdict.new ≡ told a) × IsLocated loaded.now room.old options.now buffer.now text.old text.new written.old written.new a }
+    ensures told { (a : Answer) × (verdict.new ≡ told a) × IsLocated basis.now room.old options.now buffer.now text.old text.new written.old written.new a }
     ensures status { result ≡ verdict.new.status }
     ensures kept { room.new ≡ room.old }
 {
-    let begun = match prepare(loaded, room.levels(), options, buffer, verdict) {
+    if options.demands != 0 {
+        return locate_in_strictly(basis, room, verdict, options, buffer, text, written);
+    }
+    let begun = match prepare(basis, room.levels(), options, buffer, verdict) {
         Ok(begun) => begun,
         Err(status) => return status,
     };
+    let schema = &basis.loaded().schema;
     let links = room.links.as_mut_slice();
     let found = verify_and_locate(
         metered(buffer),
-        &loaded.schema,
+        schema,
         begun.root,
         begun.start,
         begun.ident,
@@ -126,7 +135,7 @@ fn locate_in(
         &mut room.scratch,
         links,
     );
-    tell_located(&found, &loaded.schema, links, text, written, verdict)
+    tell_located(&found, schema, links, text, written, verdict)
 }
 
 /// Checks a buffer by a schema as [`check`](crate::checking::check) does, and writes where the fault of a bad one is,
@@ -146,16 +155,16 @@ pub fn locate(
     ensures kept { handle.new.inside ≡ handle.old.inside }
 {
     *written = 0;
-    let Held::Schema(loaded) = held else {
+    let Held::Schema(basis) = held else {
         return tell_blank(6, verdict);
     };
     let Some(mut taken) = handle.take(alloc) else {
-        return locate_shallow(loaded, verdict, options, buffer, text, written);
+        return locate_shallow(basis, verdict, options, buffer, text, written);
     };
     let inside = &mut *taken;
     let status = match inside {
-        Held::Room(room) => locate_in(loaded, room, verdict, options, buffer, text, written),
-        Held::Schema(_) => locate_shallow(loaded, verdict, options, buffer, text, written),
+        Held::Room(room) => locate_in(basis, room, verdict, options, buffer, text, written),
+        Held::Schema(_) => locate_shallow(basis, verdict, options, buffer, text, written),
     };
     handle.put(taken);
     status

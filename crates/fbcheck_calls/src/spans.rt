@@ -46,7 +46,7 @@ fn tell_tried(
     served: Answer,
     verdict: &mut Verdict,
 ) -> u32
-    ensures told { (a : Answer) × (verdict.new ≡ told a) × IfSchema held.now a (λ l. IsTried served l (levels handle.old.inside) options.now a) }
+    ensures told { (a : Answer) × (verdict.new ≡ told a) × IfSchema held.now a (λ s. IsTried served s (levels handle.old.inside) options.now a) }
     ensures status { result ≡ verdict.new.status }
     ensures kept { handle.new.inside ≡ handle.old.inside }
 {
@@ -60,7 +60,7 @@ fn tell_tried(
 
 /// 0 where a check can begin by these options, else the status of why none can.
 pub fn try_options(alloc: Global, held: &Held, handle: &mut Handle, options: &Options) -> u32
-    ensures tried { (a : Answer) × (result ≡ (told a).status) × IfSchema held.now a (λ l. IsTried Done l (levels handle.old.inside) options.now a) }
+    ensures tried { (a : Answer) × (result ≡ (told a).status) × IfSchema held.now a (λ s. IsTried Done s (levels handle.old.inside) options.now a) }
     ensures kept { handle.new.inside ≡ handle.old.inside }
 {
     let mut verdict = Verdict::default();

@@ -9,7 +9,7 @@ returns-clause-told c = rw (← c.held-held.ensures) c.check_each.ensures.told
 
 -- of no spans is answered what the options tell
 of_none : (held : Held) (n : ℕ) (o : Options) (spans : List Span) (verdicts : List Verdict) (status : ℕ) → length spans ≡ 0
-    → ((a : Answer) × (status ≡ (told a).status) × IfSchema held a (λ l. IsTried Done l n o a)) → IsEachAnswered held n o spans verdicts status
+    → ((a : Answer) × (status ≡ (told a).status) × IfSchema held a (λ s. IsTried Done s n o a)) → IsEachAnswered held n o spans verdicts status
 of_none held n o [] verdicts status e h = h
 of_none held n o (span ∷ more) verdicts status e h = absurd (omega arith)
 

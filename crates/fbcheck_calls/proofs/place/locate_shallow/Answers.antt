@@ -1,19 +1,22 @@
+use Rattle.std.proofs.Common.{ap, None}
 use Rattle.fb_verify.specs.Sealed.{Sealed}
 use Rattle.fb_verify.specs.declared.links.Located.{Located}
 use Rattle.fbcheck_calls.specs.Told.{found_by}
+use Rattle.fb_bfbs.specs.declared.loading.Loaded.{Loaded}
+use Rattle.fbcheck_calls.proofs.AnswerLemmas.{plain_is_plain}
 use Rattle.fbcheck_calls.proofs.BegunLemmas.{found_is_located, unchecked_is_located}
 use Rattle.fbcheck_calls.proofs.place.locate_shallow.Goals as goal
 
 pub returns-in-Err-clause-told : goal.returns-in-Err-clause-told
 returns-in-Err-clause-told c =
     let t = c.in-Err.ensures.starts in
-    (t.answer, t.told, unchecked_is_located c.args.loaded.now 64 c.args.options.now c.args.buffer.now c.args.text.now c.args.written.now t.answer t.holds)
+    (t.answer, t.told, unchecked_is_located c.args.basis.now 64 c.args.options.now c.args.buffer.now c.args.text.now c.args.written.now t.answer t.holds)
 
 pub returns-clause-told : goal.returns-clause-told
 returns-clause-told c =
     let found = c.verify_and_locate_shallow-found in (
       found_by (λ (v : Sealed). v.report) (λ (e : Located). e.fault) found.result,
       c.tell_located.ensures.told,
-      found_is_located c.args.loaded.now 64 c.args.options.now c.args.buffer.now c.in-Ok.begun c.in-Ok.ensures.starts.0 c.in-Ok.ensures.starts.1 c.metered.result.bytes c.metered.ensures.bytes found.result _ c.args.text.now c.tell_located.new.text c.args.written.now c.tell_located.new.written
+      found_is_located c.args.basis.now 64 c.args.options.now c.args.buffer.now c.in-Ok.begun c.in-Ok.ensures.starts.0 c.in-Ok.ensures.starts.1 c.metered.result.bytes c.metered.ensures.bytes c.loaded.result.now.schema (ap (λ (l : Loaded). l.schema) c.loaded.ensures) None (plain_is_plain c.args.basis.now c.args.options.now c.if-options-ne0.false) (λ (v : Sealed). v.report) found.result _ c.args.text.now c.tell_located.new.text c.args.written.now c.tell_located.new.written
           found.ensures.yes found.ensures.none found.ensures.no found.ensures.along c.tell_located.ensures.text,
     )

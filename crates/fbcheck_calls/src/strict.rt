@@ -1,0 +1,298 @@
+//! Checks of buffers by a plan. They stand apart, so that a check without demands pays one test for them.
+
+ghost use Rattle.std.specs.Prelude.{◌≡◌, ◌≢◌, ◌≤◌, IfErr, IfOk, IsSome, MatchResult, Some, length, take};
+ghost use Rattle.fb_access.specs.Location.{location_text};
+ghost use Rattle.fb_rules.specs.declared.fault.Fault.{Fault};
+ghost use Rattle.fb_strict.specs.Planned.{IsPlan};
+ghost use Rattle.fb_strict.specs.declared.strictly.VerifiedStrictly.{VerifiedStrictly};
+ghost use Rattle.fb_verify.specs.declared.links.Located.{Located};
+ghost use Rattle.fbcheck_calls.specs.{Answered.IsChecked, Asked.plan_asked, Reached.IsRead, Steps.AllFit, Told.found_by, Told.told, Values.AreValues};
+ghost use Rattle.fbcheck_calls.specs.Placed.{IsLocated, IsTextTold, IsUntold};
+ghost use Rattle.fbcheck_calls.specs.declared.answer.Answer.{Answer};
+
+use crate::answer::{Verdict, tell_bad, tell_good};
+use crate::basis::Basis;
+use crate::checking::{SHALLOW, metered, prepare, prepare_read};
+use crate::held::{NO_LINK, Room};
+use crate::options::Options;
+use crate::place::write_place;
+use crate::steps::PlainPath;
+use crate::values::{Value, tell_values};
+use fb_schema::Schema;
+use fb_strict::{
+    Plan, VerifiedStrictly, verify_strictly, verify_strictly_and_locate,
+    verify_strictly_and_locate_shallow, verify_strictly_shallow,
+};
+use fb_verify::{Fault, Link, Located};
+
+/// The plan by which the options ask, of a schema that was made with their demands.
+fn plan_of<'h>(basis: &'h Basis, options: &Options) -> &'h Plan
+    requires demands { options.now.demands ≢ 0 }
+    requires planned { IsSome (plan_asked basis.now options.now) }
+    ensures plan { plan_asked basis.now options.now ≡ Some (Some result.now) }
+    ensures fits { IsPlan basis.now.loaded.schema result.now }
+{
+    let Some(plan) = basis.plan_for(options.demands) else {
+        unreachable!()
+    };
+    plan
+}
+
+/// Writes what a check found, and answers the status.
+fn tell_found(found: &Result<VerifiedStrictly<'_, '_, '_>, Fault>, verdict: &mut Verdict) -> u32
+    ensures told { verdict.new ≡ told (found_by (λ (v : VerifiedStrictly). v.report) (λ (f : Fault). f) found.now) }
+    ensures status { result ≡ verdict.new.status }
+{
+    match found {
+        Ok(strict) => tell_good(strict.report, verdict),
+        Err(fault) => tell_bad(*fault, verdict),
+    }
+}
+
+/// Checks a buffer by the plan for the demands of the options, in room on the call's own stack. Writes the verdict, and
+/// answers its status.
+#[inline(never)]
+pub fn check_alone_strictly(
+    basis: &Basis,
+    verdict: &mut Verdict,
+    options: &Options,
+    buffer: &[u8],
+) -> u32
+    requires demands { options.now.demands ≢ 0 }
+    ensures told { (a : Answer) × (verdict.new ≡ told a) × IsChecked basis.now 64 options.now buffer.now a }
+    ensures status { result ≡ verdict.new.status }
+{
+    let begun = match prepare(basis, SHALLOW, options, buffer, verdict) {
+        Ok(begun) => begun,
+        Err(status) => return status,
+    };
+    let found = verify_strictly_shallow(
+        metered(buffer),
+        &basis.loaded().schema,
+        begun.root,
+        begun.start,
+        begun.ident,
+        begun.limits,
+        begun.checks,
+        plan_of(basis, options),
+    );
+    tell_found(&found, verdict)
+}
+
+/// The same in the room that is given.
+#[inline(never)]
+pub fn check_within_strictly(
+    basis: &Basis,
+    room: &mut Room,
+    verdict: &mut Verdict,
+    options: &Options,
+    buffer: &[u8],
+) -> u32
+    requires demands { options.now.demands ≢ 0 }
+    ensures told { (a : Answer) × (verdict.new ≡ told a) × IsChecked basis.now room.old options.now buffer.now a }
+    ensures status { result ≡ verdict.new.status }
+    ensures kept { room.new ≡ room.old }
+{
+    let begun = match prepare(basis, room.levels(), options, buffer, verdict) {
+        Ok(begun) => begun,
+        Err(status) => return status,
+    };
+    let found = verify_strictly(
+        metered(buffer),
+        &basis.loaded().schema,
+        begun.root,
+        begun.start,
+        begun.ident,
+        begun.limits,
+        begun.checks,
+        plan_of(basis, options),
+        &mut room.scratch,
+        &mut room.pass,
+    );
+    tell_found(&found, verdict)
+}
+
+/// Writes what a check found, with the values at the ends of these paths in a good buffer, and answers the status.
+fn tell_read(
+    found: &Result<VerifiedStrictly<'_, '_, '_>, Fault>,
+    paths: &[PlainPath],
+    values: &mut [Value],
+    verdict: &mut Verdict,
+) -> u32
+    requires { IfOk found.now (λ (v : VerifiedStrictly). AllFit (v.verified).schema (v.verified).root paths.now) }
+    ensures told { verdict.new ≡ told (found_by (λ (v : VerifiedStrictly). v.report) (λ (f : Fault). f) found.now) }
+    ensures values { MatchResult found.now (λ (v : VerifiedStrictly). AreValues (v.verified).bytes (v.verified).schema (v.verified).start (v.verified).root paths.now values.new) (λ _. values.new ≡ values.old) }
+    ensures status { result ≡ verdict.new.status }
+{
+    match found {
+        Ok(strict) => {
+            tell_values(&strict.verified, paths, values);
+            tell_good(strict.report, verdict)
+        }
+        Err(fault) => tell_bad(*fault, verdict),
+    }
+}
+
+/// Checks a buffer by the plan in room on the call's own stack, and tells of a good one the values at the ends of these
+/// paths.
+#[inline(never)]
+pub fn read_shallow_strictly(
+    basis: &Basis,
+    verdict: &mut Verdict,
+    options: &Options,
+    buffer: &[u8],
+    paths: &[PlainPath],
+    values: &mut [Value],
+) -> u32
+    requires demands { options.now.demands ≢ 0 }
+    ensures told { (a : Answer) × (verdict.new ≡ told a) × IsRead basis.now 64 options.now buffer.now paths.now values.old values.new a }
+    ensures status { result ≡ verdict.new.status }
+{
+    let begun = match prepare_read(basis, SHALLOW, options, buffer, paths, verdict) {
+        Ok(begun) => begun,
+        Err(status) => return status,
+    };
+    let found = verify_strictly_shallow(
+        metered(buffer),
+        &basis.loaded().schema,
+        begun.root,
+        begun.start,
+        begun.ident,
+        begun.limits,
+        begun.checks,
+        plan_of(basis, options),
+    );
+    tell_read(&found, paths, values, verdict)
+}
+
+/// The same in the room that is given.
+#[inline(never)]
+pub fn read_in_strictly(
+    basis: &Basis,
+    room: &mut Room,
+    verdict: &mut Verdict,
+    options: &Options,
+    buffer: &[u8],
+    paths: &[PlainPath],
+    values: &mut [Value],
+) -> u32
+    requires demands { options.now.demands ≢ 0 }
+    ensures told { (a : Answer) × (verdict.new ≡ told a) × IsRead basis.now room.old options.now buffer.now paths.now values.old values.new a }
+    ensures status { result ≡ verdict.new.status }
+    ensures kept { room.new ≡ room.old }
+{
+    let begun = match prepare_read(basis, room.levels(), options, buffer, paths, verdict) {
+        Ok(begun) => begun,
+        Err(status) => return status,
+    };
+    let found = verify_strictly(
+        metered(buffer),
+        &basis.loaded().schema,
+        begun.root,
+        begun.start,
+        begun.ident,
+        begun.limits,
+        begun.checks,
+        plan_of(basis, options),
+        &mut room.scratch,
+        &mut room.pass,
+    );
+    tell_read(&found, paths, values, verdict)
+}
+
+/// Writes what a check found, with where the fault of a bad buffer is, and answers the status.
+fn tell_located(
+    found: &Result<VerifiedStrictly<'_, '_, '_>, Located>,
+    schema: &Schema<'_>,
+    links: &[Link],
+    text: &mut [u8],
+    written: &mut usize,
+    verdict: &mut Verdict,
+) -> u32
+    requires { IfErr found.now (λ (e : Located). e.links ≤ length links.now) }
+    ensures told { verdict.new ≡ told (found_by (λ (v : VerifiedStrictly). v.report) (λ (e : Located). e.fault) found.now) }
+    ensures text { MatchResult found.now (λ _. IsUntold text.old text.new written.old written.new) (λ (e : Located). IsTextTold (location_text schema.now e.fault (take e.links links.now)) text.old text.new written.new) }
+    ensures status { result ≡ verdict.new.status }
+{
+    match found {
+        Ok(strict) => tell_good(strict.report, verdict),
+        Err(located) => {
+            let way = &links[..located.links as usize];
+            *written = write_place(schema, &located.fault, way, text);
+            tell_bad(located.fault, verdict)
+        }
+    }
+}
+
+/// Checks a buffer by the plan, in room on the call's own stack, and writes where the fault of a bad one is. Writes the
+/// verdict too, and answers its status.
+#[inline(never)]
+pub fn locate_shallow_strictly(
+    basis: &Basis,
+    verdict: &mut Verdict,
+    options: &Options,
+    buffer: &[u8],
+    text: &mut [u8],
+    written: &mut usize,
+) -> u32
+    requires demands { options.now.demands ≢ 0 }
+    ensures told { (a : Answer) × (verdict.new ≡ told a) × IsLocated basis.now 64 options.now buffer.now text.old text.new written.old written.new a }
+    ensures status { result ≡ verdict.new.status }
+{
+    let begun = match prepare(basis, SHALLOW, options, buffer, verdict) {
+        Ok(begun) => begun,
+        Err(status) => return status,
+    };
+    let schema = &basis.loaded().schema;
+    let mut links = [NO_LINK; 64];
+    let found = verify_strictly_and_locate_shallow(
+        metered(buffer),
+        schema,
+        begun.root,
+        begun.start,
+        begun.ident,
+        begun.limits,
+        begun.checks,
+        plan_of(basis, options),
+        &mut links,
+    );
+    tell_located(&found, schema, &links, text, written, verdict)
+}
+
+/// The same in the room that is given.
+#[inline(never)]
+pub fn locate_in_strictly(
+    basis: &Basis,
+    room: &mut Room,
+    verdict: &mut Verdict,
+    options: &Options,
+    buffer: &[u8],
+    text: &mut [u8],
+    written: &mut usize,
+) -> u32
+    requires demands { options.now.demands ≢ 0 }
+    ensures told { (a : Answer) × (verdict.new ≡ told a) × IsLocated basis.now room.old options.now buffer.now text.old text.new written.old written.new a }
+    ensures status { result ≡ verdict.new.status }
+    ensures kept { room.new ≡ room.old }
+{
+    let begun = match prepare(basis, room.levels(), options, buffer, verdict) {
+        Ok(begun) => begun,
+        Err(status) => return status,
+    };
+    let schema = &basis.loaded().schema;
+    let links = room.links.as_mut_slice();
+    let found = verify_strictly_and_locate(
+        metered(buffer),
+        schema,
+        begun.root,
+        begun.start,
+        begun.ident,
+        begun.limits,
+        begun.checks,
+        plan_of(basis, options),
+        &mut room.scratch,
+        &mut room.pass,
+        links,
+    );
+    tell_located(&found, schema, links, text, written, verdict)
+}

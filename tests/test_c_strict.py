@@ -1,0 +1,242 @@
+"""The library for C with demands: beside the plain checker, beside the program, and what is refused."""
+
+import ctypes
+import itertools
+
+from tests.support import schemas
+from tests.support.buffers import ORC
+from tests.support.builder import prefixed
+from tests.support.generated import Kept
+from tests.support.library import SANITIZED, SHARED, STATIC, LibraryCase, module, ran
+from tests.support.naive import Schema, number_at
+from tests.support.program import TOP, run
+from tests.support.random_buffers import Builder
+from tests.support.random_buffers import damaged as damaged_at_random
+from tests.support.random_rows import Maker, Random
+from tests.support.strict import Plan, Strict
+from tests.support.strict_messages import MESSAGES, PREFIXED
+from tests.support.strict_program import DEMANDED, strict_words, words_of_limits
+from tests.test_strict import Made, damaged, mark
+
+STRICT, PLAIN_BYTES = 1, 8
+STRICTLY_PLAIN = STRICT | PLAIN_BYTES
+LIMITS = [{}, {"no_alignment": 1}, {"inline_size": 1}, {"max_depth": 2}, {"max_tables": 3}, {"max_reads": 40},
+          {"max_reads": 90}]
+# The same, as the plain checker has them.
+NAMES = {"max_depth": "depth", "max_tables": "tables", "max_reads": "reads"}
+
+
+def demands_of(objects):
+    """The demands by which a schema with these rows is strict."""
+    return STRICTLY_PLAIN if "--plain-bytes" in strict_words(objects) else STRICT
+
+
+def limits_of(limits):
+    """Limits as the plain checker has them."""
+    checks = {"no_alignment": ("alignment", False), "inline_size": ("inline_size", True)}
+    return dict(checks.get(name, (NAMES.get(name), most)) for name, most in limits.items())
+
+
+def line_of(verifier, verdict):
+    """A verdict as the program writes it."""
+    if verdict.ok:
+        return f"ok tables={verdict.tables} depth={verdict.depth} reads={verdict.reads}"
+    field = "-" if verdict.field is None else verdict.field
+    name = verifier.fault_name(verdict.status, verdict.reason)
+    return f"bad {name} at={verdict.at} object={verdict.object} field={field} reads={verdict.reads}"
+
+
+class StrictForC(LibraryCase):
+    def asked(self, root, demands, **words):
+        """Options with demands, which have no other budget of reads than one that is given."""
+        return module().Options(root=root, demands=demands, reads_per_byte=2**32 - 1, **words)
+
+    def made(self, kept, demands):
+        """A schema for these demands."""
+        return module().Verifier(kept.file.read_bytes(), options=module().Options(demands=demands))
+
+    def told_alike(self, name, kept, messages, limits):
+        """Each call tells of each buffer what the plain checker does."""
+        plan, root, seen = Plan(kept.schema, DEMANDED, kept.marks), kept.root, set()
+        demands = demands_of(kept.objects)
+        options = self.asked(root, demands, **limits)
+        with self.made(kept, demands) as verifier:
+            calls, schema = verifier._calls, verifier._schema
+            scratch = calls.fbcheck_scratch_new(64)
+            block, spans, at = b"".join(messages), [], 0
+            for data in messages:
+                spans.append((at, len(data)))
+                at += len(data)
+            batch = verifier.verify_each(block, spans, options)
+            for data, of_all in zip(messages, batch, strict=True):
+                want = Strict(plan, root, data, **limits_of(limits)).verdict(prefix=False)
+                told = [verifier.verify(data, options), self.within(calls, schema, scratch, options, data), of_all,
+                        verifier.locate(data, options)[0], self.read(verifier, options, data)]
+                if {line_of(verifier, one) for one in told} != {want}:
+                    self.same(f"{name}, {limits}, {data.hex()}", [line_of(verifier, one) for one in told], [want] * 5)
+                seen.add(want.split()[1] if want.startswith("bad") else "ok")
+                bound = verifier.most_reads(len(data), options)
+                self.holds(f"{name}, {limits}: no more reads than told in advance", told[0].reads <= bound, told[0])
+            calls.fbcheck_scratch_free(scratch)
+        return seen
+
+    def within(self, calls, schema, scratch, options, data):
+        """The verdict in the room of a scratch, which is that of fbcheck_locate there."""
+        python, verdict, other = module(), module()._Verdict(), module()._Verdict()
+        room, written = ctypes.create_string_buffer(4098), ctypes.c_size_t()
+        calls.fbcheck_verify(schema, scratch, options, data, len(data), verdict)
+        calls.fbcheck_locate(schema, scratch, options, data, len(data), room, 4098, written, other)
+        self.same("with its place too", bytes(other), bytes(verdict))
+        return python._told(verdict)
+
+    def read(self, verifier, options, data):
+        """The verdict of a call that reads the root table."""
+        python, verdict, value = module(), module()._Verdict(), module()._Value()
+        path = python._Path()
+        verifier._calls.fbcheck_read(verifier._schema, None, options, data, len(data), path, value, 1, verdict)
+        self.same("a table is read where it is ok", value.kind, python.Kind.TABLE if verdict.status == 0 else 0)
+        return python._told(verdict)
+
+    def test_beside_the_plain_checker(self):
+        dice, seen = Random(71), set()
+        for name, messages in MESSAGES.items():
+            for limits in LIMITS:
+                some = list(itertools.islice(damaged(dice, [dice.choice(messages)], 397), 150))
+                seen |= self.told_alike(name, Kept(name), some, limits)
+        wanted = {"ok", *(f"V{code}" for code in (2, 3, 4, 6, 7, 8, 9, 11, 13))}
+        self.holds("the reasons", seen >= wanted, seen)
+
+    def test_schemas_at_random(self):
+        dice = Random(72)
+        for number in range(24):
+            objects, enums = Maker(dice, 0).rows()
+            tables = [row for row in objects if not number_at(row, 2)]
+            for row in tables:
+                mark(dice, row, [other[0] for other in tables])
+            if not tables:
+                continue
+            schema, root = Schema(objects, enums), dice.choice(tables)[0]
+            made = Made(schemas.schema(objects, enums, root=root), objects, schema, schema.names.index(root))
+            some = [damaged_at_random(dice, Builder(dice, schema).built(made.root, False, None)) for _ in range(30)]
+            self.told_alike(f"schema {number}", made, some, LIMITS[number % len(LIMITS)])
+            self.refused_alike(f"schema {number}", made)
+
+    def refused_alike(self, name, made):
+        """A file is refused as the program refuses it, with the same table and field."""
+        python, program = module(), run("--schema", made.file, "--strict")
+        try:
+            self.made(made, STRICT).close()
+            told = ""
+        except python.Error as error:
+            status, _, table, field, *rest = error.verdict
+            self.same(f"{name}: no more is told", rest, [0] * 4)
+            with self.made(made, 0) as plain:
+                told = f"fbcheck: {plain.status_text(status)}: {plain.object_name(table)}.{plain.field_name(table, field)}"
+        self.same(f"{name}: why it is refused", program.err.decode().partition("\n")[0].startswith(told), True)
+        self.same(f"{name}: whether it is", told != "", program.status == 2)
+
+    def test_places(self):
+        """Where faults are, in words, as the program names them."""
+        for name, messages in PREFIXED.items():
+            kept, words = Kept(name), strict_words(Kept(name).objects)
+            dice = Random(73)
+            some = [data for data in itertools.islice(damaged(dice, messages, 397), 200) if data[4:]]
+            some = [prefixed(data[4:]) for data in some]
+            told = run("--schema", kept.file, "--names", *words, *words_of_limits({}), given=b"".join(some)).out
+            demands = demands_of(kept.objects)
+            options = self.asked(kept.root, demands, prefixed=1, max_reads=2**64 - 1)
+            with self.made(kept, demands) as verifier:
+                for data, line in zip(some, told.decode().splitlines(), strict=True):
+                    verdict, place = verifier.locate(data, options)
+                    got = f"{line_of(verifier, verdict)} {place}".strip()
+                    self.same(f"{name}, {data.hex()}", got, line.partition(" ")[2])
+
+    def test_beside_the_program(self):
+        """All calls of a stream, by the shared library and under the sanitizers."""
+        tell = TOP / "tests/c/tell.c"
+        programs = [self.compiled("strict_shared", tell, *SHARED), self.compiled("strict_sane", tell, *SANITIZED, *STATIC)]
+        for name, messages in PREFIXED.items():
+            kept = Kept(name)
+            words = ["--schema", kept.file, *strict_words(kept.objects)]
+            given = b"".join(prefixed(data[4:]) for data in damaged(Random(74), messages, 97) if data[4:])
+            want = run(*words, given=given).out
+            for program in programs:
+                status, out, err = ran(program, *words, given=given)
+                self.same(f"{name}, {program.name}: it ends well", (status, err), (0, ""))
+                self.same(f"{name}, {program.name}: its lines", self.numbers(out) == self.numbers(want.decode()), True)
+
+    @staticmethod
+    def numbers(lines):
+        """Lines without names of reasons behind their codes."""
+        return [[word for word in line.split() if not word.isalpha() or word in ("ok", "bad")] for line in lines.split("\n")]
+
+    def test_unplanned(self):
+        """Demands that a schema wasn't made with are refused by each call, in its turn; no demands never are."""
+        python = module()
+        status, file = python.Status, schemas.M
+        for made_with in (0, STRICT, STRICTLY_PLAIN):
+            with python.Verifier(file, options=python.Options(demands=made_with)) as verifier:
+                for demands in (0, STRICT, STRICTLY_PLAIN):
+                    want = 0 if demands in (0, made_with) else status.NOT_PLANNED
+                    self.same(f"{demands} of {made_with}", self.each_call(verifier, python.Options(demands=demands)),
+                              [want] * 7)
+                options = python.Options(demands=STRICT if made_with != STRICT else STRICTLY_PLAIN)
+                for word, number, want in [("version", 2, 3), ("max_depth", 65, 4), ("root", 9, 21), ("ident_from", 3, 3)]:
+                    setattr(options, word, number)
+                    self.same(f"{word} comes first, or later", self.each_call(verifier, options)[0], want)
+                    setattr(options, word, python.Options().__getattribute__(word))
+
+    def each_call(self, verifier, options):
+        """What each call that checks answers of a good buffer, with a scratch and without."""
+        python, calls, schema = module(), verifier._calls, verifier._schema
+        verdict, reads, written = python._Verdict(), ctypes.c_uint64(77), ctypes.c_size_t(77)
+        span, path, value = python._Span(0, len(ORC)), python._Path(), python._Value()
+        told = []
+        scratch = calls.fbcheck_scratch_new(64)
+        for room in (None, scratch):
+            told.append(calls.fbcheck_verify(schema, room, options, ORC, len(ORC), verdict))
+            told.append(calls.fbcheck_locate(schema, room, options, ORC, len(ORC), None, 0, written, verdict))
+            told.append(calls.fbcheck_read(schema, room, options, ORC, len(ORC), path, value, 1, verdict))
+        calls.fbcheck_verify_each(schema, None, options, ORC, len(ORC), span, verdict, 1)
+        self.same("of all at once too", verdict.status, told[0])
+        calls.fbcheck_scratch_free(scratch)
+        told.append(calls.fbcheck_most_reads(schema, options, 99, reads))
+        self.same("and the reads are left as they were", reads.value == 77, told[-1] != 0)
+        return told
+
+    def test_unknown_demands(self):
+        """Bits that the library doesn't know, and plain bytes without strict checks."""
+        python = module()
+        for demands in (2, 4, 8, 3, 5, 10, 16, 17, 2**31, 2**32 - 1):
+            options = python.Options(demands=demands)
+            try:
+                python.Verifier(schemas.M, options=options).close()
+                told = 0
+            except python.Error as error:
+                told = error.verdict.status
+            self.same(f"a schema with {demands}", told, python.Status.UNKNOWN_OPTIONS)
+            with python.Verifier(schemas.M) as verifier:
+                want = [python.Status.UNKNOWN_OPTIONS] * 7
+                self.same(f"checks with {demands}", self.each_call(verifier, options), want)
+                verdict, path = python._Verdict(), python._Path()
+                told = verifier._calls.fbcheck_resolve(verifier._schema, options, b"name", 4, path, verdict)
+                self.same(f"a path with {demands}", told, python.Status.UNKNOWN_OPTIONS)
+
+    def test_no_demands(self):
+        """A schema that was made with demands checks without them as any other does."""
+        python = module()
+        for name, messages in MESSAGES.items():
+            kept, dice = Kept(name), Random(75)
+            options = self.asked(kept.root, 0)
+            with self.made(kept, 0) as plain, self.made(kept, demands_of(kept.objects)) as strict:
+                for data in itertools.islice(damaged(dice, messages, 397), 300):
+                    told = strict.locate(data, options)
+                    if told != plain.locate(data, options):
+                        self.same(data.hex(), told, plain.locate(data, options))
+                for length in (0, 12, 2**31 - 1):
+                    most = [one.most_reads(length, options) for one in (plain, strict)]
+                    self.same(f"{name}: the most reads of {length} bytes", most[0], most[1])
+        with python.Verifier(schemas.M, options=python.Options(demands=STRICT)) as verifier:
+            words = {"reads_per_byte": 2**32 - 1, "max_reads": 2**64 - 1, "max_tables": 7}
+            most = [verifier.most_reads(100, python.Options(demands=demands, **words)) for demands in (0, STRICT)]
+            self.same("and with demands those of the pass, of two fields", most[1] - most[0], 7 * (3 + 2 * 108))
