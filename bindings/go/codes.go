@@ -21,6 +21,9 @@ const (
 	LengthsDiffer   Reason = 11 // a vector of unions and its vector of types differ in length
 	PastTable       Reason = 12 // a field ends past its table's inline size
 	TooManyReads    Reason = 13 // more reads were counted than the options allow
+	FlexContent     Reason = 14 // strict: a field holds a flexbuffer, which isn't checked
+	NotUtf8         Reason = 15 // a string isn't UTF-8
+	UnknownField    Reason = 16 // a table has a field that the schema doesn't know, or one that is deprecated
 )
 
 // A Kind tells what stands at the end of a path.

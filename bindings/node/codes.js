@@ -11,7 +11,7 @@ const NUMBERS = {
   // enum fbcheck_reason
   WRONG_PREFIX: 1, OUT_OF_BUFFER: 2, MISALIGNED: 3, ZERO_OFFSET: 4, WRONG_IDENTIFIER: 5, TOO_DEEP: 6,
   TOO_MANY_TABLES: 7, BAD_VTABLE: 8, MISSING_REQUIRED: 9, NO_TERMINATOR: 10, LENGTHS_DIFFER: 11, PAST_TABLE: 12,
-  TOO_MANY_READS: 13,
+  TOO_MANY_READS: 13, FLEX_CONTENT: 14, NOT_UTF8: 15, UNKNOWN_FIELD: 16,
   // enum fbcheck_code
   NO_SUCH_OBJECT: 1, NO_SUCH_ENUM: 2, UNSUPPORTED: 3, BAD_SLOT: 4, NO_TYPE_FIELD: 5, BAD_STRUCT: 6, BAD_MEMBER: 7,
   NAME_TWICE: 8,
@@ -31,7 +31,8 @@ const STATUSES = ['OK', 'BAD', 'NULL', 'UNKNOWN_OPTIONS', 'OUT_OF_RANGE', 'NO_ID
   'NOT_WELL_FORMED', 'BAD_SCHEMA', 'ROOT_NOT_LISTED', 'NO_MEMORY', 'NO_SPAN', 'MORE', 'OVERSIZE', 'TRUNCATED', 'FAILED',
   'BAD_PATH', 'NO_ROOM', 'MISFIT', 'TOO_MUCH_SHARED', 'NOT_PLANNED', 'UNMARKED_BYTES', 'MARKED_BYTES'];
 const REASONS = ['TooLong', 'WrongPrefix', 'OutOfBuffer', 'Misaligned', 'ZeroOffset', 'WrongIdentifier', 'TooDeep',
-  'TooManyTables', 'BadVtable', 'MissingRequired', 'NoTerminator', 'LengthsDiffer', 'PastTable', 'TooManyReads'];
+  'TooManyTables', 'BadVtable', 'MissingRequired', 'NoTerminator', 'LengthsDiffer', 'PastTable', 'TooManyReads',
+  'FlexContent', 'NotUtf8', 'UnknownField'];
 const CODES = ['', 'NoSuchObject', 'NoSuchEnum', 'Unsupported', 'BadSlot', 'NoTypeField', 'BadStruct', 'BadMember',
   'NameTwice'];
 const PATH_FAULTS = ['', 'BadText', 'NoSuchField', 'NotIndexable', 'NotAUnion', 'NoSuchMember', 'NotATable'];

@@ -54,6 +54,9 @@ pub const NO_TERMINATOR: u32 = 10;
 pub const LENGTHS_DIFFER: u32 = 11;
 pub const PAST_TABLE: u32 = 12;
 pub const TOO_MANY_READS: u32 = 13;
+pub const FLEX_CONTENT: u32 = 14;
+pub const NOT_UTF8: u32 = 15;
+pub const UNKNOWN_FIELD: u32 = 16;
 
 // enum fbcheck_code
 pub const NO_SUCH_OBJECT: u32 = 1;

@@ -33,10 +33,16 @@ pub enum Reason {
     PastTable = 12,
     /// More reads were counted than the options allow.
     TooManyReads = 13,
+    /// Strict: a field holds a flexbuffer, which isn't checked.
+    FlexContent = 14,
+    /// A string isn't UTF-8.
+    NotUtf8 = 15,
+    /// A table has a field that the schema doesn't know, or one that is deprecated.
+    UnknownField = 16,
 }
 
 /// The reasons by their numbers.
-pub(crate) const REASONS: [Reason; 14] = [
+pub(crate) const REASONS: [Reason; 17] = [
     Reason::TooLong,
     Reason::WrongPrefix,
     Reason::OutOfBuffer,
@@ -51,4 +57,7 @@ pub(crate) const REASONS: [Reason; 14] = [
     Reason::LengthsDiffer,
     Reason::PastTable,
     Reason::TooManyReads,
+    Reason::FlexContent,
+    Reason::NotUtf8,
+    Reason::UnknownField,
 ];

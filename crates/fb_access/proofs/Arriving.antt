@@ -1,8 +1,8 @@
 -- The links to a fault lead to what is under check.
-use Rattle.std.proofs.Common.{◌≡◌, ℕ, ◌+◌, ◌*◌, ◌<◌, ◌^◌, ◌==◌, if◌then◌else◌, List, [], ◌∷◌, ◌++◌, length, slice_get, decimal, option_map, option_and_then, IsTrue, Option, Some, None, Ok, append-nil, refl, sym, ◌∙◌, ap, subst, arith, inl, inr}
+use Rattle.std.proofs.Common.{◌≡◌, ℕ, ◌+◌, ◌*◌, ◌<◌, ◌^◌, ◌==◌, if◌then◌else◌, List, [], ◌∷◌, ◌++◌, length, slice_get, decimal, option_map, option_and_then, IsTrue, Option, Some, None, Ok, append-nil, refl, sym, ◌∙◌, ap, subst, arith, codes, inl, inr}
 use Rattle.std.proofs.lemmas.{Bool.cond-true, Bool.Decides.Decides-eqb}
 use Rattle.fb_bytes.specs.Word.{word}
-use Rattle.fb_schema.specs.declared.kinds.Kind.{Kind, TheVariants.Text, TheVariants.Struct, TheVariants.Table, TheVariants.Union, TheVariants.Texts, TheVariants.Tables, TheVariants.Unions}
+use Rattle.fb_schema.specs.declared.kinds.Kind.{Kind, TheVariants.Text, TheVariants.Struct, TheVariants.Table, TheVariants.Union, TheVariants.Scalars, TheVariants.Texts, TheVariants.Tables, TheVariants.Unions}
 use Rattle.fb_schema.specs.{Demands.IsLegal, Live.Live, Live.live_fields, Members.member_of, Members.member_name, Rows.Rows, Rows.is_union, Served.KindHolds, Served.IsServed}
 use Rattle.fb_rules.specs.declared.{checks.Checks.Checks, start.Start.Start, start.Ident.Ident, fault.Fault.Fault, link.Link.Link}
 use Rattle.fb_rules.specs.{Bounds.Bounds, Question.question, Places.target, Places.field_place, Tree.kids_length, Tree.elements_length, WellFormed.base}
@@ -12,9 +12,9 @@ use Rattle.fb_rules.specs.Stops.{in_start, in_head, in_field, in_element, Trail,
 use Rattle.fb_rules.specs.Links.{element_of, type_of, field_link, element_link, object_led_to, links_of, links_in_field, links_in_element}
 use Rattle.fb_access.specs.declared.{step.Step.Step, step.Step.TheVariants.Field, step.Step.TheVariants.Element, step.Step.TheVariants.Member, spot.Spot.Spot, misfit.Fitted.Fitted}
 use Rattle.fb_access.specs.declared.spot.Spot.TheVariants.{AtTable, AtText, AtUnion, AtOtherMember}
-use Rattle.fb_access.specs.{Denotes.next_spot, Denotes.Leads, Denotes.Reaches, Fitting.element_kind, Location.member_of_kind}
+use Rattle.fb_access.specs.{Denotes.next_spot, Denotes.Leads, Denotes.Reaches, Fitting.element_kind, Location.member_of_kind, Location.mark_of, Location.mark_behind}
 use Rattle.fb_access.specs.Grammar.{Part, field, element, member, number_of}
-use Rattle.fb_access.specs.LocationLaws.{field_parts, element_parts, member_parts, link_parts, parts_of, IsBehind, Arrives, LinksArrive}
+use Rattle.fb_access.specs.LocationLaws.{field_parts, element_parts, member_parts, link_parts, parts_of, AreDotted, IsBehind, Arrives, LinksArrive}
 use Rattle.fb_access.specs.Resolving.{to_field, to_element, to_kind, to_member, fitting, Follows}
 use Rattle.fb_access.specs.Spots.{if_element, present_spot, spot_at, field_spot, spot_of_element, member_spot}
 use Rattle.fb_access.proofs.{MemberKinds.member_there, MemberKinds.IsOfMember, NumberedFields.found_by_number, UniqueNames.found_by_name, UniqueNames.named_again, UniqueNames.has_name, Walks.reaches_on, Ways.read_back, Leading.row_at, Leading.union_row_at, Leading.row_get, Following.follows_on}
@@ -149,19 +149,39 @@ module _ (b : List ℕ) (S : Rows) where
           subst (λ ps. GoesBy (Table k) (AtTable k t) ps x) (sym (field_first (element_of j g.kind) (type_of b t g j g.kind)))
           (goes_after (Table k) g.kind (AtTable k t) (field_spot b t g) (field g.name) (parts_behind c short t j g g.kind) (Field g.number) x.place x.lead field_fits field_leads behind)
 
+  -- A dot stands behind a link through an offset word, since bytes have none.
+  dot_of : (t p i : ℕ) (j : Option ℕ) (g : Live) (kind : Kind) (x : Entry) → slice_get (entries_of b S t g p kind) i ≡ Some x → mark_of j (Some kind) ≡ codes "."
+  dot_of t p i j g (Scalars s) x h = absurd cc
+  dot_of t p i None g kind x h = refl
+  dot_of t p i (Some n) g kind x h = refl
+
+  dot_at : (t i : ℕ) (j : Option ℕ) (g : Live) (place : Option ℕ) (x : Entry) → slice_get (entries_at b S t g place) i ≡ Some x → mark_of j (Some g.kind) ≡ codes "."
+  dot_at t i j g None x h = absurd cc
+  dot_at t i j g (Some p) x h = dot_of t p i j g g.kind x h
+
+  link_dotted : (served : IsServed S) (k t i j : ℕ) (g : Live) (x : Entry) → slice_get (live_fields S k) i ≡ Some g → slice_get (entries b S t g) j ≡ Some x → mark_behind S (element_link b k t g j) ≡ codes "."
+  unfolding entries
+  link_dotted served k t i j g x at next =
+      ap (λ f. mark_of (element_of j g.kind) (option_map (λ (f : Live). f.kind) f)) (found_by_number S served k i g at) ∙ dot_at t j (element_of j g.kind) g (field_place b t g.slot) x next
+
+  dotted_on : (link : Link) (links : List Link) → mark_behind S link ≡ codes "." → AreDotted S links → AreDotted S (link ∷ links)
+  dotted_on link [] h d = tt
+  dotted_on link (next ∷ links) h d = (h, d)
+
   -- Along a trail.
   module _ (legal : IsLegal S) (served : IsServed S) (short : length b < 2 ^ 31) (root : ℕ) (start : Start) (ident : Ident) (c : Checks) (L : Bounds) (f : Fault) where
     abbrev ArrivesFrom : Kind → Spot → List Link → Type 0
     ArrivesFrom kind from links = Arrives (question S root start ident L c) b kind from f links
 
     -- behind a link
-    arrives_on : (kind : Kind) (from : Spot) (link : Link) (links : List Link) (x : Entry) (k : ℕ) → x.lead ≡ to_table k → GoesBy kind from (link_parts S link) x → ArrivesFrom (Table k) (AtTable k (target b x.place)) links → ArrivesFrom kind from (link ∷ links)
-    arrives_on kind from link links x k lead g r =
+    arrives_on : (kind : Kind) (from : Spot) (link : Link) (links : List Link) (x : Entry) (k : ℕ) → x.lead ≡ to_table k → GoesBy kind from (link_parts S link) x → mark_behind S link ≡ codes "." → ArrivesFrom (Table k) (AtTable k (target b x.place)) links → ArrivesFrom kind from (link ∷ links)
+    arrives_on kind from link links x k lead g dot r =
         let to = g.table k lead in
         record {
           steps = g.steps ++ r.steps;
           last = r.last;
           follows = follows_on S kind g.last r.last (link_parts S link) (parts_of S links) g.steps r.steps g.follows (subst (λ z. Follows S z (parts_of S links) r.steps r.last) (sym to.0) r.follows);
+          dotted = dotted_on link links dot r.dotted;
           end = r.end;
           reaches = reaches_on b S from g.end r.end g.steps r.steps g.reaches (subst (λ z. Reaches b S z r.steps r.end) (sym to.1) r.reaches);
           place = r.place;
@@ -177,7 +197,7 @@ module _ (b : List ℕ) (S : Rows) where
       unfolding IsTrail IsFieldTrail IsElementTrail links_of links_in_field links_in_element
 
       trail_arrives : (s : Trail) (k t : ℕ) (w : Way) → IsTrail s c b S L k t w f → ArrivesFrom (Table k) (AtTable k t) (links_of s b S k t)
-      trail_arrives at_head k t w h = record { steps = []; last = Table k; follows = (refl, refl); end = AtTable k t; reaches = refl; place = in_head k t; way = w; fails = h; is_there = refl }
+      trail_arrives at_head k t w h = record { steps = []; last = Table k; follows = (refl, refl); dotted = tt; end = AtTable k t; reaches = refl; place = in_head k t; way = w; fails = h; is_there = refl }
       trail_arrives (at_field earlier s) k t w h =
           subst (λ g. ArrivesFrom (Table k) (AtTable k t) (links_in_field s b S k t g)) (sym h.1.next) (field_arrives s k t (kids_length earlier) h.0 (way_to_field c b S k t earlier h.0 w) refl h.1.next h.2)
 
@@ -186,6 +206,7 @@ module _ (b : List ℕ) (S : Rows) where
         steps = Field g.number ∷ [];
         last = g.kind;
         follows = subst (λ ps. Follows S (Table k) ps (Field g.number ∷ []) g.kind) (sym (one_link S (field_link k g) ∙ field_first legal served k t i g at None None)) (fitted (Field g.number) g.kind, field_fits legal served k t i g at, [], refl, (refl, refl));
+        dotted = tt;
         end = field_spot b t g;
         reaches = (field_spot b t g, field_leads legal served k t i g at, refl);
         place = in_field t g;
@@ -196,13 +217,14 @@ module _ (b : List ℕ) (S : Rows) where
       field_arrives (at_element before s) k t i g w named at h =
           let link = element_link b k t g (elements_length before) in
           subst (λ x. ArrivesFrom (Table k) (AtTable k t) (link ∷ links_in_element s b S x)) (sym h.1.next)
-          (element_arrives s (Table k) (AtTable k t) link h.0 (way_to_element c b S t g before w) (link_goes legal served k t i g at c (elements_length before) h.0 short h.1.own h.1.next) h.2)
+          (element_arrives s (Table k) (AtTable k t) link h.0 (way_to_element c b S t g before w) (link_goes legal served k t i g at c (elements_length before) h.0 short h.1.own h.1.next) (link_dotted served k t i (elements_length before) g h.0 at h.1.next) h.2)
 
-      element_arrives : (s : ElementTrail) (kind : Kind) (from : Spot) (link : Link) (x : Entry) (w : Way) → GoesBy kind from (link_parts S link) x → IsElementTrail s c b S L x w f → ArrivesFrom kind from (link ∷ links_in_element s b S (Some x))
-      element_arrives at_lead kind from link x w g h = record {
+      element_arrives : (s : ElementTrail) (kind : Kind) (from : Spot) (link : Link) (x : Entry) (w : Way) → GoesBy kind from (link_parts S link) x → mark_behind S link ≡ codes "." → IsElementTrail s c b S L x w f → ArrivesFrom kind from (link ∷ links_in_element s b S (Some x))
+      element_arrives at_lead kind from link x w g dot h = record {
         steps = g.steps;
         last = g.last;
         follows = subst (λ ps. Follows S kind ps g.steps g.last) (sym (one_link S link)) g.follows;
+        dotted = tt;
         end = g.end;
         reaches = g.reaches;
         place = in_element x;
@@ -210,9 +232,9 @@ module _ (b : List ℕ) (S : Rows) where
         fails = h;
         is_there = g.behind;
       }
-      element_arrives (through s) kind from link x w g h =
+      element_arrives (through s) kind from link x w g dot h =
           let t = target b x.place in
-          arrives_on kind from link (links_of s b S (object_led_to x.lead) t) x h.0 h.1 g
+          arrives_on kind from link (links_of s b S (object_led_to x.lead) t) x h.0 h.1 g dot
           (subst (λ k. ArrivesFrom (Table h.0) (AtTable h.0 t) (links_of s b S k t)) (sym (ap object_led_to h.1)) (trail_arrives s h.0 t (way_to_table x w) h.3))
 
 pub links_arrive : LinksArrive
@@ -221,6 +243,7 @@ links_arrive q b f links legal served short (inl h) =
       steps = [];
       last = Table q.root;
       follows = (refl, refl);
+      dotted = tt;
       end = AtTable q.root (target b (base q.start));
       reaches = refl;
       place = in_start q.start q.ident;

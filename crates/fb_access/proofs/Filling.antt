@@ -1,7 +1,10 @@
 -- Texts that are added up to so many bytes in all.
 use Rattle.std.proofs.Common.{◌≡◌, ℕ, suc, zero, ◌-◌, ◌≤◌, ◌<◌, List, [], ◌∷◌, ◌++◌, length, take, map, codes, refl, ap, sym, ◌∙◌, append_assoc, arith, length-append, nat_lt}
-use Rattle.std.proofs.lemmas.{Grind.common_steps, Bool.cond-true, Bool.cond-false, Bool.le-ltb, Bool.lt-ltb, List.length-take, List.take-map, List.take-take, List.take_all}
-use Rattle.fb_access.specs.Location.{cut_to, filled, name_byte}
+use Rattle.std.proofs.lemmas.{Grind.common_steps, Bool.cond-true, Bool.cond-false, Bool.le-ltb, Bool.lt-ltb, List.length-take, List.take-map, List.take-take, List.take_all, List.Concat.flat_map-cons}
+use Rattle.std.specs.List.{flat_map}
+use Rattle.fb_schema.specs.Rows.{Rows}
+use Rattle.fb_rules.specs.declared.link.Link.{Link}
+use Rattle.fb_access.specs.Location.{cut_to, filled, link_text, mark_behind, name_byte, path_text}
 
 -- as much of one text, and as much as there is room for behind it of the other, is as much of both
 take_both : (k : ℕ) (one other : List ℕ) → take k one ++ take (k - length (take k one)) other ≡ take k (one ++ other)
@@ -45,3 +48,17 @@ told_cut whole h =
     let n : 4096 < length whole = omega (arith, length-take 4097 whole) in
     let same : cut_to 4096 whole ≡ take 4096 whole ++ codes ".." = cond-true (nat_lt 4096 (length whole)) _ _ (lt-ltb 4096 (length whole) n) in
     ap (λ (l : List ℕ). l ++ codes "..") (take-take 4096 4097 whole (omega arith)) ∙ sym same
+
+-- links with a mark behind each, and a last one, are a path
+path_on : (S : Rows) (link last : Link) (before : List Link) → path_text S (link ∷ before ++ last ∷ []) ≡ link_text S link ++ mark_behind S link ++ path_text S (before ++ last ∷ [])
+path_on S link last [] = refl
+path_on S link last (next ∷ before) = refl
+
+pub path_with_last : (S : Rows) (before : List Link) (last : Link) → flat_map (λ l. link_text S l ++ mark_behind S l) before ++ link_text S last ≡ path_text S (before ++ last ∷ [])
+path_with_last S [] last = refl
+path_with_last S (link ∷ before) last =
+    let marked : Link → List ℕ = λ l. link_text S l ++ mark_behind S l in
+    ap (λ (t : List ℕ). t ++ link_text S last) (flat_map-cons marked link before)
+    ∙ append_assoc (marked link) (flat_map marked before) (link_text S last)
+    ∙ ap (λ (t : List ℕ). marked link ++ t) (path_with_last S before last)
+    ∙ sym (path_on S link last before)

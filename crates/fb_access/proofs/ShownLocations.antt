@@ -3,7 +3,7 @@ use Rattle.std.proofs.Common.{ℕ, rules}
 use Rattle.std.specs.Fmt.{digits}
 use Rattle.fb_schema.specs.{Kinds.base_types, Kinds.shape_of, Kinds.kind_of, Live.live_fields, Members.member_name}
 use Rattle.fb_access.specs.Location.{whole_text, location_text}
-use Rattle.fb_access.specs.LocationTests.{Told, Nameless, Masked, Ways, Long}
+use Rattle.fb_access.specs.LocationTests.{Told, Nameless, Enclosed, Masked, Ways, Long}
 
 -- all that is computed
 computing : ℕ
@@ -17,6 +17,10 @@ told_shown = search rules
 pub nameless_shown : Nameless
 unfolding computing
 nameless_shown = search rules
+
+pub enclosed_shown : Enclosed
+unfolding computing
+enclosed_shown = search rules
 
 pub masked_shown : Masked
 unfolding computing

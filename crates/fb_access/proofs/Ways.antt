@@ -1,7 +1,7 @@
 -- The text of a way is read back as the parts of its links.
 use Rattle.std.proofs.Common.{◌≡◌, ℕ, zero, suc, ◌<◌, ◌^◌, Bool, true, ◌||◌, ◌==◌, if◌then◌else◌, IsTrue, List, [], ◌∷◌, ◌++◌, length, get_or, Option, codes, decimal, refl, sym, ◌∙◌, ap, subst, arith, append_assoc, append-nil, inl, inr}
-use Rattle.std.proofs.lemmas.{Bool.Decides.nat_tests, List.Concat.flat_map-cons, Fmt.decimal_digit, Fmt.decimal_nonempty, Fmt.first_decimal, Fmt.digits_decimal, Fmt.digits_value-decimal}
-use Rattle.std.specs.{Int.IsInRange, List.AllByRecursion, List.flat_map}
+use Rattle.std.proofs.lemmas.{Bool.Decides.nat_tests, Fmt.decimal_digit, Fmt.decimal_nonempty, Fmt.first_decimal, Fmt.digits_decimal, Fmt.digits_value-decimal}
+use Rattle.std.specs.{Int.IsInRange, List.AllByRecursion}
 use Rattle.std.proofs.lemmas.Str.Parse.{IsDigitsTest, FoldsDigits, IsNumeralModel, numerals_by_fold}
 use Rattle.fb_schema.specs.declared.kinds.Kind.TheVariants.{Table}
 use Rattle.fb_schema.specs.Rows.{Rows}
@@ -9,8 +9,8 @@ use Rattle.fb_rules.specs.declared.link.Link.{Link}
 use Rattle.fb_access.proofs.ScanAccepts.{AreDigits}
 use Rattle.fb_access.specs.Grammar.{goes_on, is_digit, number_from, number_of, Part, field, IsName, IsNumber, IsPart, spelling}
 use Rattle.fb_access.specs.Resolving.{Follows}
-use Rattle.fb_access.specs.Location.{name_text, named, link_member, element_text, link_text}
-use Rattle.fb_access.specs.LocationLaws.{field_parts, element_parts, member_parts, link_parts, parts_of, IsShort, IsNameIfAny, IsNamed, AreNamed, WaysResolve}
+use Rattle.fb_access.specs.Location.{name_text, named, link_member, element_text, link_text, path_text}
+use Rattle.fb_access.specs.LocationLaws.{field_parts, element_parts, member_parts, link_parts, parts_of, IsShort, IsNameIfAny, IsNamed, AreNamed, AreDotted, WaysResolve}
 
 -- Names of the grammar are written as they are.
 kept_if : (b x : Bool) (c : ℕ) → b ≡ true → (if b || x then c else 63) ≡ c
@@ -104,16 +104,19 @@ all_are : (S : Rows) (links : List Link) → AreNamed S links → AllByRecursion
 all_are S [] h = tt
 all_are S (link ∷ links) h = all_append (link_parts S link) (parts_of S links) (subst (AllByRecursion IsPart) (sym (parts_are S link h.0)) ((h.0).is_name, behind_are S link h.0)) (all_are S links h.1)
 
-all_spelled : (S : Rows) (links : List Link) → AreNamed S links → spelling (parts_of S links) ≡ flat_map (λ l. codes "." ++ link_text S l) links
-all_spelled S [] h = refl
-all_spelled S (link ∷ links) h =
-    spelling_append (link_parts S link) (parts_of S links)
-    ∙ ap (λ ps. spelling ps ++ spelling (parts_of S links)) (parts_are S link h.0)
-    ∙ (λ i. (46 ∷ sym (text_is S link h.0) i) ++ all_spelled S links h.1 i)
-    ∙ sym (flat_map-cons (λ l. codes "." ++ link_text S l) link links)
+link_spelled : (S : Rows) (link : Link) → IsNamed S link → spelling (link_parts S link) ≡ codes "." ++ link_text S link
+link_spelled S link h = ap spelling (parts_are S link h) ∙ ap (λ (t : List ℕ). 46 ∷ t) (sym (text_is S link h))
+
+dotted_text : (S : Rows) (link : Link) (links : List Link) → AreNamed S links → AreDotted S (link ∷ links) → path_text S (link ∷ links) ≡ link_text S link ++ spelling (parts_of S links)
+dotted_text S link [] h d = sym (append-nil (link_text S link))
+dotted_text S link (next ∷ links) h d =
+    (λ i. link_text S link ++ d.0 i ++ dotted_text S next links h.1 d.1 i)
+    ∙ append_assoc (link_text S link) (codes ".") (link_text S next ++ spelling (parts_of S links))
+    ∙ ap (λ (t : List ℕ). link_text S link ++ (t ++ spelling (parts_of S links))) (sym (link_spelled S next h.0))
+    ∙ ap (λ (t : List ℕ). link_text S link ++ t) (sym (spelling_append (link_parts S next) (parts_of S links)))
 
 pub ways_resolve : WaysResolve
-ways_resolve S root link links steps last h follows =
+ways_resolve S root link links steps last h dotted follows =
     let name = (h.0).name in
     let parts = behind S link h.0 ++ parts_of S links in
     let all : parts_of S (link ∷ links) ≡ field name ∷ parts = ap (λ ps. ps ++ parts_of S links) (parts_are S link h.0) in
@@ -124,9 +127,9 @@ ways_resolve S root link links steps last h follows =
       reading = record {
         is_name = (h.0).is_name;
         are_parts = all_append (behind S link h.0) (parts_of S links) (behind_are S link h.0) (all_are S links h.1);
-        spelled = ap (λ t. t ++ flat_map (λ l. codes "." ++ link_text S l) links) (text_is S link h.0)
-            ∙ append_assoc name (spelling (behind S link h.0)) (flat_map (λ l. codes "." ++ link_text S l) links)
-            ∙ ap (λ t. name ++ (spelling (behind S link h.0) ++ t)) (sym (all_spelled S links h.1))
+        spelled = dotted_text S link links h.1 dotted
+            ∙ ap (λ t. t ++ spelling (parts_of S links)) (text_is S link h.0)
+            ∙ append_assoc name (spelling (behind S link h.0)) (spelling (parts_of S links))
             ∙ ap (λ t. name ++ t) (sym (spelling_append (behind S link h.0) (parts_of S links)));
       };
       follows = subst (λ ps. Follows S (Table root) ps steps last) all follows;

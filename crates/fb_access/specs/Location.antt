@@ -1,9 +1,9 @@
 -- Where a fault is, in words.
 use Rattle.std.specs.Prelude.{ℕ, ◌-◌, ◌==◌, ◌||◌, nat_lt, if◌then◌else◌, List, [], ◌∷◌, ◌++◌, length, take, map, slice_get, Option, Some, None, option_map, option_and_then, codes, decimal}
-use Rattle.std.specs.List.{flat_map}
-use Rattle.fb_schema.specs.{Members.member_name, Rows.Rows, declared.kinds.Kind.Kind, declared.kinds.Kind.TheVariants.Union, declared.kinds.Kind.TheVariants.Unions}
+use Rattle.fb_schema.specs.{Members.member_name, Rows.Rows, declared.kinds.Scalar.TheVariants.UByte}
+use Rattle.fb_schema.specs.declared.kinds.Kind.{Kind, TheVariants.Table, TheVariants.Union, TheVariants.Scalars, TheVariants.Unions}
 use Rattle.fb_rules.specs.declared.{fault.Fault.Fault, link.Link.Link}
-use Rattle.fb_access.specs.{Fitting.numbered, Grammar.goes_on}
+use Rattle.fb_access.specs.{Fitting.numbered, Fitting.field_kind, Grammar.goes_on}
 
 -- a byte of a name: a letter, a digit, `_` or `.` as it is, and `?` for any other
 abbrev pub name_byte : ℕ → ℕ
@@ -41,10 +41,20 @@ element_text (Some j) = codes "[" ++ decimal j ++ codes "]"
 abbrev pub link_text : Rows → Link → List ℕ
 link_text S link = named [] (field_name S link.object link.field) ++ element_text link.element ++ named (codes "@") (link_member S link)
 
--- links between dots, and a dot for the root table
+-- what stands between a link, with this element and a field of this kind, and the next: `>` behind a whole vector of
+-- ubyte, inside which the way goes on, and else a dot
+abbrev pub mark_of : Option ℕ → Option Kind → List ℕ
+mark_of None (Some (Scalars UByte)) = codes ">"
+mark_of _ _ = codes "."
+
+abbrev pub mark_behind : Rows → Link → List ℕ
+mark_behind S link = mark_of link.element (field_kind S (Table link.object) link.field)
+
+-- links with their marks between them, and a dot for the root table
 abbrev pub path_text : Rows → List Link → List ℕ
 path_text S [] = codes "."
-path_text S (link ∷ links) = link_text S link ++ flat_map (λ l. codes "." ++ link_text S l) links
+path_text S (link ∷ []) = link_text S link
+path_text S (link ∷ next ∷ links) = link_text S link ++ mark_behind S link ++ path_text S (next ∷ links)
 
 -- the full name of an object, and behind a dot that of its field, where the fault has one
 abbrev pub owner_text : Rows → Fault → List ℕ

@@ -1,11 +1,11 @@
 -- The laws of what is told of the way to a fault: its text is a path, and its links lead to what is under check.
-use Rattle.std.specs.Prelude.{◌≡◌, ℕ, ◌<◌, ◌^◌, List, [], ◌∷◌, ◌++◌, length, Option, Some, None, decimal}
+use Rattle.std.specs.Prelude.{◌≡◌, ℕ, ◌<◌, ◌^◌, List, [], ◌∷◌, ◌++◌, length, Option, Some, None, codes, decimal}
 use Rattle.fb_schema.specs.{Demands.IsLegal, Rows.Rows, Served.IsServed, declared.kinds.Kind.Kind, declared.kinds.Kind.TheVariants.Table}
 use Rattle.fb_rules.specs.declared.{fault.Fault.Fault, link.Link.Link}
 use Rattle.fb_rules.specs.{Question.Question, Fields.Lead, Fields.to_nothing, Way.Way, Way.way_to_start, Links.StopsAlong}
 use Rattle.fb_rules.specs.Stops.{Place, in_start, in_head, in_field, in_element, IsFalseAt}
 use Rattle.fb_access.specs.declared.{step.Step.Step, spot.Spot.Spot, spot.Spot.TheVariants.AtTable, spot.Spot.TheVariants.AtUnion}
-use Rattle.fb_access.specs.{Denotes.Reaches, Denotes.root_spot, Resolving.Follows, Resolving.Resolves, Location.field_name, Location.link_member, Location.path_text, Spots.field_spot, StepLaws.IsLedTo}
+use Rattle.fb_access.specs.{Denotes.Reaches, Denotes.root_spot, Resolving.Follows, Resolving.Resolves, Location.field_name, Location.link_member, Location.mark_behind, Location.path_text, Spots.field_spot, StepLaws.IsLedTo}
 use Rattle.fb_access.specs.Grammar.{Part, field, element, member, IsName}
 
 -- the parts of a path that a link is: its field, its element and its member, where it has them
@@ -50,10 +50,18 @@ abbrev pub AreNamed : Rows → List Link → Type 0
 AreNamed S [] = Unit {0}
 AreNamed S (link ∷ links) = IsNamed S link × AreNamed S links
 
--- where the names of links are of the grammar and their parts follow one another from the root, the text of their way
--- is a path that resolves to the same steps
+-- between each link and the next stands a dot: only the last may be a whole vector of ubyte
+abbrev pub AreDotted : Rows → List Link → Type 0
+AreDotted S [] = Unit {0}
+AreDotted S (link ∷ []) = Unit {0}
+AreDotted S (link ∷ next ∷ links) = (mark_behind S link ≡ codes ".") × AreDotted S (next ∷ links)
+
+-- where the names of links are of the grammar, dots stand between them and their parts follow one another from the
+-- root, the text of their way is a path that resolves to the same steps
 abbrev pub WaysResolve : Type 0
-WaysResolve = (S : Rows) (root : ℕ) (link : Link) (links : List Link) (steps : List Step) (last : Kind) → AreNamed S (link ∷ links) → Follows S (Table root) (parts_of S (link ∷ links)) steps last → Resolves S root (path_text S (link ∷ links)) steps
+WaysResolve =
+    (S : Rows) (root : ℕ) (link : Link) (links : List Link) (steps : List Step) (last : Kind) → AreNamed S (link ∷ links) → AreDotted S (link ∷ links)
+    → Follows S (Table root) (parts_of S (link ∷ links)) steps last → Resolves S root (path_text S (link ∷ links)) steps
 
 -- Where links lead.
 
@@ -70,12 +78,13 @@ IsUnderCheck q b way (in_head k t) at = at ≡ AtTable k t
 IsUnderCheck q b way (in_field t g) at = (way.field ≡ Some g.number) × (at ≡ field_spot b t g)
 IsUnderCheck q b way (in_element x) at = IsBehind b q.rows x.place x.lead at
 
--- by the names of the schema the parts of these links follow one another from this kind, and in the buffer their steps
--- lead from this spot to what is under check where the fault is the first condition that fails
+-- by the names of the schema the parts of these links, with dots between them, follow one another from this kind, and
+-- in the buffer their steps lead from this spot to what is under check where the fault is the first condition that fails
 pub record Arrives (q : Question) (b : List ℕ) (kind : Kind) (from : Spot) (f : Fault) (links : List Link) : Type 0 where
   pub steps : List Step
   pub last : Kind
   pub follows : Follows q.rows kind (parts_of q.rows links) steps last
+  pub dotted : AreDotted q.rows links
   pub end : Spot
   pub reaches : Reaches b q.rows from steps end
   pub place : Place

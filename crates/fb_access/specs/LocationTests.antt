@@ -1,7 +1,7 @@
 -- Where faults are, in words, by example.
 use Rattle.std.specs.Prelude.{◌≡◌, ℕ, List, [], ◌∷◌, ◌++◌, codes, Option, Some, None, replicate}
 use Rattle.fb_schema.specs.Rows.{Rows}
-use Rattle.fb_rules.specs.Samples.{short, field, table}
+use Rattle.fb_rules.specs.Samples.{short, text, object, vector, field, table}
 use Rattle.fb_rules.specs.declared.fault.Fault.{Fault}
 use Rattle.fb_rules.specs.declared.fault.Reason.TheVariants.{OutOfBuffer, ZeroOffset, TooManyTables}
 use Rattle.fb_rules.specs.declared.link.Link.{Link}
@@ -36,6 +36,34 @@ pub record Nameless : Type 0 where
   pub a_deprecated_field : IsIn (fault_in 0 (Some 12)) (link 0 12 (Some 7) None ∷ []) (codes "in [7] [T]")
   pub a_struct : IsIn (fault_in 1 (Some 0)) (link 1 0 None None ∷ []) (codes "in  [W]")
   pub no_object : IsIn (fault_in 3 (Some 0)) [] (codes "in . []")
+
+-- `table Envelope { payload: [ubyte]; signed: [byte]; } table Inner { to: Person; again: [ubyte]; }`, and
+-- `table Person { name: string; }`
+abbrev pub envelopes : Rows
+envelopes = record {
+  objects =
+      table (codes "Envelope") (field (codes "payload") 4 (vector 4 0) ∷ field (codes "signed") 6 (vector 3 0) ∷ [])
+      ∷ table (codes "Inner") (field (codes "to") 4 (object 2) ∷ field (codes "again") 6 (vector 4 0) ∷ [])
+      ∷ table (codes "Person") (field (codes "name") 4 text ∷ [])
+      ∷ [];
+  enums = [];
+}
+
+-- of these rows this is told of this fault
+abbrev pub IsEnclosed : Fault → List Link → List ℕ → Type 0
+IsEnclosed fault links text = location_text envelopes fault links ≡ text
+
+-- to the bytes of a field, and on inside them; a dot stands behind one of the bytes, and behind a vector of another type
+pub record Enclosed : Type 0 where
+  pub the_bytes : IsEnclosed (fault_in 0 (Some 0)) (link 0 0 None None ∷ []) (codes "in payload [Envelope.payload]")
+  pub the_table_inside : IsEnclosed (fault_in 1 None) (link 0 0 None None ∷ []) (codes "in payload [Inner]")
+  pub a_field_inside : IsEnclosed (fault_in 1 (Some 0)) (link 0 0 None None ∷ link 1 0 None None ∷ []) (codes "in payload>to [Inner.to]")
+  pub and_on : IsEnclosed (fault_in 2 (Some 0)) (link 0 0 None None ∷ link 1 0 None None ∷ link 2 0 None None ∷ []) (codes "in payload>to.name [Person.name]")
+  pub twice : IsEnclosed (fault_in 2 (Some 0)) (link 0 0 None None ∷ link 1 1 None None ∷ link 1 1 None None ∷ link 1 0 None None ∷ link 2 0 None None ∷ []) (codes "in payload>again>again>to.name [Person.name]")
+  pub a_byte : IsEnclosed (fault_in 0 (Some 0)) (link 0 0 (Some 3) None ∷ []) (codes "in payload[3] [Envelope.payload]")
+  pub behind_a_byte : IsEnclosed (fault_in 1 (Some 0)) (link 0 0 (Some 0) None ∷ link 1 0 None None ∷ []) (codes "in payload[0].to [Inner.to]")
+  pub behind_signed_bytes : IsEnclosed (fault_in 1 (Some 0)) (link 0 1 None None ∷ link 1 0 None None ∷ []) (codes "in signed.to [Inner.to]")
+  pub behind_no_field : IsEnclosed (fault_in 1 (Some 0)) (link 0 2 None None ∷ link 1 0 None None ∷ []) (codes "in .to [Inner.to]")
 
 -- a table and a field whose names would begin a line
 abbrev pub rows_with_lines : Rows

@@ -1,7 +1,7 @@
 //! Examples of the definitions: each is a clause of a function that does nothing.
 
 ghost use Rattle.fb_access.specs.PathTests.{Words, Spellings, Resolved, Unfit};
-ghost use Rattle.fb_access.specs.LocationTests.{Told, Nameless, Masked, Ways, Long};
+ghost use Rattle.fb_access.specs.LocationTests.{Told, Nameless, Enclosed, Masked, Ways, Long};
 ghost use Rattle.fb_access.specs.Examples.{SampleUnfolds, FieldValues, ElementValues, PartValues, MemberValues, ScalarValues, DefaultValues, StayingValues, LackingFields, PrefixedValues, InsideValues};
 
 /// A buffer with a field of each kind is good, and what paths denote in it.
@@ -39,13 +39,14 @@ pub fn paths()
     ensures unfit { Unfit }
 {}
 
-/// Where faults are, in words: at the root, in a field, an element and a member, in what has no name, and in what has a
-/// name that would forge a line; where those are of which `fb_rules::link_laws::links_found` tells the links; and of a
-/// place that is too long its front.
-#[tactic(auto, using(crate::proofs::ShownLocations::told_shown, crate::proofs::ShownLocations::nameless_shown, crate::proofs::ShownLocations::masked_shown, crate::proofs::ShownLocations::ways_shown, crate::proofs::ShownLocations::long_shown))]
+/// Where faults are, in words: at the root, in a field, an element and a member, in what has no name, inside a field of
+/// bytes, and in what has a name that would forge a line; where those are of which `fb_rules::link_laws::links_found`
+/// tells the links; and of a place that is too long its front.
+#[tactic(auto, using(crate::proofs::ShownLocations::told_shown, crate::proofs::ShownLocations::nameless_shown, crate::proofs::ShownLocations::enclosed_shown, crate::proofs::ShownLocations::masked_shown, crate::proofs::ShownLocations::ways_shown, crate::proofs::ShownLocations::long_shown))]
 pub fn locations()
     ensures told { Told }
     ensures nameless { Nameless }
+    ensures enclosed { Enclosed }
     ensures masked { Masked }
     ensures ways { Ways }
     ensures long { Long }

@@ -4,11 +4,11 @@ ghost use Rattle.std.specs.Prelude.{◌≡◌, ◌+◌, ◌≤◌, ◌++◌, ℕ
 ghost use Rattle.std.specs.List.{flat_map};
 ghost use Rattle.fb_schema.specs.Live.{live_of_view};
 ghost use Rattle.fb_access.specs.Fitting.{numbered};
-ghost use Rattle.fb_access.specs.Location.{name_byte, name_text, named, field_name, link_member, element_text, link_text, path_text, place_text, whole_text, location_text, cut_to, filled};
+ghost use Rattle.fb_access.specs.Location.{name_byte, name_text, named, field_name, link_member, element_text, link_text, mark_behind, path_text, place_text, whole_text, location_text, cut_to, filled};
 
 use crate::field::field_numbered;
 use arrayvec::ArrayVec;
-use fb_schema::{FieldView, Kind, Schema};
+use fb_schema::{FieldView, Kind, Scalar, Schema};
 use fb_verify::{Fault, Link};
 use itoa::Buffer;
 use std::alloc::{AllocError, Allocator};
@@ -23,9 +23,9 @@ const FRONT: usize = 4_097;
 pub type LocationText = ArrayVec<u8, 4_098>;
 
 /// Writes where a fault is over a text, by the names of the schema: `in `, the path of what is under check, to which
-/// these links lead, and in brackets its table's full name with the field's. A byte of a name that no identifier has
-/// stands as `?`. Of more than 4,096 bytes the first 4,096 and `..` are told, and no more is copied than one byte
-/// beyond. It takes no memory.
+/// these links lead, and in brackets its table's full name with the field's. Where the way goes on inside a vector of
+/// ubyte, `>` stands for the dot. A byte of a name that no identifier has stands as `?`. Of more than 4,096 bytes the
+/// first 4,096 and `..` are told, and no more is copied than one byte beyond. It takes no memory.
 #[tactic(auto, unfolding(crate::specs::Location::location_text))]
 pub fn write_location(text: &mut LocationText, schema: &Schema<'_>, fault: &Fault, links: &[Link])
     ensures { text.new.items ≡ location_text schema.now fault.now links.now }
@@ -100,23 +100,37 @@ fn put_front(text: &mut LocationText, schema: &Schema<'_>, fault: &Fault, links:
 fn put_path(text: &mut LocationText, schema: &Schema<'_>, links: &[Link])
     ensures { text.new.items ≡ filled text.old.items (path_text schema.now links.now) }
 {
-    match links.split_first() {
+    match links.split_last() {
         None => put_text(text, b"."),
-        Some((first, rest)) => {
-            put_link(text, schema, first);
-            put_links(text, schema, rest);
+        Some((last, before)) => {
+            put_links(text, schema, before);
+            put_link(text, schema, last);
         }
     }
 }
 
-/// Adds links, each behind a dot, up to where a place is cut.
+/// Adds links, each with the mark behind it, up to where a place is cut.
 #[tactic(auto, using(crate::proofs::Filling::filled_twice, crate::proofs::Filling::filled_nothing, std::proofs::lemmas::Grind::common_steps))]
 fn put_links(text: &mut LocationText, schema: &Schema<'_>, links: &[Link])
-    ensures { text.new.items ≡ filled text.old.items (flat_map (λ l. codes "." ++ link_text schema.now l) links.now) }
+    ensures { text.new.items ≡ filled text.old.items (flat_map (λ l. link_text schema.now l ++ mark_behind schema.now l) links.now) }
 {
     for link in links {
-        put_text(text, b".");
         put_link(text, schema, link);
+        put_text(text, mark_behind(schema, link));
+    }
+}
+
+/// What stands between a link and the next: `>` behind a whole vector of ubyte, inside which the way goes on, and else
+/// a dot.
+fn mark_behind(schema: &Schema<'_>, link: &Link) -> &'static [u8]
+    ensures { result.now ≡ mark_behind schema.now link.now }
+{
+    let Some(field) = live_field(schema, link.object, link.field) else {
+        return b".";
+    };
+    match (link.element, field.kind) {
+        (None, Kind::Scalars(Scalar::UByte)) => b">",
+        _ => b".",
     }
 }
 

@@ -5,6 +5,7 @@ use Rattle.std.specs.Fmt.{digits}
 use borrow.Author.Count.{below_more, below_none}
 use Rattle.json.specs.Json.{object, Members, no_members, member}
 use Rattle.json.specs.Print.{escape_byte, quoted}
+use Rattle.fb_rules.specs.Reasons.{reason_count}
 use Rattle.fb_lines.specs.{Json.count_json, Json.following, Json.json_text, JsonSums.reasons_members, JsonSums.summary_in}
 use Rattle.fb_lines.specs.Sums.{count_of, counts_part, in_form, reasons_from, summary_part, verdicts_part}
 use Rattle.fb_lines.specs.declared.options.Form.{Form}
@@ -16,18 +17,18 @@ use Rattle.fb_lines.proofs.JsonLemmas.{first_member, next_member, no_more, numbe
 abbrev IsKey : ℕ → Type 0
 IsKey n = quoted (codes "V" ++ decimal n) ≡ codes "\"V" ++ (decimal n ++ codes "\"")
 
-key_text : (n : ℕ) → n < 14 → IsKey n
+key_text : (n : ℕ) → n < reason_count + 1 → IsKey n
 unfolding digits escape_byte
 key_text =
     let m = below_more IsKey in
-    m 13 (m 12 (m 11 (m 10 (m 9 (m 8 (m 7 (m 6 (m 5 (m 4 (m 3 (m 2 (m 1 (m 0 (below_none IsKey)
-    refl) refl) refl) refl) refl) refl) refl) refl) refl) refl) refl) refl) refl) refl
+    m 16 (m 15 (m 14 (m 13 (m 12 (m 11 (m 10 (m 9 (m 8 (m 7 (m 6 (m 5 (m 4 (m 3 (m 2 (m 1 (m 0 (below_none IsKey)
+    refl) refl) refl) refl) refl) refl) refl) refl) refl) refl) refl) refl) refl) refl) refl) refl) refl
 
 -- the count of a reason, before what is written of the other members
 abbrev given_part : ℕ → ℕ → List ℕ
 given_part k count = in_form form.Json (codes " V") (codes ",\"V") ++ decimal k ++ in_form form.Json (codes "=") (codes "\":") ++ decimal count
 
-given_text : (k count : ℕ) (more : Members) → k < 14
+given_text : (k count : ℕ) (more : Members) → k < reason_count + 1
     → following (member (codes "V" ++ decimal k) (count_json count) more) ++ codes "\n" ≡ given_part k count ++ (following more ++ codes "\n")
 given_text k count more few =
     ap (λ l. l ++ codes "\n") (
@@ -36,12 +37,12 @@ given_text k count more few =
     )
     ∙ simp (number_text, append_assoc)
 
-reason_text : (none : Bool) (k count : ℕ) (more : Members) (text : List ℕ) → k < 14 → following more ++ codes "\n" ≡ text
+reason_text : (none : Bool) (k count : ℕ) (more : Members) (text : List ℕ) → k < reason_count + 1 → following more ++ codes "\n" ≡ text
     → following (if none then more else member (codes "V" ++ decimal k) (count_json count) more) ++ codes "\n" ≡ (if none then [] else given_part k count) ++ text
 reason_text true k count more text few is = is
 reason_text false k count more text few is = given_text k count more few ∙ ap (λ l. given_part k count ++ l) is
 
-reasons_text : (k : ℕ) (counts : List ℕ) (rest : Members) → k + length counts ≤ 14
+reasons_text : (k : ℕ) (counts : List ℕ) (rest : Members) → k + length counts ≤ reason_count + 1
     → following (reasons_members k counts rest) ++ codes "\n" ≡ reasons_from form.Json k counts (following rest ++ codes "\n")
 reasons_text k [] rest few = refl
 reasons_text k (count ∷ counts) rest few =
@@ -62,7 +63,7 @@ unfolding escape_byte
 tail_text tally = simp (next_member, no_more, number_text, append_assoc)
 
 -- the line in either form
-pub summary_parts : (f : Form) (tally : Tally) → length tally.reasons ≡ 13 → summary_part f tally ≡ summary_in f tally
+pub summary_parts : (f : Form) (tally : Tally) → length tally.reasons ≡ reason_count → summary_part f tally ≡ summary_in f tally
 summary_parts form.Plain tally places = refl
 summary_parts form.Json tally places =
     sym (

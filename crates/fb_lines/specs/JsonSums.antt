@@ -1,7 +1,7 @@
 -- The line of JSON that tells what messages come to: an object with the names of the plain line.
 use Rattle.std.specs.Prelude.{◌≡◌, ℕ, ◌+◌, ◌==◌, if◌then◌else◌, List, [], ◌∷◌, ◌++◌, codes, decimal}
 use Rattle.json.specs.Json.{Json, object, Members, no_members, member}
-use Rattle.fb_lines.specs.{Json.count_json, Json.json_text, Sums.count_of, Sums.no_tally, Sums.summary_line}
+use Rattle.fb_lines.specs.{Json.count_json, Json.json_text, Sums.count_of, Sums.no_tally, Sums.one_more, Sums.summary_line}
 use Rattle.fb_lines.specs.declared.options.Form.{Form}
 use Rattle.fb_lines.specs.declared.options.Form.TheVariants as form
 use Rattle.fb_lines.specs.declared.tally.Tally.{Tally}
@@ -34,6 +34,6 @@ summary_in form.Json tally = json_summary tally
 -- by example: nothing, and two messages of which one is bad
 pub record Summaries : Type 0 where
   pub none : json_summary no_tally ≡ codes "{\"messages\":0,\"yes\":0,\"no\":0,\"bytes\":0,\"tables\":0,\"reads\":0}\n"
-  pub two : json_summary (record no_tally { yes = 1; no = 1; reasons = 0 ∷ 0 ∷ 1 ∷ 0 ∷ 0 ∷ 0 ∷ 0 ∷ 0 ∷ 0 ∷ 0 ∷ 0 ∷ 0 ∷ 0 ∷ []; bytes = 64; tables = 1; reads = 8 })
+  pub two : json_summary (record no_tally { yes = 1; no = 1; reasons = one_more 2 no_tally.reasons; bytes = 64; tables = 1; reads = 8 })
       ≡ codes "{\"messages\":2,\"yes\":1,\"no\":1,\"V3\":1,\"bytes\":64,\"tables\":1,\"reads\":8}\n"
   pub plain : summary_line (record no_tally { yes = 1; bytes = 32; tables = 1; reads = 5 }) ≡ codes "summary: messages=1 yes=1 no=0 bytes=32 tables=1 reads=5\n"

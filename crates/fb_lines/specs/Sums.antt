@@ -1,6 +1,6 @@
 -- What messages come to by their verdicts, and the line that tells it.
-use Rattle.std.specs.Prelude.{◌≡◌, ℕ, ◌+◌, ◌-◌, ◌*◌, ◌≤◌, ◌^◌, ◌==◌, min, if◌then◌else◌, List, [], ◌∷◌, ◌++◌, All, Ok, Err, length, slice_index, slice_set, codes, decimal}
-use Rattle.fb_rules.specs.Reasons.{reason_number}
+use Rattle.std.specs.Prelude.{◌≡◌, ℕ, ◌+◌, ◌-◌, ◌*◌, ◌≤◌, ◌^◌, ◌==◌, min, if◌then◌else◌, List, [], ◌∷◌, ◌++◌, All, Ok, Err, length, replicate, slice_index, slice_set, codes, decimal}
+use Rattle.fb_rules.specs.Reasons.{reason_number, reason_count}
 use Rattle.fb_rules.specs.declared.fault.Reason.{Reason}
 use Rattle.fb_lines.specs.Job.{Verdict}
 use Rattle.fb_lines.specs.declared.{options.Form.Form, options.Form.TheVariants.Plain, options.Form.TheVariants.Json, tally.Tally.Tally}
@@ -14,7 +14,7 @@ abbrev pub no_tally : Tally
 no_tally = record {
   yes = 0;
   no = 0;
-  reasons = 0 ∷ 0 ∷ 0 ∷ 0 ∷ 0 ∷ 0 ∷ 0 ∷ 0 ∷ 0 ∷ 0 ∷ 0 ∷ 0 ∷ 0 ∷ [];
+  reasons = replicate reason_count 0;
   bytes = 0;
   tables = 0;
   reads = 0;
@@ -53,7 +53,7 @@ tally_with message (Err bad) others = record {
 
 -- no sum is more than so many messages of up to 2^31 bytes can have
 pub record IsBounded (tally : Tally) : Type 0 where
-  pub places : length tally.reasons ≡ 13
+  pub places : length tally.reasons ≡ reason_count
   pub reasons : All (λ n. n ≤ tally.no) tally.reasons
   pub bytes : tally.bytes ≤ 2147483648 * count_of tally
   pub tables : tally.tables ≤ 4294967296 * count_of tally

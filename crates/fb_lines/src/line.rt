@@ -11,7 +11,7 @@ use std::fmt;
 use std::marker::Model;
 
 /// More bytes than the longest line has, but for a value, and more than the summary.
-const ROOM: usize = 640;
+const ROOM: usize = 768;
 
 /// The line of one verdict but for values or a place in words, or of a summary, written from its end to its front. It
 /// takes no memory.
@@ -28,7 +28,7 @@ impl Model for Line {
 
     ghost view = { λ l. drop l.start l.room };
 
-    ghost invariant = { λ l. (length l.room ≡ 640) × (l.start ≤ 640) };
+    ghost invariant = { λ l. (length l.room ≡ 768) × (l.start ≤ 768) };
 }
 
 impl fmt::Display for Line {

@@ -1,17 +1,19 @@
 //! The line that tells what a run came to.
 
 ghost use Rattle.std.specs.Prelude.{◌≡◌, ◌+◌, ◌<◌, ◌≤◌, [], length, max};
+ghost use Rattle.fb_rules.specs.Reasons.{reason_count};
 ghost use Rattle.fb_lines.specs.JsonSums.{summary_in};
 ghost use Rattle.fb_lines.specs.Sums.{counts_part, in_form, reason_part, reasons_part, verdicts_part};
 
 use crate::line::Line;
 use crate::options::Form;
 use crate::tally::Tally;
+use fb_verify::REASONS;
 
 /// The line of these numbers: `summary: messages=12 yes=10 no=2 V4=2 bytes=2400 tables=60 reads=310`, or the same as an
 /// object of JSON.
 pub fn summary(form: Form, tally: &Tally) -> Line
-    requires { length tally.now.reasons ≡ 13 }
+    requires { length tally.now.reasons ≡ reason_count }
     ensures { result ≡ summary_in form tally.now }
 {
     let mut line = Line::new();
@@ -23,7 +25,7 @@ pub fn summary(form: Form, tally: &Tally) -> Line
 
 /// Puts how many messages there are, and how many had a yes and a no, in front.
 fn put_verdicts(line: &mut Line, form: Form, tally: &Tally)
-    requires { length line.old ≤ 512 }
+    requires { length line.old ≤ 600 }
     ensures { line.new ≡ verdicts_part form tally.now line.old }
 {
     line.put_number(tally.no);
@@ -50,11 +52,11 @@ fn put_counts(line: &mut Line, form: Form, tally: &Tally)
 }
 
 /// Puts how often each reason was given, in front.
-fn put_reasons(line: &mut Line, form: Form, counts: &[u64; 13])
+fn put_reasons(line: &mut Line, form: Form, counts: &[u64; REASONS])
     requires room { length line.old ≤ 150 }
-    requires places { length counts.now ≡ 13 }
+    requires places { length counts.now ≡ reason_count }
     ensures text { line.new ≡ reasons_part form counts.now line.old }
-    ensures short { length line.new ≤ 501 }
+    ensures short { length line.new ≤ 582 }
 {
     let mut place = counts.len();
     while place > 0 {
@@ -66,7 +68,7 @@ fn put_reasons(line: &mut Line, form: Form, counts: &[u64; 13])
 /// Puts how often the reason with this number was given, in front, where it was.
 #[tactic(auto, using(crate::proofs::SumsLemmas::in_front))]
 fn put_reason(line: &mut Line, form: Form, number: u64, count: u64)
-    requires room { length line.old ≤ 500 }
+    requires room { length line.old ≤ 600 }
     requires number { number < 100 }
     ensures text { line.new ≡ reason_part form number count line.old }
     ensures short { length line.new ≤ length line.old + 27 }

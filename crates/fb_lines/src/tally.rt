@@ -1,9 +1,10 @@
 //! What a run comes to, in numbers.
 
 ghost use Rattle.std.specs.Prelude.{◌≡◌, ◌<◌};
+ghost use Rattle.fb_rules.specs.Reasons.{reason_count};
 ghost use Rattle.fb_lines.specs.Sums.{no_tally, count_place};
 
-use fb_verify::Reason;
+use fb_verify::{REASONS, Reason};
 
 /// How many buffers had a yes and how many a no, and what was counted in them.
 #[derive(Clone, Copy)]
@@ -11,7 +12,7 @@ pub struct Tally {
     pub yes: u64,
     pub no: u64,
     /// How many had a no for each reason, V1 first.
-    pub reasons: [u64; 13],
+    pub reasons: [u64; REASONS],
     /// The bytes of all, prefixes included.
     pub bytes: u128,
     /// The visits of tables in those with a yes.
@@ -28,7 +29,7 @@ impl Tally {
         Tally {
             yes: 0,
             no: 0,
-            reasons: [0; 13],
+            reasons: [0; REASONS],
             bytes: 0,
             tables: 0,
             reads: 0,
@@ -39,7 +40,7 @@ impl Tally {
 /// Where a reason's count stands among those of all reasons.
 pub fn count_place(reason: Reason) -> usize
     ensures place { result ≡ count_place reason }
-    ensures within { result < 13 }
+    ensures within { result < reason_count }
 {
     reason as usize
 }

@@ -3,6 +3,7 @@ use Rattle.std.proofs.Common.{◌≡◌, ◌≢◌, ℕ, suc, ◌+◌, ◌≤◌
 use Rattle.std.specs.Prelude.{slice_get}
 use Rattle.std.proofs.lemmas.Bool.Decides.{nat_tests}
 use Rattle.fb_schema.specs.declared.kinds.Kind.{Kind}
+use Rattle.fb_schema.specs.declared.kinds.Kind.TheVariants.{Unions}
 use Rattle.fb_schema.specs.{Rows.Rows, Live.Live, Live.live_fields}
 use Rattle.fb_rules.specs.declared.{checks.Checks.Checks, start.Start.Start, start.Ident.Ident}
 use Rattle.fb_rules.specs.declared.{fault.Fault.Fault, fault.Reason.Reason, fault.Reason.TheVariants.TooManyTables}
@@ -54,6 +55,7 @@ module _ (c : Checks) (b : List ℕ) where
 
   module _ (S : Rows) (t : ℕ) (g : Live) where
     present_false : (p : ℕ) (kind : Kind) → Tells (PresentIsFalse c b t g p kind) (present_failure c b S t g p kind)
+    present_false p (Unions e) = grind (arith, nat_tests, vector_field_false)
     present_false p kind = grind (arith, nat_tests, vector_field_false, inline_false, past_false)
 
   -- elements

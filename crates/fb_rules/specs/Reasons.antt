@@ -1,7 +1,7 @@
 -- What the reasons are called where they are told.
 use Rattle.std.specs.Prelude.{ℕ, List, codes}
 use Rattle.fb_rules.specs.declared.fault.Reason.{Reason}
-use Rattle.fb_rules.specs.declared.fault.Reason.TheVariants.{WrongPrefix, OutOfBuffer, Misaligned, ZeroOffset, WrongIdentifier, TooDeep, TooManyTables, BadVtable, MissingRequired, NoTerminator, LengthsDiffer, PastTable, TooManyReads}
+use Rattle.fb_rules.specs.declared.fault.Reason.TheVariants.{WrongPrefix, OutOfBuffer, Misaligned, ZeroOffset, WrongIdentifier, TooDeep, TooManyTables, BadVtable, MissingRequired, NoTerminator, LengthsDiffer, PastTable, TooManyReads, FlexContent, NotUtf8, UnknownField}
 
 -- a reason's number, and its code and name
 abbrev pub reason_code : Reason → ℕ × List ℕ
@@ -18,6 +18,13 @@ reason_code NoTerminator = (10, codes "V10 NoTerminator")
 reason_code LengthsDiffer = (11, codes "V11 LengthsDiffer")
 reason_code PastTable = (12, codes "V12 PastTable")
 reason_code TooManyReads = (13, codes "V13 TooManyReads")
+reason_code FlexContent = (14, codes "V14 FlexContent")
+reason_code NotUtf8 = (15, codes "V15 NotUtf8")
+reason_code UnknownField = (16, codes "V16 UnknownField")
+
+-- how many there are
+abbrev pub reason_count : ℕ
+reason_count = 16
 
 abbrev pub reason_number : Reason → ℕ
 reason_number reason = (reason_code reason).0

@@ -3,8 +3,12 @@
 ghost use Rattle.std.specs.Prelude.{◌≡◌, ◌≤◌, length};
 ghost use Rattle.fb_rules.specs.Reasons.{reason_text};
 
-/// Why a buffer is refused, by the codes V1 to V13 in their order. What is asked is said by FlatBuffers Internals; the
-/// order in which it is asked, and the position that each fault names, by the project.
+/// How many reasons there are.
+pub const REASONS: usize = 16;
+
+/// Why a buffer is refused, by the codes V1 to V16 in their order. What is asked is said by FlatBuffers Internals; the
+/// order in which it is asked, and the position that each fault names, by the project. A walk answers V1 to V13; the
+/// others are those of a strict check alone.
 #[derive(Clone, Copy, Debug, PartialEq, Eq)]
 pub enum Reason {
     /// V1: the prefix isn't the number of the bytes after it.
@@ -33,6 +37,12 @@ pub enum Reason {
     PastTable,
     /// V13: more reads were counted than the budget allows.
     TooManyReads,
+    /// V14: a field holds a flexbuffer, into which nobody looks.
+    FlexContent,
+    /// V15: a string isn't UTF-8.
+    NotUtf8,
+    /// V16: a vtable has a slot that isn't 0 and is that of no live field.
+    UnknownField,
 }
 
 impl Reason {
@@ -55,6 +65,9 @@ impl Reason {
             Reason::LengthsDiffer => "V11 LengthsDiffer",
             Reason::PastTable => "V12 PastTable",
             Reason::TooManyReads => "V13 TooManyReads",
+            Reason::FlexContent => "V14 FlexContent",
+            Reason::NotUtf8 => "V15 NotUtf8",
+            Reason::UnknownField => "V16 UnknownField",
         }
     }
 }

@@ -1,6 +1,7 @@
 //! A run over an input, by a schema.
 
 ghost use Rattle.std.specs.Prelude.{◌≡◌, length, ◌+◌, ◌<◌, ◌≤◌, ◌^◌};
+ghost use Rattle.fb_rules.specs.Reasons.{reason_count};
 ghost use Rattle.fb_lines.specs.{Faults.EndsBeside, Faults.end_of, Job.Serves, Job.job_of};
 ghost use Rattle.fb_run.specs.{Prompt.IsPrompt, Run.IsRun, Run.IsRunBeside, Run.answer_by};
 ghost use Rattle.fb_lines.specs.Sums.{no_tally};
@@ -80,7 +81,7 @@ pub fn run_beside<A: Allocator, S: Input<K, N>, K: Sink, N: Sink>(
 
     ensures run { IsRunBeside (job_of schema.now options.now) (ends_of S.Input K.Sink N.Sink reader.old writer.old notes.old) (ends_of S.Input K.Sink N.Sink reader.new writer.new notes.new) result.tally result.end }
     ensures end { EndsBeside (ends_of S.Input K.Sink N.Sink reader.old writer.old notes.old) (ends_of S.Input K.Sink N.Sink reader.new writer.new notes.new) turns result.end }
-    ensures places { length result.tally.reasons ≡ 13 }
+    ensures places { length result.tally.reasons ≡ reason_count }
     ensures pushes { N.calls notes.new ≤ N.calls notes.old + 2 ^ 96 }
     ensures turns { S.calls reader.new ≤ S.calls reader.old + turns }
 {

@@ -14,7 +14,7 @@ mod verdict;
 mod verified;
 
 pub use fb_rules::checks::Checks;
-pub use fb_rules::fault::{Fault, Reason, Report};
+pub use fb_rules::fault::{Fault, REASONS, Reason, Report};
 pub use fb_rules::limits::{LimitOutOfRange, Limits};
 pub use fb_rules::link::Link;
 pub use fb_rules::most::most_reads;

@@ -11,7 +11,7 @@ use Rattle.fb_schema.specs.declared.fault.Code.{Code}
 use Rattle.fb_schema.specs.declared.fault.Code.TheVariants.{NoSuchObject, NoSuchEnum, Unsupported, BadSlot, NoTypeField, BadStruct, BadMember, NameTwice, OutOfMemory as NoMemory}
 use Rattle.fb_rules.specs.Reasons.{reason_number, reason_text}
 use Rattle.fb_rules.specs.declared.fault.Reason.{Reason}
-use Rattle.fb_rules.specs.declared.fault.Reason.TheVariants.{WrongPrefix, OutOfBuffer, Misaligned, ZeroOffset, WrongIdentifier, TooDeep, TooManyTables, BadVtable, MissingRequired, NoTerminator, LengthsDiffer, PastTable, TooManyReads}
+use Rattle.fb_rules.specs.declared.fault.Reason.TheVariants.{WrongPrefix, OutOfBuffer, Misaligned, ZeroOffset, WrongIdentifier, TooDeep, TooManyTables, BadVtable, MissingRequired, NoTerminator, LengthsDiffer, PastTable, TooManyReads, FlexContent, NotUtf8, UnknownField}
 use Rattle.fbcheck_calls.specs.Names.{FaultsHaveTheirNames, IsCodeName, IsFaultName, IsPathName, IsReasonName}
 use Rattle.fbcheck_calls.specs.Told.{code_number}
 use Rattle.fbcheck_calls.specs.declared.answer.Answer.TheVariants.{Bad, NoSchema, BadStream, BadPath}
@@ -22,7 +22,7 @@ module _ (X : Type 0) (number : X → ℕ) (text : X → List ℕ) (names : List
   same_name x y e = sym (at y) ∙ (ap (λ n. slice_get names n) e ∙ at x)
 
 abbrev reason_names : List (List ℕ)
-reason_names = [] ∷ map reason_text (WrongPrefix ∷ OutOfBuffer ∷ Misaligned ∷ ZeroOffset ∷ WrongIdentifier ∷ TooDeep ∷ TooManyTables ∷ BadVtable ∷ MissingRequired ∷ NoTerminator ∷ LengthsDiffer ∷ PastTable ∷ TooManyReads ∷ [])
+reason_names = [] ∷ map reason_text (WrongPrefix ∷ OutOfBuffer ∷ Misaligned ∷ ZeroOffset ∷ WrongIdentifier ∷ TooDeep ∷ TooManyTables ∷ BadVtable ∷ MissingRequired ∷ NoTerminator ∷ LengthsDiffer ∷ PastTable ∷ TooManyReads ∷ FlexContent ∷ NotUtf8 ∷ UnknownField ∷ [])
 
 reason_at : (r : Reason) → slice_get reason_names (reason_number r) ≡ Some (reason_text r)
 reason_at WrongPrefix = refl

@@ -34,6 +34,9 @@ pub fn reason_of(number: u32) -> Option<Reason>
         11 => Some(Reason::LengthsDiffer),
         12 => Some(Reason::PastTable),
         13 => Some(Reason::TooManyReads),
+        14 => Some(Reason::FlexContent),
+        15 => Some(Reason::NotUtf8),
+        16 => Some(Reason::UnknownField),
         _ => None,
     }
 }

@@ -1,5 +1,6 @@
 -- What the program comes to.
 use Rattle.std.proofs.Common.{codes, ◌+◌, ◌<◌, ◌≡◌, ◌≢◌, ◌==◌, ◌≤◌, ◌^◌, ◌∙◌, arith, ℕ, Bool, true, false, true≢false, List, [], ◌∷◌, Option, Some, None, Result, Ok, Err, ap, length, refl, take, sym, subst}
+use Rattle.fb_rules.specs.Reasons.{reason_count}
 use mathlib.Core.Logic.{◌⊎◌, inl, inr}
 use Rattle.std.specs.{Borrow.Bor, Global.Global, Io.KnownBytes.Appends, Result.OnErr, declared.alloc.AllocError.AllocError, declared.io.ErrorKind.ErrorKind}
 use Rattle.std.specs.Prelude.{if◌then◌else◌, IfOk, IfSome, String, Vec, map, option_map, string_bytes, vec_items}
@@ -162,7 +163,7 @@ fileless folder given seen fault (Err none) name writes notes cause read is so h
     rw so (((refusal.OutOfMemory, tt, Keeps-refl seen.ends.reader.left, Keeps-refl seen.ends.outs.writer.bytes, Keeps-refl seen.ends.outs.notes.bytes), refl), early seen.ends seen.ends writes notes _ (refl, refl, refl) (λ writes more. tt) refl few)
 
 -- the numbers to be told have a place for each kind of fault
-summed_places : (told : Sums) (asked : Bool) → length told.tally.reasons ≡ 13 → IfSome (if asked then Some told else None) (λ (sums : Sums). length sums.tally.reasons ≡ 13)
+summed_places : (told : Sums) (asked : Bool) → length told.tally.reasons ≡ reason_count → IfSome (if asked then Some told else None) (λ (sums : Sums). length sums.tally.reasons ≡ reason_count)
 summed_places told true are = are
 summed_places told false are = tt
 
@@ -173,19 +174,19 @@ same_ends s k n (Ok done) r r' w w' m m' a b c = tt
 same_ends s k n (Err unasked) r r' w w' m m' a b c = rw (a, b, c) refl
 
 module _ (settings : Settings) (before after : Ends) (writes notes : ℕ) (turns : after.reader.calls ≤ before.reader.calls + 4294967296) (noted : notes < 2 ^ 98) where
-  rests_by : (tally : Tally) (outcome : Result Ending Stop) → length tally.reasons ≡ 13 → EndsSo before after 4294967296 outcome → ((more : ℕ) → notes ≤ more → IsCrowded writes more outcome)
+  rests_by : (tally : Tally) (outcome : Result Ending Stop) → length tally.reasons ≡ reason_count → EndsSo before after 4294967296 outcome → ((more : ℕ) → notes ≤ more → IsCrowded writes more outcome)
       → Rests before after writes notes (summed settings tally) outcome
   rests_by tally outcome are ends crowded = record { places = summed_places _ settings.summary are; ends = ends; turns = turns; noted = noted; crowded = crowded }
 
   unasked_rests : (unasked : Unasked) → after ≡ before → Rests before after writes notes None (Err (stop.Ask unasked))
   unasked_rests unasked same = record { places = tt; ends = rw same (refl, refl, refl); turns = turns; noted = noted; crowded = λ more le. tt }
 
-  run_rests_so : (manner : Manner) (tally : Tally) (end : End) → length tally.reasons ≡ 13 → EndsBeside before after 4294967296 end
+  run_rests_so : (manner : Manner) (tally : Tally) (end : End) → length tally.reasons ≡ reason_count → EndsBeside before after 4294967296 end
       → Rests before after writes notes (summed settings tally) (run_ending manner tally end)
   run_rests_so manner tally (Ok done) are ends = rests_by tally _ are ends (λ more le. tt)
   run_rests_so manner tally (Err fault) are ends = rests_by tally _ are ends (λ more le. tt)
 
-  pub run_rests : (ran : Result Ran Unasked) (sums : Option Sums) (outcome : Result Ending Stop) → EndsRun settings ran sums outcome → IfOk ran (λ r. length r.tally.reasons ≡ 13)
+  pub run_rests : (ran : Result Ran Unasked) (sums : Option Sums) (outcome : Result Ending Stop) → EndsRun settings ran sums outcome → IfOk ran (λ r. length r.tally.reasons ≡ reason_count)
       → IfOk ran (λ r. EndsBeside before after 4294967296 r.end) → OnErr ran (after ≡ before) → Rests before after writes notes sums outcome
   run_rests (Ok ran) sums outcome (told, is) are ends same = rw (told, is) (run_rests_so _ ran.tally ran.end are ends)
   run_rests (Err unasked) sums outcome (told, is) are ends same = rw (told, is) (unasked_rests unasked same)
@@ -195,13 +196,13 @@ module _ (settings : Settings) (before after : Ends) (writes notes : ℕ) (turns
   halted_crowded run.TooManyTurns more le many = elim (many refl) [ inl enough ↦ inl enough | inr enough ↦ inr (omega (arith, enough, le)) ]
   halted_crowded _ more le many = tt
 
-  files_rests_so : (by : By) (course : Course) (end : End) → length course.tally.reasons ≡ 13 → (end ≡ Err run.TooManyTurns → (2 ^ 64 ≤ writes) ⊎ (2 ^ 64 ≤ notes))
+  files_rests_so : (by : By) (course : Course) (end : End) → length course.tally.reasons ≡ reason_count → (end ≡ Err run.TooManyTurns → (2 ^ 64 ≤ writes) ⊎ (2 ^ 64 ≤ notes))
       → Rests before after writes notes (summed settings course.tally) (files_ending by course end)
   files_rests_so by course (Ok done) are many = rests_by course.tally _ are tt (λ more le. tt)
   files_rests_so by course (Err fault) are many = rests_by course.tally _ are tt (λ more le. halted_crowded fault more le many)
 
   pub files_rests : (passed : Result inputs.Passed Unasked) (sums : Option Sums) (outcome : Result Ending Stop) → EndsFiles settings passed sums outcome
-      → IfOk passed (λ p. length p.course.tally.reasons ≡ 13) → IfOk passed (λ p. p.end ≡ Err run.TooManyTurns → (2 ^ 64 ≤ writes) ⊎ (2 ^ 64 ≤ notes)) → OnErr passed (after ≡ before)
+      → IfOk passed (λ p. length p.course.tally.reasons ≡ reason_count) → IfOk passed (λ p. p.end ≡ Err run.TooManyTurns → (2 ^ 64 ≤ writes) ⊎ (2 ^ 64 ≤ notes)) → OnErr passed (after ≡ before)
       → Rests before after writes notes sums outcome
   files_rests (Ok passed) sums outcome (told, is) are many same = rw (told, is) (files_rests_so _ passed.course passed.end are many)
   files_rests (Err unasked) sums outcome (told, is) are many same = rw (told, is) (unasked_rests unasked same)

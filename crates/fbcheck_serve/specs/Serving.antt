@@ -1,5 +1,6 @@
 -- What the program does, from its words to its exit status.
 use Rattle.std.specs.Prelude.{◌≡◌, ◌≢◌, ℕ, ◌+◌, ◌<◌, ◌≤◌, ◌^◌, ◌⊎◌, ◌++◌, length, if◌then◌else◌, List, [], Option, Some, None, Result, Ok, Err, Vec, String, IfSome, codes, map, option_map, string_bytes, string_len, vec_items}
+use Rattle.fb_rules.specs.Reasons.{reason_count}
 use Rattle.std.specs.{Borrow.Bor, Global.Global, Io.KnownBytes.Appends, Io.KnownBytes.Keeps, declared.alloc.AllocError.AllocError, declared.io.ErrorKind.ErrorKind}
 use Rattle.clap.specs.{Walk.Text, Faults.fault_of}
 use Rattle.fbcheck_serve.specs.Asked.{form_of, manner_in}
@@ -165,7 +166,7 @@ IsCrowded writes notes outcome = Unit {0}
 
 -- the program came to that, the numbers have a place for each reason, and few enough calls were made
 pub record Rests (before after : Ends) (writes notes : ℕ) (sums : Option Sums) (outcome : Result Ending Stop) : Type 0 where
-  pub places : IfSome sums (λ (told : Sums). length told.tally.reasons ≡ 13)
+  pub places : IfSome sums (λ (told : Sums). length told.tally.reasons ≡ reason_count)
   pub ends : EndsSo before after 4294967296 outcome
   pub turns : after.reader.calls ≤ before.reader.calls + 4294967296
   pub noted : notes < 2 ^ 98

@@ -1,6 +1,7 @@
 //! A run by a schema file, as the settings of the command line ask.
 
 ghost use Rattle.std.specs.Prelude.{Err, IfErr, IfOk, OnErr, length, ◌≡◌, ◌⊎◌, ◌+◌, ◌<◌, ◌≤◌, ◌^◌};
+ghost use Rattle.fb_rules.specs.Reasons.{reason_count};
 ghost use Rattle.fbcheck_words.specs.Ranges.{AreInRange};
 ghost use Rattle.fbcheck_serve.specs.Checking.{EndsChecked, IsChecked, IsCheckedBeside, IsPromptAmongAsked, IsPromptAsAsked, IsServedEach, IsUnasked, MayReadAsked};
 ghost use Rattle.fbcheck_serve.specs.Inputs.{folder_of, seen_of};
@@ -48,7 +49,7 @@ pub fn check_beside<S: Input<K, N>, K: Sink, N: Sink>(
 
     ensures run { IsCheckedBeside schema_bytes.entry settings.now (ends_of S.Input K.Sink N.Sink reader.old writer.old notes.old)
         (ends_of S.Input K.Sink N.Sink reader.new writer.new notes.new) result }
-    ensures places { IfOk result (λ ran. length ran.tally.reasons ≡ 13) }
+    ensures places { IfOk result (λ ran. length ran.tally.reasons ≡ reason_count) }
     ensures unread { OnErr result (reader.new ≡ reader.old) }
     ensures unwritten { OnErr result (writer.new ≡ writer.old) }
     ensures unnoted { OnErr result (notes.new ≡ notes.old) }
@@ -86,7 +87,7 @@ pub fn check_files<F: Files<K, N>, S: Input<K, N> + Explains, K: Sink, N: Sink>(
 
     ensures served { IsServedEach (folder_of F.Files F.Opened.Input F.Opened.Explains files.now) schema_bytes.entry settings.now (seen_of S.Input S.Explains K.Sink N.Sink reader.old writer.old notes.old)
         (seen_of S.Input S.Explains K.Sink N.Sink reader.new writer.new notes.new) result }
-    ensures places { IfOk result (λ passed. length passed.course.tally.reasons ≡ 13) }
+    ensures places { IfOk result (λ passed. length passed.course.tally.reasons ≡ reason_count) }
     ensures unread { OnErr result (reader.new ≡ reader.old) }
     ensures unwritten { OnErr result (writer.new ≡ writer.old) }
     ensures unnoted { OnErr result (notes.new ≡ notes.old) }

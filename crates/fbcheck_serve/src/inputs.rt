@@ -1,6 +1,7 @@
 //! Files as inputs, one behind another.
 
 ghost use Rattle.std.specs.Prelude.{Err, IfOk, true, false, ◌≡◌, ◌≢◌, ◌⊎◌, ◌+◌, ◌<◌, ◌≤◌, ◌^◌, length, map, option_map, string_bytes, vec_items};
+ghost use Rattle.fb_rules.specs.Reasons.{reason_count};
 ghost use Rattle.fb_lines.specs.Ends.{outs_of, writer_of};
 ghost use Rattle.fb_run.specs.Leave.{HasCallsLeft, HasLeave, ends_of};
 ghost use Rattle.fb_lines.specs.{Sums.no_tally, Job.Serves, Job.job_of};
@@ -16,6 +17,7 @@ use fb_run::{
     Input, MOST_TURNS, Options, Ran, RunFault, Tally, push_all, put_bytes, run_beside, status,
 };
 use fb_schema::Schema;
+use fb_verify::REASONS;
 use fbcheck_texts::causes::{Causes, Explains};
 use fbcheck_texts::fault::FileFault;
 use fbcheck_texts::framing::{By, Framing, end_hint, run_hint};
@@ -102,7 +104,7 @@ pub fn pass_files<F: Files<K, N>, S: Input<K, N> + Explains, K: Sink, N: Sink>(
 
     ensures serves { ServesEach (folder_of F.Files F.Opened.Input F.Opened.Explains files.now) (job_of schema.now options.old) (map string_bytes names.now)
         (at_first (seen_of S.Input S.Explains K.Sink N.Sink reader.old writer.old notes.old)) (stand (seen_of S.Input S.Explains K.Sink N.Sink reader.new writer.new notes.new) result.course) result.end }
-    ensures calls { (length result.course.tally.reasons ≡ 13) × (N.calls notes.new < 2 ^ 98) × (S.calls reader.new ≤ S.calls reader.old + MOST_TURNS)
+    ensures calls { (length result.course.tally.reasons ≡ reason_count) × (N.calls notes.new < 2 ^ 98) × (S.calls reader.new ≤ S.calls reader.old + MOST_TURNS)
         × (result.end ≡ Err TooManyTurns → (2 ^ 64 ≤ K.calls writer.new) ⊎ (2 ^ 64 ≤ N.calls notes.new)) }
 {
     let named = are_named(options, names);
@@ -173,7 +175,7 @@ fn pass_file<F: Files<K, N>, S: Input<K, N> + Explains, K: Sink, N: Sink>(
 ) -> Result<(), RunFault>
     requires serves { Serves schema.now options.now }
     requires few { N.calls notes.old < 2 ^ 98 }
-    requires places { length course.old.tally.reasons ≡ 13 }
+    requires places { length course.old.tally.reasons ≡ reason_count }
     requires reads { course.old.standard ≡ Unread → S.calls reader.old < 2 ^ 64 }
     requires leave { is_standard name.now ≡ true → course.old.standard ≡ Unread → HasLeave S.Input (ends_of S.Input K.Sink N.Sink reader.old writer.old notes.old) (IsPrompt (job_of schema.now options.now)) }
     requires files { is_standard name.now ≡ false → MayRead (folder_of F.Files F.Opened.Input F.Opened.Explains files.now) (job_of schema.now options.now) name.now (outs_of K.Sink N.Sink writer.old notes.old) }
@@ -181,7 +183,7 @@ fn pass_file<F: Files<K, N>, S: Input<K, N> + Explains, K: Sink, N: Sink>(
     ensures tries { Tries (folder_of F.Files F.Opened.Input F.Opened.Explains files.now) (job_of schema.now options.now) name.now
         (stand (seen_of S.Input S.Explains K.Sink N.Sink reader.old writer.old notes.old) course.old) (stand (seen_of S.Input S.Explains K.Sink N.Sink reader.new writer.new notes.new) course.new) result }
     ensures noted { N.calls notes.new < 2 ^ 98 }
-    ensures calls { (S.calls reader.new ≤ S.calls reader.old + MOST_TURNS) × (length course.new.tally.reasons ≡ 13)
+    ensures calls { (S.calls reader.new ≤ S.calls reader.old + MOST_TURNS) × (length course.new.tally.reasons ≡ reason_count)
         × (course.old.standard ≡ Spent → (course.new.standard ≡ Spent) × (reader.new ≡ reader.old))
         × (course.new.standard ≡ Unread → (course.old.standard ≡ Unread) × (reader.new ≡ reader.old)) }
     ensures crowded { result ≡ Err TooManyTurns → (2 ^ 64 ≤ K.calls writer.new) ⊎ (2 ^ 64 ≤ N.calls notes.new) }
@@ -218,7 +220,7 @@ fn run_file<F: Files<K, N>, S: Input<K, N> + Explains, K: Sink, N: Sink>(
 
     ensures comes { ComesOf (folder_of F.Files F.Opened.Input F.Opened.Explains files.now) (job_of schema.now options.now) name.now standard (seen_of S.Input S.Explains K.Sink N.Sink reader.old writer.old notes.old) (seen_of S.Input S.Explains K.Sink N.Sink reader.new writer.new notes.new) result.what result.cause }
     ensures calls { (N.calls notes.new ≤ N.calls notes.old + 2 ^ 96) × (S.calls reader.new ≤ S.calls reader.old + MOST_TURNS)
-        × IfOk result.what (λ ran. length ran.tally.reasons ≡ 13) × (is_standard name.now ≡ false → reader.new ≡ reader.old) × (standard ≡ Spent → reader.new ≡ reader.old) }
+        × IfOk result.what (λ ran. length ran.tally.reasons ≡ reason_count) × (is_standard name.now ≡ false → reader.new ≡ reader.old) × (standard ≡ Spent → reader.new ≡ reader.old) }
 {
     if name == STANDARD {
         return match standard {
@@ -275,12 +277,12 @@ impl Course {
 
     /// With what this file came to.
     fn with(self, name: &str, came: &Result<Ran, Missed>) -> Course
-        requires places { length self.tally.reasons ≡ 13 }
-        requires more { IfOk came.now (λ ran. length ran.tally.reasons ≡ 13) }
+        requires places { length self.tally.reasons ≡ reason_count }
+        requires more { IfOk came.now (λ ran. length ran.tally.reasons ≡ reason_count) }
         ensures course { result ≡ course_with name.now came.now self }
         ensures unread { result.standard ≡ Unread → (is_standard name.now ≡ false) × (self.standard ≡ Unread) }
         ensures spent { self.standard ≡ Spent → result.standard ≡ Spent }
-        ensures places { length result.tally.reasons ≡ 13 }
+        ensures places { length result.tally.reasons ≡ reason_count }
     {
         let standard = standard_after(name, self.standard);
         match came {
@@ -313,10 +315,10 @@ fn standard_after(name: &str, standard: Standard) -> Standard
 
 /// What two inputs come to. A sum that is too great is told as the most that can be.
 fn sum_of(some: &Tally, more: &Tally) -> Tally
-    requires some { length some.now.reasons ≡ 13 }
-    requires more { length more.now.reasons ≡ 13 }
+    requires some { length some.now.reasons ≡ reason_count }
+    requires more { length more.now.reasons ≡ reason_count }
     ensures sum { result ≡ sum_of some.now more.now }
-    ensures places { length result.reasons ≡ 13 }
+    ensures places { length result.reasons ≡ reason_count }
 {
     Tally {
         yes: some.yes.saturating_add(more.yes),
@@ -329,14 +331,14 @@ fn sum_of(some: &Tally, more: &Tally) -> Tally
 }
 
 /// The sums of how often each reason was given.
-fn sums(some: &[u64; 13], more: &[u64; 13]) -> [u64; 13]
-    requires some { length some.now ≡ 13 }
-    requires more { length more.now ≡ 13 }
+fn sums(some: &[u64; REASONS], more: &[u64; REASONS]) -> [u64; REASONS]
+    requires some { length some.now ≡ reason_count }
+    requires more { length more.now ≡ reason_count }
     ensures sums { result ≡ sums some.now more.now }
-    ensures places { length result ≡ 13 }
+    ensures places { length result ≡ reason_count }
 {
     let mut counts = *some;
-    for place in 0..13 {
+    for place in 0..REASONS {
         counts[place] = counts[place].saturating_add(more[place]);
     }
     counts

@@ -1,6 +1,7 @@
 //! How the program comes to its end: well, or for a cause.
 
 ghost use Rattle.std.specs.Prelude.{IfSome, ◌≡◌, ◌++◌, ◌+◌, ◌<◌, ◌≤◌, ◌^◌, length, option_map};
+ghost use Rattle.fb_rules.specs.Reasons.{reason_count};
 ghost use Rattle.fb_lines.specs.Ends.{writer_of};
 ghost use Rattle.fbcheck_serve.specs.Inputs.{IsNoted};
 ghost use Rattle.fbcheck_serve.specs.Serving.{behind, Complains, IsHinted, SumsUp, ending_hint, exit_status, hinted_stop, stop_status, stop_text};
@@ -211,7 +212,7 @@ pub fn sum_up<N: Sink>(
     notes: &mut N,
 ) -> Result<Ending, Stop>
     requires calls { N.calls notes.old < 2 ^ 98 }
-    requires places { IfSome sums.now (λ sums. length sums.tally.reasons ≡ 13) }
+    requires places { IfSome sums.now (λ sums. length sums.tally.reasons ≡ reason_count) }
     ensures summed { SumsUp sums.now (writer_of N.Sink notes.old) (writer_of N.Sink notes.new) outcome result }
     ensures calls { N.calls notes.new < 2 ^ 99 }
     ensures more { N.calls notes.old ≤ N.calls notes.new }

@@ -59,6 +59,9 @@ final class Codes {
     static final int LENGTHS_DIFFER = 11;
     static final int PAST_TABLE = 12;
     static final int TOO_MANY_READS = 13;
+    static final int FLEX_CONTENT = 14;
+    static final int NOT_UTF8 = 15;
+    static final int UNKNOWN_FIELD = 16;
 
     // enum fbcheck_code
     static final int NO_SUCH_OBJECT = 1;

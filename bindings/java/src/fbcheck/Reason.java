@@ -31,6 +31,12 @@ public enum Reason {
     PAST_TABLE,
     /** More reads were counted than the options allow. */
     TOO_MANY_READS,
+    /** Strict: a field holds a flexbuffer, which isn't checked. */
+    FLEX_CONTENT,
+    /** A string isn't UTF-8. */
+    NOT_UTF8,
+    /** A table has a field that the schema doesn't know, or one that is deprecated. */
+    UNKNOWN_FIELD,
     // end of what is made
     ;
 

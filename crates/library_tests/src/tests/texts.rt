@@ -33,7 +33,7 @@ macro_rules! not_well_formed {
 }
 
 /// The faults of schema files but for those of rows, with each reason of the verifier.
-const OF_FILES: [(LoadFault, &str); 16] = [
+const OF_FILES: [(LoadFault, &str); 19] = [
     not_well_formed!(WrongPrefix, "V1 WrongPrefix"),
     not_well_formed!(OutOfBuffer, "V2 OutOfBuffer"),
     not_well_formed!(Misaligned, "V3 Misaligned"),
@@ -47,6 +47,9 @@ const OF_FILES: [(LoadFault, &str); 16] = [
     not_well_formed!(LengthsDiffer, "V11 LengthsDiffer"),
     not_well_formed!(PastTable, "V12 PastTable"),
     not_well_formed!(TooManyReads, "V13 TooManyReads"),
+    not_well_formed!(FlexContent, "V14 FlexContent"),
+    not_well_formed!(NotUtf8, "V15 NotUtf8"),
+    not_well_formed!(UnknownField, "V16 UnknownField"),
     (LoadFault::OutOfMemory, "L4 OutOfMemory"),
     (LoadFault::TooLong, "L5 TooLong"),
     (LoadFault::TooMuchShared, "L6 TooMuchShared"),

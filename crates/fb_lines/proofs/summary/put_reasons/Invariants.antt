@@ -1,12 +1,13 @@
 use Rattle.std.proofs.Common.{◌≡◌, ◌+◌, ◌*◌, ◌≤◌, drop, length}
+use Rattle.fb_rules.specs.Reasons.{reason_count}
 use Rattle.fb_lines.specs.Sums.{reasons_from}
 use Rattle.fb_lines.proofs.summary.put_reasons.Given as goal
 
 abbrev pub invariant-loop-place : goal.invariant-loop-place
 invariant-loop-place l = record {
-  within : l.place ≤ 13;
+  within : l.place ≤ reason_count;
   text : l.line ≡ reasons_from l.form (l.place + 1) (drop l.place l.counts) l.initial.line;
-  short : length l.line + 27 * l.place ≤ 501;
+  short : length l.line + 27 * l.place ≤ 582;
 }
 
 abbrev pub decreases-loop-place : goal.decreases-loop-place

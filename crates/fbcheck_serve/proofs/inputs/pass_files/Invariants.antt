@@ -1,4 +1,5 @@
 use Rattle.std.proofs.Common.{◌≡◌, ◌++◌, ◌+◌, ◌<◌, ◌≤◌, ◌^◌, List, Option, drop, length, map, string_bytes, ℕ}
+use Rattle.fb_rules.specs.Reasons.{reason_count}
 use Rattle.fb_lines.specs.Job.{Serves, job_of}
 use Rattle.fbcheck_serve.specs.Inputs.{PassesAll, at_first, folder_of, seen_of, with_label, stand, are_named}
 use Rattle.fbcheck_serve.specs.declared.inputs.Standard.TheVariants.{Unread}
@@ -12,7 +13,7 @@ invariant-loop-name g l = record {
       (at_first (seen_of g.S.Input g.S.Explains g.K.Sink g.N.Sink l.initial.reader l.initial.writer l.initial.notes)) (stand (seen_of g.S.Input g.S.Explains g.K.Sink g.N.Sink l.reader l.writer l.notes) l.course);
   job : (label : Option (List ℕ)) × (job_of l.schema l.options ≡ with_label label (job_of l.schema l.initial.options));
   serves : Serves l.schema l.options;
-  places : length l.course.tally.reasons ≡ 13;
+  places : length l.course.tally.reasons ≡ reason_count;
   noted : g.N.Sink.calls l.notes < 2 ^ 98;
   unread : l.course.standard ≡ Unread → l.reader ≡ l.initial.reader;
   turns : g.S.Input.calls l.reader ≤ g.S.Input.calls l.initial.reader + 4294967296;
