@@ -5,7 +5,7 @@ use crate::tests::unions::{Q, unions};
 use fb_bytes::Meter;
 use fb_schema::Schema;
 use fb_strict::{
-    Demands,     Plan, Room, most_reads_strictly, verify_strictly, verify_strictly_and_locate,
+    Demands, Plan, Room, most_reads_strictly, verify_strictly, verify_strictly_and_locate,
     verify_strictly_shallow,
 };
 use fb_verify::{Checks, Fault, Ident, Limits, Link, Located, Reason, Report, Scratch, Start};
