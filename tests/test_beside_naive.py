@@ -8,9 +8,8 @@ from tests.support import buffers, schemas
 from tests.support.builder import buffer, prefixed
 from tests.support.cases import Case
 from tests.support.every_kind import FILE, LITTLE, OBJECTS, OPTIONS, UNION, WHOLE, variants, words_of
-from tests.support.header import Reason
 from tests.support.json_lines import names_of, read, said
-from tests.support.naive import Reader, Schema, Walk
+from tests.support.naive import NAMES, Reader, Schema, Walk
 from tests.support.program import UNSCHEMED, Ran, file_of, lines, run
 from tests.support.schemas import an_object, field, table
 
@@ -118,7 +117,7 @@ class BesideNaive(Case):
                 told += self.told_alike(f"{which}, {options}", BY_ALL, (ALL, 0), given, options)
             self.holds(f"{which}: the buffer itself is good", Walk(ALL, 0, prefixed(data)).verdict().startswith("ok"))
         self.same("each reason, but for a prefix that no message of a stream has", reasons_of(told),
-                  [f"V{number}" for number in Reason if number != Reason.WRONG_PREFIX])
+                  [code for code in NAMES if code != "V1"])
 
     def test_every_budget_of_reads(self):
         """The buffer with all fields, within each budget up to what it costs."""

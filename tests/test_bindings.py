@@ -28,6 +28,7 @@ from tests.support.builder import buffer, changed, messages_of, prefixed
 from tests.support.every_kind import FILE, LITTLE, OPTIONS, PLACE, WHOLE, variants, words_of
 from tests.support.header import Reason
 from tests.support.library import OUT, LibraryCase, ran
+from tests.support.naive import NAMES
 from tests.support.program import FOLDER, TOP, file_of, run
 from tests.support.schemas import INT, TEXT, U_BYTE, a_union, an_object, field, schema, table, union
 from tests.support.tools import jdk_of_22, node_headers, there
@@ -124,7 +125,7 @@ class Binding:
             self.same(f"{command}: lines that differ", [pair for pair in pairs if pair[0] != pair[1]][:3], [])
             self.same(f"{command}: how many", got.count("\n"), want.count("\n"))
         seen = set(re.findall(r"bad V(\d+)", "".join(wanted)))
-        self.same("reasons", sorted(map(int, seen)), [*Reason][1:])
+        self.same("reasons", sorted(map(int, seen)), [*Reason][1 : len(NAMES)])
 
     def test_single_messages(self):
         """A message wherever its bytes are: good and bad ones, none, a long one, and one with a wrong prefix."""

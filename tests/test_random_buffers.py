@@ -12,10 +12,9 @@ import re
 from tests.support import schemas
 from tests.support.builder import prefixed
 from tests.support.every_kind import words_of
-from tests.support.header import Reason
 from tests.support.library import LibraryCase, module
 from tests.support.many import each
-from tests.support.naive import Reader, Schema, Walk
+from tests.support.naive import NAMES, Reader, Schema, Walk
 from tests.support.paths import names_in, text_of, told, ways
 from tests.support.program import FOLDER, run
 from tests.support.random_buffers import Builder, damaged
@@ -24,7 +23,7 @@ from tests.support.told import line
 from tests.support.told import text_of as value_text
 
 SEEDS, SCHEMAS, BUFFERS = range(100, 140), 53, 100
-CODES = [f"V{number}" for number in Reason]
+CODES = [*NAMES]
 PYTHON = None
 
 

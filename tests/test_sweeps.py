@@ -13,6 +13,7 @@ from tests.support.beside import Beside
 from tests.support.header import Reason
 from tests.support.library import LibraryCase, module
 from tests.support.many import each
+from tests.support.naive import NAMES
 from tests.support.random_rows import Random
 from tests.support.swept import SCHEMAS, SWEPT
 
@@ -128,7 +129,7 @@ class Sweeps(LibraryCase):
             self.holds(f"{name}, {CHECKS[checks]}: of each answer some", some, counts)
         self.holds("there are 700,000 buffers", sums.total() >= 700_000, sums)
         self.holds("each reason is there, but for those of limits and of an identifier",
-                   set(sums) == {0, *Reason} - {5, 6, 7}, sums)
+                   set(sums) == {0, *[*Reason][: len(NAMES)]} - {5, 6, 7}, sums)
 
     def test_every_budget(self):
         for name, wrong in zip(SWEPT, each(of_budgets, SWEPT)):
