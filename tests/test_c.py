@@ -153,7 +153,7 @@ class LibraryForC(LibraryCase):
                       {one.name: int(one) for one in names})
         page = (TOP / "docs/REFERENCE.md").read_text()
         for code, name in re.findall(r"`V(\d+) (\w+)`", page.split("## Reasons")[1].split("\n## ")[0]):
-            self.same(f"V{code}", told["_".join(re.findall(r"[A-Z][a-z]+", name)).upper()], int(code))
+            self.same(f"V{code}", told["_".join(re.findall(r"[A-Z][a-z0-9]+", name)).upper()], int(code))
 
     def test_verdicts(self):
         """Those of the program, on every buffer, by the shared library and by the static one under the sanitizers: of
