@@ -1,11 +1,12 @@
 -- A whole buffer is asked: its length, and then its root table.
-use Rattle.std.proofs.Common.{◌≡◌, ℕ, ◌+◌, ◌≤◌, List, [], ◌∷◌, length, Option, Some, None, Result, Ok, Err, Bool, true, false, if◌then◌else◌, refl, sym, subst, ◌∙◌, arith}
+use Rattle.std.proofs.Common.{◌≡◌, ℕ, ◌+◌, ◌≤◌, List, [], ◌∷◌, length, Option, Some, None, Result, Ok, Err, Bool, true, false, if◌then◌else◌, ap, refl, sym, subst, ◌∙◌, arith}
+use Rattle.std.specs.Prelude.{◌||◌}
 use Rattle.fb_bytes.specs.Word.{Lent}
 use Rattle.fb_schema.specs.{Rows.Rows}
 use Rattle.fb_rules.specs.declared.{fault.Fault.Fault, fault.Reason.Reason, site.Stop.Stop, site.Halt.Halt, site.LastLink.TheVariants.Behind, table.Child.Child}
 use Rattle.fb_rules.specs.{Bounds.AreAllowed, Tree.Tree, Plain.tested_by, Stops.reads_failure, Told.stopped}
 use Rattle.fb_rules.specs.Order.{Failure, after, ◌▷◌}
-use Rattle.fb_strict.specs.{Skipped.IsClosed, Skipped.has_asked, InOrder.length_failure, InOrder.where_asked, Planned.Planned, Planned.IsPlan, Planned.marked, Planned.wants_in}
+use Rattle.fb_strict.specs.{Skipped.IsClosed, Skipped.has_asked, InOrder.length_failure, InOrder.where_asked, Planned.Planned, Planned.IsPlan, Planned.marked, Planned.marked_wants, Planned.wants_in}
 use Rattle.fb_strict.specs.Asked.{Demand, demands_in, demand_fault, demands_reads}
 use Rattle.fb_strict.specs.declared.room.Frame.{Frame}
 use Rattle.fb_strict.specs.Passing.{Passing, wants_of, IsNext, IsRooted, Moves, Breaks, GoesOn, Halts, Ran}
@@ -15,25 +16,32 @@ use Rattle.fb_strict.proofs.Moving.{one, onward, breaks}
 use Rattle.fb_strict.proofs.Few.{first_reads}
 
 -- the objects that a plan asks are closed
-pub plan_closed : (S : Rows) (p : Planned) → IsPlan S p.demands p → IsClosed (wants_in p) S
-plan_closed S p h k unasked = by (has_asked (wants_in p) S k) refl
-  where
-    by : (x : Bool) → has_asked (wants_in p) S k ≡ x → has_asked (wants_in p) S k ≡ false
-    by false is = is
-    by true is = absurd (let is-asked = (h.asked k).1 (reaches p.demands S (marked p.marks) (λ k m. (h.asked k).0 m) k is) in let w : false ≡ true = sym unasked ∙ is-asked in cc)
+module _ (S : Rows) (p : Planned) (h : IsPlan S p.demands p) where
+  unmarked : (k : ℕ) → marked p.marks k ≡ false → (x : Bool) → has_asked (marked_wants p.demands p.marks) S k ≡ x → x ≡ false
+  unmarked k none false is = refl
+  unmarked k none true is = absurd (let m = (h.asked k).1 (reaches p.demands S (marked p.marks) (λ j a. (h.asked j).0 a) k is) in let w : false ≡ true = sym none ∙ m in cc)
+
+  closed_by : (x : Bool) → p.demands.known_fields ≡ x → (k : ℕ) → (x || marked p.marks k) ≡ false → (x ≡ false) × (has_asked (wants_in p) S k ≡ false)
+  closed_by true is k none = absurd (let w : true ≡ false = none in cc)
+  closed_by false is k none =
+      let same : wants_in p ≡ marked_wants p.demands p.marks = λ i. record { demands = p.demands; asks = λ j. is i || marked p.marks j } in
+      (refl, ap (λ w. has_asked w S k) same ∙ unmarked k none (has_asked (marked_wants p.demands p.marks) S k) refl)
+
+  pub plan_closed : IsClosed (wants_in p) S
+  plan_closed k none = let c = closed_by p.demands.known_fields refl k none in (c.0, c.1)
 
 module _ (p : Passing) (m : Lent) (allowed : AreAllowed (p.limits).reads m.count) (root : Child) where
   abbrev pub length_demand : Demand
-  length_demand = record { links = []; object = root.object; field = None; at = length m.bytes; reads = 0; chain = where_asked (p.plan).demands.unions (length_failure m.bytes) }
+  length_demand = record { links = []; object = root.object; field = None; at = length m.bytes; reads = 0; chain = where_asked (p.plan).demands.unions (length_failure m.bytes); inner = None }
 
   abbrev pub rest_of : Tree → List Demand
   rest_of y = if (wants_of p).asks root.object then demands_in y (wants_of p) p.checks m.bytes p.rows [] else []
 
   -- the length is enough
-  long : where_asked (p.plan).demands.unions (length_failure m.bytes) ≡ None → (ds : List Demand) → Moves p.limits m.count (length_demand ∷ ds) m.count ds
+  pub long : where_asked (p.plan).demands.unions (length_failure m.bytes) ≡ None → (ds : List Demand) → Moves p.limits m.count (length_demand ∷ ds) m.count ds
   long chain ds =
       let same : m.count + 0 ≡ m.count = omega arith in
-      subst (λ n. Moves p.limits m.count (length_demand ∷ ds) n ds) same (one p.limits m.count length_demand ds chain (subst (AreAllowed (p.limits).reads) (sym same) allowed))
+      subst (λ n. Moves p.limits m.count (length_demand ∷ ds) n ds) same (one p.limits m.count length_demand ds refl chain (subst (AreAllowed (p.limits).reads) (sym same) allowed))
 
   pub quiet : where_asked (p.plan).demands.unions (length_failure m.bytes) ≡ None → (wants_of p).asks root.object ≡ false → (new : Lent) → new ≡ m → (y : Tree) → GoesOn p m new (length_demand ∷ rest_of y) []
   quiet chain unasked new same y = rw (unasked, same) (record { moves = long chain []; grows = omega arith; same = refl })

@@ -8,10 +8,13 @@ use Rattle.fb_verify.specs.Sealed.{Sealed, asked_of}
 use Rattle.fb_verify.specs.declared.links.Located.{Located}
 use Rattle.fb_strict.specs.declared.strictly.VerifiedStrictly.{VerifiedStrictly}
 use Rattle.fb_strict.specs.{Planned.Planned, MostReads.most_reads_strictly}
-use Rattle.fb_strict.specs.Strictly.{sealed_by, ReportsStrictly, StopsStrictly, StopsAlongStrictly}
-use Rattle.fb_strict.proofs.Price.{strict_cost_is_bounded, strict_reads_are_bounded}
+use Rattle.fb_strict.specs.Strictly.{sealed_by, ReportsStrictly, HasNoneStrictly, StopsStrictly, StopsAlongStrictly}
+use Rattle.fb_strict.proofs.Bounded.{strict_cost_is_bounded, strict_reads_are_bounded}
 
 module _ (p : Planned) (q : Question) (b : List ℕ) (r : Result VerifiedStrictly Located) (v : Sealed) (kept : v ≡ sealed_by q b v.report) where
+  pub told_none : IfErr r (λ _. HasNoneStrictly p (asked_of v q.ident q.limits) v.bytes) → IfErr r (λ _. HasNoneStrictly p q b)
+  told_none h = subst (λ w. IfErr r (λ _. HasNoneStrictly p (asked_of w q.ident q.limits) w.bytes)) kept h
+
   pub told_no : IfErr r (λ l. StopsStrictly p (asked_of v q.ident q.limits) v.bytes l.fault) → IfErr r (λ l. StopsStrictly p q b l.fault)
   told_no h = subst (λ w. IfErr r (λ l. StopsStrictly p (asked_of w q.ident q.limits) w.bytes l.fault)) kept h
 

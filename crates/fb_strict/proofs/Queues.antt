@@ -1,9 +1,9 @@
 -- The queue of the objects that are marked, and the marks once each of them was followed.
 use Rattle.std.proofs.Common.{◌≡◌, ◌⊎◌, inl, inr, ℕ, zero, suc, ◌+◌, ◌<◌, ◌≤◌, List, [], ◌∷◌, ◌++◌, length, length-append, replicate, slice_get, get_or, Option, Some, None, Bool, true, false, not, cond, sym, ◌∙◌, ap, subst, refl, arith}
 use Rattle.std.specs.List.{list_any, count_by}
-use Rattle.std.specs.Prelude.{◌||◌}
+use Rattle.std.specs.Prelude.{◌||◌, is_some}
 use Rattle.fb_strict.proofs.Lists.{or_by, or_first, or_later}
-use Rattle.fb_strict.specs.declared.demands.Demands.{Demands}
+use Rattle.fb_strict.specs.Demanded.{Demanded, flags, held_of}
 use Rattle.std.proofs.Math.ListN.{set}
 use Rattle.std.proofs.lemmas.{List.length-set, List.length-replicate, List.Sums.sum_by-set, Option.slice_get_within, Option.slice_get-get_or, Bool.cases_lt, Bool.cases_Bool}
 use Rattle.fb_schema.specs.declared.kinds.Kind.{Kind}
@@ -11,9 +11,9 @@ use Rattle.fb_schema.specs.declared.kinds.Kind.TheVariants.{Scalar, Text, Struct
 use Rattle.fb_schema.specs.{Rows.Rows, Rows.is_table, Live.Live, Live.live_fields, Members.member_of}
 use Rattle.fb_strict.specs.declared.leads.Edge.{Edge}
 use Rattle.fb_strict.specs.Leading.{MemberLeads, KindLeads, LeadAmong, IsOn, IsFrom, AreLeads}
-use Rattle.fb_strict.specs.Marking.{IsQueue, NoneMarked, Grew, Spread, OwnMarked}
+use Rattle.fb_strict.specs.Marking.{IsQueue, NoneMarked, Grew, Spread, AreClosed, OwnMarked}
 use Rattle.fb_strict.specs.{Planned.marked, Planned.marked_wants, Planned.AreFounded}
-use Rattle.fb_strict.specs.Skipped.{Wants, is_member_asked, some_member, is_kind_asked, has_asked, IsClosed, ReachesDemand}
+use Rattle.fb_strict.specs.Skipped.{Wants, is_member_asked, some_member, is_kind_asked, has_held, has_asked, ReachesDemand}
 use Rattle.fb_strict.proofs.Marks.{no_fields, past_all, before, last, reaches}
 use Rattle.fb_strict.proofs.Leading.{none_on, first_or_later}
 
@@ -114,7 +114,7 @@ module _ (marks : List Bool) (queue : List ℕ) (q : IsQueue marks queue) (objec
 
 -- the objects of which something is demanded by themselves
 
-module _ (D : Demands) (S : Rows) where
+module _ (D : Demanded) (S : Rows) where
   none_asked : (k : ℕ) → marked [] k ≡ true → ReachesDemand D S k
   none_asked k h = absurd (grind arith)
 
@@ -158,7 +158,7 @@ module _ (D : Demands) (S : Rows) where
     own_all most = record { queued = h.queued; long = h.long; founded = h.founded; all = λ k lt asked. h.all k (omega (arith, lt, most)) asked }
 
   pub none_own : (k : ℕ) → is_table S k ≡ false → has_asked (marked_wants D []) S k ≡ false
-  none_own k isnt = ap (list_any (λ (f : Live). is_kind_asked (marked_wants D []) S f.kind)) (no_fields S k isnt)
+  none_own k isnt = ap (λ fs. list_any (λ (f : Live). is_kind_asked (marked_wants D []) S f.kind) fs || list_any (λ (f : Live). is_some (held_of D k f)) fs) (no_fields S k isnt)
 
 -- the chain of an object is followed to this place
 pub record Followed (edges : List Edge) (top : ℕ) (marks : List Bool) (queue : List ℕ) (marks' : List Bool) (queue' : List ℕ) (p : ℕ) : Type 0 where
@@ -189,7 +189,7 @@ module _ (edges : List Edge) (top : ℕ) (marks : List Bool) (queue : List ℕ) 
 
 -- what is asked
 
-module _ (D : Demands) (S : Rows) (asks : ℕ → Bool) where
+module _ (D : Demanded) (S : Rows) (asks : ℕ → Bool) where
   abbrev w : Wants
   w = record { demands = D; asks = asks }
 
@@ -214,12 +214,12 @@ module _ (D : Demands) (S : Rows) (asks : ℕ → Bool) where
   no_more_member e n zero is none isnt = absurd (omega (arith, is))
   no_more_member e n (suc more) is none isnt = let same : more ≡ n = omega (arith, is) in rw (same, none, isnt) refl
 
-  -- a member that is asked is a table that is
-  member_by : (o : Option Kind) → is_member_asked w o ≡ true → (t : ℕ) × (asks t ≡ true) × (o ≡ Some (Table t))
-  member_by (Some (Table k)) h = (k, h, refl)
+  -- a member is asked by itself, or is a table that is
+  member_by : (o : Option Kind) → is_member_asked w o ≡ true → (is_member_asked own o ≡ true) ⊎ ((t : ℕ) × (asks t ≡ true) × (o ≡ Some (Table t)))
+  member_by (Some (Table k)) h = inr (k, h, refl)
   member_by None h = absurd (grind arith)
   member_by (Some (Scalar s)) h = absurd (grind arith)
-  member_by (Some Text) h = absurd (grind arith)
+  member_by (Some Text) h = inl h
   member_by (Some (Struct k)) h = absurd (grind arith)
   member_by (Some (Union e)) h = absurd (grind arith)
   member_by (Some (Scalars s)) h = absurd (grind arith)
@@ -228,12 +228,18 @@ module _ (D : Demands) (S : Rows) (asks : ℕ → Bool) where
   member_by (Some (Tables k)) h = absurd (grind arith)
   member_by (Some (Unions e)) h = absurd (grind arith)
 
-  some_by : (e n : ℕ) → some_member w S e n ≡ true → (t : ℕ) × (asks t ≡ true) × MemberLeads S e n t
+  some_by : (e n : ℕ) → some_member w S e n ≡ true → (some_member own S e n ≡ true) ⊎ ((t : ℕ) × (asks t ≡ true) × MemberLeads S e n t)
   unfolding some_member
   some_by e zero h = absurd (grind arith)
   some_by e (suc n) h = elim (or_by (is_member_asked w (member_of S e n)) (some_member w S e n) h) [
-    | inl here ↦ (let m = member_by (member_of S e n) here in (m.0, m.1, (n, omega arith, m.2)))
-    | inr more ↦ (let m = some_by e n more in (m.0, m.1, ((m.2).0, omega (arith, (m.2).1), (m.2).2)))
+    | inl here ↦ elim (member_by (member_of S e n) here) [
+      | inl itself ↦ inl (or_first (is_member_asked own (member_of S e n)) (some_member own S e n) itself)
+      | inr m ↦ inr (m.0, m.1, (n, omega arith, m.2))
+    ]
+    | inr more ↦ elim (some_by e n more) [
+      | inl itself ↦ inl (or_later (is_member_asked own (member_of S e n)) (some_member own S e n) itself)
+      | inr m ↦ inr (m.0, m.1, ((m.2).0, omega (arith, (m.2).1), (m.2).2))
+    ]
   ]
 
   union_by : (e : ℕ) (x : Bool) → D.unions ≡ x → (D.unions || some_member w S e 256) ≡ true
@@ -241,11 +247,11 @@ module _ (D : Demands) (S : Rows) (asks : ℕ → Bool) where
   union_by e true is h = inl (or_first D.unions (some_member own S e 256) is)
   union_by e false is h = elim (or_by D.unions (some_member w S e 256) h) [
     | inl does ↦ inl (or_first D.unions (some_member own S e 256) does)
-    | inr more ↦ (let m = some_by e 256 more in inr (m.0, m.1, (is, m.2)))
+    | inr more ↦ elim (some_by e 256 more) [ inl itself ↦ inl (or_later D.unions (some_member own S e 256) itself) | inr m ↦ inr (m.0, m.1, (is, m.2)) ]
   ]
 
   -- a field is asked by itself, or leads to what is
-  kind_by : (kind : Kind) → is_kind_asked w S kind ≡ true → (is_kind_asked own S kind ≡ true) ⊎ ((t : ℕ) × (asks t ≡ true) × KindLeads D S kind t)
+  kind_by : (kind : Kind) → is_kind_asked w S kind ≡ true → (is_kind_asked own S kind ≡ true) ⊎ ((t : ℕ) × (asks t ≡ true) × KindLeads (flags D) S kind t)
   kind_by (Table k) h = inr (k, h, refl)
   kind_by (Tables k) h = inr (k, h, refl)
   kind_by (Union e) h = union_by e D.unions refl h
@@ -258,7 +264,7 @@ module _ (D : Demands) (S : Rows) (asks : ℕ → Bool) where
   kind_by (Structs k) h = inl h
 
   -- one of these fields is
-  asked_by : (fs : List Live) → list_any (λ (f : Live). is_kind_asked w S f.kind) fs ≡ true → (list_any (λ (f : Live). is_kind_asked own S f.kind) fs ≡ true) ⊎ ((t : ℕ) × (asks t ≡ true) × LeadAmong D S fs t)
+  asked_by : (fs : List Live) → list_any (λ (f : Live). is_kind_asked w S f.kind) fs ≡ true → (list_any (λ (f : Live). is_kind_asked own S f.kind) fs ≡ true) ⊎ ((t : ℕ) × (asks t ≡ true) × LeadAmong (flags D) S fs t)
   asked_by [] h = absurd (grind arith)
   asked_by (f ∷ fs) h = elim (or_by (is_kind_asked w S f.kind) (list_any (λ (f : Live). is_kind_asked w S f.kind) fs) h) [
     | inl is ↦ elim (kind_by f.kind is) [
@@ -276,7 +282,7 @@ module _ (D : Demands) (S : Rows) (asks : ℕ → Bool) where
     led_member : (e n value : ℕ) → value < n → member_of S e value ≡ Some (Table t) → some_member w S e n ≡ true
     led_member e n value lt at = has_member e n value lt (ap (is_member_asked w) at ∙ is)
 
-    led_kind : (kind : Kind) → KindLeads D S kind t → is_kind_asked w S kind ≡ true
+    led_kind : (kind : Kind) → KindLeads (flags D) S kind t → is_kind_asked w S kind ≡ true
     led_kind (Table k) h = ap asks (sym h) ∙ is
     led_kind (Tables k) h = ap asks (sym h) ∙ is
     led_kind (Union e) h = or_later D.unions (some_member w S e 256) (led_member e 256 (h.1).0 (h.1).1 (h.1).2)
@@ -288,13 +294,13 @@ module _ (D : Demands) (S : Rows) (asks : ℕ → Bool) where
     led_kind Texts h = absurd h
     led_kind (Structs k) h = absurd h
 
-    led_asked : (fs : List Live) → LeadAmong D S fs t → list_any (λ (f : Live). is_kind_asked w S f.kind) fs ≡ true
+    led_asked : (fs : List Live) → LeadAmong (flags D) S fs t → list_any (λ (f : Live). is_kind_asked w S f.kind) fs ≡ true
     led_asked [] h = absurd h
     led_asked (f ∷ fs) (inl h) = or_first (is_kind_asked w S f.kind) (list_any (λ (f : Live). is_kind_asked w S f.kind) fs) (led_kind f.kind h)
     led_asked (f ∷ fs) (inr h) = or_later (is_kind_asked w S f.kind) (list_any (λ (f : Live). is_kind_asked w S f.kind) fs) (led_asked fs h)
 
 -- the first n objects in the queue were followed
-pub record FollowedFirst (D : Demands) (S : Rows) (lasts : List ℕ) (edges : List Edge) (marks : List Bool) (queue : List ℕ) (n : ℕ) : Type 0 where
+pub record FollowedFirst (D : Demanded) (S : Rows) (lasts : List ℕ) (edges : List Edge) (marks : List Bool) (queue : List ℕ) (n : ℕ) : Type 0 where
   pub queued : IsQueue marks queue
   pub long : length marks ≡ length S.objects
   pub founded : AreFounded D S marks
@@ -302,7 +308,7 @@ pub record FollowedFirst (D : Demands) (S : Rows) (lasts : List ℕ) (edges : Li
   pub led : (i t : ℕ) → i < n → slice_get queue i ≡ Some t → (k : ℕ) → IsFrom lasts edges k t → marked marks k ≡ true
   pub low : n ≤ length queue
 
-module _ (D : Demands) (S : Rows) (lasts : List ℕ) (edges : List Edge) (leads : AreLeads D S lasts edges) where
+module _ (D : Demanded) (S : Rows) (lasts : List ℕ) (edges : List Edge) (leads : AreLeads (flags D) S lasts edges) where
   pub first_none : (marks : List Bool) (queue : List ℕ) → OwnMarked D S (length S.objects) marks queue → FollowedFirst D S lasts edges marks queue 0
   first_none marks queue u = record {
     queued = u.queued;
@@ -321,7 +327,7 @@ module _ (D : Demands) (S : Rows) (lasts : List ℕ) (edges : List Edge) (leads 
     pub from_within : (t k : ℕ) → IsFrom lasts edges k t → k < length marks
     from_within t k on = elim (cases_lt k (length S.objects)) [
       | inl lt ↦ subst (λ m. k < m) (sym h.long) lt
-      | inr past ↦ absurd (subst (λ fs. LeadAmong D S fs t) (no_fields S k (past_all S k past)) (leads.only k t on))
+      | inr past ↦ absurd (subst (λ fs. LeadAmong (flags D) S fs t) (no_fields S k (past_all S k past)) (leads.only k t on))
     ]
 
     pub first_more : (t : ℕ) → slice_get queue n ≡ Some t → (marks' : List Bool) (queue' : List ℕ) → Spread (λ k. IsFrom lasts edges k t) marks queue marks' queue' → FollowedFirst D S lasts edges marks' queue' (n + 1)
@@ -330,7 +336,7 @@ module _ (D : Demands) (S : Rows) (lasts : List ℕ) (edges : List Edge) (leads 
       long = s.grew.long ∙ h.long;
       founded = λ k m. elim (s.grew.only k m) [
         | inl was ↦ h.founded k was
-        | inr on ↦ reaches D S (marked marks) h.founded k (led_asked D S (marked marks) t (h.queued.only n t got) (live_fields S k) (leads.only k t on))
+        | inr on ↦ reaches D S (marked marks) h.founded k (or_first _ (has_held D S k) (led_asked D S (marked marks) t (h.queued.only n t got) (live_fields S k) (leads.only k t on)))
       ];
       own = λ k asked. s.grew.kept k (h.own k asked);
       led = λ i u lt at k on. elim (cases_lt i n) [
@@ -348,10 +354,16 @@ module _ (D : Demands) (S : Rows) (lasts : List ℕ) (edges : List Edge) (leads 
       low = (let more = slice_get_within queue' n t (s.grew.ahead n t got) in omega (arith, more));
     }
 
-    pub first_all : length queue ≤ n → IsClosed (marked_wants D marks) S
+    by_field : (k : ℕ) → has_asked (marked_wants D marks) S k ≡ true → (has_asked (marked_wants D []) S k ≡ true) ⊎ ((t : ℕ) × (marked marks t ≡ true) × LeadAmong (flags D) S (live_fields S k) t)
+    by_field k does = elim (or_by (list_any (λ (f : Live). is_kind_asked (marked_wants D marks) S f.kind) (live_fields S k)) (has_held D S k) does) [
+      | inl kinds ↦ elim (asked_by D S (marked marks) (live_fields S k) kinds) [ inl itself ↦ inl (or_first _ (has_held D S k) itself) | inr led ↦ inr led ]
+      | inr held ↦ inl (or_later _ (has_held D S k) held)
+    ]
+
+    pub first_all : length queue ≤ n → AreClosed D S marks
     first_all most k un = elim (cases_Bool (has_asked (marked_wants D marks) S k)) [
       | inr isnt ↦ isnt
-      | inl does ↦ absurd (elim (asked_by D S (marked marks) (live_fields S k) does) [
+      | inl does ↦ absurd (elim (by_field k does) [
         | inl itself ↦ (let w : false ≡ true = sym un ∙ h.own k itself in cc)
         | inr led ↦
             let t = led.0 in

@@ -1,22 +1,24 @@
 -- From the pass to the verdict.
-use Rattle.std.proofs.Common.{◌≡◌, ◌↔◌, ℕ, zero, suc, ◌+◌, Bool, true, false, if◌then◌else◌, take, IsTrue, ◌*◌, ◌^◌, ◌<◌, ◌≤◌, List, [], ◌∷◌, ◌++◌, length, inr, Option, Some, None, option_map, Result, Ok, Err, refl, sym, ap, subst, ◌∙◌, arith, mul-le-mul_left, mul-le-mul_right}
+use Rattle.std.proofs.Common.{◌≡◌, ℕ, zero, suc, ◌+◌, Bool, true, false, if◌then◌else◌, take, IsTrue, ◌*◌, ◌^◌, ◌<◌, ◌≤◌, List, [], ◌∷◌, ◌++◌, length, Option, Some, None, option_map, Result, Ok, Err, refl, sym, ap, subst, ◌∙◌, arith, mul-le-mul_left, mul-le-mul_right}
 use Rattle.std.proofs.lemmas.List.{append-nil}
 use Rattle.fb_bytes.specs.Word.{Lent}
-use Rattle.fb_rules.specs.declared.{fault.Fault.Fault, fault.Report.Report, site.Halt.Halt, site.LastLink.LastLink, site.LastLink.TheVariants.Behind, site.LastLink.TheVariants.InField, table.Child.Child, link.Link.Link}
+use Rattle.fb_rules.specs.declared.{fault.Fault.Fault, fault.Report.Report, site.Halt.Halt, site.LastLink.LastLink, site.LastLink.TheVariants.Behind, site.LastLink.TheVariants.InField, table.Child.Child}
 use Rattle.fb_rules.specs.{Bounds.Bounds, Bounds.AreAllowed, Question.Question, Tree.Tree, Tree.size, Tree.depth, Places.target}
-use Rattle.fb_rules.specs.{Verdict.Reports, Verdict.HasNone}
+use Rattle.fb_rules.specs.{Verdict.Reports}
 use Rattle.fb_rules.specs.WellFormed.{base, IsWellFormed, IsWithin, cost}
 use Rattle.fb_rules.specs.{MostReads.within_budget, MostReads.most_reads}
-use Rattle.fb_schema.specs.{Live.widest, Rows.is_table}
+use Rattle.fb_schema.specs.{Live.widest, Rows.is_table, Served.IsServed}
 use Rattle.fb_verify.specs.Stack.{last_link}
 use Rattle.fb_rules.proofs.{Overruns.one_tree, Price.cost_is_bounded}
-use Rattle.fb_strict.specs.{InOrder.where_asked, InOrder.length_failure, Strict.IsStrictBuffer, Planned.Planned, Planned.IsPlan, Planned.wants_in}
+use Rattle.fb_strict.specs.{InOrder.where_asked, InOrder.length_failure, Planned.Planned, Planned.IsPlan, Planned.wants_in}
 use Rattle.fb_strict.specs.declared.{room.Frame.Frame, strictly.Unmet.Unmet}
 use Rattle.fb_strict.specs.Asked.{Demand, demands_in, demands_of, demands_reads, first_fault, first_links}
 use Rattle.fb_strict.specs.Passing.{Passing, wants_of, frame_links, IsRooted, GoesOn, Halts, Ran}
-use Rattle.fb_strict.specs.Strictly.{strict_cost, limits_left, later, unmet_by, counted_on, Asked, AskedAlone, ReportsStrictly, HasNoneStrictly, StopsStrictly, StopsAlongStrictly}
+use Rattle.fb_strict.specs.Nested.{limits_left, later}
+use Rattle.fb_strict.specs.Strictly.{unmet_by, counted_on, Asked, AskedAlone}
+use Rattle.fb_strict.proofs.Moving.{same_first, same_reads, breaks_first, breaks_along}
 use Rattle.fb_strict.proofs.Few.{first_reads, tree_few}
-use Rattle.fb_strict.proofs.{Asking.demands_tell, Asking.first_tells, Buffers.plan_closed, Shifted.shifted, Shifted.same_links}
+use Rattle.fb_strict.proofs.{Shifted.shifted, Shifted.same_links}
 
 pub nothing_first : (L : Bounds) (n : ℕ) → first_fault L n [] ≡ None
 unfolding first_fault
@@ -24,12 +26,12 @@ nothing_first L n = refl
 
 -- a pass of a buffer of which nothing was read before
 pub alone_yes : (p : Passing) (m new : Lent) (ds : List Demand) → m.count ≡ 0 → GoesOn p m new ds [] → (frames : List Frame) → AskedAlone p.plan p.checks m.bytes p.rows p.limits ds frames (Ok new.count)
-alone_yes p m new ds none h frames = (rw (none, append-nil ds) at ((h.moves).same []) ∙ nothing_first p.limits new.count, omega (arith, (h.moves).reads, none))
+alone_yes p m new ds none h frames = (rw (none, append-nil ds) at (same_first p.limits h.moves []) ∙ nothing_first p.limits new.count, omega (arith, same_reads p.limits h.moves, none))
 
 pub alone_no : (p : Passing) (m new : Lent) (ds : List Demand) (frames : List Frame) (h : Halt) → m.count ≡ 0 → Halts p m new ds frames h → AskedAlone p.plan p.checks m.bytes p.rows p.limits ds frames (Err (unmet_by h new.count))
 alone_no p m new ds frames h none s = record {
-  first = rw (none, append-nil ds) at ((s.breaks).first []);
-  along = rw (none, append-nil ds) at ((s.breaks).along []);
+  first = rw (none, append-nil ds) at (breaks_first p.limits s.breaks []);
+  along = rw (none, append-nil ds) at (breaks_along p.limits s.breaks []);
   linked = s.linked;
   within = s.within;
 }
@@ -83,35 +85,6 @@ module _ (p : Planned) (q : Question) (b : List ℕ) where
     pub same_tree : (y z : Tree) → IsWellFormed q b y → IsWellFormed q b z → y ≡ z
     same_tree y z h i = one_tree q.checks b q.rows y z q.root (target b (base q.start)) h.unfolds i.unfolds
 
-    pub tells : (y : Tree) → IsWellFormed q b y → AreAllowed (q.limits).reads (cost q b y)
-        → (first_fault q.limits (cost q b y) (asked y) ≡ None) ↔ (IsStrictBuffer p.demands q.checks b q.rows y × AreAllowed (q.limits).reads (strict_cost p q b y))
-    tells y h a =
-        let f = first_tells q.limits (asked y) (cost q b y) a in
-        let d = demands_tell (wants_in p) q.rows (plan_closed q.rows p plan) y q.checks b q.root (target b (base q.start)) h.unfolds in
-        ((λ e. let r = f.0 e in (d.0 r.0, r.1)), (λ h. f.1 (d.1 h.0, h.1)))
-
-    pub says_yes : (walk : Report) (r : Reports q b walk) (n : ℕ) (frames : List Frame) → Asked p q b r.found frames (Ok n) → ReportsStrictly p q b (record { tables = walk.tables; depth = walk.depth; reads = n })
-    says_yes walk r n frames h =
-        let t = (tells r.found r.well_formed (r.within).reads).0 h.0 in
-        record { found = r.found; well_formed = r.well_formed; within = r.within; strict = t.0; paid = t.1; tables = r.tables; depth = r.depth; reads = h.1 }
-
-    pub says_no : (walk : Report) (r : Reports q b walk) (u : Unmet) (frames : List Frame) → Asked p q b r.found frames (Err u) → StopsStrictly p q b u.fault
-    says_no walk r u frames h = inr (record { found = r.found; well_formed = r.well_formed; within = r.within; first = h.first })
-
-    pub says_along : (walk : Report) (r : Reports q b walk) (u : Unmet) (frames : List Frame) (links : List Link) → Asked p q b r.found frames (Err u) → links ≡ frame_links (wants_in p) b q.rows frames u.links ++ last_link u.last u.fault
-        → StopsAlongStrictly p q b u.fault links
-    says_along walk r u frames links h put = inr (record { found = r.found; well_formed = r.well_formed; within = r.within; first = h.first; along = put ∙ sym h.along })
-
-    pub says_none : (walk : Report) (r : Reports q b walk) (u : Unmet) (frames : List Frame) → Asked p q b r.found frames (Err u) → HasNoneStrictly p q b
-    says_none walk r u frames h y wf in-limits strict paid =
-        let none = (tells y wf (in-limits).reads).1 (strict, paid) in
-        let same = same_tree y r.found wf r.well_formed in
-        let some : first_fault q.limits (cost q b y) (asked y) ≡ Some u.fault = rw same h.first in
-        cc
-
-    pub none_at_all : HasNone q b → HasNoneStrictly p q b
-    none_at_all h y wf in-limits strict paid = h y wf in-limits
-
     -- a buffer that the walk took, which may be asked with what it left
     module _ (walk : Report) (r : Reports q b walk) (y : Tree) (wf : IsWellFormed q b y) where
       same : r.found ≡ y
@@ -138,7 +111,7 @@ module _ (p : Planned) (q : Question) (b : List ℕ) where
 
 -- Counts that 128 bits hold.
 
-few_reads : (tables wide len : ℕ) → tables < 2 ^ 32 → wide < 2 ^ 32 → len < 2 ^ 31 → 4 + tables * (4 + wide * (8 + len)) ≤ 2 ^ 96
+pub few_reads : (tables wide len : ℕ) → tables < 2 ^ 32 → wide < 2 ^ 32 → len < 2 ^ 31 → 4 + tables * (4 + wide * (8 + len)) ≤ 2 ^ 112
 few_reads tables wide len t w l =
     let one : wide * (8 + len) ≤ 2 ^ 32 * (8 + len) = mul-le-mul_right (8 + len) (omega (arith, w)) in
     let two : tables * (4 + wide * (8 + len)) ≤ tables * (2 ^ 63 + 2 ^ 36) = mul-le-mul_left tables (omega (arith, one, l)) in
@@ -148,17 +121,17 @@ pub least_of : (o : Option ℕ) (n : ℕ) → within_budget o n ≤ n
 least_of None n = omega arith
 least_of (Some most) n = omega arith
 
-pub walk_few : (q : Question) (b : List ℕ) (y : Tree) → IsWellFormed q b y → IsWithin q b y → (q.limits).tables < 2 ^ 32 → widest q.rows < 2 ^ 32 → length b < 2 ^ 31 → cost q b y ≤ 2 ^ 96
+pub walk_few : (q : Question) (b : List ℕ) (y : Tree) → IsWellFormed q b y → IsWithin q b y → (q.limits).tables < 2 ^ 32 → widest q.rows < 2 ^ 32 → length b < 2 ^ 31 → cost q b y ≤ 2 ^ 112
 unfolding most_reads
 walk_few q b y h w t wide l =
     let c = cost_is_bounded q b y h w in
     omega (arith, c, least_of (q.limits).reads (4 + (q.limits).tables * (4 + widest q.rows * (8 + length b))), few_reads (q.limits).tables (widest q.rows) (length b) t wide l)
 
 -- and so are those of the pass
-few_demands : (size wide len n : ℕ) → size < 2 ^ 32 → wide < 2 ^ 32 → len < 2 ^ 31 → n ≤ (3 + wide * (8 + len)) * size → n ≤ 2 ^ 96
-few_demands size wide len n t w l h =
-    let one : wide * (8 + len) ≤ 2 ^ 32 * (8 + len) = mul-le-mul_right (8 + len) (omega (arith, w)) in
-    let two : (3 + wide * (8 + len)) * size ≤ (2 ^ 63 + 2 ^ 36) * size = mul-le-mul_right size (omega (arith, one, l)) in
+few_demands : (size len n : ℕ) → size < 2 ^ 32 → len < 2 ^ 31 → n ≤ (3 + len + 32766 * ((8 + len) * (8 + len))) * size → n ≤ 2 ^ 112
+few_demands size len n t l h =
+    let near : (8 + len) * (8 + len) ≤ (2 ^ 31 + 8) * (8 + len) = mul-le-mul_right (8 + len) (omega (arith, l)) in
+    let two : (3 + len + 32766 * ((8 + len) * (8 + len))) * size ≤ 2 ^ 79 * size = mul-le-mul_right size (omega (arith, near, l)) in
     omega (arith, two, t, h)
 
 pub first_few : (x : Bool) (d : Demand) (ds : List Demand) (n : ℕ) → d.reads ≡ 0 → demands_reads ds ≤ n → demands_reads (d ∷ (if x then ds else [])) ≤ n
@@ -166,10 +139,11 @@ first_few true d ds n none h = omega (arith, first_reads d ds, none, h)
 first_few false d ds n none h = omega (arith, first_reads d [], none)
 
 module _ (p : Passing) (b : List ℕ) (room : ℕ) (root : Child) where
-  pub pass_few : (y : Tree) → IsRooted p b room root y → size y < 2 ^ 32 → widest p.rows < 2 ^ 32 → length b < 2 ^ 31 → demands_reads (demands_of (wants_of p) p.checks b p.rows root.object y) ≤ 2 ^ 96
-  pass_few y h s w l =
-      let few = few_demands (size y) (widest p.rows) (length b) (demands_reads (demands_in y (wants_of p) p.checks b p.rows [])) s w l (tree_few (wants_of p) p.checks b p.rows y [] root.object root.at h.unfolds) in
-      first_few ((wants_of p).asks root.object) (record { links = []; object = root.object; field = None; at = length b; reads = 0; chain = where_asked (p.plan).demands.unions (length_failure b) }) (demands_in y (wants_of p) p.checks b p.rows []) (2 ^ 96) refl few
+  pub pass_few : (y : Tree) → IsRooted p b room root y → size y < 2 ^ 32 → IsServed p.rows → length b < 2 ^ 31 → demands_reads (demands_of (wants_of p) p.checks b p.rows root.object y) ≤ 2 ^ 112
+  pass_few y h s served l =
+      let few = few_demands (size y) (length b) (demands_reads (demands_in y (wants_of p) p.checks b p.rows [])) s l (tree_few (wants_of p) p.checks b p.rows 32766 served.few y [] root.object root.at h.unfolds) in
+      let d : Demand = record { links = []; object = root.object; field = None; at = length b; reads = 0; chain = where_asked (p.plan).demands.unions (length_failure b); inner = None } in
+      first_few ((wants_of p).asks root.object) d (demands_in y (wants_of p) p.checks b p.rows []) (2 ^ 112) refl few
 
   -- the root of a buffer that is well formed
   module _ (q : Question) (bytes : List ℕ) (checks : p.checks ≡ q.checks) (same : b ≡ bytes) (rows : p.rows ≡ q.rows) (object : root.object ≡ q.root) (at : root.at ≡ target bytes (base q.start)) where

@@ -8,8 +8,8 @@ pub struct Demands {
     pub unions: bool,
     /// The bytes of a field that are marked to hold a buffer do. Nothing is asked by this yet.
     pub nested: bool,
-    /// Each slot of a vtable that isn't 0 is one of a live field. Nothing is asked by this yet.
+    /// Each slot of a vtable that isn't 0 is one of a live field.
     pub known_fields: bool,
-    /// Each string is UTF-8. Nothing is asked by this yet.
+    /// Each text is UTF-8.
     pub utf8: bool,
 }

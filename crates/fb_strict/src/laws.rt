@@ -1,18 +1,21 @@
 //! Laws of the definitions: each is the contract of a function that does nothing.
 
 ghost use Rattle.fb_strict.specs.Asked.{DemandsLaw, FirstLaw, TasksLaw};
-ghost use Rattle.fb_strict.specs.Laws.{HasOneStrictVerdict, StrictCostIsBounded, StrictIsOk, StrictReadsAreBounded, UnionsLeadInside};
-ghost use Rattle.fb_strict.specs.InOrder.{ElementLaw, InsideLaw, LengthLaw, UnionLaw, UnionsLaw};
+ghost use Rattle.fb_strict.specs.Laws.{AllTextsAreUtf8, HasOneStrictVerdict, NoFieldIsUnknown, StrictCostIsBounded, StrictIsOk, StrictReadsAreBounded, UnionsLeadInside};
+ghost use Rattle.fb_strict.specs.InOrder.{ElementLaw, InsideLaw, LengthLaw, SlotLaw, TextLaw, UnionLaw, UnionsLaw};
+ghost use Rattle.fb_strict.specs.Nested.{ComeToOneEnd, PlainLaw, GoodInside, GoodIsStrict};
 ghost use Rattle.fb_strict.specs.Readers.{ElementsLaw, TablesLaw, ValuesLaw};
 ghost use Rattle.fb_strict.specs.{Skipped.SkipLaw, Planned.OnePlanLaw};
 
 /// A chain of tests finds nothing exactly where what is demanded holds.
-#[tactic(auto, using(crate::proofs::Chains::inside_none, crate::proofs::Chains::union_none, crate::proofs::Chains::element_none))]
+#[tactic(auto, using(crate::proofs::Chains::inside_none, crate::proofs::Chains::union_none, crate::proofs::Chains::element_none, crate::proofs::Chains::text_none, crate::proofs::Chains::slot_none))]
 pub fn chains_tell()
     ensures of_lengths { LengthLaw }
     ensures of_words { InsideLaw }
     ensures of_unions { UnionLaw }
     ensures of_elements { ElementLaw }
+    ensures of_texts { TextLaw }
+    ensures of_slots { SlotLaw }
 {}
 
 /// A vector of unions meets what is demanded exactly where the chains of it and of its offset words find nothing.
@@ -56,7 +59,7 @@ pub fn tasks_are_all()
     ensures { TasksLaw }
 {}
 
-/// A strict ok is an ok: the walk alone reports as many tables, as deep, and no more reads.
+/// A strict ok is an ok: the walk alone reports no more tables, depth and reads.
 pub fn strict_is_ok()
     ensures { StrictIsOk }
 {}
@@ -64,6 +67,16 @@ pub fn strict_is_ok()
 /// In a buffer that is reported strictly where unions are asked, such values and offset words lead inside, wherever a table of its tree stands.
 pub fn unions_lead_inside()
     ensures { UnionsLeadInside }
+{}
+
+/// In a buffer that is reported strictly where texts are asked, each text of its tree is UTF-8.
+pub fn texts_are_utf8()
+    ensures { AllTextsAreUtf8 }
+{}
+
+/// In a buffer that is reported strictly where slots are asked, no table of its tree has a slot of no live field.
+pub fn no_field_is_unknown()
+    ensures { NoFieldIsUnknown }
 {}
 
 /// At most one answer of `verify_strictly` applies to a question: one report, or one fault, and never one of each.
@@ -76,4 +89,22 @@ pub fn one_strict_answer_applies()
 pub fn strict_reads_are_bounded()
     ensures of_yes { StrictCostIsBounded }
     ensures of_no { StrictReadsAreBounded }
+{}
+
+/// What is asked of a buffer with those inside it comes to one end: so much is spent, or a fault is the first, to which
+/// one way leads.
+#[tactic(auto, using(crate::proofs::Nesting::come_to_one_end))]
+pub fn demands_come_to_one_end()
+    ensures { ComeToOneEnd }
+{}
+
+/// Where no buffer is inside, what is asked comes to what a pass over one buffer tells.
+pub fn plain_demands_come_to_the_first()
+    ensures { PlainLaw }
+{}
+
+/// Each buffer inside a good one is good by itself, and so on inwards; and its tree is strict.
+pub fn buffers_inside_are_good()
+    ensures inside { GoodInside }
+    ensures strict { GoodIsStrict }
 {}

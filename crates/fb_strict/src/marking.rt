@@ -2,12 +2,14 @@
 
 ghost use Rattle.std.specs.Prelude.{◌≡◌, ◌↔◌, ◌<◌, ℕ, [], length, true, false, map, OnOk, IfOk};
 ghost use Rattle.fb_schema.specs.Rows.{Rows};
-ghost use Rattle.fb_strict.specs.Skipped.{has_asked, IsClosed};
+ghost use Rattle.fb_strict.specs.Skipped.{has_asked};
 ghost use Rattle.fb_strict.specs.Planned.{marked, marked_wants, AreFounded, AreMarks};
+ghost use Rattle.fb_strict.specs.Demanded.{demanded};
 ghost use Rattle.fb_strict.specs.Leading.{IsChained, IsFrom, AreLeads};
-ghost use Rattle.fb_strict.specs.Marking.{IsQueue, NoneMarked, Spread, OwnMarked};
+ghost use Rattle.fb_strict.specs.Marking.{IsQueue, NoneMarked, Spread, AreClosed, OwnMarked};
 
 use crate::demands::Demands;
+use crate::holding::Holding;
 use crate::leads::Leads;
 use crate::tasks::has_asked;
 use fb_schema::Schema;
@@ -23,13 +25,17 @@ pub struct Marking<A: Allocator> {
 
 /// Whether anything is demanded of a table of this object by itself.
 #[tactic(auto, using(crate::proofs::Queues::none_own))]
-fn has_own(schema: &Schema<'_>, demands: Demands, object: u32) -> bool
-    ensures { result ≡ has_asked (marked_wants demands []) schema.now object }
+fn has_own(schema: &Schema<'_>, demands: Demands, holdings: &[Holding], object: u32) -> bool
+    ensures { result ≡ has_asked (marked_wants (demanded demands holdings.now) []) schema.now object }
 {
     if !schema.is_table(object) {
         return false;
     }
-    has_asked(demands, &[], schema, object)
+    let fields = Demands {
+        known_fields: false,
+        ..demands
+    };
+    has_asked(fields, holdings, &[], schema, object)
 }
 
 impl<A: Allocator + Copy> Marking<A> {
@@ -57,12 +63,17 @@ impl<A: Allocator + Copy> Marking<A> {
     }
 
     /// Marks the objects of which something is demanded by itself, where none is marked yet.
-    fn mark_own(&mut self, schema: &Schema<'_>, demands: Demands) -> Result<(), AllocError>
+    fn mark_own(
+        &mut self,
+        schema: &Schema<'_>,
+        demands: Demands,
+        holdings: &[Holding],
+    ) -> Result<(), AllocError>
         requires { NoneMarked (length schema.now.objects) self.old.marks.items self.old.queue.items }
-        ensures { OnOk result (OwnMarked demands schema.now (length schema.now.objects) self.new.marks.items self.new.queue.items) }
+        ensures { OnOk result (OwnMarked (demanded demands holdings.now) schema.now (length schema.now.objects) self.new.marks.items self.new.queue.items) }
     {
         for object in 0..schema.object_count() {
-            if has_own(schema, demands, object) {
+            if has_own(schema, demands, holdings, object) {
                 self.mark(object)?;
             }
         }
@@ -90,15 +101,16 @@ impl<A: Allocator + Copy> Marking<A> {
         &mut self,
         schema: &Schema<'_>,
         demands: Demands,
+        holdings: &[Holding],
         leads: &Leads<A>,
     ) -> Result<(), AllocError>
         requires leads { AreLeads demands schema.now leads.now.lasts.items leads.now.edges.items }
-        requires own { OwnMarked demands schema.now (length schema.now.objects) self.old.marks.items self.old.queue.items }
-        ensures founded { OnOk result (AreFounded demands schema.now self.new.marks.items) }
-        ensures closed { OnOk result (IsClosed (marked_wants demands self.new.marks.items) schema.now) }
+        requires own { OwnMarked (demanded demands holdings.now) schema.now (length schema.now.objects) self.old.marks.items self.old.queue.items }
+        ensures founded { OnOk result (AreFounded (demanded demands holdings.now) schema.now self.new.marks.items) }
+        ensures closed { OnOk result (AreClosed (demanded demands holdings.now) schema.now self.new.marks.items) }
         ensures long { OnOk result (length self.new.marks.items ≡ length schema.now.objects) }
     {
-        let (_schema, _demands) = (schema, demands);
+        let (_schema, _demands, _holdings) = (schema, demands, holdings);
         let mut passed = 0;
         while passed < self.queue.len() {
             let object = self.queue[passed];
@@ -114,12 +126,13 @@ pub fn marks_of<A: Allocator + Copy>(
     alloc: A,
     schema: &Schema<'_>,
     demands: Demands,
+    holdings: &[Holding],
 ) -> Result<Vec<bool, A>, AllocError>
-    ensures { IfOk result (λ marks. AreMarks demands schema.now marks.items) }
+    ensures { IfOk result (λ marks. AreMarks (demanded demands holdings.now) schema.now marks.items) }
 {
     let leads = Leads::of(alloc, schema, demands)?;
     let mut marking = Marking::new(alloc, schema.object_count() as usize)?;
-    marking.mark_own(schema, demands)?;
-    marking.follow_all(schema, demands, &leads)?;
+    marking.mark_own(schema, demands, holdings)?;
+    marking.follow_all(schema, demands, holdings, &leads)?;
     Ok(marking.marks)
 }

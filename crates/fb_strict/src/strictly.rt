@@ -7,12 +7,15 @@ ghost use Rattle.fb_verify.specs.Sealed.{asked_of};
 ghost use Rattle.fb_strict.specs.{InOrder.where_asked, InOrder.length_failure, Planned.IsPlan, Asked.demands_of, Asked.demands_reads};
 ghost use Rattle.fb_strict.specs.Passing.{wants_of, IsPassing, IsRooted, Ran};
 ghost use Rattle.fb_strict.specs.MostReads.{most_reads_strictly};
-ghost use Rattle.fb_strict.specs.Strictly.{limits_left, counted_on, sealed_by, unmet_by, Asked, AskedAlone, ReportsStrictly, HasNoneStrictly, StopsStrictly};
+ghost use Rattle.fb_strict.specs.Nested.{limits_left};
+ghost use Rattle.fb_strict.specs.Strictly.{counted_on, sealed_by, unmet_by, Asked, AskedAlone, ReportsStrictly, HasNoneStrictly, StopsStrictly};
 
+use crate::levels::{Level, NO_LEVEL, Walker};
 use crate::pass::Pass;
 use crate::plan::Plan;
 use crate::room::{BLANK, Frame, Room};
 use crate::unions::test_length;
+use crate::whole::{OnStack, ask_whole};
 use fb_bytes::{Loan, Meter, Window};
 use fb_rules::checks::Checks;
 use fb_rules::fault::{Fault, Report};
@@ -41,7 +44,7 @@ pub(crate) struct Unmet {
 }
 
 /// Where the root table of a buffer stands that begins so.
-fn root_of(window: &Window<'_>, start: Start) -> u64
+pub(crate) fn root_of(window: &Window<'_>, start: Start) -> u64
     requires offset { base start + 4 ≤ length window.now }
     ensures value { result ≡ target window.now (base start) }
     ensures near { result < 2 ^ 33 }
@@ -54,8 +57,8 @@ fn root_of(window: &Window<'_>, start: Start) -> u64
 }
 
 /// Why a buffer is refused that is shorter than generated code takes, if it is and that is asked: at its end.
-fn refuse_short(asked: bool, loan: &mut Loan<'_>) -> Option<Refusal>
-    requires few { loan.old.count ≤ 2 ^ 100 }
+pub(crate) fn refuse_short(asked: bool, loan: &mut Loan<'_>) -> Option<Refusal>
+    requires few { loan.old.count ≤ 2 ^ 120 }
     ensures none { result ≡ None → where_asked asked (length_failure loan.old.bytes) ≡ None }
     ensures some { IfSome result (λ e. (e.at ≡ length loan.old.bytes) × (tested_by (length loan.old.bytes) loan.old.count (Some e.reason) ≡ after loan.old.count (where_asked asked (length_failure loan.old.bytes)))) }
     ensures same { loan.new ≡ loan.old }
@@ -74,7 +77,7 @@ fn refuse_short(asked: bool, loan: &mut Loan<'_>) -> Option<Refusal>
 }
 
 /// What is left of these limits after so many reads.
-fn left_of(limits: Limits, walked: u128) -> Limits
+pub(crate) fn left_of(limits: Limits, walked: u128) -> Limits
     requires { AreAllowed limits.reads walked }
     ensures { result ≡ limits_left limits walked }
 {
@@ -94,7 +97,7 @@ fn ask_buffer<A: Allocator>(
     requires passing { IsPassing pass.now loan.old.bytes }
     requires allowed { AreAllowed pass.now.limits.reads loan.old.count }
     requires small { length frames.old ≤ 4096 }
-    requires tree { (y : Tree) × IsRooted pass.now loan.old.bytes (length frames.old) root y × (loan.old.count + demands_reads (demands_of (wants_of pass.now) pass.now.checks loan.old.bytes pass.now.rows root.object y) ≤ 2 ^ 96) }
+    requires tree { (y : Tree) × IsRooted pass.now loan.old.bytes (length frames.old) root y × (loan.old.count + demands_reads (demands_of (wants_of pass.now) pass.now.checks loan.old.bytes pass.now.rows root.object y) ≤ 2 ^ 112) }
     ensures { (y : Tree) → IsRooted pass.now loan.old.bytes (length frames.old) root y → Ran pass.now loan.old loan.new (demands_of (wants_of pass.now) pass.now.checks loan.old.bytes pass.now.rows root.object y) frames.new result }
 {
     if let Some(refusal) = refuse_short(pass.plan.demands().unions, loan) {
@@ -138,10 +141,10 @@ fn ask_bytes<A: Allocator>(
 ) -> Result<u128, Unmet>
     requires passing { IsPassing pass.now bytes.now }
     requires small { length frames.old ≤ 4096 }
-    requires tree { (y : Tree) × IsRooted pass.now bytes.now (length frames.old) root y × (demands_reads (demands_of (wants_of pass.now) pass.now.checks bytes.now pass.now.rows root.object y) ≤ 2 ^ 96) }
+    requires tree { (y : Tree) × IsRooted pass.now bytes.now (length frames.old) root y × (demands_reads (demands_of (wants_of pass.now) pass.now.checks bytes.now pass.now.rows root.object y) ≤ 2 ^ 112) }
     ensures asked { (y : Tree) → IsRooted pass.now bytes.now (length frames.old) root y → AskedAlone pass.now.plan pass.now.checks bytes.now pass.now.rows pass.now.limits (demands_of (wants_of pass.now) pass.now.checks bytes.now pass.now.rows root.object y) frames.new result }
-    ensures few_of_yes { IfOk result (λ n. n ≤ 2 ^ 101) }
-    ensures few_of_no { IfErr result (λ u. (u.fault).reads ≤ 2 ^ 101) }
+    ensures few_of_yes { IfOk result (λ n. n ≤ 2 ^ 121) }
+    ensures few_of_no { IfErr result (λ u. (u.fault).reads ≤ 2 ^ 121) }
 {
     let Ok(mut meter) = Meter::new(bytes) else {
         unreachable!()
@@ -157,9 +160,9 @@ fn ask_bytes<A: Allocator>(
 
 /// The same answer after so many reads more.
 fn count_on(walked: u128, answer: Result<u128, Unmet>) -> Result<u128, Unmet>
-    requires walked { walked ≤ 2 ^ 96 }
-    requires few_of_yes { IfOk answer (λ n. n ≤ 2 ^ 101) }
-    requires few_of_no { IfErr answer (λ u. (u.fault).reads ≤ 2 ^ 101) }
+    requires walked { walked ≤ 2 ^ 112 }
+    requires few_of_yes { IfOk answer (λ n. n ≤ 2 ^ 121) }
+    requires few_of_no { IfErr answer (λ u. (u.fault).reads ≤ 2 ^ 121) }
     ensures { result ≡ counted_on walked answer }
 {
     match answer {
@@ -212,39 +215,68 @@ pub(crate) fn ask<A: Allocator>(
     count_on(walked, answer)
 }
 
-/// The strict verdict on a buffer that was verified with this identifier and within these limits.
-fn verdict<'b, 's, 'n, A: Allocator>(
+/// The strict verdict on a buffer that was verified with this identifier and within these limits, and on those inside it,
+/// which are walked in this room.
+fn verdict<'b, 's, 'n, A: Allocator, W: Walker>(
     verified: Verified<'b, 's, 'n>,
     ident: Ident,
     limits: Limits,
     plan: &Plan<A>,
+    walker: &mut W,
     frames: &mut [Frame],
+    levels: &mut [Level],
 ) -> Result<VerifiedStrictly<'b, 's, 'n>, Fault>
     requires plan { IsPlan verified.schema (plan.now).demands plan.now }
     requires reports { Reports (asked_of verified ident limits) verified.bytes verified.report }
     requires short { length verified.bytes < 2 ^ 31 }
     requires table { IsTrue (is_table verified.schema verified.root) }
-    requires room { limits.depth ≤ length frames.old }
-    requires small { length frames.old ≤ 4096 }
+    requires frames { limits.depth ≡ length frames.old }
+    requires levels { limits.depth ≤ length levels.old }
+    requires room { limits.depth ≤ W.room walker.old }
     ensures yes { IfOk result (λ v. ReportsStrictly plan.now (asked_of verified.entry ident limits) (verified.entry).bytes v.report) }
     ensures kept { IfOk result (λ v. v.verified ≡ verified.entry) }
     ensures none { IfErr result (λ _. HasNoneStrictly plan.now (asked_of verified.entry ident limits) (verified.entry).bytes) }
     ensures no { IfErr result (λ f. StopsStrictly plan.now (asked_of verified.entry ident limits) (verified.entry).bytes f) }
+    ensures same { W.room walker.new ≡ W.room walker.old }
 {
-    match ask(&verified, ident, limits, plan, frames) {
-        Ok(reads) => {
-            let report = Report {
-                reads,
-                ..verified.report()
-            };
-            Ok(VerifiedStrictly { verified, report })
-        }
-        Err(unmet) => Err(unmet.fault),
+    match ask_whole(&verified, ident, limits, plan, walker, frames, levels) {
+        Ok(report) => Ok(VerifiedStrictly { verified, report }),
+        Err(fault) => Err(fault),
     }
 }
 
-/// Checks a buffer as [`verify`] does, and then asks of each union in it what code that `flatc` generates relies on, by
-/// the plan of the schema: the reads are counted on within the same limits. The room must have as many levels as the
+/// The same in the frames and the places of a room, of which there are enough.
+fn verdict_in<'b, 's, 'n, A: Allocator, B: Allocator, C: Allocator>(
+    verified: Verified<'b, 's, 'n>,
+    ident: Ident,
+    limits: Limits,
+    plan: &Plan<A>,
+    scratch: &mut Scratch<B>,
+    frames: &mut Vec<Frame, C>,
+    levels: &mut Vec<Level, C>,
+) -> Result<VerifiedStrictly<'b, 's, 'n>, Fault>
+    requires plan { IsPlan verified.schema (plan.now).demands plan.now }
+    requires reports { Reports (asked_of verified ident limits) verified.bytes verified.report }
+    requires short { length verified.bytes < 2 ^ 31 }
+    requires table { IsTrue (is_table verified.schema verified.root) }
+    requires scratch { limits.depth ≤ scratch.old }
+    requires frames { limits.depth ≤ length frames.old.items }
+    requires levels { limits.depth ≤ length levels.old.items }
+    ensures yes { IfOk result (λ v. ReportsStrictly plan.now (asked_of verified.entry ident limits) (verified.entry).bytes v.report) }
+    ensures kept { IfOk result (λ v. v.verified ≡ verified.entry) }
+    ensures none { IfErr result (λ _. HasNoneStrictly plan.now (asked_of verified.entry ident limits) (verified.entry).bytes) }
+    ensures no { IfErr result (λ f. StopsStrictly plan.now (asked_of verified.entry ident limits) (verified.entry).bytes f) }
+    ensures scratch { scratch.new ≡ scratch.old }
+    ensures frames { length frames.new.items ≡ length frames.old.items }
+    ensures levels { length levels.new.items ≡ length levels.old.items }
+{
+    let open = &mut frames[..limits.depth() as usize];
+    verdict(verified, ident, limits, plan, scratch, open, levels)
+}
+
+/// Checks a buffer as [`verify`] does, and then asks what the plan of the schema demands of it, and of each buffer that
+/// its fields hold by the marks: such a buffer is checked by itself, and asked likewise. Tables, depth and reads are
+/// counted on within the same limits, for a text as many reads as it has bytes. The room must have as many levels as the
 /// depth limit says, and serves again after every answer, as the scratch does.
 ///
 /// # Errors
@@ -284,7 +316,15 @@ pub fn verify_strictly<'b, 's, 'n, A: Allocator, B: Allocator, C: Allocator>(
         Ok(verified) => verified,
         Err(fault) => return Err(fault),
     };
-    verdict(verified, ident, limits, plan, &mut room.frames)
+    verdict_in(
+        verified,
+        ident,
+        limits,
+        plan,
+        scratch,
+        &mut room.frames,
+        &mut room.levels,
+    )
 }
 
 /// Checks a buffer as [`verify_strictly`] does, in room for 64 tables on the call's own stack.
@@ -319,5 +359,15 @@ pub fn verify_strictly_shallow<'b, 's, 'n, A: Allocator>(
         Err(fault) => return Err(fault),
     };
     let mut frames = [BLANK; 64];
-    verdict(verified, ident, limits, plan, &mut frames)
+    let mut levels = [NO_LEVEL; 64];
+    let frames = &mut frames[..limits.depth() as usize];
+    verdict(
+        verified,
+        ident,
+        limits,
+        plan,
+        &mut OnStack,
+        frames,
+        &mut levels,
+    )
 }

@@ -1,11 +1,20 @@
 use Rattle.std.proofs.Common.{inl}
 use Rattle.fb_rules.specs.Question.{question}
-use Rattle.fb_strict.proofs.Price.{strict_reads_are_bounded}
-use Rattle.fb_strict.proofs.Locating.{told_no, told_along, price_of_yes, price_of_no}
+use Rattle.fb_strict.proofs.{Bounded.strict_reads_are_bounded, OneVerdict.none_at_all}
+use Rattle.fb_strict.proofs.Locating.{told_none, told_no, told_along, price_of_yes, price_of_no}
 use Rattle.fb_strict.proofs.located.verify_strictly_and_locate.Goals as goal
 use Rattle.fb_strict.proofs.located.verify_strictly_and_locate.Goals.{in-Ok, in-Err}
 
 -- src/located.rt
+pub returns-clause-none : goal.returns-clause-none
+returns-clause-none g c =
+    let a = c.args in
+    let q = question a.schema.now a.root a.start a.ident a.limits a.checks in
+    elim c.match-verify_and_locate.branch [
+      | in-Ok w ↦ rw w.result-is (told_none a.plan.now q a.meter.bytes w.verdict.result w.in-Ok.verified w.in-Ok.ensures.kept w.verdict.ensures.none)
+      | in-Err w ↦ rw w.result-is (none_at_all a.plan.now q a.meter.bytes w.in-Err.ensures.none)
+    ]
+
 pub returns-clause-no : goal.returns-clause-no
 returns-clause-no g c =
     let a = c.args in

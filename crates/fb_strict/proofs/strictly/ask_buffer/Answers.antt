@@ -3,13 +3,30 @@ use Rattle.fb_bytes.specs.Word.{Lent}
 use Rattle.fb_strict.specs.declared.demands.Demands.{Demands}
 use Rattle.fb_strict.specs.Planned.{Planned}
 use Rattle.fb_strict.specs.Asked.{demands_in, demands_of}
-use Rattle.fb_strict.specs.Passing.{Passing, wants_of, IsNext}
-use Rattle.fb_strict.proofs.Buffers.{rest_of, quiet, goes_in, too_short, short_halts, its_next}
+use Rattle.fb_strict.specs.Passing.{Passing, IsNext, wants_of}
+use Rattle.fb_strict.proofs.Buffers.{rest_of, quiet, goes_in, too_short, short_halts, its_next, no_more}
+use Rattle.fb_strict.proofs.Plain.{tree_plain}
 use Rattle.fb_strict.proofs.strictly.ask_buffer.Goals as goal
 
 -- src/strictly.rt
 pub refuse_short-requires : goal.refuse_short-requires
 refuse_short-requires g c = omega (arith, c.requires.tree.2)
+
+pub run-requires-clause-next : goal.run-requires-clause-next
+run-requires-clause-next g c =
+    let p = c.args.pass.now in
+    let m = c.args.loan.now in
+    let root = c.args.root in
+    let y = c.requires.tree.0 in
+    let plan = ap (λ (x : Passing). x.plan) c.pass.view_is in
+    let bytes = ap (λ (x : Lent). x.bytes) c.refuse_short.ensures.same in
+    let count = ap (λ (x : Lent). x.count) c.refuse_short.ensures.same in
+    let more = no_more p m c.requires.allowed root y (sym (rw plan at c.asks.ensures) ∙ c.if-not-asks.false) in (
+      demands_in y (wants_of p) p.checks m.bytes p.rows [],
+      subst (λ b. IsNext p b (length c.args.frames.now) [] root (demands_in y (wants_of p) p.checks m.bytes p.rows [])) (sym bytes) (its_next p m c.requires.allowed root (length c.args.frames.now) y c.requires.tree.1),
+      omega (arith, c.requires.tree.2, more, count),
+      tree_plain (wants_of p) p.checks m.bytes p.rows c.requires.passing.plan.plain y [],
+    )
 
 pub returns-in-Some : goal.returns-in-Some
 returns-in-Some g c y h =

@@ -1,22 +1,11 @@
+use Rattle.std.proofs.Common.{inr}
 use Rattle.fb_verify.specs.Sealed.{asked_of}
-use Rattle.fb_strict.proofs.Verdicts.{says_yes, says_none, says_no}
+use Rattle.fb_strict.proofs.OneVerdict.{bad_has_none}
 use Rattle.fb_strict.proofs.strictly.verdict.Goals as goal
 
 -- src/strictly.rt
-pub returns-in-Ok-clause-yes : goal.returns-in-Ok-clause-yes
-returns-in-Ok-clause-yes g c =
-    let v = c.args.verified in
-    let r = c.requires.reports in
-    rw c.report.ensures.value (says_yes c.args.plan.now (asked_of v c.args.ident c.args.limits) v.bytes c.requires.plan v.report r c.in-Ok.reads c.ask.new.frames (c.in-Ok.ensures.asked r.found r.well_formed))
-
 pub returns-in-Err-clause-none : goal.returns-in-Err-clause-none
-returns-in-Err-clause-none g c =
-    let v = c.args.verified in
-    let r = c.requires.reports in
-    says_none c.args.plan.now (asked_of v c.args.ident c.args.limits) v.bytes c.requires.plan v.report r c.in-Err.unmet c.ask.new.frames (c.in-Err.ensures.asked r.found r.well_formed)
+returns-in-Err-clause-none g c = bad_has_none c.args.plan.now (asked_of c.args.verified c.args.ident c.args.limits) c.args.verified.bytes c.in-Err.fault c.in-Err.ensures.no
 
 pub returns-in-Err-clause-no : goal.returns-in-Err-clause-no
-returns-in-Err-clause-no g c =
-    let v = c.args.verified in
-    let r = c.requires.reports in
-    says_no c.args.plan.now (asked_of v c.args.ident c.args.limits) v.bytes c.requires.plan v.report r c.in-Err.unmet c.ask.new.frames (c.in-Err.ensures.asked r.found r.well_formed)
+returns-in-Err-clause-no g c = inr c.in-Err.ensures.no
