@@ -1,13 +1,15 @@
 """The library for C with demands: beside the plain checker, beside the program, and what is refused."""
 
 import ctypes
+import functools
 import itertools
 
 from tests.support import schemas
 from tests.support.buffers import ORC
 from tests.support.builder import buffer, prefixed
 from tests.support.generated import Kept
-from tests.support.library import SANITIZED, SHARED, STATIC, LibraryCase, module, ran
+from tests.support.library import SANITIZED, SHARED, STATIC, LibraryCase, ran
+from tests.support.library import module as module_anew
 from tests.support.naive import Schema, number_at
 from tests.support.program import TOP, file_of, run
 from tests.support.random_buffers import Builder
@@ -18,6 +20,9 @@ from tests.support.strict_messages import MESSAGES, PREFIXED
 from tests.support.strict_program import DEMANDED, strict_words, words_of_limits
 from tests.support.tools import there
 from tests.test_strict import Made, damaged, mark
+
+# The module once, so that its classes are the same ones everywhere.
+module = functools.cache(module_anew)
 
 STRICT, PLAIN_BYTES = 1, 8
 STRICTLY_PLAIN = STRICT | PLAIN_BYTES
@@ -108,8 +113,8 @@ class StrictForC(LibraryCase):
         self.holds("the reasons", seen >= wanted, seen)
 
     def test_schemas_at_random(self):
-        dice = Random(72)
-        for number in range(24):
+        dice, refused = Random(72), set()
+        for number in range(40):
             objects, enums = Maker(dice, 0).rows()
             tables = [row for row in objects if not number_at(row, 2)]
             for row in tables:
@@ -120,14 +125,15 @@ class StrictForC(LibraryCase):
             made = Made(schemas.schema(objects, enums, root=root), objects, schema, schema.names.index(root))
             some = [damaged_at_random(dice, Builder(dice, schema).built(made.root, False, None)) for _ in range(30)]
             self.told_alike(f"schema {number}", made, some, LIMITS[number % len(LIMITS)])
-            self.refused_alike(f"schema {number}", made)
+            refused.add(self.refused_alike(f"schema {number}", made))
+        self.same("why a schema isn't made, or is", refused, {0, module().Status.UNMARKED_BYTES, module().Status.MARKED_BYTES})
 
     def refused_alike(self, name, made):
         """A file is refused as the program refuses it, with the same table and field."""
         python, program = module(), run("--schema", made.file, "--strict")
         try:
             self.made(made, STRICT).close()
-            told = ""
+            status, told = 0, ""
         except python.Error as error:
             status, _, table, field, *rest = error.verdict
             self.same(f"{name}: no more is told", rest, [0] * 4)
@@ -135,6 +141,7 @@ class StrictForC(LibraryCase):
                 told = f"fbcheck: {plain.status_text(status)}: {plain.object_name(table)}.{plain.field_name(table, field)}"
         self.same(f"{name}: why it is refused", program.err.decode().partition("\n")[0].startswith(told), True)
         self.same(f"{name}: whether it is", told != "", program.status == 2)
+        return status
 
     def test_places(self):
         """Where faults are, in words, as the program names them."""
