@@ -22,7 +22,7 @@ _fbcheck_left() { # WORD..
 _fbcheck() {
     local word=${COMP_WORDS[COMP_CWORD]} before=${COMP_WORDS[COMP_CWORD - 1]}
     local left=" --schema --root --ident --schema-ident --path --max-depth --max-tables --max-reads --reads-per-byte \
---max-bytes --bare --delimited --no-alignment --inline-size --strict --plain-bytes --quiet --filter --summary --names \
+--max-bytes --bare --delimited --no-alignment --inline-size --strict --plain-bytes --utf8 --quiet --filter --summary --names \
 --json --with-filename --help --version "
     COMPREPLY=()
     # An equals sign is a word of its own.

@@ -24,7 +24,7 @@ from tests.support.random_rows import Maker, Random
 from tests.support.schemas import U_BYTE, field, table, vector
 from tests.support.strict import EVERYTHING, FLEX, STRICT, Demands, Plan, Strict, found_from, holds_bytes, lacks_marks, marks_of
 from tests.support.strict_messages import MESSAGES, bytes_changed, cut, every_byte, words_changed
-from tests.support.strict_program import DEMANDED, lines_of, refusal_of, strict_words, words_of_limits
+from tests.support.strict_program import ASKED, lines_of, refusal_of, words_of_demands, words_of_limits
 
 # - `LONE`: a union whose value is the word at 16 and whose type stands at 20; `ALONE`: a type at 16 without a value
 # - `UNTYPED`, `ODD`: a value without a type field, at 16 and at 17
@@ -315,10 +315,10 @@ LIMITS = [{}, {"alignment": False}, {"inline_size": True}, {"depth": 2}, {"table
 
 
 class Program(Case):
-    def told_alike(self, name, kept, messages, limits):
-        words = [*strict_words(kept.objects), *words_of_limits(limits)]
+    def told_alike(self, name, kept, messages, demands, limits):
+        words = [*words_of_demands(demands, kept.objects), *words_of_limits(limits)]
         told = lines_of(kept.file, messages, *words)
-        plan = Plan(kept.schema, DEMANDED, kept.marks)
+        plan = Plan(kept.schema, demands, kept.marks)
         wants = [Strict(plan, kept.root, data, **limits).verdict(prefix=False) for data in messages]
         wrong = [row for row in zip(told, wants, messages) if row[0] != row[1]]
         self.same(f"{name}, {words}: a line for each", len(told), len(wants))
@@ -330,10 +330,11 @@ class Program(Case):
         dice, reasons = Random(62), set()
         for name, messages in MESSAGES.items():
             kept = Kept(name)
-            for limits in LIMITS * 4:
+            for demands, limits in itertools.product(ASKED, LIMITS * 2):
                 some = list(damaged(dice, [dice.choice(messages)], 397))
-                reasons |= self.told_alike(name, kept, some, limits)
-        self.holds("the reasons", reasons >= {f"V{code}" for code in (2, 3, 4, 6, 7, 8, 9, 10, 11, 12, 13)}, reasons)
+                reasons |= self.told_alike(name, kept, some, demands, limits)
+        wanted = {f"V{code}" for code in (2, 3, 4, 6, 7, 8, 9, 10, 11, 12, 13, 15)}
+        self.holds("the reasons", reasons >= wanted, reasons)
 
     def test_schemas_at_random(self):
         """Buffers at random by schemas at random, of which some vectors of bytes are marked."""
@@ -348,7 +349,8 @@ class Program(Case):
             schema, root = Schema(objects, enums), dice.choice(tables)[0]
             made = Made(schemas.schema(objects, enums, root=root), objects, schema, schema.names.index(root))
             some = [damaged_at_random(dice, Builder(dice, schema).built(made.root, False, None)) for _ in range(60)]
-            self.told_alike(f"schema {number}", made, some, LIMITS[number % len(LIMITS)])
+            demands, limits = ASKED[number % len(ASKED)], LIMITS[number % len(LIMITS)]
+            self.told_alike(f"schema {number}", made, some, demands, limits)
             refused.add(self.refused_alike(f"schema {number}", made))
         self.same("why strict checks are refused, or aren't", len(refused), 3)
 

@@ -7,8 +7,9 @@ from tests.support.every_kind import words_of
 from tests.support.program import PROGRAM, run
 from tests.support.strict import Demands, lacks_marks, marks_of
 
-# What --strict demands. It doesn't look into buffers inside others.
+# What options demand: --strict, which doesn't look into buffers inside others, --utf8, and both.
 DEMANDED = Demands(unions=True)
+ASKED = [DEMANDED, Demands(utf8=True), Demands(unions=True, utf8=True)]
 MARKED = "strict doesn't look inside nested buffers and flexbuffers yet"
 UNMARKED = "strict can't tell which bytes are nested buffers or flexbuffers"
 
@@ -23,6 +24,11 @@ def refusal_of(objects):
 def strict_words(objects):
     """The words that make strict checks by a schema file with these rows."""
     return ["--strict", "--plain-bytes"] if refusal_of(objects) else ["--strict"]
+
+
+def words_of_demands(demands, objects):
+    """The words by which the program demands this by a schema file with these rows."""
+    return [*(strict_words(objects) if demands.unions else []), *(["--utf8"] if demands.utf8 else [])]
 
 
 def words_of_limits(limits):

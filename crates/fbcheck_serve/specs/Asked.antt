@@ -129,13 +129,13 @@ abbrev pub demanded : Settings → Demands
 demanded settings = record {
   unions = settings.strict;
   nested = settings.strict && not settings.plain_bytes;
-  known_fields = settings.known_fields;
+  known_fields = false;
   utf8 = settings.utf8;
 }
 
 -- whether they demand anything
 abbrev pub is_demanding : Settings → Bool
-is_demanding settings = settings.strict || (settings.known_fields || settings.utf8)
+is_demanding settings = settings.strict || settings.utf8
 
 -- where they do, the plan of the rows for that is asked, and else none
 abbrev pub IsAskedPlan : Rows → Settings → Option Planned → Type 0

@@ -40,7 +40,7 @@ fn demanded(settings: &Settings) -> Demands
     Demands {
         unions: settings.strict,
         nested: settings.strict && !settings.plain_bytes,
-        known_fields: settings.known_fields,
+        known_fields: false,
         utf8: settings.utf8,
     }
 }
@@ -49,7 +49,7 @@ fn demanded(settings: &Settings) -> Demands
 fn is_demanding(settings: &Settings) -> bool
     ensures { result ≡ is_demanding settings.now }
 {
-    settings.strict || settings.known_fields || settings.utf8
+    settings.strict || settings.utf8
 }
 
 /// Whether what the settings demand can be asked by a schema file, or else why not: its marks are asked for strict
