@@ -5,7 +5,8 @@ use Rattle.std.specs.Borrow.{Bor}
 use Rattle.fb_schema.specs.Rows.{Rows}
 use Rattle.fb_bfbs.specs.Marks.{AreMarks, marked}
 use Rattle.fb_bfbs.specs.declared.{marks.Marks.Marks}
-use Rattle.fbcheck_serve.specs.ByteFields.{AreAllPlain, Misses}
+use Rattle.fb_bfbs.specs.ByteFields.{AreAllPlain}
+use Rattle.fbcheck_serve.specs.ByteFields.{Misses}
 use Rattle.fbcheck_serve.specs.Checking.{IsPlanless, MayAsk, NeedsMarks, schema_limits}
 use Rattle.fbcheck_texts.specs.Hints.{hint_text}
 use Rattle.fbcheck_texts.specs.declared.{fault.AskFault.AskFault, fault.AskFault.TheVariants.OutOfMemory, hint.Unasked.Unasked}

@@ -12,7 +12,8 @@ use Rattle.fb_bfbs.specs.declared.load_fault.LoadFault.TheVariants as load
 use Rattle.fb_bfbs.specs.LoadLaws.{ident_bytes}
 use Rattle.fb_bfbs.specs.Marks.{AreMarks, Marked, marked}
 use Rattle.fb_bfbs.specs.declared.{marks.Builtins.Builtins, marks.Marks.Marks}
-use Rattle.fbcheck_serve.specs.ByteFields.{AreAllPlain, HasMarked, HasUnmarked, Misses}
+use Rattle.fb_bfbs.specs.ByteFields.{AreAllPlain, HasMarked, HasUnmarked}
+use Rattle.fbcheck_serve.specs.ByteFields.{Misses}
 use Rattle.fbcheck_serve.specs.Asked.{ArePaths, AsksBy, Own, asked_root, path_texts}
 use Rattle.fbcheck_texts.specs.Hints.{hint_text, path_hint, root_hint, schema_hint}
 use Rattle.fbcheck_serve.specs.Inputs.{Folder, IsPromptAmong, IsPromptOver, MayReadEach, Seen, ServesEach, are_several, at_first, label_of, stand}
