@@ -182,7 +182,7 @@ pub record Serves (rows : Rows) (options : Options) : Type 0 where
   pub few : length options.paths.items ≤ 16
   pub least : 8 ≤ options.max_bytes
   pub most : options.max_bytes < 2 ^ 31
-  pub planned : IfSome options.plan (IsPlan rows)
+  pub planned : IfSome options.plan (λ p. IsPlan rows p.demands p)
 
 -- what a checker needs beside a buffer: so many levels for open tables, so many for those of a pass, so many links, the
 -- words of the last place, and what lines begin with

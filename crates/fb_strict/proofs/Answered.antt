@@ -1,5 +1,5 @@
 -- Tests that were made, and the budget that was asked after them.
-use Rattle.std.proofs.Common.{◌≡◌, ℕ, ◌+◌, ◌^◌, ◌<◌, ◌≤◌, true, false, Option, Some, None, Result, Ok, Err, refl, sym, ap, ◌∙◌, subst, arith}
+use Rattle.std.proofs.Common.{◌≡◌, ℕ, ◌+◌, ◌^◌, ◌<◌, ◌≤◌, Bool, true, false, List, inl, inr, ◌⊎◌, Option, Some, None, Result, Ok, Err, refl, sym, ap, ◌∙◌, subst, arith}
 use Rattle.std.specs.Prelude.{IfOk}
 use Rattle.std.specs.Option.{is_some}
 use Rattle.std.proofs.lemmas.Bool.Decides.{nat_tests}
@@ -7,7 +7,10 @@ use Rattle.fb_bytes.specs.Word.{Lent}
 use Rattle.fb_rules.specs.declared.{site.Site.Site, site.Stop.Stop, fault.Reason.Reason}
 use Rattle.fb_rules.specs.{Bounds.Bounds, Bounds.AreAllowed, Plain.tested_by, Plain.place_from, Plain.IsTested, Told.IsAskedAt}
 use Rattle.fb_rules.specs.Order.{Failure, after}
-use Rattle.fb_strict.specs.{InOrder.together_failure, Passing.IsRoom}
+use Rattle.fb_schema.specs.Rows.{Rows}
+use Rattle.fb_rules.specs.declared.offset_row.Row.{Row}
+use Rattle.fb_strict.specs.declared.tasks.Ask.TheVariants.{Unions as AskUnions}
+use Rattle.fb_strict.specs.{Skipped.Wants, InOrder.where_asked, InOrder.together_failure, Asked.vectors_reads, Passing.IsRoom, Passing.task_row}
 use Rattle.fb_strict.proofs.Asking.{told_allowed}
 
 same_lent : (m new : Lent) (n : ℕ) → new.bytes ≡ m.bytes → new.count ≡ n → new.base ≡ m.base → new ≡ record m { count = n }
@@ -59,11 +62,18 @@ stands t at h = grind (arith, nat_tests)
 pub stands_not : (t at : ℕ) → at ≡ t → place_from t at ≡ None
 stands_not t at h = grind (arith, nat_tests)
 
-pub both_stand : (t types value : ℕ) → (value ≡ t → ⊥) → together_failure (place_from t types) (place_from t value) ≡ None → place_from t types ≡ Some types
-both_stand t types value h e = grind (arith, nat_tests)
+-- a vector of unions of which one part isn't there has no words
 
-pub none_stands : (t types value : ℕ) → value ≡ t → together_failure (place_from t types) (place_from t value) ≡ None → place_from t types ≡ None
-none_stands t types value h e = grind (arith, nat_tests)
+pub nothing_read : (o q : Option ℕ) → (q ≡ None) ⊎ (o ≡ None) → vectors_reads o q ≡ 0
+nothing_read None q n = refl
+nothing_read (Some o) None n = refl
+nothing_read (Some o) (Some q) n = absurd (elim n [ inl e ↦ cc | inr e ↦ cc ])
+
+pub nothing_put : (w : Wants) (b : List ℕ) (S : Rows) (e : ℕ) (old : Row) (o q : Option ℕ) → (q ≡ None) ⊎ (o ≡ None) → old ≡ task_row w b S o q (AskUnions e) old
+nothing_put w b S e old None None n = refl
+nothing_put w b S e old None (Some q) n = refl
+nothing_put w b S e old (Some o) None n = refl
+nothing_put w b S e old (Some o) (Some q) n = absurd (elim n [ inl e ↦ cc | inr e ↦ cc ])
 
 pub always : {A E : Type 0} {P : Type 0} (r : Result A E) → P → IfOk r (λ _. P)
 always (Ok a) h = h
@@ -73,8 +83,8 @@ pub none_tested : (m : Lent) (at : ℕ) → IsTested m m at None 0 None
 none_tested m at = record { told = refl; counted = λ h. omega arith; bytes = refl; base = refl }
 
 -- a test of a vector of unions, which reads nothing
-pub together_tested : (m : Lent) (at : ℕ) (failed : Option Reason) (o q : Option ℕ) (n : ℕ) → tested_by at m.count failed ≡ after m.count (together_failure o q) → (failed ≡ None → n ≡ 0) → IsTested m m at (together_failure o q) n failed
-together_tested m at failed o q n told none = record { told = told; counted = λ h. let z = none h in omega arith; bytes = refl; base = refl }
+pub together_tested : (x : Bool) (m : Lent) (at : ℕ) (failed : Option Reason) (o q : Option ℕ) (n : ℕ) → tested_by at m.count failed ≡ after m.count (where_asked x (together_failure o q)) → (failed ≡ None → n ≡ 0) → IsTested m m at (where_asked x (together_failure o q)) n failed
+together_tested x m at failed o q n told none = record { told = told; counted = λ h. let z = none h in omega arith; bytes = refl; base = refl }
 
 pub none_failed : (at n : ℕ) (failed : Option Reason) → tested_by at n failed ≡ None → failed ≡ None
 none_failed at n None h = refl

@@ -1,5 +1,5 @@
 -- What is left of the fields of a table: the next one that has a task.
-use Rattle.std.proofs.Common.{◌≡◌, ℕ, zero, suc, ◌≤◌, List, [], ◌∷◌, ◌++◌, Option, Some, None, option_map, Bool, refl, ap, subst, ◌∙◌, max, arith}
+use Rattle.std.proofs.Common.{◌≡◌, ℕ, zero, suc, ◌≤◌, List, [], ◌∷◌, ◌++◌, Option, Some, None, option_map, Bool, true, false, if◌then◌else◌, append_assoc, refl, ap, subst, ◌∙◌, max, arith}
 use Rattle.std.specs.List.{cons_option}
 use Rattle.std.specs.Prelude.{slice_get}
 use Rattle.fb_schema.specs.declared.kinds.Kind.{Kind}
@@ -10,10 +10,20 @@ use Rattle.fb_rules.specs.Tree.{Kids, no_kids, kid, kids_depth, Elements, elemen
 use Rattle.fb_rules.specs.Unfolds.{FieldsUnfold, ElementsUnfold}
 use Rattle.fb_rules.proofs.Typed.{typed_by}
 use Rattle.fb_strict.specs.declared.{tasks.Ask.Ask, tasks.Task.Task}
-use Rattle.fb_strict.specs.Planned.{ask_of, task_with, task_of, tasks_in}
+use Rattle.fb_strict.specs.Skipped.{Wants, is_kind_asked}
+use Rattle.fb_strict.specs.Planned.{ask_by, ask_of, task_with, task_of, tasks_in}
 use Rattle.fb_strict.specs.Asked.{Demand, field_demands, row_types, row_place, demands_in_fields, demands_in_row}
 use Rattle.fb_strict.specs.Passing.{task_failure, task_reads, IsKnown, AreKnown}
 use Rattle.fb_strict.proofs.Unasked.{nothing_asked}
+
+-- what is asked is what its kind says
+module _ (w : Wants) (S : Rows) where
+  asked_if : (x : Bool) (o : Option Ask) (ask : Ask) → (if x then o else None) ≡ Some ask → o ≡ Some ask
+  asked_if true o ask h = h
+  asked_if false o ask h = absurd (cc)
+
+  pub asked_by : (kind : Kind) (ask : Ask) → ask_of w S kind ≡ Some ask → ask_by kind ≡ Some ask
+  asked_by kind ask h = asked_if (is_kind_asked w S kind) (ask_by kind) ask h
 
 module _ (c : Checks) (b : List ℕ) (S : Rows) where
   -- the fields of a table that unfolds are known
@@ -38,19 +48,28 @@ module _ (c : Checks) (b : List ℕ) (S : Rows) where
         kind = served.kinds k i f e;
       })
 
-  module _ (asks : ℕ → Bool) (via : List Link) (k t : ℕ) where
+  module _ (w : Wants) (via : List Link) (k t : ℕ) where
     -- what is demanded of a field by itself
     abbrev own_demands : Live → List Demand
-    own_demands f = field_demands asks c b S (via ++ field_link k f ∷ []) k f.number t f.slot (type_place b t f.slot) (field_place b t f.slot) f.kind
+    own_demands f = field_demands w.demands c b S (via ++ field_link k f ∷ []) k f.number t f.slot (type_place b t f.slot) (field_place b t f.slot) f.kind
 
     -- and of its offset words
     abbrev word_demands : Live → Elements → List Demand
-    word_demands f ys = demands_in_row ys asks c b S (λ j. via ++ element_link b k t f j ∷ []) k f.number 0 (row_place b (field_place b t f.slot) f.kind) (row_types b (type_place b t f.slot) f.kind)
+    word_demands f ys = demands_in_row ys w c b S (λ j. via ++ element_link b k t f j ∷ []) k f.number 0 (row_place b (field_place b t f.slot) f.kind) (row_types b (type_place b t f.slot) f.kind)
+
+    -- a field with a task is asked
+    module _ (f : Live) (task : Task) where
+      gated : (x : Bool) → option_map (task_with f) (if x then ask_by f.kind else None) ≡ Some task → x ≡ true
+      gated true h = refl
+      gated false h = absurd (cc)
+
+      pub is_asked : task_of w S f ≡ Some task → is_kind_asked w S f.kind ≡ true
+      is_asked h = gated (is_kind_asked w S f.kind) h
 
     -- the next of these fields that has a task, past those that have none
     pub record IsNextField (kids : Kids) (fs : List Live) (task : Task) (more : List Task) : Type 0 where
       pub field : Live
-      pub its : task_of asks field ≡ Some task
+      pub its : task_of w S field ≡ Some task
       pub known : IsKnown c b S t field
       pub words : Elements
       pub unfolds : ElementsUnfold words c b S (entries b S t field)
@@ -58,20 +77,33 @@ module _ (c : Checks) (b : List ℕ) (S : Rows) where
       pub others_known : AreKnown c b S t others
       pub others_kids : Kids
       pub others_unfold : FieldsUnfold others_kids c b S t others
-      pub tasks : more ≡ tasks_in asks others
+      pub tasks : more ≡ tasks_in w S others
       pub deep : max (elements_depth words) (kids_depth others_kids) ≤ kids_depth kids
-      pub all : demands_in_fields kids asks c b S via k t fs ≡ own_demands field ++ (word_demands field words ++ demands_in_fields others_kids asks c b S via k t others)
+      pub all : demands_in_fields kids w c b S via k t fs ≡ own_demands field ++ (word_demands field words ++ demands_in_fields others_kids w c b S via k t others)
 
     module _ (task : Task) (more : List Task) where
-      by_task : (ys : Elements) (kids : Kids) (f : Live) (fs : List Live) (u : FieldsUnfold (kid ys kids) c b S t (f ∷ fs)) → AreKnown c b S t (f ∷ fs) → (tasks_in asks fs ≡ task ∷ more → IsNextField kids fs task more)
-          → (o : Option Task) → task_of asks f ≡ o → cons_option o (tasks_in asks fs) ≡ task ∷ more → IsNextField (kid ys kids) (f ∷ fs) task more
+      by_task : (ys : Elements) (kids : Kids) (f : Live) (fs : List Live) (u : FieldsUnfold (kid ys kids) c b S t (f ∷ fs)) → AreKnown c b S t (f ∷ fs) → (tasks_in w S fs ≡ task ∷ more → IsNextField kids fs task more)
+          → (o : Option Task) → task_of w S f ≡ o → cons_option o (tasks_in w S fs) ≡ task ∷ more → IsNextField (kid ys kids) (f ∷ fs) task more
       unfolding FieldsUnfold AreKnown demands_in_fields kids_depth
       by_task ys kids f fs u a later (Some x) is h =
           let same : x ≡ task = cc in
-          record { field = f; its = is ∙ ap Some same; known = a.0; words = ys; unfolds = u.1; others = fs; others_known = a.1; others_kids = kids; others_unfold = u.2; tasks = cc; deep = omega arith; all = refl }
+          let asked = is_asked f x is in
+          record {
+            field = f;
+            its = is ∙ ap Some same;
+            known = a.0;
+            words = ys;
+            unfolds = u.1;
+            others = fs;
+            others_known = a.1;
+            others_kids = kids;
+            others_unfold = u.2;
+            tasks = cc;
+            deep = omega arith;
+            all = rw asked (append_assoc (own_demands f) (word_demands f ys) (demands_in_fields kids w c b S via k t fs));
+          }
       by_task ys kids f fs u a later None is h =
           let r = later h in
-          let none = nothing_asked asks S f ys c b k t is u.1 (via ++ field_link k f ∷ []) (λ j. via ++ element_link b k t f j ∷ []) in
           record {
             field = r.field;
             its = r.its;
@@ -84,44 +116,47 @@ module _ (c : Checks) (b : List ℕ) (S : Rows) where
             others_unfold = r.others_unfold;
             tasks = r.tasks;
             deep = omega (arith, r.deep);
-            all = rw (none.0, none.1) r.all;
+            all = nothing_asked w S f fs ys kids c b via k t is ∙ r.all;
           }
 
-      pub next_field : (kids : Kids) (fs : List Live) → FieldsUnfold kids c b S t fs → AreKnown c b S t fs → tasks_in asks fs ≡ task ∷ more → IsNextField kids fs task more
+      pub next_field : (kids : Kids) (fs : List Live) → FieldsUnfold kids c b S t fs → AreKnown c b S t fs → tasks_in w S fs ≡ task ∷ more → IsNextField kids fs task more
       unfolding FieldsUnfold AreKnown
       next_field kids [] u a h = absurd (cc)
       next_field no_kids (f ∷ fs) u a h = absurd u
-      next_field (kid ys kids) (f ∷ fs) u a h = by_task ys kids f fs u a (next_field kids fs u.2 a.1) (task_of asks f) refl h
+      next_field (kid ys kids) (f ∷ fs) u a h = by_task ys kids f fs u a (next_field kids fs u.2 a.1) (task_of w S f) refl h
 
     -- where no task is left, nothing is demanded
-    none_by : (ys : Elements) (kids : Kids) (f : Live) (fs : List Live) (u : FieldsUnfold (kid ys kids) c b S t (f ∷ fs)) → (tasks_in asks fs ≡ [] → demands_in_fields kids asks c b S via k t fs ≡ [])
-        → (o : Option Task) → task_of asks f ≡ o → cons_option o (tasks_in asks fs) ≡ [] → demands_in_fields (kid ys kids) asks c b S via k t (f ∷ fs) ≡ []
+    none_by : (ys : Elements) (kids : Kids) (f : Live) (fs : List Live) (u : FieldsUnfold (kid ys kids) c b S t (f ∷ fs)) → (tasks_in w S fs ≡ [] → demands_in_fields kids w c b S via k t fs ≡ [])
+        → (o : Option Task) → task_of w S f ≡ o → cons_option o (tasks_in w S fs) ≡ [] → demands_in_fields (kid ys kids) w c b S via k t (f ∷ fs) ≡ []
     unfolding FieldsUnfold demands_in_fields
     none_by ys kids f fs u later (Some x) is h = absurd (cc)
-    none_by ys kids f fs u later None is h = let none = nothing_asked asks S f ys c b k t is u.1 (via ++ field_link k f ∷ []) (λ j. via ++ element_link b k t f j ∷ []) in rw (none.0, none.1) (later h)
+    none_by ys kids f fs u later None is h = nothing_asked w S f fs ys kids c b via k t is ∙ later h
 
-    pub no_field : (kids : Kids) (fs : List Live) → FieldsUnfold kids c b S t fs → tasks_in asks fs ≡ [] → demands_in_fields kids asks c b S via k t fs ≡ []
+    pub no_field : (kids : Kids) (fs : List Live) → FieldsUnfold kids c b S t fs → tasks_in w S fs ≡ [] → demands_in_fields kids w c b S via k t fs ≡ []
     unfolding FieldsUnfold demands_in_fields
     no_field no_kids fs u h = refl
     no_field (kid ys kids) [] u h = absurd u
-    no_field (kid ys kids) (f ∷ fs) u h = none_by ys kids f fs u (no_field kids fs u.2) (task_of asks f) refl h
+    no_field (kid ys kids) (f ∷ fs) u h = none_by ys kids f fs u (no_field kids fs u.2) (task_of w S f) refl h
 
     -- a field with a task is demanded one thing
     abbrev pub task_demand : List Link → ℕ → ℕ → (types place : Option ℕ) → Ask → Demand
-    task_demand links n slot types place ask = record { links = links; object = k; field = Some n; at = t; reads = task_reads b S t slot types place ask; chain = task_failure c b S t slot types place ask }
+    task_demand links n slot types place ask = record { links = links; object = k; field = Some n; at = t; reads = task_reads w.demands b S t slot types place ask; chain = task_failure w.demands c b S t slot types place ask }
 
-    pub one_demand : (links : List Link) (n slot : ℕ) (types place : Option ℕ) (kind : Kind) (ask : Ask) → ask_of asks kind ≡ Some ask → field_demands asks c b S links k n t slot types place kind ≡ task_demand links n slot types place ask ∷ []
-    one_demand links n slot types place kind ask h = grind arith
+    by_kind : (links : List Link) (n slot : ℕ) (types place : Option ℕ) (kind : Kind) (ask : Ask) → ask_by kind ≡ Some ask → field_demands w.demands c b S links k n t slot types place kind ≡ task_demand links n slot types place ask ∷ []
+    by_kind links n slot types place kind ask h = grind arith
+
+    pub one_demand : (links : List Link) (n slot : ℕ) (types place : Option ℕ) (kind : Kind) (ask : Ask) → ask_of w S kind ≡ Some ask → field_demands w.demands c b S links k n t slot types place kind ≡ task_demand links n slot types place ask ∷ []
+    one_demand links n slot types place kind ask h = by_kind links n slot types place kind ask (asked_by w S kind ask h)
 
     -- its task
     pub record IsTask (f : Live) (task : Task) : Type 0 where
-      pub ask : ask_of asks f.kind ≡ Some task.ask
+      pub ask : ask_of w S f.kind ≡ Some task.ask
       pub number : task.number ≡ f.number
       pub slot : task.slot ≡ f.slot
 
-    its_task : (f : Live) (task : Task) (o : Option Ask) → ask_of asks f.kind ≡ o → option_map (task_with f) o ≡ Some task → IsTask f task
+    its_task : (f : Live) (task : Task) (o : Option Ask) → ask_of w S f.kind ≡ o → option_map (task_with f) o ≡ Some task → IsTask f task
     its_task f task None is h = absurd (cc)
     its_task f task (Some ask) is h = let same : task_with f ask ≡ task = cc in subst (IsTask f) same (record { ask = is; number = refl; slot = refl })
 
-    pub task_is : (f : Live) (task : Task) → task_of asks f ≡ Some task → IsTask f task
-    task_is f task h = its_task f task (ask_of asks f.kind) refl h
+    pub task_is : (f : Live) (task : Task) → task_of w S f ≡ Some task → IsTask f task
+    task_is f task h = its_task f task (ask_of w S f.kind) refl h

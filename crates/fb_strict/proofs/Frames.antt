@@ -14,7 +14,7 @@ use Rattle.fb_rules.specs.Unfolds.{Unfolds, ElementsUnfold, ElementUnfolds}
 use Rattle.fb_rules.proofs.Words.{row_front, row_none, first_place}
 use Rattle.fb_strict.specs.declared.{room.Frame.Frame}
 use Rattle.fb_strict.specs.Asked.{Demand, reading, next_types, element_demands, demands_in, demands_in_fields, demands_in_row, demands_below}
-use Rattle.fb_strict.specs.Passing.{Passing, asks_of, IsPassing, blank, opened, asked_object, first_object, AreAskedWords, leads_types, task_words, task_link, link_behind, frame_link, IsLinked, IsOnWay, IsLeft, IsNext}
+use Rattle.fb_strict.specs.Passing.{Passing, wants_of, IsPassing, blank, opened, asked_object, first_object, AreAskedWords, leads_types, task_words, task_link, link_behind, frame_link, IsLinked, IsOnWay, IsLeft, IsNext}
 use Rattle.fb_strict.proofs.Fields.{fields_known}
 
 -- the frame of a table that was opened
@@ -25,12 +25,12 @@ module _ (p : Passing) (b : List ℕ) (holds : IsPassing p b) (room : ℕ) (via 
     pub frame : IsLeft p b room via fr left
     pub all : ds ≡ record { links = via; object = child.object; field = None; at = child.at; reads = head_reads p.checks; chain = None } ∷ left
 
-  opens : (tree : Tree) → Unfolds tree p.checks b p.rows child.object child.at → IsTrue (is_table p.rows child.object) → child.at < 2 ^ 33 → depth tree ≤ room → ds ≡ demands_in tree (asks_of p) p.checks b p.rows via
+  opens : (tree : Tree) → Unfolds tree p.checks b p.rows child.object child.at → IsTrue (is_table p.rows child.object) → child.at < 2 ^ 33 → depth tree ≤ room → ds ≡ demands_in tree (wants_of p) p.checks b p.rows via
       → (head : Head) → IsHead p.checks b child.at head → IsOpened (opened (record { head = head; object = child.object; at = child.at }))
   unfolding Unfolds demands_in depth ElementsUnfold demands_in_row elements_depth
   opens (node k' t' kids) u o near deep all head h =
       record {
-        left = demands_in_fields kids (asks_of p) p.checks b p.rows via child.object child.at (live_fields p.rows child.object);
+        left = demands_in_fields kids (wants_of p) p.checks b p.rows via child.object child.at (live_fields p.rows child.object);
         frame = record {
           object = o;
           near = near;
@@ -56,10 +56,10 @@ module _ (p : Passing) (b : List ℕ) (holds : IsPassing p b) (room : ℕ) (via 
   opened_left n head h = opens n.tree n.unfolds n.object n.near n.deep n.all head h
 
   -- the reading of the head comes first
-  read_first : (tree : Tree) → Unfolds tree p.checks b p.rows child.object child.at → ds ≡ demands_in tree (asks_of p) p.checks b p.rows via
+  read_first : (tree : Tree) → Unfolds tree p.checks b p.rows child.object child.at → ds ≡ demands_in tree (wants_of p) p.checks b p.rows via
       → (rest : List Demand) × (ds ≡ record { links = via; object = child.object; field = None; at = child.at; reads = head_reads p.checks; chain = None } ∷ rest)
   unfolding Unfolds demands_in
-  read_first (node k' t' kids) u all = (demands_in_fields kids (asks_of p) p.checks b p.rows via child.object child.at (live_fields p.rows child.object), rw (u.0, u.1) at all)
+  read_first (node k' t' kids) u all = (demands_in_fields kids (wants_of p) p.checks b p.rows via child.object child.at (live_fields p.rows child.object), rw (u.0, u.1) at all)
 
   pub head_first : IsNext p b room via child ds → (rest : List Demand) × (ds ≡ record { links = via; object = child.object; field = None; at = child.at; reads = head_reads p.checks; chain = None } ∷ rest)
   head_first n = read_first n.tree n.unfolds n.all
@@ -80,19 +80,19 @@ module _ (p : Passing) (b : List ℕ) where
     pub unfolds : Unfolds tree p.checks b p.rows j (target b place)
     pub within : place + 4 ≤ length b
     pub deep : depth tree ≤ element_depth y
-    pub all : demands_below y (asks_of p) p.checks b p.rows links k n place ≡ reading links k (Some n) place 1 ∷ demands_in tree (asks_of p) p.checks b p.rows links
+    pub all : demands_below y (wants_of p) p.checks b p.rows links k n place ≡ reading links k (Some n) place 1 ∷ demands_in tree (wants_of p) p.checks b p.rows links
 
-  table_below : (y : Element) (links : List Link) (k n place j : ℕ) → ElementUnfolds y p.checks b p.rows place (to_table j) → asks_of p j ≡ true → IsTableBelow y links k n place j
+  table_below : (y : Element) (links : List Link) (k n place j : ℕ) → ElementUnfolds y p.checks b p.rows place (to_table j) → (wants_of p).asks j ≡ true → IsTableBelow y links k n place j
   unfolding ElementUnfolds Unfolds demands_below element_depth
   table_below leaf links k n place j u asks = absurd u
   table_below (table (node k' t' kids)) links k n place j u asks =
-      let yes : asks_of p k' ≡ true = ap (asks_of p) u.1.0 ∙ asks in
+      let yes : (wants_of p).asks k' ≡ true = ap (wants_of p).asks u.1.0 ∙ asks in
       record { tree = node k' t' kids; unfolds = u.1; within = (u.0).within; deep = omega arith; all = rw yes refl }
 
-  none_below : (y : Element) (links : List Link) (k n place : ℕ) (lead : Lead) → ElementUnfolds y p.checks b p.rows place lead → ((j : ℕ) → lead ≡ to_table j → asks_of p j ≡ false) → demands_below y (asks_of p) p.checks b p.rows links k n place ≡ []
+  none_below : (y : Element) (links : List Link) (k n place : ℕ) (lead : Lead) → ElementUnfolds y p.checks b p.rows place lead → ((j : ℕ) → lead ≡ to_table j → (wants_of p).asks j ≡ false) → demands_below y (wants_of p) p.checks b p.rows links k n place ≡ []
   unfolding ElementUnfolds Unfolds demands_below
   none_below leaf links k n place lead u quiet = refl
-  none_below (table (node k' t' kids)) links k n place (to_table j) u quiet = let no : asks_of p k' ≡ false = ap (asks_of p) u.1.0 ∙ quiet j refl in rw no refl
+  none_below (table (node k' t' kids)) links k n place (to_table j) u quiet = let no : (wants_of p).asks k' ≡ false = ap (wants_of p).asks u.1.0 ∙ quiet j refl in rw no refl
   none_below (table y) links k n place (to_struct size align) u quiet = absurd u
   none_below (table y) links k n place to_string u quiet = absurd u
   none_below (table y) links k n place to_nothing u quiet = absurd u
@@ -100,15 +100,15 @@ module _ (p : Passing) (b : List ℕ) where
   -- the member of a union that is a table that is asked
   pub record IsAskedMember (S : Rows) (member : Option Kind) (j : ℕ) : Type 0 where
     pub lead : lead_of S member ≡ to_table j
-    pub asks : asks_of p j ≡ true
+    pub asks : (wants_of p).asks j ≡ true
     pub is : member ≡ Some (Table j)
 
-  by_ask : (k j : ℕ) (S : Rows) (x : Bool) → asks_of p k ≡ x → (if x then Some k else None) ≡ Some j → IsAskedMember S (Some (Table k)) j
-  by_ask k j S true is h = let same : k ≡ j = cc in record { lead = ap to_table same; asks = ap (asks_of p) (sym same) ∙ is; is = ap (λ i. Some (Table i)) same }
+  by_ask : (k j : ℕ) (S : Rows) (x : Bool) → (wants_of p).asks k ≡ x → (if x then Some k else None) ≡ Some j → IsAskedMember S (Some (Table k)) j
+  by_ask k j S true is h = let same : k ≡ j = cc in record { lead = ap to_table same; asks = ap (wants_of p).asks (sym same) ∙ is; is = ap (λ i. Some (Table i)) same }
   by_ask k j S false is h = absurd (cc)
 
-  asked_member : (S : Rows) (member : Option Kind) (j : ℕ) → asked_object (asks_of p) member ≡ Some j → IsAskedMember S member j
-  asked_member S (Some (Table k)) j h = by_ask k j S (asks_of p k) refl h
+  asked_member : (S : Rows) (member : Option Kind) (j : ℕ) → asked_object (wants_of p) member ≡ Some j → IsAskedMember S member j
+  asked_member S (Some (Table k)) j h = by_ask k j S ((wants_of p).asks k) refl h
   asked_member S None j h = absurd (cc)
   asked_member S (Some (Scalar s)) j h = absurd (cc)
   asked_member S (Some Text) j h = absurd (cc)
@@ -120,12 +120,12 @@ module _ (p : Passing) (b : List ℕ) where
   asked_member S (Some (Tables k)) j h = absurd (cc)
   asked_member S (Some (Unions e)) j h = absurd (cc)
 
-  by_no_ask : (k : ℕ) (x : Bool) → asks_of p k ≡ x → (if x then Some k else None) ≡ None → asks_of p k ≡ false
+  by_no_ask : (k : ℕ) (x : Bool) → (wants_of p).asks k ≡ x → (if x then Some k else None) ≡ None → (wants_of p).asks k ≡ false
   by_no_ask k true is h = absurd (cc)
   by_no_ask k false is h = is
 
-  quiet_member : (S : Rows) (member : Option Kind) → asked_object (asks_of p) member ≡ None → (j : ℕ) → lead_of S member ≡ to_table j → asks_of p j ≡ false
-  quiet_member S (Some (Table k)) h j e = let same : k ≡ j = cc in ap (asks_of p) (sym same) ∙ by_no_ask k (asks_of p k) refl h
+  quiet_member : (S : Rows) (member : Option Kind) → asked_object (wants_of p) member ≡ None → (j : ℕ) → lead_of S member ≡ to_table j → (wants_of p).asks j ≡ false
+  quiet_member S (Some (Table k)) h j e = let same : k ≡ j = cc in ap (wants_of p).asks (sym same) ∙ by_no_ask k ((wants_of p).asks k) refl h
   quiet_member S None h j e = absurd (cc)
   quiet_member S (Some (Scalar s)) h j e = absurd (cc)
   quiet_member S (Some Text) h j e = absurd (cc)
@@ -158,26 +158,26 @@ module _ (p : Passing) (b : List ℕ) (holds : IsPassing p b) (room : ℕ) (via 
   abbrev pub through : List Link
   through = l.way l.passed
 
-  on_way : IsOnWay (asks_of p) p.checks b p.rows via fr l.way l.passed
+  on_way : IsOnWay (wants_of p) p.checks b p.rows via fr l.way l.passed
   on_way = l.linked more
 
   -- once it's passed, the frame has its link
-  pub word_linked : IsLinked (asks_of p) p.checks b p.rows past
+  pub word_linked : IsLinked (wants_of p) p.checks b p.rows past
   word_linked = let w = on_way in record { last = w.last; more = omega (arith, w.count, more) }
 
-  pub word_link : through ≡ via ++ frame_link (asks_of p) b p.rows past ∷ []
+  pub word_link : through ≡ via ++ frame_link (wants_of p) b p.rows past ∷ []
   word_link =
       let w = on_way in
       let before : l.passed ≡ task_words b (fr.table).at (w.last).task - ((fr.row).left - 1) - 1 = omega (arith, w.count, more) in
       w.through l.passed ∙ ap (λ x. via ++ x ∷ []) (ap (task_link b (fr.table).object (fr.table).at (w.last).task) before ∙ ap (link_behind b past) (sym (w.last).found))
 
   -- and goes on to the next
-  next_on_way : IsOnWay (asks_of p) p.checks b p.rows via past l.way (l.passed + 1)
+  next_on_way : IsOnWay (wants_of p) p.checks b p.rows via past l.way (l.passed + 1)
   next_on_way = let w = on_way in record { last = w.last; count = omega (arith, w.count, more); through = w.through }
 
   -- what it is asked by its type
   abbrev pub front : List Demand
-  front = element_demands p.checks b p.rows through (fr.table).object fr.number (fr.row).place (leads_types (fr.row).leads)
+  front = element_demands (p.plan).demands p.checks b p.rows through (fr.table).object fr.number (fr.row).place (leads_types (fr.row).leads)
 
   -- what stands for it, and for the others
   record IsFront : Type 0 where
@@ -186,20 +186,20 @@ module _ (p : Passing) (b : List ℕ) (holds : IsPassing p b) (room : ℕ) (via 
     deep : element_depth y < room
     left : List Demand
     frame : IsLeft p b room via past left
-    all : ds ≡ front ++ (demands_below y (asks_of p) p.checks b p.rows through (fr.table).object fr.number (fr.row).place ++ left)
+    all : ds ≡ front ++ (demands_below y (wants_of p) p.checks b p.rows through (fr.table).object fr.number (fr.row).place ++ left)
 
   abbrev others : List Demand
-  others = demands_in_fields l.kids (asks_of p) p.checks b p.rows via (fr.table).object (fr.table).at l.fields
+  others = demands_in_fields l.kids (wants_of p) p.checks b p.rows via (fr.table).object (fr.table).at l.fields
 
   by_words : (words : Elements) (x : Entry) → ElementsUnfold words p.checks b p.rows (x ∷ words_of b p.rows (past_first fr.row)) → max (elements_depth words) (kids_depth l.kids) < room
-      → x.place ≡ (fr.row).place → x.lead ≡ (first_word b p.rows fr.row).lead → ds ≡ demands_in_row words (asks_of p) p.checks b p.rows l.way (fr.table).object fr.number l.passed (fr.row).place (leads_types (fr.row).leads) ++ others → IsFront
+      → x.place ≡ (fr.row).place → x.lead ≡ (first_word b p.rows fr.row).lead → ds ≡ demands_in_row words (wants_of p) p.checks b p.rows l.way (fr.table).object fr.number l.passed (fr.row).place (leads_types (fr.row).leads) ++ others → IsFront
   unfolding ElementsUnfold demands_in_row elements_depth
   by_words no_elements x u deep at lead all = absurd u
   by_words (element y ys) x u deep at lead all = record {
     y = y;
     lead = rw (at, lead) at u.0;
     deep = omega (arith, deep);
-    left = demands_in_row ys (asks_of p) p.checks b p.rows l.way (fr.table).object fr.number (l.passed + 1) ((fr.row).place + 4) (leads_types (leads_after (fr.row).leads)) ++ others;
+    left = demands_in_row ys (wants_of p) p.checks b p.rows l.way (fr.table).object fr.number (l.passed + 1) ((fr.row).place + 4) (leads_types (leads_after (fr.row).leads)) ++ others;
     frame = record {
       object = l.object;
       near = l.near;
@@ -218,7 +218,7 @@ module _ (p : Passing) (b : List ℕ) (holds : IsPassing p b) (room : ℕ) (via 
       linked = λ m. next_on_way;
       all = refl;
     };
-    all = rw (types_on (fr.row).leads) (all ∙ regroup front (demands_below y (asks_of p) p.checks b p.rows through (fr.table).object fr.number (fr.row).place) _ others);
+    all = rw (types_on (fr.row).leads) (all ∙ regroup front (demands_below y (wants_of p) p.checks b p.rows through (fr.table).object fr.number (fr.row).place) _ others);
   }
     where
       regroup : (ws xs ys zs : List Demand) → (ws ++ (xs ++ ys)) ++ zs ≡ ws ++ (xs ++ (ys ++ zs))
@@ -236,7 +236,7 @@ module _ (p : Passing) (b : List ℕ) (holds : IsPassing p b) (room : ℕ) (via 
     pub deep : depth tree ≤ room - 1
     pub left : List Demand
     pub frame : IsLeft p b room via past left
-    pub all : ds ≡ front ++ (reading through (fr.table).object (Some fr.number) (fr.row).place 1 ∷ (demands_in tree (asks_of p) p.checks b p.rows through ++ left))
+    pub all : ds ≡ front ++ (reading through (fr.table).object (Some fr.number) (fr.row).place 1 ∷ (demands_in tree (wants_of p) p.checks b p.rows through ++ left))
 
   -- or it doesn't
   pub record IsBeside : Type 0 where
@@ -244,13 +244,13 @@ module _ (p : Passing) (b : List ℕ) (holds : IsPassing p b) (room : ℕ) (via 
     pub frame : IsLeft p b room via past left
     pub all : ds ≡ front ++ left
 
-  goes_under : (j : ℕ) → (first_word b p.rows fr.row).lead ≡ to_table j → asks_of p j ≡ true → IsTrue (is_table p.rows j) → IsUnder j
+  goes_under : (j : ℕ) → (first_word b p.rows fr.row).lead ≡ to_table j → (wants_of p).asks j ≡ true → IsTrue (is_table p.rows j) → IsUnder j
   goes_under j lead asks is =
       let f = front_of in
       let t = table_below p b f.y through (fr.table).object fr.number (fr.row).place j (rw lead at f.lead) asks in
       record { tree = t.tree; unfolds = t.unfolds; object = is; within = t.within; deep = omega (arith, t.deep, f.deep); left = f.left; frame = f.frame; all = rw t.all at f.all }
 
-  goes_beside : ((j : ℕ) → (first_word b p.rows fr.row).lead ≡ to_table j → asks_of p j ≡ false) → IsBeside
+  goes_beside : ((j : ℕ) → (first_word b p.rows fr.row).lead ≡ to_table j → (wants_of p).asks j ≡ false) → IsBeside
   goes_beside quiet =
       let f = front_of in
       record { left = f.left; frame = f.frame; all = rw (none_below p b f.y through (fr.table).object fr.number (fr.row).place _ f.lead quiet) at f.all }
@@ -259,7 +259,7 @@ module _ (p : Passing) (b : List ℕ) (holds : IsPassing p b) (room : ℕ) (via 
   is_member member j h e = rw e at h
 
   under_by : (leads : Leads) → (fr.row).leads ≡ leads → AreAskedWords p b (fr.row).left leads → (j : ℕ) → first_object p b leads ≡ Some j → IsUnder j
-  under_by (All (ATable k)) is h j e = let same : k ≡ j = cc in goes_under j (rw is (ap to_table same)) (ap (asks_of p) (sym same) ∙ h.0) (rw same at h.1)
+  under_by (All (ATable k)) is h j e = let same : k ≡ j = cc in goes_under j (rw is (ap to_table same)) (ap (wants_of p).asks (sym same) ∙ h.0) (rw same at h.1)
   under_by (All AText) is h j e = absurd h
   under_by (All (AStruct size align)) is h j e = absurd h
   under_by (All Nothing) is h j e = absurd h
@@ -282,4 +282,4 @@ module _ (p : Passing) (b : List ℕ) (holds : IsPassing p b) (room : ℕ) (via 
 
   -- what it is asked by its type comes first
   pub asked_first : (rest : List Demand) × (ds ≡ front ++ rest)
-  asked_first = let f = front_of in (demands_below f.y (asks_of p) p.checks b p.rows through (fr.table).object fr.number (fr.row).place ++ f.left, f.all)
+  asked_first = let f = front_of in (demands_below f.y (wants_of p) p.checks b p.rows through (fr.table).object fr.number (fr.row).place ++ f.left, f.all)

@@ -1,7 +1,8 @@
 pub mod Chains
+pub mod Lists
+pub mod Members
 pub mod Skips
 pub mod Reading
-pub mod Lists
 pub mod Marks
 pub mod Leading
 pub mod Queues

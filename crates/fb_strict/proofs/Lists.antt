@@ -1,7 +1,25 @@
 -- Steps of loops over lists of which a function makes others.
-use Rattle.std.proofs.Common.{◌≡◌, ℕ, zero, suc, ◌+◌, ◌<◌, List, [], ◌∷◌, ◌++◌, length, get_or, take, map, filter_map, Option, Some, None, Bool, true, false, sym, ◌∙◌, ap, arith}
+use Rattle.std.proofs.Common.{◌≡◌, ◌⊎◌, inl, inr, refl, ℕ, zero, suc, ◌+◌, ◌<◌, List, [], ◌∷◌, ◌++◌, length, get_or, take, map, filter_map, Option, Some, None, Bool, true, false, sym, ◌∙◌, ap, arith}
 use Rattle.std.proofs.lemmas.{List.map-append, List.append-nil, List.Elements.filter_map-append, List.Folds.list_any-append, Grind.take_at_read}
 use Rattle.std.specs.List.{cons_option, list_any}
+use Rattle.std.specs.Prelude.{◌||◌}
+
+-- one of two holds
+
+pub or_by : (a b : Bool) → (a || b) ≡ true → (a ≡ true) ⊎ (b ≡ true)
+or_by true b h = inl refl
+or_by false b h = inr h
+
+pub or_first : (a b : Bool) → a ≡ true → (a || b) ≡ true
+or_first a b h = grind arith
+
+pub or_later : (a b : Bool) → b ≡ true → (a || b) ≡ true
+or_later true b h = refl
+or_later false b h = h
+
+pub or_false : (a b : Bool) → (a || b) ≡ false → (a ≡ false) × (b ≡ false)
+or_false true b h = absurd (grind arith)
+or_false false b h = (refl, h)
 
 module _ {X Y : Type 0} (f : X → Y) where
   -- one item more

@@ -8,7 +8,7 @@ use Rattle.fb_verify.specs.Stack.{last_link}
 use Rattle.fb_rules.specs.{Bounds.AreAllowed, Cost.head_reads, Told.stopped, Told.IsAskedAt, Told.IsHead}
 use Rattle.fb_strict.specs.declared.room.Frame.{Frame}
 use Rattle.fb_strict.specs.Asked.{Demand, demands_reads}
-use Rattle.fb_strict.specs.Passing.{Passing, asks_of, IsPassing, blank, opened, frame_links, AreLinked, IsNext, AreLeft, Breaks, Moves, GoesOn, Halts, Turns, Turned, IsStanding, work_left, frames_work, WentBy, WentOn}
+use Rattle.fb_strict.specs.Passing.{Passing, wants_of, IsPassing, blank, opened, frame_links, AreLinked, IsNext, AreLeft, Breaks, Moves, GoesOn, Halts, Turns, Turned, IsStanding, work_left, frames_work, WentBy, WentOn}
 use Rattle.fb_strict.proofs.Moving.{still, onward, breaks_then, met, unmet}
 use Rattle.fb_strict.proofs.{Frames.opened_left, Frames.head_first, Stacks.some_deep}
 
@@ -19,8 +19,8 @@ joined p m mid new ds some left f g =
 -- a pass that stops after it went on, over the same bytes
 pub halts_then : (p : Passing) (m mid new : Lent) (ds left : List Demand) (frames : List Frame) (h : Halt) → mid.bytes ≡ m.bytes → Moves p.limits m.count ds mid.count left → Halts p mid new left frames h → Halts p m new ds frames h
 halts_then p m mid new ds left frames h bytes moves s = record {
-  breaks = breaks_then p.limits (stopped h.stop new.count) _ moves (subst (λ b. Breaks p.limits mid.count left (stopped h.stop new.count) (frame_links (asks_of p) b p.rows frames h.links ++ last_link h.last (stopped h.stop new.count))) bytes s.breaks);
-  linked = subst (λ b. AreLinked (asks_of p) p.checks b p.rows frames h.links) bytes s.linked;
+  breaks = breaks_then p.limits (stopped h.stop new.count) _ moves (subst (λ b. Breaks p.limits mid.count left (stopped h.stop new.count) (frame_links (wants_of p) b p.rows frames h.links ++ last_link h.last (stopped h.stop new.count))) bytes s.breaks);
+  linked = subst (λ b. AreLinked (wants_of p) p.checks b p.rows frames h.links) bytes s.linked;
   within = s.within;
 }
 
@@ -126,10 +126,10 @@ module _ (m reads then-reads bare new : Lent) (lent : reads ≡ record m { base 
 
   pub loan_halts : (p : Passing) (ds : List Demand) (frames : List Frame) (h : Halt) → Halts p reads then-reads ds frames h → Halts p m new ds frames h
   loan_halts p ds frames h s = record {
-    breaks = subst (λ n. Breaks p.limits m.count ds (stopped h.stop n) (frame_links (asks_of p) m.bytes p.rows frames h.links ++ last_link h.last (stopped h.stop n))) (sym settled_count)
-        (subst (λ b. Breaks p.limits m.count ds (stopped h.stop then-reads.count) (frame_links (asks_of p) b p.rows frames h.links ++ last_link h.last (stopped h.stop then-reads.count))) lent_bytes
-        (subst (λ n. Breaks p.limits n ds (stopped h.stop then-reads.count) (frame_links (asks_of p) reads.bytes p.rows frames h.links ++ last_link h.last (stopped h.stop then-reads.count))) lent_count s.breaks));
-    linked = subst (λ b. AreLinked (asks_of p) p.checks b p.rows frames h.links) lent_bytes s.linked;
+    breaks = subst (λ n. Breaks p.limits m.count ds (stopped h.stop n) (frame_links (wants_of p) m.bytes p.rows frames h.links ++ last_link h.last (stopped h.stop n))) (sym settled_count)
+        (subst (λ b. Breaks p.limits m.count ds (stopped h.stop then-reads.count) (frame_links (wants_of p) b p.rows frames h.links ++ last_link h.last (stopped h.stop then-reads.count))) lent_bytes
+        (subst (λ n. Breaks p.limits n ds (stopped h.stop then-reads.count) (frame_links (wants_of p) reads.bytes p.rows frames h.links ++ last_link h.last (stopped h.stop then-reads.count))) lent_count s.breaks));
+    linked = subst (λ b. AreLinked (wants_of p) p.checks b p.rows frames h.links) lent_bytes s.linked;
     within = s.within;
   }
 

@@ -1,11 +1,11 @@
 -- At most one strict answer applies to a question, and what a strict ok says beside.
-use Rattle.std.proofs.Common.{◌≡◌, ℕ, inl, inr, List, Some, Ok, Err, refl, ap, arith}
+use Rattle.std.proofs.Common.{◌≡◌, ℕ, inl, inr, List, Some, Result, Ok, Err, refl, sym, subst, ap, arith}
 use Rattle.fb_rules.specs.declared.{fault.Fault.Fault, fault.Report.Report}
 use Rattle.fb_rules.specs.{Question.Question, Places.target, WellFormed.base, WellFormed.cost}
 use Rattle.fb_rules.proofs.{Overruns.one_tree, Overruns.stops_nowhere, OneFault.stops_once}
 use Rattle.fb_strict.specs.{Planned.Planned, Planned.IsPlan, Asked.first_fault}
 use Rattle.fb_strict.specs.Strictly.{ReportsStrictly, StopsStrictly}
-use Rattle.fb_strict.specs.Laws.{StrictIsOk, UnionsLeadInside, HasOneStrictVerdict}
+use Rattle.fb_strict.specs.Laws.{StrictIsOk, UnionsLeadInside, AppliesStrictly, HasOneStrictVerdict}
 use Rattle.fb_strict.proofs.{Reading.value_inside, Reading.element_inside, Verdicts.asked, Verdicts.same_tree, Verdicts.tells}
 
 pub strict_is_ok : StrictIsOk
@@ -18,12 +18,12 @@ strict_is_ok p q b r h = record {
 }
 
 pub unions_lead_inside : UnionsLeadInside
-unions_lead_inside p q b r y h u =
+unions_lead_inside p q b r y asked h u =
     let same : h.found ≡ y = one_tree q.checks b q.rows h.found y q.root (target b (base q.start)) h.well_formed.unfolds u in
     let strict = rw same at (h.strict).tables in
-    (value_inside y q.checks b q.rows strict, element_inside y q.checks b q.rows strict)
+    (value_inside y p.demands q.checks b q.rows asked strict, element_inside y p.demands q.checks b q.rows asked strict)
 
-module _ (p : Planned) (q : Question) (b : List ℕ) (plan : IsPlan q.rows p) where
+module _ (p : Planned) (q : Question) (b : List ℕ) (plan : IsPlan q.rows p.demands p) where
   -- two reports count the same tree
   one_report : (r s : Report) → ReportsStrictly p q b r → ReportsStrictly p q b s → r ≡ s
   one_report r s g h =
@@ -48,8 +48,11 @@ module _ (p : Planned) (q : Question) (b : List ℕ) (plan : IsPlan q.rows p) wh
       let first : first_fault q.limits (cost q b i.found) (asked p q b i.found) ≡ Some f = rw same at h.first in
       cc
 
+by_plan : (p : Planned) (q : Question) (b : List ℕ) (x y : Result Report Fault) → IsPlan q.rows p.demands p → AppliesStrictly p q b x → AppliesStrictly p q b y → x ≡ y
+by_plan p q b (Ok r) (Ok s) plan g h = ap Ok (one_report p q b plan r s g h)
+by_plan p q b (Ok r) (Err f) plan g h = absurd (never_both p q b plan r f g h)
+by_plan p q b (Err f) (Ok r) plan g h = absurd (never_both p q b plan r f h g)
+by_plan p q b (Err f) (Err e) plan g h = ap Err (one_fault p q b plan f e g h)
+
 pub one_verdict : HasOneStrictVerdict
-one_verdict p q b (Ok r) (Ok s) plan g h = ap Ok (one_report p q b plan r s g h)
-one_verdict p q b (Ok r) (Err f) plan g h = absurd (never_both p q b plan r f g h)
-one_verdict p q b (Err f) (Ok r) plan g h = absurd (never_both p q b plan r f h g)
-one_verdict p q b (Err f) (Err e) plan g h = ap Err (one_fault p q b plan f e g h)
+one_verdict D p q b x y plan g h = by_plan p q b x y (subst (λ E. IsPlan q.rows E p) (sym plan.demands) plan) g h

@@ -10,11 +10,11 @@ use Rattle.fb_rules.specs.{MostReads.within_budget, MostReads.most_reads, Stops.
 use Rattle.fb_rules.specs.Order.{Failure, check, after, ◌▷◌, offset_failure}
 use Rattle.fb_rules.specs.Tree.{Tree, node, Kids, no_kids, kid, Elements, no_elements, element, Element, leaf, table, size}
 use Rattle.fb_rules.proofs.{Budgets.near, Few.head_few, Few.slot_few, Few.if_present_few, Price.cost_is_bounded, Price.reads_are_bounded}
-use Rattle.fb_strict.specs.InOrder.{length_failure, inside_failure, value_failure, value_reads, union_failure, union_reads}
+use Rattle.fb_strict.specs.InOrder.{where_asked, length_failure, inside_failure, value_failure, value_reads, union_failure, union_reads}
 use Rattle.fb_strict.specs.InOrder.{together_failure, typed_failure, typed_reads, element_failure, element_reads}
 use Rattle.fb_strict.specs.Asked.{Demand, Types, reading, vectors_reads, field_demands, row_types, row_place, next_types, element_demands, object_of}
 use Rattle.fb_strict.specs.Asked.{demands_in, demands_in_fields, demands_in_row, demands_below, demands_of, demands_reads, demand_fault, first_fault}
-use Rattle.fb_strict.specs.{MostReads.most_reads_strictly, Planned.Planned, Planned.marked, Laws.StrictCostIsBounded, Laws.StrictReadsAreBounded}
+use Rattle.fb_strict.specs.{MostReads.most_reads_strictly, Planned.Planned, Planned.wants_in, Skipped.Wants, Skipped.is_kind_asked, Laws.StrictCostIsBounded, Laws.StrictReadsAreBounded}
 use Rattle.fb_strict.specs.Strictly.{strict_cost}
 use Rattle.fb_strict.proofs.{Few.first_reads, Few.union_few, Few.vectors_few, Few.element_few, Few.tree_few, Verdicts.first_few, Verdicts.least_of}
 
@@ -49,31 +49,44 @@ module _ (c : Checks) (b : List ℕ) where
   value_most p (Some member) = tt
 
   module _ (S : Rows) where
-    union_most : (e t : ℕ) (types place : Option ℕ) → AtMost (union_reads b S e types place) (union_failure c b S e t types place)
+    union_most : (e t : ℕ) (types place : Option ℕ) → AtMost (union_reads true b S e types place) (union_failure c b S e t types place)
     union_most e t types place = grind (arith, nat_tests, value_most)
 
     typed_most : (e type p : ℕ) → AtMost (typed_reads S e type) (typed_failure c b S e type p)
     typed_most e type p = grind (arith, value_most)
 
-    element_most : (e q p : ℕ) → AtMost (element_reads b S e q) (element_failure c b S e q p)
+    element_most : (e q p : ℕ) → AtMost (element_reads true b S e q) (element_failure c b S e q p)
     unfolding element_reads element_failure
     element_most e q p = after_most 1 _ _ (typed_most e _ p)
+
+-- so it is where it is asked, with the reads that are made then
+asked_most : (x : Bool) (n : ℕ) (e : Option Failure) → (x ≡ true → AtMost n e) → AtMost n (where_asked x e)
+asked_most true n e h = h refl
+asked_most false n e h = tt
+
+union_told : (x : Bool) (c : Checks) (b : List ℕ) (S : Rows) (e t : ℕ) (types place : Option ℕ) → AtMost (union_reads x b S e types place) (where_asked x (union_failure c b S e t types place))
+union_told true c b S e t types place = union_most c b S e t types place
+union_told false c b S e t types place = tt
+
+element_told : (x : Bool) (c : Checks) (b : List ℕ) (S : Rows) (e q p : ℕ) → AtMost (element_reads x b S e q) (where_asked x (element_failure c b S e q p))
+element_told true c b S e q p = element_most c b S e q p
+element_told false c b S e q p = tt
 
 together_most : (types place : Option ℕ) → AtMost (vectors_reads types place) (together_failure types place)
 together_most types place = grind arith
 
-module _ (asks : ℕ → Bool) (c : Checks) (b : List ℕ) (S : Rows) where
+module _ (w : Wants) (c : Checks) (b : List ℕ) (S : Rows) where
   by_ask : (x : Bool) (d : Demand) (ds : List Demand) → IsCheap d → AreCheap ds → AreCheap (if x then d ∷ ds else [])
   by_ask true d ds h i = (h, i)
   by_ask false d ds h i = tt
 
-  own_cheap : (links : List Link) (k n t slot : ℕ) (types place : Option ℕ) (kind : Kind) → AreCheap (field_demands asks c b S links k n t slot types place kind)
-  own_cheap links k n t slot types place (Table j) = by_ask (asks j) _ [] (tt, omega (arith, slot_few b t slot)) tt
+  own_cheap : (links : List Link) (k n t slot : ℕ) (types place : Option ℕ) (kind : Kind) → AreCheap (field_demands w.demands c b S links k n t slot types place kind)
+  own_cheap links k n t slot types place (Table j) = ((tt, omega (arith, slot_few b t slot)), tt)
   own_cheap links k n t slot types place (Union e) =
-      ((after_most _ _ _ (union_most c b S e t types place), omega (arith, slot_few b t slot, slot_few b t (slot - 2), union_few b S e types place)), tt)
-  own_cheap links k n t slot types place (Tables j) = by_ask (asks j) _ [] (tt, omega (arith, slot_few b t slot, if_present_few 2 place)) tt
+      ((after_most _ _ _ (union_told w.demands.unions c b S e t types place), omega (arith, slot_few b t slot, slot_few b t (slot - 2), union_few w.demands.unions b S e types place)), tt)
+  own_cheap links k n t slot types place (Tables j) = ((tt, omega (arith, slot_few b t slot, if_present_few 2 place)), tt)
   own_cheap links k n t slot types place (Unions e) =
-      ((after_most _ _ _ (together_most types place), omega (arith, slot_few b t slot, slot_few b t (slot - 2), vectors_few types place)), tt)
+      ((after_most _ _ _ (asked_most w.demands.unions _ _ (λ on. together_most types place)), omega (arith, slot_few b t slot, slot_few b t (slot - 2), vectors_few types place)), tt)
   own_cheap links k n t slot types place (Scalar s) = tt
   own_cheap links k n t slot types place Text = tt
   own_cheap links k n t slot types place (Struct j) = tt
@@ -81,43 +94,43 @@ module _ (asks : ℕ → Bool) (c : Checks) (b : List ℕ) (S : Rows) where
   own_cheap links k n t slot types place Texts = tt
   own_cheap links k n t slot types place (Structs j) = tt
 
-  element_cheap : (links : List Link) (k n p : ℕ) (types : Option Types) → AreCheap (element_demands c b S links k n p types)
+  element_cheap : (links : List Link) (k n p : ℕ) (types : Option Types) → AreCheap (element_demands w.demands c b S links k n p types)
   element_cheap links k n p None = tt
-  element_cheap links k n p (Some ts) = ((element_most c b S ts.union ts.at p, omega (arith, element_few b S ts.union ts.at)), tt)
+  element_cheap links k n p (Some ts) = ((element_told w.demands.unions c b S ts.union ts.at p, omega (arith, element_few w.demands.unions b S ts.union ts.at)), tt)
+
+  gated_cheap : (x : Bool) (ds : List Demand) → AreCheap ds → AreCheap (if x then ds else [])
+  gated_cheap true ds h = h
+  gated_cheap false ds h = tt
 
   mutual
     unfolding demands_in demands_in_fields demands_in_row demands_below
 
-    tree_cheap : (y : Tree) (via : List Link) → AreCheap (demands_in y asks c b S via)
+    tree_cheap : (y : Tree) (via : List Link) → AreCheap (demands_in y w c b S via)
     tree_cheap (node k t kids) via = ((tt, omega (arith, head_few c)), fields_cheap kids via k t (live_fields S k))
 
-    fields_cheap : (kids : Kids) (via : List Link) (k t : ℕ) (fs : List Live) → AreCheap (demands_in_fields kids asks c b S via k t fs)
+    fields_cheap : (kids : Kids) (via : List Link) (k t : ℕ) (fs : List Live) → AreCheap (demands_in_fields kids w c b S via k t fs)
     fields_cheap no_kids via k t fs = tt
     fields_cheap (kid ys kids) via k t [] = tt
     fields_cheap (kid ys kids) via k t (f ∷ fs) =
         let types = type_place b t f.slot in
         let place = field_place b t f.slot in
         let row = row_cheap ys _ k f.number 0 (row_place b place f.kind) (row_types b types f.kind) in
-        cheap_joined _ _ (own_cheap _ k f.number t f.slot types place f.kind) (cheap_joined _ _ row (fields_cheap kids via k t fs))
+        cheap_joined _ _ (gated_cheap (is_kind_asked w S f.kind) _ (cheap_joined _ _ (own_cheap _ k f.number t f.slot types place f.kind) row)) (fields_cheap kids via k t fs)
 
-    row_cheap : (ys : Elements) (way : ℕ → List Link) (k n j p : ℕ) (types : Option Types) → AreCheap (demands_in_row ys asks c b S way k n j p types)
+    row_cheap : (ys : Elements) (way : ℕ → List Link) (k n j p : ℕ) (types : Option Types) → AreCheap (demands_in_row ys w c b S way k n j p types)
     row_cheap no_elements way k n j p types = tt
     row_cheap (element y ys) way k n j p types =
         cheap_joined _ _ (element_cheap (way j) k n p types) (cheap_joined _ _ (below_cheap y (way j) k n p) (row_cheap ys way k n (j + 1) (p + 4) (next_types types)))
 
-    below_cheap : (y : Element) (links : List Link) (k n p : ℕ) → AreCheap (demands_below y asks c b S links k n p)
+    below_cheap : (y : Element) (links : List Link) (k n p : ℕ) → AreCheap (demands_below y w c b S links k n p)
     below_cheap leaf links k n p = tt
-    below_cheap (table y) links k n p = by_ask (asks (object_of y)) (reading links k (Some n) p 1) (demands_in y asks c b S links) (tt, omega arith) (tree_cheap y links)
+    below_cheap (table y) links k n p = by_ask (w.asks (object_of y)) (reading links k (Some n) p 1) (demands_in y w c b S links) (tt, omega arith) (tree_cheap y links)
 
   short_cheap : AtMost 0 (length_failure b)
   short_cheap = grind (arith, nat_tests)
 
-  cheap_below : (x : Bool) (ds : List Demand) → AreCheap ds → AreCheap (if x then ds else [])
-  cheap_below true ds h = h
-  cheap_below false ds h = tt
-
-  buffer_cheap : (root : ℕ) (y : Tree) → AreCheap (demands_of asks c b S root y)
-  buffer_cheap root y = ((short_cheap, omega arith), cheap_below (asks root) (demands_in y asks c b S []) (tree_cheap y []))
+  buffer_cheap : (root : ℕ) (y : Tree) → AreCheap (demands_of w c b S root y)
+  buffer_cheap root y = ((asked_most w.demands.unions 0 (length_failure b) (λ on. short_cheap), omega arith), gated_cheap (w.asks root) (demands_in y w c b S []) (tree_cheap y []))
 
 -- the first fault of such demands
 module _ (L : Bounds) (f : Fault) where
@@ -160,12 +173,12 @@ lesser : (budget : Option ℕ) (n m : ℕ) → n ≤ m → n ≤ within_budget b
 lesser budget n m h i = grind arith
 
 pass_cost : (p : Planned) (q : Question) (b : List ℕ) (y : Tree) → IsWellFormed q b y → size y ≤ (q.limits).tables
-    → demands_reads (demands_of (marked p.marks) q.checks b q.rows q.root y) ≤ (q.limits).tables * (3 + widest q.rows * (8 + length b))
+    → demands_reads (demands_of (wants_in p) q.checks b q.rows q.root y) ≤ (q.limits).tables * (3 + widest q.rows * (8 + length b))
 pass_cost p q b y h many =
-    let few = tree_few (marked p.marks) q.checks b q.rows y [] q.root (target b (base q.start)) h.unfolds in
+    let few = tree_few (wants_in p) q.checks b q.rows y [] q.root (target b (base q.start)) h.unfolds in
     let all = mul-le-mul_left (3 + widest q.rows * (8 + length b)) many in
-    let d : Demand = record { links = []; object = q.root; field = None; at = length b; reads = 0; chain = length_failure b } in
-    first_few (marked p.marks q.root) d (demands_in y (marked p.marks) q.checks b q.rows []) _ refl (omega (arith, few, all))
+    let d : Demand = record { links = []; object = q.root; field = None; at = length b; reads = 0; chain = where_asked p.demands.unions (length_failure b) } in
+    first_few ((wants_in p).asks q.root) d (demands_in y (wants_in p) q.checks b q.rows []) _ refl (omega (arith, few, all))
 
 walk_cost : (o : Option ℕ) (cost n : ℕ) → cost ≤ within_budget o n → cost ≤ n
 walk_cost o cost n h = omega (arith, h, least_of o n)
@@ -186,7 +199,7 @@ strict_reads_are_bounded p q b f (inl h) = more_budget (q.limits).reads _ _ f.re
 strict_reads_are_bounded p q b f (inr h) =
     let walk = walk_cost (q.limits).reads (cost q b h.found) _ (cost_is_bounded q b h.found h.well_formed h.within) in
     let pass = pass_cost p q b h.found h.well_formed (h.within).tables in
-    let ds = demands_of (marked p.marks) q.checks b q.rows q.root h.found in
-    let cheap = buffer_cheap (marked p.marks) q.checks b q.rows q.root h.found in
+    let ds = demands_of (wants_in p) q.checks b q.rows q.root h.found in
+    let cheap = buffer_cheap (wants_in p) q.checks b q.rows q.root h.found in
     let soon = comes_soon q.limits f ds (cost q b h.found) cheap (h.within).reads h.first in
     lesser (q.limits).reads f.reads _ (omega (arith, walk, pass, soon.0)) soon.1

@@ -1,16 +1,19 @@
 -- The queue of the objects that are marked, and the marks once each of them was followed.
-use Rattle.std.proofs.Common.{◌≡◌, ◌⊎◌, inl, inr, ℕ, zero, suc, ◌+◌, ◌<◌, ◌≤◌, List, [], ◌∷◌, ◌++◌, length, length-append, replicate, slice_get, get_or, Some, None, Bool, true, false, not, cond, sym, ◌∙◌, ap, subst, refl, arith}
+use Rattle.std.proofs.Common.{◌≡◌, ◌⊎◌, inl, inr, ℕ, zero, suc, ◌+◌, ◌<◌, ◌≤◌, List, [], ◌∷◌, ◌++◌, length, length-append, replicate, slice_get, get_or, Option, Some, None, Bool, true, false, not, cond, sym, ◌∙◌, ap, subst, refl, arith}
 use Rattle.std.specs.List.{list_any, count_by}
 use Rattle.std.specs.Prelude.{◌||◌}
+use Rattle.fb_strict.proofs.Lists.{or_by, or_first, or_later}
+use Rattle.fb_strict.specs.declared.demands.Demands.{Demands}
 use Rattle.std.proofs.Math.ListN.{set}
 use Rattle.std.proofs.lemmas.{List.length-set, List.length-replicate, List.Sums.sum_by-set, Option.slice_get_within, Option.slice_get-get_or, Bool.cases_lt, Bool.cases_Bool}
 use Rattle.fb_schema.specs.declared.kinds.Kind.{Kind}
 use Rattle.fb_schema.specs.declared.kinds.Kind.TheVariants.{Scalar, Text, Struct, Table, Union, Scalars, Texts, Structs, Tables, Unions}
-use Rattle.fb_schema.specs.{Rows.Rows, Rows.is_table, Live.Live, Live.live_fields}
+use Rattle.fb_schema.specs.{Rows.Rows, Rows.is_table, Live.Live, Live.live_fields, Members.member_of}
 use Rattle.fb_strict.specs.declared.leads.Edge.{Edge}
-use Rattle.fb_strict.specs.Leading.{leads_to, LeadAmong, IsOn, IsFrom, AreLeads}
-use Rattle.fb_strict.specs.Marking.{IsQueue, NoneMarked, Grew, Spread, UnionsMarked}
-use Rattle.fb_strict.specs.{Planned.marked, Planned.AreFounded, Skipped.is_kind_asked, Skipped.has_asked, Skipped.IsClosed, Skipped.ReachesUnion}
+use Rattle.fb_strict.specs.Leading.{MemberLeads, KindLeads, LeadAmong, IsOn, IsFrom, AreLeads}
+use Rattle.fb_strict.specs.Marking.{IsQueue, NoneMarked, Grew, Spread, OwnMarked}
+use Rattle.fb_strict.specs.{Planned.marked, Planned.marked_wants, Planned.AreFounded}
+use Rattle.fb_strict.specs.Skipped.{Wants, is_member_asked, some_member, is_kind_asked, has_asked, IsClosed, ReachesDemand}
 use Rattle.fb_strict.proofs.Marks.{no_fields, past_all, before, last, reaches}
 use Rattle.fb_strict.proofs.Leading.{none_on, first_or_later}
 
@@ -109,14 +112,14 @@ module _ (marks : List Bool) (queue : List ℕ) (q : IsQueue marks queue) (objec
       all = λ k at. ap (marked (set marks object true)) at ∙ marked_at marks object within;
     }
 
--- the objects with a union
+-- the objects of which something is demanded by themselves
 
-module _ (S : Rows) where
-  none_asked : (k : ℕ) → marked [] k ≡ true → ReachesUnion S k
+module _ (D : Demands) (S : Rows) where
+  none_asked : (k : ℕ) → marked [] k ≡ true → ReachesDemand D S k
   none_asked k h = absurd (grind arith)
 
-  pub unions_none : (marks : List Bool) (queue : List ℕ) → NoneMarked (length S.objects) marks queue → UnionsMarked S 0 marks queue
-  unions_none marks queue new =
+  pub own_none : (marks : List Bool) (queue : List ℕ) → NoneMarked (length S.objects) marks queue → OwnMarked D S 0 marks queue
+  own_none marks queue new =
       let none = λ (k : ℕ) (h : marked marks k ≡ true). none_marked (length S.objects) k (sym (ap (λ ms. marked ms k) new.marks_are) ∙ h) in
       record {
         queued = record {
@@ -128,17 +131,17 @@ module _ (S : Rows) where
         all = λ k lt h. absurd (omega (arith, lt));
       }
 
-  module _ (n : ℕ) (marks : List Bool) (queue : List ℕ) (h : UnionsMarked S n marks queue) where
-    pub unions_more : has_asked (marked []) S n ≡ true → (marks' : List Bool) (queue' : List ℕ) → Spread (λ k. k ≡ n) marks queue marks' queue' → UnionsMarked S (n + 1) marks' queue'
-    unions_more is marks' queue' s = record {
+  module _ (n : ℕ) (marks : List Bool) (queue : List ℕ) (h : OwnMarked D S n marks queue) where
+    pub own_more : has_asked (marked_wants D []) S n ≡ true → (marks' : List Bool) (queue' : List ℕ) → Spread (λ k. k ≡ n) marks queue marks' queue' → OwnMarked D S (n + 1) marks' queue'
+    own_more is marks' queue' s = record {
       queued = s.grew.queued;
       long = s.grew.long ∙ h.long;
-      founded = λ k m. elim (s.grew.only k m) [ inl was ↦ h.founded k was | inr at ↦ subst (ReachesUnion S) (sym at) (reaches S (marked []) none_asked n is) ];
+      founded = λ k m. elim (s.grew.only k m) [ inl was ↦ h.founded k was | inr at ↦ subst (ReachesDemand D S) (sym at) (reaches D S (marked []) none_asked n is) ];
       all = λ k lt asked. elim (cases_lt k n) [ inl below ↦ s.grew.kept k (h.all k below asked) | inr here ↦ s.all k (omega (arith, lt, here)) ];
     }
 
-    pub unions_same : has_asked (marked []) S n ≡ false → UnionsMarked S (n + 1) marks queue
-    unions_same isnt = record {
+    pub own_same : has_asked (marked_wants D []) S n ≡ false → OwnMarked D S (n + 1) marks queue
+    own_same isnt = record {
       queued = h.queued;
       long = h.long;
       founded = h.founded;
@@ -146,16 +149,16 @@ module _ (S : Rows) where
         | inl below ↦ h.all k below asked
         | inr here ↦
             let at : k ≡ n = omega (arith, lt, here) in
-            let w : true ≡ false = sym asked ∙ ap (has_asked (marked []) S) at ∙ isnt in
+            let w : true ≡ false = sym asked ∙ ap (has_asked (marked_wants D []) S) at ∙ isnt in
             absurd (cc)
       ];
     }
 
-    pub unions_all : length S.objects ≤ n → UnionsMarked S (length S.objects) marks queue
-    unions_all most = record { queued = h.queued; long = h.long; founded = h.founded; all = λ k lt asked. h.all k (omega (arith, lt, most)) asked }
+    pub own_all : length S.objects ≤ n → OwnMarked D S (length S.objects) marks queue
+    own_all most = record { queued = h.queued; long = h.long; founded = h.founded; all = λ k lt asked. h.all k (omega (arith, lt, most)) asked }
 
-  pub no_union : (k : ℕ) → is_table S k ≡ false → has_asked (marked []) S k ≡ false
-  no_union k isnt = ap (list_any (λ (f : Live). is_kind_asked (marked []) f.kind)) (no_fields S k isnt)
+  pub none_own : (k : ℕ) → is_table S k ≡ false → has_asked (marked_wants D []) S k ≡ false
+  none_own k isnt = ap (list_any (λ (f : Live). is_kind_asked (marked_wants D []) S f.kind)) (no_fields S k isnt)
 
 -- the chain of an object is followed to this place
 pub record Followed (edges : List Edge) (top : ℕ) (marks : List Bool) (queue : List ℕ) (marks' : List Bool) (queue' : List ℕ) (p : ℕ) : Type 0 where
@@ -184,103 +187,152 @@ module _ (edges : List Edge) (top : ℕ) (marks : List Bool) (queue : List ℕ) 
     pub followed_all : p ≡ 0 → Spread (λ k. IsOn edges k top) marks queue mid some
     followed_all z = record { grew = h.grew; all = λ k on. elim (h.done k on) [ inl is ↦ is | inr none ↦ absurd (none_on edges k p z none) ] }
 
--- fields that are asked
+-- what is asked
 
-kind_by : (asks : ℕ → Bool) (kind : Kind) → is_kind_asked asks kind ≡ true → (is_kind_asked (marked []) kind ≡ true) ⊎ ((t : ℕ) × (asks t ≡ true) × (leads_to kind ≡ Some t))
-kind_by asks (Table k) h = inr (k, h, refl)
-kind_by asks (Tables k) h = inr (k, h, refl)
-kind_by asks (Union e) h = inl refl
-kind_by asks (Unions e) h = inl refl
-kind_by asks (Scalar s) h = inl h
-kind_by asks Text h = inl h
-kind_by asks (Struct k) h = inl h
-kind_by asks (Scalars s) h = inl h
-kind_by asks Texts h = inl h
-kind_by asks (Structs k) h = inl h
+module _ (D : Demands) (S : Rows) (asks : ℕ → Bool) where
+  abbrev w : Wants
+  w = record { demands = D; asks = asks }
 
-or_by : (a b : Bool) → (a || b) ≡ true → (a ≡ true) ⊎ (b ≡ true)
-or_by true b h = inl refl
-or_by false b h = inr h
+  abbrev own : Wants
+  own = marked_wants D []
 
-or_first : (a b : Bool) → a ≡ true → (a || b) ≡ true
-or_first a b h = grind arith
-
-or_later : (a b : Bool) → b ≡ true → (a || b) ≡ true
-or_later true b h = refl
-or_later false b h = h
-
--- one of these fields is asked by itself, or leads to what is
-asked_by : (asks : ℕ → Bool) (fs : List Live) → list_any (λ (f : Live). is_kind_asked asks f.kind) fs ≡ true
-    → (list_any (λ (f : Live). is_kind_asked (marked []) f.kind) fs ≡ true) ⊎ ((t : ℕ) × (asks t ≡ true) × LeadAmong fs t)
-asked_by asks [] h = absurd (grind arith)
-asked_by asks (f ∷ fs) h = elim (or_by (is_kind_asked asks f.kind) (list_any (λ (f : Live). is_kind_asked asks f.kind) fs) h) [
-  | inl is ↦ elim (kind_by asks f.kind is) [
-    | inl own ↦ inl (or_first (is_kind_asked (marked []) f.kind) (list_any (λ (f : Live). is_kind_asked (marked []) f.kind) fs) own)
-    | inr led ↦ inr (led.0, led.1, inl led.2)
+  -- one member that is asked is enough
+  pub has_member : (e n value : ℕ) → value < n → is_member_asked w (member_of S e value) ≡ true → some_member w S e n ≡ true
+  unfolding some_member
+  has_member e zero value lt is = absurd (omega (arith, lt))
+  has_member e (suc n) value lt is = elim (cases_lt value n) [
+    | inl below ↦ or_later (is_member_asked w (member_of S e n)) (some_member w S e n) (has_member e n value below is)
+    | inr here ↦ (let same : value ≡ n = omega (arith, lt, here) in or_first (is_member_asked w (member_of S e n)) (some_member w S e n) (ap (λ v. is_member_asked w (member_of S e v)) (sym same) ∙ is))
   ]
-  | inr more ↦ elim (asked_by asks fs more) [
-    | inl own ↦ inl (or_later (is_kind_asked (marked []) f.kind) (list_any (λ (f : Live). is_kind_asked (marked []) f.kind) fs) own)
-    | inr led ↦ inr (led.0, led.1, inr led.2)
+
+  pub no_member_yet : (e : ℕ) → some_member w S e 0 ≡ false
+  unfolding some_member
+  no_member_yet e = refl
+
+  pub no_more_member : (e n more : ℕ) → more ≡ n + 1 → some_member w S e n ≡ false → is_member_asked w (member_of S e n) ≡ false → some_member w S e more ≡ false
+  unfolding some_member
+  no_more_member e n zero is none isnt = absurd (omega (arith, is))
+  no_more_member e n (suc more) is none isnt = let same : more ≡ n = omega (arith, is) in rw (same, none, isnt) refl
+
+  -- a member that is asked is a table that is
+  member_by : (o : Option Kind) → is_member_asked w o ≡ true → (t : ℕ) × (asks t ≡ true) × (o ≡ Some (Table t))
+  member_by (Some (Table k)) h = (k, h, refl)
+  member_by None h = absurd (grind arith)
+  member_by (Some (Scalar s)) h = absurd (grind arith)
+  member_by (Some Text) h = absurd (grind arith)
+  member_by (Some (Struct k)) h = absurd (grind arith)
+  member_by (Some (Union e)) h = absurd (grind arith)
+  member_by (Some (Scalars s)) h = absurd (grind arith)
+  member_by (Some Texts) h = absurd (grind arith)
+  member_by (Some (Structs k)) h = absurd (grind arith)
+  member_by (Some (Tables k)) h = absurd (grind arith)
+  member_by (Some (Unions e)) h = absurd (grind arith)
+
+  some_by : (e n : ℕ) → some_member w S e n ≡ true → (t : ℕ) × (asks t ≡ true) × MemberLeads S e n t
+  unfolding some_member
+  some_by e zero h = absurd (grind arith)
+  some_by e (suc n) h = elim (or_by (is_member_asked w (member_of S e n)) (some_member w S e n) h) [
+    | inl here ↦ (let m = member_by (member_of S e n) here in (m.0, m.1, (n, omega arith, m.2)))
+    | inr more ↦ (let m = some_by e n more in (m.0, m.1, ((m.2).0, omega (arith, (m.2).1), (m.2).2)))
   ]
-]
 
-led_kind : (asks : ℕ → Bool) (t : ℕ) → asks t ≡ true → (kind : Kind) → leads_to kind ≡ Some t → is_kind_asked asks kind ≡ true
-led_kind asks t is (Table k) h = let at : k ≡ t = cc in ap asks at ∙ is
-led_kind asks t is (Tables k) h = let at : k ≡ t = cc in ap asks at ∙ is
-led_kind asks t is (Union e) h = refl
-led_kind asks t is (Unions e) h = refl
-led_kind asks t is (Scalar s) h = absurd (cc)
-led_kind asks t is Text h = absurd (cc)
-led_kind asks t is (Struct k) h = absurd (cc)
-led_kind asks t is (Scalars s) h = absurd (cc)
-led_kind asks t is Texts h = absurd (cc)
-led_kind asks t is (Structs k) h = absurd (cc)
+  union_by : (e : ℕ) (x : Bool) → D.unions ≡ x → (D.unions || some_member w S e 256) ≡ true
+      → ((D.unions || some_member own S e 256) ≡ true) ⊎ ((t : ℕ) × (asks t ≡ true) × ((D.unions ≡ false) × MemberLeads S e 256 t))
+  union_by e true is h = inl (or_first D.unions (some_member own S e 256) is)
+  union_by e false is h = elim (or_by D.unions (some_member w S e 256) h) [
+    | inl does ↦ inl (or_first D.unions (some_member own S e 256) does)
+    | inr more ↦ (let m = some_by e 256 more in inr (m.0, m.1, (is, m.2)))
+  ]
 
-led_asked : (asks : ℕ → Bool) (t : ℕ) → asks t ≡ true → (fs : List Live) → LeadAmong fs t → list_any (λ (f : Live). is_kind_asked asks f.kind) fs ≡ true
-led_asked asks t is [] h = absurd h
-led_asked asks t is (f ∷ fs) (inl h) = or_first (is_kind_asked asks f.kind) (list_any (λ (f : Live). is_kind_asked asks f.kind) fs) (led_kind asks t is f.kind h)
-led_asked asks t is (f ∷ fs) (inr h) = or_later (is_kind_asked asks f.kind) (list_any (λ (f : Live). is_kind_asked asks f.kind) fs) (led_asked asks t is fs h)
+  -- a field is asked by itself, or leads to what is
+  kind_by : (kind : Kind) → is_kind_asked w S kind ≡ true → (is_kind_asked own S kind ≡ true) ⊎ ((t : ℕ) × (asks t ≡ true) × KindLeads D S kind t)
+  kind_by (Table k) h = inr (k, h, refl)
+  kind_by (Tables k) h = inr (k, h, refl)
+  kind_by (Union e) h = union_by e D.unions refl h
+  kind_by (Unions e) h = union_by e D.unions refl h
+  kind_by (Scalar s) h = inl h
+  kind_by Text h = inl h
+  kind_by (Struct k) h = inl h
+  kind_by (Scalars s) h = inl h
+  kind_by Texts h = inl h
+  kind_by (Structs k) h = inl h
+
+  -- one of these fields is
+  asked_by : (fs : List Live) → list_any (λ (f : Live). is_kind_asked w S f.kind) fs ≡ true → (list_any (λ (f : Live). is_kind_asked own S f.kind) fs ≡ true) ⊎ ((t : ℕ) × (asks t ≡ true) × LeadAmong D S fs t)
+  asked_by [] h = absurd (grind arith)
+  asked_by (f ∷ fs) h = elim (or_by (is_kind_asked w S f.kind) (list_any (λ (f : Live). is_kind_asked w S f.kind) fs) h) [
+    | inl is ↦ elim (kind_by f.kind is) [
+      | inl itself ↦ inl (or_first (is_kind_asked own S f.kind) (list_any (λ (f : Live). is_kind_asked own S f.kind) fs) itself)
+      | inr led ↦ inr (led.0, led.1, inl led.2)
+    ]
+    | inr more ↦ elim (asked_by fs more) [
+      | inl itself ↦ inl (or_later (is_kind_asked own S f.kind) (list_any (λ (f : Live). is_kind_asked own S f.kind) fs) itself)
+      | inr led ↦ inr (led.0, led.1, inr led.2)
+    ]
+  ]
+
+  -- what leads to an object that is asked is asked
+  module _ (t : ℕ) (is : asks t ≡ true) where
+    led_member : (e n value : ℕ) → value < n → member_of S e value ≡ Some (Table t) → some_member w S e n ≡ true
+    led_member e n value lt at = has_member e n value lt (ap (is_member_asked w) at ∙ is)
+
+    led_kind : (kind : Kind) → KindLeads D S kind t → is_kind_asked w S kind ≡ true
+    led_kind (Table k) h = ap asks (sym h) ∙ is
+    led_kind (Tables k) h = ap asks (sym h) ∙ is
+    led_kind (Union e) h = or_later D.unions (some_member w S e 256) (led_member e 256 (h.1).0 (h.1).1 (h.1).2)
+    led_kind (Unions e) h = or_later D.unions (some_member w S e 256) (led_member e 256 (h.1).0 (h.1).1 (h.1).2)
+    led_kind (Scalar s) h = absurd h
+    led_kind Text h = absurd h
+    led_kind (Struct k) h = absurd h
+    led_kind (Scalars s) h = absurd h
+    led_kind Texts h = absurd h
+    led_kind (Structs k) h = absurd h
+
+    led_asked : (fs : List Live) → LeadAmong D S fs t → list_any (λ (f : Live). is_kind_asked w S f.kind) fs ≡ true
+    led_asked [] h = absurd h
+    led_asked (f ∷ fs) (inl h) = or_first (is_kind_asked w S f.kind) (list_any (λ (f : Live). is_kind_asked w S f.kind) fs) (led_kind f.kind h)
+    led_asked (f ∷ fs) (inr h) = or_later (is_kind_asked w S f.kind) (list_any (λ (f : Live). is_kind_asked w S f.kind) fs) (led_asked fs h)
 
 -- the first n objects in the queue were followed
-pub record FollowedFirst (S : Rows) (lasts : List ℕ) (edges : List Edge) (marks : List Bool) (queue : List ℕ) (n : ℕ) : Type 0 where
+pub record FollowedFirst (D : Demands) (S : Rows) (lasts : List ℕ) (edges : List Edge) (marks : List Bool) (queue : List ℕ) (n : ℕ) : Type 0 where
   pub queued : IsQueue marks queue
   pub long : length marks ≡ length S.objects
-  pub founded : AreFounded S marks
-  pub unions : (k : ℕ) → has_asked (marked []) S k ≡ true → marked marks k ≡ true
+  pub founded : AreFounded D S marks
+  pub own : (k : ℕ) → has_asked (marked_wants D []) S k ≡ true → marked marks k ≡ true
   pub led : (i t : ℕ) → i < n → slice_get queue i ≡ Some t → (k : ℕ) → IsFrom lasts edges k t → marked marks k ≡ true
   pub low : n ≤ length queue
 
-module _ (S : Rows) (lasts : List ℕ) (edges : List Edge) (leads : AreLeads S lasts edges) where
-  pub first_none : (marks : List Bool) (queue : List ℕ) → UnionsMarked S (length S.objects) marks queue → FollowedFirst S lasts edges marks queue 0
+module _ (D : Demands) (S : Rows) (lasts : List ℕ) (edges : List Edge) (leads : AreLeads D S lasts edges) where
+  pub first_none : (marks : List Bool) (queue : List ℕ) → OwnMarked D S (length S.objects) marks queue → FollowedFirst D S lasts edges marks queue 0
   first_none marks queue u = record {
     queued = u.queued;
     long = u.long;
     founded = u.founded;
-    unions = λ k h. elim (cases_lt k (length S.objects)) [
+    own = λ k h. elim (cases_lt k (length S.objects)) [
       | inl lt ↦ u.all k lt h
-      | inr past ↦ (let w : true ≡ false = sym h ∙ no_union S k (past_all S k past) in absurd (cc))
+      | inr past ↦ (let w : true ≡ false = sym h ∙ none_own D S k (past_all S k past) in absurd (cc))
     ];
     led = λ i t lt got k on. absurd (omega (arith, lt));
     low = omega arith;
   }
 
-  module _ (marks : List Bool) (queue : List ℕ) (n : ℕ) (h : FollowedFirst S lasts edges marks queue n) where
+  module _ (marks : List Bool) (queue : List ℕ) (n : ℕ) (h : FollowedFirst D S lasts edges marks queue n) where
     -- what leads to an object is there
     pub from_within : (t k : ℕ) → IsFrom lasts edges k t → k < length marks
     from_within t k on = elim (cases_lt k (length S.objects)) [
       | inl lt ↦ subst (λ m. k < m) (sym h.long) lt
-      | inr past ↦ absurd (subst (λ fs. LeadAmong fs t) (no_fields S k (past_all S k past)) (leads.only k t on))
+      | inr past ↦ absurd (subst (λ fs. LeadAmong D S fs t) (no_fields S k (past_all S k past)) (leads.only k t on))
     ]
 
-    pub first_more : (t : ℕ) → slice_get queue n ≡ Some t → (marks' : List Bool) (queue' : List ℕ) → Spread (λ k. IsFrom lasts edges k t) marks queue marks' queue' → FollowedFirst S lasts edges marks' queue' (n + 1)
+    pub first_more : (t : ℕ) → slice_get queue n ≡ Some t → (marks' : List Bool) (queue' : List ℕ) → Spread (λ k. IsFrom lasts edges k t) marks queue marks' queue' → FollowedFirst D S lasts edges marks' queue' (n + 1)
     first_more t got marks' queue' s = record {
       queued = s.grew.queued;
       long = s.grew.long ∙ h.long;
       founded = λ k m. elim (s.grew.only k m) [
         | inl was ↦ h.founded k was
-        | inr on ↦ reaches S (marked marks) h.founded k (led_asked (marked marks) t (h.queued.only n t got) (live_fields S k) (leads.only k t on))
+        | inr on ↦ reaches D S (marked marks) h.founded k (led_asked D S (marked marks) t (h.queued.only n t got) (live_fields S k) (leads.only k t on))
       ];
-      unions = λ k asked. s.grew.kept k (h.unions k asked);
+      own = λ k asked. s.grew.kept k (h.own k asked);
       led = λ i u lt at k on. elim (cases_lt i n) [
         | inl below ↦
             let v = get_or queue i 0 in
@@ -296,11 +348,11 @@ module _ (S : Rows) (lasts : List ℕ) (edges : List Edge) (leads : AreLeads S l
       low = (let more = slice_get_within queue' n t (s.grew.ahead n t got) in omega (arith, more));
     }
 
-    pub first_all : length queue ≤ n → IsClosed (marked marks) S
-    first_all most k un = elim (cases_Bool (has_asked (marked marks) S k)) [
+    pub first_all : length queue ≤ n → IsClosed (marked_wants D marks) S
+    first_all most k un = elim (cases_Bool (has_asked (marked_wants D marks) S k)) [
       | inr isnt ↦ isnt
-      | inl does ↦ absurd (elim (asked_by (marked marks) (live_fields S k) does) [
-        | inl own ↦ (let w : false ≡ true = sym un ∙ h.unions k own in cc)
+      | inl does ↦ absurd (elim (asked_by D S (marked marks) (live_fields S k) does) [
+        | inl itself ↦ (let w : false ≡ true = sym un ∙ h.own k itself in cc)
         | inr led ↦
             let t = led.0 in
             let at = h.queued.all t led.1 in

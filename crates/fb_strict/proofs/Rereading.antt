@@ -1,5 +1,5 @@
 -- What of the field of a frame's last task can be read again, and the link that is read.
-use Rattle.std.proofs.Common.{◌≡◌, ℕ, ◌-◌, ◌<◌, List, [], Some, None, Bool, true, false, if◌then◌else◌, refl, sym, ap, subst, ◌∙◌, arith}
+use Rattle.std.proofs.Common.{◌≡◌, ℕ, ◌-◌, ◌<◌, List, [], Some, refl, sym, ap, subst, ◌∙◌, arith}
 use Rattle.std.specs.Prelude.{slice_get, slice_index_or}
 use Rattle.std.proofs.lemmas.Option.{get_or_from_slice_get}
 use Rattle.fb_bytes.specs.Word.{word}
@@ -10,21 +10,17 @@ use Rattle.fb_rules.specs.{Places.target, Places.field_place, Fields.type_place,
 use Rattle.fb_rules.proofs.Typed.{present}
 use Rattle.fb_strict.specs.declared.{room.Frame.Frame, tasks.Ask.Ask, tasks.Task.Task}
 use Rattle.fb_strict.specs.declared.tasks.Ask.TheVariants.{Union as AskUnion, Unions as AskUnions, Table as GoInto, Tables as GoIntoEach}
-use Rattle.fb_strict.specs.Planned.{ask_of}
-use Rattle.fb_strict.specs.Passing.{Passing, asks_of, IsKnown, IsTaskable, ask_words, task_words, task_link, link_behind, frame_link, IsLinked}
+use Rattle.fb_strict.specs.Planned.{ask_by}
+use Rattle.fb_strict.specs.Passing.{Passing, wants_of, IsKnown, IsTaskable, ask_words, task_words, task_link, link_behind, frame_link, IsLinked}
 use Rattle.fb_strict.specs.Reread.{WordsStand, MemberStands}
-use Rattle.fb_strict.proofs.{Fields.IsTask, Fields.task_is, Tasking.taskable_by}
+use Rattle.fb_strict.proofs.{Fields.asked_by, Fields.IsTask, Fields.task_is, Tasking.taskable_by}
 
 -- a vector of unions has as many types as offset words
 module _ (p : Passing) (b : List ℕ) (t : ℕ) (f : Live) (known : IsKnown p.checks b p.rows t f) (place : ℕ) (there : field_place b t f.slot ≡ Some place) where
-  no_unions : (e : ℕ) (ask : Ask) (x : Bool) → (if x then Some ask else None) ≡ Some (AskUnions e) → (ask ≡ AskUnions e → ⊥) → ⊥
-  no_unions e ask true h other = other (cc)
-  no_unions e ask false h other = cc
-
-  counts_by : (kind : Kind) → f.kind ≡ kind → (e : ℕ) → ask_of (asks_of p) kind ≡ Some (AskUnions e) → word b (target b place) 4 ≡ type_count b (type_place b t f.slot)
+  counts_by : (kind : Kind) → f.kind ≡ kind → (e : ℕ) → ask_by kind ≡ Some (AskUnions e) → word b (target b place) 4 ≡ type_count b (type_place b t f.slot)
   counts_by (Unions e') kind e h = (present p.checks b p.rows t f place (Unions e') known.own there kind).counts_agree
-  counts_by (Table j) kind e h = absurd (no_unions e (GoInto j) (asks_of p j) h (λ s. cc))
-  counts_by (Tables j) kind e h = absurd (no_unions e (GoIntoEach j) (asks_of p j) h (λ s. cc))
+  counts_by (Table j) kind e h = absurd (cc)
+  counts_by (Tables j) kind e h = absurd (cc)
   counts_by (Union e') kind e h = absurd (cc)
   counts_by (Scalar s) kind e h = absurd (cc)
   counts_by Text kind e h = absurd (cc)
@@ -33,23 +29,26 @@ module _ (p : Passing) (b : List ℕ) (t : ℕ) (f : Live) (known : IsKnown p.ch
   counts_by Texts kind e h = absurd (cc)
   counts_by (Structs j) kind e h = absurd (cc)
 
-  pub counts : (e : ℕ) → ask_of (asks_of p) f.kind ≡ Some (AskUnions e) → word b (target b place) 4 ≡ type_count b (type_place b t f.slot)
+  pub counts : (e : ℕ) → ask_by f.kind ≡ Some (AskUnions e) → word b (target b place) 4 ≡ type_count b (type_place b t f.slot)
   counts e h = counts_by f.kind refl e h
 
-module _ (p : Passing) (b : List ℕ) (fr : Frame) (h : IsLinked (asks_of p) p.checks b p.rows fr) where
+module _ (p : Passing) (b : List ℕ) (fr : Frame) (h : IsLinked (wants_of p) p.checks b p.rows fr) where
   abbrev t : ℕ
   t = (fr.table).at
 
   abbrev task : Task
   task = (h.last).task
 
-  is_task : IsTask p.checks b p.rows (asks_of p) [] (fr.table).object t (h.last).field task
-  is_task = task_is p.checks b p.rows (asks_of p) [] (fr.table).object t (h.last).field task (h.last).its
+  is_task : IsTask p.checks b p.rows (wants_of p) [] (fr.table).object t (h.last).field task
+  is_task = task_is p.checks b p.rows (wants_of p) [] (fr.table).object t (h.last).field task (h.last).its
+
+  its_ask : ask_by ((h.last).field).kind ≡ Some task.ask
+  its_ask = asked_by (wants_of p) p.rows ((h.last).field).kind task.ask is_task.ask
 
   taskable : IsTaskable b p.rows t task.slot (field_place b t task.slot) task.ask
   taskable =
       subst (λ o. IsTaskable b p.rows t o (field_place b t o) task.ask) (sym is_task.slot)
-      (taskable_by (asks_of p) p b t (h.last).field (h.last).known ((h.last).field).kind refl task.ask is_task.ask)
+      (taskable_by p b t (h.last).field (h.last).known ((h.last).field).kind refl task.ask its_ask)
 
   module _ (place : ℕ) (there : field_place b t task.slot ≡ Some place) where
     its_words : task_words b t task ≡ ask_words b (Some place) task.ask
@@ -71,7 +70,7 @@ module _ (p : Passing) (b : List ℕ) (fr : Frame) (h : IsLinked (asks_of p) p.c
     counts_here e is =
         let f = (h.last).field in
         let slot = is_task.slot in
-        let n = counts p b t f (h.last).known place (ap (field_place b t) (sym slot) ∙ there) e (is_task.ask ∙ ap Some is) in
+        let n = counts p b t f (h.last).known place (ap (field_place b t) (sym slot) ∙ there) e (its_ask ∙ ap Some is) in
         subst (λ o. word b (target b place) 4 ≡ type_count b (type_place b t o)) (sym slot) n
 
     member_by : (ask : Ask) → task.ask ≡ ask → IsTaskable b p.rows t task.slot (field_place b t task.slot) ask → (j : ℕ) → j < ask_words b (Some place) ask → MemberStands b t task.slot j ask
@@ -84,7 +83,7 @@ module _ (p : Passing) (b : List ℕ) (fr : Frame) (h : IsLinked (asks_of p) p.c
     member_stands j less = member_by task.ask refl taskable j less
 
     -- the link, by what is read
-    pub link_read : (before : ℕ) → before ≡ ask_words b (Some place) task.ask - (fr.row).left - 1 → task_link b (fr.table).object t task before ≡ frame_link (asks_of p) b p.rows fr
+    pub link_read : (before : ℕ) → before ≡ ask_words b (Some place) task.ask - (fr.row).left - 1 → task_link b (fr.table).object t task before ≡ frame_link (wants_of p) b p.rows fr
     link_read before is =
         let n : before ≡ task_words b t task - (fr.row).left - 1 = omega (arith, is, its_words) in
         ap (task_link b (fr.table).object t task) n ∙ ap (link_behind b fr) (sym (h.last).found)

@@ -10,7 +10,7 @@ use Rattle.fb_rules.specs.{Tree.Tree, Tree.node, Tree.depth, Told.stopped, Told.
 use Rattle.fb_strict.specs.declared.room.Frame.{Frame}
 use Rattle.fb_strict.specs.Asked.{Demand}
 use Rattle.fb_verify.specs.Stack.{own_link}
-use Rattle.fb_strict.specs.Passing.{Passing, asks_of, IsPassing, opened, blank, frame_link, frame_links, IsLinked, AreLinked, IsLeft, AreLeft, Moves, Breaks, GoesOn, frame_work, frames_work, Stays, GoesDown, StopsHere, Halts, Turns}
+use Rattle.fb_strict.specs.Passing.{Passing, wants_of, IsPassing, opened, blank, frame_link, frame_links, IsLinked, AreLinked, IsLeft, AreLeft, Moves, Breaks, GoesOn, frame_work, frames_work, Stays, GoesDown, StopsHere, Halts, Turns}
 use Rattle.fb_strict.proofs.Lists.{one_more}
 use Rattle.fb_strict.proofs.Moving.{onward, before, breaks_before, breaks_then, met, unmet}
 use Rattle.fb_strict.proofs.{Frames.opened_left, Frames.head_first, Frames.next_table, Tasking.opened_few}
@@ -23,10 +23,10 @@ module _ (p : Passing) (b : List ℕ) (frames : List Frame) (m : ℕ) (y : Frame
   same_taken : (n : ℕ) → n ≤ m → take n (set frames m y) ≡ take n frames
   same_taken n le = take-set-le n frames m y le
 
-  pub links_kept : (n : ℕ) → n ≤ m → frame_links (asks_of p) b p.rows (set frames m y) n ≡ frame_links (asks_of p) b p.rows frames n
-  links_kept n le = ap (map (frame_link (asks_of p) b p.rows)) (same_taken n le)
+  pub links_kept : (n : ℕ) → n ≤ m → frame_links (wants_of p) b p.rows (set frames m y) n ≡ frame_links (wants_of p) b p.rows frames n
+  links_kept n le = ap (map (frame_link (wants_of p) b p.rows)) (same_taken n le)
 
-  pub linked_kept : (n : ℕ) → n ≤ m → AreLinked (asks_of p) p.checks b p.rows frames n → AreLinked (asks_of p) p.checks b p.rows (set frames m y) n
+  pub linked_kept : (n : ℕ) → n ≤ m → AreLinked (wants_of p) p.checks b p.rows frames n → AreLinked (wants_of p) p.checks b p.rows (set frames m y) n
   linked_kept n le h i lt = rw (same_frame i (omega arith)) (h i lt)
 
   -- what stands below a frame that is written
@@ -42,10 +42,10 @@ module _ (p : Passing) (b : List ℕ) (frames : List Frame) (m : ℕ) (y : Frame
 
 -- the links of one frame more
 module _ (p : Passing) (b : List ℕ) (frames : List Frame) (n : ℕ) where
-  pub links_more : n < length frames → frame_links (asks_of p) b p.rows frames (suc n) ≡ frame_links (asks_of p) b p.rows frames n ++ frame_link (asks_of p) b p.rows (get_or frames n blank) ∷ []
-  links_more lt = let s : suc n ≡ n + 1 = omega arith in ap (frame_links (asks_of p) b p.rows frames) s ∙ one_more (frame_link (asks_of p) b p.rows) frames n blank lt
+  pub links_more : n < length frames → frame_links (wants_of p) b p.rows frames (suc n) ≡ frame_links (wants_of p) b p.rows frames n ++ frame_link (wants_of p) b p.rows (get_or frames n blank) ∷ []
+  links_more lt = let s : suc n ≡ n + 1 = omega arith in ap (frame_links (wants_of p) b p.rows frames) s ∙ one_more (frame_link (wants_of p) b p.rows) frames n blank lt
 
-  pub linked_more : AreLinked (asks_of p) p.checks b p.rows frames n → IsLinked (asks_of p) p.checks b p.rows (get_or frames n blank) → AreLinked (asks_of p) p.checks b p.rows frames (suc n)
+  pub linked_more : AreLinked (wants_of p) p.checks b p.rows frames n → IsLinked (wants_of p) p.checks b p.rows (get_or frames n blank) → AreLinked (wants_of p) p.checks b p.rows frames (suc n)
   linked_more h one i lt = elim (cases_lt i n) [ inl less ↦ h i less | inr past ↦ (let same : i ≡ n = omega (arith, past, lt) in rw same one) ]
 
 some_head : (c : Checks) → 2 ≤ head_reads c
@@ -55,9 +55,9 @@ pub some_deep : (y : Tree) → 0 < depth y
 unfolding depth
 some_deep (node k t kids) = omega arith
 
-module _ (p : Passing) (m new : Lent) (frames : List Frame) (at : ℕ) (within : at < length frames) (own others : List Demand) (below : AreLeft p m.bytes frames at others) (linked : AreLinked (asks_of p) p.checks m.bytes p.rows frames at) where
+module _ (p : Passing) (m new : Lent) (frames : List Frame) (at : ℕ) (within : at < length frames) (own others : List Demand) (below : AreLeft p m.bytes frames at others) (linked : AreLinked (wants_of p) p.checks m.bytes p.rows frames at) where
   abbrev via : List Link
-  via = frame_links (asks_of p) m.bytes p.rows frames at
+  via = frame_links (wants_of p) m.bytes p.rows frames at
 
   with_others : {left : List Demand} → GoesOn p m new own left → GoesOn p m new (own ++ others) (left ++ others)
   with_others g = record { moves = before p.limits others g.moves; grows = g.grows; same = g.same }
@@ -83,12 +83,12 @@ module _ (p : Passing) (m new : Lent) (frames : List Frame) (at : ℕ) (within :
   })
 
 -- A table below the top was opened: the pass went on to its demands, and then past its head.
-module _ (p : Passing) (m mid new : Lent) (frames : List Frame) (at : ℕ) (within : at < length frames) (own others : List Demand) (below : AreLeft p m.bytes frames at others) (linked : AreLinked (asks_of p) p.checks m.bytes p.rows frames at) (past fr : Frame) (child : Child) where
+module _ (p : Passing) (m mid new : Lent) (frames : List Frame) (at : ℕ) (within : at < length frames) (own others : List Demand) (below : AreLeft p m.bytes frames at others) (linked : AreLinked (wants_of p) p.checks m.bytes p.rows frames at) (past fr : Frame) (child : Child) where
   abbrev pub via_below : List Link
-  via_below = frame_links (asks_of p) m.bytes p.rows frames at
+  via_below = frame_links (wants_of p) m.bytes p.rows frames at
 
   abbrev pub via_past : List Link
-  via_past = via_below ++ frame_link (asks_of p) m.bytes p.rows past ∷ []
+  via_past = via_below ++ frame_link (wants_of p) m.bytes p.rows past ∷ []
 
   abbrev one : List Frame
   one = set frames at past
@@ -103,12 +103,12 @@ module _ (p : Passing) (m mid new : Lent) (frames : List Frame) (at : ℕ) (with
   under = get_or-set_other one (at + 1) at fr blank (λ e. omega arith) ∙ get_or-set_same frames at past blank within
 
   -- the top has its link, once a table is open below it
-  pub links_deeper : at + 1 < length frames → frame_links (asks_of p) m.bytes p.rows two (suc at) ≡ via_past
+  pub links_deeper : at + 1 < length frames → frame_links (wants_of p) m.bytes p.rows two (suc at) ≡ via_past
   links_deeper lt =
       links_more p m.bytes two at (omega (arith, lt, long_one, length-set one (at + 1) fr))
-      ∙ (λ i. (links_kept p m.bytes one (at + 1) fr at (omega arith) ∙ links_kept p m.bytes frames at past at (omega arith)) i ++ frame_link (asks_of p) m.bytes p.rows (under i) ∷ [])
+      ∙ (λ i. (links_kept p m.bytes one (at + 1) fr at (omega arith) ∙ links_kept p m.bytes frames at past at (omega arith)) i ++ frame_link (wants_of p) m.bytes p.rows (under i) ∷ [])
 
-  pub linked_deeper : IsLinked (asks_of p) p.checks m.bytes p.rows past → AreLinked (asks_of p) p.checks m.bytes p.rows two (suc at)
+  pub linked_deeper : IsLinked (wants_of p) p.checks m.bytes p.rows past → AreLinked (wants_of p) p.checks m.bytes p.rows two (suc at)
   linked_deeper h = linked_more p m.bytes two at (linked_kept p m.bytes one (at + 1) fr at (omega arith) (linked_kept p m.bytes frames at past at (omega arith) linked)) (rw under h)
 
   pub deeper : (g : GoesDown p m mid (length frames - at) via_below own (get_or frames at blank) past child) → at + 1 < length frames
@@ -156,10 +156,10 @@ module _ (p : Passing) (b : List ℕ) (frames : List Frame) where
   pub record IsTop (at : ℕ) (ds : List Demand) : Type 0 where
     pub own : List Demand
     pub others : List Demand
-    pub left : IsLeft p b (length frames - at) (frame_links (asks_of p) b p.rows frames at) (get_or frames at blank) own
+    pub left : IsLeft p b (length frames - at) (frame_links (wants_of p) b p.rows frames at) (get_or frames at blank) own
     pub below : AreLeft p b frames at others
     pub all : ds ≡ own ++ others
-    pub linked : AreLinked (asks_of p) p.checks b p.rows frames at
+    pub linked : AreLinked (wants_of p) p.checks b p.rows frames at
 
   pub top_of : (many at : ℕ) (ds : List Demand) → 0 < many → at ≡ many - 1 → AreLeft p b frames many ds → IsTop at ds
   unfolding AreLeft
@@ -171,7 +171,7 @@ module _ (p : Passing) (m new : Lent) (frames : List Frame) (many at : ℕ) (som
   top = get_or frames at blank
 
   abbrev pub via_top : List Link
-  via_top = frame_links (asks_of p) m.bytes p.rows frames at
+  via_top = frame_links (wants_of p) m.bytes p.rows frames at
 
   in_frames : at < length frames
   in_frames = omega (arith, some, within, is)
@@ -195,16 +195,16 @@ module _ (p : Passing) (m new : Lent) (frames : List Frame) (many at : ℕ) (som
 
   -- it stops: behind a word of the top's, or in a field of its table
   module _ (past : Frame) (h : Halt) where
-    stopped_in : (own others : List Demand) (last : LastLink) → h.last ≡ last → ds ≡ own ++ others → AreLinked (asks_of p) p.checks m.bytes p.rows frames at → StopsHere p m new via_top many own past h last → Halts p m new ds (set frames at past) h
+    stopped_in : (own others : List Demand) (last : LastLink) → h.last ≡ last → ds ≡ own ++ others → AreLinked (wants_of p) p.checks m.bytes p.rows frames at → StopsHere p m new via_top many own past h last → Halts p m new ds (set frames at past) h
     stopped_in own others Behind last all linked s =
         let links = links_more p m.bytes (set frames at past) at (omega (arith, in_frames, length-set frames at past)) in
         let same = get_or-set_same frames at past blank in_frames in
-        let above : frame_links (asks_of p) m.bytes p.rows (set frames at past) many ≡ via_top ++ frame_link (asks_of p) m.bytes p.rows past ∷ [] =
-        ap (frame_links (asks_of p) m.bytes p.rows (set frames at past)) (sym many_is) ∙ links ∙ (λ i. links_kept p m.bytes frames at past at (omega arith) i ++ frame_link (asks_of p) m.bytes p.rows (same i) ∷ []) in
+        let above : frame_links (wants_of p) m.bytes p.rows (set frames at past) many ≡ via_top ++ frame_link (wants_of p) m.bytes p.rows past ∷ [] =
+        ap (frame_links (wants_of p) m.bytes p.rows (set frames at past)) (sym many_is) ∙ links ∙ (λ i. links_kept p m.bytes frames at past at (omega arith) i ++ frame_link (wants_of p) m.bytes p.rows (same i) ∷ []) in
         let each = linked_more p m.bytes (set frames at past) at (linked_kept p m.bytes frames at past at (omega arith) linked) (rw same s.1) in
-        let broken = breaks_before p.limits m.count own others (stopped h.stop new.count) (via_top ++ frame_link (asks_of p) m.bytes p.rows past ∷ []) s.2 in
+        let broken = breaks_before p.limits m.count own others (stopped h.stop new.count) (via_top ++ frame_link (wants_of p) m.bytes p.rows past ∷ []) s.2 in
         record {
-          breaks = rw (last, s.0, all, above, append-nil (via_top ++ frame_link (asks_of p) m.bytes p.rows past ∷ [])) broken;
+          breaks = rw (last, s.0, all, above, append-nil (via_top ++ frame_link (wants_of p) m.bytes p.rows past ∷ [])) broken;
           linked = rw (s.0, sym many_is) each;
           within = rw last (omega (arith, s.0, within, length-set frames at past));
         }
@@ -231,7 +231,7 @@ module _ (p : Passing) (m new : Lent) (frames : List Frame) (many at : ℕ) (som
     g = h (length frames - at) via_top t.own t.left
 
     abbrev via_child : List Link
-    via_child = via_top ++ frame_link (asks_of p) m.bytes p.rows past ∷ []
+    via_child = via_top ++ frame_link (wants_of p) m.bytes p.rows past ∷ []
 
     pub has_frame : at + 1 < length frames
     has_frame = deeper p m mid mid frames at in_frames t.own t.others t.below t.linked past past child g
@@ -254,7 +254,7 @@ module _ (p : Passing) (m new : Lent) (frames : List Frame) (many at : ℕ) (som
         let f = stopped s new.count in
         let first = subst (λ xs. Breaks p.limits mid.count xs f via_child) (sym o.1) (unmet p mid new head_read o.0 {A = Unit {0}} s (Err s) refl a) in
         let broken = breaks_before p.limits m.count t.own t.others f via_child (breaks_then p.limits f via_child (g.on).moves (breaks_before p.limits mid.count g.below g.left f via_child first)) in
-        let links = ap (frame_links (asks_of p) m.bytes p.rows (set (set frames at past) (at + 1) fr)) (sym many_is) ∙ links_deeper p m mid new frames at in_frames t.own t.others t.below t.linked past fr child has_frame in
+        let links = ap (frame_links (wants_of p) m.bytes p.rows (set (set frames at past) (at + 1) fr)) (sym many_is) ∙ links_deeper p m mid new frames at in_frames t.own t.others t.below t.linked past fr child has_frame in
         subst (Halts p m new ds (set (set frames at past) (at + 1) fr)) (sym is) (record {
           breaks = rw (t.all, links, append-nil via_child) broken;
           linked = rw (sym many_is) (linked_deeper p m mid new frames at in_frames t.own t.others t.below t.linked past fr child g.linked);

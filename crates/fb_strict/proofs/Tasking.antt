@@ -1,5 +1,5 @@
 -- A frame of whose field no word is left: its next task, or its end.
-use Rattle.std.proofs.Common.{◌≡◌, ℕ, zero, suc, ◌+◌, ◌-◌, ◌^◌, ◌<◌, ◌≤◌, IsTrue, List, [], ◌∷◌, ◌++◌, length, drop, Option, Some, None, Bool, true, false, Ok, Err, inl, inr, refl, sym, ap, subst, ◌∙◌, arith, if◌then◌else◌}
+use Rattle.std.proofs.Common.{◌≡◌, ℕ, zero, suc, ◌+◌, ◌-◌, ◌^◌, ◌<◌, ◌≤◌, IsTrue, List, [], ◌∷◌, ◌++◌, length, drop, Option, Some, None, true, false, Ok, Err, inl, inr, refl, sym, ap, subst, ◌∙◌, arith}
 use Rattle.std.specs.{Prelude.slice_get, Borrow.Bor, Slice.IsItemAt}
 use Rattle.std.proofs.lemmas.{Bool.cases_lt, Option.slice_get_within, Option.slice_get_past, Option.slice_get-get_or}
 use Rattle.fb_bytes.specs.Word.{Lent}
@@ -16,11 +16,12 @@ use Rattle.fb_rules.proofs.{Typed.present, Words.row_none}
 use Rattle.fb_strict.specs.declared.{room.Frame.Frame, tasks.Ask.Ask, tasks.Task.Task}
 use Rattle.fb_strict.specs.declared.tasks.Ask.TheVariants.{Union as AskUnion, Unions as AskUnions, Table as GoInto, Tables as GoIntoEach}
 use Rattle.std.specs.List.{cons_option}
-use Rattle.fb_strict.specs.Planned.{ask_of, task_of, tasks_in, marked, Planned, IsPlan}
+use Rattle.fb_strict.specs.Skipped.{Wants}
+use Rattle.fb_strict.specs.Planned.{ask_by, ask_of, task_of, tasks_in, wants_in, Planned, IsPlan}
 use Rattle.fb_strict.specs.Asked.{Demand, demands_in_fields, demands_in_row}
-use Rattle.fb_strict.specs.Passing.{Passing, asks_of, IsPassing, IsTaskable, leads_types, IsKnown, IsLeft, ask_words, task_words, ask_element, ask_member, task_link, task_row, frame_work, opened, TaskPassed, GoesOn, Stays, StopsHere, Breaks}
+use Rattle.fb_strict.specs.Passing.{Passing, wants_of, IsPassing, IsTaskable, leads_types, IsKnown, IsLeft, ask_words, task_words, ask_element, ask_member, task_link, task_row, frame_work, opened, TaskPassed, GoesOn, Stays, StopsHere, Breaks}
 use Rattle.fb_strict.proofs.Moving.{met, unmet, told_there}
-use Rattle.fb_strict.proofs.Fields.{IsNextField, next_field, no_field, task_demand, one_demand, IsTask, task_is}
+use Rattle.fb_strict.proofs.Fields.{asked_by, is_asked, IsNextField, next_field, no_field, task_demand, one_demand, IsTask, task_is}
 use Rattle.fb_strict.proofs.Words.{put, all_put}
 
 drop_at : {X : Type 0} (xs : List X) (i j : ℕ) (x : X) → slice_get xs i ≡ Some x → j ≡ i + 1 → drop i xs ≡ x ∷ drop j xs
@@ -37,15 +38,12 @@ drop_past (y ∷ xs) zero h = absurd (cc)
 drop_past (y ∷ xs) (suc i) h = drop_past xs i h
 
 -- a field that is known can be asked
-module _ (asks : ℕ → Bool) (p : Passing) (b : List ℕ) (t : ℕ) (f : Live) (known : IsKnown p.checks b p.rows t f) where
-  by_table : (j : ℕ) (ask : Ask) (to : Ask) (x : Bool) → (if x then Some to else None) ≡ Some ask → to ≡ ask
-  by_table j ask to true h = cc
-  by_table j ask to false h = absurd (cc)
-
-  pub taskable_by : (kind : Kind) → f.kind ≡ kind → (ask : Ask) → ask_of asks kind ≡ Some ask → IsTaskable b p.rows t f.slot (field_place b t f.slot) ask
-  taskable_by (Table j) kind ask h = subst (λ (x : Ask). IsTaskable b p.rows t f.slot (field_place b t f.slot) x) (by_table j ask (GoInto j) (asks j) h) tt
+module _ (p : Passing) (b : List ℕ) (t : ℕ) (f : Live) (known : IsKnown p.checks b p.rows t f) where
+  pub taskable_by : (kind : Kind) → f.kind ≡ kind → (ask : Ask) → ask_by kind ≡ Some ask → IsTaskable b p.rows t f.slot (field_place b t f.slot) ask
+  taskable_by (Table j) kind ask h = let same : GoInto j ≡ ask = cc in subst (λ (x : Ask). IsTaskable b p.rows t f.slot (field_place b t f.slot) x) same tt
   taskable_by (Tables j) kind ask h =
-      subst (λ (x : Ask). IsTaskable b p.rows t f.slot (field_place b t f.slot) x) (by_table j ask (GoIntoEach j) (asks j) h)
+      let same : GoIntoEach j ≡ ask = cc in
+      subst (λ (x : Ask). IsTaskable b p.rows t f.slot (field_place b t f.slot) x) same
       (λ q is. let v = present p.checks b p.rows t f q (Tables j) known.own is kind in record { offset = (v.offset).within; count = (v.vector).count })
   taskable_by (Union e) kind ask h =
       let same : AskUnion e ≡ ask = cc in subst (λ (x : Ask). IsTaskable b p.rows t f.slot (field_place b t f.slot) x) same (rw kind at known.kind, rw kind at known.typed)
@@ -66,18 +64,19 @@ from_none : {n k : ℕ} → n ≡ k → 0 + n ≡ k
 from_none h = omega (arith, h)
 
 -- the link through a word of a field, by its task
-module _ (asks : ℕ → Bool) (c : Checks) (b : List ℕ) (S : Rows) (via : List Link) (k t : ℕ) (f : Live) (task : Task) (is : IsTask c b S asks via k t f task) (j : ℕ) where
-  same_element : (kind : Kind) (ask : Ask) → ask_of asks kind ≡ Some ask → element_of j kind ≡ ask_element j ask
+module _ (w : Wants) (c : Checks) (b : List ℕ) (S : Rows) (via : List Link) (k t : ℕ) (f : Live) (task : Task) (is : IsTask c b S w via k t f task) (j : ℕ) where
+  same_element : (kind : Kind) (ask : Ask) → ask_by kind ≡ Some ask → element_of j kind ≡ ask_element j ask
   same_element kind ask h = grind arith
 
-  same_member : (kind : Kind) (ask : Ask) → ask_of asks kind ≡ Some ask → type_of b t f j kind ≡ ask_member b (type_place b t f.slot) j ask
+  same_member : (kind : Kind) (ask : Ask) → ask_by kind ≡ Some ask → type_of b t f j kind ≡ ask_member b (type_place b t f.slot) j ask
   same_member kind ask h = grind arith
 
   link_is : element_link b k t f j ≡ task_link b k t task j
   link_is =
       let number = sym is.number in
-      let its_element = same_element f.kind task.ask is.ask in
-      let its_member = same_member f.kind task.ask is.ask ∙ ap (λ o. ask_member b (type_place b t o) j task.ask) (sym is.slot) in
+      let its_ask = asked_by w S f.kind task.ask is.ask in
+      let its_element = same_element f.kind task.ask its_ask in
+      let its_member = same_member f.kind task.ask its_ask ∙ ap (λ o. ask_member b (type_place b t o) j task.ask) (sym is.slot) in
       λ i. record { object = k; field = number i; element = its_element i; member = its_member i }
 
 module _ (p : Passing) (b : List ℕ) (holds : IsPassing p b) (room : ℕ) (via : List Link) (fr : Frame) (ds : List Demand) (l : IsLeft p b room via fr ds) (rests : (fr.row).left ≡ 0) where
@@ -88,13 +87,13 @@ module _ (p : Passing) (b : List ℕ) (holds : IsPassing p b) (room : ℕ) (via 
   t = (fr.table).at
 
   abbrev tasks : List Task
-  tasks = tasks_in (asks_of p) (live_fields p.rows k)
+  tasks = tasks_in (wants_of p) p.rows (live_fields p.rows k)
 
   abbrev of_fields : List Demand
-  of_fields = demands_in_fields l.kids (asks_of p) p.checks b p.rows via k t l.fields
+  of_fields = demands_in_fields l.kids (wants_of p) p.checks b p.rows via k t l.fields
 
   -- its row stands for nothing
-  only_fields : (words : Elements) → ElementsUnfold words p.checks b p.rows [] → ds ≡ demands_in_row words (asks_of p) p.checks b p.rows l.way k fr.number l.passed (fr.row).place (leads_types (fr.row).leads) ++ of_fields → ds ≡ of_fields
+  only_fields : (words : Elements) → ElementsUnfold words p.checks b p.rows [] → ds ≡ demands_in_row words (wants_of p) p.checks b p.rows l.way k fr.number l.passed (fr.row).place (leads_types (fr.row).leads) ++ of_fields → ds ≡ of_fields
   unfolding ElementsUnfold demands_in_row
   only_fields no_elements u all = all
   only_fields (element y ys) u all = absurd u
@@ -108,32 +107,32 @@ module _ (p : Passing) (b : List ℕ) (holds : IsPassing p b) (room : ℕ) (via 
     table = fr.table;
     next = fr.next + 1;
     number = task.number;
-    row = task_row (asks_of p) b p.rows (type_place b t task.slot) (field_place b t task.slot) task.ask fr.row;
+    row = task_row (wants_of p) b p.rows (type_place b t task.slot) (field_place b t task.slot) task.ask fr.row;
   }
 
   pub record IsAtTask (task : Task) : Type 0 where
     pub taskable : IsTaskable b p.rows t task.slot (field_place b t task.slot) task.ask
     pub left : List Demand
     pub frame : IsLeft p b room via (after_task task) left
-    pub all : ds ≡ task_demand p.checks b p.rows (asks_of p) via k t (via ++ link_to_number k (Some task.number)) task.number task.slot (type_place b t task.slot) (field_place b t task.slot) task.ask ∷ left
+    pub all : ds ≡ task_demand p.checks b p.rows (wants_of p) via k t (via ++ link_to_number k (Some task.number)) task.number task.slot (type_place b t task.slot) (field_place b t task.slot) task.ask ∷ left
     pub falls : frame_work p (after_task task) < frame_work p fr
 
-  at_field : (task : Task) → slice_get tasks fr.next ≡ Some task → (f : IsNextField p.checks b p.rows (asks_of p) via k t l.kids l.fields task (drop (fr.next + 1) tasks)) → (n : ℕ) → n ≡ (f.field).number → (o : ℕ) → o ≡ (f.field).slot → (ask : Ask)
-      → ask_of (asks_of p) (f.field).kind ≡ Some ask → task ≡ record { number = n; slot = o; ask = ask } → IsTask p.checks b p.rows (asks_of p) via k t f.field task → IsAtTask task
+  at_field : (task : Task) → slice_get tasks fr.next ≡ Some task → (f : IsNextField p.checks b p.rows (wants_of p) via k t l.kids l.fields task (drop (fr.next + 1) tasks)) → (n : ℕ) → n ≡ (f.field).number → (o : ℕ) → o ≡ (f.field).slot → (ask : Ask)
+      → ask_of (wants_of p) p.rows (f.field).kind ≡ Some ask → task ≡ record { number = n; slot = o; ask = ask } → IsTask p.checks b p.rows (wants_of p) via k t f.field task → IsAtTask task
   at_field task found f n number o slot ask is same i =
       let way = λ (j : ℕ). via ++ element_link b k t f.field j ∷ [] in
-      let g = put p b holds way k t f.field f.words fr.row rests l.asked f.known ask is f.unfolds in
-      let one = one_demand p.checks b p.rows (asks_of p) via k t (via ++ link_to_number k (Some (f.field).number)) (f.field).number (f.field).slot (type_place b t (f.field).slot) (field_place b t (f.field).slot) (f.field).kind ask is in
+      let g = put p b holds way k t f.field f.words fr.row rests l.asked f.known ask (is_asked p.checks b p.rows (wants_of p) via k t f.field task f.its) (asked_by (wants_of p) p.rows (f.field).kind ask is) f.unfolds in
+      let one = one_demand p.checks b p.rows (wants_of p) via k t (via ++ link_to_number k (Some (f.field).number)) (f.field).number (f.field).slot (type_place b t (f.field).slot) (field_place b t (f.field).slot) (f.field).kind ask is in
       let near = (g.asked).near in
       let within = slice_get_within tasks fr.next task found in
-      let own = taskable_by (asks_of p) p b t f.field f.known (f.field).kind refl ask is in
+      let own = taskable_by p b t f.field f.known (f.field).kind refl ask (asked_by (wants_of p) p.rows (f.field).kind ask is) in
       let all_words = all_put p b holds way k t f.field f.words fr.row rests l.asked f.known in
       let here : fr.next + 1 - 1 ≡ fr.next = omega arith in
       let asks_same : ask ≡ task.ask = (let e = sym is ∙ i.ask in cc) in
       let words_same : ask_words b (field_place b t (f.field).slot) ask ≡ task_words b t task = rw (asks_same, i.slot) refl in
       rw (same, number, slot) (record {
         taskable = own;
-        left = demands_in_row g.left (asks_of p) p.checks b p.rows way k (f.field).number 0 _ _ ++ demands_in_fields f.others_kids (asks_of p) p.checks b p.rows via k t f.others;
+        left = demands_in_row g.left (wants_of p) p.checks b p.rows way k (f.field).number 0 _ _ ++ demands_in_fields f.others_kids (wants_of p) p.checks b p.rows via k t f.others;
         frame = record {
           object = l.object;
           near = l.near;
@@ -152,7 +151,7 @@ module _ (p : Passing) (b : List ℕ) (holds : IsPassing p b) (room : ℕ) (via 
           linked = λ m. record {
             last = record { object = l.object; near = l.near; head = l.head; some = omega arith; task = task; found = rw here found; field = f.field; its = f.its; known = f.known };
             count = from_none (all_words (field_place b t (f.field).slot) ask m ∙ words_same);
-            through = λ j. ap (λ x. via ++ x ∷ []) (link_is (asks_of p) p.checks b p.rows via k t f.field task i j);
+            through = λ j. ap (λ x. via ++ x ∷ []) (link_is (wants_of p) p.checks b p.rows via k t f.field task i j);
           };
           all = refl;
         };
@@ -162,21 +161,21 @@ module _ (p : Passing) (b : List ℕ) (holds : IsPassing p b) (room : ℕ) (via 
 
   pub at_task : (task : Task) → slice_get tasks fr.next ≡ Some task → IsAtTask task
   at_task task found =
-      let f = next_field p.checks b p.rows (asks_of p) via k t task (drop (fr.next + 1) tasks) l.kids l.fields l.unfolds l.known (sym l.tasks ∙ drop_at tasks fr.next (fr.next + 1) task found refl) in
-      let i = task_is p.checks b p.rows (asks_of p) via k t f.field task f.its in
+      let f = next_field p.checks b p.rows (wants_of p) via k t task (drop (fr.next + 1) tasks) l.kids l.fields l.unfolds l.known (sym l.tasks ∙ drop_at tasks fr.next (fr.next + 1) task found refl) in
+      let i = task_is p.checks b p.rows (wants_of p) via k t f.field task f.its in
       at_field task found f task.number i.number task.slot i.slot task.ask i.ask refl i
 
   pub at_end : slice_get tasks fr.next ≡ None → ds ≡ []
-  at_end past = fields_left ∙ no_field p.checks b p.rows (asks_of p) via k t l.kids l.fields l.unfolds (sym l.tasks ∙ drop_past tasks fr.next past)
+  at_end past = fields_left ∙ no_field p.checks b p.rows (wants_of p) via k t l.kids l.fields l.unfolds (sym l.tasks ∙ drop_past tasks fr.next past)
 
 -- The task was done.
 module _ (p : Passing) (m new : Lent) (holds : IsPassing p m.bytes) (room : ℕ) (via : List Link) (fr : Frame) (ds : List Demand) (l : IsLeft p m.bytes room via fr ds) (rests : (fr.row).left ≡ 0) (task : Task)
-    (found : slice_get (tasks_in (asks_of p) (live_fields p.rows (fr.table).object)) fr.next ≡ Some task) where
+    (found : slice_get (tasks_in (wants_of p) p.rows (live_fields p.rows (fr.table).object)) fr.next ≡ Some task) where
   abbrev here : Site
   here = record { object = (fr.table).object; field = Some task.number }
 
   abbrev its_demand : Demand
-  its_demand = task_demand p.checks m.bytes p.rows (asks_of p) via (fr.table).object (fr.table).at (via ++ link_to_number (fr.table).object (Some task.number)) task.number task.slot (type_place m.bytes (fr.table).at task.slot) (field_place m.bytes (fr.table).at task.slot) task.ask
+  its_demand = task_demand p.checks m.bytes p.rows (wants_of p) via (fr.table).object (fr.table).at (via ++ link_to_number (fr.table).object (Some task.number)) task.number task.slot (type_place m.bytes (fr.table).at task.slot) (field_place m.bytes (fr.table).at task.slot) task.ask
 
   pub stays_at : (row : Row) → TaskPassed {A = Unit {0}} p m new (fr.table).at here task.slot task.ask fr.row row (Ok (tt {0})) → Stays p m new room via ds fr (record { table = fr.table; next = fr.next + 1; number = task.number; row = row })
   stays_at row h =
@@ -208,7 +207,7 @@ halts_in p m new via many ds past s h some is b = subst (λ (x : Halt). StopsHer
 within_objects : (S : Rows) (k : ℕ) → IsTrue (is_table S k) → k < length S.objects
 within_objects S k h = elim (cases_lt k (length S.objects)) [ inl lt ↦ lt | inr past ↦ absurd (let none = ap is_some_table (slice_get_past S.objects k past) in let w : true ≡ false = sym h ∙ none in cc) ]
 
-pub tasks_are : (S : Rows) (plan : Planned) (k : ℕ) (ts : List Task) → IsPlan S plan → IsTrue (is_table S k) → slice_get plan.tasks k ≡ Some ts → ts ≡ tasks_in (marked plan.marks) (live_fields S k)
+pub tasks_are : (S : Rows) (plan : Planned) (k : ℕ) (ts : List Task) → IsPlan S plan.demands plan → IsTrue (is_table S k) → slice_get plan.tasks k ≡ Some ts → ts ≡ tasks_in (wants_in plan) S (live_fields S k)
 tasks_are S plan k ts h is e = let same = sym e ∙ h.tasks k (within_objects S k is) in cc
 
 -- what `get` lends of a slice
@@ -219,13 +218,13 @@ item_some xs i r x h e =
 
 -- tasks are few
 
-few_by : (asks : ℕ → Bool) (f : Live) (fs : List Live) (o : Option Task) → length (tasks_in asks fs) ≤ length fs → length (cons_option o (tasks_in asks fs)) ≤ length fs + 1
-few_by asks f fs None h = omega (arith, h)
-few_by asks f fs (Some x) h = omega (arith, h)
+few_by : (w : Wants) (S : Rows) (f : Live) (fs : List Live) (o : Option Task) → length (tasks_in w S fs) ≤ length fs → length (cons_option o (tasks_in w S fs)) ≤ length fs + 1
+few_by w S f fs None h = omega (arith, h)
+few_by w S f fs (Some x) h = omega (arith, h)
 
-pub few_tasks : (asks : ℕ → Bool) (fs : List Live) → length (tasks_in asks fs) ≤ length fs
-few_tasks asks [] = omega arith
-few_tasks asks (f ∷ fs) = omega (arith, few_by asks f fs (task_of asks f) (few_tasks asks fs))
+pub few_tasks : (w : Wants) (S : Rows) (fs : List Live) → length (tasks_in w S fs) ≤ length fs
+few_tasks w S [] = omega arith
+few_tasks w S (f ∷ fs) = omega (arith, few_by w S f fs (task_of w S f) (few_tasks w S fs))
 
 pub opened_few : (p : Passing) (b : List ℕ) (table : TableOf) → IsPassing p b → frame_work p (opened table) < 2 ^ 48
-opened_few p b table holds = let few = few_tasks (asks_of p) (live_fields p.rows table.object) in let most = (holds.served).few table.object in omega (arith, few, most)
+opened_few p b table holds = let few = few_tasks (wants_of p) p.rows (live_fields p.rows table.object) in let most = (holds.served).few table.object in omega (arith, few, most)

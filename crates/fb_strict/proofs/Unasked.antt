@@ -1,44 +1,29 @@
 -- A field without a task is asked nothing.
-use Rattle.std.proofs.Common.{◌≡◌, ℕ, ◌+◌, List, [], ◌∷◌, arith, Option, None, option_map, Bool, false, refl, ap, ◌∙◌}
+use Rattle.std.proofs.Common.{◌≡◌, None, option_map, Bool, true, false, refl, if◌then◌else◌}
 use Rattle.fb_schema.specs.declared.kinds.Kind.{Kind}
+use Rattle.fb_schema.specs.declared.kinds.Kind.TheVariants.{Scalar, Text, Struct, Table, Union, Scalars, Texts, Structs, Tables, Unions}
 use Rattle.fb_schema.specs.{Rows.Rows, Live.Live}
-use Rattle.fb_rules.specs.declared.{checks.Checks.Checks, link.Link.Link}
-use Rattle.fb_rules.specs.{Fields.Lead, Fields.to_table, Fields.to_struct, Fields.to_string, Fields.to_nothing, Fields.Entry}
-use Rattle.fb_rules.specs.Tree.{node, Elements, no_elements, element, Element, leaf, table}
-use Rattle.fb_rules.specs.Unfolds.{Unfolds, ElementsUnfold, ElementUnfolds}
-use Rattle.fb_strict.specs.{Skipped.is_kind_asked, Planned.ask_of, Planned.task_with}
-use Rattle.fb_strict.specs.Asked.{field_demands, row_types, demands_in_row, demands_below, TasksLaw}
-use Rattle.fb_strict.proofs.Skips.{IsQuiet, AreQuiet, quiet_entries}
+use Rattle.fb_strict.specs.{Skipped.Wants, Skipped.is_kind_asked, Planned.ask_by, Planned.task_with}
+use Rattle.fb_strict.specs.Asked.{demands_in_fields, TasksLaw}
 
-module _ (asks : ℕ → Bool) (S : Rows) where
-  -- a field without a task isn't asked
-  no_task : (f : Live) (kind : Kind) → option_map (task_with f) (ask_of asks kind) ≡ None → is_kind_asked asks kind ≡ false
-  no_task f kind h = grind arith
+-- each kind that is asked has an ask
+module _ (w : Wants) (S : Rows) (f : Live) where
+  no_task : (kind : Kind) (x : Bool) → is_kind_asked w S kind ≡ x → option_map (task_with f) (if x then ask_by kind else None) ≡ None → x ≡ false
+  no_task kind false is h = refl
+  no_task (Table k) true is h = absurd (cc)
+  no_task (Union e) true is h = absurd (cc)
+  no_task (Tables k) true is h = absurd (cc)
+  no_task (Unions e) true is h = absurd (cc)
+  no_task (Scalar s) true is h = absurd (cc)
+  no_task Text true is h = absurd (cc)
+  no_task (Struct k) true is h = absurd (cc)
+  no_task (Scalars s) true is h = absurd (cc)
+  no_task Texts true is h = absurd (cc)
+  no_task (Structs k) true is h = absurd (cc)
 
-  module _ (c : Checks) (b : List ℕ) where
-    none_of_field : (links : List Link) (k n t slot : ℕ) (types place : Option ℕ) (kind : Kind) → is_kind_asked asks kind ≡ false → field_demands asks c b S links k n t slot types place kind ≡ []
-    none_of_field links k n t slot types place kind h = grind arith
-
-    none_below : (y : Element) (p' : ℕ) (lead : Lead) (links : List Link) (k n p : ℕ) → IsQuiet asks S lead → ElementUnfolds y c b S p' lead → demands_below y asks c b S links k n p ≡ []
-    unfolding Unfolds ElementUnfolds demands_below
-    none_below leaf p' lead links k n p q u = refl
-    none_below (table (node k' t' kids)) p' (to_table j) links k n p q u = let is : asks k' ≡ false = ap asks u.1.0 ∙ q in rw is refl
-    none_below (table y) p' (to_struct size align) links k n p q u = absurd u
-    none_below (table y) p' to_string links k n p q u = absurd u
-    none_below (table y) p' to_nothing links k n p q u = absurd u
-
-    none_in_row : (ys : Elements) (xs : List Entry) (way : ℕ → List Link) (k n j p : ℕ) → AreQuiet asks S xs → ElementsUnfold ys c b S xs → demands_in_row ys asks c b S way k n j p None ≡ []
-    unfolding AreQuiet ElementsUnfold demands_in_row
-    none_in_row no_elements xs way k n j p q u = refl
-    none_in_row (element y ys) [] way k n j p q u = absurd u
-    none_in_row (element y ys) (x ∷ xs) way k n j p q u = rw (none_below y x.place x.lead (way j) k n p q.0 u.0) (none_in_row ys xs way k n (j + 1) (p + 4) q.1 u.1)
-
-  no_types : (b : List ℕ) (types : Option ℕ) (kind : Kind) → is_kind_asked asks kind ≡ false → row_types b types kind ≡ None
-  no_types b types kind h = grind arith
+  pub unasked : option_map (task_with f) (if is_kind_asked w S f.kind then ask_by f.kind else None) ≡ None → is_kind_asked w S f.kind ≡ false
+  unasked h = no_task f.kind (is_kind_asked w S f.kind) refl h
 
 pub nothing_asked : TasksLaw
-nothing_asked asks S f ys c b k t none u links way =
-    let quiet = no_task asks S f f.kind none in (
-      none_of_field asks S c b links k f.number t f.slot _ _ f.kind quiet,
-      rw (no_types asks S b _ f.kind quiet) (none_in_row asks S c b ys _ way k f.number 0 _ (quiet_entries asks S b t f quiet) u),
-    )
+unfolding demands_in_fields
+nothing_asked w S f fs ys kids c b via k t none = let quiet = unasked w S f none in rw quiet refl

@@ -10,10 +10,10 @@ use Rattle.fb_rules.specs.{MostReads.within_budget, MostReads.most_reads}
 use Rattle.fb_schema.specs.{Live.widest, Rows.is_table}
 use Rattle.fb_verify.specs.Stack.{last_link}
 use Rattle.fb_rules.proofs.{Overruns.one_tree, Price.cost_is_bounded}
-use Rattle.fb_strict.specs.{InOrder.length_failure, Strict.IsStrictBuffer, Planned.Planned, Planned.IsPlan, Planned.marked}
+use Rattle.fb_strict.specs.{InOrder.where_asked, InOrder.length_failure, Strict.IsStrictBuffer, Planned.Planned, Planned.IsPlan, Planned.wants_in}
 use Rattle.fb_strict.specs.declared.{room.Frame.Frame, strictly.Unmet.Unmet}
 use Rattle.fb_strict.specs.Asked.{Demand, demands_in, demands_of, demands_reads, first_fault, first_links}
-use Rattle.fb_strict.specs.Passing.{Passing, asks_of, frame_links, IsRooted, GoesOn, Halts, Ran}
+use Rattle.fb_strict.specs.Passing.{Passing, wants_of, frame_links, IsRooted, GoesOn, Halts, Ran}
 use Rattle.fb_strict.specs.Strictly.{strict_cost, limits_left, later, unmet_by, counted_on, Asked, AskedAlone, ReportsStrictly, HasNoneStrictly, StopsStrictly, StopsAlongStrictly}
 use Rattle.fb_strict.proofs.Few.{first_reads, tree_few}
 use Rattle.fb_strict.proofs.{Asking.demands_tell, Asking.first_tells, Buffers.plan_closed, Shifted.shifted, Shifted.same_links}
@@ -36,12 +36,12 @@ alone_no p m new ds frames h none s = record {
 
 -- the same of bytes that are lent
 module _ (p : Passing) (m new : Lent) (b : List ℕ) (room : ℕ) (root : Child) (y : Tree) (bytes : m.bytes ≡ b) (none : m.count ≡ 0) (h : IsRooted p b room root y) (frames : List Frame) (r : Result Unit Halt)
-    (ran : (y : Tree) → IsRooted p m.bytes room root y → Ran {A = Unit {0}} p m new (demands_of (asks_of p) p.checks m.bytes p.rows root.object y) frames r) where
+    (ran : (y : Tree) → IsRooted p m.bytes room root y → Ran {A = Unit {0}} p m new (demands_of (wants_of p) p.checks m.bytes p.rows root.object y) frames r) where
   abbrev ds : List Demand
-  ds = demands_of (asks_of p) p.checks b p.rows root.object y
+  ds = demands_of (wants_of p) p.checks b p.rows root.object y
 
   its : Ran {A = Unit {0}} p m new ds frames r
-  its = subst (λ x. Ran {A = Unit {0}} p m new (demands_of (asks_of p) p.checks x p.rows root.object y) frames r) bytes (ran y (subst (λ x. IsRooted p x room root y) (sym bytes) h))
+  its = subst (λ x. Ran {A = Unit {0}} p m new (demands_of (wants_of p) p.checks x p.rows root.object y) frames r) bytes (ran y (subst (λ x. IsRooted p x room root y) (sym bytes) h))
 
   pub bytes_yes : (u : Unit {0}) → r ≡ Ok u → (reads : ℕ) → reads ≡ new.count → AskedAlone p.plan p.checks b p.rows p.limits ds frames (Ok reads)
   bytes_yes u is reads count = rw count (alone_yes p m new ds none (rw is at its) frames)
@@ -58,7 +58,7 @@ last_later walked InField f = refl
 
 module _ (p : Planned) (q : Question) (b : List ℕ) where
   abbrev pub asked : Tree → List Demand
-  asked y = demands_of (marked p.marks) q.checks b q.rows q.root y
+  asked y = demands_of (wants_in p) q.checks b q.rows q.root y
 
   pub answers_yes : (y : Tree) (walked n : ℕ) (frames : List Frame) → walked ≡ cost q b y → AreAllowed (q.limits).reads (cost q b y) → AskedAlone p q.checks b q.rows (limits_left q.limits walked) (asked y) frames (Ok n) → Asked p q b y frames (Ok (walked + n))
   answers_yes y walked n frames cost-is allowed h =
@@ -71,7 +71,7 @@ module _ (p : Planned) (q : Question) (b : List ℕ) where
   answers_no y walked u frames cost-is allowed h =
       let a : AreAllowed (q.limits).reads walked = rw cost-is allowed in
       let zero : walked + 0 ≡ cost q b y = omega (arith, cost-is) in
-      let links = frame_links (marked p.marks) b q.rows frames u.links in
+      let links = frame_links (wants_in p) b q.rows frames u.links in
       record {
         first = subst (λ n. first_fault q.limits n (asked y) ≡ Some (later walked u.fault)) zero (shifted q.limits walked a 0 (asked y) ∙ ap (option_map (later walked)) h.first);
         along = subst (λ n. first_links q.limits n (asked y) ≡ links ++ last_link u.last (later walked u.fault)) zero (same_links q.limits walked a 0 (asked y) ∙ h.along ∙ ap (λ x. links ++ x) (last_later walked u.last u.fault));
@@ -79,15 +79,15 @@ module _ (p : Planned) (q : Question) (b : List ℕ) where
         within = h.within;
       }
 
-  module _ (plan : IsPlan q.rows p) where
+  module _ (plan : IsPlan q.rows p.demands p) where
     pub same_tree : (y z : Tree) → IsWellFormed q b y → IsWellFormed q b z → y ≡ z
     same_tree y z h i = one_tree q.checks b q.rows y z q.root (target b (base q.start)) h.unfolds i.unfolds
 
     pub tells : (y : Tree) → IsWellFormed q b y → AreAllowed (q.limits).reads (cost q b y)
-        → (first_fault q.limits (cost q b y) (asked y) ≡ None) ↔ (IsStrictBuffer q.checks b q.rows y × AreAllowed (q.limits).reads (strict_cost p q b y))
+        → (first_fault q.limits (cost q b y) (asked y) ≡ None) ↔ (IsStrictBuffer p.demands q.checks b q.rows y × AreAllowed (q.limits).reads (strict_cost p q b y))
     tells y h a =
         let f = first_tells q.limits (asked y) (cost q b y) a in
-        let d = demands_tell (marked p.marks) q.rows (plan_closed q.rows p plan) y q.checks b q.root (target b (base q.start)) h.unfolds in
+        let d = demands_tell (wants_in p) q.rows (plan_closed q.rows p plan) y q.checks b q.root (target b (base q.start)) h.unfolds in
         ((λ e. let r = f.0 e in (d.0 r.0, r.1)), (λ h. f.1 (d.1 h.0, h.1)))
 
     pub says_yes : (walk : Report) (r : Reports q b walk) (n : ℕ) (frames : List Frame) → Asked p q b r.found frames (Ok n) → ReportsStrictly p q b (record { tables = walk.tables; depth = walk.depth; reads = n })
@@ -98,7 +98,7 @@ module _ (p : Planned) (q : Question) (b : List ℕ) where
     pub says_no : (walk : Report) (r : Reports q b walk) (u : Unmet) (frames : List Frame) → Asked p q b r.found frames (Err u) → StopsStrictly p q b u.fault
     says_no walk r u frames h = inr (record { found = r.found; well_formed = r.well_formed; within = r.within; first = h.first })
 
-    pub says_along : (walk : Report) (r : Reports q b walk) (u : Unmet) (frames : List Frame) (links : List Link) → Asked p q b r.found frames (Err u) → links ≡ frame_links (marked p.marks) b q.rows frames u.links ++ last_link u.last u.fault
+    pub says_along : (walk : Report) (r : Reports q b walk) (u : Unmet) (frames : List Frame) (links : List Link) → Asked p q b r.found frames (Err u) → links ≡ frame_links (wants_in p) b q.rows frames u.links ++ last_link u.last u.fault
         → StopsAlongStrictly p q b u.fault links
     says_along walk r u frames links h put = inr (record { found = r.found; well_formed = r.well_formed; within = r.within; first = h.first; along = put ∙ sym h.along })
 
@@ -166,10 +166,10 @@ first_few true d ds n none h = omega (arith, first_reads d ds, none, h)
 first_few false d ds n none h = omega (arith, first_reads d [], none)
 
 module _ (p : Passing) (b : List ℕ) (room : ℕ) (root : Child) where
-  pub pass_few : (y : Tree) → IsRooted p b room root y → size y < 2 ^ 32 → widest p.rows < 2 ^ 32 → length b < 2 ^ 31 → demands_reads (demands_of (asks_of p) p.checks b p.rows root.object y) ≤ 2 ^ 96
+  pub pass_few : (y : Tree) → IsRooted p b room root y → size y < 2 ^ 32 → widest p.rows < 2 ^ 32 → length b < 2 ^ 31 → demands_reads (demands_of (wants_of p) p.checks b p.rows root.object y) ≤ 2 ^ 96
   pass_few y h s w l =
-      let few = few_demands (size y) (widest p.rows) (length b) (demands_reads (demands_in y (asks_of p) p.checks b p.rows [])) s w l (tree_few (asks_of p) p.checks b p.rows y [] root.object root.at h.unfolds) in
-      first_few (asks_of p root.object) (record { links = []; object = root.object; field = None; at = length b; reads = 0; chain = length_failure b }) (demands_in y (asks_of p) p.checks b p.rows []) (2 ^ 96) refl few
+      let few = few_demands (size y) (widest p.rows) (length b) (demands_reads (demands_in y (wants_of p) p.checks b p.rows [])) s w l (tree_few (wants_of p) p.checks b p.rows y [] root.object root.at h.unfolds) in
+      first_few ((wants_of p).asks root.object) (record { links = []; object = root.object; field = None; at = length b; reads = 0; chain = where_asked (p.plan).demands.unions (length_failure b) }) (demands_in y (wants_of p) p.checks b p.rows []) (2 ^ 96) refl few
 
   -- the root of a buffer that is well formed
   module _ (q : Question) (bytes : List ℕ) (checks : p.checks ≡ q.checks) (same : b ≡ bytes) (rows : p.rows ≡ q.rows) (object : root.object ≡ q.root) (at : root.at ≡ target bytes (base q.start)) where
@@ -177,11 +177,11 @@ module _ (p : Passing) (b : List ℕ) (room : ℕ) (root : Child) where
     rooted y h near table deep = record { unfolds = rw (checks, same, rows, object, at) h.unfolds; object = rw (rows, object) table; near = near; deep = deep }
 
     -- what was asked of it
-    pub alone_of : (plan : Planned) → p.plan ≡ plan → (L : Bounds) → p.limits ≡ L → (y : Tree) (frames : List Frame) (answer : Result ℕ Unmet) → AskedAlone p.plan p.checks b p.rows p.limits (demands_of (asks_of p) p.checks b p.rows root.object y) frames answer
-        → AskedAlone plan q.checks bytes q.rows L (demands_of (marked plan.marks) q.checks bytes q.rows q.root y) frames answer
+    pub alone_of : (plan : Planned) → p.plan ≡ plan → (L : Bounds) → p.limits ≡ L → (y : Tree) (frames : List Frame) (answer : Result ℕ Unmet) → AskedAlone p.plan p.checks b p.rows p.limits (demands_of (wants_of p) p.checks b p.rows root.object y) frames answer
+        → AskedAlone plan q.checks bytes q.rows L (demands_of (wants_in plan) q.checks bytes q.rows q.root y) frames answer
     alone_of plan its L limits y frames answer h =
-        let all : demands_of (asks_of p) p.checks b p.rows root.object y ≡ demands_of (marked plan.marks) q.checks bytes q.rows q.root y = λ i. demands_of (marked (its i).marks) (checks i) (same i) (rows i) (object i) y in
-        let ds = demands_of (asks_of p) p.checks b p.rows root.object y in
+        let all : demands_of (wants_of p) p.checks b p.rows root.object y ≡ demands_of (wants_in plan) q.checks bytes q.rows q.root y = λ i. demands_of (wants_in (its i)) (checks i) (same i) (rows i) (object i) y in
+        let ds = demands_of (wants_of p) p.checks b p.rows root.object y in
         let one = subst (λ x. AskedAlone x p.checks b p.rows p.limits ds frames answer) its h in
         let two = subst (λ x. AskedAlone plan x b p.rows p.limits ds frames answer) checks one in
         let three = subst (λ x. AskedAlone plan q.checks x p.rows p.limits ds frames answer) same two in

@@ -1,16 +1,17 @@
 -- All that is asked of a tree, one thing after another in the order of the walk's visits.
-use Rattle.std.specs.Prelude.{◌≡◌, ◌↔◌, ℕ, ◌+◌, Bool, if◌then◌else◌, List, [], ◌∷◌, ◌++◌, length, Option, Some, None}
+use Rattle.std.specs.Prelude.{◌≡◌, ◌↔◌, ℕ, ◌+◌, if◌then◌else◌, List, [], ◌∷◌, ◌++◌, length, Option, Some, None}
 use Rattle.std.specs.List.{sum_by}
 use Rattle.fb_schema.specs.declared.kinds.Kind.{Kind}
 use Rattle.fb_schema.specs.declared.kinds.Kind.TheVariants.{Table, Union, Tables, Unions}
 use Rattle.fb_schema.specs.{Rows.Rows, Live.Live, Live.live_fields}
 use Rattle.fb_rules.specs.declared.{checks.Checks.Checks, fault.Fault.Fault, link.Link.Link}
-use Rattle.fb_rules.specs.{Bounds.Bounds, Bounds.AreAllowed, Places.target, Places.field_place, Fields.type_place, Fields.types_begin, Fields.entries, Unfolds.Unfolds, Unfolds.ElementsUnfold}
+use Rattle.fb_rules.specs.{Bounds.Bounds, Bounds.AreAllowed, Places.target, Places.field_place, Fields.type_place, Fields.types_begin, Unfolds.Unfolds}
 use Rattle.fb_rules.specs.{Links.field_link, Links.element_link}
 use Rattle.fb_rules.specs.{Cost.head_reads, Cost.slot_reads, Cost.reads_if_present, Order.Failure, Order.after, Order.◌▷◌, Stops.reads_failure}
 use Rattle.fb_rules.specs.Tree.{Tree, node, Kids, no_kids, kid, Elements, no_elements, element, Element, leaf, table}
-use Rattle.fb_strict.specs.{Strict.IsStrictBuffer, Skipped.IsClosed, Planned.task_of}
-use Rattle.fb_strict.specs.InOrder.{length_failure, places_reads, union_failure, union_reads, together_failure, element_failure, element_reads}
+use Rattle.fb_strict.specs.declared.demands.Demands.{Demands}
+use Rattle.fb_strict.specs.{Strict.IsStrictBuffer, Skipped.Wants, Skipped.is_kind_asked, Skipped.IsClosed, Planned.task_of}
+use Rattle.fb_strict.specs.InOrder.{where_asked, length_failure, places_reads, union_failure, union_reads, together_failure, element_failure, element_reads}
 
 -- one thing that is asked at a table of this object, at the field with this number or at its head: a chain of tests,
 -- the reads that are made where it finds nothing, and the position at which these are told to be too many; and the
@@ -34,14 +35,26 @@ vectors_reads _ _ = 0
 
 -- a field by itself, to which these links lead, with this number and slot, of the table at t, of the object k: its type
 -- field and its value stand at these places
-abbrev pub field_demands : (ℕ → Bool) → Checks → List ℕ → Rows → List Link → (k n t slot : ℕ) → (types place : Option ℕ) → Kind → List Demand
-field_demands asks c b S links k n t slot types place (Table j) = if asks j then reading links k (Some n) t (slot_reads b t slot) ∷ [] else []
-field_demands asks c b S links k n t slot types place (Union e) =
-    record { links = links; object = k; field = Some n; at = t; reads = places_reads b t slot + union_reads b S e types place; chain = after (places_reads b t slot) (union_failure c b S e t types place) } ∷ []
-field_demands asks c b S links k n t slot types place (Tables j) = if asks j then reading links k (Some n) t (slot_reads b t slot + reads_if_present 2 place) ∷ [] else []
-field_demands asks c b S links k n t slot types place (Unions e) =
-    record { links = links; object = k; field = Some n; at = t; reads = places_reads b t slot + vectors_reads types place; chain = after (places_reads b t slot) (together_failure types place) } ∷ []
-field_demands asks c b S links k n t slot types place _ = []
+abbrev pub field_demands : Demands → Checks → List ℕ → Rows → List Link → (k n t slot : ℕ) → (types place : Option ℕ) → Kind → List Demand
+field_demands D c b S links k n t slot types place (Table j) = reading links k (Some n) t (slot_reads b t slot) ∷ []
+field_demands D c b S links k n t slot types place (Union e) = record {
+  links = links;
+  object = k;
+  field = Some n;
+  at = t;
+  reads = places_reads b t slot + union_reads D.unions b S e types place;
+  chain = after (places_reads b t slot) (where_asked D.unions (union_failure c b S e t types place));
+} ∷ []
+field_demands D c b S links k n t slot types place (Tables j) = reading links k (Some n) t (slot_reads b t slot + reads_if_present 2 place) ∷ []
+field_demands D c b S links k n t slot types place (Unions e) = record {
+  links = links;
+  object = k;
+  field = Some n;
+  at = t;
+  reads = places_reads b t slot + vectors_reads types place;
+  chain = after (places_reads b t slot) (where_asked D.unions (together_failure types place));
+} ∷ []
+field_demands D c b S links k n t slot types place _ = []
 
 -- where the types of offset words stand, and of which union they are
 pub record Types : Type 0 where
@@ -66,39 +79,46 @@ next_types None = None
 next_types (Some ts) = Some (record { union = ts.union; at = ts.at + 1 })
 
 -- an offset word at p by itself, through which these links lead, where its type tells what it leads to
-abbrev pub element_demands : Checks → List ℕ → Rows → List Link → (k n p : ℕ) → Option Types → List Demand
-element_demands c b S links k n p None = []
-element_demands c b S links k n p (Some ts) =
-    record { links = links; object = k; field = Some n; at = p; reads = element_reads b S ts.union ts.at; chain = element_failure c b S ts.union ts.at p } ∷ []
+abbrev pub element_demands : Demands → Checks → List ℕ → Rows → List Link → (k n p : ℕ) → Option Types → List Demand
+element_demands D c b S links k n p None = []
+element_demands D c b S links k n p (Some ts) = record {
+  links = links;
+  object = k;
+  field = Some n;
+  at = p;
+  reads = element_reads D.unions b S ts.union ts.at;
+  chain = where_asked D.unions (element_failure c b S ts.union ts.at p);
+} ∷ []
 
 abbrev pub object_of : Tree → ℕ
 object_of (node k t kids) = k
 
 unfoldable mutual
   -- a table to which these links lead: its head, and then its fields
-  pub demands_in : Tree → (ℕ → Bool) → Checks → List ℕ → Rows → List Link → List Demand
-  demands_in (node k t kids) asks c b S via = reading via k None t (head_reads c) ∷ demands_in_fields kids asks c b S via k t (live_fields S k)
+  pub demands_in : Tree → Wants → Checks → List ℕ → Rows → List Link → List Demand
+  demands_in (node k t kids) w c b S via = reading via k None t (head_reads c) ∷ demands_in_fields kids w c b S via k t (live_fields S k)
 
-  -- each field by itself, and then its offset words
-  pub demands_in_fields : Kids → (ℕ → Bool) → Checks → List ℕ → Rows → List Link → ℕ → ℕ → List Live → List Demand
-  demands_in_fields no_kids asks c b S via k t fs = []
-  demands_in_fields (kid ys kids) asks c b S via k t [] = []
-  demands_in_fields (kid ys kids) asks c b S via k t (f ∷ fs) =
-      field_demands asks c b S (via ++ field_link k f ∷ []) k f.number t f.slot (type_place b t f.slot) (field_place b t f.slot) f.kind
-      ++ (demands_in_row ys asks c b S (λ j. via ++ element_link b k t f j ∷ []) k f.number 0 (row_place b (field_place b t f.slot) f.kind) (row_types b (type_place b t f.slot) f.kind)
-      ++ demands_in_fields kids asks c b S via k t fs)
+  -- each field that is asked by itself, and then its offset words
+  pub demands_in_fields : Kids → Wants → Checks → List ℕ → Rows → List Link → ℕ → ℕ → List Live → List Demand
+  demands_in_fields no_kids w c b S via k t fs = []
+  demands_in_fields (kid ys kids) w c b S via k t [] = []
+  demands_in_fields (kid ys kids) w c b S via k t (f ∷ fs) =
+      (if is_kind_asked w S f.kind
+      then field_demands w.demands c b S (via ++ field_link k f ∷ []) k f.number t f.slot (type_place b t f.slot) (field_place b t f.slot) f.kind
+      ++ demands_in_row ys w c b S (λ j. via ++ element_link b k t f j ∷ []) k f.number 0 (row_place b (field_place b t f.slot) f.kind) (row_types b (type_place b t f.slot) f.kind)
+      else []) ++ demands_in_fields kids w c b S via k t fs
 
   -- each offset word from p on by itself, and then the table that it leads to; j others are before it, and by such a
   -- number its links are told
-  pub demands_in_row : Elements → (ℕ → Bool) → Checks → List ℕ → Rows → (ℕ → List Link) → (k n j p : ℕ) → Option Types → List Demand
-  demands_in_row no_elements asks c b S way k n j p types = []
-  demands_in_row (element y ys) asks c b S way k n j p types =
-      element_demands c b S (way j) k n p types ++ (demands_below y asks c b S (way j) k n p ++ demands_in_row ys asks c b S way k n (j + 1) (p + 4) (next_types types))
+  pub demands_in_row : Elements → Wants → Checks → List ℕ → Rows → (ℕ → List Link) → (k n j p : ℕ) → Option Types → List Demand
+  demands_in_row no_elements w c b S way k n j p types = []
+  demands_in_row (element y ys) w c b S way k n j p types =
+      element_demands w.demands c b S (way j) k n p types ++ (demands_below y w c b S (way j) k n p ++ demands_in_row ys w c b S way k n (j + 1) (p + 4) (next_types types))
 
   -- where anything is asked of that
-  pub demands_below : Element → (ℕ → Bool) → Checks → List ℕ → Rows → List Link → (k n p : ℕ) → List Demand
-  demands_below leaf asks c b S links k n p = []
-  demands_below (table y) asks c b S links k n p = if asks (object_of y) then reading links k (Some n) p 1 ∷ demands_in y asks c b S links else []
+  pub demands_below : Element → Wants → Checks → List ℕ → Rows → List Link → (k n p : ℕ) → List Demand
+  demands_below leaf w c b S links k n p = []
+  demands_below (table y) w c b S links k n p = if w.asks (object_of y) then reading links k (Some n) p 1 ∷ demands_in y w c b S links else []
 
 -- all chains find nothing
 abbrev pub AreMet : List Demand → Type 0
@@ -131,14 +151,20 @@ first_links L paid (d ∷ ds) = links_where (d.chain ▷ reads_failure L paid d.
 
 -- all that is asked of a buffer that unfolds into this tree, with a root table of this object: its length, and then the
 -- tree, where anything is asked of it
-abbrev pub demands_of : (ℕ → Bool) → Checks → List ℕ → Rows → ℕ → Tree → List Demand
-demands_of asks c b S root y =
-    record { links = []; object = root; field = None; at = length b; reads = 0; chain = length_failure b } ∷ (if asks root then demands_in y asks c b S [] else [])
+abbrev pub demands_of : Wants → Checks → List ℕ → Rows → ℕ → Tree → List Demand
+demands_of w c b S root y = record {
+  links = [];
+  object = root;
+  field = None;
+  at = length b;
+  reads = 0;
+  chain = where_asked w.demands.unions (length_failure b);
+} ∷ (if w.asks root then demands_in y w c b S [] else [])
 
 -- it finds nothing exactly where the buffer is strict
 abbrev pub DemandsLaw : Type 0
 DemandsLaw =
-    (asks : ℕ → Bool) (S : Rows) → IsClosed asks S → (y : Tree) (c : Checks) (b : List ℕ) (root t : ℕ) → Unfolds y c b S root t → AreMet (demands_of asks c b S root y) ↔ IsStrictBuffer c b S y
+    (w : Wants) (S : Rows) → IsClosed w S → (y : Tree) (c : Checks) (b : List ℕ) (root t : ℕ) → Unfolds y c b S root t → AreMet (demands_of w c b S root y) ↔ IsStrictBuffer w.demands c b S y
 
 -- none is the first exactly where all chains find nothing, within the limits
 abbrev pub FirstLaw : Type 0
@@ -147,6 +173,5 @@ FirstLaw = (L : Bounds) (ds : List Demand) (paid : ℕ) → AreAllowed L.reads p
 -- a field without a task is asked nothing, nor is what it leads to
 abbrev pub TasksLaw : Type 0
 TasksLaw =
-    (asks : ℕ → Bool) (S : Rows) (f : Live) (ys : Elements) (c : Checks) (b : List ℕ) (k t : ℕ) → task_of asks f ≡ None → ElementsUnfold ys c b S (entries b S t f) → (links : List Link) (way : ℕ → List Link)
-    → (field_demands asks c b S links k f.number t f.slot (type_place b t f.slot) (field_place b t f.slot) f.kind ≡ [])
-    × (demands_in_row ys asks c b S way k f.number 0 (row_place b (field_place b t f.slot) f.kind) (row_types b (type_place b t f.slot) f.kind) ≡ [])
+    (w : Wants) (S : Rows) (f : Live) (fs : List Live) (ys : Elements) (kids : Kids) (c : Checks) (b : List ℕ) (via : List Link) (k t : ℕ)
+    → task_of w S f ≡ None → demands_in_fields (kid ys kids) w c b S via k t (f ∷ fs) ≡ demands_in_fields kids w c b S via k t fs

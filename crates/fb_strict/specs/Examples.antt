@@ -1,14 +1,14 @@
 -- Examples of what is demanded: bytes that meet it or don't, most of them beside those around.
-use Rattle.std.specs.Prelude.{◌≡◌, ℕ, List, [], ◌∷◌, ◌++◌, Option, Some, None}
+use Rattle.std.specs.Prelude.{◌≡◌, ℕ, Bool, true, false, List, [], ◌∷◌, ◌++◌, Option, Some, None}
 use Rattle.fb_rules.specs.declared.fault.Reason.TheVariants.{OutOfBuffer, Misaligned, ZeroOffset, MissingRequired, LengthsDiffer, TooManyReads}
 use Rattle.fb_rules.specs.declared.{fault.Fault.Fault, link.Link.Link}
 use Rattle.fb_rules.specs.Tree.{Tree, node, no_kids, kid, no_elements, element, leaf, table as table_below}
 use Rattle.fb_schema.specs.{Rows.Rows, Live.live_fields}
 use Rattle.fb_rules.specs.{Samples.fault, Samples.published_checks, Samples.unions, Samples.table, Samples.field, Samples.object, Samples.vector, Tests.found}
 use Rattle.fb_rules.specs.Order.{Failure}
-use Rattle.fb_strict.specs.declared.{tasks.Ask.Ask, tasks.Task.Task}
+use Rattle.fb_strict.specs.declared.{demands.Demands.Demands, tasks.Ask.Ask, tasks.Task.Task}
 use Rattle.fb_strict.specs.declared.tasks.Ask.TheVariants.{Union as AskUnion, Unions as AskUnions, Table as GoInto, Tables as GoIntoEach}
-use Rattle.fb_strict.specs.{Skipped.reaches_union, Planned.tasks_in, Asked.demands_of, Asked.first_fault, Asked.first_links}
+use Rattle.fb_strict.specs.{Skipped.Wants, Skipped.reaches_demand, Planned.tasks_in, Asked.demands_of, Asked.first_fault, Asked.first_links}
 use Rattle.fb_strict.specs.InOrder.{length_failure, inside_failure, union_failure, together_failure, element_failure}
 
 -- the union of a table at 4, whose type and value stand at these places of such bytes: 1 is its member, 9 is none
@@ -57,9 +57,17 @@ around = record {
   enums = unions.enums;
 }
 
--- the tasks of an object, where a union is reached by two fields of tables at most
+-- where unions are asked, or nothing is
+abbrev pub asking : Bool → Demands
+asking unions = record { unions = unions; nested = false; known_fields = false; utf8 = false }
+
+-- and what is reached by two fields of tables at most
+abbrev pub wanting : Bool → Wants
+wanting unions = record { demands = asking unions; asks = reaches_demand 3 (asking unions) around }
+
+-- the tasks of an object
 abbrev pub tasks_of : ℕ → List Task
-tasks_of k = tasks_in (reaches_union 3 around) (live_fields around k)
+tasks_of k = tasks_in (wanting true) around (live_fields around k)
 
 abbrev pub task : ℕ → ℕ → Ask → Task
 task number slot ask = record { number = number; slot = slot; ask = ask }
@@ -71,6 +79,7 @@ pub record PlanRows : Type 0 where
   pub a_vector_of_unions : tasks_of 3 ≡ task 1 6 (AskUnions 0) ∷ []
   pub every_kind : tasks_of 4 ≡ task 5 14 (AskUnion 0) ∷ task 11 26 (AskUnions 0) ∷ []
   pub below : tasks_of 5 ≡ task 0 4 (GoInto 2) ∷ task 2 8 (GoIntoEach 5) ∷ []
+  pub nothing_asked : tasks_in (wanting false) around (live_fields around 5) ≡ []
 
 -- a table R whose union has this offset word and this type, and its tree where no member has the type
 abbrev pub lone : ℕ → ℕ → List ℕ
@@ -81,7 +90,7 @@ lone_tree = node 2 12 (kid no_elements (kid no_elements no_kids))
 
 -- the first fault of a buffer whose root is a table R within this budget, once ten reads are made
 abbrev pub fault_in : Option ℕ → List ℕ → Tree → Option Fault
-fault_in budget b y = first_fault (record { depth = 64; tables = 64; reads = budget }) 10 (demands_of (reaches_union 3 around) published_checks b around 2 y)
+fault_in budget b y = first_fault (record { depth = 64; tables = 64; reads = budget }) 10 (demands_of (wanting true) published_checks b around 2 y)
 
 -- that of this one
 abbrev pub fault_of : ℕ → ℕ → Option ℕ → Option Fault
@@ -100,7 +109,7 @@ pub record FaultRows : Type 0 where
 -- the links to the first fault of a buffer whose root is a table of this object within this budget, once ten reads are
 -- made
 abbrev pub links_in : Option ℕ → ℕ → List ℕ → Tree → List Link
-links_in budget root b y = first_links (record { depth = 64; tables = 64; reads = budget }) 10 (demands_of (reaches_union 3 around) published_checks b around root y)
+links_in budget root b y = first_links (record { depth = 64; tables = 64; reads = budget }) 10 (demands_of (wanting true) published_checks b around root y)
 
 -- a link of an object and a field, and of an element and a type where it has these
 abbrev pub link : (k n : ℕ) → (place type : Option ℕ) → Link

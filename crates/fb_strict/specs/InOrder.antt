@@ -1,5 +1,5 @@
 -- The demands in their order: each chain answers the first that isn't met, after the reads that were made by then.
-use Rattle.std.specs.Prelude.{◌≡◌, ◌↔◌, ℕ, ◌+◌, ◌-◌, ◌*◌, ◌<◌, ◌≤◌, ◌==◌, nat_le, if◌then◌else◌, List, length, Option, Some, None}
+use Rattle.std.specs.Prelude.{◌≡◌, ◌↔◌, ℕ, ◌+◌, ◌-◌, ◌*◌, ◌<◌, ◌≤◌, ◌==◌, nat_le, Bool, true, false, if◌then◌else◌, List, length, Option, Some, None}
 use Rattle.fb_bytes.specs.Word.{word}
 use Rattle.fb_schema.specs.declared.kinds.Kind.{Kind}
 use Rattle.fb_schema.specs.{Rows.Rows, Members.member_of}
@@ -8,6 +8,11 @@ use Rattle.fb_rules.specs.declared.fault.Reason.TheVariants.{OutOfBuffer, Missin
 use Rattle.fb_rules.specs.{Places.fits, Places.target, Cost.slot_reads, Cost.reads_if_present, Fields.union_type, Fields.types_begin}
 use Rattle.fb_rules.specs.Order.{Failure, check, after, ◌▷◌, offset_failure}
 use Rattle.fb_strict.specs.Strict.{LeadsInside, IsStrictUnion, IsStrictElement, IsStrictUnions}
+
+-- a chain, where it is asked
+abbrev pub where_asked : Bool → Option Failure → Option Failure
+where_asked true chain = chain
+where_asked false chain = None
 
 -- the buffer's length, told at its end
 abbrev pub length_failure : List ℕ → Option Failure
@@ -31,9 +36,10 @@ abbrev pub union_failure : Checks → List ℕ → Rows → (e t : ℕ) → (typ
 union_failure c b S e t types None = after (reads_if_present 1 types) (check (union_type b types == 0) MissingRequired t 0 None)
 union_failure c b S e t types (Some p) = after (reads_if_present 1 types) (value_failure c b p (member_of S e (union_type b types)))
 
-abbrev pub union_reads : List ℕ → Rows → ℕ → (types place : Option ℕ) → ℕ
-union_reads b S e types None = reads_if_present 1 types
-union_reads b S e types (Some p) = reads_if_present 1 types + value_reads (member_of S e (union_type b types))
+-- the reads of it, and of where its value leads if that is asked
+abbrev pub union_reads : Bool → List ℕ → Rows → ℕ → (types place : Option ℕ) → ℕ
+union_reads asked b S e types None = reads_if_present 1 types
+union_reads asked b S e types (Some p) = reads_if_present 1 types + (if asked then value_reads (member_of S e (union_type b types)) else 0)
 
 -- the member that a value has, none where there is no value
 abbrev pub member_at : List ℕ → Rows → ℕ → (types place : Option ℕ) → Option Kind
@@ -57,8 +63,8 @@ typed_reads S e type = if type == 0 then 0 else value_reads (member_of S e type)
 unfoldable pub element_failure : Checks → List ℕ → Rows → (e q p : ℕ) → Option Failure
 element_failure c b S e q p = after 1 (typed_failure c b S e (word b q 1) p)
 
-unfoldable pub element_reads : List ℕ → Rows → (e q : ℕ) → ℕ
-element_reads b S e q = 1 + typed_reads S e (word b q 1)
+unfoldable pub element_reads : Bool → List ℕ → Rows → (e q : ℕ) → ℕ
+element_reads asked b S e q = 1 + (if asked then typed_reads S e (word b q 1) else 0)
 
 -- the reads of where a union or a vector of them stands in the table at t, and of where its types do
 abbrev pub places_reads : List ℕ → (t slot : ℕ) → ℕ

@@ -1,7 +1,8 @@
 -- The laws of strict verdicts.
-use Rattle.std.specs.Prelude.{◌≡◌, ℕ, ◌≤◌, List, length, Result, Ok, Err}
+use Rattle.std.specs.Prelude.{◌≡◌, ℕ, ◌≤◌, true, List, length, Result, Ok, Err}
 use Rattle.fb_rules.specs.declared.{fault.Fault.Fault, fault.Report.Report}
 use Rattle.fb_rules.specs.{Question.Question, Places.target, Tree.Tree, Unfolds.Unfolds, WellFormed.base, Verdict.Reports}
+use Rattle.fb_strict.specs.declared.demands.Demands.{Demands}
 use Rattle.fb_strict.specs.{Planned.Planned, Planned.IsPlan, MostReads.most_reads_strictly, Readers.ValuesLeadInside, Readers.ElementsLeadInside}
 use Rattle.fb_strict.specs.Strictly.{ReportsStrictly, StopsStrictly}
 
@@ -17,10 +18,10 @@ pub record IsOk (q : Question) (b : List ℕ) (r : Report) : Type 0 where
 abbrev pub StrictIsOk : Type 0
 StrictIsOk = (p : Planned) (q : Question) (b : List ℕ) (r : Report) → ReportsStrictly p q b r → IsOk q b r
 
--- the tree into which the buffer unfolds then is one whose unions lead inside
+-- where unions are asked, the tree into which the buffer unfolds then is one whose unions lead inside
 abbrev pub UnionsLeadInside : Type 0
 UnionsLeadInside =
-    (p : Planned) (q : Question) (b : List ℕ) (r : Report) (y : Tree) → ReportsStrictly p q b r → Unfolds y q.checks b q.rows q.root (target b (base q.start))
+    (p : Planned) (q : Question) (b : List ℕ) (r : Report) (y : Tree) → p.demands.unions ≡ true → ReportsStrictly p q b r → Unfolds y q.checks b q.rows q.root (target b (base q.start))
     → ValuesLeadInside y b q.rows × ElementsLeadInside y b q.rows
 
 -- an answer applies: a report that counts a strict tree, or the fault that is the first
@@ -30,7 +31,7 @@ AppliesStrictly p q b (Err f) = StopsStrictly p q b f
 
 -- at most one applies to a question
 abbrev pub HasOneStrictVerdict : Type 0
-HasOneStrictVerdict = (p : Planned) (q : Question) (b : List ℕ) (x y : Result Report Fault) → IsPlan q.rows p → AppliesStrictly p q b x → AppliesStrictly p q b y → x ≡ y
+HasOneStrictVerdict = (D : Demands) (p : Planned) (q : Question) (b : List ℕ) (x y : Result Report Fault) → IsPlan q.rows D p → AppliesStrictly p q b x → AppliesStrictly p q b y → x ≡ y
 
 -- what is reported costs at most that many reads
 abbrev pub StrictCostIsBounded : Type 0

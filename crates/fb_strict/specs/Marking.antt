@@ -1,8 +1,9 @@
 -- Marks while they are made, and the marked objects in the order in which they were marked.
 use Rattle.std.specs.Prelude.{◌≡◌, ◌⊎◌, ◌+◌, ◌<◌, ℕ, Bool, true, false, not, List, [], length, replicate, slice_get, Some, count_by}
 use Rattle.fb_schema.specs.{Rows.Rows}
+use Rattle.fb_strict.specs.declared.demands.Demands.{Demands}
 use Rattle.fb_strict.specs.Skipped.{has_asked}
-use Rattle.fb_strict.specs.Planned.{marked, AreFounded}
+use Rattle.fb_strict.specs.Planned.{marked, marked_wants, AreFounded}
 
 -- exactly the objects that are marked are in the queue
 pub record IsQueue (marks : List Bool) (queue : List ℕ) : Type 0 where
@@ -28,9 +29,9 @@ pub record Spread (P : ℕ → Type 0) (marks : List Bool) (queue : List ℕ) (m
   pub grew : Grew P marks queue marks' queue'
   pub all : (k : ℕ) → P k → marked marks' k ≡ true
 
--- of the first n objects those are marked that have a union, and no others
-pub record UnionsMarked (S : Rows) (n : ℕ) (marks : List Bool) (queue : List ℕ) : Type 0 where
+-- of the first n objects those are marked of which something is demanded by itself, and no others
+pub record OwnMarked (D : Demands) (S : Rows) (n : ℕ) (marks : List Bool) (queue : List ℕ) : Type 0 where
   pub queued : IsQueue marks queue
   pub long : length marks ≡ length S.objects
-  pub founded : AreFounded S marks
-  pub all : (k : ℕ) → k < n → has_asked (marked []) S k ≡ true → marked marks k ≡ true
+  pub founded : AreFounded D S marks
+  pub all : (k : ℕ) → k < n → has_asked (marked_wants D []) S k ≡ true → marked marks k ≡ true

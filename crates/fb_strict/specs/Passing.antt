@@ -1,5 +1,5 @@
 -- A pass over a buffer that unfolds: what is left to be asked, as the frames of the open tables hold it.
-use Rattle.std.specs.Prelude.{◌≡◌, ℕ, zero, suc, ◌+◌, ◌-◌, ◌*◌, ◌^◌, ◌<◌, ◌≤◌, nat_le, IsTrue, Bool, true, if◌then◌else◌, max, List, [], ◌∷◌, ◌++◌, length, map, take, drop, get_or, slice_get, Option, Some, None, Result, Ok, Err, IfOk}
+use Rattle.std.specs.Prelude.{◌≡◌, ℕ, zero, suc, ◌+◌, ◌-◌, ◌*◌, ◌^◌, ◌<◌, ◌≤◌, nat_le, IsTrue, true, if◌then◌else◌, max, List, [], ◌∷◌, ◌++◌, length, map, take, drop, get_or, slice_get, Option, Some, None, Result, Ok, Err, IfOk}
 use Rattle.fb_bytes.specs.Word.{Lent, word}
 use Rattle.fb_schema.specs.declared.kinds.Kind.{Kind}
 use Rattle.fb_schema.specs.declared.kinds.Kind.TheVariants.{Table as TableKind}
@@ -16,8 +16,9 @@ use Rattle.fb_verify.specs.Stack.{own_link, last_link, links_left}
 use Rattle.fb_strict.specs.declared.{room.Frame.Frame, tasks.Ask.Ask, tasks.Task.Task, pass.Turn.Turn}
 use Rattle.fb_strict.specs.declared.tasks.Ask.TheVariants.{Union as AskUnion, Unions as AskUnions, Table as GoInto, Tables as GoIntoEach}
 use Rattle.fb_strict.specs.declared.pass.Turn.TheVariants.{Here, Up, Down}
-use Rattle.fb_strict.specs.{Planned.Planned, Planned.IsPlan, Planned.marked, Planned.task_of, Planned.tasks_in}
-use Rattle.fb_strict.specs.InOrder.{places_reads, union_failure, union_reads, together_failure, element_failure, element_reads, member_at}
+use Rattle.fb_strict.specs.declared.demands.Demands.{Demands}
+use Rattle.fb_strict.specs.{Skipped.Wants, Planned.Planned, Planned.IsPlan, Planned.wants_in, Planned.task_of, Planned.tasks_in}
+use Rattle.fb_strict.specs.InOrder.{where_asked, places_reads, union_failure, union_reads, together_failure, element_failure, element_reads, member_at}
 use Rattle.fb_strict.specs.Asked.{Demand, Types, vectors_reads, demands_in_fields, demands_in_row, demands_in, demands_reads, first_fault, first_links}
 
 -- what a pass carries: its plan, the rows, its limits and checks
@@ -27,13 +28,13 @@ pub record Passing : Type 0 where
   pub limits : Bounds
   pub checks : Checks
 
--- which objects are asked
-abbrev pub asks_of : Passing → ℕ → Bool
-asks_of p k = marked (p.plan).marks k
+-- what it wants
+abbrev pub wants_of : Passing → Wants
+wants_of p = wants_in p.plan
 
 -- what always holds of it, and of the bytes that are read
 pub record IsPassing (p : Passing) (b : List ℕ) : Type 0 where
-  pub plan : IsPlan p.rows p.plan
+  pub plan : IsPlan p.rows (p.plan).demands p.plan
   pub served : IsServed p.rows
   pub short : length b < 2 ^ 31
 
@@ -52,23 +53,23 @@ opened table = record { table = table; next = blank.next; number = blank.number;
 -- One task of the table at t, whose field has this slot, and whose type field and value stand at these places.
 
 -- the chain of its tests
-abbrev pub task_failure : Checks → List ℕ → Rows → (t slot : ℕ) → (types place : Option ℕ) → Ask → Option Failure
-task_failure c b S t slot types place (GoInto k) = None
-task_failure c b S t slot types place (AskUnion e) = after (places_reads b t slot) (union_failure c b S e t types place)
-task_failure c b S t slot types place (GoIntoEach k) = None
-task_failure c b S t slot types place (AskUnions e) = after (places_reads b t slot) (together_failure types place)
+abbrev pub task_failure : Demands → Checks → List ℕ → Rows → (t slot : ℕ) → (types place : Option ℕ) → Ask → Option Failure
+task_failure D c b S t slot types place (GoInto k) = None
+task_failure D c b S t slot types place (AskUnion e) = after (places_reads b t slot) (where_asked D.unions (union_failure c b S e t types place))
+task_failure D c b S t slot types place (GoIntoEach k) = None
+task_failure D c b S t slot types place (AskUnions e) = after (places_reads b t slot) (where_asked D.unions (together_failure types place))
 
 -- the reads where this finds nothing
-abbrev pub task_reads : List ℕ → Rows → (t slot : ℕ) → (types place : Option ℕ) → Ask → ℕ
-task_reads b S t slot types place (GoInto k) = slot_reads b t slot
-task_reads b S t slot types place (AskUnion e) = places_reads b t slot + union_reads b S e types place
-task_reads b S t slot types place (GoIntoEach k) = slot_reads b t slot + reads_if_present 2 place
-task_reads b S t slot types place (AskUnions e) = places_reads b t slot + vectors_reads types place
+abbrev pub task_reads : Demands → List ℕ → Rows → (t slot : ℕ) → (types place : Option ℕ) → Ask → ℕ
+task_reads D b S t slot types place (GoInto k) = slot_reads b t slot
+task_reads D b S t slot types place (AskUnion e) = places_reads b t slot + union_reads D.unions b S e types place
+task_reads D b S t slot types place (GoIntoEach k) = slot_reads b t slot + reads_if_present 2 place
+task_reads D b S t slot types place (AskUnions e) = places_reads b t slot + vectors_reads types place
 
 -- the object of the table that a member of a union is, if that is asked
-abbrev pub asked_object : (ℕ → Bool) → Option Kind → Option ℕ
-asked_object asks (Some (TableKind k)) = if asks k then Some k else None
-asked_object asks _ = None
+abbrev pub asked_object : Wants → Option Kind → Option ℕ
+asked_object w (Some (TableKind k)) = if w.asks k then Some k else None
+asked_object w _ = None
 
 -- one offset word at p that leads to a table of this object, if there is one
 abbrev pub word_row : ℕ → Option ℕ → Row → Row
@@ -76,12 +77,13 @@ word_row p None old = old
 word_row p (Some k) old = record { leads = All (ATable k); place = p; left = 1 }
 
 -- the words that are left of the field then
-abbrev pub task_row : (ℕ → Bool) → List ℕ → Rows → (types place : Option ℕ) → Ask → Row → Row
-task_row asks b S types None ask old = old
-task_row asks b S types (Some p) (GoInto k) old = record { leads = All (ATable k); place = p; left = 1 }
-task_row asks b S types (Some p) (AskUnion e) old = word_row p (asked_object asks (member_at b S e types (Some p))) old
-task_row asks b S types (Some p) (GoIntoEach k) old = record { leads = All (ATable k); place = target b p + 4; left = word b (target b p) 4 }
-task_row asks b S types (Some p) (AskUnions e) old = record { leads = ByType e (types_begin b types); place = target b p + 4; left = word b (target b p) 4 }
+abbrev pub task_row : Wants → List ℕ → Rows → (types place : Option ℕ) → Ask → Row → Row
+task_row w b S types None ask old = old
+task_row w b S types (Some p) (GoInto k) old = record { leads = All (ATable k); place = p; left = 1 }
+task_row w b S types (Some p) (AskUnion e) old = word_row p (asked_object w (member_at b S e types (Some p))) old
+task_row w b S types (Some p) (GoIntoEach k) old = record { leads = All (ATable k); place = target b p + 4; left = word b (target b p) 4 }
+task_row w b S (Some q) (Some p) (AskUnions e) old = record { leads = ByType e (target b q + 4); place = target b p + 4; left = word b (target b p) 4 }
+task_row w b S None (Some p) (AskUnions e) old = old
 
 -- an offset word stands at p, and the count of the vector to which it leads
 pub record CountStands (b : List ℕ) (p : ℕ) : Type 0 where
@@ -99,7 +101,7 @@ IsTaskable b S t slot place (AskUnions e) = TypesFit b t slot × ((p : ℕ) → 
 
 -- a row of words is left of which each leads to a table that is asked, or has a type
 abbrev pub AreAskedWords : Passing → List ℕ → ℕ → Leads → Type 0
-AreAskedWords p b n (All (ATable k)) = (asks_of p k ≡ true) × IsTrue (is_table p.rows k)
+AreAskedWords p b n (All (ATable k)) = ((wants_of p).asks k ≡ true) × IsTrue (is_table p.rows k)
 AreAskedWords p b n (All _) = ⊥
 AreAskedWords p b n (ByType e q) = IsTrue (is_union p.rows e) × (q + n ≤ length b)
 
@@ -157,37 +159,37 @@ link_behind b fr None = record { object = (fr.table).object; field = 0; element 
 link_behind b fr (Some task) = task_link b (fr.table).object (fr.table).at task (task_words b (fr.table).at task - (fr.row).left - 1)
 
 -- the same, of the task before the frame's next
-abbrev pub frame_link : (ℕ → Bool) → List ℕ → Rows → Frame → Link
-frame_link asks b S fr = link_behind b fr (slice_get (tasks_in asks (live_fields S (fr.table).object)) (fr.next - 1))
+abbrev pub frame_link : Wants → List ℕ → Rows → Frame → Link
+frame_link w b S fr = link_behind b fr (slice_get (tasks_in w S (live_fields S (fr.table).object)) (fr.next - 1))
 
 -- the last task of an open table, before this one, and its field
-pub record IsTasked (asks : ℕ → Bool) (c : Checks) (b : List ℕ) (S : Rows) (table : Table) (next : ℕ) : Type 0 where
+pub record IsTasked (w : Wants) (c : Checks) (b : List ℕ) (S : Rows) (table : Table) (next : ℕ) : Type 0 where
   pub object : IsTrue (is_table S table.object)
   pub near : table.at < 2 ^ 33
   pub head : IsHead c b table.at table.head
   pub some : 0 < next
   pub task : Task
-  pub found : slice_get (tasks_in asks (live_fields S table.object)) (next - 1) ≡ Some task
+  pub found : slice_get (tasks_in w S (live_fields S table.object)) (next - 1) ≡ Some task
   pub field : Live
-  pub its : task_of asks field ≡ Some task
+  pub its : task_of w S field ≡ Some task
   pub known : IsKnown c b S table.at field
 
 -- a word of it stands before the row that was left
-pub record IsLinked (asks : ℕ → Bool) (c : Checks) (b : List ℕ) (S : Rows) (fr : Frame) : Type 0 where
-  pub last : IsTasked asks c b S fr.table fr.next
+pub record IsLinked (w : Wants) (c : Checks) (b : List ℕ) (S : Rows) (fr : Frame) : Type 0 where
+  pub last : IsTasked w c b S fr.table fr.next
   pub more : (fr.row).left < task_words b (fr.table).at last.task
 
 -- the links of the first so many of these frames, and that each has one
-abbrev pub frame_links : (ℕ → Bool) → List ℕ → Rows → List Frame → ℕ → List Link
-frame_links asks b S frames n = map (frame_link asks b S) (take n frames)
+abbrev pub frame_links : Wants → List ℕ → Rows → List Frame → ℕ → List Link
+frame_links w b S frames n = map (frame_link w b S) (take n frames)
 
-abbrev pub AreLinked : (ℕ → Bool) → Checks → List ℕ → Rows → List Frame → ℕ → Type 0
-AreLinked asks c b S frames n = (i : ℕ) → i < n → IsLinked asks c b S (get_or frames i blank)
+abbrev pub AreLinked : Wants → Checks → List ℕ → Rows → List Frame → ℕ → Type 0
+AreLinked w c b S frames n = (i : ℕ) → i < n → IsLinked w c b S (get_or frames i blank)
 
 -- a frame whose next word, with so many before it, is one of its last task: the links of the word's demands are those
 -- by which the table was reached, and then the one through the word
-pub record IsOnWay (asks : ℕ → Bool) (c : Checks) (b : List ℕ) (S : Rows) (via : List Link) (fr : Frame) (way : ℕ → List Link) (passed : ℕ) : Type 0 where
-  pub last : IsTasked asks c b S fr.table fr.next
+pub record IsOnWay (w : Wants) (c : Checks) (b : List ℕ) (S : Rows) (via : List Link) (fr : Frame) (way : ℕ → List Link) (passed : ℕ) : Type 0 where
+  pub last : IsTasked w c b S fr.table fr.next
   pub count : passed + (fr.row).left ≡ task_words b (fr.table).at last.task
   pub through : (j : ℕ) → way j ≡ via ++ task_link b (fr.table).object (fr.table).at last.task j ∷ []
 
@@ -199,7 +201,7 @@ pub record IsLeft (p : Passing) (b : List ℕ) (room : ℕ) (via : List Link) (f
   pub head : IsHead p.checks b (fr.table).at (fr.table).head
   pub fields : List Live
   pub known : AreKnown p.checks b p.rows (fr.table).at fields
-  pub tasks : drop fr.next (tasks_in (asks_of p) (live_fields p.rows (fr.table).object)) ≡ tasks_in (asks_of p) fields
+  pub tasks : drop fr.next (tasks_in (wants_of p) p.rows (live_fields p.rows (fr.table).object)) ≡ tasks_in (wants_of p) p.rows fields
   pub kids : Kids
   pub unfolds : FieldsUnfold kids p.checks b p.rows (fr.table).at fields
   pub words : Elements
@@ -208,14 +210,14 @@ pub record IsLeft (p : Passing) (b : List ℕ) (room : ℕ) (via : List Link) (f
   pub deep : max (elements_depth words) (kids_depth kids) < room
   pub way : ℕ → List Link
   pub passed : ℕ
-  pub linked : 0 < (fr.row).left → IsOnWay (asks_of p) p.checks b p.rows via fr way passed
-  pub all : ds ≡ demands_in_row words (asks_of p) p.checks b p.rows way (fr.table).object fr.number passed (fr.row).place (leads_types (fr.row).leads)
-      ++ demands_in_fields kids (asks_of p) p.checks b p.rows via (fr.table).object (fr.table).at fields
+  pub linked : 0 < (fr.row).left → IsOnWay (wants_of p) p.checks b p.rows via fr way passed
+  pub all : ds ≡ demands_in_row words (wants_of p) p.checks b p.rows way (fr.table).object fr.number passed (fr.row).place (leads_types (fr.row).leads)
+      ++ demands_in_fields kids (wants_of p) p.checks b p.rows via (fr.table).object (fr.table).at fields
 
 -- the first so many of these frames stand for these demands, the last of them first, and each but that has its link
 unfoldable pub AreLeft : Passing → List ℕ → List Frame → ℕ → List Demand → Type 0
 AreLeft p b frames zero ds = ds ≡ []
-AreLeft p b frames (suc n) ds = (own : List Demand) × (others : List Demand) × IsLeft p b (length frames - n) (frame_links (asks_of p) b p.rows frames n) (get_or frames n blank) own × AreLeft p b frames n others × (ds ≡ own ++ others) × AreLinked (asks_of p) p.checks b p.rows frames n
+AreLeft p b frames (suc n) ds = (own : List Demand) × (others : List Demand) × IsLeft p b (length frames - n) (frame_links (wants_of p) b p.rows frames n) (get_or frames n blank) own × AreLeft p b frames n others × (ds ≡ own ++ others) × AreLinked (wants_of p) p.checks b p.rows frames n
 
 -- a pass goes on from these demands after so many reads to those after so many, whatever is demanded afterwards
 pub record Moves (L : Bounds) (paid : ℕ) (ds : List Demand) (last : ℕ) (left : List Demand) : Type 0 where
@@ -231,7 +233,7 @@ pub record Breaks (L : Bounds) (paid : ℕ) (ds : List Demand) (f : Fault) (link
 
 -- the turns that are left for a frame at most, but for those of tables to be opened
 abbrev pub frame_work : Passing → Frame → ℕ
-frame_work p fr = 1 + 2 ^ 33 * (length (tasks_in (asks_of p) (live_fields p.rows (fr.table).object)) - fr.next) + (fr.row).left
+frame_work p fr = 1 + 2 ^ 33 * (length (tasks_in (wants_of p) p.rows (live_fields p.rows (fr.table).object)) - fr.next) + (fr.row).left
 
 -- and for so many of these frames
 unfoldable pub frames_work : Passing → List Frame → ℕ → ℕ
@@ -246,24 +248,24 @@ pub record IsNext (p : Passing) (b : List ℕ) (room : ℕ) (via : List Link) (c
   pub object : IsTrue (is_table p.rows child.object)
   pub near : child.at < 2 ^ 33
   pub deep : depth tree ≤ room
-  pub all : ds ≡ demands_in tree (asks_of p) p.checks b p.rows via
+  pub all : ds ≡ demands_in tree (wants_of p) p.checks b p.rows via
 
 -- a task of the table at t was done: its demand is met, and the words of its field were put; or the pass stops
 pub record TaskPassed {A : Type 0} (p : Passing) (m new : Lent) (t : ℕ) (site : Site) (slot : ℕ) (ask : Ask) (old past : Row) (result : Result A Stop) : Type 0 where
-  pub asked : IsAskedAt site p.limits m new (task_failure p.checks m.bytes p.rows t slot (type_place m.bytes t slot) (field_place m.bytes t slot) ask) (task_reads m.bytes p.rows t slot (type_place m.bytes t slot) (field_place m.bytes t slot) ask) t result
-  pub row : IfOk result (λ _. past ≡ task_row (asks_of p) m.bytes p.rows (type_place m.bytes t slot) (field_place m.bytes t slot) ask old)
+  pub asked : IsAskedAt site p.limits m new (task_failure (p.plan).demands p.checks m.bytes p.rows t slot (type_place m.bytes t slot) (field_place m.bytes t slot) ask) (task_reads (p.plan).demands m.bytes p.rows t slot (type_place m.bytes t slot) (field_place m.bytes t slot) ask) t result
+  pub row : IfOk result (λ _. past ≡ task_row (wants_of p) m.bytes p.rows (type_place m.bytes t slot) (field_place m.bytes t slot) ask old)
 
 -- the object of the table to which the first word of a row leads, if that is asked
 abbrev pub first_object : Passing → List ℕ → Leads → Option ℕ
 first_object p b (All (ATable k)) = Some k
 first_object p b (All _) = None
-first_object p b (ByType e q) = asked_object (asks_of p) (member_of p.rows e (word b q 1))
+first_object p b (ByType e q) = asked_object (wants_of p) (member_of p.rows e (word b q 1))
 
 -- that word was asked, where its type tells what it leads to; or the pass stops
 abbrev pub FirstPassed : (p : Passing) → (m new : Lent) → Site → (place : ℕ) → Leads → Result (Option ℕ) Stop → Type 0
 FirstPassed p m new site place (All referent) result = (result ≡ Ok (first_object p m.bytes (All referent))) × (new ≡ m)
 FirstPassed p m new site place (ByType e q) result =
-    IsAskedAt site p.limits m new (element_failure p.checks m.bytes p.rows e q place) (element_reads m.bytes p.rows e q) place result × IfOk result (λ o. o ≡ first_object p m.bytes (ByType e q))
+    IsAskedAt site p.limits m new (where_asked (p.plan).demands.unions (element_failure p.checks m.bytes p.rows e q place)) (element_reads (p.plan).demands.unions m.bytes p.rows e q) place result × IfOk result (λ o. o ≡ first_object p m.bytes (ByType e q))
 
 -- One step in the top table, from a frame to another, after which the pass goes on there, in the table above or in one
 -- below; or it stops.
@@ -285,15 +287,15 @@ pub record GoesDown (p : Passing) (m new : Lent) (room : ℕ) (via : List Link) 
   pub left : List Demand
   pub on : GoesOn p m new ds (below ++ left)
   pub paid : new.count ≤ m.count + 8
-  pub next : IsNext p m.bytes (room - 1) (via ++ frame_link (asks_of p) m.bytes p.rows past ∷ []) child below
+  pub next : IsNext p m.bytes (room - 1) (via ++ frame_link (wants_of p) m.bytes p.rows past ∷ []) child below
   pub frame : IsLeft p m.bytes room via past left
-  pub linked : IsLinked (asks_of p) p.checks m.bytes p.rows past
+  pub linked : IsLinked (wants_of p) p.checks m.bytes p.rows past
   pub falls : frame_work p past ≤ frame_work p top
 
 -- it stops with so many frames open: behind a word of the top's, or in a field of its table
 abbrev pub StopsHere : (p : Passing) → (m new : Lent) → (via : List Link) → (many : ℕ) → (ds : List Demand) → (past : Frame) → Halt → LastLink → Type 0
 StopsHere p m new via many ds past h Behind =
-    (h.links ≡ many) × IsLinked (asks_of p) p.checks m.bytes p.rows past × Breaks p.limits m.count ds (stopped h.stop new.count) (via ++ frame_link (asks_of p) m.bytes p.rows past ∷ [])
+    (h.links ≡ many) × IsLinked (wants_of p) p.checks m.bytes p.rows past × Breaks p.limits m.count ds (stopped h.stop new.count) (via ++ frame_link (wants_of p) m.bytes p.rows past ∷ [])
 StopsHere p m new via many ds past h InField = (h.links + 1 ≡ many) × Breaks p.limits m.count ds (stopped h.stop new.count) (via ++ own_link (stopped h.stop new.count))
 
 abbrev pub Stepped : (p : Passing) → (m new : Lent) → (room : ℕ) → (via : List Link) → (many : ℕ) → (ds : List Demand) → (top past : Frame) → (child : Child) → Result Turn Halt → Type 0
@@ -304,8 +306,8 @@ Stepped p m new room via many ds top past child (Err h) = StopsHere p m new via 
 
 -- a pass stops: the links of so many of these frames lead to the fault, and then what they leave
 pub record Halts (p : Passing) (m new : Lent) (ds : List Demand) (frames : List Frame) (h : Halt) : Type 0 where
-  pub breaks : Breaks p.limits m.count ds (stopped h.stop new.count) (frame_links (asks_of p) m.bytes p.rows frames h.links ++ last_link h.last (stopped h.stop new.count))
-  pub linked : AreLinked (asks_of p) p.checks m.bytes p.rows frames h.links
+  pub breaks : Breaks p.limits m.count ds (stopped h.stop new.count) (frame_links (wants_of p) m.bytes p.rows frames h.links ++ last_link h.last (stopped h.stop new.count))
+  pub linked : AreLinked (wants_of p) p.checks m.bytes p.rows frames h.links
   pub within : h.links + links_left h.last ≤ length frames
 
 -- the same of a whole stack of frames, of which so many are open

@@ -1,11 +1,12 @@
 -- What a reader of a strict buffer relies on, wherever it comes to a table.
-use Rattle.std.specs.Prelude.{◌≡◌, ◌≢◌, ◌↔◌, ◌⊎◌, ℕ, ◌+◌, ◌*◌, ◌<◌, ◌≤◌, List, length, slice_get, Some, None}
+use Rattle.std.specs.Prelude.{◌≡◌, ◌≢◌, ◌↔◌, ◌⊎◌, ℕ, ◌+◌, ◌*◌, ◌<◌, ◌≤◌, true, List, length, slice_get, Some, None}
 use Rattle.fb_bytes.specs.Word.{word}
 use Rattle.fb_schema.specs.declared.kinds.Kind.TheVariants.{Union, Unions}
 use Rattle.fb_schema.specs.{Rows.Rows, Live.Live, Live.live_fields, Members.member_of}
 use Rattle.fb_rules.specs.declared.checks.Checks.{Checks}
 use Rattle.fb_rules.specs.{Places.target, Places.field_place, Fields.type_place, Fields.types_begin, Fields.union_type}
 use Rattle.fb_rules.specs.Tree.{Tree, node, Kids, no_kids, kid, Elements, no_elements, element, Element, leaf, table}
+use Rattle.fb_strict.specs.declared.demands.Demands.{Demands}
 use Rattle.fb_strict.specs.Strict.{IsStrict, IsStrictTable}
 
 -- the tree has a visit of a table of the object k at t
@@ -27,7 +28,7 @@ unfoldable mutual
 
 -- a tree is strict exactly where each table in it is
 abbrev pub TablesLaw : Type 0
-TablesLaw = (y : Tree) (c : Checks) (b : List ℕ) (S : Rows) → IsStrict y c b S ↔ ((k t : ℕ) → HasNode y k t → IsStrictTable c b S k t)
+TablesLaw = (y : Tree) (D : Demands) (c : Checks) (b : List ℕ) (S : Rows) → IsStrict y D c b S ↔ ((k t : ℕ) → HasNode y k t → IsStrictTable D c b S k t)
 
 -- the offset word at p lies in the buffer, and leads inside
 pub record MayFollow (b : List ℕ) (p : ℕ) : Type 0 where
@@ -48,10 +49,10 @@ ElementsLeadInside y b S =
     → j < word b (target b p) 4 → word b (types_begin b (type_place b t f.slot) + j) 1 ≢ 0 → member_of S e (word b (types_begin b (type_place b t f.slot) + j) 1) ≡ None
     → MayFollow b (target b p + 4 + 4 * j)
 
--- both hold of a strict tree
+-- both hold of a strict tree, where unions are asked
 
 abbrev pub ValuesLaw : Type 0
-ValuesLaw = (y : Tree) (c : Checks) (b : List ℕ) (S : Rows) → IsStrict y c b S → ValuesLeadInside y b S
+ValuesLaw = (y : Tree) (D : Demands) (c : Checks) (b : List ℕ) (S : Rows) → D.unions ≡ true → IsStrict y D c b S → ValuesLeadInside y b S
 
 abbrev pub ElementsLaw : Type 0
-ElementsLaw = (y : Tree) (c : Checks) (b : List ℕ) (S : Rows) → IsStrict y c b S → ElementsLeadInside y b S
+ElementsLaw = (y : Tree) (D : Demands) (c : Checks) (b : List ℕ) (S : Rows) → D.unions ≡ true → IsStrict y D c b S → ElementsLeadInside y b S

@@ -1,11 +1,12 @@
 -- What is demanded of a buffer beside the rules of the format: what the accessors of generated code follow leads inside.
-use Rattle.std.specs.Prelude.{◌≡◌, ◌≢◌, ◌↔◌, ℕ, ◌+◌, ◌*◌, ◌<◌, ◌≤◌, List, length, slice_get, Option, Some, None}
+use Rattle.std.specs.Prelude.{◌≡◌, ◌≢◌, ◌↔◌, ℕ, ◌+◌, ◌*◌, ◌<◌, ◌≤◌, true, List, length, slice_get, Option, Some, None}
 use Rattle.fb_bytes.specs.Word.{word}
 use Rattle.fb_schema.specs.declared.kinds.Kind.{Kind, TheVariants.Union, TheVariants.Unions}
 use Rattle.fb_schema.specs.{Rows.Rows, Live.Live, Live.live_fields, Members.member_of}
 use Rattle.fb_rules.specs.declared.checks.Checks.{Checks}
 use Rattle.fb_rules.specs.{Places.target, Places.field_place, Facts.IsOffset}
 use Rattle.fb_rules.specs.Fields.{type_place, types_begin, union_type}
+use Rattle.fb_strict.specs.declared.demands.Demands.{Demands}
 use Rattle.fb_rules.specs.Tree.{Tree, node, Kids, no_kids, kid, Elements, no_elements, element, Element, leaf, table}
 
 -- an offset word stands at p, and leads inside the buffer
@@ -29,33 +30,38 @@ pub record IsStrictUnions (c : Checks) (b : List ℕ) (S : Rows) (e : ℕ) (type
   pub leads : (p j : ℕ) → place ≡ Some p → j < word b (target b p) 4 → IsStrictElement c b S e (word b (types_begin b types + j) 1) (target b p + 4 + 4 * j)
 
 -- a field of this kind whose type field and value stand at these places: nothing is demanded of what is no union
-abbrev pub IsStrictField : Checks → List ℕ → Rows → (types place : Option ℕ) → Kind → Type 0
-IsStrictField c b S types place (Union e) = IsStrictUnion c b S e types place
-IsStrictField c b S types place (Unions e) = IsStrictUnions c b S e types place
-IsStrictField c b S types place _ = Unit {0}
+abbrev pub HasStrictUnions : Checks → List ℕ → Rows → (types place : Option ℕ) → Kind → Type 0
+HasStrictUnions c b S types place (Union e) = IsStrictUnion c b S e types place
+HasStrictUnions c b S types place (Unions e) = IsStrictUnions c b S e types place
+HasStrictUnions c b S types place _ = Unit {0}
 
--- the live fields of the table at t, of the object k
-abbrev pub IsStrictTable : Checks → List ℕ → Rows → (k t : ℕ) → Type 0
-IsStrictTable c b S k t = (i : ℕ) (f : Live) → slice_get (live_fields S k) i ≡ Some f → IsStrictField c b S (type_place b t f.slot) (field_place b t f.slot) f.kind
+-- what is demanded of the field f of the table at t
+pub record IsStrictField (D : Demands) (c : Checks) (b : List ℕ) (S : Rows) (t : ℕ) (f : Live) : Type 0 where
+  pub unions : D.unions ≡ true → HasStrictUnions c b S (type_place b t f.slot) (field_place b t f.slot) f.kind
+
+-- what is demanded of the table at t, of the object k: of each of its live fields
+pub record IsStrictTable (D : Demands) (c : Checks) (b : List ℕ) (S : Rows) (k t : ℕ) : Type 0 where
+  pub fields : (i : ℕ) (f : Live) → slice_get (live_fields S k) i ≡ Some f → IsStrictField D c b S t f
 
 -- all tables of a tree
 unfoldable mutual
-  pub IsStrict : Tree → Checks → List ℕ → Rows → Type 0
-  IsStrict (node k t kids) c b S = IsStrictTable c b S k t × KidsAreStrict kids c b S
+  pub IsStrict : Tree → Demands → Checks → List ℕ → Rows → Type 0
+  IsStrict (node k t kids) D c b S = IsStrictTable D c b S k t × KidsAreStrict kids D c b S
 
-  pub KidsAreStrict : Kids → Checks → List ℕ → Rows → Type 0
-  KidsAreStrict no_kids c b S = Unit {0}
-  KidsAreStrict (kid ys kids) c b S = ElementsAreStrict ys c b S × KidsAreStrict kids c b S
+  pub KidsAreStrict : Kids → Demands → Checks → List ℕ → Rows → Type 0
+  KidsAreStrict no_kids D c b S = Unit {0}
+  KidsAreStrict (kid ys kids) D c b S = ElementsAreStrict ys D c b S × KidsAreStrict kids D c b S
 
-  pub ElementsAreStrict : Elements → Checks → List ℕ → Rows → Type 0
-  ElementsAreStrict no_elements c b S = Unit {0}
-  ElementsAreStrict (element y ys) c b S = ElementIsStrict y c b S × ElementsAreStrict ys c b S
+  pub ElementsAreStrict : Elements → Demands → Checks → List ℕ → Rows → Type 0
+  ElementsAreStrict no_elements D c b S = Unit {0}
+  ElementsAreStrict (element y ys) D c b S = ElementIsStrict y D c b S × ElementsAreStrict ys D c b S
 
-  pub ElementIsStrict : Element → Checks → List ℕ → Rows → Type 0
-  ElementIsStrict leaf c b S = Unit {0}
-  ElementIsStrict (table y) c b S = IsStrict y c b S
+  pub ElementIsStrict : Element → Demands → Checks → List ℕ → Rows → Type 0
+  ElementIsStrict leaf D c b S = Unit {0}
+  ElementIsStrict (table y) D c b S = IsStrict y D c b S
 
--- a buffer that unfolds into this tree: it has no fewer than 12 bytes, a prefix included, and its tables are strict
-pub record IsStrictBuffer (c : Checks) (b : List ℕ) (S : Rows) (y : Tree) : Type 0 where
-  pub long : 12 ≤ length b
-  pub tables : IsStrict y c b S
+-- a buffer that unfolds into this tree: its tables are strict, and where unions are asked it has no fewer than 12 bytes,
+-- a prefix included
+pub record IsStrictBuffer (D : Demands) (c : Checks) (b : List ℕ) (S : Rows) (y : Tree) : Type 0 where
+  pub long : D.unions ≡ true → 12 ≤ length b
+  pub tables : IsStrict y D c b S

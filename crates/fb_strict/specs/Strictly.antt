@@ -8,19 +8,19 @@ use Rattle.fb_rules.specs.{Links.StopsAlong, Told.stopped}
 use Rattle.fb_schema.specs.Rows.{Rows}
 use Rattle.fb_verify.specs.{Sealed.Sealed, Stack.last_link, Stack.links_left}
 use Rattle.fb_strict.specs.declared.{room.Frame.Frame, strictly.Unmet.Unmet}
-use Rattle.fb_strict.specs.{Strict.IsStrictBuffer, Planned.Planned, Planned.marked, Passing.frame_links, Passing.AreLinked}
+use Rattle.fb_strict.specs.{Strict.IsStrictBuffer, Planned.Planned, Planned.wants_in, Passing.frame_links, Passing.AreLinked}
 use Rattle.fb_strict.specs.Asked.{Demand, demands_of, demands_reads, first_fault, first_links}
 
 -- all reads of a buffer that unfolds into this tree: those of the walk, and those of the pass by this plan
 abbrev pub strict_cost : Planned → Question → List ℕ → Tree → ℕ
-strict_cost p q b y = cost q b y + demands_reads (demands_of (marked p.marks) q.checks b q.rows q.root y)
+strict_cost p q b y = cost q b y + demands_reads (demands_of (wants_in p) q.checks b q.rows q.root y)
 
 -- a tree is well formed, strict, and within the limits with all its reads, and the report counts it
 pub record ReportsStrictly (p : Planned) (q : Question) (b : List ℕ) (r : Report) : Type 0 where
   pub found : Tree
   pub well_formed : IsWellFormed q b found
   pub within : IsWithin q b found
-  pub strict : IsStrictBuffer q.checks b q.rows found
+  pub strict : IsStrictBuffer p.demands q.checks b q.rows found
   pub paid : AreAllowed (q.limits).reads (strict_cost p q b found)
   pub tables : r.tables ≡ size found
   pub depth : r.depth ≡ depth found
@@ -28,22 +28,22 @@ pub record ReportsStrictly (p : Planned) (q : Question) (b : List ℕ) (r : Repo
 
 -- no tree is well formed, strict, and within the limits with all its reads
 abbrev pub HasNoneStrictly : Planned → Question → List ℕ → Type 0
-HasNoneStrictly p q b = (y : Tree) → IsWellFormed q b y → IsWithin q b y → IsStrictBuffer q.checks b q.rows y → AreAllowed (q.limits).reads (strict_cost p q b y) → ⊥
+HasNoneStrictly p q b = (y : Tree) → IsWellFormed q b y → IsWithin q b y → IsStrictBuffer p.demands q.checks b q.rows y → AreAllowed (q.limits).reads (strict_cost p q b y) → ⊥
 
 -- a tree is well formed and within the limits, and the fault is the first of what is demanded of it that isn't met
 pub record FailsStrictly (p : Planned) (q : Question) (b : List ℕ) (f : Fault) : Type 0 where
   pub found : Tree
   pub well_formed : IsWellFormed q b found
   pub within : IsWithin q b found
-  pub first : first_fault q.limits (cost q b found) (demands_of (marked p.marks) q.checks b q.rows q.root found) ≡ Some f
+  pub first : first_fault q.limits (cost q b found) (demands_of (wants_in p) q.checks b q.rows q.root found) ≡ Some f
 
 -- and these links lead there
 pub record FailsAlong (p : Planned) (q : Question) (b : List ℕ) (f : Fault) (links : List Link) : Type 0 where
   pub found : Tree
   pub well_formed : IsWellFormed q b found
   pub within : IsWithin q b found
-  pub first : first_fault q.limits (cost q b found) (demands_of (marked p.marks) q.checks b q.rows q.root found) ≡ Some f
-  pub along : links ≡ first_links q.limits (cost q b found) (demands_of (marked p.marks) q.checks b q.rows q.root found)
+  pub first : first_fault q.limits (cost q b found) (demands_of (wants_in p) q.checks b q.rows q.root found) ≡ Some f
+  pub along : links ≡ first_links q.limits (cost q b found) (demands_of (wants_in p) q.checks b q.rows q.root found)
 
 -- the walk's first fault, or else the pass's
 abbrev pub StopsStrictly : Planned → Question → List ℕ → Fault → Type 0
@@ -72,15 +72,15 @@ later paid f = record f { reads = paid + f.reads }
 -- the first of these demands that isn't met, once so many reads are made: the links of these frames lead there
 pub record IsFirst (p : Planned) (c : Checks) (b : List ℕ) (S : Rows) (L : Bounds) (paid : ℕ) (ds : List Demand) (frames : List Frame) (u : Unmet) : Type 0 where
   pub first : first_fault L paid ds ≡ Some u.fault
-  pub along : first_links L paid ds ≡ frame_links (marked p.marks) b S frames u.links ++ last_link u.last u.fault
-  pub linked : AreLinked (marked p.marks) c b S frames u.links
+  pub along : first_links L paid ds ≡ frame_links (wants_in p) b S frames u.links ++ last_link u.last u.fault
+  pub linked : AreLinked (wants_in p) c b S frames u.links
   pub within : u.links + links_left u.last ≤ length frames
 
 -- what a pass answers of a buffer that unfolds into this tree: how many reads there were in all, or the first demand
 -- that isn't met
 abbrev pub Asked : Planned → Question → List ℕ → Tree → List Frame → Result ℕ Unmet → Type 0
-Asked p q b y frames (Ok n) = (first_fault q.limits (cost q b y) (demands_of (marked p.marks) q.checks b q.rows q.root y) ≡ None) × (n ≡ strict_cost p q b y)
-Asked p q b y frames (Err u) = IsFirst p q.checks b q.rows q.limits (cost q b y) (demands_of (marked p.marks) q.checks b q.rows q.root y) frames u
+Asked p q b y frames (Ok n) = (first_fault q.limits (cost q b y) (demands_of (wants_in p) q.checks b q.rows q.root y) ≡ None) × (n ≡ strict_cost p q b y)
+Asked p q b y frames (Err u) = IsFirst p q.checks b q.rows q.limits (cost q b y) (demands_of (wants_in p) q.checks b q.rows q.root y) frames u
 
 -- what it answers of these demands by themselves, before any read
 abbrev pub AskedAlone : Planned → Checks → List ℕ → Rows → Bounds → List Demand → List Frame → Result ℕ Unmet → Type 0

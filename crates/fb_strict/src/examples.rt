@@ -12,19 +12,19 @@ pub fn rows()
 {}
 
 /// The tasks of tables with unions, of one that leads to such a table, and of those from which none is reached.
-#[tactic(auto, unfolding(fb_rules::proofs::Shown::computing, crate::specs::Skipped::reaches_union))]
+#[tactic(auto, unfolding(fb_rules::proofs::Shown::computing, crate::specs::Skipped::reaches_demand, crate::specs::Skipped::some_member))]
 pub fn plans()
     ensures { PlanRows }
 {}
 
 /// First faults of a buffer with a union whose type is unknown.
-#[tactic(auto, unfolding(fb_rules::proofs::Shown::computing, crate::specs::Skipped::reaches_union, crate::specs::Asked::demands_in, crate::specs::Asked::first_fault, crate::specs::InOrder::inside_failure))]
+#[tactic(auto, unfolding(fb_rules::proofs::Shown::computing, crate::specs::Skipped::reaches_demand, crate::specs::Asked::demands_in, crate::specs::Asked::first_fault, crate::specs::InOrder::inside_failure))]
 pub fn first_faults()
     ensures { FaultRows }
 {}
 
 /// The links that lead to first faults.
-#[tactic(auto, unfolding(fb_rules::proofs::Shown::computing, crate::specs::Skipped::reaches_union, crate::specs::Asked::demands_in, crate::specs::Asked::first_links, crate::specs::InOrder::inside_failure, crate::specs::InOrder::element_failure, crate::specs::InOrder::element_reads))]
+#[tactic(auto, unfolding(fb_rules::proofs::Shown::computing, crate::specs::Skipped::reaches_demand, crate::specs::Asked::demands_in, crate::specs::Asked::first_links, crate::specs::InOrder::inside_failure, crate::specs::InOrder::element_failure, crate::specs::InOrder::element_reads))]
 pub fn links()
     ensures { LinkRows }
 {}

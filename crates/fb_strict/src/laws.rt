@@ -4,7 +4,7 @@ ghost use Rattle.fb_strict.specs.Asked.{DemandsLaw, FirstLaw, TasksLaw};
 ghost use Rattle.fb_strict.specs.Laws.{HasOneStrictVerdict, StrictCostIsBounded, StrictIsOk, StrictReadsAreBounded, UnionsLeadInside};
 ghost use Rattle.fb_strict.specs.InOrder.{ElementLaw, InsideLaw, LengthLaw, UnionLaw, UnionsLaw};
 ghost use Rattle.fb_strict.specs.Readers.{ElementsLaw, TablesLaw, ValuesLaw};
-ghost use Rattle.fb_strict.specs.Skipped.{SkipLaw};
+ghost use Rattle.fb_strict.specs.{Skipped.SkipLaw, Planned.OnePlanLaw};
 
 /// A chain of tests finds nothing exactly where what is demanded holds.
 #[tactic(auto, using(crate::proofs::Chains::inside_none, crate::proofs::Chains::union_none, crate::proofs::Chains::element_none))]
@@ -31,7 +31,13 @@ pub fn tables_are_strict()
     ensures { TablesLaw }
 {}
 
-/// In a strict buffer the value of a union whose type is 0 or unknown leads inside, wherever its table stands, and so
+/// Two plans of a schema for the same demands are the same.
+#[tactic(auto, using(crate::proofs::Marks::one_plan))]
+pub fn one_plan()
+    ensures { OnePlanLaw }
+{}
+
+/// Where unions are asked, in a strict buffer the value of a union whose type is 0 or unknown leads inside, wherever its table stands, and so
 /// does an offset word in a vector of unions whose type is unknown.
 pub fn unknown_values_lead_inside()
     ensures values { ValuesLaw }
@@ -55,7 +61,7 @@ pub fn strict_is_ok()
     ensures { StrictIsOk }
 {}
 
-/// In a buffer that is reported strictly, such values and offset words lead inside, wherever a table of its tree stands.
+/// In a buffer that is reported strictly where unions are asked, such values and offset words lead inside, wherever a table of its tree stands.
 pub fn unions_lead_inside()
     ensures { UnionsLeadInside }
 {}

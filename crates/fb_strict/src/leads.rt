@@ -1,10 +1,11 @@
 // Which tables lead to an object, found backwards from it.
 
-ghost use Rattle.std.specs.Prelude.{◌≡◌, ◌+◌, ◌*◌, ◌^◌, ◌<◌, ◌≤◌, ◌⊎◌, ℕ, length, map, OnOk, IfOk};
-ghost use Rattle.fb_schema.specs.Live.{live_of_view};
-ghost use Rattle.fb_strict.specs.Leading.{leads_to, last_to, IsChained, NoneLead, Added, TookFields, AreLeads};
+ghost use Rattle.std.specs.Prelude.{◌≡◌, ◌+◌, ◌*◌, ◌^◌, ◌<◌, ◌≤◌, ◌⊎◌, ℕ, length, map, OnOk, IfOk, IsTrue};
+ghost use Rattle.fb_schema.specs.Rows.{is_table, is_union};
+ghost use Rattle.fb_strict.specs.Leading.{KindIsThere, MemberLeads, KindLeads, LeadsTo, last_to, IsChained, NoneLead, Added, AreLeads};
 
-use fb_schema::{FieldView, Kind, Schema};
+use crate::demands::Demands;
+use fb_schema::{Kind, Schema};
 use std::alloc::{AllocError, Allocator};
 
 /// A field that leads to tables of an object: the object that has the field, and one more than the place of the edge to
@@ -16,21 +17,12 @@ pub struct Edge {
 }
 
 /// The fields that lead to each object. For each object there is one more than the place of the last edge to it, 0 where
-/// there is none, and each edge names the one before it. It takes 8 bytes an object and 16 a live field of a table.
+/// there is none, and each edge names the one before it. It takes 8 bytes an object and 16 an edge: one of each field
+/// of tables, and of a field of unions one a member that is a table, where unions aren't asked themselves.
 #[derive(Drop)]
 pub struct Leads<A: Allocator> {
     pub lasts: Vec<usize, A>,
     pub edges: Vec<Edge, A>,
-}
-
-/// The object to whose tables a field of this kind leads.
-fn led_to(kind: Kind) -> Option<u32>
-    ensures { result ≡ leads_to kind }
-{
-    match kind {
-        Kind::Table(object) | Kind::Tables(object) => Some(object),
-        _ => None,
-    }
 }
 
 /// How many live fields all tables have.
@@ -58,7 +50,7 @@ impl<A: Allocator + Copy> Leads<A> {
     /// Adds a field of the object `from` that leads to tables of the object `to`, if that is there.
     fn add(&mut self, from: u32, to: u32) -> Result<(), AllocError>
         requires { IsChained self.old.lasts.items self.old.edges.items }
-        ensures { OnOk result (Added from to self.old.lasts.items self.old.edges.items self.new.lasts.items self.new.edges.items) }
+        ensures { OnOk result (Added from (λ t. t ≡ to) self.old.lasts.items self.old.edges.items self.new.lasts.items self.new.edges.items) }
     {
         if let Some(last) = self.lasts.get_mut(to as usize) {
             self.edges.push(Edge {
@@ -70,28 +62,69 @@ impl<A: Allocator + Copy> Leads<A> {
         Ok(())
     }
 
-    /// Adds those of the fields of an object that lead to tables.
-    fn add_fields(&mut self, object: u32, fields: &[FieldView<'_>]) -> Result<(), AllocError>
-        requires { IsChained self.old.lasts.items self.old.edges.items }
-        ensures { OnOk result (TookFields object (map live_of_view fields.now) self.old.lasts.items self.old.edges.items self.new.lasts.items self.new.edges.items) }
+    /// Adds those members of a union that are tables, as what a field of this object leads to.
+    fn add_members(&mut self, schema: &Schema<'_>, from: u32, union: u32) -> Result<(), AllocError>
+        requires union { IsTrue (is_union schema.now union) }
+        requires chained { IsChained self.old.lasts.items self.old.edges.items }
+        ensures { OnOk result (Added from (MemberLeads schema.now union 256) self.old.lasts.items self.old.edges.items self.new.lasts.items self.new.edges.items) }
     {
-        for field in fields {
-            if let Some(to) = led_to(field.kind) {
-                self.add(object, to)?;
+        for value in 0..256u32 {
+            if let Some(Kind::Table(to)) = schema.member_of(union, value as u8) {
+                self.add(from, to)?;
             }
         }
         Ok(())
     }
 
-    /// The fields that lead to each object of a schema.
-    pub fn of(alloc: A, schema: &Schema<'_>) -> Result<Leads<A>, AllocError>
-        ensures { IfOk result (λ leads. AreLeads schema.now leads.lasts.items leads.edges.items) }
+    /// Adds a field of this kind, if it leads to tables.
+    fn add_kind(
+        &mut self,
+        schema: &Schema<'_>,
+        demands: Demands,
+        from: u32,
+        kind: Kind,
+    ) -> Result<(), AllocError>
+        requires holds { KindIsThere schema.now kind }
+        requires chained { IsChained self.old.lasts.items self.old.edges.items }
+        ensures { OnOk result (Added from (KindLeads demands schema.now kind) self.old.lasts.items self.old.edges.items self.new.lasts.items self.new.edges.items) }
+    {
+        match kind {
+            Kind::Table(object) | Kind::Tables(object) => self.add(from, object),
+            Kind::Union(union) | Kind::Unions(union) if !demands.unions => {
+                self.add_members(schema, from, union)
+            }
+            _ => Ok(()),
+        }
+    }
+
+    /// Adds those of the fields of a table that lead to tables.
+    fn add_fields(
+        &mut self,
+        schema: &Schema<'_>,
+        demands: Demands,
+        object: u32,
+    ) -> Result<(), AllocError>
+        requires table { IsTrue (is_table schema.now object) }
+        requires chained { IsChained self.old.lasts.items self.old.edges.items }
+        ensures { OnOk result (Added object (LeadsTo demands schema.now object) self.old.lasts.items self.old.edges.items self.new.lasts.items self.new.edges.items) }
+    {
+        schema.lawful();
+        let fields = schema.fields_of(object);
+        for field in fields {
+            self.add_kind(schema, demands, object, field.kind)?;
+        }
+        Ok(())
+    }
+
+    /// The fields that lead to each object of a schema, where this is demanded.
+    pub fn of(alloc: A, schema: &Schema<'_>, demands: Demands) -> Result<Leads<A>, AllocError>
+        ensures { IfOk result (λ leads. AreLeads demands schema.now leads.lasts.items leads.edges.items) }
     {
         let objects = schema.object_count();
         let mut leads = Leads::new(alloc, objects as usize, count_fields(schema))?;
         for object in 0..objects {
             if schema.is_table(object) {
-                leads.add_fields(object, schema.fields_of(object))?;
+                leads.add_fields(schema, demands, object)?;
             }
         }
         Ok(leads)

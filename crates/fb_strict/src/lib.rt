@@ -2,6 +2,7 @@
 //! and the plan of which tables are asked.
 #![tactic(auto)]
 
+mod demands;
 pub mod examples;
 pub mod laws;
 mod leads;
@@ -16,6 +17,7 @@ mod strictly;
 mod tasks;
 pub mod unions;
 
+pub use demands::Demands;
 pub use located::{verify_strictly_and_locate, verify_strictly_and_locate_shallow};
 pub use most::most_reads_strictly;
 pub use plan::Plan;

@@ -4,7 +4,7 @@ ghost use Rattle.std.specs.Prelude.{◌≡◌, ◌+◌, ◌^◌, ◌<◌, ◌≤
 ghost use Rattle.fb_rules.specs.{Places.field_place, Fields.type_place, Told.IsVtable};
 ghost use Rattle.fb_verify.specs.Stack.{last_link, links_left};
 ghost use Rattle.fb_strict.specs.{Planned.IsPlan, Reread.WordsStand, Reread.MemberStands};
-ghost use Rattle.fb_strict.specs.Passing.{asks_of, ask_words, ask_element, ask_member, IsLinked, AreLinked, frame_link, frame_links};
+ghost use Rattle.fb_strict.specs.Passing.{wants_of, ask_words, ask_element, ask_member, IsLinked, AreLinked, frame_link, frame_links};
 
 use crate::pass::Pass;
 use crate::room::Frame;
@@ -85,9 +85,9 @@ impl<'p, 's, 'n, A: Allocator> Pass<'p, 's, 'n, A> {
     /// The link through the offset word behind which a frame's row was left. What the pass read of its field is read
     /// again, uncounted: at most six numbers, of a vector of unions.
     fn link_of(&self, window: &Window<'_>, frame: &Frame) -> Link
-        requires plan { IsPlan self.now.rows self.now.plan }
-        requires linked { IsLinked (asks_of self.now) self.now.checks window.now self.now.rows frame.now }
-        ensures { result ≡ frame_link (asks_of self.now) window.now self.now.rows frame.now }
+        requires plan { IsPlan self.now.rows (self.now.plan).demands self.now.plan }
+        requires linked { IsLinked (wants_of self.now) self.now.checks window.now self.now.rows frame.now }
+        ensures { result ≡ frame_link (wants_of self.now) window.now self.now.rows frame.now }
     {
         let table = frame.table;
         let tasks = self.plan.tasks_of(table.object);
@@ -113,13 +113,13 @@ impl<'p, 's, 'n, A: Allocator> Pass<'p, 's, 'n, A> {
         unmet: &Unmet,
         links: &mut [Link],
     ) -> u32
-        requires plan { IsPlan self.now.rows self.now.plan }
-        requires linked { AreLinked (asks_of self.now) self.now.checks window.now self.now.rows frames.now (unmet.now).links }
+        requires plan { IsPlan self.now.rows (self.now.plan).demands self.now.plan }
+        requires linked { AreLinked (wants_of self.now) self.now.checks window.now self.now.rows frames.now (unmet.now).links }
         requires within { (unmet.now).links ≤ length frames.now }
         requires room { (unmet.now).links + links_left (unmet.now).last ≤ length links.old }
         requires few { (unmet.now).links < 2 ^ 31 }
         ensures within { result ≤ length links.new }
-        ensures links { take result links.new ≡ frame_links (asks_of self.now) window.now self.now.rows frames.now (unmet.now).links ++ last_link (unmet.now).last (unmet.now).fault }
+        ensures links { take result links.new ≡ frame_links (wants_of self.now) window.now self.now.rows frames.now (unmet.now).links ++ last_link (unmet.now).last (unmet.now).fault }
     {
         let many = unmet.links as usize;
         let mut count = 0;

@@ -31,7 +31,7 @@ fn verdict<'b, 's, 'n, A: Allocator>(
     frames: &mut [Frame],
     links: &mut [Link],
 ) -> Result<VerifiedStrictly<'b, 's, 'n>, Located>
-    requires plan { IsPlan verified.schema plan.now }
+    requires plan { IsPlan verified.schema (plan.now).demands plan.now }
     requires reports { Reports (asked_of verified ident limits) verified.bytes verified.report }
     requires short { length verified.bytes < 2 ^ 31 }
     requires table { IsTrue (is_table verified.schema verified.root) }
@@ -90,7 +90,7 @@ pub fn verify_strictly_and_locate<'b, 's, 'n, A: Allocator, B: Allocator, C: All
 ) -> Result<VerifiedStrictly<'b, 's, 'n>, Located>
     requires fresh { meter.count ≡ 0 }
     requires table { IsTrue (is_table schema.now root) }
-    requires plan { IsPlan schema.now plan.now }
+    requires plan { IsPlan schema.now (plan.now).demands plan.now }
     requires scratch { limits.depth ≤ scratch.old }
     requires room { limits.depth ≤ room.old }
     requires links { limits.depth ≤ length links.old }
@@ -136,7 +136,7 @@ pub fn verify_strictly_and_locate_shallow<'b, 's, 'n, A: Allocator>(
 ) -> Result<VerifiedStrictly<'b, 's, 'n>, Located>
     requires fresh { meter.count ≡ 0 }
     requires table { IsTrue (is_table schema.now root) }
-    requires plan { IsPlan schema.now plan.now }
+    requires plan { IsPlan schema.now (plan.now).demands plan.now }
     requires room { limits.depth ≤ 64 }
     requires links { limits.depth ≤ length links.old }
     ensures yes { IfOk result (λ v. ReportsStrictly plan.now (question schema.now root start ident limits checks) meter.entry.bytes v.report) }

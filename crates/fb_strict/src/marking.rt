@@ -2,11 +2,12 @@
 
 ghost use Rattle.std.specs.Prelude.{◌≡◌, ◌↔◌, ◌<◌, ℕ, [], length, true, false, map, OnOk, IfOk};
 ghost use Rattle.fb_schema.specs.Rows.{Rows};
-ghost use Rattle.fb_strict.specs.Skipped.{has_asked, IsClosed, ReachesUnion};
-ghost use Rattle.fb_strict.specs.Planned.{marked, AreFounded};
+ghost use Rattle.fb_strict.specs.Skipped.{has_asked, IsClosed};
+ghost use Rattle.fb_strict.specs.Planned.{marked, marked_wants, AreFounded, AreMarks};
 ghost use Rattle.fb_strict.specs.Leading.{IsChained, IsFrom, AreLeads};
-ghost use Rattle.fb_strict.specs.Marking.{IsQueue, NoneMarked, Spread, UnionsMarked};
+ghost use Rattle.fb_strict.specs.Marking.{IsQueue, NoneMarked, Spread, OwnMarked};
 
+use crate::demands::Demands;
 use crate::leads::Leads;
 use crate::tasks::has_asked;
 use fb_schema::Schema;
@@ -20,15 +21,15 @@ pub struct Marking<A: Allocator> {
     pub queue: Vec<u32, A>,
 }
 
-/// Whether a table of this object has a union.
-#[tactic(auto, using(crate::proofs::Queues::no_union))]
-fn has_union(schema: &Schema<'_>, object: u32) -> bool
-    ensures { result ≡ has_asked (marked []) schema.now object }
+/// Whether anything is demanded of a table of this object by itself.
+#[tactic(auto, using(crate::proofs::Queues::none_own))]
+fn has_own(schema: &Schema<'_>, demands: Demands, object: u32) -> bool
+    ensures { result ≡ has_asked (marked_wants demands []) schema.now object }
 {
     if !schema.is_table(object) {
         return false;
     }
-    has_asked(&[], schema.fields_of(object))
+    has_asked(demands, &[], schema, object)
 }
 
 impl<A: Allocator + Copy> Marking<A> {
@@ -55,13 +56,13 @@ impl<A: Allocator + Copy> Marking<A> {
         Ok(())
     }
 
-    /// Marks the tables that have a union, where none is marked yet.
-    fn mark_unions(&mut self, schema: &Schema<'_>) -> Result<(), AllocError>
+    /// Marks the objects of which something is demanded by itself, where none is marked yet.
+    fn mark_own(&mut self, schema: &Schema<'_>, demands: Demands) -> Result<(), AllocError>
         requires { NoneMarked (length schema.now.objects) self.old.marks.items self.old.queue.items }
-        ensures { OnOk result (UnionsMarked schema.now (length schema.now.objects) self.new.marks.items self.new.queue.items) }
+        ensures { OnOk result (OwnMarked demands schema.now (length schema.now.objects) self.new.marks.items self.new.queue.items) }
     {
         for object in 0..schema.object_count() {
-            if has_union(schema, object) {
+            if has_own(schema, demands, object) {
                 self.mark(object)?;
             }
         }
@@ -85,13 +86,19 @@ impl<A: Allocator + Copy> Marking<A> {
     }
 
     /// Marks the objects that lead to one that is marked, until none is left.
-    fn follow_all(&mut self, schema: &Schema<'_>, leads: &Leads<A>) -> Result<(), AllocError>
-        requires leads { AreLeads schema.now leads.now.lasts.items leads.now.edges.items }
-        requires unions { UnionsMarked schema.now (length schema.now.objects) self.old.marks.items self.old.queue.items }
-        ensures founded { OnOk result (AreFounded schema.now self.new.marks.items) }
-        ensures closed { OnOk result (IsClosed (marked self.new.marks.items) schema.now) }
+    fn follow_all(
+        &mut self,
+        schema: &Schema<'_>,
+        demands: Demands,
+        leads: &Leads<A>,
+    ) -> Result<(), AllocError>
+        requires leads { AreLeads demands schema.now leads.now.lasts.items leads.now.edges.items }
+        requires own { OwnMarked demands schema.now (length schema.now.objects) self.old.marks.items self.old.queue.items }
+        ensures founded { OnOk result (AreFounded demands schema.now self.new.marks.items) }
+        ensures closed { OnOk result (IsClosed (marked_wants demands self.new.marks.items) schema.now) }
+        ensures long { OnOk result (length self.new.marks.items ≡ length schema.now.objects) }
     {
-        let _schema = schema;
+        let (_schema, _demands) = (schema, demands);
         let mut passed = 0;
         while passed < self.queue.len() {
             let object = self.queue[passed];
@@ -102,16 +109,17 @@ impl<A: Allocator + Copy> Marking<A> {
     }
 }
 
-/// Marks the objects of a schema from whose tables a union is reached.
+/// Marks the objects of a schema from whose tables something is reached that is demanded.
 pub fn marks_of<A: Allocator + Copy>(
     alloc: A,
     schema: &Schema<'_>,
+    demands: Demands,
 ) -> Result<Vec<bool, A>, AllocError>
-    ensures { IfOk result (λ marks. (k : ℕ) → (marked marks.items k ≡ true) ↔ ReachesUnion schema.now k) }
+    ensures { IfOk result (λ marks. AreMarks demands schema.now marks.items) }
 {
-    let leads = Leads::of(alloc, schema)?;
+    let leads = Leads::of(alloc, schema, demands)?;
     let mut marking = Marking::new(alloc, schema.object_count() as usize)?;
-    marking.mark_unions(schema)?;
-    marking.follow_all(schema, &leads)?;
+    marking.mark_own(schema, demands)?;
+    marking.follow_all(schema, demands, &leads)?;
     Ok(marking.marks)
 }

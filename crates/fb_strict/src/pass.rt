@@ -8,7 +8,7 @@ ghost use Rattle.fb_rules.specs.{Bounds.AreAllowed, Cost.head_reads, Facts.IsTab
 ghost use Rattle.fb_rules.specs.{Plain.IsTested, Told.IsAskedAt, Told.IsHead, Told.IsVtable};
 ghost use Rattle.fb_strict.specs.declared.tasks.Ask.TheVariants.{Union as AskUnion, Unions as AskUnions, Table as GoInto, Tables as GoIntoEach};
 ghost use Rattle.fb_strict.specs.Asked.{Demand, demands_reads};
-ghost use Rattle.fb_strict.specs.Passing.{asks_of, IsPassing, IsRoom, opened, IsTaskable, CountStands, IsAskedRow, asked_object, TaskPassed, FirstPassed, IsLeft, IsNext, AreLeft, IsStanding, Stepped, Turned, WentOn, Ran};
+ghost use Rattle.fb_strict.specs.Passing.{wants_of, IsPassing, IsRoom, opened, IsTaskable, CountStands, IsAskedRow, asked_object, TaskPassed, FirstPassed, IsLeft, IsNext, AreLeft, IsStanding, Stepped, Turned, WentOn, Ran};
 
 use crate::plan::Plan;
 use crate::room::Frame;
@@ -227,7 +227,7 @@ impl<'p, 's, 'n, A: Allocator> Pass<'p, 's, 'n, A> {
     /// The object of the table that a member of a union is, if that is asked.
     #[inline(always)]
     fn asked_object(&self, member: Option<Kind>) -> Option<u32>
-        ensures { result ≡ asked_object (asks_of self.now) member }
+        ensures { result ≡ asked_object (wants_of self.now) member }
     {
         match member {
             Some(Kind::Table(object)) if self.plan.asks(object) => Some(object),
@@ -235,7 +235,7 @@ impl<'p, 's, 'n, A: Allocator> Pass<'p, 's, 'n, A> {
         }
     }
 
-    /// Asks a union with this number, and puts its offset word, if that leads to a table that is asked.
+    /// Passes a union with this number, and puts its offset word, if that leads to a table that is asked.
     #[inline(always)]
     fn pass_union(
         &self,
@@ -254,11 +254,13 @@ impl<'p, 's, 'n, A: Allocator> Pass<'p, 's, 'n, A> {
         requires taskable { IsTaskable reads.old.bytes self.now.rows table.at slot (field_place reads.old.bytes table.at slot) (AskUnion union) }
         ensures { TaskPassed self.now reads.old reads.new table.at site slot (AskUnion union) row.old row.new result }
     {
+        let asked = self.plan.demands().unions;
         let places = read_places(reads, table, slot);
         let mut at = table.at;
         let mut member = None;
         let failed = test_union(
             reads,
+            asked,
             self.checks,
             self.schema,
             table.at,
@@ -321,7 +323,7 @@ impl<'p, 's, 'n, A: Allocator> Pass<'p, 's, 'n, A> {
         Ok(())
     }
 
-    /// Asks a vector of unions with this number whether it has its types, and puts its offset words.
+    /// Passes a vector of unions with this number, and puts its offset words. Where unions are asked, it has its types.
     #[inline(always)]
     fn pass_unions(
         &self,
@@ -341,13 +343,17 @@ impl<'p, 's, 'n, A: Allocator> Pass<'p, 's, 'n, A> {
         requires short { length reads.old.bytes < 2 ^ 31 }
         ensures { TaskPassed self.now reads.old reads.new table.at site slot (AskUnions union) row.old row.new result }
     {
+        let asked = self.plan.demands().unions;
         let places = read_places(reads, table, slot);
         let mut at = table.at;
-        let failed = test_together(table.at, places, &mut at);
+        let failed = test_together(asked, table.at, places, &mut at);
         if failed.is_some() {
             return self.answer(reads, room, site, failed, at, table.at);
         }
         if places.value == table.at {
+            return self.answer(reads, room, site, None, table.at, table.at);
+        }
+        if places.types == table.at {
             return self.answer(reads, room, site, None, table.at, table.at);
         }
         let types = places.types + u64::from(reads.u32_at(places.types)) + 4;
@@ -405,10 +411,12 @@ impl<'p, 's, 'n, A: Allocator> Pass<'p, 's, 'n, A> {
             Leads::All(Referent::Table(object)) => Ok(Some(object)),
             Leads::All(_) => Ok(None),
             Leads::ByType(union, types) => {
+                let asked = self.plan.demands().unions;
                 let mut at = row.place;
                 let mut member = None;
                 let failed = test_element(
                     reads,
+                    asked,
                     self.checks,
                     self.schema,
                     union,

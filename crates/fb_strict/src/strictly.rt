@@ -4,8 +4,8 @@ ghost use Rattle.std.specs.Prelude.{◌≡◌, ◌+◌, ◌^◌, ◌<◌, ◌≤
 ghost use Rattle.fb_schema.specs.Rows.{is_table};
 ghost use Rattle.fb_rules.specs.{Bounds.AreAllowed, Order.after, Places.target, Plain.tested_by, Question.question, Verdict.Reports, Told.stopped, Tree.Tree, WellFormed.base, WellFormed.IsWellFormed};
 ghost use Rattle.fb_verify.specs.Sealed.{asked_of};
-ghost use Rattle.fb_strict.specs.{InOrder.length_failure, Planned.IsPlan, Asked.demands_of, Asked.demands_reads};
-ghost use Rattle.fb_strict.specs.Passing.{asks_of, IsPassing, IsRooted, Ran};
+ghost use Rattle.fb_strict.specs.{InOrder.where_asked, InOrder.length_failure, Planned.IsPlan, Asked.demands_of, Asked.demands_reads};
+ghost use Rattle.fb_strict.specs.Passing.{wants_of, IsPassing, IsRooted, Ran};
 ghost use Rattle.fb_strict.specs.MostReads.{most_reads_strictly};
 ghost use Rattle.fb_strict.specs.Strictly.{limits_left, counted_on, sealed_by, unmet_by, Asked, AskedAlone, ReportsStrictly, HasNoneStrictly, StopsStrictly};
 
@@ -53,13 +53,16 @@ fn root_of(window: &Window<'_>, start: Start) -> u64
     at + u64::from(window.u32_at(at))
 }
 
-/// Why a buffer is refused that is shorter than generated code takes, if it is: at its end.
-fn refuse_short(loan: &mut Loan<'_>) -> Option<Refusal>
+/// Why a buffer is refused that is shorter than generated code takes, if it is and that is asked: at its end.
+fn refuse_short(asked: bool, loan: &mut Loan<'_>) -> Option<Refusal>
     requires few { loan.old.count ≤ 2 ^ 100 }
-    ensures none { result ≡ None → length_failure loan.old.bytes ≡ None }
-    ensures some { IfSome result (λ e. (e.at ≡ length loan.old.bytes) × (tested_by (length loan.old.bytes) loan.old.count (Some e.reason) ≡ after loan.old.count (length_failure loan.old.bytes))) }
+    ensures none { result ≡ None → where_asked asked (length_failure loan.old.bytes) ≡ None }
+    ensures some { IfSome result (λ e. (e.at ≡ length loan.old.bytes) × (tested_by (length loan.old.bytes) loan.old.count (Some e.reason) ≡ after loan.old.count (where_asked asked (length_failure loan.old.bytes)))) }
     ensures same { loan.new ≡ loan.old }
 {
+    if !asked {
+        return None;
+    }
     let reads = loan.lend();
     let failed = test_length(&reads);
     let at = reads.len();
@@ -81,7 +84,7 @@ fn left_of(limits: Limits, walked: u128) -> Limits
     }
 }
 
-/// Asks the buffer's length, and then its root table, with all tables below it.
+/// Asks the buffer's length, where unions are asked, and then its root table, with all tables below it.
 fn ask_buffer<A: Allocator>(
     pass: &Pass<'_, '_, '_, A>,
     loan: &mut Loan<'_>,
@@ -91,10 +94,10 @@ fn ask_buffer<A: Allocator>(
     requires passing { IsPassing pass.now loan.old.bytes }
     requires allowed { AreAllowed pass.now.limits.reads loan.old.count }
     requires small { length frames.old ≤ 4096 }
-    requires tree { (y : Tree) × IsRooted pass.now loan.old.bytes (length frames.old) root y × (loan.old.count + demands_reads (demands_of (asks_of pass.now) pass.now.checks loan.old.bytes pass.now.rows root.object y) ≤ 2 ^ 96) }
-    ensures { (y : Tree) → IsRooted pass.now loan.old.bytes (length frames.old) root y → Ran pass.now loan.old loan.new (demands_of (asks_of pass.now) pass.now.checks loan.old.bytes pass.now.rows root.object y) frames.new result }
+    requires tree { (y : Tree) × IsRooted pass.now loan.old.bytes (length frames.old) root y × (loan.old.count + demands_reads (demands_of (wants_of pass.now) pass.now.checks loan.old.bytes pass.now.rows root.object y) ≤ 2 ^ 96) }
+    ensures { (y : Tree) → IsRooted pass.now loan.old.bytes (length frames.old) root y → Ran pass.now loan.old loan.new (demands_of (wants_of pass.now) pass.now.checks loan.old.bytes pass.now.rows root.object y) frames.new result }
 {
-    if let Some(refusal) = refuse_short(loan) {
+    if let Some(refusal) = refuse_short(pass.plan.demands().unions, loan) {
         let site = Site {
             object: root.object,
             field: None,
@@ -135,8 +138,8 @@ fn ask_bytes<A: Allocator>(
 ) -> Result<u128, Unmet>
     requires passing { IsPassing pass.now bytes.now }
     requires small { length frames.old ≤ 4096 }
-    requires tree { (y : Tree) × IsRooted pass.now bytes.now (length frames.old) root y × (demands_reads (demands_of (asks_of pass.now) pass.now.checks bytes.now pass.now.rows root.object y) ≤ 2 ^ 96) }
-    ensures asked { (y : Tree) → IsRooted pass.now bytes.now (length frames.old) root y → AskedAlone pass.now.plan pass.now.checks bytes.now pass.now.rows pass.now.limits (demands_of (asks_of pass.now) pass.now.checks bytes.now pass.now.rows root.object y) frames.new result }
+    requires tree { (y : Tree) × IsRooted pass.now bytes.now (length frames.old) root y × (demands_reads (demands_of (wants_of pass.now) pass.now.checks bytes.now pass.now.rows root.object y) ≤ 2 ^ 96) }
+    ensures asked { (y : Tree) → IsRooted pass.now bytes.now (length frames.old) root y → AskedAlone pass.now.plan pass.now.checks bytes.now pass.now.rows pass.now.limits (demands_of (wants_of pass.now) pass.now.checks bytes.now pass.now.rows root.object y) frames.new result }
     ensures few_of_yes { IfOk result (λ n. n ≤ 2 ^ 101) }
     ensures few_of_no { IfErr result (λ u. (u.fault).reads ≤ 2 ^ 101) }
 {
@@ -180,7 +183,7 @@ pub(crate) fn ask<A: Allocator>(
     plan: &Plan<A>,
     frames: &mut [Frame],
 ) -> Result<u128, Unmet>
-    requires plan { IsPlan (verified.now).schema plan.now }
+    requires plan { IsPlan (verified.now).schema (plan.now).demands plan.now }
     requires reports { Reports (asked_of verified.now ident limits) (verified.now).bytes (verified.now).report }
     requires short { length (verified.now).bytes < 2 ^ 31 }
     requires table { IsTrue (is_table (verified.now).schema (verified.now).root) }
@@ -217,7 +220,7 @@ fn verdict<'b, 's, 'n, A: Allocator>(
     plan: &Plan<A>,
     frames: &mut [Frame],
 ) -> Result<VerifiedStrictly<'b, 's, 'n>, Fault>
-    requires plan { IsPlan verified.schema plan.now }
+    requires plan { IsPlan verified.schema (plan.now).demands plan.now }
     requires reports { Reports (asked_of verified ident limits) verified.bytes verified.report }
     requires short { length verified.bytes < 2 ^ 31 }
     requires table { IsTrue (is_table verified.schema verified.root) }
@@ -261,7 +264,7 @@ pub fn verify_strictly<'b, 's, 'n, A: Allocator, B: Allocator, C: Allocator>(
 ) -> Result<VerifiedStrictly<'b, 's, 'n>, Fault>
     requires fresh { meter.count ≡ 0 }
     requires table { IsTrue (is_table schema.now root) }
-    requires plan { IsPlan schema.now plan.now }
+    requires plan { IsPlan schema.now (plan.now).demands plan.now }
     requires scratch { limits.depth ≤ scratch.old }
     requires room { limits.depth ≤ room.old }
     // A yes: a tree is well formed, strict and within the limits, and the report counts it.
@@ -301,7 +304,7 @@ pub fn verify_strictly_shallow<'b, 's, 'n, A: Allocator>(
 ) -> Result<VerifiedStrictly<'b, 's, 'n>, Fault>
     requires fresh { meter.count ≡ 0 }
     requires table { IsTrue (is_table schema.now root) }
-    requires plan { IsPlan schema.now plan.now }
+    requires plan { IsPlan schema.now (plan.now).demands plan.now }
     requires room { limits.depth ≤ 64 }
     ensures yes { IfOk result (λ v. ReportsStrictly plan.now (question schema.now root start ident limits checks) meter.entry.bytes v.report) }
     ensures walked { IfOk result (λ v. Reports (question schema.now root start ident limits checks) meter.entry.bytes (v.verified).report) }

@@ -1,11 +1,12 @@
 // What is asked of the fields of a table.
 
-ghost use Rattle.std.specs.Prelude.{◌≡◌, map, IfOk};
-ghost use Rattle.std.specs.List.{list_any};
-ghost use Rattle.fb_schema.specs.Live.{live_of_view};
-ghost use Rattle.fb_strict.specs.{Skipped.is_kind_asked, Planned.marked, Planned.ask_of, Planned.tasks_in};
+ghost use Rattle.std.specs.Prelude.{◌≡◌, IfOk, IsTrue};
+ghost use Rattle.fb_schema.specs.{Live.live_fields, Rows.is_table, Rows.is_union};
+ghost use Rattle.fb_strict.specs.{Leading.KindIsThere, Planned.marked, Planned.marked_wants, Planned.ask_by, Planned.ask_of, Planned.tasks_in};
+ghost use Rattle.fb_strict.specs.Skipped.{is_member_asked, some_member, is_kind_asked, has_asked};
 
-use fb_schema::{FieldView, Kind};
+use crate::demands::Demands;
+use fb_schema::{Kind, Schema};
 use std::alloc::{AllocError, Allocator};
 
 /// What is asked of a field, or of what it leads to.
@@ -39,49 +40,99 @@ pub fn is_marked(marks: &[bool], object: u32) -> bool
     }
 }
 
-/// What is asked of a field of this kind, where these objects are.
-fn ask_of(marks: &[bool], kind: Kind) -> Option<Ask>
-    ensures { result ≡ ask_of (marked marks.now) kind }
+/// Whether what a member of this kind is, is asked, where these objects are.
+fn is_member_asked(demands: Demands, marks: &[bool], member: Option<Kind>) -> bool
+    ensures { result ≡ is_member_asked (marked_wants demands marks.now) member }
 {
-    match kind {
-        Kind::Union(union) => Some(Ask::Union(union)),
-        Kind::Unions(union) => Some(Ask::Unions(union)),
-        Kind::Table(object) if is_marked(marks, object) => Some(Ask::Table(object)),
-        Kind::Tables(object) if is_marked(marks, object) => Some(Ask::Tables(object)),
-        _ => None,
+    let _demands = demands;
+    match member {
+        Some(Kind::Table(object)) => is_marked(marks, object),
+        _ => false,
     }
 }
 
-/// Whether anything is asked of a field of this kind, where these objects are.
-fn is_asked(marks: &[bool], kind: Kind) -> bool
-    ensures { result ≡ is_kind_asked (marked marks.now) kind }
+/// Whether one of the members of a union is.
+fn has_asked_member(demands: Demands, marks: &[bool], schema: &Schema<'_>, union: u32) -> bool
+    requires { IsTrue (is_union schema.now union) }
+    ensures { result ≡ some_member (marked_wants demands marks.now) schema.now union 256 }
 {
-    ask_of(marks, kind).is_some()
-}
-
-/// Whether anything is asked of one of these fields, where these objects are asked.
-pub fn has_asked(marks: &[bool], fields: &[FieldView]) -> bool
-    ensures { result ≡ list_any (λ f. is_kind_asked (marked marks.now) f.kind) (map live_of_view fields.now) }
-{
-    for field in fields {
-        if is_asked(marks, field.kind) {
+    for value in 0..256u32 {
+        if is_member_asked(demands, marks, schema.member_of(union, value as u8)) {
             return true;
         }
     }
     false
 }
 
-/// The tasks of these fields, in their order.
+/// Whether a field of this kind is asked, or leads to what is.
+fn is_asked(demands: Demands, marks: &[bool], schema: &Schema<'_>, kind: Kind) -> bool
+    requires { KindIsThere schema.now kind }
+    ensures { result ≡ is_kind_asked (marked_wants demands marks.now) schema.now kind }
+{
+    match kind {
+        Kind::Table(object) | Kind::Tables(object) => is_marked(marks, object),
+        Kind::Union(union) | Kind::Unions(union) => {
+            demands.unions || has_asked_member(demands, marks, schema, union)
+        }
+        _ => false,
+    }
+}
+
+/// What is asked of a field of this kind, if anything is.
+fn ask_by(kind: Kind) -> Option<Ask>
+    ensures { result ≡ ask_by kind }
+{
+    match kind {
+        Kind::Union(union) => Some(Ask::Union(union)),
+        Kind::Unions(union) => Some(Ask::Unions(union)),
+        Kind::Table(object) => Some(Ask::Table(object)),
+        Kind::Tables(object) => Some(Ask::Tables(object)),
+        _ => None,
+    }
+}
+
+/// What is asked of a field of this kind, where these objects are.
+fn ask_of(demands: Demands, marks: &[bool], schema: &Schema<'_>, kind: Kind) -> Option<Ask>
+    requires { KindIsThere schema.now kind }
+    ensures { result ≡ ask_of (marked_wants demands marks.now) schema.now kind }
+{
+    if is_asked(demands, marks, schema, kind) {
+        return ask_by(kind);
+    }
+    None
+}
+
+/// Whether anything is asked of a field of this table, where these objects are asked.
+pub fn has_asked(demands: Demands, marks: &[bool], schema: &Schema<'_>, object: u32) -> bool
+    requires { IsTrue (is_table schema.now object) }
+    ensures { result ≡ has_asked (marked_wants demands marks.now) schema.now object }
+{
+    schema.lawful();
+    let fields = schema.fields_of(object);
+    for field in fields {
+        if is_asked(demands, marks, schema, field.kind) {
+            return true;
+        }
+    }
+    false
+}
+
+/// The tasks of a table's fields, in their order.
 pub fn tasks_in<A: Allocator>(
     alloc: A,
+    demands: Demands,
     marks: &[bool],
-    fields: &[FieldView],
+    schema: &Schema<'_>,
+    object: u32,
 ) -> Result<Vec<Task, A>, AllocError>
-    ensures { IfOk result (λ tasks. tasks.items ≡ tasks_in (marked marks.now) (map live_of_view fields.now)) }
+    requires { IsTrue (is_table schema.now object) }
+    ensures { IfOk result (λ tasks. tasks.items ≡ tasks_in (marked_wants demands marks.now) schema.now (live_fields schema.now object)) }
 {
+    schema.lawful();
     let mut tasks = Vec::new(alloc);
+    let fields = schema.fields_of(object);
     for field in fields {
-        if let Some(ask) = ask_of(marks, field.kind) {
+        if let Some(ask) = ask_of(demands, marks, schema, field.kind) {
             tasks.push(Task {
                 number: field.number,
                 slot: field.slot,

@@ -4,7 +4,7 @@ ghost use Rattle.std.specs.Prelude.{◌≡◌, ◌≢◌, ℕ, ◌+◌, ◌^◌,
 ghost use Rattle.fb_bytes.specs.Word.{word};
 ghost use Rattle.fb_schema.specs.{Rows.is_union, Members.member_of};
 ghost use Rattle.fb_rules.specs.{Places.target, Fields.union_type, Plain.IsTested, Plain.place_from, Plain.tested_by, Told.IsVtable, Order.after, Cost.reads_if_present};
-ghost use Rattle.fb_strict.specs.InOrder.{length_failure, inside_failure, union_failure, union_reads, member_at, together_failure, element_failure, element_reads, places_reads};
+ghost use Rattle.fb_strict.specs.InOrder.{where_asked, length_failure, inside_failure, union_failure, union_reads, member_at, together_failure, element_failure, element_reads, places_reads};
 ghost use Rattle.fb_strict.specs.Leaves.{ArePlaces};
 
 use fb_bytes::Reads;
@@ -82,11 +82,12 @@ fn type_at(reads: &mut Reads<'_>, table: u64, types: u64) -> u8
     reads.u8_at(types)
 }
 
-/// Tests a union in the table at this position, of which the type is read. It goes on to the value, or, where the type
-/// has no member, to where that leads; and tells the member, none where the value is absent.
+/// Reads the type of a union in the table at this position, and tests the union where it is asked. It goes on to the
+/// value, or, where the type has no member, to where that leads; and tells the member, none where the value is absent.
 #[inline(always)]
 pub fn test_union(
     reads: &mut Reads<'_>,
+    asked: bool,
     checks: Checks,
     schema: &Schema<'_>,
     table: u64,
@@ -99,8 +100,8 @@ pub fn test_union(
     requires few { reads.old.count < reads.old.base + 2 ^ 60 }
     requires near { places.value < 2 ^ 34 }
     requires typed { places.types ≢ table → places.types + 1 ≤ length reads.old.bytes }
-    ensures tested { IsTested reads.old reads.new at.new (union_failure checks reads.old.bytes schema.now union table (place_from table places.types) (place_from table places.value))
-        (union_reads reads.old.bytes schema.now union (place_from table places.types) (place_from table places.value)) result }
+    ensures tested { IsTested reads.old reads.new at.new (where_asked asked (union_failure checks reads.old.bytes schema.now union table (place_from table places.types) (place_from table places.value)))
+        (union_reads asked reads.old.bytes schema.now union (place_from table places.types) (place_from table places.value)) result }
     ensures member { result ≡ None → member.new ≡ member_at reads.old.bytes schema.now union (place_from table places.types) (place_from table places.value) }
     ensures place { result ≡ None → IsSome member.new → at.new ≡ places.value }
 {
@@ -108,39 +109,41 @@ pub fn test_union(
     *at = places.value;
     *member = None;
     if places.value == table {
-        if value != 0 {
+        if asked && value != 0 {
             return fails(Reason::MissingRequired);
         }
         return None;
     }
     *member = schema.member_of(union, value);
-    if member.is_some() {
+    if !asked || member.is_some() {
         return None;
     }
     test_inside(reads, checks, at)
 }
 
-/// Tests that a vector of unions is there with that of its types, or neither. It fails at the one that is there.
-pub fn test_together(table: u64, places: Places, at: &mut u64) -> Option<Reason>
-    ensures { (n : ℕ) → tested_by at.new n result ≡ after n (together_failure (place_from table places.types) (place_from table places.value)) }
+/// Tests that a vector of unions is there with that of its types, or neither, where that is asked. It fails at the one
+/// that is there.
+pub fn test_together(asked: bool, table: u64, places: Places, at: &mut u64) -> Option<Reason>
+    ensures { (n : ℕ) → tested_by at.new n result ≡ after n (where_asked asked (together_failure (place_from table places.types) (place_from table places.value))) }
 {
     *at = if places.types == table {
         places.value
     } else {
         places.types
     };
-    if (places.types == table) != (places.value == table) {
+    if asked && (places.types == table) != (places.value == table) {
         return fails(Reason::LengthsDiffer);
     }
     None
 }
 
-/// Tests an offset word in a vector of unions whose type stands at a position, and is read. Where that isn't 0 and has
-/// no member, it goes on where the word leads; and tells the member.
+/// Reads the type at a position, of an offset word in a vector of unions, and tests the word where it is asked: where the
+/// type isn't 0 and has no member, it goes on where the word leads. It tells the member.
 #[inline(always)]
 #[tactic(auto, unfolding(crate::specs::InOrder::element_failure, crate::specs::InOrder::element_reads))]
 pub fn test_element(
     reads: &mut Reads<'_>,
+    asked: bool,
     checks: Checks,
     schema: &Schema<'_>,
     union: u32,
@@ -152,13 +155,13 @@ pub fn test_element(
     requires few { reads.old.count < reads.old.base + 2 ^ 60 }
     requires near { at.old < 2 ^ 35 }
     requires typed { types + 1 ≤ length reads.old.bytes }
-    ensures tested { IsTested reads.old reads.new at.new (element_failure checks reads.old.bytes schema.now union types at.old) (element_reads reads.old.bytes schema.now union types) result }
+    ensures tested { IsTested reads.old reads.new at.new (where_asked asked (element_failure checks reads.old.bytes schema.now union types at.old)) (element_reads asked reads.old.bytes schema.now union types) result }
     ensures member { result ≡ None → member.new ≡ member_of schema.now union (word reads.old.bytes types 1) }
     ensures place { result ≡ None → IsSome member.new → at.new ≡ at.old }
 {
     let value = reads.u8_at(types);
     *member = schema.member_of(union, value);
-    if value == 0 || member.is_some() {
+    if !asked || value == 0 || member.is_some() {
         return None;
     }
     test_inside(reads, checks, at)

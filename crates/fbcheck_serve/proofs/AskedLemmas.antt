@@ -44,9 +44,9 @@ planless_untold file settings rows own OutOfMemory hint schema found told = (tt,
 planless_untold file settings rows own _ hint schema found told = absurd told.4
 
 -- a plan that is asked is that of the rows
-pub planned : (rows : Rows) (settings : Settings) (plan : Option Planned) → IsAskedPlan rows settings plan → IfSome plan (IsPlan rows)
+pub planned : (rows : Rows) (settings : Settings) (plan : Option Planned) → IsAskedPlan rows settings plan → IfSome plan (λ p. IsPlan rows p.demands p)
 planned rows settings None asked = tt
-planned rows settings (Some plan) asked = asked.1
+planned rows settings (Some plan) asked = subst (λ D. IsPlan rows D plan) (sym asked.1.demands) asked.1
 
 -- a file that was loaded has no fault that keeps its marks from being read
 pub marks_read : (b : List ℕ) (L : Bounds) (loaded : Loaded) (f : LoadFault) → IsLoaded b L loaded → IsMarksFault b L f → (f ≡ load.OutOfMemory → ⊥) → ⊥

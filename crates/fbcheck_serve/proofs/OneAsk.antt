@@ -18,7 +18,8 @@ use Rattle.fb_bfbs.specs.LoadLaws.{Applies, IsSameLoad, ident_bytes}
 use Rattle.fb_bfbs.specs.declared.loading.Loaded.{Loaded}
 use Rattle.fb_lines.specs.Job.{Job, job_of}
 use Rattle.fb_schema.specs.Live.{live_fields}
-use Rattle.fb_strict.specs.Planned.{IsPlan, Planned, marked, tasks_in}
+use Rattle.fb_strict.specs.Planned.{Planned}
+use Rattle.fb_strict.proofs.Marks.{one_plan}
 use Rattle.fbcheck_serve.specs.Asked.{ArePaths, AsksBy, IsAsked, IsAskedPlan, IsFound, IsPath, LacksIdent, IsPathFault, HasPathFault, Own, asked_root, options_of, own_label, path_texts}
 use Rattle.fbcheck_serve.specs.Inputs.{with_label}
 use Rattle.fbcheck_serve.specs.CheckLaws.{AreAlike, AsksOnce, IsSameAnswer, IsSameJob}
@@ -116,20 +117,11 @@ module _ (rows : Rows) (own : Own) (settings : Settings) where
       let a : h.ident ≡ i.ident = cc in
       ap (λ n. job_of rows (options_of settings n h.paths h.ident None)) r ∙ same_job i.root h.ident h.paths i.paths s ∙ ap (λ d. job_of rows (options_of settings i.root i.paths d None)) a
 
-  -- plans of the same rows ask the same
-  same_marked : (k : ℕ) (p q : Planned) → IsPlan rows p → IsPlan rows q → marked p.marks k ≡ marked q.marks k
-  same_marked k p q h i = same_bools (marked p.marks k) (marked q.marks k) (λ e. (i.asked k).1 ((h.asked k).0 e)) (λ e. (h.asked k).1 ((i.asked k).0 e))
-
   alike : (p q : Option Planned) → IsAskedPlan rows settings p → IsAskedPlan rows settings q → AreAlike (length rows.objects) p q
   alike None None h i = tt
   alike None (Some q) h i = let w : true ≡ false = sym i.0 ∙ h in cc
   alike (Some p) None h i = let w : true ≡ false = sym h.0 ∙ i in cc
-  alike (Some p) (Some q) h i =
-      let same : (k : ℕ) → marked p.marks k ≡ marked q.marks k = λ k. same_marked k p q h.1 i.1 in
-      record {
-        asked = same;
-        tasks = λ k within. h.1.tasks k within ∙ ap (λ (asks : ℕ → Bool). Some (tasks_in asks (live_fields rows k))) (λ n j. same j n) ∙ sym (i.1.tasks k within);
-      }
+  alike (Some p) (Some q) h i = subst (λ r. IsSamePlan (length rows.objects) p r) (one_plan rows strict_demands p q h.1 i.1) (record { asked = λ k. refl; tasks = λ k within. refl })
 
   one_job : (x y : Job) → IsAsked rows own settings x → IsAsked rows own settings y → IsSameJob x y
   one_job x y h i =

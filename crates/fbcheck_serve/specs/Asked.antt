@@ -6,6 +6,7 @@ use Rattle.fb_access.specs.declared.{step.Step.Step, path_fault.PathFault.PathFa
 use Rattle.fb_access.specs.Resolving.{Resolves, IsFault}
 use Rattle.fb_rules.specs.declared.{start.Ident.Ident, start.Ident.TheVariants.Any, start.Ident.TheVariants.Want}
 use Rattle.fb_bfbs.specs.LoadLaws.{own_ident}
+use Rattle.fb_strict.specs.declared.demands.Demands.{Demands}
 use Rattle.fb_strict.specs.Planned.{IsPlan, Planned}
 use Rattle.fb_lines.specs.{Job.Job, Job.job_of, Job.start_of, Wanted.Wanted}
 use Rattle.fbcheck_words.specs.declared.choices.Form as asked
@@ -123,10 +124,14 @@ pub record IsFound (rows : Rows) (own : Own) (settings : Settings) : Type 0 wher
   pub ident : Ident
   pub ident_is : asked_ident own settings ≡ Some ident
 
--- where the settings ask for strict checks, the plan of the rows is asked, and else none
+-- what strict checks demand
+abbrev pub strict_demands : Demands
+strict_demands = record { unions = true; nested = true; known_fields = false; utf8 = false }
+
+-- where the settings ask for strict checks, the plan of the rows for that is asked, and else none
 abbrev pub IsAskedPlan : Rows → Settings → Option Planned → Type 0
 IsAskedPlan rows settings None = settings.strict ≡ false
-IsAskedPlan rows settings (Some plan) = IsTrue settings.strict × IsPlan rows plan
+IsAskedPlan rows settings (Some plan) = IsTrue settings.strict × IsPlan rows strict_demands plan
 
 -- the buffers are checked from the root, with the paths, by the identifier and as strictly as the settings ask
 pub record IsAsked (rows : Rows) (own : Own) (settings : Settings) (job : Job) : Type 0 where

@@ -12,7 +12,7 @@ use crate::byte_fields::test_marks;
 use crate::limits::schema_limits;
 use fb_bfbs::{LoadFault, Marks, load_marks};
 use fb_schema::Schema;
-use fb_strict::Plan;
+use fb_strict::{Demands, Plan};
 use fbcheck_texts::fault::AskFault;
 use fbcheck_texts::hint::Unasked;
 use fbcheck_words::Settings;
@@ -32,6 +32,14 @@ fn marks_of<'b>(alloc: Global, bytes: &'b [u8]) -> Result<Marks<'b>, Unasked>
         },
     }
 }
+
+/// What strict checks demand.
+const STRICT: Demands = Demands {
+    unions: true,
+    nested: true,
+    known_fields: false,
+    utf8: false,
+};
 
 /// Whether strict checks can be made by a schema file, or else why not: its marks are asked, unless bytes are plain.
 /// Without a file they can.
@@ -80,7 +88,7 @@ pub fn plan_of(
         return Ok(None);
     }
     test_file(alloc, schema, file, settings)?;
-    match Plan::new(alloc, schema) {
+    match Plan::new(alloc, schema, STRICT) {
         Ok(plan) => Ok(Some(plan)),
         Err(_) => Err(Unasked::plain(AskFault::OutOfMemory)),
     }

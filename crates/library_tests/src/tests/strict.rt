@@ -5,7 +5,7 @@ use crate::tests::unions::{Q, unions};
 use fb_bytes::Meter;
 use fb_schema::Schema;
 use fb_strict::{
-    Plan, Room, most_reads_strictly, verify_strictly, verify_strictly_and_locate,
+    Demands,     Plan, Room, most_reads_strictly, verify_strictly, verify_strictly_and_locate,
     verify_strictly_shallow,
 };
 use fb_verify::{Checks, Fault, Ident, Limits, Link, Located, Reason, Report, Scratch, Start};
@@ -101,6 +101,14 @@ const BLANK: Link = Link {
     member: None,
 };
 
+/// What is demanded.
+const UNIONS: Demands = Demands {
+    unions: true,
+    nested: false,
+    known_fields: false,
+    utf8: false,
+};
+
 /// What a strict verdict on these bytes reports within this budget of reads, in room that the caller lends.
 fn in_room(
     rt: &impl Abort,
@@ -110,7 +118,7 @@ fn in_room(
     budget: u64,
 ) -> Result<Report, Fault> {
     let meter = Meter::new(bytes).expect(rt, "a short buffer");
-    let plan = Plan::new(alloc, schema).expect(rt, "memory");
+    let plan = Plan::new(alloc, schema, UNIONS).expect(rt, "memory");
     let mut scratch = Scratch::new(alloc, 64).expect(rt, "memory");
     let mut room = Room::new(alloc, 64).expect(rt, "memory");
     assert!(rt; schema.is_table(Q));
@@ -138,7 +146,7 @@ fn on_the_stack(
     budget: u64,
 ) -> Result<Report, Fault> {
     let meter = Meter::new(bytes).expect(rt, "a short buffer");
-    let plan = Plan::new(alloc, schema).expect(rt, "memory");
+    let plan = Plan::new(alloc, schema, UNIONS).expect(rt, "memory");
     assert!(rt; schema.is_table(Q));
     let strict = verify_strictly_shallow(
         meter,
@@ -176,7 +184,7 @@ fn leads_to_the_last_item(
     fault: Fault,
 ) {
     let meter = Meter::new(bytes).expect(rt, "a short buffer");
-    let plan = Plan::new(alloc, schema).expect(rt, "memory");
+    let plan = Plan::new(alloc, schema, UNIONS).expect(rt, "memory");
     let mut scratch = Scratch::new(alloc, 64).expect(rt, "memory");
     let mut room = Room::new(alloc, 64).expect(rt, "memory");
     let mut links = [BLANK; 64];

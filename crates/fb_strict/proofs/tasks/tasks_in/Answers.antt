@@ -1,16 +1,20 @@
 use Rattle.std.proofs.Common.{sym, ◌∙◌, ap, get_or, option_map}
 use Rattle.fb_schema.specs.Live.{live_of_view}
 use Rattle.fb_schema.proofs.Blank.{blank_view}
-use Rattle.fb_strict.specs.Planned.{marked, task_of, task_with}
-use Rattle.fb_strict.proofs.Lists.{keeps, leaves_out}
+use Rattle.fb_strict.specs.Planned.{marked_wants, task_of, task_with}
+use Rattle.fb_strict.proofs.{Lists.keeps, Lists.leaves_out, Marks.kind_there}
 use Rattle.fb_strict.proofs.tasks.tasks_in.Goals as goal
 use Rattle.fb_strict.proofs.tasks.tasks_in.Goals.{in-Some+in_ok-push, in_default}
 
 -- src/tasks.rt
+pub ask_of-requires : goal.ask_of-requires
+ask_of-requires g c = kind_there c.args.schema.now c.args.object c.fields_of-fields.result.now c.loop-field.field-index blank_view c.lawful.ensures.served c.fields_of-fields.ensures.value c.loop-field-test.true
+
+-- src/tasks.rt
 pub loop-field-preserved : goal.loop-field-preserved
 loop-field-preserved g c =
-    let fields = c.args.fields.now in
-    let h = task_of (marked c.args.marks.now) in
+    let fields = c.fields_of-fields.result.now in
+    let h = task_of (marked_wants c.args.demands c.args.marks.now) c.args.schema.now in
     let i = c.loop-field.field-index in
     let x = live_of_view (get_or fields i blank_view) in
     elim c.match-ask_of.branch [

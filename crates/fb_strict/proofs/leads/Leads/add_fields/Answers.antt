@@ -1,27 +1,27 @@
-use Rattle.std.proofs.Common.{sym, ◌∙◌, get_or, map, take}
+use Rattle.std.proofs.Common.{get_or, map, take, [], ◌∷◌, ◌++◌}
 use Rattle.fb_schema.specs.Live.{live_of_view}
 use Rattle.fb_schema.proofs.Blank.{blank_view}
-use Rattle.fb_strict.proofs.Leading.{took_none, took_less, took_more, field_more}
+use Rattle.fb_strict.specs.Leading.{LeadAmong, KindLeads}
+use Rattle.fb_strict.proofs.Leading.{added_as, added_both, among_last, among_more, field_more}
+use Rattle.fb_strict.proofs.Marks.{kind_there}
 use Rattle.fb_strict.proofs.leads.Leads.add_fields.Goals as goal
-use Rattle.fb_strict.proofs.leads.Leads.add_fields.Goals.{in-Some+in_ok-add, in_default}
 
 -- src/leads.rt
-pub loop-field-init : goal.loop-field-init
-loop-field-init g c = took_none c.args.object c.args.self.now.lasts.items c.args.self.now.edges.items c.requires
+pub add_kind-requires-clause-holds : goal.add_kind-requires-clause-holds
+add_kind-requires-clause-holds g c = kind_there c.args.schema.now c.args.object c.fields_of-fields.result.now c.loop-field.field-index blank_view c.lawful.ensures.served c.fields_of-fields.ensures.value c.loop-field-test.true
 
 -- src/leads.rt
 pub loop-field-preserved : goal.loop-field-preserved
 loop-field-preserved g c =
-    let fields = c.args.fields.now in
+    let D = c.args.demands in
+    let S = c.args.schema.now in
+    let fields = c.fields_of-fields.result.now in
     let i = c.loop-field.field-index in
-    let more = field_more fields i blank_view c.loop-field-test.true in
+    let fs = map live_of_view (take i fields) in
     let x = live_of_view (get_or fields i blank_view) in
-    let took = c.loop-field.invariant in
-    elim c.match-led_to.branch [
-      | in-Some+in_ok-add w ↦ rw (w.self-is, more)
-          (took_more c.args.object c.args.self.now.lasts.items c.args.self.now.edges.items (map live_of_view (take i fields)) c.loop-field.self.lasts.items c.loop-field.self.edges.items took x
-          w.in-Some.to w.add.new.self.lasts.items w.add.new.self.edges.items (sym c.led_to.ensures ∙ w.in-Some.is) w.in_ok-add.ensures)
-      | in_default w ↦ rw (w.self-is, more)
-          (took_less c.args.object c.args.self.now.lasts.items c.args.self.now.edges.items (map live_of_view (take i fields)) c.loop-field.self.lasts.items c.loop-field.self.edges.items took x
-          (sym c.led_to.ensures ∙ w.in_default.is))
-    ]
+    let lasts = c.args.self.now.lasts.items in
+    let edges = c.args.self.now.edges.items in
+    let lasts' = c.add_kind.new.self.lasts.items in
+    let edges' = c.add_kind.new.self.edges.items in
+    let both = added_both c.args.object lasts edges (LeadAmong D S fs) (KindLeads D S x.kind) c.loop-field.self.lasts.items c.loop-field.self.edges.items lasts' edges' c.loop-field.invariant c.in_ok-add_kind.ensures in
+    rw (field_more fields i blank_view c.loop-field-test.true) (added_as c.args.object lasts edges _ (LeadAmong D S (fs ++ x ∷ [])) lasts' edges' (among_more D S fs x) (among_last D S fs x) both)

@@ -1,5 +1,5 @@
 use Rattle.std.proofs.Common.{sym, subst, ◌∙◌, arith}
-use Rattle.fb_strict.specs.Leading.{NoneLead, TookFields}
+use Rattle.fb_strict.specs.Leading.{NoneLead}
 use Rattle.fb_strict.proofs.Leading.{below_none, below_more, below_same, below_all}
 use Rattle.fb_strict.proofs.leads.Leads.of.Goals as goal
 use Rattle.fb_strict.proofs.leads.Leads.of.Goals.{then-is_table+in_ok-add_fields, else-is_table}
@@ -7,12 +7,13 @@ use Rattle.fb_strict.proofs.leads.Leads.of.Goals.{then-is_table+in_ok-add_fields
 -- src/leads.rt
 pub loop-object-init : goal.loop-object-init
 loop-object-init g c =
-    below_none c.args.schema.now c.in_ok-leads.leads.lasts.items c.in_ok-leads.leads.edges.items
+    below_none c.args.demands c.args.schema.now c.in_ok-leads.leads.lasts.items c.in_ok-leads.leads.edges.items
     (subst (λ n. NoneLead n c.in_ok-leads.leads.lasts.items c.in_ok-leads.leads.edges.items) c.object_count-objects.ensures c.in_ok-leads.ensures)
 
 -- src/leads.rt
 pub loop-object-preserved : goal.loop-object-preserved
 loop-object-preserved g c =
+    let D = c.args.demands in
     let S = c.args.schema.now in
     let n = c.loop-object.object in
     let lasts = c.loop-object.leads.lasts.items in
@@ -21,13 +22,12 @@ loop-object-preserved g c =
       | then-is_table+in_ok-add_fields w ↦
           let lasts' = w.add_fields.new.self.lasts.items in
           let edges' = w.add_fields.new.self.edges.items in
-          rw (w.leads-is) (below_more S n lasts edges c.loop-object.invariant lasts' edges'
-          (subst (λ fs. TookFields n fs lasts edges lasts' edges') w.fields_of.ensures.value w.in_ok-add_fields.ensures))
-      | else-is_table w ↦ rw (w.leads-is) (below_same S n lasts edges c.loop-object.invariant (sym c.is_table.ensures ∙ w.if-is_table.false))
+          rw (w.leads-is) (below_more D S n lasts edges c.loop-object.invariant lasts' edges' w.in_ok-add_fields.ensures)
+      | else-is_table w ↦ rw (w.leads-is) (below_same D S n lasts edges c.loop-object.invariant (sym c.is_table.ensures ∙ w.if-is_table.false))
     ]
 
 -- src/leads.rt
 pub returns : goal.returns
 returns g c =
-    below_all c.args.schema.now c.loop-object.object c.loop-object.leads.lasts.items c.loop-object.leads.edges.items c.loop-object.invariant
+    below_all c.args.demands c.args.schema.now c.loop-object.object c.loop-object.leads.lasts.items c.loop-object.leads.edges.items c.loop-object.invariant
     (omega (arith, c.loop-object-test.false, c.object_count-objects.ensures))

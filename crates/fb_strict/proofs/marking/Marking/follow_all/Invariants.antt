@@ -4,7 +4,7 @@ use Rattle.fb_strict.proofs.Queues.{FollowedFirst}
 use Rattle.fb_strict.proofs.marking.Marking.follow_all.Given as goal
 
 abbrev pub invariant-loop-passed : goal.invariant-loop-passed
-invariant-loop-passed g l = FollowedFirst l.schema l.leads.lasts.items l.leads.edges.items l.self.marks.items l.self.queue.items l.passed
+invariant-loop-passed g l = FollowedFirst l.fn.demands l.schema l.leads.lasts.items l.leads.edges.items l.self.marks.items l.self.queue.items l.passed
 
 -- what isn't marked, and what isn't followed
 abbrev pub decreases-loop-passed : goal.decreases-loop-passed

@@ -1,5 +1,7 @@
 use Rattle.std.proofs.Common.{ap, ◌∙◌}
-use Rattle.fb_strict.specs.Passing.{Passing, asks_of, asked_object}
+use Rattle.fb_strict.specs.declared.demands.Demands.{Demands}
+use Rattle.fb_strict.specs.Planned.{Planned}
+use Rattle.fb_strict.specs.Passing.{Passing, wants_of, asked_object}
 use Rattle.fb_strict.proofs.Answered.{ok_for, failed_none}
 use Rattle.fb_strict.proofs.pass.Pass.pass_first.Goals as goal
 
@@ -10,7 +12,9 @@ returns-in_ok-answer-in-ByType g c =
     let rows = ap (λ (x : Passing). x.rows) c.self.view_is in
     let m = c.args.reads.now in
     let u = c.test_element-failed in
-    let tested = rw (checks, rows) at u.ensures.tested in
+    let plan = ap (λ (x : Passing). x.plan) c.self.view_is in
+    let asked = ap (λ (D : Demands). D.unions) c.demands-asked.ensures ∙ ap (λ (q : Planned). q.demands.unions) plan in
+    let tested = rw (checks, rows, asked) at u.ensures.tested in
     let a = c.in_ok-answer-in-ByType.ensures m _ _ tested in
     let none = failed_none m u.new.reads u.new.at _ u.result _ tested a.ok in
-    rw c.in-ByType.is (ok_for _ _ c.args.site c.args.self.now.limits m u.new.reads _ _ c.args.row.place a, c.asked_object.ensures ∙ ap (asked_object (asks_of c.args.self.now)) (rw rows at (u.ensures.member none)))
+    rw c.in-ByType.is (ok_for _ _ c.args.site c.args.self.now.limits m u.new.reads _ _ c.args.row.place a, c.asked_object.ensures ∙ ap (asked_object (wants_of c.args.self.now)) (rw rows at (u.ensures.member none)))

@@ -1,5 +1,5 @@
 use Rattle.std.proofs.Common.{◌≡◌, ◌-◌, ◌≤◌, length, take}
-use Rattle.fb_strict.specs.Passing.{asks_of, frame_links}
+use Rattle.fb_strict.specs.Passing.{wants_of, frame_links}
 use Rattle.fb_strict.proofs.pass.Pass.put_links.Given as goal
 
 -- the links so far are those of as many frames
@@ -7,7 +7,7 @@ abbrev pub invariant-loop-count : goal.invariant-loop-count
 invariant-loop-count g l = record {
   same : length l.links ≡ length l.fn.links;
   within : l.count ≤ l.many;
-  done : take l.count l.links ≡ frame_links (asks_of l.self) l.window l.self.rows l.frames l.count;
+  done : take l.count l.links ≡ frame_links (wants_of l.self) l.window l.self.rows l.frames l.count;
 }
 
 abbrev pub decreases-loop-count : goal.decreases-loop-count

@@ -2,7 +2,7 @@ use Rattle.std.proofs.Common.{◌≡◌, ◌≤◌, ℕ, refl, ap, Some, arith, 
 use Rattle.std.specs.Prelude.{slice_get}
 use Rattle.std.proofs.lemmas.Option.{slice_get_past, slice_get_within}
 use Rattle.fb_schema.specs.{Rows.is_table, Live.live_fields}
-use Rattle.fb_strict.specs.{Planned.tasks_in, Passing.Passing, Passing.asks_of}
+use Rattle.fb_strict.specs.{Planned.tasks_in, Passing.Passing, Passing.wants_of}
 use Rattle.fb_strict.proofs.Tasking.{at_task, at_end, stays_at, stops_at, halts_in, tasks_are, item_some, few_tasks}
 use Rattle.fb_strict.proofs.pass.Pass.step.Goals as goal
 use Rattle.fb_strict.proofs.pass.Pass.step.Goals.{In-Some}
@@ -11,7 +11,7 @@ none_left : (n : ℕ) → n ≤ 0 → n ≡ 0
 none_left n h = omega arith
 
 -- the next task
-found : (g : _) (c : In-Some g) → IsTrue (is_table c.args.self.now.rows (c.args.top.now.table).object) → slice_get (tasks_in (asks_of c.args.self.now) (live_fields c.args.self.now.rows (c.args.top.now.table).object)) c.args.top.now.next ≡ Some c.in-Some.task.now
+found : (g : _) (c : In-Some g) → IsTrue (is_table c.args.self.now.rows (c.args.top.now.table).object) → slice_get (tasks_in (wants_of c.args.self.now) c.args.self.now.rows (live_fields c.args.self.now.rows (c.args.top.now.table).object)) c.args.top.now.next ≡ Some c.in-Some.task.now
 found g c object =
     let p = c.args.self.now in
     let plan = ap (λ (x : Passing). x.plan) c.self.view_is in
@@ -32,8 +32,8 @@ pub overflow_add-top : goal.overflow_add-top
 overflow_add-top g c =
     let p = c.args.self.now in
     let fs = live_fields p.rows (c.args.top.now.table).object in
-    let within = slice_get_within (tasks_in (asks_of p) fs) c.args.top.now.next c.in-Some.task.now (found g c c.requires.left.3.object) in
-    let few = few_tasks (asks_of p) fs in
+    let within = slice_get_within (tasks_in (wants_of p) p.rows fs) c.args.top.now.next c.in-Some.task.now (found g c c.requires.left.3.object) in
+    let few = few_tasks (wants_of p) p.rows fs in
     let most = c.requires.passing.served.few (c.args.top.now.table).object in
     omega (arith, within, few, most)
 

@@ -3,7 +3,7 @@ use Rattle.std.proofs.Math.ListN.{length-set}
 use Rattle.fb_bytes.specs.Word.{Lent}
 use Rattle.fb_strict.specs.Asked.{Demand}
 use Rattle.fb_rules.specs.declared.link.Link.{Link}
-use Rattle.fb_strict.specs.Passing.{asks_of, blank, frame_links, IsRoom, IsLeft, GoesDown}
+use Rattle.fb_strict.specs.Passing.{wants_of, blank, frame_links, IsRoom, IsLeft, GoesDown}
 use Rattle.fb_strict.proofs.Stacks.{top_of, stays_turned, up_turned, stops_turned, has_frame, its_table, its_reads, its_paid, open_stops, down_turned}
 use Rattle.fb_strict.proofs.pass.Pass.turn.Goals as goal
 use Rattle.fb_strict.proofs.pass.Pass.turn.Goals.{After-open-arg-1}
@@ -12,7 +12,7 @@ use Rattle.fb_strict.proofs.pass.Pass.turn.Goals.{After-open-arg-1}
 pub step-requires-clause-left : goal.step-requires-clause-left
 step-requires-clause-left g c =
     let t = top_of c.args.self.now c.args.reads.now.bytes c.args.frames.now c.args.many (c.args.many - 1) c.requires.left.0 c.requires.some refl c.requires.left.1 in
-    (length c.args.frames.now - (c.args.many - 1), frame_links (asks_of c.args.self.now) c.args.reads.now.bytes c.args.self.now.rows c.args.frames.now (c.args.many - 1), t.own, t.left)
+    (length c.args.frames.now - (c.args.many - 1), frame_links (wants_of c.args.self.now) c.args.reads.now.bytes c.args.self.now.rows c.args.frames.now (c.args.many - 1), t.own, t.left)
 
 pub returns-in-Ok-Here : goal.returns-in-Ok-Here
 returns-in-Ok-Here g c ds stack =
