@@ -21,7 +21,7 @@ pub record CanServe (s : Based) (n : ℕ) (o : Options) (plan : Option Planned) 
 -- by a plan, a tree is strict, and its reads are within the limits with those of the pass
 abbrev pub IsStrictBy : Option Planned → Question → List ℕ → Tree → Type 0
 IsStrictBy None q b y = ⊤
-IsStrictBy (Some plan) q b y = IsStrictBuffer q.checks b q.rows y × AreAllowed (q.limits).reads (strict_cost plan q b y)
+IsStrictBy (Some plan) q b y = IsStrictBuffer plan.demands q.checks b q.rows y × AreAllowed (q.limits).reads (strict_cost plan q b y)
 
 -- a tree is as it is asked for
 pub record IsAsAsked (plan : Option Planned) (q : Question) (b : List ℕ) (y : Tree) : Type 0 where

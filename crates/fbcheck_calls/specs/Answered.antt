@@ -1,10 +1,11 @@
 -- Which answer a call gives.
-use Rattle.std.specs.Prelude.{◌≡◌, ◌≢◌, ℕ, ◌<◌, ◌≤◌, ◌^◌, List, length, map, Option, Some, None, Result, Ok, Err, IsSomeAnd, IsSome, IsTrue}
+use Rattle.std.specs.Prelude.{◌≡◌, ◌≢◌, ℕ, ◌<◌, ◌≤◌, ◌^◌, true, false, List, length, map, Option, Some, None, Result, Ok, Err, IsSomeAnd, IsSome, IsTrue}
 use Rattle.fb_schema.specs.{Live.Live, Rows.Rows, Rows.is_table}
 use Rattle.fb_rules.specs.{Bounds.Bounds, MostReads.most_reads, Question.Question, Question.question}
 use Rattle.fb_rules.specs.declared.{fault.Fault.Fault, fault.Report.Report, start.Ident.Ident}
 use Rattle.fb_bfbs.specs.{ByteFields.AreAllPlain, ByteFields.IsMarkedField, ByteFields.LacksMark, Loads.IsLoaded, Loads.IsLoadFault, Marks.AreMarks, Marks.marked}
 use Rattle.fb_bfbs.specs.declared.{loading.Loaded.Loaded, load_fault.LoadFault.TheVariants.OutOfMemory, marks.Marks.Marks}
+use Rattle.fb_strict.specs.declared.demands.Demands.{Demands}
 use Rattle.fb_strict.specs.{Planned.Planned, Planned.IsPlan, MostReads.most_reads_strictly}
 use Rattle.fb_strict.specs.AsAsked.{ReportsBy, HasNoneBy, StopsBy}
 use Rattle.fbcheck_calls.specs.declared.{answer.Answer.Answer, answer.FieldAt.FieldAt, answer.Verdict.Verdict, checking.Begun.Begun, held.Held.Held}
@@ -16,10 +17,14 @@ use Rattle.fbcheck_calls.specs.Told.{blank, low, told}
 
 -- ---- to load a schema
 
+-- what strict checks demand of buffers
+abbrev pub strict_demands : Demands
+strict_demands = record { unions = true; nested = true; known_fields = false; utf8 = false }
+
 -- the plan of rows for these demands, none where there are none
 abbrev pub IsPlanFor : Rows → ℕ → Option Planned → Type 0
 IsPlanFor rows n None = n ≡ 0
-IsPlanFor rows n (Some plan) = (n ≢ 0) × IsPlan rows plan
+IsPlanFor rows n (Some plan) = (n ≢ 0) × IsPlan rows strict_demands plan
 
 -- these are the marks of a file that are asked where checks are strict and bytes aren't taken for plain
 abbrev pub AreMarksAsked : List ℕ → Options → Marks → Type 0

@@ -11,7 +11,7 @@ use crate::answer::{Answer, FieldAt};
 use crate::options::{DEEPEST, Options, STRICT};
 use fb_bfbs::{ByteField, BytesFault, LoadFault, Loaded, load, load_marks, test_bytes};
 use fb_schema::Schema;
-use fb_strict::Plan;
+use fb_strict::{Demands, Plan};
 use fb_verify::Limits;
 use std::alloc::{AllocError, Global};
 use std::marker::Model;
@@ -33,7 +33,7 @@ impl Model for Basis {
 
     ghost view = { λ b. record { loaded = b.loaded; demands = b.demands; plan = b.plan } };
 
-    ghost invariant = { λ b. IfSome b.plan (IsPlan b.loaded.schema) };
+    ghost invariant = { λ b. IfSome b.plan (λ p. IsPlan b.loaded.schema p.demands p) };
 }
 
 impl Basis {
@@ -48,7 +48,7 @@ impl Basis {
     /// The plan for these demands; none where the schema was made with others.
     pub fn plan_for(&self, demands: u32) -> Option<&Plan>
         ensures plan { option_map (λ p. p.now) result ≡ plan_for self.now demands }
-        ensures fits { IfSome result (λ p. IsPlan self.now.loaded.schema p.now) }
+        ensures fits { IfSome result (λ p. IsPlan self.now.loaded.schema (p.now).demands p.now) }
     {
         if demands == self.demands {
             self.plan.as_ref()
@@ -110,6 +110,14 @@ fn test_file(
     }
 }
 
+/// What strict checks demand of buffers.
+const DEMANDS: Demands = Demands {
+    unions: true,
+    nested: true,
+    known_fields: false,
+    utf8: false,
+};
+
 /// The plan of a schema for these demands, none where there are none.
 fn plan_of(alloc: Global, schema: &Schema<'_>, demands: u32) -> Result<Option<Plan>, AllocError>
     ensures { IfOk result (IsPlanFor schema.now demands) }
@@ -117,7 +125,7 @@ fn plan_of(alloc: Global, schema: &Schema<'_>, demands: u32) -> Result<Option<Pl
     if demands == 0 {
         return Ok(None);
     }
-    Ok(Some(Plan::new(alloc, schema)?))
+    Ok(Some(Plan::new(alloc, schema, DEMANDS)?))
 }
 
 /// Loads a schema file within the limits of the options, and makes the plan for their demands.

@@ -30,7 +30,7 @@ fn plan_of<'h>(basis: &'h Basis, options: &Options) -> &'h Plan
     requires demands { options.now.demands ≢ 0 }
     requires planned { IsSome (plan_asked basis.now options.now) }
     ensures plan { plan_asked basis.now options.now ≡ Some (Some result.now) }
-    ensures fits { IsPlan basis.now.loaded.schema result.now }
+    ensures fits { IsPlan basis.now.loaded.schema (result.now).demands result.now }
 {
     let Some(plan) = basis.plan_for(options.demands) else {
         unreachable!()
