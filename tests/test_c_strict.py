@@ -15,7 +15,7 @@ from tests.support.program import TOP, file_of, run
 from tests.support.random_buffers import Builder
 from tests.support.random_buffers import damaged as damaged_at_random
 from tests.support.random_rows import Maker, Random
-from tests.support.strict import Plan, Strict
+from tests.support.strict import Demands, Plan, Strict
 from tests.support.strict_messages import MESSAGES, PREFIXED
 from tests.support.strict_program import DEMANDED, strict_words, words_of_limits
 from tests.support.tools import there
@@ -24,7 +24,7 @@ from tests.test_strict import Made, damaged, mark
 # The module once, so that its classes are the same ones everywhere.
 module = functools.cache(module_anew)
 
-STRICT, PLAIN_BYTES = 1, 8
+STRICT, UTF8, PLAIN_BYTES = 1, 4, 8
 STRICTLY_PLAIN = STRICT | PLAIN_BYTES
 LIMITS = [{}, {"no_alignment": 1}, {"inline_size": 1}, {"max_depth": 2}, {"max_tables": 3}, {"max_reads": 40},
           {"max_reads": 90}]
@@ -61,10 +61,10 @@ class StrictForC(LibraryCase):
         """A schema for these demands."""
         return module().Verifier(kept.file.read_bytes(), options=module().Options(demands=demands))
 
-    def told_alike(self, name, kept, messages, limits):
+    def told_alike(self, name, kept, messages, limits, demands):
         """Each call tells of each buffer what the plain checker does."""
-        plan, root, seen = Plan(kept.schema, DEMANDED, kept.marks), kept.root, set()
-        demands = demands_of(kept.objects)
+        asked = Demands(demands & STRICT and DEMANDED.unions, demands & STRICT and DEMANDED.nested, utf8=demands & UTF8)
+        plan, root, seen = Plan(kept.schema, asked, kept.marks), kept.root, set()
         options = self.asked(root, demands, **limits)
         with self.made(kept, demands) as verifier:
             calls, schema = verifier._calls, verifier._schema
@@ -107,9 +107,12 @@ class StrictForC(LibraryCase):
         dice, seen = Random(71), set()
         for name, messages in MESSAGES.items():
             for limits in LIMITS:
-                some = list(itertools.islice(damaged(dice, [dice.choice(messages)], 397), 150))
-                seen |= self.told_alike(name, Kept(name), some, limits)
-        wanted = {"ok", *(f"V{code}" for code in (2, 3, 4, 6, 7, 8, 9, 11, 13))}
+                kept = Kept(name)
+                strict = demands_of(kept.objects)
+                for demands in strict, strict | UTF8, UTF8:
+                    some = list(itertools.islice(damaged(dice, [dice.choice(messages)], 397), 100))
+                    seen |= self.told_alike(name, kept, some, limits, demands)
+        wanted = {"ok", *(f"V{code}" for code in (2, 3, 4, 6, 7, 8, 9, 11, 13, 15))}
         self.holds("the reasons", seen >= wanted, seen)
 
     def test_schemas_at_random(self):
@@ -124,7 +127,8 @@ class StrictForC(LibraryCase):
             schema, root = Schema(objects, enums), dice.choice(tables)[0]
             made = Made(schemas.schema(objects, enums, root=root), objects, schema, schema.names.index(root))
             some = [damaged_at_random(dice, Builder(dice, schema).built(made.root, False, None)) for _ in range(30)]
-            self.told_alike(f"schema {number}", made, some, LIMITS[number % len(LIMITS)])
+            demands = demands_of(objects) | UTF8 * (number % 2)
+            self.told_alike(f"schema {number}", made, some, LIMITS[number % len(LIMITS)], demands)
             refused.add(self.refused_alike(f"schema {number}", made))
         self.same("why a schema isn't made, or is", refused, {0, module().Status.UNMARKED_BYTES, module().Status.MARKED_BYTES})
 
@@ -202,9 +206,9 @@ class StrictForC(LibraryCase):
         """Demands that a schema wasn't made with are refused by each call, in its turn; no demands never are."""
         python = module()
         status, file = python.Status, schemas.M
-        for made_with in (0, STRICT, STRICTLY_PLAIN):
+        for made_with in (0, STRICT, STRICTLY_PLAIN, UTF8, STRICT | UTF8):
             with python.Verifier(file, options=python.Options(demands=made_with)) as verifier:
-                for demands in (0, STRICT, STRICTLY_PLAIN):
+                for demands in (0, STRICT, STRICTLY_PLAIN, UTF8, STRICT | UTF8):
                     want = 0 if demands in (0, made_with) else status.NOT_PLANNED
                     self.same(f"{demands} of {made_with}", self.each_call(verifier, python.Options(demands=demands)),
                               [want] * 7)
@@ -235,7 +239,7 @@ class StrictForC(LibraryCase):
     def test_unknown_demands(self):
         """Bits that the library doesn't know, and plain bytes without strict checks."""
         python = module()
-        for demands in (2, 4, 8, 3, 5, 10, 16, 17, 2**31, 2**32 - 1):
+        for demands in (2, 3, 6, 7, 8, 10, 11, 12, 15, 16, 17, 2**31, 2**32 - 1):
             options = python.Options(demands=demands)
             try:
                 python.Verifier(schemas.M, options=options).close()
@@ -267,4 +271,4 @@ class StrictForC(LibraryCase):
         with python.Verifier(schemas.M, options=python.Options(demands=STRICT)) as verifier:
             words = {"reads_per_byte": 2**32 - 1, "max_reads": 2**64 - 1, "max_tables": 7}
             most = [verifier.most_reads(100, python.Options(demands=demands, **words)) for demands in (0, STRICT)]
-            self.same("and with demands those of the pass, of two fields", most[1] - most[0], 7 * (3 + 2 * 108))
+            self.same("and with demands those of the pass, of two fields", most[1] - most[0], 7 * (3 + 100 + 2 * 108**2))

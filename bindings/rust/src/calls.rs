@@ -10,6 +10,7 @@ pub const DEEPEST: u32 = 4096;
 pub const NONE: u32 = 0xffffffff;
 pub const NO_TABLE: u32 = 0xfffffffe;
 pub const STRICT: u32 = 1;
+pub const UTF8: u32 = 4;
 pub const PLAIN_BYTES: u32 = 8;
 pub const STEPS: u32 = 31;
 pub const LONGEST_PLACE: u32 = 4098;

@@ -3,14 +3,17 @@ use Rattle.std.proofs.Common.{◌≡◌, ℕ, ◌+◌, ◌^◌, ◌<◌, ◌≤�
 use Rattle.std.specs.Prelude.{IfOk}
 use Rattle.std.specs.Option.{is_some}
 use Rattle.std.proofs.lemmas.Bool.Decides.{nat_tests}
-use Rattle.fb_bytes.specs.Word.{Lent}
+use Rattle.fb_bytes.specs.Word.{Lent, word}
 use Rattle.fb_rules.specs.declared.{site.Site.Site, site.Stop.Stop, fault.Reason.Reason}
 use Rattle.fb_rules.specs.{Bounds.Bounds, Bounds.AreAllowed, Plain.tested_by, Plain.place_from, Plain.IsTested, Told.IsAskedAt}
 use Rattle.fb_rules.specs.Order.{Failure, after}
+use Rattle.std.specs.{Str.is_utf8, Str.Lossy.utf8_valid_len}
+use Rattle.fb_rules.specs.declared.fault.Reason.TheVariants.{NotUtf8}
+use Rattle.fb_rules.specs.Places.{target}
 use Rattle.fb_schema.specs.Rows.{Rows}
 use Rattle.fb_rules.specs.declared.offset_row.Row.{Row}
 use Rattle.fb_strict.specs.declared.tasks.Ask.TheVariants.{Unions as AskUnions}
-use Rattle.fb_strict.specs.{Skipped.Wants, InOrder.where_asked, InOrder.together_failure, Asked.vectors_reads, Passing.IsRoom, Passing.task_row}
+use Rattle.fb_strict.specs.{Skipped.Wants, InOrder.where_asked, InOrder.together_failure, InOrder.text_reads, Strict.text_at, Asked.vectors_reads, Passing.Passing, Passing.IsRoom, Passing.task_row, Passing.TextPassed}
 use Rattle.fb_strict.proofs.Asking.{told_allowed}
 
 same_lent : (m new : Lent) (n : ℕ) → new.bytes ≡ m.bytes → new.count ≡ n → new.base ≡ m.base → new ≡ record m { count = n }
@@ -124,3 +127,31 @@ ok_for a b site L m new chain n p h = record { ok = h.ok; counted = h.counted; r
 
 pub err_for : {A B : Type 0} (s : Stop) (site : Site) (L : Bounds) (m new : Lent) (chain : Option Failure) (n p : ℕ) → IsAskedAt {A = A} site L m new chain n p (Err s) → IsAskedAt {A = B} site L m new chain n p (Err s)
 err_for s site L m new chain n p h = record { ok = tt; counted = tt; reads = tt; err = h.err; bytes = h.bytes }
+
+-- A text that was read.
+module _ (p : Passing) (m : Lent) (site : Site) (place at size : ℕ) (at_is : at ≡ target m.bytes place) (size_is : size ≡ word m.bytes at 4) where
+  -- all of its reads
+  pub all_read : (mid new : Lent) → mid ≡ record m { count = m.count + 1 } → new ≡ record mid { count = mid.count + (1 + size) } → new ≡ record m { count = m.count + text_reads m.bytes (target m.bytes place) }
+  all_read mid new one two =
+      let all = reads_more m mid new 1 (1 + size) one two in
+      let same : 1 + (1 + size) ≡ text_reads m.bytes (target m.bytes place) = (let n = size_is ∙ ap (λ a. word m.bytes a 4) at_is in omega (arith, n)) in
+      all ∙ ap (λ n. record m { count = m.count + n }) same
+
+  module _ (new : Lent) (read : new ≡ record m { count = m.count + text_reads m.bytes (target m.bytes place) }) (text : List ℕ) (text_is : text ≡ text_at m.bytes at) where
+    its_text : text ≡ text_at m.bytes (target m.bytes place)
+    its_text = text_is ∙ ap (text_at m.bytes) at_is
+
+    pub text_told : IsTested m new place None (text_reads m.bytes (target m.bytes place)) None
+    text_told = only_read m new place (text_reads m.bytes (target m.bytes place)) read
+
+    -- it was asked, and is whole
+    pub text_whole : AreAllowed (p.limits).reads new.count → is_utf8 text ≡ true → TextPassed p m new site place (Ok tt)
+    text_whole a whole = (read, a, let same = ap is_utf8 (sym its_text) ∙ whole in rw same refl)
+
+    -- it isn't
+    pub text_wrong : AreAllowed (p.limits).reads new.count → is_utf8 text ≡ false → (front : ℕ) → front ≡ utf8_valid_len text → TextPassed p m new site place (Err (record { refusal = record { at = at + 4 + front; reason = NotUtf8 }; site = site }))
+    text_wrong a wrong front front_is =
+        let same = ap is_utf8 (sym its_text) ∙ wrong in
+        let front_same : utf8_valid_len (text_at m.bytes (target m.bytes place)) ≡ front = ap utf8_valid_len (sym its_text) ∙ sym front_is in
+        let none : new.count + 0 ≡ new.count = omega arith in
+        inr (read, a, rw (same, front_same, sym at_is, none) refl)

@@ -1,13 +1,17 @@
 -- A chain of demands finds nothing exactly where they are met.
-use Rattle.std.proofs.Common.{◌≡◌, ◌↔◌, ℕ, ◌+◌, List, Option, Some, None, arith}
+use Rattle.std.proofs.Common.{◌≡◌, ◌↔◌, ℕ, ◌+◌, List, Option, Some, None, Bool, true, false, refl, sym, ◌∙◌, arith}
 use Rattle.std.proofs.lemmas.Bool.Decides.{nat_tests}
+use Rattle.std.proofs.lemmas.Str.{IsUtf8-from_is_utf8, is_utf8-from_IsUtf8}
+use Rattle.std.specs.{Str.IsUtf8, Str.is_utf8, Str.Lossy.utf8_valid_len}
 use Rattle.fb_bytes.specs.Word.{word}
+use Rattle.fb_rules.specs.declared.fault.Reason.TheVariants.{NotUtf8}
+use Rattle.fb_rules.specs.Order.{check}
 use Rattle.fb_schema.specs.{Rows.Rows}
 use Rattle.fb_rules.specs.declared.checks.Checks.{Checks}
 use Rattle.fb_rules.specs.Fields.{types_begin}
 use Rattle.fb_rules.proofs.Chains.{offset_none}
-use Rattle.fb_strict.specs.Strict.{LeadsInside, IsStrictUnion, IsStrictElement, IsStrictUnions}
-use Rattle.fb_strict.specs.InOrder.{inside_failure, union_failure, together_failure, element_failure, UnionsAreTold}
+use Rattle.fb_strict.specs.Strict.{text_at, IsUtf8At, LeadsInside, IsStrictUnion, IsStrictElement, IsStrictUnions}
+use Rattle.fb_strict.specs.InOrder.{inside_failure, union_failure, together_failure, element_failure, text_failure, UnionsAreTold}
 
 pub inside_none : (c : Checks) (b : List ℕ) (p : ℕ) → (inside_failure c b p ≡ None) ↔ LeadsInside c b p
 unfolding inside_failure
@@ -20,6 +24,23 @@ union_none c b S e t types (Some p) = grind (arith, nat_tests, inside_none)
 pub element_none : (c : Checks) (b : List ℕ) (S : Rows) (e q p : ℕ) → (element_failure c b S e q p ≡ None) ↔ IsStrictElement c b S e (word b q 1) p
 unfolding element_failure
 element_none c b S e q p = grind (arith, nat_tests, inside_none)
+
+pub is_whole : (bs : List ℕ) → IsUtf8 bs → is_utf8 bs ≡ true
+is_whole bs h = is_utf8-from_IsUtf8 bs h
+
+wrong_by : (bs : List ℕ) → (IsUtf8 bs → ⊥) → (x : Bool) → is_utf8 bs ≡ x → x ≡ false
+wrong_by bs h true is = absurd (h (IsUtf8-from_is_utf8 bs is))
+wrong_by bs h false is = refl
+
+pub is_wrong : (bs : List ℕ) → (IsUtf8 bs → ⊥) → is_utf8 bs ≡ false
+is_wrong bs h = wrong_by bs h (is_utf8 bs) refl
+
+text_by : (b : List ℕ) (s : ℕ) (x : Bool) → is_utf8 (text_at b s) ≡ x → (check x NotUtf8 (s + 4 + utf8_valid_len (text_at b s)) 0 None ≡ None) ↔ IsUtf8At b s
+text_by b s true is = ((λ h. IsUtf8-from_is_utf8 (text_at b s) is), (λ h. refl))
+text_by b s false is = ((λ h. absurd (cc)), (λ h. absurd (let z : false ≡ true = sym is ∙ is_utf8-from_IsUtf8 (text_at b s) h in cc)))
+
+pub text_none : (b : List ℕ) (s : ℕ) → (text_failure b s ≡ None) ↔ IsUtf8At b s
+text_none b s = text_by b s (is_utf8 (text_at b s)) refl
 
 pub unions_none : (c : Checks) (b : List ℕ) (S : Rows) (e : ℕ) (types place : Option ℕ) → UnionsAreTold c b S e types place ↔ IsStrictUnions c b S e types place
 unions_none c b S e types place = (

@@ -12,7 +12,7 @@ use Rattle.fb_rules.proofs.Typed.{typed_by}
 use Rattle.fb_strict.specs.declared.{tasks.Ask.Ask, tasks.Task.Task}
 use Rattle.fb_strict.specs.Skipped.{Wants, is_kind_asked}
 use Rattle.fb_strict.specs.Planned.{ask_by, ask_of, task_with, task_of, tasks_in}
-use Rattle.fb_strict.specs.Asked.{Demand, field_demands, row_types, row_place, demands_in_fields, demands_in_row}
+use Rattle.fb_strict.specs.Asked.{Demand, field_demands, row_leads, row_place, demands_in_fields, demands_in_row}
 use Rattle.fb_strict.specs.Passing.{task_failure, task_reads, IsKnown, AreKnown}
 use Rattle.fb_strict.proofs.Unasked.{nothing_asked}
 
@@ -55,7 +55,7 @@ module _ (c : Checks) (b : List ℕ) (S : Rows) where
 
     -- and of its offset words
     abbrev word_demands : Live → Elements → List Demand
-    word_demands f ys = demands_in_row ys w c b S (λ j. via ++ element_link b k t f j ∷ []) k f.number 0 (row_place b (field_place b t f.slot) f.kind) (row_types b (type_place b t f.slot) f.kind)
+    word_demands f ys = demands_in_row ys w c b S (λ j. via ++ element_link b k t f j ∷ []) k f.number 0 (row_place b (field_place b t f.slot) f.kind) (row_leads w b S (type_place b t f.slot) f.kind)
 
     -- a field with a task is asked
     module _ (f : Live) (task : Task) where

@@ -1,6 +1,7 @@
 pub mod Chains
 pub mod Lists
 pub mod Members
+pub mod Referents
 pub mod Skips
 pub mod Reading
 pub mod Marks
@@ -17,6 +18,7 @@ pub mod Stacks
 pub mod Shifted
 pub mod Few
 pub mod Answered
+pub mod Plainly
 pub mod Wording
 pub mod Looping
 pub mod Buffers
@@ -24,5 +26,6 @@ pub mod Verdicts
 pub mod Rereading
 pub mod OneVerdict
 pub mod Price
+pub mod Saturating
 pub mod Calls
 pub mod Locating

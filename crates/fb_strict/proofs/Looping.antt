@@ -42,7 +42,7 @@ begins p m old before h = record {
 }
 
 -- a turn leaves less work, since no more reads are left than a number that is great
-lesser : (w w' c c' rest rest' : ℕ) → w' + 2 ^ 49 * c < w + 2 ^ 49 * c' → c + rest ≡ c' + rest' → c + rest ≤ 2 ^ 96 → w' + 2 ^ 49 * (2 ^ 96 - c') < w + 2 ^ 49 * (2 ^ 96 - c)
+lesser : (w w' c c' rest rest' : ℕ) → w' + 2 ^ 49 * c < w + 2 ^ 49 * c' → c + rest ≡ c' + rest' → c + rest ≤ 2 ^ 112 → w' + 2 ^ 49 * (2 ^ 112 - c') < w + 2 ^ 49 * (2 ^ 112 - c)
 lesser w w' c c' rest rest' falls same most = omega arith
 
 module _ (p : Passing) (m mid : Lent) (old : List Frame) (before : ℕ) (frames : List Frame) (many : ℕ) (h : WentSoFar p m mid old before frames many) where
@@ -156,7 +156,7 @@ pub record Begun (p : Passing) (m new : Lent) (deep : ℕ) (root : Child) (frame
   pub long : length frames ≡ deep
   pub on : (ds : List Demand) → IsNext p m.bytes deep [] root ds → (left : List Demand) × GoesOn p m new ds left × AreLeft p m.bytes frames many left
 
-module _ (p : Passing) (m : Lent) (holds : IsPassing p m.bytes) (allowed : AreAllowed (p.limits).reads m.count) (frames : List Frame) (small : length frames ≤ 4096) (root : Child) (ds0 : List Demand) (next0 : IsNext p m.bytes (length frames) [] root ds0) (few : m.count + demands_reads ds0 ≤ 2 ^ 96) where
+module _ (p : Passing) (m : Lent) (holds : IsPassing p m.bytes) (allowed : AreAllowed (p.limits).reads m.count) (frames : List Frame) (small : length frames ≤ 4096) (root : Child) (ds0 : List Demand) (next0 : IsNext p m.bytes (length frames) [] root ds0) (few : m.count + demands_reads ds0 ≤ 2 ^ 112) where
   pub some_frame : 0 < length frames
   some_frame = omega (arith, next0.deep, some_deep next0.tree)
 

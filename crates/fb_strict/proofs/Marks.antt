@@ -42,7 +42,7 @@ module _ (D : Demands) (S : Rows) where
       found_member (Some (Table k)) h = founded k h
       found_member None h = absurd (grind arith)
       found_member (Some (Scalar s)) h = absurd (grind arith)
-      found_member (Some Text) h = absurd (grind arith)
+      found_member (Some Text) h = (0, h)
       found_member (Some (Struct k)) h = absurd (grind arith)
       found_member (Some (Union e)) h = absurd (grind arith)
       found_member (Some (Scalars s)) h = absurd (grind arith)
@@ -71,10 +71,10 @@ module _ (D : Demands) (S : Rows) where
       found_kind (Union e) h = found_union e h
       found_kind (Unions e) h = found_union e h
       found_kind (Scalar s) h = absurd (grind arith)
-      found_kind Text h = absurd (grind arith)
+      found_kind Text h = (0, h)
       found_kind (Struct k) h = absurd (grind arith)
       found_kind (Scalars s) h = absurd (grind arith)
-      found_kind Texts h = absurd (grind arith)
+      found_kind Texts h = (0, h)
       found_kind (Structs k) h = absurd (grind arith)
 
       found_among : (fs : List Live) → list_any (λ (f : Live). is_kind_asked (wants asks) S f.kind) fs ≡ true → (n : ℕ) × (list_any (λ (f : Live). is_kind_asked (reaching n) S f.kind) fs ≡ true)

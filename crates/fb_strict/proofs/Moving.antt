@@ -13,7 +13,7 @@ use Rattle.fb_strict.proofs.Asking.{passed, told_allowed}
 abbrev pub site_of : Demand → Site
 site_of d = record { object = d.object; field = d.field }
 
-told_is : (d : Demand) (paid : ℕ) (e : Option Failure) → told (site_of d) paid e ≡ demand_fault d paid e
+pub told_is : (d : Demand) (paid : ℕ) (e : Option Failure) → told (site_of d) paid e ≡ demand_fault d paid e
 told_is d paid None = refl
 told_is d paid (Some e) = refl
 
@@ -28,6 +28,14 @@ passed_by L paid d rest is a = rw is (let ok = (told_allowed L.reads (paid + d.r
 ends_there : (d : Demand) (paid : ℕ) (e : Option Failure) (f : Fault) (rest : List Link) → demand_fault d paid e ≡ Some f → links_where e d.links rest ≡ d.links
 ends_there d paid None f rest h = absurd (cc)
 ends_there d paid (Some e) f rest h = refl
+
+-- where its own chain finds something, that is told
+pub ends_at : (d : Demand) (paid : ℕ) (rest : Option Failure) (f : Fault) → demand_fault d paid d.chain ≡ Some f → demand_fault d paid (d.chain ▷ rest) ≡ Some f
+ends_at d paid rest f h = by_chain d.chain h
+  where
+    by_chain : (e : Option Failure) → demand_fault d paid e ≡ Some f → demand_fault d paid (e ▷ rest) ≡ Some f
+    by_chain None h = absurd (cc)
+    by_chain (Some e) h = h
 
 -- it is told at its own site
 its_site : (d : Demand) (paid : ℕ) (e : Option Failure) (f : Fault) → demand_fault d paid e ≡ Some f → (f.object ≡ d.object) × (f.field ≡ d.field)

@@ -5,8 +5,8 @@ use Rattle.fb_rules.specs.{Question.Question, Places.target, WellFormed.base, We
 use Rattle.fb_rules.proofs.{Overruns.one_tree, Overruns.stops_nowhere, OneFault.stops_once}
 use Rattle.fb_strict.specs.{Planned.Planned, Planned.IsPlan, Asked.first_fault}
 use Rattle.fb_strict.specs.Strictly.{ReportsStrictly, StopsStrictly}
-use Rattle.fb_strict.specs.Laws.{StrictIsOk, UnionsLeadInside, AppliesStrictly, HasOneStrictVerdict}
-use Rattle.fb_strict.proofs.{Reading.value_inside, Reading.element_inside, Verdicts.asked, Verdicts.same_tree, Verdicts.tells}
+use Rattle.fb_strict.specs.Laws.{StrictIsOk, UnionsLeadInside, AllTextsAreUtf8, AppliesStrictly, HasOneStrictVerdict}
+use Rattle.fb_strict.proofs.{Reading.value_inside, Reading.element_inside, Reading.texts_utf8, Verdicts.asked, Verdicts.same_tree, Verdicts.tells}
 
 pub strict_is_ok : StrictIsOk
 strict_is_ok p q b r h = record {
@@ -22,6 +22,11 @@ unions_lead_inside p q b r y asked h u =
     let same : h.found ≡ y = one_tree q.checks b q.rows h.found y q.root (target b (base q.start)) h.well_formed.unfolds u in
     let strict = rw same at (h.strict).tables in
     (value_inside y p.demands q.checks b q.rows asked strict, element_inside y p.demands q.checks b q.rows asked strict)
+
+pub texts_are_utf8 : AllTextsAreUtf8
+texts_are_utf8 p q b r y asked h u =
+    let same : h.found ≡ y = one_tree q.checks b q.rows h.found y q.root (target b (base q.start)) h.well_formed.unfolds u in
+    texts_utf8 y p.demands q.checks b q.rows asked (rw same at (h.strict).tables)
 
 module _ (p : Planned) (q : Question) (b : List ℕ) (plan : IsPlan q.rows p.demands p) where
   -- two reports count the same tree

@@ -214,12 +214,12 @@ module _ (D : Demands) (S : Rows) (asks : ℕ → Bool) where
   no_more_member e n zero is none isnt = absurd (omega (arith, is))
   no_more_member e n (suc more) is none isnt = let same : more ≡ n = omega (arith, is) in rw (same, none, isnt) refl
 
-  -- a member that is asked is a table that is
-  member_by : (o : Option Kind) → is_member_asked w o ≡ true → (t : ℕ) × (asks t ≡ true) × (o ≡ Some (Table t))
-  member_by (Some (Table k)) h = (k, h, refl)
+  -- a member is asked by itself, or is a table that is
+  member_by : (o : Option Kind) → is_member_asked w o ≡ true → (is_member_asked own o ≡ true) ⊎ ((t : ℕ) × (asks t ≡ true) × (o ≡ Some (Table t)))
+  member_by (Some (Table k)) h = inr (k, h, refl)
   member_by None h = absurd (grind arith)
   member_by (Some (Scalar s)) h = absurd (grind arith)
-  member_by (Some Text) h = absurd (grind arith)
+  member_by (Some Text) h = inl h
   member_by (Some (Struct k)) h = absurd (grind arith)
   member_by (Some (Union e)) h = absurd (grind arith)
   member_by (Some (Scalars s)) h = absurd (grind arith)
@@ -228,12 +228,18 @@ module _ (D : Demands) (S : Rows) (asks : ℕ → Bool) where
   member_by (Some (Tables k)) h = absurd (grind arith)
   member_by (Some (Unions e)) h = absurd (grind arith)
 
-  some_by : (e n : ℕ) → some_member w S e n ≡ true → (t : ℕ) × (asks t ≡ true) × MemberLeads S e n t
+  some_by : (e n : ℕ) → some_member w S e n ≡ true → (some_member own S e n ≡ true) ⊎ ((t : ℕ) × (asks t ≡ true) × MemberLeads S e n t)
   unfolding some_member
   some_by e zero h = absurd (grind arith)
   some_by e (suc n) h = elim (or_by (is_member_asked w (member_of S e n)) (some_member w S e n) h) [
-    | inl here ↦ (let m = member_by (member_of S e n) here in (m.0, m.1, (n, omega arith, m.2)))
-    | inr more ↦ (let m = some_by e n more in (m.0, m.1, ((m.2).0, omega (arith, (m.2).1), (m.2).2)))
+    | inl here ↦ elim (member_by (member_of S e n) here) [
+      | inl itself ↦ inl (or_first (is_member_asked own (member_of S e n)) (some_member own S e n) itself)
+      | inr m ↦ inr (m.0, m.1, (n, omega arith, m.2))
+    ]
+    | inr more ↦ elim (some_by e n more) [
+      | inl itself ↦ inl (or_later (is_member_asked own (member_of S e n)) (some_member own S e n) itself)
+      | inr m ↦ inr (m.0, m.1, ((m.2).0, omega (arith, (m.2).1), (m.2).2))
+    ]
   ]
 
   union_by : (e : ℕ) (x : Bool) → D.unions ≡ x → (D.unions || some_member w S e 256) ≡ true
@@ -241,7 +247,7 @@ module _ (D : Demands) (S : Rows) (asks : ℕ → Bool) where
   union_by e true is h = inl (or_first D.unions (some_member own S e 256) is)
   union_by e false is h = elim (or_by D.unions (some_member w S e 256) h) [
     | inl does ↦ inl (or_first D.unions (some_member own S e 256) does)
-    | inr more ↦ (let m = some_by e 256 more in inr (m.0, m.1, (is, m.2)))
+    | inr more ↦ elim (some_by e 256 more) [ inl itself ↦ inl (or_later D.unions (some_member own S e 256) itself) | inr m ↦ inr (m.0, m.1, (is, m.2)) ]
   ]
 
   -- a field is asked by itself, or leads to what is

@@ -7,7 +7,7 @@ use Rattle.fb_rules.specs.{Places.field_place, Fields.type_place}
 use Rattle.fb_rules.specs.Tree.{Tree, node, Kids, no_kids, kid, Elements, no_elements, element, Element, leaf, table}
 use Rattle.fb_strict.specs.declared.demands.Demands.{Demands}
 use Rattle.fb_strict.specs.Strict.{LeadsInside, IsStrict, KidsAreStrict, ElementsAreStrict, ElementIsStrict, HasStrictUnions, IsStrictTable}
-use Rattle.fb_strict.specs.Readers.{HasNode, KidsHave, ElementsHave, ElementHas, MayFollow, TablesLaw, ValuesLaw, ElementsLaw}
+use Rattle.fb_strict.specs.Readers.{HasNode, KidsHave, ElementsHave, ElementHas, MayFollow, TablesLaw, ValuesLaw, ElementsLaw, TextsLaw}
 
 module _ (D : Demands) (c : Checks) (b : List ℕ) (S : Rows) where
   module _ (k t : ℕ) where
@@ -71,3 +71,6 @@ pub element_inside : ElementsLaw
 element_inside y D c b S asked h k t i f e p j n at is place lt typed none =
     let met = ((node_met D c b S k t y h n).fields i f at).unions asked in
     may_follow D c b S _ ((of_unions D c b S e (type_place b t f.slot) (field_place b t f.slot) f.kind is met).leads p j place lt typed none)
+
+pub texts_utf8 : TextsLaw
+texts_utf8 y D c b S asked h k t i f n at = ((node_met D c b S k t y h n).fields i f at).texts asked

@@ -9,7 +9,7 @@ use Rattle.fb_schema.specs.{Live.Live}
 use Rattle.fb_rules.specs.{Places.target, Places.field_place, Fields.type_place, Fields.type_count}
 use Rattle.fb_rules.proofs.Typed.{present}
 use Rattle.fb_strict.specs.declared.{room.Frame.Frame, tasks.Ask.Ask, tasks.Task.Task}
-use Rattle.fb_strict.specs.declared.tasks.Ask.TheVariants.{Union as AskUnion, Unions as AskUnions, Table as GoInto, Tables as GoIntoEach}
+use Rattle.fb_strict.specs.declared.tasks.Ask.TheVariants.{Text as AskText, Texts as AskTexts, Union as AskUnion, Unions as AskUnions, Table as GoInto, Tables as GoIntoEach}
 use Rattle.fb_strict.specs.Planned.{ask_by}
 use Rattle.fb_strict.specs.Passing.{Passing, wants_of, IsKnown, IsTaskable, ask_words, task_words, task_link, link_behind, frame_link, IsLinked}
 use Rattle.fb_strict.specs.Reread.{WordsStand, MemberStands}
@@ -58,6 +58,8 @@ module _ (p : Passing) (b : List ℕ) (fr : Frame) (h : IsLinked (wants_of p) p.
     more_words = omega (arith, h.more, its_words)
 
     words_by : (ask : Ask) → IsTaskable b p.rows t task.slot (field_place b t task.slot) ask → WordsStand b place ask
+    words_by AskText able = tt
+    words_by AskTexts able = able place there
     words_by (GoInto j) able = tt
     words_by (AskUnion e) able = tt
     words_by (GoIntoEach j) able = able place there
@@ -74,6 +76,8 @@ module _ (p : Passing) (b : List ℕ) (fr : Frame) (h : IsLinked (wants_of p) p.
         subst (λ o. word b (target b place) 4 ≡ type_count b (type_place b t o)) (sym slot) n
 
     member_by : (ask : Ask) → task.ask ≡ ask → IsTaskable b p.rows t task.slot (field_place b t task.slot) ask → (j : ℕ) → j < ask_words b (Some place) ask → MemberStands b t task.slot j ask
+    member_by AskText is able i less = tt
+    member_by AskTexts is able i less = tt
     member_by (GoInto j) is able i less = tt
     member_by (GoIntoEach j) is able i less = tt
     member_by (AskUnion e) is able i less = able.1

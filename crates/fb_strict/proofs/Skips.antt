@@ -1,5 +1,5 @@
 -- What isn't asked may be passed by.
-use Rattle.std.proofs.Common.{◌≡◌, ℕ, zero, suc, ◌+◌, ◌<◌, List, [], ◌∷◌, arith, inl, inr, Option, Some, None, false, subst, ap}
+use Rattle.std.proofs.Common.{◌≡◌, ℕ, zero, suc, ◌+◌, ◌<◌, List, [], ◌∷◌, arith, inl, inr, Option, Some, None, false, subst, ap, ◌∙◌, sym}
 use Rattle.std.specs.Prelude.{slice_get, true}
 use Rattle.std.specs.List.{list_any}
 use Rattle.fb_schema.specs.declared.kinds.Kind.{Kind}
@@ -12,14 +12,15 @@ use Rattle.fb_rules.specs.Places.{target, field_place}
 use Rattle.fb_rules.specs.Fields.{type_place, union_type, Lead, lead_of, to_table, to_struct, to_string, to_nothing, Entry, row, union_row, union_entry, entries_of, entries_at, entries}
 use Rattle.fb_rules.specs.Tree.{Tree, node, Kids, no_kids, kid, Elements, no_elements, element, Element, leaf, table}
 use Rattle.fb_rules.specs.Unfolds.{Unfolds, FieldsUnfold, ElementsUnfold, ElementUnfolds}
-use Rattle.fb_strict.specs.Strict.{IsStrict, KidsAreStrict, ElementsAreStrict, ElementIsStrict, IsStrictField, HasStrictUnions}
+use Rattle.fb_strict.specs.Strict.{IsStrict, KidsAreStrict, ElementsAreStrict, ElementIsStrict, IsStrictField, HasStrictUnions, AreUtf8}
 use Rattle.fb_strict.specs.Skipped.{Wants, is_member_asked, some_member, is_kind_asked, IsClosed, SkipLaw}
 use Rattle.fb_strict.proofs.{Lists.or_false, Members.no_such_member}
 
 module _ (w : Wants) (S : Rows) where
-  -- an offset word that leads to no table that is asked
+  -- an offset word that leads to nothing that is asked
   abbrev pub IsQuiet : Lead → Type 0
   IsQuiet (to_table k) = w.asks k ≡ false
+  IsQuiet to_string = w.demands.utf8 ≡ false
   IsQuiet _ = Unit {0}
 
   unfoldable pub AreQuiet : List Entry → Type 0
@@ -66,8 +67,8 @@ module _ (w : Wants) (S : Rows) where
   quiet_of b t f p (Unions e) h = quiet_by_types b e _ _ _ (or_false w.demands.unions (some_member w S e 256) h).1
   quiet_of b t f p (Table k) h = (h, tt)
   quiet_of b t f p (Tables k) h = quiet_row (to_table k) _ _ h
-  quiet_of b t f p Text h = (tt, tt)
-  quiet_of b t f p Texts h = quiet_row to_string _ _ tt
+  quiet_of b t f p Text h = (h, tt)
+  quiet_of b t f p Texts h = quiet_row to_string _ _ h
   quiet_of b t f p (Scalar s) h = tt
   quiet_of b t f p (Struct k) h = tt
   quiet_of b t f p (Scalars s) h = tt
@@ -91,8 +92,20 @@ module _ (w : Wants) (S : Rows) where
   no_unions : (c : Checks) (b : List ℕ) (types place : Option ℕ) (kind : Kind) → is_kind_asked w S kind ≡ false → w.demands.unions ≡ true → HasStrictUnions c b S types place kind
   no_unions c b types place kind h on = grind arith
 
+  -- so it leads to no text that is asked
+  no_texts : (b : List ℕ) (xs : List Entry) → AreQuiet xs → w.demands.utf8 ≡ true → AreUtf8 b xs
+  unfolding AreQuiet
+  no_texts b [] q on i x at text = absurd (cc)
+  no_texts b (y ∷ xs) q on zero x at text = absurd (
+      let same : y ≡ x = cc in
+      let lead : y.lead ≡ to_string = ap (λ (z : Entry). z.lead) same ∙ text in
+      let off : w.demands.utf8 ≡ false = rw lead at q.0 in
+      let z : true ≡ false = sym on ∙ off in
+      cc)
+  no_texts b (y ∷ xs) q on (suc i) x at text = no_texts b xs q.1 on i x at text
+
   pub strict_field : (c : Checks) (b : List ℕ) (t : ℕ) (f : Live) → is_kind_asked w S f.kind ≡ false → IsStrictField w.demands c b S t f
-  strict_field c b t f h = record { unions = λ on. no_unions c b (type_place b t f.slot) (field_place b t f.slot) f.kind h on }
+  strict_field c b t f h = record { unions = λ on. no_unions c b (type_place b t f.slot) (field_place b t f.slot) f.kind h on; texts = no_texts b (entries b S t f) (quiet_entries b t f h) }
 
   module _ (closed : IsClosed w S) (c : Checks) (b : List ℕ) where
     mutual

@@ -14,12 +14,12 @@ use Rattle.fb_rules.specs.Tree.{Elements, no_elements, element}
 use Rattle.fb_rules.specs.Unfolds.{ElementsUnfold}
 use Rattle.fb_rules.proofs.{Typed.present, Words.row_none}
 use Rattle.fb_strict.specs.declared.{room.Frame.Frame, tasks.Ask.Ask, tasks.Task.Task}
-use Rattle.fb_strict.specs.declared.tasks.Ask.TheVariants.{Union as AskUnion, Unions as AskUnions, Table as GoInto, Tables as GoIntoEach}
+use Rattle.fb_strict.specs.declared.tasks.Ask.TheVariants.{Text as AskText, Texts as AskTexts, Union as AskUnion, Unions as AskUnions, Table as GoInto, Tables as GoIntoEach}
 use Rattle.std.specs.List.{cons_option}
 use Rattle.fb_strict.specs.Skipped.{Wants}
 use Rattle.fb_strict.specs.Planned.{ask_by, ask_of, task_of, tasks_in, wants_in, Planned, IsPlan}
 use Rattle.fb_strict.specs.Asked.{Demand, demands_in_fields, demands_in_row}
-use Rattle.fb_strict.specs.Passing.{Passing, wants_of, IsPassing, IsTaskable, leads_types, IsKnown, IsLeft, ask_words, task_words, ask_element, ask_member, task_link, task_row, frame_work, opened, TaskPassed, GoesOn, Stays, StopsHere, Breaks}
+use Rattle.fb_strict.specs.Passing.{Passing, wants_of, IsPassing, IsTaskable, IsKnown, IsLeft, ask_words, task_words, ask_element, ask_member, task_link, task_row, frame_work, opened, TaskPassed, GoesOn, Stays, StopsHere, Breaks}
 use Rattle.fb_strict.proofs.Moving.{met, unmet, told_there}
 use Rattle.fb_strict.proofs.Fields.{asked_by, is_asked, IsNextField, next_field, no_field, task_demand, one_demand, IsTask, task_is}
 use Rattle.fb_strict.proofs.Words.{put, all_put}
@@ -54,10 +54,13 @@ module _ (p : Passing) (b : List ℕ) (t : ℕ) (f : Live) (known : IsKnown p.ch
         λ q is. let v = (present p.checks b p.rows t f q (Unions e) known.own is kind).field in record { offset = (v.offset).within; count = (v.vector).count },
       )
   taskable_by (Scalar s) kind ask h = absurd (cc)
-  taskable_by Text kind ask h = absurd (cc)
+  taskable_by Text kind ask h = let same : AskText ≡ ask = cc in subst (λ (x : Ask). IsTaskable b p.rows t f.slot (field_place b t f.slot) x) same tt
   taskable_by (Struct j) kind ask h = absurd (cc)
   taskable_by (Scalars s) kind ask h = absurd (cc)
-  taskable_by Texts kind ask h = absurd (cc)
+  taskable_by Texts kind ask h =
+      let same : AskTexts ≡ ask = cc in
+      subst (λ (x : Ask). IsTaskable b p.rows t f.slot (field_place b t f.slot) x) same
+      (λ q is. let v = present p.checks b p.rows t f q Texts known.own is kind in record { offset = (v.offset).within; count = (v.vector).count })
   taskable_by (Structs j) kind ask h = absurd (cc)
 
 from_none : {n k : ℕ} → n ≡ k → 0 + n ≡ k
@@ -93,7 +96,7 @@ module _ (p : Passing) (b : List ℕ) (holds : IsPassing p b) (room : ℕ) (via 
   of_fields = demands_in_fields l.kids (wants_of p) p.checks b p.rows via k t l.fields
 
   -- its row stands for nothing
-  only_fields : (words : Elements) → ElementsUnfold words p.checks b p.rows [] → ds ≡ demands_in_row words (wants_of p) p.checks b p.rows l.way k fr.number l.passed (fr.row).place (leads_types (fr.row).leads) ++ of_fields → ds ≡ of_fields
+  only_fields : (words : Elements) → ElementsUnfold words p.checks b p.rows [] → ds ≡ demands_in_row words (wants_of p) p.checks b p.rows l.way k fr.number l.passed (fr.row).place (fr.row).leads ++ of_fields → ds ≡ of_fields
   unfolding ElementsUnfold demands_in_row
   only_fields no_elements u all = all
   only_fields (element y ys) u all = absurd u

@@ -7,7 +7,7 @@ use Rattle.fb_rules.specs.{Bounds.Bounds, Bounds.AreAllowed, Question.Question, 
 use Rattle.fb_rules.specs.{Verdict.Reports, Verdict.HasNone}
 use Rattle.fb_rules.specs.WellFormed.{base, IsWellFormed, IsWithin, cost}
 use Rattle.fb_rules.specs.{MostReads.within_budget, MostReads.most_reads}
-use Rattle.fb_schema.specs.{Live.widest, Rows.is_table}
+use Rattle.fb_schema.specs.{Live.widest, Rows.is_table, Served.IsServed}
 use Rattle.fb_verify.specs.Stack.{last_link}
 use Rattle.fb_rules.proofs.{Overruns.one_tree, Price.cost_is_bounded}
 use Rattle.fb_strict.specs.{InOrder.where_asked, InOrder.length_failure, Strict.IsStrictBuffer, Planned.Planned, Planned.IsPlan, Planned.wants_in}
@@ -138,7 +138,7 @@ module _ (p : Planned) (q : Question) (b : List ℕ) where
 
 -- Counts that 128 bits hold.
 
-few_reads : (tables wide len : ℕ) → tables < 2 ^ 32 → wide < 2 ^ 32 → len < 2 ^ 31 → 4 + tables * (4 + wide * (8 + len)) ≤ 2 ^ 96
+few_reads : (tables wide len : ℕ) → tables < 2 ^ 32 → wide < 2 ^ 32 → len < 2 ^ 31 → 4 + tables * (4 + wide * (8 + len)) ≤ 2 ^ 112
 few_reads tables wide len t w l =
     let one : wide * (8 + len) ≤ 2 ^ 32 * (8 + len) = mul-le-mul_right (8 + len) (omega (arith, w)) in
     let two : tables * (4 + wide * (8 + len)) ≤ tables * (2 ^ 63 + 2 ^ 36) = mul-le-mul_left tables (omega (arith, one, l)) in
@@ -148,17 +148,17 @@ pub least_of : (o : Option ℕ) (n : ℕ) → within_budget o n ≤ n
 least_of None n = omega arith
 least_of (Some most) n = omega arith
 
-pub walk_few : (q : Question) (b : List ℕ) (y : Tree) → IsWellFormed q b y → IsWithin q b y → (q.limits).tables < 2 ^ 32 → widest q.rows < 2 ^ 32 → length b < 2 ^ 31 → cost q b y ≤ 2 ^ 96
+pub walk_few : (q : Question) (b : List ℕ) (y : Tree) → IsWellFormed q b y → IsWithin q b y → (q.limits).tables < 2 ^ 32 → widest q.rows < 2 ^ 32 → length b < 2 ^ 31 → cost q b y ≤ 2 ^ 112
 unfolding most_reads
 walk_few q b y h w t wide l =
     let c = cost_is_bounded q b y h w in
     omega (arith, c, least_of (q.limits).reads (4 + (q.limits).tables * (4 + widest q.rows * (8 + length b))), few_reads (q.limits).tables (widest q.rows) (length b) t wide l)
 
 -- and so are those of the pass
-few_demands : (size wide len n : ℕ) → size < 2 ^ 32 → wide < 2 ^ 32 → len < 2 ^ 31 → n ≤ (3 + wide * (8 + len)) * size → n ≤ 2 ^ 96
-few_demands size wide len n t w l h =
-    let one : wide * (8 + len) ≤ 2 ^ 32 * (8 + len) = mul-le-mul_right (8 + len) (omega (arith, w)) in
-    let two : (3 + wide * (8 + len)) * size ≤ (2 ^ 63 + 2 ^ 36) * size = mul-le-mul_right size (omega (arith, one, l)) in
+few_demands : (size len n : ℕ) → size < 2 ^ 32 → len < 2 ^ 31 → n ≤ (3 + len + 32766 * ((8 + len) * (8 + len))) * size → n ≤ 2 ^ 112
+few_demands size len n t l h =
+    let near : (8 + len) * (8 + len) ≤ (2 ^ 31 + 8) * (8 + len) = mul-le-mul_right (8 + len) (omega (arith, l)) in
+    let two : (3 + len + 32766 * ((8 + len) * (8 + len))) * size ≤ 2 ^ 79 * size = mul-le-mul_right size (omega (arith, near, l)) in
     omega (arith, two, t, h)
 
 pub first_few : (x : Bool) (d : Demand) (ds : List Demand) (n : ℕ) → d.reads ≡ 0 → demands_reads ds ≤ n → demands_reads (d ∷ (if x then ds else [])) ≤ n
@@ -166,10 +166,11 @@ first_few true d ds n none h = omega (arith, first_reads d ds, none, h)
 first_few false d ds n none h = omega (arith, first_reads d [], none)
 
 module _ (p : Passing) (b : List ℕ) (room : ℕ) (root : Child) where
-  pub pass_few : (y : Tree) → IsRooted p b room root y → size y < 2 ^ 32 → widest p.rows < 2 ^ 32 → length b < 2 ^ 31 → demands_reads (demands_of (wants_of p) p.checks b p.rows root.object y) ≤ 2 ^ 96
-  pass_few y h s w l =
-      let few = few_demands (size y) (widest p.rows) (length b) (demands_reads (demands_in y (wants_of p) p.checks b p.rows [])) s w l (tree_few (wants_of p) p.checks b p.rows y [] root.object root.at h.unfolds) in
-      first_few ((wants_of p).asks root.object) (record { links = []; object = root.object; field = None; at = length b; reads = 0; chain = where_asked (p.plan).demands.unions (length_failure b) }) (demands_in y (wants_of p) p.checks b p.rows []) (2 ^ 96) refl few
+  pub pass_few : (y : Tree) → IsRooted p b room root y → size y < 2 ^ 32 → IsServed p.rows → length b < 2 ^ 31 → demands_reads (demands_of (wants_of p) p.checks b p.rows root.object y) ≤ 2 ^ 112
+  pass_few y h s served l =
+      let few = few_demands (size y) (length b) (demands_reads (demands_in y (wants_of p) p.checks b p.rows [])) s l (tree_few (wants_of p) p.checks b p.rows 32766 served.few y [] root.object root.at h.unfolds) in
+      let d : Demand = record { links = []; object = root.object; field = None; at = length b; reads = 0; chain = where_asked (p.plan).demands.unions (length_failure b) } in
+      first_few ((wants_of p).asks root.object) d (demands_in y (wants_of p) p.checks b p.rows []) (2 ^ 112) refl few
 
   -- the root of a buffer that is well formed
   module _ (q : Question) (bytes : List ℕ) (checks : p.checks ≡ q.checks) (same : b ≡ bytes) (rows : p.rows ≡ q.rows) (object : root.object ≡ q.root) (at : root.at ≡ target bytes (base q.start)) where

@@ -1,6 +1,6 @@
 -- Examples of what is demanded: bytes that meet it or don't, most of them beside those around.
 use Rattle.std.specs.Prelude.{◌≡◌, ℕ, Bool, true, false, List, [], ◌∷◌, ◌++◌, Option, Some, None}
-use Rattle.fb_rules.specs.declared.fault.Reason.TheVariants.{OutOfBuffer, Misaligned, ZeroOffset, MissingRequired, LengthsDiffer, TooManyReads}
+use Rattle.fb_rules.specs.declared.fault.Reason.TheVariants.{OutOfBuffer, Misaligned, ZeroOffset, MissingRequired, LengthsDiffer, NotUtf8, TooManyReads}
 use Rattle.fb_rules.specs.declared.{fault.Fault.Fault, link.Link.Link}
 use Rattle.fb_rules.specs.Tree.{Tree, node, no_kids, kid, no_elements, element, leaf, table as table_below}
 use Rattle.fb_schema.specs.{Rows.Rows, Live.live_fields}
@@ -9,7 +9,7 @@ use Rattle.fb_rules.specs.Order.{Failure}
 use Rattle.fb_strict.specs.declared.{demands.Demands.Demands, tasks.Ask.Ask, tasks.Task.Task}
 use Rattle.fb_strict.specs.declared.tasks.Ask.TheVariants.{Union as AskUnion, Unions as AskUnions, Table as GoInto, Tables as GoIntoEach}
 use Rattle.fb_strict.specs.{Skipped.Wants, Skipped.reaches_demand, Planned.tasks_in, Asked.demands_of, Asked.first_fault, Asked.first_links}
-use Rattle.fb_strict.specs.InOrder.{length_failure, inside_failure, union_failure, together_failure, element_failure}
+use Rattle.fb_strict.specs.InOrder.{length_failure, text_failure, inside_failure, union_failure, together_failure, element_failure}
 
 -- the union of a table at 4, whose type and value stand at these places of such bytes: 1 is its member, 9 is none
 abbrev pub union_in : List ℕ → (types place : Option ℕ) → Option Failure
@@ -29,6 +29,13 @@ pub record WordRows : Type 0 where
   pub to_itself : inside_failure published_checks (0 ∷ 0 ∷ 0 ∷ 0 ∷ 7 ∷ []) 0 ≡ found ZeroOffset 0 1
   pub misaligned : inside_failure published_checks (7 ∷ 1 ∷ 0 ∷ 0 ∷ 0 ∷ []) 1 ≡ found Misaligned 1 0
   pub not_whole : inside_failure published_checks (1 ∷ 0 ∷ 0 ∷ []) 0 ≡ found OutOfBuffer 0 0
+
+-- texts at 0: of three bytes, and of one
+pub record TextRows : Type 0 where
+  pub of_two_characters : text_failure (3 ∷ 0 ∷ 0 ∷ 0 ∷ 97 ∷ 195 ∷ 169 ∷ 0 ∷ []) 0 ≡ None
+  pub wrong_at_the_second : text_failure (3 ∷ 0 ∷ 0 ∷ 0 ∷ 97 ∷ 195 ∷ 40 ∷ 0 ∷ []) 0 ≡ found NotUtf8 5 0
+  pub cut_off : text_failure (2 ∷ 0 ∷ 0 ∷ 0 ∷ 97 ∷ 195 ∷ 169 ∷ 0 ∷ []) 0 ≡ found NotUtf8 5 0
+  pub empty : text_failure (0 ∷ 0 ∷ 0 ∷ 0 ∷ 255 ∷ []) 0 ≡ None
 
 pub record UnionRows : Type 0 where
   pub neither : union_in [] None None ≡ None

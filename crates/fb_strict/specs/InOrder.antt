@@ -4,10 +4,11 @@ use Rattle.fb_bytes.specs.Word.{word}
 use Rattle.fb_schema.specs.declared.kinds.Kind.{Kind}
 use Rattle.fb_schema.specs.{Rows.Rows, Members.member_of}
 use Rattle.fb_rules.specs.declared.checks.Checks.{Checks}
-use Rattle.fb_rules.specs.declared.fault.Reason.TheVariants.{OutOfBuffer, MissingRequired, LengthsDiffer}
+use Rattle.fb_rules.specs.declared.fault.Reason.TheVariants.{OutOfBuffer, MissingRequired, LengthsDiffer, NotUtf8}
 use Rattle.fb_rules.specs.{Places.fits, Places.target, Cost.slot_reads, Cost.reads_if_present, Fields.union_type, Fields.types_begin}
 use Rattle.fb_rules.specs.Order.{Failure, check, after, ◌▷◌, offset_failure}
-use Rattle.fb_strict.specs.Strict.{LeadsInside, IsStrictUnion, IsStrictElement, IsStrictUnions}
+use Rattle.std.specs.{Str.is_utf8, Str.Lossy.utf8_valid_len}
+use Rattle.fb_strict.specs.Strict.{text_at, IsUtf8At, LeadsInside, IsStrictUnion, IsStrictElement, IsStrictUnions}
 
 -- a chain, where it is asked
 abbrev pub where_asked : Bool → Option Failure → Option Failure
@@ -66,6 +67,14 @@ element_failure c b S e q p = after 1 (typed_failure c b S e (word b q 1) p)
 unfoldable pub element_reads : Bool → List ℕ → Rows → (e q : ℕ) → ℕ
 element_reads asked b S e q = 1 + (if asked then typed_reads S e (word b q 1) else 0)
 
+-- the text at s, told at its first byte that can't go on
+abbrev pub text_failure : List ℕ → ℕ → Option Failure
+text_failure b s = check (is_utf8 (text_at b s)) NotUtf8 (s + 4 + utf8_valid_len (text_at b s)) 0 None
+
+-- its offset word, its length, and each of its bytes
+abbrev pub text_reads : List ℕ → ℕ → ℕ
+text_reads b s = 2 + word b s 4
+
 -- the reads of where a union or a vector of them stands in the table at t, and of where its types do
 abbrev pub places_reads : List ℕ → (t slot : ℕ) → ℕ
 places_reads b t slot = slot_reads b t slot + slot_reads b t (slot - 2)
@@ -83,6 +92,9 @@ UnionLaw = (c : Checks) (b : List ℕ) (S : Rows) (e t : ℕ) (types place : Opt
 
 abbrev pub ElementLaw : Type 0
 ElementLaw = (c : Checks) (b : List ℕ) (S : Rows) (e q p : ℕ) → (element_failure c b S e q p ≡ None) ↔ IsStrictElement c b S e (word b q 1) p
+
+abbrev pub TextLaw : Type 0
+TextLaw = (b : List ℕ) (s : ℕ) → (text_failure b s ≡ None) ↔ IsUtf8At b s
 
 -- of a vector of unions: that it is there with its types, and of each of its offset words
 abbrev pub UnionsAreTold : Checks → List ℕ → Rows → ℕ → (types place : Option ℕ) → Type 0

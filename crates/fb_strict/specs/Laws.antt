@@ -3,7 +3,7 @@ use Rattle.std.specs.Prelude.{◌≡◌, ℕ, ◌≤◌, true, List, length, Res
 use Rattle.fb_rules.specs.declared.{fault.Fault.Fault, fault.Report.Report}
 use Rattle.fb_rules.specs.{Question.Question, Places.target, Tree.Tree, Unfolds.Unfolds, WellFormed.base, Verdict.Reports}
 use Rattle.fb_strict.specs.declared.demands.Demands.{Demands}
-use Rattle.fb_strict.specs.{Planned.Planned, Planned.IsPlan, MostReads.most_reads_strictly, Readers.ValuesLeadInside, Readers.ElementsLeadInside}
+use Rattle.fb_strict.specs.{Planned.Planned, Planned.IsPlan, MostReads.most_reads_strictly, Readers.ValuesLeadInside, Readers.ElementsLeadInside, Readers.TextsAreUtf8}
 use Rattle.fb_strict.specs.Strictly.{ReportsStrictly, StopsStrictly}
 
 -- the walk alone reports as many tables, as deep, and no more reads
@@ -24,6 +24,11 @@ UnionsLeadInside =
     (p : Planned) (q : Question) (b : List ℕ) (r : Report) (y : Tree) → p.demands.unions ≡ true → ReportsStrictly p q b r → Unfolds y q.checks b q.rows q.root (target b (base q.start))
     → ValuesLeadInside y b q.rows × ElementsLeadInside y b q.rows
 
+-- where texts are asked, each text of that tree is UTF-8
+abbrev pub AllTextsAreUtf8 : Type 0
+AllTextsAreUtf8 =
+    (p : Planned) (q : Question) (b : List ℕ) (r : Report) (y : Tree) → p.demands.utf8 ≡ true → ReportsStrictly p q b r → Unfolds y q.checks b q.rows q.root (target b (base q.start)) → TextsAreUtf8 y b q.rows
+
 -- an answer applies: a report that counts a strict tree, or the fault that is the first
 abbrev pub AppliesStrictly : Planned → Question → List ℕ → Result Report Fault → Type 0
 AppliesStrictly p q b (Ok r) = ReportsStrictly p q b r
@@ -37,6 +42,6 @@ HasOneStrictVerdict = (D : Demands) (p : Planned) (q : Question) (b : List ℕ) 
 abbrev pub StrictCostIsBounded : Type 0
 StrictCostIsBounded = (p : Planned) (q : Question) (b : List ℕ) (r : Report) → ReportsStrictly p q b r → r.reads ≤ most_reads_strictly q.rows q.limits (length b)
 
--- so does a fault: within a budget of reads it comes after at most 7 more than these
+-- so does a fault
 abbrev pub StrictReadsAreBounded : Type 0
 StrictReadsAreBounded = (p : Planned) (q : Question) (b : List ℕ) (f : Fault) → StopsStrictly p q b f → f.reads ≤ most_reads_strictly q.rows q.limits (length b)

@@ -1,25 +1,23 @@
 -- A pass over a buffer that unfolds: what is left to be asked, as the frames of the open tables hold it.
-use Rattle.std.specs.Prelude.{◌≡◌, ℕ, zero, suc, ◌+◌, ◌-◌, ◌*◌, ◌^◌, ◌<◌, ◌≤◌, nat_le, IsTrue, true, if◌then◌else◌, max, List, [], ◌∷◌, ◌++◌, length, map, take, drop, get_or, slice_get, Option, Some, None, Result, Ok, Err, IfOk}
+use Rattle.std.specs.Prelude.{◌≡◌, ◌⊎◌, ℕ, zero, suc, ◌+◌, ◌-◌, ◌*◌, ◌^◌, ◌<◌, ◌≤◌, nat_le, IsTrue, true, max, List, [], ◌∷◌, ◌++◌, length, map, take, drop, get_or, slice_get, Option, Some, None, Result, Ok, Err, IfOk}
 use Rattle.fb_bytes.specs.Word.{Lent, word}
-use Rattle.fb_schema.specs.declared.kinds.Kind.{Kind}
-use Rattle.fb_schema.specs.declared.kinds.Kind.TheVariants.{Table as TableKind}
-use Rattle.fb_schema.specs.{Rows.Rows, Rows.is_table, Rows.is_union, Live.Live, Live.live_fields, Members.member_of, Served.IsServed, Served.KindHolds}
+use Rattle.fb_schema.specs.{Rows.Rows, Rows.is_table, Rows.is_union, Live.Live, Live.live_fields, Served.IsServed, Served.KindHolds}
 use Rattle.fb_rules.specs.declared.{checks.Checks.Checks, fault.Fault.Fault, site.Site.Site, site.Stop.Stop, site.Halt.Halt, table.Table.Table, table.Child.Child}
 use Rattle.fb_rules.specs.declared.{site.LastLink.LastLink, site.LastLink.TheVariants.Behind, site.LastLink.TheVariants.InField, link.Link.Link}
-use Rattle.fb_rules.specs.declared.{offset_row.Row.Row, offset_row.Leads.Leads, offset_row.Leads.TheVariants.All, offset_row.Leads.TheVariants.ByType}
-use Rattle.fb_rules.specs.declared.offset_row.Referent.TheVariants.{Table as ATable, Nothing}
+use Rattle.fb_rules.specs.declared.{offset_row.Referent.Referent, offset_row.Row.Row, offset_row.Leads.Leads, offset_row.Leads.TheVariants.All, offset_row.Leads.TheVariants.ByType}
+use Rattle.fb_rules.specs.declared.offset_row.Referent.TheVariants.{Text as AText, Table as ATable, Nothing}
 use Rattle.fb_rules.specs.{Bounds.Bounds, Bounds.AreAllowed, Bounds.allowed, Places.target, Places.field_place, Fields.IsField, Fields.type_place, Fields.types_begin, Fields.union_type}
-use Rattle.fb_rules.specs.{Cost.slot_reads, Cost.reads_if_present, Order.Failure, Order.after, Told.IsHead, Told.IsAskedAt, Told.stopped, OffsetRows.words_of, OffsetRows.IsTyped, OffsetRows.TypeFits, OffsetRows.TypesFit}
+use Rattle.fb_rules.specs.{Cost.slot_reads, Cost.reads_if_present, Order.Failure, Order.after, Told.IsHead, Told.IsAskedAt, Told.told, Told.stopped, Stops.reads_failure, OffsetRows.words_of, OffsetRows.IsTyped, OffsetRows.TypeFits, OffsetRows.TypesFit}
 use Rattle.fb_rules.specs.Tree.{Tree, Kids, kids_depth, Elements, elements_depth, depth}
 use Rattle.fb_rules.specs.Unfolds.{FieldsUnfold, ElementsUnfold, Unfolds}
 use Rattle.fb_verify.specs.Stack.{own_link, last_link, links_left}
 use Rattle.fb_strict.specs.declared.{room.Frame.Frame, tasks.Ask.Ask, tasks.Task.Task, pass.Turn.Turn}
-use Rattle.fb_strict.specs.declared.tasks.Ask.TheVariants.{Union as AskUnion, Unions as AskUnions, Table as GoInto, Tables as GoIntoEach}
+use Rattle.fb_strict.specs.declared.tasks.Ask.TheVariants.{Text as AskText, Texts as AskTexts, Union as AskUnion, Unions as AskUnions, Table as GoInto, Tables as GoIntoEach}
 use Rattle.fb_strict.specs.declared.pass.Turn.TheVariants.{Here, Up, Down}
 use Rattle.fb_strict.specs.declared.demands.Demands.{Demands}
 use Rattle.fb_strict.specs.{Skipped.Wants, Planned.Planned, Planned.IsPlan, Planned.wants_in, Planned.task_of, Planned.tasks_in}
-use Rattle.fb_strict.specs.InOrder.{where_asked, places_reads, union_failure, union_reads, together_failure, element_failure, element_reads, member_at}
-use Rattle.fb_strict.specs.Asked.{Demand, Types, vectors_reads, demands_in_fields, demands_in_row, demands_in, demands_reads, first_fault, first_links}
+use Rattle.fb_strict.specs.InOrder.{where_asked, places_reads, union_failure, union_reads, together_failure, element_failure, element_reads, member_at, text_failure, text_reads}
+use Rattle.fb_strict.specs.Asked.{Demand, asked_referent, first_referent, vectors_reads, demands_in_fields, demands_in_row, demands_in, demands_reads, first_fault, first_links}
 
 -- what a pass carries: its plan, the rows, its limits and checks
 pub record Passing : Type 0 where
@@ -54,6 +52,8 @@ opened table = record { table = table; next = blank.next; number = blank.number;
 
 -- the chain of its tests
 abbrev pub task_failure : Demands → Checks → List ℕ → Rows → (t slot : ℕ) → (types place : Option ℕ) → Ask → Option Failure
+task_failure D c b S t slot types place AskText = None
+task_failure D c b S t slot types place AskTexts = None
 task_failure D c b S t slot types place (GoInto k) = None
 task_failure D c b S t slot types place (AskUnion e) = after (places_reads b t slot) (where_asked D.unions (union_failure c b S e t types place))
 task_failure D c b S t slot types place (GoIntoEach k) = None
@@ -61,26 +61,25 @@ task_failure D c b S t slot types place (AskUnions e) = after (places_reads b t 
 
 -- the reads where this finds nothing
 abbrev pub task_reads : Demands → List ℕ → Rows → (t slot : ℕ) → (types place : Option ℕ) → Ask → ℕ
+task_reads D b S t slot types place AskText = slot_reads b t slot
+task_reads D b S t slot types place AskTexts = slot_reads b t slot + reads_if_present 2 place
 task_reads D b S t slot types place (GoInto k) = slot_reads b t slot
 task_reads D b S t slot types place (AskUnion e) = places_reads b t slot + union_reads D.unions b S e types place
 task_reads D b S t slot types place (GoIntoEach k) = slot_reads b t slot + reads_if_present 2 place
 task_reads D b S t slot types place (AskUnions e) = places_reads b t slot + vectors_reads types place
 
--- the object of the table that a member of a union is, if that is asked
-abbrev pub asked_object : Wants → Option Kind → Option ℕ
-asked_object w (Some (TableKind k)) = if w.asks k then Some k else None
-asked_object w _ = None
-
--- one offset word at p that leads to a table of this object, if there is one
-abbrev pub word_row : ℕ → Option ℕ → Row → Row
-word_row p None old = old
-word_row p (Some k) old = record { leads = All (ATable k); place = p; left = 1 }
+-- one offset word at p that leads to this, if it is anything
+abbrev pub word_row : ℕ → Referent → Row → Row
+word_row p Nothing old = old
+word_row p referent old = record { leads = All referent; place = p; left = 1 }
 
 -- the words that are left of the field then
 abbrev pub task_row : Wants → List ℕ → Rows → (types place : Option ℕ) → Ask → Row → Row
 task_row w b S types None ask old = old
+task_row w b S types (Some p) AskText old = record { leads = All AText; place = p; left = 1 }
+task_row w b S types (Some p) AskTexts old = record { leads = All AText; place = target b p + 4; left = word b (target b p) 4 }
 task_row w b S types (Some p) (GoInto k) old = record { leads = All (ATable k); place = p; left = 1 }
-task_row w b S types (Some p) (AskUnion e) old = word_row p (asked_object w (member_at b S e types (Some p))) old
+task_row w b S types (Some p) (AskUnion e) old = word_row p (asked_referent w (member_at b S e types (Some p))) old
 task_row w b S types (Some p) (GoIntoEach k) old = record { leads = All (ATable k); place = target b p + 4; left = word b (target b p) 4 }
 task_row w b S (Some q) (Some p) (AskUnions e) old = record { leads = ByType e (target b q + 4); place = target b p + 4; left = word b (target b p) 4 }
 task_row w b S None (Some p) (AskUnions e) old = old
@@ -92,27 +91,36 @@ pub record CountStands (b : List ℕ) (p : ℕ) : Type 0 where
 
 -- what a task relies on, whose field's value stands at this place
 abbrev pub IsTaskable : List ℕ → Rows → (t slot : ℕ) → Option ℕ → Ask → Type 0
+IsTaskable b S t slot place AskText = Unit {0}
+IsTaskable b S t slot place AskTexts = (p : ℕ) → place ≡ Some p → CountStands b p
 IsTaskable b S t slot place (GoInto k) = Unit {0}
 IsTaskable b S t slot place (AskUnion e) = IsTrue (is_union S e) × TypeFits b t slot
 IsTaskable b S t slot place (GoIntoEach k) = (p : ℕ) → place ≡ Some p → CountStands b p
 IsTaskable b S t slot place (AskUnions e) = TypesFit b t slot × ((p : ℕ) → place ≡ Some p → CountStands b p)
 
+-- a field with this task has one offset word, or a vector of them, and each leads to this
+abbrev pub IsOne : Ask → Referent → Type 0
+IsOne AskText referent = referent ≡ AText
+IsOne (GoInto k) referent = referent ≡ ATable k
+IsOne _ referent = ⊥
+
+abbrev pub IsEach : Ask → Referent → Type 0
+IsEach AskTexts referent = referent ≡ AText
+IsEach (GoIntoEach k) referent = referent ≡ ATable k
+IsEach _ referent = ⊥
+
 -- What is left of a frame.
 
--- a row of words is left of which each leads to a table that is asked, or has a type
+-- a row of words is left of which each leads to a text, or to a table that is asked, or has a type
 abbrev pub AreAskedWords : Passing → List ℕ → ℕ → Leads → Type 0
 AreAskedWords p b n (All (ATable k)) = ((wants_of p).asks k ≡ true) × IsTrue (is_table p.rows k)
+AreAskedWords p b n (All AText) = (wants_of p).demands.utf8 ≡ true
 AreAskedWords p b n (All _) = ⊥
 AreAskedWords p b n (ByType e q) = IsTrue (is_union p.rows e) × (q + n ≤ length b)
 
 pub record IsAskedRow (p : Passing) (b : List ℕ) (r : Row) : Type 0 where
   pub near : r.place + 4 * r.left < 2 ^ 35
   pub leads : 0 < r.left → AreAskedWords p b r.left r.leads
-
--- where the types of its words stand
-abbrev pub leads_types : Leads → Option Types
-leads_types (All referent) = None
-leads_types (ByType e q) = Some (record { union = e; at = q })
 
 -- a live field of the table at t, which holds: a union's types were checked before
 pub record IsKnown (c : Checks) (b : List ℕ) (S : Rows) (t : ℕ) (f : Live) : Type 0 where
@@ -130,6 +138,7 @@ AreKnown c b S t (f ∷ fs) = IsKnown c b S t f × AreKnown c b S t fs
 -- how many offset words a field with this task has, whose value stands at this place
 abbrev pub ask_words : List ℕ → Option ℕ → Ask → ℕ
 ask_words b None ask = 0
+ask_words b (Some p) AskTexts = word b (target b p) 4
 ask_words b (Some p) (GoIntoEach k) = word b (target b p) 4
 ask_words b (Some p) (AskUnions e) = word b (target b p) 4
 ask_words b (Some p) _ = 1
@@ -139,6 +148,7 @@ task_words b t task = ask_words b (field_place b t task.slot) task.ask
 
 -- the number of an element with j others before it, where the field with this task is a vector
 abbrev pub ask_element : ℕ → Ask → Option ℕ
+ask_element j AskTexts = Some j
 ask_element j (GoIntoEach k) = Some j
 ask_element j (AskUnions e) = Some j
 ask_element j _ = None
@@ -211,7 +221,7 @@ pub record IsLeft (p : Passing) (b : List ℕ) (room : ℕ) (via : List Link) (f
   pub way : ℕ → List Link
   pub passed : ℕ
   pub linked : 0 < (fr.row).left → IsOnWay (wants_of p) p.checks b p.rows via fr way passed
-  pub all : ds ≡ demands_in_row words (wants_of p) p.checks b p.rows way (fr.table).object fr.number passed (fr.row).place (leads_types (fr.row).leads)
+  pub all : ds ≡ demands_in_row words (wants_of p) p.checks b p.rows way (fr.table).object fr.number passed (fr.row).place (fr.row).leads
       ++ demands_in_fields kids (wants_of p) p.checks b p.rows via (fr.table).object (fr.table).at fields
 
 -- the first so many of these frames stand for these demands, the last of them first, and each but that has its link
@@ -255,17 +265,28 @@ pub record TaskPassed {A : Type 0} (p : Passing) (m new : Lent) (t : ℕ) (site 
   pub asked : IsAskedAt site p.limits m new (task_failure (p.plan).demands p.checks m.bytes p.rows t slot (type_place m.bytes t slot) (field_place m.bytes t slot) ask) (task_reads (p.plan).demands m.bytes p.rows t slot (type_place m.bytes t slot) (field_place m.bytes t slot) ask) t result
   pub row : IfOk result (λ _. past ≡ task_row (wants_of p) m.bytes p.rows (type_place m.bytes t slot) (field_place m.bytes t slot) ask old)
 
--- the object of the table to which the first word of a row leads, if that is asked
-abbrev pub first_object : Passing → List ℕ → Leads → Option ℕ
-first_object p b (All (ATable k)) = Some k
-first_object p b (All _) = None
-first_object p b (ByType e q) = asked_object (wants_of p) (member_of p.rows e (word b q 1))
-
--- that word was asked, where its type tells what it leads to; or the pass stops
-abbrev pub FirstPassed : (p : Passing) → (m new : Lent) → Site → (place : ℕ) → Leads → Result (Option ℕ) Stop → Type 0
-FirstPassed p m new site place (All referent) result = (result ≡ Ok (first_object p m.bytes (All referent))) × (new ≡ m)
+-- the first word of a row was asked, where its type tells what it leads to, and this tells what that is; or the pass
+-- stops
+abbrev pub FirstPassed : (p : Passing) → (m new : Lent) → Site → (place : ℕ) → Leads → Result Referent Stop → Type 0
+FirstPassed p m new site place (All referent) result = (result ≡ Ok referent) × (new ≡ m)
 FirstPassed p m new site place (ByType e q) result =
-    IsAskedAt site p.limits m new (where_asked (p.plan).demands.unions (element_failure p.checks m.bytes p.rows e q place)) (element_reads (p.plan).demands.unions m.bytes p.rows e q) place result × IfOk result (λ o. o ≡ first_object p m.bytes (ByType e q))
+    IsAskedAt site p.limits m new (where_asked (p.plan).demands.unions (element_failure p.checks m.bytes p.rows e q place)) (element_reads (p.plan).demands.unions m.bytes p.rows e q) place result
+    × IfOk result (λ r. r ≡ first_referent (wants_of p) m.bytes p.rows (ByType e q))
+
+-- the offset word at p leads to a text that lies in the buffer
+pub record TextStands (b : List ℕ) (p : ℕ) : Type 0 where
+  pub offset : p + 4 ≤ length b
+  pub count : target b p + 4 ≤ length b
+  pub within : target b p + 4 + word b (target b p) 4 ≤ length b
+
+-- the text to which the offset word at this place leads was asked: its reads are within the limits, and then it is
+-- UTF-8; or the pass stops
+abbrev pub TextPassed : (p : Passing) → (m new : Lent) → Site → (place : ℕ) → Result (Unit {0}) Stop → Type 0
+TextPassed p m new site place (Ok a) =
+    (new ≡ record m { count = m.count + text_reads m.bytes (target m.bytes place) }) × AreAllowed (p.limits).reads new.count × (text_failure m.bytes (target m.bytes place) ≡ None)
+TextPassed p m new site place (Err s) =
+    (told site m.count (reads_failure p.limits m.count (text_reads m.bytes (target m.bytes place)) place) ≡ Some (stopped s new.count))
+    ⊎ ((new ≡ record m { count = m.count + text_reads m.bytes (target m.bytes place) }) × AreAllowed (p.limits).reads new.count × (told site new.count (text_failure m.bytes (target m.bytes place)) ≡ Some (stopped s new.count)))
 
 -- One step in the top table, from a frame to another, after which the pass goes on there, in the table above or in one
 -- below; or it stops.
@@ -328,11 +349,11 @@ pub record IsStanding (p : Passing) (m : Lent) (frames : List Frame) (many : ℕ
   pub within : many ≤ length frames
   pub small : length frames ≤ 4096
   pub allowed : AreAllowed (p.limits).reads m.count
-  pub few : m.count + demands_reads left ≤ 2 ^ 96
+  pub few : m.count + demands_reads left ≤ 2 ^ 112
 
 -- the turns that are left to it at most
 abbrev pub work_left : Passing → ℕ → List Frame → ℕ → ℕ
-work_left p count frames many = frames_work p frames many + 2 ^ 49 * (2 ^ 96 - count)
+work_left p count frames many = frames_work p frames many + 2 ^ 49 * (2 ^ 112 - count)
 
 -- a pass went on over frames of which so many were open, so that less work is left to it
 pub record WentBy (p : Passing) (m new : Lent) (ds : List Demand) (old : List Frame) (before : ℕ) (frames : List Frame) (many : ℕ) : Type 0 where

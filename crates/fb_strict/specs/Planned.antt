@@ -1,10 +1,10 @@
 -- The plan of a pass: which objects are asked, and of each what is asked of its fields.
 use Rattle.std.specs.Prelude.{◌≡◌, ◌↔◌, ◌<◌, ℕ, Bool, true, false, if◌then◌else◌, List, length, slice_get, slice_index_or, filter_map, Option, Some, None, option_map}
 use Rattle.fb_schema.specs.declared.kinds.Kind.{Kind}
-use Rattle.fb_schema.specs.declared.kinds.Kind.TheVariants.{Table, Union, Tables, Unions}
+use Rattle.fb_schema.specs.declared.kinds.Kind.TheVariants.{Text, Table, Union, Texts, Tables, Unions}
 use Rattle.fb_schema.specs.{Rows.Rows, Live.Live, Live.live_fields}
 use Rattle.fb_strict.specs.declared.{tasks.Ask.Ask, tasks.Task.Task}
-use Rattle.fb_strict.specs.declared.tasks.Ask.TheVariants.{Union as AskUnion, Unions as AskUnions, Table as GoInto, Tables as GoIntoEach}
+use Rattle.fb_strict.specs.declared.tasks.Ask.TheVariants.{Text as AskText, Texts as AskTexts, Union as AskUnion, Unions as AskUnions, Table as GoInto, Tables as GoIntoEach}
 use Rattle.fb_strict.specs.declared.demands.Demands.{Demands}
 use Rattle.fb_strict.specs.Skipped.{Wants, is_kind_asked, ReachesDemand}
 
@@ -18,8 +18,10 @@ marked_wants D marks = record { demands = D; asks = marked marks }
 
 -- what is asked of a field of this kind, if anything is
 abbrev pub ask_by : Kind → Option Ask
+ask_by Text = Some AskText
 ask_by (Table k) = Some (GoInto k)
 ask_by (Union e) = Some (AskUnion e)
+ask_by Texts = Some AskTexts
 ask_by (Tables k) = Some (GoIntoEach k)
 ask_by (Unions e) = Some (AskUnions e)
 ask_by _ = None

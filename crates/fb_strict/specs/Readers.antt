@@ -4,10 +4,10 @@ use Rattle.fb_bytes.specs.Word.{word}
 use Rattle.fb_schema.specs.declared.kinds.Kind.TheVariants.{Union, Unions}
 use Rattle.fb_schema.specs.{Rows.Rows, Live.Live, Live.live_fields, Members.member_of}
 use Rattle.fb_rules.specs.declared.checks.Checks.{Checks}
-use Rattle.fb_rules.specs.{Places.target, Places.field_place, Fields.type_place, Fields.types_begin, Fields.union_type}
+use Rattle.fb_rules.specs.{Places.target, Places.field_place, Fields.type_place, Fields.types_begin, Fields.union_type, Fields.entries}
 use Rattle.fb_rules.specs.Tree.{Tree, node, Kids, no_kids, kid, Elements, no_elements, element, Element, leaf, table}
 use Rattle.fb_strict.specs.declared.demands.Demands.{Demands}
-use Rattle.fb_strict.specs.Strict.{IsStrict, IsStrictTable}
+use Rattle.fb_strict.specs.Strict.{IsStrict, IsStrictTable, AreUtf8}
 
 -- the tree has a visit of a table of the object k at t
 unfoldable mutual
@@ -49,7 +49,15 @@ ElementsLeadInside y b S =
     → j < word b (target b p) 4 → word b (types_begin b (type_place b t f.slot) + j) 1 ≢ 0 → member_of S e (word b (types_begin b (type_place b t f.slot) + j) 1) ≡ None
     → MayFollow b (target b p + 4 + 4 * j)
 
--- both hold of a strict tree, where unions are asked
+-- each text is UTF-8 to which an offset word of a table of this tree leads
+abbrev pub TextsAreUtf8 : Tree → List ℕ → Rows → Type 0
+TextsAreUtf8 y b S = (k t i : ℕ) (f : Live) → HasNode y k t → slice_get (live_fields S k) i ≡ Some f → AreUtf8 b (entries b S t f)
+
+-- it holds of a strict tree, where texts are asked
+abbrev pub TextsLaw : Type 0
+TextsLaw = (y : Tree) (D : Demands) (c : Checks) (b : List ℕ) (S : Rows) → D.utf8 ≡ true → IsStrict y D c b S → TextsAreUtf8 y b S
+
+-- both others do, where unions are asked
 
 abbrev pub ValuesLaw : Type 0
 ValuesLaw = (y : Tree) (D : Demands) (c : Checks) (b : List ℕ) (S : Rows) → D.unions ≡ true → IsStrict y D c b S → ValuesLeadInside y b S

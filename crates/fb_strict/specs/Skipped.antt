@@ -2,7 +2,7 @@
 use Rattle.std.specs.Prelude.{◌≡◌, ℕ, zero, suc, ◌||◌, Bool, true, false, List, Option, Some}
 use Rattle.std.specs.List.{list_any}
 use Rattle.fb_schema.specs.declared.kinds.Kind.{Kind}
-use Rattle.fb_schema.specs.declared.kinds.Kind.TheVariants.{Table, Union, Tables, Unions}
+use Rattle.fb_schema.specs.declared.kinds.Kind.TheVariants.{Text, Table, Union, Texts, Tables, Unions}
 use Rattle.fb_schema.specs.{Rows.Rows, Live.Live, Live.live_fields, Members.member_of}
 use Rattle.fb_rules.specs.declared.checks.Checks.{Checks}
 use Rattle.fb_rules.specs.{Tree.Tree, Unfolds.Unfolds}
@@ -17,6 +17,7 @@ pub record Wants : Type 0 where
 -- whether what a member of this kind is, is asked
 abbrev pub is_member_asked : Wants → Option Kind → Bool
 is_member_asked w (Some (Table k)) = w.asks k
+is_member_asked w (Some Text) = w.demands.utf8
 is_member_asked w _ = false
 
 -- whether one of the members of a union is whose values are below n
@@ -26,8 +27,10 @@ some_member w S e (suc n) = is_member_asked w (member_of S e n) || some_member w
 
 -- whether a field of this kind is asked, or leads to what is
 abbrev pub is_kind_asked : Wants → Rows → Kind → Bool
+is_kind_asked w S Text = w.demands.utf8
 is_kind_asked w S (Table k) = w.asks k
 is_kind_asked w S (Union e) = w.demands.unions || some_member w S e 256
+is_kind_asked w S Texts = w.demands.utf8
 is_kind_asked w S (Tables k) = w.asks k
 is_kind_asked w S (Unions e) = w.demands.unions || some_member w S e 256
 is_kind_asked w S _ = false

@@ -1,11 +1,11 @@
 -- What is demanded of a buffer beside the rules of the format: what the accessors of generated code follow leads inside.
-use Rattle.std.specs.Prelude.{◌≡◌, ◌≢◌, ◌↔◌, ℕ, ◌+◌, ◌*◌, ◌<◌, ◌≤◌, true, List, length, slice_get, Option, Some, None}
+use Rattle.std.specs.Prelude.{◌≡◌, ◌≢◌, ◌↔◌, ℕ, ◌+◌, ◌*◌, ◌<◌, ◌≤◌, true, IsUtf8, List, length, take, drop, slice_get, Option, Some, None}
 use Rattle.fb_bytes.specs.Word.{word}
 use Rattle.fb_schema.specs.declared.kinds.Kind.{Kind, TheVariants.Union, TheVariants.Unions}
 use Rattle.fb_schema.specs.{Rows.Rows, Live.Live, Live.live_fields, Members.member_of}
 use Rattle.fb_rules.specs.declared.checks.Checks.{Checks}
 use Rattle.fb_rules.specs.{Places.target, Places.field_place, Facts.IsOffset}
-use Rattle.fb_rules.specs.Fields.{type_place, types_begin, union_type}
+use Rattle.fb_rules.specs.Fields.{type_place, types_begin, union_type, Entry, entries, to_string}
 use Rattle.fb_strict.specs.declared.demands.Demands.{Demands}
 use Rattle.fb_rules.specs.Tree.{Tree, node, Kids, no_kids, kid, Elements, no_elements, element, Element, leaf, table}
 
@@ -35,9 +35,21 @@ HasStrictUnions c b S types place (Union e) = IsStrictUnion c b S e types place
 HasStrictUnions c b S types place (Unions e) = IsStrictUnions c b S e types place
 HasStrictUnions c b S types place _ = Unit {0}
 
+-- the bytes of the text at s, and that they are UTF-8
+abbrev pub text_at : List ℕ → ℕ → List ℕ
+text_at b s = take (word b s 4) (drop (s + 4) b)
+
+abbrev pub IsUtf8At : List ℕ → ℕ → Type 0
+IsUtf8At b s = IsUtf8 (text_at b s)
+
+-- each of these offset words that leads to a text leads to one that is UTF-8
+abbrev pub AreUtf8 : List ℕ → List Entry → Type 0
+AreUtf8 b xs = (i : ℕ) (x : Entry) → slice_get xs i ≡ Some x → x.lead ≡ to_string → IsUtf8At b (target b x.place)
+
 -- what is demanded of the field f of the table at t
 pub record IsStrictField (D : Demands) (c : Checks) (b : List ℕ) (S : Rows) (t : ℕ) (f : Live) : Type 0 where
   pub unions : D.unions ≡ true → HasStrictUnions c b S (type_place b t f.slot) (field_place b t f.slot) f.kind
+  pub texts : D.utf8 ≡ true → AreUtf8 b (entries b S t f)
 
 -- what is demanded of the table at t, of the object k: of each of its live fields
 pub record IsStrictTable (D : Demands) (c : Checks) (b : List ℕ) (S : Rows) (k t : ℕ) : Type 0 where

@@ -10,6 +10,6 @@ pub struct Demands {
     pub nested: bool,
     /// Each slot of a vtable that isn't 0 is one of a live field. Nothing is asked by this yet.
     pub known_fields: bool,
-    /// Each string is UTF-8. Nothing is asked by this yet.
+    /// Each text is UTF-8.
     pub utf8: bool,
 }

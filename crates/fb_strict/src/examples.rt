@@ -1,6 +1,6 @@
 //! Examples of what is demanded, each a clause of a function that does nothing.
 
-ghost use Rattle.fb_strict.specs.Examples.{FaultRows, LengthRows, LinkRows, PlanRows, UnionRows, UnionsRows, WordRows};
+ghost use Rattle.fb_strict.specs.Examples.{FaultRows, LengthRows, LinkRows, PlanRows, TextRows, UnionRows, UnionsRows, WordRows};
 
 /// Lengths, words that lead to what nobody knows, unions, and vectors of them.
 #[tactic(auto, unfolding(fb_rules::proofs::Shown::computing, crate::specs::InOrder::inside_failure, crate::specs::InOrder::element_failure))]
@@ -9,6 +9,12 @@ pub fn rows()
     ensures words { WordRows }
     ensures single { UnionRows }
     ensures in_vectors { UnionsRows }
+{}
+
+/// Texts that are UTF-8, and texts that aren't.
+#[tactic(auto, unfolding(fb_rules::proofs::Shown::computing))]
+pub fn texts()
+    ensures { TextRows }
 {}
 
 /// The tasks of tables with unions, of one that leads to such a table, and of those from which none is reached.

@@ -1,18 +1,19 @@
 //! Laws of the definitions: each is the contract of a function that does nothing.
 
 ghost use Rattle.fb_strict.specs.Asked.{DemandsLaw, FirstLaw, TasksLaw};
-ghost use Rattle.fb_strict.specs.Laws.{HasOneStrictVerdict, StrictCostIsBounded, StrictIsOk, StrictReadsAreBounded, UnionsLeadInside};
-ghost use Rattle.fb_strict.specs.InOrder.{ElementLaw, InsideLaw, LengthLaw, UnionLaw, UnionsLaw};
+ghost use Rattle.fb_strict.specs.Laws.{AllTextsAreUtf8, HasOneStrictVerdict, StrictCostIsBounded, StrictIsOk, StrictReadsAreBounded, UnionsLeadInside};
+ghost use Rattle.fb_strict.specs.InOrder.{ElementLaw, InsideLaw, LengthLaw, TextLaw, UnionLaw, UnionsLaw};
 ghost use Rattle.fb_strict.specs.Readers.{ElementsLaw, TablesLaw, ValuesLaw};
 ghost use Rattle.fb_strict.specs.{Skipped.SkipLaw, Planned.OnePlanLaw};
 
 /// A chain of tests finds nothing exactly where what is demanded holds.
-#[tactic(auto, using(crate::proofs::Chains::inside_none, crate::proofs::Chains::union_none, crate::proofs::Chains::element_none))]
+#[tactic(auto, using(crate::proofs::Chains::inside_none, crate::proofs::Chains::union_none, crate::proofs::Chains::element_none, crate::proofs::Chains::text_none))]
 pub fn chains_tell()
     ensures of_lengths { LengthLaw }
     ensures of_words { InsideLaw }
     ensures of_unions { UnionLaw }
     ensures of_elements { ElementLaw }
+    ensures of_texts { TextLaw }
 {}
 
 /// A vector of unions meets what is demanded exactly where the chains of it and of its offset words find nothing.
@@ -64,6 +65,11 @@ pub fn strict_is_ok()
 /// In a buffer that is reported strictly where unions are asked, such values and offset words lead inside, wherever a table of its tree stands.
 pub fn unions_lead_inside()
     ensures { UnionsLeadInside }
+{}
+
+/// In a buffer that is reported strictly where texts are asked, each text of its tree is UTF-8.
+pub fn texts_are_utf8()
+    ensures { AllTextsAreUtf8 }
 {}
 
 /// At most one answer of `verify_strictly` applies to a question: one report, or one fault, and never one of each.

@@ -1,5 +1,5 @@
-//! What code that `flatc` generates asks of unions beside the rules of the format: what it means, a test for each part,
-//! and the plan of which tables are asked.
+//! What is demanded beside the rules of the format, as of unions by code that `flatc` generates, or of texts: what it
+//! means, a test for each part, and the plan of which tables are asked.
 #![tactic(auto)]
 
 mod demands;
@@ -15,6 +15,7 @@ mod plan;
 mod room;
 mod strictly;
 mod tasks;
+mod texts;
 pub mod unions;
 
 pub use demands::Demands;

@@ -40,7 +40,7 @@ fn words_at(window: &Window<'_>, place: u64, ask: Ask) -> u32
     ensures { result ≡ ask_words window.now (Some place) ask }
 {
     match ask {
-        Ask::Tables(_) | Ask::Unions(_) => {
+        Ask::Texts | Ask::Tables(_) | Ask::Unions(_) => {
             let at = place + u64::from(window.u32_at(place));
             window.u32_at(at)
         }
@@ -53,7 +53,7 @@ fn element_at(ask: Ask, before: u32) -> Option<u32>
     ensures { result ≡ ask_element before ask }
 {
     match ask {
-        Ask::Tables(_) | Ask::Unions(_) => Some(before),
+        Ask::Texts | Ask::Tables(_) | Ask::Unions(_) => Some(before),
         _ => None,
     }
 }

@@ -6,13 +6,15 @@ ghost use Rattle.fb_schema.specs.{Rows.is_union, Members.member_of};
 ghost use Rattle.fb_rules.specs.declared.link.Link.{Link};
 ghost use Rattle.fb_rules.specs.{Bounds.AreAllowed, Cost.head_reads, Facts.IsTable, Order.Failure, Places.target, Places.field_place, Places.vtable, Fields.type_place};
 ghost use Rattle.fb_rules.specs.{Plain.IsTested, Told.IsAskedAt, Told.IsHead, Told.IsVtable};
-ghost use Rattle.fb_strict.specs.declared.tasks.Ask.TheVariants.{Union as AskUnion, Unions as AskUnions, Table as GoInto, Tables as GoIntoEach};
-ghost use Rattle.fb_strict.specs.Asked.{Demand, demands_reads};
-ghost use Rattle.fb_strict.specs.Passing.{wants_of, IsPassing, IsRoom, opened, IsTaskable, CountStands, IsAskedRow, asked_object, TaskPassed, FirstPassed, IsLeft, IsNext, AreLeft, IsStanding, Stepped, Turned, WentOn, Ran};
+ghost use Rattle.fb_strict.specs.declared.tasks.Ask.{Ask};
+ghost use Rattle.fb_strict.specs.declared.tasks.Ask.TheVariants.{Union as AskUnion, Unions as AskUnions};
+ghost use Rattle.fb_strict.specs.Asked.{Demand, asked_referent, demands_reads};
+ghost use Rattle.fb_strict.specs.Passing.{wants_of, IsPassing, IsRoom, opened, IsTaskable, IsOne, IsEach, CountStands, IsAskedRow, word_row, TaskPassed, FirstPassed, TextStands, TextPassed, IsLeft, IsNext, AreLeft, IsStanding, Stepped, Turned, WentOn, Ran};
 
 use crate::plan::Plan;
 use crate::room::Frame;
 use crate::tasks::{Ask, Task};
+use crate::texts::{read_text, wrong_from};
 use crate::unions::{read_places, test_element, test_together, test_union};
 use fb_bytes::{Loan, Reads};
 use fb_rules::checks::Checks;
@@ -72,7 +74,7 @@ fn room_of(limits: Limits, base: u128) -> u64
 #[inline(always)]
 fn lend<'b>(loan: &mut Loan<'b>, limits: Limits) -> (Reads<'b>, u64)
     requires allowed { AreAllowed limits.reads loan.old.count }
-    requires few { loan.old.count ≤ 2 ^ 100 }
+    requires few { loan.old.count ≤ 2 ^ 120 }
     ensures lent { result.0 ≡ record loan.old { base = result.0.base } }
     ensures few { loan.old.count < result.0.base + 2 ^ 57 }
     ensures bare { loan.new ≡ record loan.old { bytes = [] } }
@@ -118,6 +120,17 @@ fn read_head(reads: &mut Reads<'_>, checks: Checks, at: u64) -> Head
         vtable,
         size,
         inline,
+    }
+}
+
+/// Puts the offset word at a place that leads to this, if it is anything that is asked.
+#[inline(always)]
+fn put_word(referent: Referent, at: u64, row: &mut Row)
+    ensures { row.new ≡ word_row at referent row.old }
+{
+    match referent {
+        Referent::Nothing => {}
+        _ => *row = Row::one(referent, at),
     }
 }
 
@@ -198,44 +211,45 @@ impl<'p, 's, 'n, A: Allocator> Pass<'p, 's, 'n, A> {
         Ok(())
     }
 
-    /// Passes a field that leads to one table of this object, and puts its offset word, if it is there.
+    /// Passes a field of which nothing is asked but what its offset word leads to, and puts that, if it is there.
     #[inline(always)]
-    fn pass_table(
+    fn pass_one(
         &self,
         reads: &mut Reads<'_>,
         room: u64,
         table: Table,
         site: Site,
         slot: u16,
-        object: u32,
+        referent: Referent,
         row: &mut Row,
     ) -> Result<(), Stop>
         requires room { IsRoom self.now.limits reads.old.base room }
         requires few { reads.old.count < reads.old.base + 2 ^ 58 }
         requires near { table.at < 2 ^ 33 }
         requires head { IsVtable reads.old.bytes table.at table.head }
-        ensures { TaskPassed self.now reads.old reads.new table.at site slot (GoInto object) row.old row.new result }
+        ensures { (ask : Ask) → IsOne ask referent → TaskPassed self.now reads.old reads.new table.at site slot ask row.old row.new result }
     {
         let at = slot_at(reads, table.at, table.head, slot);
         self.answer(reads, room, site, None, table.at, table.at)?;
         if at != table.at {
-            *row = Row::one(Referent::Table(object), at);
+            *row = Row::one(referent, at);
         }
         Ok(())
     }
 
-    /// The object of the table that a member of a union is, if that is asked.
+    /// What a member of a union refers to, if that is asked.
     #[inline(always)]
-    fn asked_object(&self, member: Option<Kind>) -> Option<u32>
-        ensures { result ≡ asked_object (wants_of self.now) member }
+    fn asked_referent(&self, member: Option<Kind>) -> Referent
+        ensures { result ≡ asked_referent (wants_of self.now) member }
     {
         match member {
-            Some(Kind::Table(object)) if self.plan.asks(object) => Some(object),
-            _ => None,
+            Some(Kind::Text) if self.plan.demands().utf8 => Referent::Text,
+            Some(Kind::Table(object)) if self.plan.asks(object) => Referent::Table(object),
+            _ => Referent::Nothing,
         }
     }
 
-    /// Passes a union with this number, and puts its offset word, if that leads to a table that is asked.
+    /// Passes a union with this number, and puts its offset word, if what that leads to is asked.
     #[inline(always)]
     fn pass_union(
         &self,
@@ -270,9 +284,7 @@ impl<'p, 's, 'n, A: Allocator> Pass<'p, 's, 'n, A> {
             &mut member,
         );
         self.answer(reads, room, site, failed, at, table.at)?;
-        if let Some(object) = self.asked_object(member) {
-            *row = Row::one(Referent::Table(object), at);
-        }
+        put_word(self.asked_referent(member), at, row);
         Ok(())
     }
 
@@ -293,31 +305,31 @@ impl<'p, 's, 'n, A: Allocator> Pass<'p, 's, 'n, A> {
         }
     }
 
-    /// Passes a field that leads to a vector of tables of this object, and puts its offset words.
+    /// Passes a field of which nothing is asked but what the offset words of its vector lead to, and puts these.
     #[inline(always)]
-    fn pass_tables(
+    fn pass_each(
         &self,
         reads: &mut Reads<'_>,
         room: u64,
         table: Table,
         site: Site,
         slot: u16,
-        object: u32,
+        referent: Referent,
         row: &mut Row,
     ) -> Result<(), Stop>
         requires room { IsRoom self.now.limits reads.old.base room }
         requires few { reads.old.count < reads.old.base + 2 ^ 58 }
         requires near { table.at < 2 ^ 33 }
         requires head { IsVtable reads.old.bytes table.at table.head }
-        requires taskable { IsTaskable reads.old.bytes self.now.rows table.at slot (field_place reads.old.bytes table.at slot) (GoIntoEach object) }
+        requires stands { (p : ℕ) → field_place reads.old.bytes table.at slot ≡ Some p → CountStands reads.old.bytes p }
         requires short { length reads.old.bytes < 2 ^ 31 }
-        ensures { TaskPassed self.now reads.old reads.new table.at site slot (GoIntoEach object) row.old row.new result }
+        ensures { (ask : Ask) → IsEach ask referent → TaskPassed self.now reads.old reads.new table.at site slot ask row.old row.new result }
     {
         let at = slot_at(reads, table.at, table.head, slot);
         if at == table.at {
             return self.answer(reads, room, site, None, table.at, table.at);
         }
-        let words = self.read_row(reads, Leads::All(Referent::Table(object)), at);
+        let words = self.read_row(reads, Leads::All(referent), at);
         self.answer(reads, room, site, None, table.at, table.at)?;
         *row = words;
         Ok(())
@@ -384,15 +396,23 @@ impl<'p, 's, 'n, A: Allocator> Pass<'p, 's, 'n, A> {
     {
         let slot = task.slot;
         match task.ask {
-            Ask::Table(object) => self.pass_table(reads, room, table, site, slot, object, row),
-            Ask::Tables(object) => self.pass_tables(reads, room, table, site, slot, object, row),
+            Ask::Text => self.pass_one(reads, room, table, site, slot, Referent::Text, row),
+            Ask::Texts => self.pass_each(reads, room, table, site, slot, Referent::Text, row),
+            Ask::Table(object) => {
+                let referent = Referent::Table(object);
+                self.pass_one(reads, room, table, site, slot, referent, row)
+            }
+            Ask::Tables(object) => {
+                let referent = Referent::Table(object);
+                self.pass_each(reads, room, table, site, slot, referent, row)
+            }
             Ask::Union(union) => self.pass_union(reads, room, table, site, slot, union, row),
             Ask::Unions(union) => self.pass_unions(reads, room, table, site, slot, union, row),
         }
     }
 
-    /// Asks the first offset word of a row, where its type tells what it leads to, and tells the object of the table
-    /// to which it leads, if that is asked.
+    /// Asks the first offset word of a row, where its type tells what it leads to, and tells what that is, if it is
+    /// asked.
     #[inline(always)]
     fn pass_first(
         &self,
@@ -400,7 +420,7 @@ impl<'p, 's, 'n, A: Allocator> Pass<'p, 's, 'n, A> {
         room: u64,
         site: Site,
         row: Row,
-    ) -> Result<Option<u32>, Stop>
+    ) -> Result<Referent, Stop>
         requires room { IsRoom self.now.limits reads.old.base room }
         requires few { reads.old.count < reads.old.base + 2 ^ 58 }
         requires more { 0 < row.left }
@@ -408,8 +428,7 @@ impl<'p, 's, 'n, A: Allocator> Pass<'p, 's, 'n, A> {
         ensures { FirstPassed self.now reads.old reads.new site row.place row.leads result }
     {
         match row.leads {
-            Leads::All(Referent::Table(object)) => Ok(Some(object)),
-            Leads::All(_) => Ok(None),
+            Leads::All(referent) => Ok(referent),
             Leads::ByType(union, types) => {
                 let asked = self.plan.demands().unions;
                 let mut at = row.place;
@@ -425,13 +444,43 @@ impl<'p, 's, 'n, A: Allocator> Pass<'p, 's, 'n, A> {
                     &mut member,
                 );
                 self.answer(reads, room, site, failed, at, row.place)?;
-                Ok(self.asked_object(member))
+                Ok(self.asked_referent(member))
             }
         }
     }
 
-    /// Passes the first offset word that is left of the top's field, where so many frames are open, and comes to the
-    /// table to which it leads, if that is asked.
+    /// Reads the text to which the offset word at a place leads, asks the budget, and then whether it is UTF-8.
+    #[inline(always)]
+    fn pass_text(
+        &self,
+        reads: &mut Reads<'_>,
+        room: u64,
+        site: Site,
+        place: u64,
+    ) -> Result<(), Stop>
+        requires room { IsRoom self.now.limits reads.old.base room }
+        requires few { reads.old.count < reads.old.base + 2 ^ 59 }
+        requires stands { TextStands reads.old.bytes place }
+        requires short { length reads.old.bytes < 2 ^ 31 }
+        ensures { TextPassed self.now reads.old reads.new site place result }
+    {
+        let at = place + u64::from(reads.u32_at(place));
+        let text = read_text(reads, at);
+        if let Err(stop) = self.answer(reads, room, site, None, place, place) {
+            return Err(stop);
+        }
+        let Some(front) = wrong_from(text) else {
+            return Ok(());
+        };
+        let refusal = Refusal {
+            at: at + 4 + front,
+            reason: Reason::NotUtf8,
+        };
+        Err(Stop { refusal, site })
+    }
+
+    /// Passes the first offset word that is left of the top's field, where so many frames are open, and what it leads
+    /// to, if that is asked: it comes to a table.
     #[inline(always)]
     fn pass_word(
         &self,
@@ -452,8 +501,13 @@ impl<'p, 's, 'n, A: Allocator> Pass<'p, 's, 'n, A> {
         let row = top.row;
         top.row.advance();
         let object = match self.pass_first(reads, room, site, row) {
-            Ok(Some(object)) => object,
-            Ok(None) => return Ok(Turn::Here),
+            Ok(Referent::Table(object)) => object,
+            Ok(Referent::Text) => match self.pass_text(reads, room, site, row.place) {
+                Ok(()) => return Ok(Turn::Here),
+                Err(stop) => return Err(stop.halt(many, LastLink::Behind)),
+            },
+            Ok(Referent::Nothing) => return Ok(Turn::Here),
+            Ok(Referent::Struct(_, _)) => return Ok(Turn::Here),
             Err(stop) => return Err(stop.halt(many, LastLink::Behind)),
         };
         match self.follow(reads, room, site, row.place) {
@@ -564,7 +618,7 @@ impl<'p, 's, 'n, A: Allocator> Pass<'p, 's, 'n, A> {
         requires passing { IsPassing self.now loan.old.bytes }
         requires allowed { AreAllowed self.now.limits.reads loan.old.count }
         requires small { length frames.old ≤ 4096 }
-        requires next { (ds : List Demand) × IsNext self.now loan.old.bytes (length frames.old) [] root ds × (loan.old.count + demands_reads ds ≤ 2 ^ 96) }
+        requires next { (ds : List Demand) × IsNext self.now loan.old.bytes (length frames.old) [] root ds × (loan.old.count + demands_reads ds ≤ 2 ^ 112) }
         ensures { (ds : List Demand) → IsNext self.now loan.old.bytes (length frames.old) [] root ds → Ran self.now loan.old loan.new ds frames.new result }
     {
         let (mut reads, room) = lend(loan, self.limits);

@@ -55,7 +55,7 @@ fn root_of(window: &Window<'_>, start: Start) -> u64
 
 /// Why a buffer is refused that is shorter than generated code takes, if it is and that is asked: at its end.
 fn refuse_short(asked: bool, loan: &mut Loan<'_>) -> Option<Refusal>
-    requires few { loan.old.count ≤ 2 ^ 100 }
+    requires few { loan.old.count ≤ 2 ^ 120 }
     ensures none { result ≡ None → where_asked asked (length_failure loan.old.bytes) ≡ None }
     ensures some { IfSome result (λ e. (e.at ≡ length loan.old.bytes) × (tested_by (length loan.old.bytes) loan.old.count (Some e.reason) ≡ after loan.old.count (where_asked asked (length_failure loan.old.bytes)))) }
     ensures same { loan.new ≡ loan.old }
@@ -94,7 +94,7 @@ fn ask_buffer<A: Allocator>(
     requires passing { IsPassing pass.now loan.old.bytes }
     requires allowed { AreAllowed pass.now.limits.reads loan.old.count }
     requires small { length frames.old ≤ 4096 }
-    requires tree { (y : Tree) × IsRooted pass.now loan.old.bytes (length frames.old) root y × (loan.old.count + demands_reads (demands_of (wants_of pass.now) pass.now.checks loan.old.bytes pass.now.rows root.object y) ≤ 2 ^ 96) }
+    requires tree { (y : Tree) × IsRooted pass.now loan.old.bytes (length frames.old) root y × (loan.old.count + demands_reads (demands_of (wants_of pass.now) pass.now.checks loan.old.bytes pass.now.rows root.object y) ≤ 2 ^ 112) }
     ensures { (y : Tree) → IsRooted pass.now loan.old.bytes (length frames.old) root y → Ran pass.now loan.old loan.new (demands_of (wants_of pass.now) pass.now.checks loan.old.bytes pass.now.rows root.object y) frames.new result }
 {
     if let Some(refusal) = refuse_short(pass.plan.demands().unions, loan) {
@@ -138,10 +138,10 @@ fn ask_bytes<A: Allocator>(
 ) -> Result<u128, Unmet>
     requires passing { IsPassing pass.now bytes.now }
     requires small { length frames.old ≤ 4096 }
-    requires tree { (y : Tree) × IsRooted pass.now bytes.now (length frames.old) root y × (demands_reads (demands_of (wants_of pass.now) pass.now.checks bytes.now pass.now.rows root.object y) ≤ 2 ^ 96) }
+    requires tree { (y : Tree) × IsRooted pass.now bytes.now (length frames.old) root y × (demands_reads (demands_of (wants_of pass.now) pass.now.checks bytes.now pass.now.rows root.object y) ≤ 2 ^ 112) }
     ensures asked { (y : Tree) → IsRooted pass.now bytes.now (length frames.old) root y → AskedAlone pass.now.plan pass.now.checks bytes.now pass.now.rows pass.now.limits (demands_of (wants_of pass.now) pass.now.checks bytes.now pass.now.rows root.object y) frames.new result }
-    ensures few_of_yes { IfOk result (λ n. n ≤ 2 ^ 101) }
-    ensures few_of_no { IfErr result (λ u. (u.fault).reads ≤ 2 ^ 101) }
+    ensures few_of_yes { IfOk result (λ n. n ≤ 2 ^ 121) }
+    ensures few_of_no { IfErr result (λ u. (u.fault).reads ≤ 2 ^ 121) }
 {
     let Ok(mut meter) = Meter::new(bytes) else {
         unreachable!()
@@ -157,9 +157,9 @@ fn ask_bytes<A: Allocator>(
 
 /// The same answer after so many reads more.
 fn count_on(walked: u128, answer: Result<u128, Unmet>) -> Result<u128, Unmet>
-    requires walked { walked ≤ 2 ^ 96 }
-    requires few_of_yes { IfOk answer (λ n. n ≤ 2 ^ 101) }
-    requires few_of_no { IfErr answer (λ u. (u.fault).reads ≤ 2 ^ 101) }
+    requires walked { walked ≤ 2 ^ 112 }
+    requires few_of_yes { IfOk answer (λ n. n ≤ 2 ^ 121) }
+    requires few_of_no { IfErr answer (λ u. (u.fault).reads ≤ 2 ^ 121) }
     ensures { result ≡ counted_on walked answer }
 {
     match answer {
@@ -243,8 +243,8 @@ fn verdict<'b, 's, 'n, A: Allocator>(
     }
 }
 
-/// Checks a buffer as [`verify`] does, and then asks of each union in it what code that `flatc` generates relies on, by
-/// the plan of the schema: the reads are counted on within the same limits. The room must have as many levels as the
+/// Checks a buffer as [`verify`] does, and then asks what the plan of the schema demands: the reads are counted on within
+/// the same limits, for a text as many as it has bytes. The room must have as many levels as the
 /// depth limit says, and serves again after every answer, as the scratch does.
 ///
 /// # Errors

@@ -12,6 +12,10 @@ use std::alloc::{AllocError, Allocator};
 /// What is asked of a field, or of what it leads to.
 #[derive(Clone, Copy)]
 pub enum Ask {
+    /// A text is asked.
+    Text,
+    /// Each text of a vector is.
+    Texts,
     /// A union of this number is asked.
     Union(u32),
     /// A vector of unions of this number is, with each of its offset words.
@@ -44,8 +48,8 @@ pub fn is_marked(marks: &[bool], object: u32) -> bool
 fn is_member_asked(demands: Demands, marks: &[bool], member: Option<Kind>) -> bool
     ensures { result ≡ is_member_asked (marked_wants demands marks.now) member }
 {
-    let _demands = demands;
     match member {
+        Some(Kind::Text) => demands.utf8,
         Some(Kind::Table(object)) => is_marked(marks, object),
         _ => false,
     }
@@ -70,6 +74,7 @@ fn is_asked(demands: Demands, marks: &[bool], schema: &Schema<'_>, kind: Kind) -
     ensures { result ≡ is_kind_asked (marked_wants demands marks.now) schema.now kind }
 {
     match kind {
+        Kind::Text | Kind::Texts => demands.utf8,
         Kind::Table(object) | Kind::Tables(object) => is_marked(marks, object),
         Kind::Union(union) | Kind::Unions(union) => {
             demands.unions || has_asked_member(demands, marks, schema, union)
@@ -83,6 +88,8 @@ fn ask_by(kind: Kind) -> Option<Ask>
     ensures { result ≡ ask_by kind }
 {
     match kind {
+        Kind::Text => Some(Ask::Text),
+        Kind::Texts => Some(Ask::Texts),
         Kind::Union(union) => Some(Ask::Union(union)),
         Kind::Unions(union) => Some(Ask::Unions(union)),
         Kind::Table(object) => Some(Ask::Table(object)),

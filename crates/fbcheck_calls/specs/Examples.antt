@@ -67,8 +67,11 @@ schema root ident = record {
   ident = ident;
 }
 
-abbrev pub unions_alone : Demands
-unions_alone = record { unions = true; nested = false; known_fields = false; utf8 = false }
+abbrev pub strict_alone : Demands
+strict_alone = record { unions = true; nested = true; known_fields = false; utf8 = false }
+
+abbrev pub texts_alone : Demands
+texts_alone = record { unions = false; nested = false; known_fields = false; utf8 = true }
 
 -- one that was made with these demands, whose plan asks nothing
 abbrev pub no_tasks : Planned
@@ -99,9 +102,10 @@ pub record Questions : Type 0 where
   pub no_own_ident : ident_asked (schema None None) (with_ident 2) ≡ Some Any
   pub empty_ident : ident_asked (schema None (name [])) (with_ident 2) ≡ Some Any
   pub long_ident : ident_asked (schema None (name (codes "LONGER"))) (with_ident 2) ≡ None
-  pub demands : filter known_demands (0 ∷ 1 ∷ 2 ∷ 3 ∷ 4 ∷ 8 ∷ 9 ∷ 16 ∷ []) ≡ 0 ∷ 1 ∷ 9 ∷ []
-  pub of_unions : map demands_of (1 ∷ 9 ∷ []) ≡ unions_alone ∷ unions_alone ∷ []
-  pub marks : filter asks_marks (0 ∷ 1 ∷ 9 ∷ []) ≡ 1 ∷ []
+  pub demands : filter known_demands (0 ∷ 1 ∷ 2 ∷ 3 ∷ 4 ∷ 5 ∷ 6 ∷ 7 ∷ 8 ∷ 9 ∷ 12 ∷ 13 ∷ 15 ∷ 16 ∷ 21 ∷ []) ≡ 0 ∷ 1 ∷ 4 ∷ 5 ∷ 9 ∷ 13 ∷ []
+  pub strict : map demands_of (1 ∷ 9 ∷ []) ≡ strict_alone ∷ strict_alone ∷ []
+  pub of_texts : map demands_of (5 ∷ 4 ∷ []) ≡ record strict_alone { utf8 = true } ∷ texts_alone ∷ []
+  pub marks : filter asks_marks (0 ∷ 1 ∷ 4 ∷ 5 ∷ 9 ∷ 13 ∷ []) ≡ 1 ∷ 5 ∷ []
   pub no_demands : plan_asked (made_with 1) published ≡ Some None
   pub planned : plan_asked (made_with 1) (record published { demands = 1 }) ≡ Some (Some no_tasks)
   pub unplanned : map (λ n. plan_asked (made_with n) (record published { demands = 1 })) (0 ∷ 9 ∷ []) ≡ None ∷ None ∷ []

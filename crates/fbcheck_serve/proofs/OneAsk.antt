@@ -20,9 +20,9 @@ use Rattle.fb_lines.specs.Job.{Job, job_of}
 use Rattle.fb_schema.specs.Live.{live_fields}
 use Rattle.fb_strict.specs.Planned.{Planned}
 use Rattle.fb_strict.proofs.Marks.{one_plan}
-use Rattle.fbcheck_serve.specs.Asked.{ArePaths, AsksBy, IsAsked, IsAskedPlan, IsFound, IsPath, LacksIdent, IsPathFault, HasPathFault, Own, asked_root, options_of, own_label, path_texts}
+use Rattle.fbcheck_serve.specs.Asked.{strict_demands, ArePaths, AsksBy, IsAsked, IsAskedPlan, IsFound, IsPath, LacksIdent, IsPathFault, HasPathFault, Own, asked_root, options_of, own_label, path_texts}
 use Rattle.fbcheck_serve.specs.Inputs.{with_label}
-use Rattle.fbcheck_serve.specs.CheckLaws.{AreAlike, AsksOnce, IsSameAnswer, IsSameJob}
+use Rattle.fbcheck_serve.specs.CheckLaws.{AreAlike, IsSamePlan, AsksOnce, IsSameAnswer, IsSameJob}
 use Rattle.fb_bfbs.specs.ByteFields.{HasMarked, HasUnmarked}
 use Rattle.fbcheck_serve.specs.Checking.{AsksMarks, HasMarkedBytes, HasUnmarkedBytes, IsMarkedFile, MayAsk, IsSchema, IsNoSchema, own_of, schema_limits}
 use Rattle.fbcheck_words.specs.declared.choices.Settings.{Settings}

@@ -15,6 +15,7 @@ final class Codes {
     static final int NONE = -1;
     static final int NO_TABLE = -2;
     static final int STRICT = 1;
+    static final int UTF8 = 4;
     static final int PLAIN_BYTES = 8;
     static final int STEPS = 31;
     static final int LONGEST_PLACE = 4098;

