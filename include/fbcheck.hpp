@@ -28,9 +28,12 @@
 // buffers that are ok; Pack() can crash on objects that UnPack() made of these. Nor do FIELD_nested_root() and
 // FIELD_flexbuffer_root() check the bytes that they read. With FBCHECK_STRICT (Options::demands) an ok says more: a
 // reader may fetch a union's value before it checks the type, as long as it follows no more than the value's own offset
-// then, and may go through a vector of unions by the length of either vector. UnPack() does no more than that. Make the
-// Schema with these demands, and pass them to each call: without them a call isn't strict, whatever the Schema was made
-// with.
+// then, and may go through a vector of unions by the length of either vector. UnPack() does no more than that. A Schema
+// that is made with these demands makes them in each check, whatever the options of the check:
+//
+//     fbcheck::Options strict;
+//     strict.demands = FBCHECK_STRICT;
+//     const fbcheck::Schema schema(file, strict);
 //
 // A buffer must not change during a call, nor while its values are read. If others can write to it (shared memory, a
 // mapped file), make a private copy, and check and read that.
@@ -110,13 +113,22 @@ inline std::string why(std::uint32_t status) {
     return why(told);
 }
 
-// A file isn't a usable schema, or doesn't say enough for the demands (then its text names a field); verdict has the
-// reason. V5 WrongIdentifier means that it isn't a .bfbs (for example .fbs text), V2 OutOfBuffer at=4 that it is empty.
+// A file isn't a usable schema, or doesn't say enough for the demands (then its text names a field, and what helps);
+// verdict has the reason. V5 WrongIdentifier means that it isn't a .bfbs (for example .fbs text), V2 OutOfBuffer at=4
+// that it is empty.
 class SchemaError : public std::runtime_error {
   public:
     explicit SchemaError(const fbcheck_verdict &told, const std::string &field = {})
-        : std::runtime_error("no schema: " + why(told) + (field.empty() ? "" : ": " + field)), verdict(told) {}
+        : std::runtime_error("no schema: " + why(told) + (field.empty() ? "" : ": " + field + remedy(told.status))),
+          verdict(told) {}
     fbcheck_verdict verdict;
+
+  private:
+    static const char *remedy(std::uint32_t status) noexcept {
+        return status == FBCHECK_UNMARKED_BYTES
+                   ? "; flatc --bfbs-builtins writes it to the .bfbs, FBCHECK_PLAIN_BYTES takes such fields as bytes"
+                   : "; FBCHECK_PLAIN_BYTES takes such fields as bytes";
+    }
 };
 
 // A text isn't a path from the root; verdict has the reason.
@@ -247,10 +259,11 @@ class Scratch {
     std::unique_ptr<fbcheck_scratch, Free> room_;
 };
 
-// A schema, made from the bytes of a schema file, which it copies. Movable, not copyable.
+// A schema, made from the bytes of a schema file, which it copies. Movable, not copyable. Its checks have the demands
+// of the options that it is made with, and refuse more of them (Misuse).
 class Schema {
   public:
-    explicit Schema(Bytes file, const Options &options = {}) {
+    explicit Schema(Bytes file, const Options &options = {}) : demands_(options.demands) {
         fbcheck_verdict told;
         schema_.reset(fbcheck_schema_new(file.data(), file.size(), &options, &told));
         if (schema_ == nullptr && told.status == FBCHECK_NO_MEMORY) throw std::bad_alloc();
@@ -282,7 +295,8 @@ class Schema {
 
     // Whether a buffer is ok. It doesn't allocate.
     bool good(Bytes buffer, const Options &options = {}, Scratch *scratch = nullptr) const {
-        return served(fbcheck_verify(get(), room(scratch), &options, buffer.data(), buffer.size(), nullptr)) ==
+        const Options asked = demanding(options);
+        return served(fbcheck_verify(get(), room(scratch), &asked, buffer.data(), buffer.size(), nullptr)) ==
                FBCHECK_OK;
     }
     bool good(const void *buffer, std::size_t length, const Options &options = {}, Scratch *scratch = nullptr) const {
@@ -292,10 +306,11 @@ class Schema {
     // Checks a buffer in one pass, and returns the verdict with the fault's place in words. If you don't need the
     // place, good() is quicker.
     Verdict check(Bytes buffer, const Options &options = {}, Scratch *scratch = nullptr) const {
+        const Options asked = demanding(options);
         fbcheck_verdict told;
         char text[FBCHECK_LONGEST_PLACE];
         std::size_t whole = 0;
-        served(fbcheck_locate(get(), room(scratch), &options, buffer.data(), buffer.size(), text, sizeof text, &whole,
+        served(fbcheck_locate(get(), room(scratch), &asked, buffer.data(), buffer.size(), text, sizeof text, &whole,
                               &told));
         return Verdict(told, std::string(text, std::min(whole, sizeof text)));
     }
@@ -308,9 +323,10 @@ class Schema {
     template <std::size_t Count>
     Reading<Count> read(Bytes buffer, const std::array<Path, Count> &paths, const Options &options = {},
                         Scratch *scratch = nullptr) const {
+        const Options asked = demanding(options);
         std::array<fbcheck_value, Count> found;
         fbcheck_verdict told;
-        const auto status = fbcheck_read(get(), room(scratch), &options, buffer.data(), buffer.size(), paths.data(),
+        const auto status = fbcheck_read(get(), room(scratch), &asked, buffer.data(), buffer.size(), paths.data(),
                                          found.data(), Count, &told);
         if (served(status, told.at) != FBCHECK_OK) return {check(buffer, options, scratch), {}};
         Reading<Count> reading{Verdict(told, {}), {}};
@@ -344,8 +360,14 @@ class Schema {
         if (status != FBCHECK_OK && status != FBCHECK_BAD && status != FBCHECK_TOO_LONG) throw Misuse(status, at);
         return status;
     }
+    // The options of a check, with the demands of this schema.
+    Options demanding(Options options) const noexcept {
+        options.demands |= demands_;
+        return options;
+    }
 
     std::unique_ptr<fbcheck_schema, Free> schema_;
+    std::uint32_t demands_;
 };
 
 // Whether the size before each message of a stream is part of the buffer (Prefixed: FinishSizePrefixed; set

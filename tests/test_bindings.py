@@ -22,7 +22,7 @@ import unittest
 
 from tests.support import schemas
 from tests.support.buffers import (
-    ASKEW, HALVES, MEMBER, MEMBERS, NOTHING, ORC, PLACED, PLAIN, POST, TWINS, doubling, levels, lower_type, named,
+    ASKEW, HALVES, MEMBER, MEMBERS, NOTHING, ORC, PLACED, PLAIN, POST, TWINS, WILD, doubling, levels, lower_type, named,
 )
 from tests.support.builder import buffer, changed, messages_of, prefixed
 from tests.support.every_kind import FILE, LITTLE, OPTIONS, PLACE, WHOLE, variants, words_of
@@ -68,7 +68,7 @@ def value_of(line):
 class Binding:
     """The cases of each language."""
 
-    max_depth = "maxDepth"
+    max_depth, strict, plain_bytes = "maxDepth", "strict", "plainBytes"
     closed = "the schema is closed"
     quoted = ' ("{}")'  # what was asked for, behind the text of an error
     names_files = False  # whether a schema file is loaded by its name, which an error tells too
@@ -181,6 +181,43 @@ class Binding:
         self.same("depths", told[:3], ["bad V6 TooDeep", "bad V6 TooDeep", "ok tables=100 depth=100 reads=399"])
         good = "ok tables=1 depth=1 reads="
         self.same("identifiers", told[3:], [f"{good}4", f"{good}5", "bad V5 WrongIdentifier"])
+
+    def test_strict(self):
+        """A schema that is loaded for strict checks makes all of its checks so, and any other one makes none."""
+        good, wild = file_of("good", MEMBER), file_of("wild", WILD)
+        both = file_of("both", prefixed(MEMBER) + prefixed(WILD))
+        by_r = ["--names", "--schema", FILES["X"], "--root", "R"]
+        for words in ([], ["--strict"], ["--strict", "--plain-bytes"]):
+            asked = " ".join(f"{word[2:].replace('-', '_')}=1" for word in words)
+            lines = run(*by_r, *words, given=both.read_bytes()).out.decode()
+            taken, refused = (run("--bare", *by_r, *words, given=data).out.decode().removeprefix("1 ").strip()
+                              for data in (MEMBER, WILD))
+            self.same(f"{words}: the program", (taken[:2], refused[:6]), ("ok", "bad V2" if words else "ok tab"))
+            told = self.told(
+                f"load {FILES['X']} root=R {asked}".strip(), f"check {good}", f"check {wild}", f"read {good} u@A.v",
+                f"read {wild} u", "with root=R max_depth=9", f"check {wild}", "with root=R prefixed=1",
+                f"stream {both} 7 7 4096")
+            wants = ["done", taken, refused, "5", f"error {refused}" if words else "union:0", "done", refused, "done",
+                     f"{lines}end"]
+            self.same(f"{words}: what the binding tells", told, wants)
+
+    def test_what_strict_refuses(self):
+        """Schema files that don't tell what bytes are, and demands that a schema wasn't loaded with."""
+        as_bytes = f"{self.plain_bytes} takes such fields as bytes"
+        builtins = f"flatc --bfbs-builtins writes it to the .bfbs, {as_bytes}"
+        for name, remedy in [("BYTES", builtins), ("FLEX", as_bytes)]:
+            file = FILES[name]
+            where = self.quoted.format(file) if self.names_files else ""
+            fault = self.fault("--schema", file, "--strict")
+            self.holds(f"{name}: the program names the field", fault.endswith(": a.T.b"), fault)
+            told = self.told(f"load {file}", f"load {file} strict=1", f"load {file} strict=1 plain_bytes=1",
+                             f"check {file_of('empty_table', PLAIN)}")
+            self.same(name, told, ["done", f"error {fault}; {remedy}{where}", "done", "ok tables=1 depth=1 reads=3"])
+        other = f"error the schema was loaded with other demands: ask for {self.strict} when you load it"
+        alone = f"error {self.plain_bytes} needs {self.strict}"
+        self.same("demands that can't be served", self.told(
+            f"load {FILES['M']} plain_bytes=1", f"load {FILES['M']}", "with strict=1", "with plain_bytes=1",
+            f"load {FILES['M']} strict=1", "with strict=1 plain_bytes=1"), [alone, "done", other, alone, "done", other])
 
     def test_values(self):
         """What the program writes at the end of each line, of every kind, and the bytes of vectors."""
@@ -315,7 +352,7 @@ def chain(count):
 
 class Rust(Binding, LibraryCase):
     language, folder, fence = "Rust", "rust", "rust"
-    max_depth, closed = "max_depth", None
+    max_depth, plain_bytes, closed = "max_depth", "plain_bytes", None
     target = FOLDER / "rust"
     driver = [target / "release/driver"]
 
@@ -383,6 +420,9 @@ class Node(Binding, LibraryCase):
                 ("schema.with({ maxReads: 2n ** 64n })", "RangeError"),
                 ("schema.with({ maxDepth: 4097 })", "RangeError"), ("schema.with({ alignment: 'no' })", "TypeError"),
                 ("schema.with({ ident: 'ABCDE' })", "RangeError"),
+                ("schema.with({ strict: 1 })", "TypeError: strict is true or false, and not 1"),
+                (f"new Schema('{FILES['M']}', {{ strict: 'no' }})", "TypeError: strict is true or false, and not no"),
+                ("schema.with({ plainBytes: true })", "TypeError: plainBytes needs strict"),
                 ("prefixed.messages([], { maxBytes: 7 })", "RangeError"), ("schema.messages([])", "TypeError"),
                 ("[...prefixed.messages(['abc'])]", "TypeError"), ("prefixed.messages([], { max: 8 })", "TypeError"),
                 ("prefixed.messages()", "TypeError: a stream is bytes, or an iterable of pieces of them"),
@@ -441,7 +481,7 @@ class Node(Binding, LibraryCase):
 
 class Go(Binding, LibraryCase):
     language, folder, fence = "Go", "go", "go"
-    max_depth = "MaxDepth"
+    max_depth, strict, plain_bytes = "MaxDepth", "Strict", "PlainBytes"
     driver = [FOLDER / "driver_go"]
 
     @classmethod

@@ -853,7 +853,7 @@ class LibraryForC(LibraryCase):
             self.same(f"{name} at fault", (status, err), (2, f"{text}\n"))
 
     def test_texts_of_the_pages(self):
-        """The command that REFERENCE.md shows builds a program, as the page says of a clone, which checks a buffer."""
+        """The command that REFERENCE.md shows builds a program, as its head says of a clone, which checks a buffer."""
         if not shutil.which("pkg-config"):
             self.skipTest("pkg-config isn't there")
         page = (TOP / "docs/REFERENCE.md").read_text()

@@ -183,24 +183,27 @@ class StrictForC(LibraryCase):
         return [[word for word in line.split() if not word.isalpha() or word in ("ok", "bad")] for line in lines.split("\n")]
 
     def test_in_cpp(self):
-        """The classes of fbcheck.hpp: strict verdicts and others by one Schema, and what is thrown."""
+        """The classes of fbcheck.hpp: a Schema's checks have its demands, whatever their options; what is thrown."""
         if not there("c++"):
             self.skipTest("c++ isn't there")
         source = TOP / "tests/c/demands.cpp"
         program = self.compiled("demands", source, *SANITIZED, *STATIC, compiler="c++", standard="-std=c++17")
         kept = Kept("kinds")
         words = ["--bare", "--names", "--schema", kept.file]
-        refused = run("--schema", kept.file, "--strict").err.decode().removeprefix("fbcheck: ")
         for data in [MESSAGES["kinds"][1], buffer({11: "n", 21: ("B", 1)}), b""]:
             plain, strict = (run(*words, *more, given=data).out.decode().strip().removeprefix("1 ")
                              for more in ([], ["--strict", "--plain-bytes"]))
             status, out, _ = ran(program, kept.file, file_of("kinds.bin", data))
-            *verdicts, unplanned, unmade = out.splitlines()
-            want = [strict, strict, strict, str(int(strict.startswith("ok"))), plain]
+            *verdicts, unplanned, _ = out.splitlines()
+            want = [strict, strict, strict, strict, strict, str(int(strict.startswith("ok"))), plain]
             self.same(f"the verdicts on {data.hex()}", (status, verdicts), (0, want))
             self.same("another Schema", unplanned, "nothing was checked: the schema was made with other demands")
-            self.same("a file", refused.startswith(unmade.removeprefix("no schema: ")), True)
-            self.holds("with the field", ": strict.kinds." in unmade, unmade)
+        files = schemas.files()
+        for file, field in [(kept.file, "strict.kinds."), (files["BYTES"], "a.T.b"), (files["FLEX"], "a.T.b")]:
+            want = run("--schema", file, "--strict").err.decode().strip().removeprefix("fbcheck: ")
+            unmade = ran(program, file, file_of("nothing.bin", b""))[1].splitlines()[-1]
+            self.same(f"{file}", unmade, f"no schema: {want}".replace("--plain-bytes", "FBCHECK_PLAIN_BYTES"))
+            self.holds(f"{file}: with the field", f": {field}" in unmade, unmade)
 
     def test_unplanned(self):
         """Demands that a schema wasn't made with are refused by each call, in its turn; no demands never are."""

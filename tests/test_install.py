@@ -13,7 +13,7 @@ from tests.support.tools import there
 
 PAGES = ("README.md", "CHANGELOG.md", "CONTRIBUTING.md", "docs/*.md", "bindings/*/README.md", "bindings/node/index.d.ts",
          "bench/README.md", "bench/compare.svg", "crates/name_reader/src/lib.rt", "examples/deliveries.*",
-         "examples/number.jq", "examples/c/*", "examples/split", "examples/engines/*")
+         "examples/jq.md", "examples/number.jq", "examples/c/*", "examples/split", "examples/engines/*")
 PLACES = {
     "bin/fbcheck": 0o755,
     "share/man/man1/fbcheck.1": 0o644,
@@ -63,9 +63,9 @@ def reasons():
 
 
 def faults():
-    """The texts of faults that the reference has, those of paths each by itself."""
+    """The texts of errors that the reference has, those of paths each by itself."""
     reference = (TOP / "docs/REFERENCE.md").read_text()
-    texts = re.findall(r"^- `([^`]+)`", reference.split("## Exit statuses and faults")[1].split("\n## ")[0], re.M)
+    texts = re.findall(r"^- `([^`]+)`", reference.split("## Errors")[1].split("\n## ")[0], re.M)
     paths = re.findall(r"^- `(P[1-6] [^`]+)`", reference, re.M)
     return [text for text in texts if text != "path: .."] + [f"path: {text}" for text in paths]
 

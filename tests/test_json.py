@@ -116,7 +116,7 @@ class Json(Case):
 class Recipes(Case):
     """The page's recipes for jq do what it says of them, and so does the file that they include."""
 
-    PAGE = (TOP / "docs/REFERENCE.md").read_text()
+    PAGE = (TOP / "examples/jq.md").read_text()
     NUMBER = re.search(r"'(include .*?;)\n", PAGE)[1]
 
     def picked(self, kind, numbers, form, recipe):

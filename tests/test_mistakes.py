@@ -73,27 +73,21 @@ def recipe(stream):
 
 # By what the list says was given: the words, and standard input.
 CALLS = {
-    "messages, given as the schema (for `.fbs` text or JSON the error says which)": [
+    "messages, given as the schema (for `.fbs` text or JSON the error says which; an empty file gives `V2`)": [
         (("--schema", EXAMPLES / name), POST) for name in ("deliveries.fbs", "deliveries.jsonl", "deliveries.bin")
     ],
-    "an empty file, given as the schema": [(("--schema", file_of("empty.bfbs", b"")), POST)],
     "a root without its namespace (`--root Delivery`), or a struct": [((*BY_POST, "--root", "Delivery"), POST)],
     'JSON: its first four bytes, `{"id`, are read as a length; any text gives one above 100,000,000': [(BY_POST, JSON)],
-    "a file compressed with `gzip`": [(BY_POST, gzipped(POST))],
-    "what `gzip` packed from a pipe, whose first four bytes are read as the length 559,903; if it is shorter, `held=` is "
-    "its length, else the first message is bad; with `--bare` it's `V2` at 559903": [(BY_POST, piped(POST))],
-    "a file compressed with `zstd`": [(BY_POST, by_zstd(POST))],
-    "a file compressed with `zip`": [(BY_POST, zipped(POST))],
+    "a file compressed with `gzip`; with `zstd` it's `declared=4247762216`, with `zip` `declared=67324752`, and from a "
+    "pipe `gzip` gives `S2`, or a bad first message": [(BY_POST, gzipped(POST))],
     "big-endian prefixes, as in Java and in network byte order; may also show as S2, or after an ok line": [
         (BY_POST, turned(POST))
     ],
     "a message of 512 bytes with `--max-bytes 511`; with `--bare` it's `input longer than 511 bytes`": [
         ((*BY_POST, "--max-bytes", "511"), FIRST)
     ],
-    "a message behind gRPC's five-byte header (a zero byte, then a big-endian length)": [(BY_POST, framed(FIRST))],
-    "the same with a message below 256 bytes; with most of 1,024 or more it is `S1 Oversize`": [
-        (BY_POST, framed(SECOND))
-    ],
+    "a message behind gRPC's five-byte header (a zero byte, then a big-endian length); below 256 bytes it's `V2` at 4, "
+    "and for most of 1,024 or more `S1`": [(BY_POST, framed(FIRST))],
     "a bare buffer, read as a stream: what follows its first four bytes is taken for an offset": [((), BARE)],
     "a size-prefixed message with `--bare`, so that the prefix is taken for the root's offset (`at=` is the length less "
     "4); rarely ok": [
@@ -104,17 +98,14 @@ CALLS = {
         ((), prefixed(BARE))
     ],
     "with `--bare` a message whose prefix was taken off": [((*BY_POST, "--bare"), FIRST[4:])],
-    "`--schema` was forgotten, so messages are checked as schema files, whose objects are 0 to 9; `V9 MissingRequired` is "
-    "common too": [((), POST)],
-    "the same with `--path`; with `--root` it's `no root table`, with tables of `reflection`": [
-        (("--path", "to.name"), POST)
-    ],
+    "`--schema` was forgotten, so messages are checked as schema files, whose objects are 0 to 9; `V9` is common too, "
+    "with `--path` it's `P2`, and with `--root` `no root table`, with tables of `reflection`": [((), POST)],
 }
 
 
 def rows():
-    """The list's lines, with what was given. How much gzip packs into may differ a little."""
-    page = (TOP / "docs/REFERENCE.md").read_text().replace("held=506", f"held={len(piped(POST))}")
+    """The list's lines, with what was given."""
+    page = (TOP / "docs/REFERENCE.md").read_text()
     section = page.split("## Where all or most messages are bad")[1].split("\n## ")[0]
     return re.findall(r"^- `(.+?)`: (.+?) → .+$", re.sub(r"\n  +", " ", section), re.M)
 
@@ -201,6 +192,17 @@ class Mistakes(Case):
         large = piped(random.Random(1).randbytes(600_000))
         for length, want in [(559_906, b""), (559_907, b"1 bad V4 ZeroOffset at=4 object=1 field=- reads=2\n")]:
             self.same(f"the front of one, {length} bytes", run(*BY_POST, given=large[:length]).out, want)
+        for name, data, declared in [("zstd", by_zstd(POST), 4247762216), ("zip", zipped(POST), 67324752)]:
+            told = run(*BY_POST, given=data).err
+            self.holds(name, b"stream: S1 Oversize declared=%d;" % declared in told, told)
+        told = run(*BY_POST, given=piped(POST)).err
+        self.holds("a pipe's gzip", b"stream: S2 Truncated held=%d;" % len(piped(POST)) in told, told)
+        told = run("--schema", file_of("empty.bfbs", b""), given=POST).err
+        self.holds("an empty schema file", b"schema: L1 V2 OutOfBuffer at=4 object=9 field=- reads=0" in told, told)
+        told = run(*BY_POST, given=framed(SECOND)).out
+        self.holds("gRPC before fewer than 256 bytes", told.startswith(b"1 bad V2 OutOfBuffer at=4 object=1 "), told)
+        told = run("--path", "to.name", given=POST).err
+        self.holds("a path without a schema", b"path: P2 NoSuchField step=0; fields: objects enums" in told, told)
         tables = run("--root", "post.Delivery", given=POST).err
         self.holds("a root without a schema", b"no root table post.Delivery; tables: reflection.Type" in tables, tables)
         required = run("--bare", given=buffer({0: Plain(bytes(4), 4)}))

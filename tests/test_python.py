@@ -20,7 +20,7 @@ import timeit
 
 from tests.support import buffers, schemas
 from tests.support.buffers import (
-    ASKEW, HALVES, MEMBER, MEMBERS, ORC, PLACED, PLAIN, POST, SEVEN, TWINS, lower_type, named,
+    ASKEW, HALVES, MEMBER, MEMBERS, ORC, PLACED, PLAIN, POST, SEVEN, TWINS, WILD, lower_type, named,
 )
 from tests.support.builder import Plain, buffer, changed, messages_of, prefixed, spelled
 from tests.support.every_kind import FILE, LITTLE, OPTIONS, WHOLE, variants, words_of
@@ -240,6 +240,49 @@ class Python(LibraryCase):
             self.fails(f"{options}", TypeError, *options, lambda: self.by("M", **options))
         for wrong in (self.by, lambda _, **words: first.replace(**words)):
             self.fails("a word that is none", TypeError, "depth", lambda: wrong("M", depth=3))
+
+    def test_strict(self):
+        """A schema that is made with strict=True makes all of its checks so; the program is the other voice."""
+        plain, strict, as_bytes = (self.by("X", root="R", **options) for options in (
+            {}, {"strict": True}, {"strict": True, "plain_bytes": True}))
+        by_r = ["--names", "--schema", FILES["X"], "--root", "R"]
+        both = prefixed(MEMBER) + prefixed(WILD)
+        for checker, words in [(plain, []), (strict, ["--strict"]), (as_bytes, ["--strict", "--plain-bytes"])]:
+            for data in (MEMBER, WILD):
+                want = run("--bare", *by_r, *words, given=data).out.decode()
+                self.same(f"{words}", f"1 {checker.check(data)}\n", want)
+            want = run(*by_r, *words, given=both).out.decode().splitlines()
+            told = [verdict for _, verdict in checker.replace(prefixed=True).messages(both)]
+            self.same(f"{words}: a stream", lines_of(told), want)
+            self.same(f"{words}: values", checker.read(MEMBER, "u@A.v"), 5)
+        self.same("a wild value", [one.check(WILD).reason for one in (plain, strict, as_bytes)], [None, 2, 2])
+        self.fails("is none", self.module.BadBuffer, "V2 OutOfBuffer", lambda: strict.read(WILD, "u"))
+        self.same("unless it isn't asked", plain.read(WILD, "u"), self.module.Union(0))
+        for name, other, want in [
+            ("other limits", strict.replace(max_depth=9), 2), ("strict", plain.replace(strict=True), 2),
+            ("not strict", strict.replace(strict=False), None), ("and again", strict.replace(strict=False).replace(
+                strict=True), 2), ("as plain bytes", strict.replace(plain_bytes=True), 2),
+            ("not any more", as_bytes.replace(plain_bytes=False), 2),
+            ("pickled", pickle.loads(pickle.dumps(strict)), 2),
+        ]:
+            self.same(f"replaced: {name}", other.check(WILD).reason, want)
+        self.holds("it's told", "strict=True" in repr(strict) and strict.options.strict, strict)
+
+    def test_what_strict_refuses(self):
+        of = self.module
+        for name in ("BYTES", "FLEX"):
+            fault = run("--schema", FILES[name], "--strict").err.decode().removeprefix("fbcheck: ").strip()
+            fault = fault.replace("--plain-bytes", "plain_bytes")
+            self.holds(f"{name}: the program names the field", ": a.T.b; " in fault, fault)
+            error = self.fails(name, of.SchemaError, fault, lambda: self.by(name, strict=True))
+            self.same(f"{name}: the file", str(error), f"{FILES[name]}: {fault}")
+            self.same(f"{name}: pickled", str(pickle.loads(pickle.dumps(error))), str(error))
+            self.fails(f"{name}, afterwards", of.SchemaError, fault, lambda: self.by(name).replace(strict=True))
+            checker = self.by(name, strict=True, plain_bytes=True)
+            self.same(f"{name}, as plain bytes", str(checker.check(PLAIN)), "ok tables=1 depth=1 reads=3")
+            self.fails(f"{name}, not as these", of.SchemaError, fault, lambda: checker.replace(plain_bytes=False))
+        for call in (lambda: self.by("M", plain_bytes=True), lambda: self.by("M").replace(plain_bytes=True)):
+            self.fails("plain bytes alone", ValueError, "plain_bytes needs strict", call)
 
     def test_values(self):
         """Each kind, as it was worked out by hand."""

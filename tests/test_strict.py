@@ -10,7 +10,7 @@ import re
 import unittest
 
 from tests.support import schemas
-from tests.support.builder import Plain, buffer
+from tests.support.builder import Plain, buffer, changed
 from tests.support.buffers import MEMBER, MEMBERS, ORC, PLAIN, SEVEN, UNEQUAL
 from tests.support.case_text import bytes_of, rows_of
 from tests.support.cases import Case
@@ -367,9 +367,21 @@ class Program(Case):
                 self.told_alike(name, kept, some, {"reads": reads})
 
 
-# By kinds.fbs, what plain checks take and generated code doesn't bear: the value of a type 0 that is far away, a type
-# without its value, and types without a vector of values.
-UNBORNE = [buffer({11: "n", 22: ("I", 0x7FFFFFF0)}), buffer({11: "n", 21: ("B", 1)}), buffer({11: "n", 23: Plain(b"\1", 1, 1)})]
+# By kinds.fbs, what plain checks take and generated code doesn't bear: the value of a type 0 that is far away; and what
+# UnPack or Pack doesn't bear either, a value of the type 0 whose word isn't all there, a type without its value, and types
+# without a vector of values.
+FAR = ("I", 0x7FFFFFF0)
+UNPACKED = [changed(buffer({11: "n", 22: ("I", 5)}), (52, "10")), buffer({11: "n", 21: ("B", 1)}),
+            buffer({11: "n", 23: Plain(b"\1", 1, 1)})]
+UNBORNE = [buffer({11: "n", 22: FAR}), *UNPACKED]
+
+# What no ok covers, by what reads it: buffers inside whose roots are far away; what FlatBufferToString goes through,
+# which is deprecated fields, a union's value without a type, and values of the type 0; and what Pack makes of the latter.
+INSIDE = [buffer({11: "n", 27: Plain(b"\xf0\xff\xff\x7f", 4, 4)}), buffer({11: "n", 28: Plain(b"\x28\xff", 1, 2)})]
+NONE = buffer({11: "n", 23: Plain(b"\0", 1, 1), 24: ["w"]})
+TOLD = [buffer({11: "n", 25: FAR}), buffer({11: "n", 26: FAR}), buffer({11: "n", 22: "w"}),
+        buffer({11: "n", 21: ("B", 0), 22: "w"}), NONE]
+UNCOVERED = [("reads", INSIDE, False), ("texts", TOLD, True), ("packs", [NONE], True)]
 
 
 @unittest.skipIf(missing(), f"not there: {', '.join(missing())}")
@@ -394,3 +406,16 @@ class GeneratedCode(Case):
         self.same("--strict refuses them", {line[:3] for line in lines_of(made.file, UNBORNE, "--strict")}, {"bad"})
         fell = [data for data, _ in made.failures("reads", UNBORNE, "bad", "all")]
         self.same("generated code doesn't bear them", fell, UNBORNE)
+        self.same("the generated verifier takes a type alone", made.verdicts(UNBORNE, "all"), [False, False, True, False])
+        fell = [data for data, _ in made.failures("packs", UNBORNE, "packs", "all")]
+        self.same("UnPack or Pack doesn't bear these", fell, UNPACKED)
+
+    def test_what_no_ok_covers(self):
+        made = Generated("kinds", FOLDER / "marked")
+        made.build("all")
+        for what, messages, is_taken in UNCOVERED:
+            told = lines_of(made.file, messages, "--strict", "--plain-bytes")
+            self.same(f"{what}: --strict takes these", [line[:2] for line in told], ["ok"] * len(messages))
+            self.same(f"{what}: whether the generated verifier does", set(made.verdicts(messages, "all")), {is_taken})
+            fell = [data for data, _ in made.failures(what, messages, what, "all")]
+            self.same(f"{what}: generated code doesn't bear them", fell, messages)

@@ -90,34 +90,44 @@ type Status uint32
 
 // Why a call couldn't be served.
 const (
-	OutOfRange    Status = C.FBCHECK_OUT_OF_RANGE    // MaxDepth is above 4096
-	NoIdent       Status = C.FBCHECK_NO_IDENT        // Ident hasn't 4 bytes; or the schema's own has some, but not 4
-	NoRoot        Status = C.FBCHECK_NO_ROOT         // the schema has no root table, or none of this name
-	LongFile      Status = C.FBCHECK_TOO_LONG        // the schema file has 2^31 bytes or more
-	NotWellFormed Status = C.FBCHECK_NOT_WELL_FORMED // the file is no binary schema, or a damaged one
-	BadSchema     Status = C.FBCHECK_BAD_SCHEMA      // its rows are no schema
-	RootNotListed Status = C.FBCHECK_ROOT_NOT_LISTED // its root table isn't listed in it
-	NoMemory      Status = C.FBCHECK_NO_MEMORY       // memory was refused
-	Oversize      Status = C.FBCHECK_OVERSIZE        // a message of the stream is longer than MaxBytes
-	Truncated     Status = C.FBCHECK_TRUNCATED       // the stream ends inside a message
-	Failed        Status = C.FBCHECK_FAILED          // the stream has failed before
-	BadPath       Status = C.FBCHECK_BAD_PATH        // the text is no path of the schema
-	TooManySteps  Status = C.FBCHECK_NO_ROOM         // the path has more than 31 steps
-	Misfit        Status = C.FBCHECK_MISFIT          // a path is none of this schema from this root
-	TooMuchShared Status = C.FBCHECK_TOO_MUCH_SHARED // the file has more rows, or longer names, than its length pays for
+	UnknownOptions Status = C.FBCHECK_UNKNOWN_OPTIONS // PlainBytes was asked for without Strict
+	OutOfRange     Status = C.FBCHECK_OUT_OF_RANGE    // MaxDepth is above 4096
+	NoIdent        Status = C.FBCHECK_NO_IDENT        // Ident hasn't 4 bytes; or the schema's own has some, but not 4
+	NoRoot         Status = C.FBCHECK_NO_ROOT         // the schema has no root table, or none of this name
+	LongFile       Status = C.FBCHECK_TOO_LONG        // the schema file has 2^31 bytes or more
+	NotWellFormed  Status = C.FBCHECK_NOT_WELL_FORMED // the file is no binary schema, or a damaged one
+	BadSchema      Status = C.FBCHECK_BAD_SCHEMA      // its rows are no schema
+	RootNotListed  Status = C.FBCHECK_ROOT_NOT_LISTED // its root table isn't listed in it
+	NoMemory       Status = C.FBCHECK_NO_MEMORY       // memory was refused
+	Oversize       Status = C.FBCHECK_OVERSIZE        // a message of the stream is longer than MaxBytes
+	Truncated      Status = C.FBCHECK_TRUNCATED       // the stream ends inside a message
+	Failed         Status = C.FBCHECK_FAILED          // the stream has failed before
+	BadPath        Status = C.FBCHECK_BAD_PATH        // the text is no path of the schema
+	TooManySteps   Status = C.FBCHECK_NO_ROOM         // the path has more than 31 steps
+	Misfit         Status = C.FBCHECK_MISFIT          // a path is none of this schema from this root
+	TooMuchShared  Status = C.FBCHECK_TOO_MUCH_SHARED // the file has more rows, or longer names, than its length pays for
+	NotPlanned     Status = C.FBCHECK_NOT_PLANNED     // a schema was asked for Strict that was loaded without it
+	UnmarkedBytes  Status = C.FBCHECK_UNMARKED_BYTES  // Strict can't tell what a field of type [ubyte] holds
+	MarkedBytes    Status = C.FBCHECK_MARKED_BYTES    // Strict doesn't look inside the nested buffer of a field
 )
 
 var texts = map[Status]string{
-	OutOfRange:    fmt.Sprintf("MaxDepth is above %d", C.FBCHECK_DEEPEST),
-	NoIdent:       "the schema's identifier isn't four bytes",
-	NoRoot:        "no root table",
-	LongFile:      "schema: L5 TooLong",
-	RootNotListed: "schema: L3 RootNotListed",
-	NoMemory:      "out of memory",
-	Failed:        "stream: S4 Failed",
-	TooManySteps:  fmt.Sprintf("the path has more than %d steps", C.FBCHECK_STEPS),
-	Misfit:        "a path is none of this schema from this root",
-	TooMuchShared: "schema: L6 TooMuchShared",
+	UnknownOptions: "PlainBytes needs Strict",
+	OutOfRange:     fmt.Sprintf("MaxDepth is above %d", C.FBCHECK_DEEPEST),
+	NoIdent:        "the schema's identifier isn't four bytes",
+	NoRoot:         "no root table",
+	LongFile:       "schema: L5 TooLong",
+	RootNotListed:  "schema: L3 RootNotListed",
+	NoMemory:       "out of memory",
+	Failed:         "stream: S4 Failed",
+	TooManySteps:   fmt.Sprintf("the path has more than %d steps", C.FBCHECK_STEPS),
+	Misfit:         "a path is none of this schema from this root",
+	TooMuchShared:  "schema: L6 TooMuchShared",
+	NotPlanned:     "the schema was loaded with other demands: ask for Strict when you load it",
+	UnmarkedBytes: "strict can't tell which bytes are nested buffers or flexbuffers: %s; flatc --bfbs-builtins writes it" +
+		" to the .bfbs, PlainBytes takes such fields as bytes",
+	MarkedBytes: "strict doesn't look inside nested buffers and flexbuffers yet: %s;" +
+		" PlainBytes takes such fields as bytes",
 }
 
 // noSchema is said behind the fault of a file that isn't well-formed.
@@ -150,6 +160,8 @@ func errorOf(verdict C.fbcheck_verdict, asked string) *Error {
 			word = "at"
 		}
 		text = fmt.Sprintf("path: %s %s=%d", name, word, uint64(verdict.at))
+	case UnmarkedBytes, MarkedBytes:
+		text = fmt.Sprintf(text, asked)
 	}
 	if status == BadPath || status == TooManySteps {
 		text = naming(text, asked)

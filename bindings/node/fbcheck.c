@@ -196,26 +196,27 @@ static napi_value holding(napi_env env, struct rows *rows, const fbcheck_options
     return failed(env, "out of memory");
 }
 
-/* load(file): a schema, or undefined where there is none. */
+/* load(file, demands): a schema for checks with these demands, or undefined where there is none. */
 static napi_value load(napi_env env, napi_callback_info info)
 {
-    const fbcheck_options options = FBCHECK_OPTIONS_INIT;
-    napi_value words[1], made;
+    fbcheck_options options = FBCHECK_OPTIONS_INIT;
+    napi_value words[2], made;
     fbcheck_verdict verdict;
     struct rows *rows;
     uint8_t *file;
     size_t length;
     int64_t all;
-    arguments(env, info, words, 1);
+    arguments(env, info, words, 2);
     if (!bytes_of(env, words[0], &file, &length))
         return NULL;
+    napi_get_value_uint32(env, words[1], &options.demands);
     rows = calloc(1, sizeof *rows);
     if (rows == NULL)
         return failed(env, "out of memory");
     rows->users = 1;
     rows->size = 8 * (int64_t)length;
     napi_adjust_external_memory(env, rows->size, &all);
-    rows->schema = fbcheck_schema_new(file, length, NULL, &verdict);
+    rows->schema = fbcheck_schema_new(file, length, &options, &verdict);
     tell(thread_of(env)->told, &verdict);
     made = rows->schema == NULL ? NULL : holding(env, rows, &options);
     leave(env, &(struct checker){ .rows = rows });

@@ -7,7 +7,9 @@ const {
 } = require('./codes.js');
 const native = require('./fbcheck.node');
 
-const { BAD, BAD_TEXT, DEEPEST, MORE, NONE, NO_ROOT, NO_TABLE, OK, OVERSIZE, TOO_LONG } = numbers;
+const {
+  BAD, BAD_TEXT, DEEPEST, MARKED_BYTES, MORE, NONE, NO_ROOT, NO_TABLE, OK, OVERSIZE, TOO_LONG, UNMARKED_BYTES,
+} = numbers;
 
 // What a call tells beside its answer, by the places that the enum in fbcheck.c gives.
 const told = new Float64Array(16);
@@ -29,6 +31,15 @@ const TEXTS = {
   NO_ROOM: `the path has more than ${numbers.STEPS} steps`,
   MISFIT: 'a path is none of this schema from this root',
   TOO_MUCH_SHARED: 'schema: L6 TooMuchShared',
+  NOT_PLANNED: 'the schema was loaded with other demands: ask for strict when you load it',
+};
+
+// Why strict checks refuse a schema file with a field of bytes, whose name stands between.
+const REFUSALS = {
+  UNMARKED_BYTES: ["strict can't tell which bytes are nested buffers or flexbuffers: ",
+    '; flatc --bfbs-builtins writes it to the .bfbs, plainBytes takes such fields as bytes'],
+  MARKED_BYTES: ["strict doesn't look inside nested buffers and flexbuffers yet: ",
+    '; plainBytes takes such fields as bytes'],
 };
 
 // What is said behind the fault of a file that isn't well-formed.
@@ -87,8 +98,8 @@ class Bad {
   }
 }
 
-/** The error of a call that wasn't done, by what it told, with the name of what was asked for. */
-function errorOf(status, asked) {
+/** The error of a call that wasn't done, by what it told, with the name of what was asked for, and of a field. */
+function errorOf(status, asked, field) {
   const name = STATUSES[status];
   const code = told[REASON];
   let text = TEXTS[name];
@@ -99,6 +110,8 @@ function errorOf(status, asked) {
     text = `schema: L2 C${code} ${CODES[code]} owner=${told[OBJECT]} part=${part}`;
   } else if (name === 'BAD_PATH') {
     text = `path: P${code} ${PATH_FAULTS[code]} ${code === BAD_TEXT ? 'at' : 'step'}=${told[AT]}`;
+  } else if (name in REFUSALS) {
+    text = REFUSALS[name].join(field);
   }
   return new FbcheckError(name, asked === undefined ? text : `${text} ('${asked}')`);
 }
@@ -113,6 +126,34 @@ function whole(name, given, most) {
 // The switches by the options of the library that they are, one of which says the opposite.
 const SWITCHES = { prefixed: OPTIONS.prefixed, alignment: OPTIONS.noAlignment, inlineSize: OPTIONS.inlineSize };
 
+// The demands by the bits that they are.
+const DEMANDS = { strict: numbers.STRICT, plainBytes: numbers.PLAIN_BYTES };
+
+/** True or false as they are. */
+function flag(name, value) {
+  if (typeof value === 'boolean') return value;
+  throw new TypeError(`${name} is true or false, and not ${value}`);
+}
+
+/** The bits of what these options demand. */
+function demandsOf(options) {
+  const names = Object.keys(DEMANDS).filter((name) => name in options && flag(name, options[name]));
+  if (names.includes('plainBytes') && !names.includes('strict')) throw new TypeError('plainBytes needs strict');
+  return names.reduce((bits, name) => bits | DEMANDS[name], 0);
+}
+
+/** A schema of the library for these demands, by the bytes of a file that may have a path. */
+function load(file, demands, path) {
+  const loaded = native.load(file, demands);
+  if (loaded !== undefined) return loaded;
+  const [status, object, field] = [told[STATUS], told[OBJECT], told[FIELD]];
+  if (status !== UNMARKED_BYTES && status !== MARKED_BYTES) throw errorOf(status, path);
+  const plain = load(file, 0, path);
+  const name = `${native.name(plain, object)}.${native.name(plain, object, field)}`;
+  native.close(plain);
+  throw errorOf(status, path, name);
+}
+
 /** The library's options by these, as bytes. */
 function bytesOf(schema, options) {
   const bytes = Buffer.alloc(OPTIONS_BYTES);
@@ -123,6 +164,7 @@ function bytesOf(schema, options) {
   if (root === NO_TABLE) throw errorOf(NO_ROOT, given.root);
   put(VERSION, OPTIONS.version);
   put(root, OPTIONS.root);
+  put(demandsOf(given), OPTIONS.demands);
   for (const [name, value] of Object.entries(given)) {
     if (name in LIMITS) {
       const [at, size] = OPTIONS[name];
@@ -131,14 +173,13 @@ function bytesOf(schema, options) {
       if (size === 8) bytes.writeBigUInt64LE(number, at);
       else put(Number(number), OPTIONS[name]);
     } else if (name in SWITCHES) {
-      if (typeof value !== 'boolean') throw new TypeError(`${name} is true or false, and not ${value}`);
-      put(Number(value !== (name === 'alignment')), SWITCHES[name]);
+      put(Number(flag(name, value) !== (name === 'alignment')), SWITCHES[name]);
     } else if (name === 'ident' && value !== undefined) {
       put(value === 'own' ? numbers.IDENT_OWN : numbers.IDENT_THIS, OPTIONS.identFrom);
       const four = value === 'own' ? Buffer.alloc(4) : Buffer.from(value, 'latin1');
       if (four.length !== 4) throw new RangeError(`ident must be four bytes, or 'own'`);
       four.copy(bytes, OPTIONS.ident[0]);
-    } else if (name !== 'root' && name !== 'ident') {
+    } else if (name !== 'root' && name !== 'ident' && !(name in DEMANDS)) {
       throw new TypeError(`no option ${name}`);
     }
   }
@@ -212,8 +253,7 @@ class Schema {
       this.#schema = native.choose(file.#schema, bytesOf(file.#schema, this.#options));
     } else {
       const path = typeof file === 'string' || file instanceof URL ? file : undefined;
-      const loaded = native.load(path === undefined ? file : fs.readFileSync(path));
-      if (loaded === undefined) throw errorOf(told[STATUS], path);
+      const loaded = load(path === undefined ? file : fs.readFileSync(path), demandsOf(options), path);
       this.#options = options;
       try {
         this.#schema = native.choose(loaded, bytesOf(loaded, options));

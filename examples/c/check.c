@@ -4,6 +4,10 @@
  *     cc check.c $(pkg-config --cflags --libs fbcheck) -o check
  *     ./check SCHEMA.bfbs BUFFER [ROOT]
  *
+ * In a clone, make library puts the library and fbcheck.pc into out/. There it is built so:
+ *
+ *     cc examples/c/check.c $(PKG_CONFIG_PATH=out pkg-config --cflags --libs fbcheck) -Wl,-rpath,$PWD/out -o check
+ *
  * The exit status is 0 for an ok buffer, 1 for a bad one, and 2 if none was checked.
  */
 #include "telling.h"

@@ -74,6 +74,8 @@ final class Driver {
                 case "prefixed" -> asked.prefixed(set);
                 case "alignment" -> asked.alignment(set);
                 case "inline_size" -> asked.inlineSize(set);
+                case "strict" -> asked.strict(set);
+                case "plain_bytes" -> asked.plainBytes(set);
                 default -> throw new IllegalArgumentException(word);
             };
         }

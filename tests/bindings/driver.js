@@ -7,7 +7,9 @@ const { Worker, isMainThread, parentPort, workerData } = require('node:worker_th
 const { BadBuffer, Schema } = require('../../bindings/node');
 
 const NUMBERS = { max_depth: 'maxDepth', max_tables: 'maxTables', reads_per_byte: 'readsPerByte' };
-const SWITCHES = { prefixed: 'prefixed', alignment: 'alignment', inline_size: 'inlineSize' };
+const SWITCHES = {
+  prefixed: 'prefixed', alignment: 'alignment', inline_size: 'inlineSize', strict: 'strict', plain_bytes: 'plainBytes',
+};
 
 function options(words) {
   const asked = {};

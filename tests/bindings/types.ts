@@ -12,10 +12,14 @@ export function texts(schema: Schema, message: Uint8Array, later: AsyncIterable<
   if (error instanceof BadBuffer) error.verdict.position.toFixed();
   // @ts-expect-error: no such code
   if (error instanceof FbcheckError && error.code === 'NO_ROT') return [];
+  if (error instanceof FbcheckError && error.code === 'UNMARKED_BYTES') return [];
   // @ts-expect-error: only a text has a string
   name.value.toUpperCase();
   // @ts-expect-error: no such option
   schema.with({ max_depth: 5 });
+  // @ts-expect-error: it's true or false
+  schema.with({ strict: 1 });
+  schema.with({ strict: true, plainBytes: false });
   if (place.kind === 'struct') place.value.subarray(4);
   return [
     verdict.ok ? verdict.tables : verdict.reason,

@@ -1,7 +1,7 @@
 // Strict checks by the classes of fbcheck.hpp: demands SCHEMA.bfbs BUFFER
 //
-// Prints the verdicts of strict checks and of one that isn't, by a Schema that was made for both; and then what is
-// thrown by one that wasn't, and where the schema file doesn't say what its fields of bytes hold.
+// Prints the verdicts of strict checks, by a Schema that was made for them, and of one that isn't strict; and then what
+// is thrown by a Schema that wasn't, and where the schema file doesn't say what its fields of bytes hold.
 #include <fbcheck.hpp>
 
 #include <fstream>
@@ -21,16 +21,19 @@ template <class Call> static void tell(Call &&call) try {
 
 int main(int, char **words) {
     const std::string file = bytes(words[1]), buffer = bytes(words[2]);
-    fbcheck::Options strict, marked;
+    fbcheck::Options strict, marked, deep;
     strict.demands = FBCHECK_STRICT | FBCHECK_PLAIN_BYTES;
     marked.demands = FBCHECK_STRICT;
+    deep.max_depth = FBCHECK_DEEP - 1;
     const fbcheck::Schema schema(file, strict), plain(file);
     fbcheck::Scratch scratch(FBCHECK_DEEP);
     tell([&] { return schema.check(buffer, strict); });
     tell([&] { return schema.check(buffer, strict, &scratch); });
-    tell([&] { return schema.read(buffer, std::array{fbcheck::Path{}}, strict).verdict; });
-    tell([&] { return schema.good(buffer, strict); });
     tell([&] { return schema.check(buffer); });
+    tell([&] { return schema.check(buffer, deep); });
+    tell([&] { return schema.read(buffer, std::array{fbcheck::Path{}}).verdict; });
+    tell([&] { return schema.good(buffer); });
+    tell([&] { return plain.check(buffer); });
     tell([&] { return plain.check(buffer, strict); });
     tell([&] { return fbcheck::Schema(file, marked).good(buffer, marked); });
 }

@@ -65,6 +65,10 @@ def lower_type(number):
     return changed(MEMBER, (20, f"{number:02x}"))
 
 
+# By X from R: the type of u is 0, and its value, which only strict checks ask, would stand far outside.
+WILD = changed(lower_type(0), (16, "ffffff7f"))
+
+
 def levels(count):
     """By CHAIN: so many tables, one inside another."""
     words = [0x10, 0x0008_0006, 0x0000_0004, 0x0004_0004]

@@ -148,18 +148,20 @@ static void free_handle(PyObject *handle)
     fbcheck_schema_free(PyCapsule_GetPointer(handle, HANDLE));
 }
 
-/* load(file): what holds the schema of a schema file, or the numbers of why there is none. */
-static PyObject *load(PyObject *module, PyObject *file)
+/* load(file, demands): what holds the schema of a schema file, for checks with these demands, or the numbers of why
+   there is none. */
+static PyObject *load(PyObject *module, PyObject *words)
 {
+    fbcheck_options options = FBCHECK_OPTIONS_INIT;
     Py_buffer view;
     fbcheck_verdict why;
     fbcheck_schema *schema;
     PyObject *handle;
     (void)module;
-    if (PyObject_GetBuffer(file, &view, PyBUF_SIMPLE) != 0)
+    if (!PyArg_ParseTuple(words, "y*I", &view, &options.demands))
         return NULL;
     Py_BEGIN_ALLOW_THREADS
-    schema = fbcheck_schema_new(view.buf, (size_t)view.len, NULL, &why);
+    schema = fbcheck_schema_new(view.buf, (size_t)view.len, &options, &why);
     Py_END_ALLOW_THREADS
     PyBuffer_Release(&view);
     if (schema == NULL)
@@ -214,7 +216,7 @@ static void schema_free(PyObject *object)
 }
 
 /* Schema(handle, (root, ident_from, ident, prefixed, alignment, inline_size, max_depth, max_tables, max_reads,
-   reads_per_byte), (Verdict, BadBuffer, fault, value)) */
+   reads_per_byte, demands), (Verdict, BadBuffer, fault, value)) */
 static PyObject *schema_new(PyTypeObject *type, PyObject *words, PyObject *named)
 {
     fbcheck_options asked = FBCHECK_OPTIONS_INIT;
@@ -226,9 +228,9 @@ static PyObject *schema_new(PyTypeObject *type, PyObject *words, PyObject *named
     Schema *self;
     uint32_t status;
     (void)named;
-    if (!PyArg_ParseTuple(words, "O(Iby#pppIIKI)(OOOO)", &handle, &asked.root, &asked.ident_from, &ident, &length,
+    if (!PyArg_ParseTuple(words, "O(Iby#pppIIKII)(OOOO)", &handle, &asked.root, &asked.ident_from, &ident, &length,
                           &prefixed, &alignment, &inline_size, &asked.max_depth, &asked.max_tables, &max_reads,
-                          &asked.reads_per_byte, &verdict, &bad_buffer, &fault, &value))
+                          &asked.reads_per_byte, &asked.demands, &verdict, &bad_buffer, &fault, &value))
         return NULL;
     memcpy(asked.ident, ident, length < 4 ? (size_t)length : 4);
     asked.max_reads = max_reads;
@@ -347,6 +349,27 @@ static PyObject *name_of(const fbcheck_schema *schema, uint32_t object, uint32_t
     if (text != room)
         free(text);
     return name;
+}
+
+/* name(handle, object, field): the name of an object with that of its field. */
+static PyObject *name(PyObject *module, PyObject *words)
+{
+    PyObject *handle;
+    uint32_t object, field;
+    fbcheck_schema *schema;
+    PyObject *owner, *part, *whole;
+    (void)module;
+    if (!PyArg_ParseTuple(words, "OII", &handle, &object, &field))
+        return NULL;
+    schema = PyCapsule_GetPointer(handle, HANDLE);
+    if (schema == NULL)
+        return NULL;
+    owner = name_of(schema, object, FBCHECK_NONE);
+    part = owner != NULL ? name_of(schema, object, field) : NULL;
+    whole = part != NULL ? PyUnicode_FromFormat("%U.%U", owner, part) : NULL;
+    Py_XDECREF(owner);
+    Py_XDECREF(part);
+    return whole;
 }
 
 /* The verdict that was told, of a bad message with this place. */
@@ -633,8 +656,9 @@ static int module_exec(PyObject *module)
 }
 
 static PyMethodDef module_methods[] = {
-    { "load", load, METH_O, NULL },
+    { "load", load, METH_VARARGS, NULL },
     { "table", table, METH_VARARGS, NULL },
+    { "name", name, METH_VARARGS, NULL },
     { NULL, NULL, 0, NULL },
 };
 

@@ -96,4 +96,23 @@ impl Options {
         self.asked.inline_size = u8::from(asked);
         self
     }
+
+    /// Whether unions must also be as code that `flatc` generates relies on: false. After such an ok a reader may fetch
+    /// a union's value before it checks the type, as long as it follows no more than the value's own offset then; and
+    /// it may go through a vector of unions by the length of either vector. A schema is loaded with it, and keeps it.
+    pub fn strict(self, asked: bool) -> Options {
+        self.demanding(calls::STRICT, asked)
+    }
+
+    /// Whether strict checks take fields of type `[ubyte]` for plain bytes, whatever the schema file says of nested
+    /// buffers and flexbuffers: false. It needs [`Options::strict`].
+    pub fn plain_bytes(self, asked: bool) -> Options {
+        self.demanding(calls::PLAIN_BYTES, asked)
+    }
+
+    fn demanding(mut self, demand: u32, asked: bool) -> Options {
+        let others = self.asked.demands & !demand;
+        self.asked.demands = if asked { others | demand } else { others };
+        self
+    }
 }

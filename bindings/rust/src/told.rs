@@ -231,6 +231,14 @@ pub enum Error {
     },
     /// This path has more than 31 steps.
     TooManySteps(String),
+    /// [`Options::plain_bytes`](crate::Options::plain_bytes) was asked for without `strict`.
+    UnknownOptions,
+    /// A schema was asked for demands, such as [`Options::strict`](crate::Options::strict), that it wasn't loaded with.
+    NotPlanned,
+    /// Strict checks can't tell whether this field of type `[ubyte]` is a nested buffer or flexbuffer.
+    UnmarkedBytes(String),
+    /// Strict checks don't look inside nested buffers and flexbuffers, as in this field.
+    MarkedBytes(String),
 }
 
 /// The code and name of a fault, by what a verdict tells of it.
@@ -242,6 +250,15 @@ fn fault_name(status: u32, reason: u32) -> String {
 
 /// What is said behind the fault of a file that isn't well-formed.
 const NO_SCHEMA: &str = "; this is no binary schema, which flatc --binary --schema makes";
+
+/// Why strict checks refuse a schema file with a field of bytes, and what lets them take it.
+const UNMARKED: &str = "strict can't tell which bytes are nested buffers or flexbuffers";
+const MARKED: &str = "strict doesn't look inside nested buffers and flexbuffers yet";
+const BUILTINS: &str = "flatc --bfbs-builtins writes it to the .bfbs";
+const AS_BYTES: &str = "plain_bytes takes such fields as bytes";
+
+/// What is said where a schema is asked for other demands.
+const OTHERS: &str = "the schema was loaded with other demands: ask for strict when you load it";
 
 impl Error {
     /// What a call told, which was asked for something, or for nothing that has a name.
@@ -267,6 +284,10 @@ impl Error {
             },
             calls::NO_ROOM => Error::TooManySteps(asked.to_owned()),
             calls::TOO_MUCH_SHARED => Error::TooMuchShared,
+            calls::UNKNOWN_OPTIONS => Error::UnknownOptions,
+            calls::NOT_PLANNED => Error::NotPlanned,
+            calls::UNMARKED_BYTES => Error::UnmarkedBytes(asked.to_owned()),
+            calls::MARKED_BYTES => Error::MarkedBytes(asked.to_owned()),
             status => unreachable!("fbcheck answers {status}"),
         }
     }
@@ -298,6 +319,12 @@ impl fmt::Display for Error {
                 let steps = calls::STEPS;
                 write!(to, "the path has more than {steps} steps ({path:?})")
             }
+            Error::UnknownOptions => write!(to, "plain_bytes needs strict"),
+            Error::NotPlanned => write!(to, "{OTHERS}"),
+            Error::UnmarkedBytes(ref field) => {
+                write!(to, "{UNMARKED}: {field}; {BUILTINS}, {AS_BYTES}")
+            }
+            Error::MarkedBytes(ref field) => write!(to, "{MARKED}: {field}; {AS_BYTES}"),
         }
     }
 }

@@ -20,9 +20,9 @@ use Rattle.fb_lines.specs.Job.{Job, job_of}
 use Rattle.fb_schema.specs.Live.{live_fields}
 use Rattle.fb_strict.specs.Planned.{Planned}
 use Rattle.fb_strict.proofs.Marks.{one_plan}
-use Rattle.fbcheck_serve.specs.Asked.{strict_demands, ArePaths, AsksBy, IsAsked, IsAskedPlan, IsFound, IsPath, LacksIdent, IsPathFault, HasPathFault, Own, asked_root, options_of, own_label, path_texts}
+use Rattle.fbcheck_serve.specs.Asked.{ArePaths, AsksBy, IsAsked, IsAskedPlan, demanded, IsFound, IsPath, LacksIdent, IsPathFault, HasPathFault, Own, asked_root, options_of, own_label, path_texts}
 use Rattle.fbcheck_serve.specs.Inputs.{with_label}
-use Rattle.fbcheck_serve.specs.CheckLaws.{AreAlike, IsSamePlan, AsksOnce, IsSameAnswer, IsSameJob}
+use Rattle.fbcheck_serve.specs.CheckLaws.{AsksOnce}
 use Rattle.fb_bfbs.specs.ByteFields.{HasMarked, HasUnmarked}
 use Rattle.fbcheck_serve.specs.Checking.{AsksMarks, HasMarkedBytes, HasUnmarkedBytes, IsMarkedFile, MayAsk, IsSchema, IsNoSchema, own_of, schema_limits}
 use Rattle.fbcheck_words.specs.declared.choices.Settings.{Settings}
@@ -62,16 +62,6 @@ module _ (rows : Rows) (root : ℕ) where
   one_path_fault (t ∷ texts) f g (inr (steps, resolves, rest)) (inr (others, leads, more)) = one_path_fault texts f g rest more
 
 -- a job without its plan
-abbrev planless : Job → Job
-planless job = record job { plan = None }
-
-same_bools : (a b : Bool) → (a ≡ true → b ≡ true) → (b ≡ true → a ≡ true) → a ≡ b
-same_bools true true h i = refl
-same_bools false false h i = refl
-same_bools true false h i = sym (h refl)
-same_bools false true h i = i refl
-
--- a file says one list of marks
 same_marks : (file : Option (Bor (List ℕ))) (marks others : List Marked) (builtins other : Builtins) → IsMarkedFile file marks builtins → IsMarkedFile file others other
     → (marks ≡ others) × (builtins ≡ other)
 same_marks None marks others builtins other h i = absurd h
@@ -106,32 +96,32 @@ module _ (rows : Rows) (own : Own) (settings : Settings) where
   texts = path_texts settings
 
   -- a job is the same by the same paths
-  same_job : (root : ℕ) (ident : Ident) (x y : Vec Wanted Global) → x.items ≡ y.items → job_of rows (options_of settings root x ident None) ≡ job_of rows (options_of settings root y ident None)
-  same_job root ident x y same = ap (λ (paths : List Wanted). record (job_of rows (options_of settings root x ident None)) { paths = paths }) same
+  same_job : (root : ℕ) (ident : Ident) (plan : Option Planned) (x y : Vec Wanted Global) → x.items ≡ y.items
+      → job_of rows (options_of settings root x ident plan) ≡ job_of rows (options_of settings root y ident plan)
+  same_job root ident plan x y same = ap (λ (paths : List Wanted). record (job_of rows (options_of settings root x ident plan)) { paths = paths }) same
 
-  same_found : (h i : IsFound rows own settings) → job_of rows (options_of settings h.root h.paths h.ident None) ≡ job_of rows (options_of settings i.root i.paths i.ident None)
-  same_found h i =
+  same_found : (h i : IsFound rows own settings) (plan : Option Planned) → job_of rows (options_of settings h.root h.paths h.ident plan) ≡ job_of rows (options_of settings i.root i.paths i.ident plan)
+  same_found h i plan =
       let r = same_root (asked_root rows own settings) h.root i.root h.root_is i.root_is in
       let s = one_paths rows i.root texts h.paths.items i.paths.items (subst (λ n. ArePaths rows n texts h.paths.items) r h.paths_are) i.paths_are in
       let w : Some h.ident ≡ Some i.ident = sym h.ident_is ∙ i.ident_is in
       let a : h.ident ≡ i.ident = cc in
-      ap (λ n. job_of rows (options_of settings n h.paths h.ident None)) r ∙ same_job i.root h.ident h.paths i.paths s ∙ ap (λ d. job_of rows (options_of settings i.root i.paths d None)) a
+      ap (λ n. job_of rows (options_of settings n h.paths h.ident plan)) r ∙ same_job i.root h.ident plan h.paths i.paths s
+      ∙ ap (λ d. job_of rows (options_of settings i.root i.paths d plan)) a
 
-  alike : (p q : Option Planned) → IsAskedPlan rows settings p → IsAskedPlan rows settings q → AreAlike (length rows.objects) p q
-  alike None None h i = tt
-  alike None (Some q) h i = let w : true ≡ false = sym i.0 ∙ h in cc
-  alike (Some p) None h i = let w : true ≡ false = sym h.0 ∙ i in cc
-  alike (Some p) (Some q) h i = subst (λ r. IsSamePlan (length rows.objects) p r) (one_plan rows strict_demands p q h.1 i.1) (record { asked = λ k. refl; tasks = λ k within. refl })
+  same_plan : (p q : Option Planned) → IsAskedPlan rows settings p → IsAskedPlan rows settings q → p ≡ q
+  same_plan None None h i = refl
+  same_plan None (Some q) h i = let w : true ≡ false = sym i.0 ∙ h in cc
+  same_plan (Some p) None h i = let w : true ≡ false = sym h.0 ∙ i in cc
+  same_plan (Some p) (Some q) h i = ap (λ r. Some r) (one_plan rows (demanded settings) p q h.1 i.1)
 
-  one_job : (x y : Job) → IsAsked rows own settings x → IsAsked rows own settings y → IsSameJob x y
+  abbrev job_by : IsFound rows own settings → Option Planned → Job
+  job_by h plan = with_label (own_label settings) (job_of rows (options_of settings h.root h.paths h.ident plan))
+
+  one_job : (x y : Job) → IsAsked rows own settings x → IsAsked rows own settings y → x ≡ y
   one_job x y h i =
-      let first : x.plan ≡ h.plan = ap (λ (j : Job). j.plan) h.job_is in
-      let second : y.plan ≡ i.plan = ap (λ (j : Job). j.plan) i.job_is in
-      let by : x.rows ≡ rows = ap (λ (j : Job). j.rows) h.job_is in
-      record {
-        rest = ap planless h.job_is ∙ ap (λ (j : Job). with_label (own_label settings) j) (same_found h.found i.found) ∙ sym (ap planless i.job_is);
-        plan = rw (first, second, by) (alike h.plan i.plan h.plan_is i.plan_is);
-      }
+      h.job_is ∙ ap (job_by h.found) (same_plan h.plan i.plan h.plan_is i.plan_is) ∙ ap (λ (j : Job). with_label (own_label settings) j) (same_found h.found i.found i.plan)
+      ∙ sym i.job_is
 
   found_or_fault : (root : ℕ) (paths : List Wanted) (f : PathFault) → asked_root rows own settings ≡ Some root → ArePaths rows root texts paths → HasPathFault rows own settings f → ⊥
   found_or_fault root paths f is are i =
@@ -161,8 +151,8 @@ abbrev AsksAll : Option (Bor (List ℕ)) → Rows → Own → Settings → Resul
 AsksAll file rows own settings answer = AsksBy rows own settings answer × AsksMarks file rows settings answer
 
 module _ (file : Option (Bor (List ℕ))) (rows : Rows) (own : Own) (settings : Settings) where
-  asks_by_once : (x y : Result Job AskFault) → AsksAll file rows own settings x → AsksAll file rows own settings y → IsSameAnswer x y
-  asks_by_once (Ok x) (Ok y) h i = one_job rows own settings x y h.0 i.0
+  asks_by_once : (x y : Result Job AskFault) → AsksAll file rows own settings x → AsksAll file rows own settings y → x ≡ y
+  asks_by_once (Ok x) (Ok y) h i = ap (λ j. Ok j) (one_job rows own settings x y h.0 i.0)
   asks_by_once (Ok x) (Err NoRoot) h i = absurd (no_root_found rows own settings h.0.found i.0)
   asks_by_once (Ok x) (Err (Path g)) h i = absurd (no_path_found rows own settings h.0.found g i.0)
   asks_by_once (Ok x) (Err NoIdent) h i = absurd (no_ident_found rows own settings h.0.found i.0)
@@ -176,7 +166,7 @@ module _ (file : Option (Bor (List ℕ))) (rows : Rows) (own : Own) (settings : 
   asks_by_once (Err NoRoot) (Err UnmarkedBytes) h i = absurd (no_root_found rows own settings i.0 h.0)
   asks_by_once (Err (Path f)) (Ok y) h i = absurd (no_path_found rows own settings i.0.found f h.0)
   asks_by_once (Err (Path f)) (Err NoRoot) h i = absurd (rooted_or_not rows own settings (h.0).0 (h.0).1 i.0)
-  asks_by_once (Err (Path f)) (Err (Path g)) h i = ap (λ f. Path f) (one_fault_of_path rows own settings f g h.0 i.0)
+  asks_by_once (Err (Path f)) (Err (Path g)) h i = ap (λ f. Err (Path f)) (one_fault_of_path rows own settings f g h.0 i.0)
   asks_by_once (Err (Path f)) (Err NoIdent) h i = absurd (found_or_fault rows own settings (i.0).root (i.0).paths f (i.0).root_is (i.0).paths_are h.0)
   asks_by_once (Err (Path f)) (Err MarkedBytes) h i = absurd (no_path_found rows own settings i.0 f h.0)
   asks_by_once (Err (Path f)) (Err UnmarkedBytes) h i = absurd (no_path_found rows own settings i.0 f h.0)
@@ -235,14 +225,14 @@ same_own (Some bytes) rows others own other h i =
 abbrev AsksOf : Option (Bor (List ℕ)) → Settings → Result Job AskFault → Type 0
 AsksOf file settings answer = (rows : Rows) × (own : Own) × IsSchema file rows own × AsksBy rows own settings answer × AsksMarks file rows settings answer
 
-of_one_file : (file : Option (Bor (List ℕ))) (settings : Settings) (x y : Result Job AskFault) → AsksOf file settings x → AsksOf file settings y → IsSameAnswer x y
+of_one_file : (file : Option (Bor (List ℕ))) (settings : Settings) (x y : Result Job AskFault) → AsksOf file settings x → AsksOf file settings y → x ≡ y
 of_one_file file settings x y h i =
     let r = same_rows file h.0 i.0 h.1 i.1 h.2 i.2 in
     let o = same_own file h.0 i.0 h.1 i.1 h.2 i.2 in
     asks_by_once file i.0 i.1 settings x y (subst (λ own. AsksAll file i.0 own settings x) o (subst (λ rows. AsksAll file rows h.1 settings x) r (h.3, h.4))) (i.3, i.4)
 
 pub asks_once : AsksOnce
-asks_once file settings (Err (Load f)) (Err (Load g)) h i = ap (λ f. Load f) (one_no_schema file f g h i)
+asks_once file settings (Err (Load f)) (Err (Load g)) h i = ap (λ f. Err (Load f)) (one_no_schema file f g h i)
 asks_once file settings (Err (Load f)) y h i = absurd (schema_or_none file i.0 i.1 f i.2 h)
 asks_once file settings x (Err (Load g)) h i = absurd (schema_or_none file h.0 h.1 g h.2 i)
 asks_once file settings x y h i = of_one_file file settings x y h i

@@ -4,8 +4,8 @@
 ghost use Rattle.fbcheck_serve.specs.{CheckLaws.AsksOnce, InputTests.Courses, InputTests.Finals, InputTests.Labels, StopTests.StopTexts};
 ghost use Rattle.fbcheck_texts.specs.TextTests.{AskTexts, HintTexts, LoadTexts, RunTexts};
 
-/// A schema file, or none, and the settings ask at most one thing: that the buffers are checked by one job, but for how
-/// its plan is kept, or that nothing is checked, for one cause: the file gives no schema, there is no root table, the
+/// A schema file, or none, and the settings ask at most one thing: that the buffers are checked by one job, or that
+/// nothing is checked, for one cause: the file gives no schema, there is no root table, the
 /// path isn't one from there, the schema's own identifier is asked for and has neither no bytes nor four, or strict
 /// checks are asked for and the file marks a field of bytes, or doesn't show that it would. So
 /// [`check`](crate::check::check) tells each of these exactly where it is so, or want of memory in its place.

@@ -3,7 +3,7 @@
 ghost use Rattle.std.specs.Prelude.{IfErr, IfOk, IsTrue, OnOk, ◌≡◌, length};
 ghost use Rattle.fb_bfbs.specs.{Loads.IsLoaded, Marks.AreMarks};
 ghost use Rattle.fb_bfbs.specs.declared.loading.Loaded.{Loaded};
-ghost use Rattle.fbcheck_serve.specs.Asked.{IsAskedPlan, Own};
+ghost use Rattle.fbcheck_serve.specs.Asked.{IsAskedPlan, Own, demanded, is_demanding};
 ghost use Rattle.fbcheck_serve.specs.Checking.{IsPlanless, IsSchema, MayAsk, schema_limits};
 ghost use Rattle.fbcheck_texts.specs.Hints.{hint_text};
 ghost use Rattle.fbcheck_texts.specs.declared.fault.AskFault.TheVariants.{OutOfMemory};
@@ -33,16 +33,27 @@ fn marks_of<'b>(alloc: Global, bytes: &'b [u8]) -> Result<Marks<'b>, Unasked>
     }
 }
 
-/// What strict checks demand.
-const STRICT: Demands = Demands {
-    unions: true,
-    nested: true,
-    known_fields: false,
-    utf8: false,
-};
+/// What the settings demand of buffers beside the rules of the format.
+fn demanded(settings: &Settings) -> Demands
+    ensures { result ≡ demanded settings.now }
+{
+    Demands {
+        unions: settings.strict,
+        nested: settings.strict && !settings.plain_bytes,
+        known_fields: settings.known_fields,
+        utf8: settings.utf8,
+    }
+}
 
-/// Whether strict checks can be made by a schema file, or else why not: its marks are asked, unless bytes are plain.
-/// Without a file they can.
+/// Whether they demand anything.
+fn is_demanding(settings: &Settings) -> bool
+    ensures { result ≡ is_demanding settings.now }
+{
+    settings.strict || settings.known_fields || settings.utf8
+}
+
+/// Whether what the settings demand can be asked by a schema file, or else why not: its marks are asked for strict
+/// checks, unless bytes are plain. Without a file it can.
 fn test_file(
     alloc: Global,
     schema: &Schema<'_>,
@@ -50,13 +61,15 @@ fn test_file(
     settings: &Settings,
 ) -> Result<(), Unasked>
     requires schema { (own : Own) × IsSchema file schema.now own }
-    requires strict { IsTrue settings.now.strict }
     ensures ok { OnOk result (MayAsk file.entry schema.now settings.now) }
     ensures no { IfErr result (λ u. IsPlanless file.entry schema.now settings.now u.fault (hint_text u.hint)) }
 {
     let Some(bytes) = file else {
         return Ok(());
     };
+    if !settings.strict {
+        return Ok(());
+    }
     if settings.plain_bytes {
         return Ok(());
     }
@@ -66,11 +79,11 @@ fn test_file(
     }
 }
 
-/// The plan of a schema, where the settings ask for strict checks, and else none.
+/// The plan of a schema for what the settings demand, and none where that is nothing.
 ///
 /// # Errors
 ///
-/// Where they ask for them by a schema file, and not for plain bytes: `MarkedBytes` where it marks a field of bytes, and
+/// Where they ask for strict checks by a schema file, and not for plain bytes: `MarkedBytes` where it marks a field of bytes, and
 /// then `UnmarkedBytes` where it has one without a mark and doesn't show that it would mark it. `OutOfMemory` where
 /// memory was refused.
 pub fn plan_of(
@@ -84,11 +97,11 @@ pub fn plan_of(
     ensures may { OnOk result (MayAsk file.entry schema.now settings.now) }
     ensures no { IfErr result (λ u. IsPlanless file.entry schema.now settings.now u.fault (hint_text u.hint)) }
 {
-    if !settings.strict {
+    if !is_demanding(settings) {
         return Ok(None);
     }
     test_file(alloc, schema, file, settings)?;
-    match Plan::new(alloc, schema, STRICT) {
+    match Plan::new(alloc, schema, demanded(settings)) {
         Ok(plan) => Ok(Some(plan)),
         Err(_) => Err(Unasked::plain(AskFault::OutOfMemory)),
     }

@@ -72,6 +72,10 @@ func options(words []string) fbcheck.Options {
 			asked.NoAlignment = value == "0"
 		case "inline_size":
 			asked.InlineSize = value == "1"
+		case "strict":
+			asked.Strict = value == "1"
+		case "plain_bytes":
+			asked.PlainBytes = value == "1"
 		default:
 			panic("no option " + name)
 		}

@@ -20,6 +20,8 @@ fbcheck.Schema(5)  # error
 fbcheck.Schema("my.bfbs", ident=5)  # error
 schema.replace(roots="R")  # error
 schema.replace(max_depth="5")  # error
+fbcheck.Schema("my.bfbs", strict=True, plain_bytes=True).replace(strict=False).options.strict
+schema.replace(strict="yes")  # error
 
 value: fbcheck.Value = schema.read(b"", "name")
 first, second = schema.read(b"", "name", schema.path("hp"))

@@ -155,9 +155,9 @@ final class Calls {
     }
 
     /** A schema that is freed with the arena, or null. */
-    static MemorySegment schemaNew(MemorySegment file, MemorySegment verdict, Arena arena) {
-        MemorySegment made = told(() -> (MemorySegment) SCHEMA_NEW.invokeExact(file, file.byteSize(),
-                MemorySegment.NULL, verdict));
+    static MemorySegment schemaNew(MemorySegment file, MemorySegment options, MemorySegment verdict, Arena arena) {
+        MemorySegment made = told(() -> (MemorySegment) SCHEMA_NEW.invokeExact(file, file.byteSize(), options,
+                verdict));
         return made.address() == 0 ? null : made.reinterpret(arena, schema -> freed(SCHEMA_FREE, schema));
     }
 

@@ -37,7 +37,15 @@ public class FbcheckException extends RuntimeException {
         /** A path is none of this schema from this root. */
         MISFIT(Codes.MISFIT, "a path is none of this schema from this root"),
         /** The schema file has more rows, or longer names, than its length pays for. */
-        TOO_MUCH_SHARED(Codes.TOO_MUCH_SHARED, "schema: L6 TooMuchShared");
+        TOO_MUCH_SHARED(Codes.TOO_MUCH_SHARED, "schema: L6 TooMuchShared"),
+        /** A schema was asked for demands, such as {@link Demand#STRICT}, that it wasn't loaded with. */
+        NOT_PLANNED(Codes.NOT_PLANNED, "the schema was loaded with other demands: ask for strict when you load it"),
+        /** Strict checks can't tell whether a field of type {@code [ubyte]} is a nested buffer or flexbuffer. */
+        UNMARKED_BYTES(Codes.UNMARKED_BYTES, "strict can't tell which bytes are nested buffers or flexbuffers: %s;"
+                + " flatc --bfbs-builtins writes it to the .bfbs, plainBytes takes such fields as bytes"),
+        /** Strict checks don't look inside nested buffers and flexbuffers, of which the schema file marks one. */
+        MARKED_BYTES(Codes.MARKED_BYTES, "strict doesn't look inside nested buffers and flexbuffers yet: %s;"
+                + " plainBytes takes such fields as bytes");
 
         private final int number;
         private final String text;
@@ -77,6 +85,11 @@ public class FbcheckException extends RuntimeException {
      * that was asked for, or null.
      */
     static FbcheckException of(long[] told, Object asked) {
+        return of(told, null, asked);
+    }
+
+    /** The same where numbers are of a field, which has this name. */
+    static FbcheckException of(long[] told, String field, Object asked) {
         Status status = Status.of(Told.status(told));
         int code = Told.code(told);
         return new FbcheckException(status, naming(asked, switch (status) {
@@ -86,6 +99,7 @@ public class FbcheckException extends RuntimeException {
                     + " part=" + Told.dash(Told.field(told));
             case BAD_PATH -> "path: " + Calls.faultName(status.number, code)
                     + (code == Codes.BAD_TEXT ? " at=" : " step=") + Told.at(told);
+            case UNMARKED_BYTES, MARKED_BYTES -> status.text.formatted(field);
             default -> status.text;
         }));
     }

@@ -43,6 +43,8 @@ fn options(words: &[&str]) -> Result<Options, Box<dyn std::error::Error>> {
             "prefixed" => asked.prefixed(value == "1"),
             "alignment" => asked.alignment(value == "1"),
             "inline_size" => asked.inline_size(value == "1"),
+            "strict" => asked.strict(value == "1"),
+            "plain_bytes" => asked.plain_bytes(value == "1"),
             _ => return Err("no such option".into()),
         };
     }
