@@ -1,11 +1,10 @@
 -- What a schema file's marks let strict checks ask.
-use Rattle.std.proofs.Common.{◌≡◌, IfErr, OnOk, ℕ, Bool, List, None, Option, Result, Some, map, true, false, refl, sym, ◌∙◌, length}
-use Rattle.std.specs.Prelude.{◌||◌, Err, Ok}
+use Rattle.std.proofs.Common.{◌≡◌, IfErr, OnOk, ℕ, List, None, Option, Result, Some, map, true, false, refl, sym, ◌∙◌, length}
+use Rattle.std.specs.Prelude.{Err, Ok}
 use Rattle.std.specs.Borrow.{Bor}
 use Rattle.fb_schema.specs.Rows.{Rows}
 use Rattle.fb_bfbs.specs.Marks.{AreMarks, marked}
 use Rattle.fb_bfbs.specs.declared.{marks.Marks.Marks}
-use Rattle.fbcheck_serve.specs.Asked.{is_demanding}
 use Rattle.fb_bfbs.specs.ByteFields.{AreAllPlain}
 use Rattle.fbcheck_serve.specs.ByteFields.{Misses}
 use Rattle.fbcheck_serve.specs.Checking.{IsPlanless, MayAsk, NeedsMarks, schema_limits}
@@ -27,14 +26,6 @@ may_unless_strict file rows settings lax needs = absurd (unneeded file settings 
 
 pub may_of_plain : (file : Option (Bor (List ℕ))) (rows : Rows) (settings : Settings) → settings.plain_bytes ≡ true → MayAsk file rows settings
 may_of_plain file rows settings plain needs = absurd (unneeded_of_plain file settings plain needs)
-
--- nor where nothing is demanded
-not_strict : (strict other : Bool) → (strict || other) ≡ false → strict ≡ false
-not_strict false other none = refl
-not_strict true other none = cc
-
-pub may_undemanded : (file : Option (Bor (List ℕ))) (rows : Rows) (settings : Settings) → is_demanding settings ≡ false → MayAsk file rows settings
-may_undemanded file rows settings none = may_unless_strict file rows settings (not_strict settings.strict _ none)
 
 module _ (bytes : Bor (List ℕ)) (rows : Rows) (settings : Settings) (marks : Marks) (are : AreMarks bytes.now (schema_limits (length bytes.now)) marks) where
   -- where no field of bytes holds anything

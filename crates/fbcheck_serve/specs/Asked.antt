@@ -1,5 +1,5 @@
 -- What the settings ask, by a schema that has a root table of its own, or none.
-use Rattle.std.specs.Prelude.{◌≡◌, ℕ, ◌&&◌, ◌||◌, not, Bool, IsTrue, true, false, List, Option, Some, None, Result, Ok, Err, Vec, option_map, map, string_bytes, [], ◌∷◌, ◌⊎◌, codes, if◌then◌else◌}
+use Rattle.std.specs.Prelude.{◌≡◌, ℕ, ◌&&◌, not, Bool, IsTrue, true, false, List, Option, Some, None, Result, Ok, Err, Vec, option_map, map, string_bytes, [], ◌∷◌, ◌⊎◌, codes, if◌then◌else◌}
 use Rattle.std.specs.{Global.Global, List.AllZip}
 use Rattle.fb_schema.specs.Rows.{Rows, table_named}
 use Rattle.fb_access.specs.declared.{step.Step.Step, path_fault.PathFault.PathFault}
@@ -129,18 +129,14 @@ abbrev pub demanded : Settings → Demands
 demanded settings = record {
   unions = settings.strict;
   nested = settings.strict && not settings.plain_bytes;
-  known_fields = settings.known_fields;
-  utf8 = settings.utf8;
+  known_fields = false;
+  utf8 = false;
 }
 
--- whether they demand anything
-abbrev pub is_demanding : Settings → Bool
-is_demanding settings = settings.strict || (settings.known_fields || settings.utf8)
-
--- where they do, the plan of the rows for that is asked, and else none
+-- where they ask for strict checks, the plan of the rows for that is asked, and else none
 abbrev pub IsAskedPlan : Rows → Settings → Option Planned → Type 0
-IsAskedPlan rows settings None = is_demanding settings ≡ false
-IsAskedPlan rows settings (Some plan) = IsTrue (is_demanding settings) × IsPlan rows (demanded settings) plan
+IsAskedPlan rows settings None = settings.strict ≡ false
+IsAskedPlan rows settings (Some plan) = IsTrue settings.strict × IsPlan rows (demanded settings) plan
 
 -- the buffers are checked from the root, with the paths, by the identifier and as strictly as the settings ask
 pub record IsAsked (rows : Rows) (own : Own) (settings : Settings) (job : Job) : Type 0 where

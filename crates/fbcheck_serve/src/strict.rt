@@ -3,7 +3,7 @@
 ghost use Rattle.std.specs.Prelude.{IfErr, IfOk, IsTrue, OnOk, ◌≡◌, length};
 ghost use Rattle.fb_bfbs.specs.{Loads.IsLoaded, Marks.AreMarks};
 ghost use Rattle.fb_bfbs.specs.declared.loading.Loaded.{Loaded};
-ghost use Rattle.fbcheck_serve.specs.Asked.{IsAskedPlan, Own, demanded, is_demanding};
+ghost use Rattle.fbcheck_serve.specs.Asked.{IsAskedPlan, Own, demanded};
 ghost use Rattle.fbcheck_serve.specs.Checking.{IsPlanless, IsSchema, MayAsk, schema_limits};
 ghost use Rattle.fbcheck_texts.specs.Hints.{hint_text};
 ghost use Rattle.fbcheck_texts.specs.declared.fault.AskFault.TheVariants.{OutOfMemory};
@@ -40,16 +40,9 @@ fn demanded(settings: &Settings) -> Demands
     Demands {
         unions: settings.strict,
         nested: settings.strict && !settings.plain_bytes,
-        known_fields: settings.known_fields,
-        utf8: settings.utf8,
+        known_fields: false,
+        utf8: false,
     }
-}
-
-/// Whether they demand anything.
-fn is_demanding(settings: &Settings) -> bool
-    ensures { result ≡ is_demanding settings.now }
-{
-    settings.strict || settings.known_fields || settings.utf8
 }
 
 /// Whether what the settings demand can be asked by a schema file, or else why not: its marks are asked for strict
@@ -79,7 +72,7 @@ fn test_file(
     }
 }
 
-/// The plan of a schema for what the settings demand, and none where that is nothing.
+/// The plan of a schema for what the settings demand, where they ask for strict checks, and else none.
 ///
 /// # Errors
 ///
@@ -97,7 +90,7 @@ pub fn plan_of(
     ensures may { OnOk result (MayAsk file.entry schema.now settings.now) }
     ensures no { IfErr result (λ u. IsPlanless file.entry schema.now settings.now u.fault (hint_text u.hint)) }
 {
-    if !is_demanding(settings) {
+    if !settings.strict {
         return Ok(None);
     }
     test_file(alloc, schema, file, settings)?;
