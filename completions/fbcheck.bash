@@ -22,8 +22,8 @@ _fbcheck_left() { # WORD..
 _fbcheck() {
     local word=${COMP_WORDS[COMP_CWORD]} before=${COMP_WORDS[COMP_CWORD - 1]}
     local left=" --schema --root --ident --schema-ident --path --max-depth --max-tables --max-reads --reads-per-byte \
---max-bytes --bare --delimited --no-alignment --inline-size --strict --plain-bytes --quiet --filter --summary --names \
---json --with-filename --help --version "
+--max-bytes --bare --delimited --no-alignment --inline-size --strict --plain-bytes --known-fields --utf8 --quiet --filter \
+--summary --names --json --with-filename --help --version "
     COMPREPLY=()
     # An equals sign is a word of its own.
     [ "$before" != = ] || before=${COMP_WORDS[COMP_CWORD - 2]}

@@ -28,8 +28,11 @@
 // buffers that are ok; Pack() can crash on objects that UnPack() made of these. Nor do FIELD_nested_root() and
 // FIELD_flexbuffer_root() check the bytes that they read. With FBCHECK_STRICT (Options::demands) an ok says more: a
 // reader may fetch a union's value before it checks the type, as long as it follows no more than the value's own offset
-// then, and may go through a vector of unions by the length of either vector. UnPack() does no more than that. A Schema
-// that is made with these demands makes them in each check, whatever the options of the check:
+// then, and may go through a vector of unions by the length of either vector. UnPack() does no more than that. Nested
+// buffers are ok too, by the same words, and there are no flexbuffers (with FBCHECK_PLAIN_BYTES both are plain bytes).
+// With FBCHECK_UTF8 strings are UTF-8, and with FBCHECK_KNOWN_FIELDS tables have no fields that the schema doesn't
+// know, nor deprecated ones. A Schema that is made with such demands makes them in each check, whatever the check's own
+// options:
 //
 //     fbcheck::Options strict;
 //     strict.demands = FBCHECK_STRICT;
@@ -341,7 +344,7 @@ class Schema {
   private:
     // The field that keeps demands from being asked, as "Table.field", if that is why there is no schema.
     static std::string unplanned(Bytes file, Options options, const fbcheck_verdict &told) {
-        if (told.status != FBCHECK_UNMARKED_BYTES && told.status != FBCHECK_MARKED_BYTES) return {};
+        if (told.status != FBCHECK_UNMARKED_BYTES && told.status != FBCHECK_NO_SUCH_TABLE) return {};
         options.demands = 0;
         const Schema plain(file, options);
         const auto name = [](auto &&call) {

@@ -22,15 +22,18 @@ import unittest
 
 from tests.support import schemas
 from tests.support.buffers import (
-    ASKEW, HALVES, MEMBER, MEMBERS, NOTHING, ORC, PLACED, PLAIN, POST, TWINS, WILD, doubling, levels, lower_type, named,
+    ASKEW, HALVES, MEMBER, MEMBERS, NO_TEXT, NOTHING, ORC, PLACED, PLAIN, POST, THIRD_SLOT, TWINS, WILD, doubling,
+    levels, lower_type, named,
 )
 from tests.support.builder import buffer, changed, messages_of, prefixed
 from tests.support.every_kind import FILE, LITTLE, OPTIONS, PLACE, WHOLE, variants, words_of
+from tests.support.generated import Kept
 from tests.support.header import Reason
 from tests.support.library import OUT, LibraryCase, ran
 from tests.support.naive import NAMES
 from tests.support.program import FOLDER, TOP, file_of, run
 from tests.support.schemas import INT, TEXT, U_BYTE, a_union, an_object, field, schema, table, union
+from tests.support.strict_messages import MESSAGES
 from tests.support.tools import jdk_of_22, node_headers, there
 
 DRIVERS = TOP / "tests/bindings"
@@ -71,6 +74,7 @@ class Binding:
 
     max_depth, strict, plain_bytes = "maxDepth", "strict", "plainBytes"
     closed = "the schema is closed"
+    others = "the schema was loaded with other demands: ask for these when you load it"
     quoted = ' ("{}")'  # what was asked for, behind the text of an error
     names_files = False  # whether a schema file is loaded by its name, which an error tells too
     briefly = ()  # the driver's words, behind the first, by which a short run costs less
@@ -202,11 +206,44 @@ class Binding:
                      f"{lines}end"]
             self.same(f"{words}: what the binding tells", told, wants)
 
+    def test_fields_and_texts(self):
+        """A schema that is loaded for known fields, and for UTF-8, makes all of its checks so."""
+        messages = [ORC, NO_TEXT, THIRD_SLOT]
+        files = [file_of(f"text{number}", data) for number, data in enumerate(messages)]
+        stream = file_of("texts", b"".join(map(prefixed, messages)))
+        fields, texts = ["--known-fields"], ["--utf8"]
+        for words, refused in [(fields, ["V16"]), (texts, ["V15"]), ([*fields, *texts], ["V15", "V16"]),
+                               (["--strict", *fields, *texts], ["V15", "V16"])]:
+            by_m = ["--names", "--schema", FILES["M"], *words]
+            asked = " ".join(f"{word[2:].replace('-', '_')}=1" for word in words)
+            lines = run(*by_m, given=stream.read_bytes()).out.decode()
+            wants = [run("--bare", *by_m, given=data).out.decode().removeprefix("1 ").strip() for data in messages]
+            self.same(f"{words}: the program", re.findall(r"bad (V\d+)", " ".join(wants)), refused)
+            told = self.told(f"load {FILES['M']} {asked}", *[f"check {file}" for file in files], "with prefixed=1",
+                             f"stream {stream} 7 7 4096")
+            self.same(f"{words}: what the binding tells", told, ["done", *wants, "done", f"{lines}end"])
+        others = f"error {self.others}"
+        self.same("others than it was loaded with", self.told(
+            f"load {FILES['M']} utf8=1", "with known_fields=1", "with strict=1", "with utf8=1"),
+            ["done", others, others, "done"])
+
+    def test_nested(self):
+        """Strict checks look into nested buffers, unless they take them for bytes."""
+        file, first = Kept("nests").file, MESSAGES["nests"][0]
+        messages = [*MESSAGES["nests"], *(changed(first, (at, "ff")) for at in range(0, len(first), 8))]
+        stream = file_of("nests", b"".join(map(prefixed, messages)))
+        for words in (["--strict"], ["--strict", "--plain-bytes"]):
+            asked = " ".join(f"{word[2:].replace('-', '_')}=1" for word in words)
+            want = run("--names", "--delimited", "--schema", file, *words, given=stream.read_bytes()).out.decode()
+            files = [file_of(f"nest{number}", data) for number, data in enumerate(messages)]
+            _, *told = self.told(f"load {file} {asked}", *[f"check {one}" for one in files])
+            self.same(f"{words}: verdicts", told, [line.partition(" ")[2] for line in want.splitlines()])
+
     def test_what_strict_refuses(self):
         """Schema files that don't tell what bytes are, and demands that a schema wasn't loaded with."""
         as_bytes = f"{self.plain_bytes} takes such fields as bytes"
         builtins = f"flatc --bfbs-builtins writes it to the .bfbs, {as_bytes}"
-        for name, remedy in [("BYTES", builtins), ("FLEX", as_bytes)]:
+        for name, remedy in [("BYTES", builtins), ("LOST", as_bytes)]:
             file = FILES[name]
             where = self.quoted.format(file) if self.names_files else ""
             fault = self.fault("--schema", file, "--strict")
@@ -214,7 +251,7 @@ class Binding:
             told = self.told(f"load {file}", f"load {file} strict=1", f"load {file} strict=1 plain_bytes=1",
                              f"check {file_of('empty_table', PLAIN)}")
             self.same(name, told, ["done", f"error {fault}; {remedy}{where}", "done", "ok tables=1 depth=1 reads=3"])
-        other = f"error the schema was loaded with other demands: ask for {self.strict} when you load it"
+        other = f"error {self.others}"
         alone = f"error {self.plain_bytes} needs {self.strict}"
         self.same("demands that can't be served", self.told(
             f"load {FILES['M']} plain_bytes=1", f"load {FILES['M']}", "with strict=1", "with plain_bytes=1",

@@ -16,7 +16,7 @@ STATUS_TEXTS = [
     "too many steps", "a path is none of this schema's from this root",
     "its rows or names are more than its length pays for", "the schema was made with other demands",
     "strict can't tell which bytes are nested buffers or flexbuffers",
-    "strict doesn't look inside nested buffers and flexbuffers yet",
+    "strict can't find the table of a nested buffer",
 ]
 
 

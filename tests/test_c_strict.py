@@ -6,7 +6,7 @@ import itertools
 
 from tests.support import schemas
 from tests.support.buffers import ORC
-from tests.support.builder import buffer, prefixed
+from tests.support.builder import Plain, buffer, prefixed
 from tests.support.generated import Kept
 from tests.support.library import SANITIZED, SHARED, STATIC, LibraryCase, ran
 from tests.support.library import module as module_anew
@@ -15,26 +15,48 @@ from tests.support.program import TOP, file_of, run
 from tests.support.random_buffers import Builder
 from tests.support.random_buffers import damaged as damaged_at_random
 from tests.support.random_rows import Maker, Random
-from tests.support.strict import Plan, Strict
+from tests.support.strict import FLEX, Demands, Plan, Strict, found_from, lacks_marks
 from tests.support.strict_messages import MESSAGES, PREFIXED
-from tests.support.strict_program import DEMANDED, strict_words, words_of_limits
+from tests.support.strict_program import words_of_limits
 from tests.support.tools import there
 from tests.test_strict import Made, damaged, mark
 
 # The module once, so that its classes are the same ones everywhere.
 module = functools.cache(module_anew)
 
-STRICT, PLAIN_BYTES = 1, 8
+STRICT, KNOWN_FIELDS, UTF8, PLAIN_BYTES = 1, 2, 4, 8
 STRICTLY_PLAIN = STRICT | PLAIN_BYTES
+WORDS = {STRICT: "--strict", KNOWN_FIELDS: "--known-fields", UTF8: "--utf8", PLAIN_BYTES: "--plain-bytes"}
+# Demands that need no strict checks, and with which such ones are made.
+OTHERS = [0, KNOWN_FIELDS, UTF8, KNOWN_FIELDS | UTF8]
+# By kinds.fbs: one with a flexbuffer.
+FREE = buffer({11: "n", 28: Plain(bytes([4, 4, 1]), 1, 3), 29: ("i", 1)})
 LIMITS = [{}, {"no_alignment": 1}, {"inline_size": 1}, {"max_depth": 2}, {"max_tables": 3}, {"max_reads": 40},
           {"max_reads": 90}]
 # The same, as the plain checker has them.
 NAMES = {"max_depth": "depth", "max_tables": "tables", "max_reads": "reads"}
 
 
-def demands_of(objects):
-    """The demands by which a schema with these rows is strict."""
-    return STRICTLY_PLAIN if "--plain-bytes" in strict_words(objects) else STRICT
+def is_lost(kept):
+    """Whether a mark names no table."""
+    return any(mark != FLEX and found_from(kept.schema, owner, mark) is None for (owner, _), mark in kept.marks.items())
+
+
+def demands_of(kept):
+    """The demands by which a schema is strict, which knows what its fields of bytes hold if it can."""
+    is_told = kept.marks or not lacks_marks(kept.objects)
+    return STRICT if is_told and not is_lost(kept) else STRICTLY_PLAIN
+
+
+def words_for(demands):
+    """The same, as the program has them."""
+    return [word for bit, word in WORDS.items() if demands & bit]
+
+
+def demanded(demands):
+    """The same, as the plain checker has them."""
+    unions, known_fields, utf8 = (bool(demands & bit) for bit in (STRICT, KNOWN_FIELDS, UTF8))
+    return Demands(unions=unions, nested=demands & STRICTLY_PLAIN == STRICT, known_fields=known_fields, utf8=utf8)
 
 
 def limits_of(limits):
@@ -61,10 +83,9 @@ class StrictForC(LibraryCase):
         """A schema for these demands."""
         return module().Verifier(kept.file.read_bytes(), options=module().Options(demands=demands))
 
-    def told_alike(self, name, kept, messages, limits):
+    def told_alike(self, name, kept, messages, limits, demands):
         """Each call tells of each buffer what the plain checker does."""
-        plan, root, seen = Plan(kept.schema, DEMANDED, kept.marks), kept.root, set()
-        demands = demands_of(kept.objects)
+        plan, root, seen = Plan(kept.schema, demanded(demands), kept.marks), kept.root, set()
         options = self.asked(root, demands, **limits)
         with self.made(kept, demands) as verifier:
             calls, schema = verifier._calls, verifier._schema
@@ -79,7 +100,8 @@ class StrictForC(LibraryCase):
                 told = [verifier.verify(data, options), self.within(calls, schema, scratch, options, data), of_all,
                         verifier.locate(data, options)[0], self.read(verifier, options, data)]
                 if {line_of(verifier, one) for one in told} != {want}:
-                    self.same(f"{name}, {limits}, {data.hex()}", [line_of(verifier, one) for one in told], [want] * 5)
+                    told = [line_of(verifier, one) for one in told]
+                    self.same(f"{name}, {demands}, {limits}, {data.hex()}", told, [want] * 5)
                 seen.add(want.split()[1] if want.startswith("bad") else "ok")
                 bound = verifier.most_reads(len(data), options)
                 self.holds(f"{name}, {limits}: no more reads than told in advance", told[0].reads <= bound, told[0])
@@ -106,10 +128,13 @@ class StrictForC(LibraryCase):
     def test_beside_the_plain_checker(self):
         dice, seen = Random(71), set()
         for name, messages in MESSAGES.items():
-            for limits in LIMITS:
-                some = list(itertools.islice(damaged(dice, [dice.choice(messages)], 397), 150))
-                seen |= self.told_alike(name, Kept(name), some, limits)
-        wanted = {"ok", *(f"V{code}" for code in (2, 3, 4, 6, 7, 8, 9, 11, 13))}
+            kept = Kept(name)
+            messages = [*messages, FREE] if name == "kinds" else messages
+            for limits, others in itertools.product(LIMITS, OTHERS):
+                for demands in sorted({others, others | demands_of(kept), others | STRICTLY_PLAIN} - {0}):
+                    some = list(itertools.islice(damaged(dice, [dice.choice(messages)], 397), 0, None, 20))
+                    seen |= self.told_alike(name, kept, some, limits, demands)
+        wanted = {"ok", *(f"V{code}" for code in (2, 3, 4, 6, 7, 8, 9, 11, 13, 14, 15, 16))}
         self.holds("the reasons", seen >= wanted, seen)
 
     def test_schemas_at_random(self):
@@ -118,18 +143,21 @@ class StrictForC(LibraryCase):
             objects, enums = Maker(dice, 0).rows()
             tables = [row for row in objects if not number_at(row, 2)]
             for row in tables:
-                mark(dice, row, [other[0] for other in tables])
+                mark(dice, row, [*(other[0] for other in tables), *(["Nowhere"] if dice.once_in(4) else [])])
             if not tables:
                 continue
             schema, root = Schema(objects, enums), dice.choice(tables)[0]
             made = Made(schemas.schema(objects, enums, root=root), objects, schema, schema.names.index(root))
             some = [damaged_at_random(dice, Builder(dice, schema).built(made.root, False, None)) for _ in range(30)]
-            self.told_alike(f"schema {number}", made, some, LIMITS[number % len(LIMITS)])
+            demands = demands_of(made) | OTHERS[number % len(OTHERS)]
+            self.told_alike(f"schema {number}", made, some, LIMITS[number % len(LIMITS)], demands)
             refused.add(self.refused_alike(f"schema {number}", made))
-        self.same("why a schema isn't made, or is", refused, {0, module().Status.UNMARKED_BYTES, module().Status.MARKED_BYTES})
+        status = module().Status
+        self.same("why a schema isn't made, or is", refused, {0, status.UNMARKED_BYTES, status.NO_SUCH_TABLE})
 
     def refused_alike(self, name, made):
-        """A file is refused as the program refuses it, with the same table and field."""
+        """A file is refused as the program refuses it, with the same table and field; but that to the library a mark
+        shows, too, that there would be others."""
         python, program = module(), run("--schema", made.file, "--strict")
         try:
             self.made(made, STRICT).close()
@@ -140,18 +168,19 @@ class StrictForC(LibraryCase):
             with self.made(made, 0) as plain:
                 told = f"fbcheck: {plain.status_text(status)}: {plain.object_name(table)}.{plain.field_name(table, field)}"
         self.same(f"{name}: why it is refused", program.err.decode().partition("\n")[0].startswith(told), True)
-        self.same(f"{name}: whether it is", told != "", program.status == 2)
+        beside_a_mark = bool(made.marks) and lacks_marks(made.objects)
+        self.same(f"{name}: whether it is", told != "", program.status == 2 and not beside_a_mark)
         return status
 
     def test_places(self):
         """Where faults are, in words, as the program names them."""
-        for name, messages in PREFIXED.items():
-            kept, words = Kept(name), strict_words(Kept(name).objects)
-            dice = Random(73)
+        for (name, messages), others in itertools.product(PREFIXED.items(), OTHERS):
+            kept, dice = Kept(name), Random(73)
+            demands = demands_of(kept) | others
+            words = words_for(demands)
             some = [data for data in itertools.islice(damaged(dice, messages, 397), 200) if data[4:]]
             some = [prefixed(data[4:]) for data in some]
             told = run("--schema", kept.file, "--names", *words, *words_of_limits({}), given=b"".join(some)).out
-            demands = demands_of(kept.objects)
             options = self.asked(kept.root, demands, prefixed=1, max_reads=2**64 - 1)
             with self.made(kept, demands) as verifier:
                 for data, line in zip(some, told.decode().splitlines(), strict=True):
@@ -163,9 +192,9 @@ class StrictForC(LibraryCase):
         """All calls of a stream, by the shared library and under the sanitizers."""
         tell = TOP / "tests/c/tell.c"
         programs = [self.compiled("strict_shared", tell, *SHARED), self.compiled("strict_sane", tell, *SANITIZED, *STATIC)]
-        for name, messages in PREFIXED.items():
+        for (name, messages), others in itertools.product(PREFIXED.items(), OTHERS):
             kept = Kept(name)
-            words = ["--schema", kept.file, *strict_words(kept.objects)]
+            words = ["--schema", kept.file, *words_for(demands_of(kept) | others)]
             given = b"".join(prefixed(data[4:]) for data in damaged(Random(74), messages, 97) if data[4:])
             want = run(*words, given=given).out
             for program in programs:
@@ -186,16 +215,17 @@ class StrictForC(LibraryCase):
         program = self.compiled("demands", source, *SANITIZED, *STATIC, compiler="c++", standard="-std=c++17")
         kept = Kept("kinds")
         words = ["--bare", "--names", "--schema", kept.file]
-        for data in [MESSAGES["kinds"][1], buffer({11: "n", 21: ("B", 1)}), b""]:
-            plain, strict = (run(*words, *more, given=data).out.decode().strip().removeprefix("1 ")
-                             for more in ([], ["--strict", "--plain-bytes"]))
+        wrong = [buffer({11: "n", 21: ("B", 1)}), buffer({11: "n", 25: "old"}), buffer({11: b"\xff"}), b""]
+        for data in [MESSAGES["kinds"][1], *wrong]:
+            plain, strict, others = (run(*words, *words_for(bits), given=data).out.decode().strip().removeprefix("1 ")
+                                     for bits in (0, STRICTLY_PLAIN, KNOWN_FIELDS | UTF8))
             status, out, _ = ran(program, kept.file, file_of("kinds.bin", data))
             *verdicts, unplanned, _ = out.splitlines()
-            want = [strict, strict, strict, strict, strict, str(int(strict.startswith("ok"))), plain]
+            want = [strict, strict, strict, strict, strict, str(int(strict.startswith("ok"))), plain, others]
             self.same(f"the verdicts on {data.hex()}", (status, verdicts), (0, want))
             self.same("another Schema", unplanned, "nothing was checked: the schema was made with other demands")
         files = schemas.files()
-        for file, field in [(kept.file, "strict.kinds."), (files["BYTES"], "a.T.b"), (files["FLEX"], "a.T.b")]:
+        for file, field in [(files["BYTES"], "a.T.b"), (files["LOST"], "a.T.b")]:
             want = run("--schema", file, "--strict").err.decode().strip().removeprefix("fbcheck: ")
             unmade = ran(program, file, file_of("nothing.bin", b""))[1].splitlines()[-1]
             self.same(f"{file}", unmade, f"no schema: {want}".replace("--plain-bytes", "FBCHECK_PLAIN_BYTES"))
@@ -205,9 +235,10 @@ class StrictForC(LibraryCase):
         """Demands that a schema wasn't made with are refused by each call, in its turn; no demands never are."""
         python = module()
         status, file = python.Status, schemas.M
-        for made_with in (0, STRICT, STRICTLY_PLAIN):
+        several = (0, STRICT, STRICTLY_PLAIN, KNOWN_FIELDS, UTF8, STRICT | KNOWN_FIELDS | UTF8)
+        for made_with in several:
             with python.Verifier(file, options=python.Options(demands=made_with)) as verifier:
-                for demands in (0, STRICT, STRICTLY_PLAIN):
+                for demands in several:
                     want = 0 if demands in (0, made_with) else status.NOT_PLANNED
                     self.same(f"{demands} of {made_with}", self.each_call(verifier, python.Options(demands=demands)),
                               [want] * 7)
@@ -238,7 +269,7 @@ class StrictForC(LibraryCase):
     def test_unknown_demands(self):
         """Bits that the library doesn't know, and plain bytes without strict checks."""
         python = module()
-        for demands in (2, 4, 8, 3, 5, 10, 16, 17, 2**31, 2**32 - 1):
+        for demands in (8, 10, 12, 14, 16, 17, 31, 2**31, 2**32 - 1):
             options = python.Options(demands=demands)
             try:
                 python.Verifier(schemas.M, options=options).close()
@@ -259,7 +290,7 @@ class StrictForC(LibraryCase):
         for name, messages in MESSAGES.items():
             kept, dice = Kept(name), Random(75)
             options = self.asked(kept.root, 0)
-            with self.made(kept, 0) as plain, self.made(kept, demands_of(kept.objects)) as strict:
+            with self.made(kept, 0) as plain, self.made(kept, demands_of(kept)) as strict:
                 for data in itertools.islice(damaged(dice, messages, 397), 300):
                     told = strict.locate(data, options)
                     if told != plain.locate(data, options):
@@ -270,4 +301,5 @@ class StrictForC(LibraryCase):
         with python.Verifier(schemas.M, options=python.Options(demands=STRICT)) as verifier:
             words = {"reads_per_byte": 2**32 - 1, "max_reads": 2**64 - 1, "max_tables": 7}
             most = [verifier.most_reads(100, python.Options(demands=demands, **words)) for demands in (0, STRICT)]
-            self.same("and with demands those of the pass, of two fields", most[1] - most[0], 7 * (3 + 2 * 108))
+            of_pass = 4 * (1 + 7) + 7 * (3 + 100 + 2 * 108**2)
+            self.same("and with demands those of the pass, of two fields", most[1] - most[0], of_pass)

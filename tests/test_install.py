@@ -53,7 +53,7 @@ def packages():
 
 def options():
     """The long options of the program, as its help has them."""
-    return re.findall(r"^ +(?:-[hHV], )?(--[a-z-]+)", run("--help").out.decode(), re.M)
+    return re.findall(r"^ +(?:-[hHV], )?(--[a-z0-9-]+)", run("--help").out.decode(), re.M)
 
 
 def reasons():
@@ -186,7 +186,7 @@ class Install(LibraryCase):
 
     def test_the_page(self):
         told = PAGE.replace(r"\-", "-").split(".SH OPTIONS")[1].split(".SH LINES")[0]
-        known = re.findall(r"^\.TP\n\.B[IR]? (?:-[hHV] \", \" )?(--[a-z-]+)", told, re.M)
+        known = re.findall(r"^\.TP\n\.B[IR]? (?:-[hHV] \", \" )?(--[a-z0-9-]+)", told, re.M)
         self.same("the page has each option in the order of help", known, options())
         page = plain(PAGE)
         for reason in reasons():
@@ -228,6 +228,6 @@ class Install(LibraryCase):
         (folder / "-x.bin").write_bytes(b"")
         self.same("and files alone behind --", completed(folder, "--bare", "--", "-"), ["-x.bin"])
         zsh = (TOP / "completions/_fbcheck").read_text()
-        self.same("zsh knows each option", re.findall(r"(--[a-z-]+)=?(?:\[|\})", zsh), options())
-        valued = re.findall(r"^ +(?:-[hHV], )?(--[a-z-]+) <", run("--help").out.decode(), re.M)
-        self.same("and which have a value, behind an equals sign too", re.findall(r"(--[a-z-]+)=\[", zsh), valued)
+        self.same("zsh knows each option", re.findall(r"(--[a-z0-9-]+)=?(?:\[|\})", zsh), options())
+        valued = re.findall(r"^ +(?:-[hHV], )?(--[a-z0-9-]+) <", run("--help").out.decode(), re.M)
+        self.same("and which have a value, behind an equals sign too", re.findall(r"(--[a-z0-9-]+)=\[", zsh), valued)

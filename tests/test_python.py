@@ -20,7 +20,8 @@ import timeit
 
 from tests.support import buffers, schemas
 from tests.support.buffers import (
-    ASKEW, HALVES, MEMBER, MEMBERS, ORC, PLACED, PLAIN, POST, SEVEN, TWINS, WILD, lower_type, named,
+    ASKEW, HALVES, MEMBER, MEMBERS, NO_TEXT, ORC, PLACED, PLAIN, POST, SEVEN, THIRD_SLOT, TWINS, WILD, lower_type,
+    named,
 )
 from tests.support.builder import Plain, buffer, changed, messages_of, prefixed, spelled
 from tests.support.every_kind import FILE, LITTLE, OPTIONS, WHOLE, variants, words_of
@@ -269,9 +270,30 @@ class Python(LibraryCase):
             self.same(f"replaced: {name}", other.check(WILD).reason, want)
         self.holds("it's told", "strict=True" in repr(strict) and strict.options.strict, strict)
 
+    def test_fields_and_texts(self):
+        """A schema that is made with known_fields=True, or utf8=True, makes all of its checks so."""
+        messages = [ORC, NO_TEXT, THIRD_SLOT]
+        for options, words, reasons in [
+            ({}, [], [None, None, None]), ({"known_fields": True}, ["--known-fields"], [None, None, 16]),
+            ({"utf8": True}, ["--utf8"], [None, 15, None]),
+            ({"known_fields": True, "utf8": True}, ["--known-fields", "--utf8"], [None, 15, 16]),
+            ({"strict": True, "utf8": True}, ["--strict", "--utf8"], [None, 15, None]),
+        ]:
+            made, by_m = self.by("M", **options), ["--names", "--schema", FILES["M"], *words]
+            for checker in (made, self.by("M", strict=True).replace(**{"strict": False, **options})):
+                told = [checker.check(data) for data in messages]
+                self.same(f"{options}: the reasons", [verdict.reason for verdict in told], reasons)
+                want = [run("--bare", *by_m, given=data).out.decode() for data in messages]
+                self.same(f"{options}: the program", [f"1 {verdict}\n" for verdict in told], want)
+                given = b"".join(map(prefixed, messages))
+                told = [verdict for _, verdict in checker.replace(prefixed=True).messages(given)]
+                self.same(f"{options}: a stream", lines_of(told), run(*by_m, given=given).out.decode().splitlines())
+            again = made.replace(known_fields=False, utf8=False, strict=False)
+            self.same(f"{options}: not any more", [again.check(data).reason for data in messages], [None] * 3)
+
     def test_what_strict_refuses(self):
         of = self.module
-        for name in ("BYTES", "FLEX"):
+        for name in ("BYTES", "LOST"):
             fault = run("--schema", FILES[name], "--strict").err.decode().removeprefix("fbcheck: ").strip()
             fault = fault.replace("--plain-bytes", "plain_bytes")
             self.holds(f"{name}: the program names the field", ": a.T.b; " in fault, fault)

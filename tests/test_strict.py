@@ -5,6 +5,8 @@ Generated code is asked where flatc, g++ and the headers of flatbuffers are ther
 more messages.
 """
 
+import dataclasses
+import functools
 import itertools
 import re
 import unittest
@@ -24,7 +26,7 @@ from tests.support.random_rows import Maker, Random
 from tests.support.schemas import U_BYTE, field, table, vector
 from tests.support.strict import EVERYTHING, FLEX, STRICT, Demands, Plan, Strict, found_from, holds_bytes, lacks_marks, marks_of
 from tests.support.strict_messages import MESSAGES, bytes_changed, cut, every_byte, words_changed
-from tests.support.strict_program import DEMANDED, lines_of, refusal_of, strict_words, words_of_limits
+from tests.support.strict_program import ASKED, lines_of, refusal_of, words_of_demands, words_of_limits
 
 # - `LONE`: a union whose value is the word at 16 and whose type stands at 20; `ALONE`: a type at 16 without a value
 # - `UNTYPED`, `ODD`: a value without a type field, at 16 and at 17
@@ -315,10 +317,10 @@ LIMITS = [{}, {"alignment": False}, {"inline_size": True}, {"depth": 2}, {"table
 
 
 class Program(Case):
-    def told_alike(self, name, kept, messages, limits):
-        words = [*strict_words(kept.objects), *words_of_limits(limits)]
+    def told_alike(self, name, kept, messages, demands, limits):
+        words = [*words_of_demands(demands), *words_of_limits(limits)]
         told = lines_of(kept.file, messages, *words)
-        plan = Plan(kept.schema, DEMANDED, kept.marks)
+        plan = Plan(kept.schema, demands, kept.marks)
         wants = [Strict(plan, kept.root, data, **limits).verdict(prefix=False) for data in messages]
         wrong = [row for row in zip(told, wants, messages) if row[0] != row[1]]
         self.same(f"{name}, {words}: a line for each", len(told), len(wants))
@@ -330,10 +332,11 @@ class Program(Case):
         dice, reasons = Random(62), set()
         for name, messages in MESSAGES.items():
             kept = Kept(name)
-            for limits in LIMITS * 4:
+            for demands, limits in itertools.product(ASKED, LIMITS * 2):
                 some = list(damaged(dice, [dice.choice(messages)], 397))
-                reasons |= self.told_alike(name, kept, some, limits)
-        self.holds("the reasons", reasons >= {f"V{code}" for code in (2, 3, 4, 6, 7, 8, 9, 10, 11, 12, 13)}, reasons)
+                reasons |= self.told_alike(name, kept, some, demands, limits)
+        wanted = {f"V{code}" for code in (2, 3, 4, 6, 7, 8, 9, 10, 11, 12, 13, 14, 15, 16)}
+        self.holds("the reasons", reasons >= wanted, reasons)
 
     def test_schemas_at_random(self):
         """Buffers at random by schemas at random, of which some vectors of bytes are marked."""
@@ -342,13 +345,15 @@ class Program(Case):
             objects, enums = Maker(dice, 0).rows()
             tables = [row for row in objects if not number_at(row, 2)]
             for row in tables:
-                mark(dice, row, [other[0] for other in tables])
+                mark(dice, row, [other[0] for other in tables] + ["Nowhere"] * (number % 2))
             if not tables:
                 continue
             schema, root = Schema(objects, enums), dice.choice(tables)[0]
             made = Made(schemas.schema(objects, enums, root=root), objects, schema, schema.names.index(root))
             some = [damaged_at_random(dice, Builder(dice, schema).built(made.root, False, None)) for _ in range(60)]
-            self.told_alike(f"schema {number}", made, some, LIMITS[number % len(LIMITS)])
+            demands, limits = ASKED[number % len(ASKED)], LIMITS[number // 2 % len(LIMITS)]
+            demands = dataclasses.replace(demands, nested=demands.nested and not refusal_of(objects))
+            self.told_alike(f"schema {number}", made, some, demands, limits)
             refused.add(self.refused_alike(f"schema {number}", made))
         self.same("why strict checks are refused, or aren't", len(refused), 3)
 
@@ -363,8 +368,8 @@ class Program(Case):
     def test_each_budget(self):
         for name, messages in MESSAGES.items():
             kept, some = Kept(name), [messages[1], messages[2]]
-            for reads in range(0, 130, 3):
-                self.told_alike(name, kept, some, {"reads": reads})
+            for number, reads in enumerate(range(0, 130, 3)):
+                self.told_alike(name, kept, some, ASKED[number % len(ASKED)], {"reads": reads})
 
 
 # By kinds.fbs, what plain checks take and generated code doesn't bear: the value of a type 0 that is far away; and what
@@ -384,16 +389,21 @@ TOLD = [buffer({11: "n", 25: FAR}), buffer({11: "n", 26: FAR}), buffer({11: "n",
 UNCOVERED = [("reads", INSIDE, False), ("texts", TOLD, True), ("packs", [NONE], True)]
 
 
+@functools.cache
+def built(name, marked):
+    """What flatc makes of a schema, with or without its marks."""
+    made = Generated(name, FOLDER / ("marked" if marked else "generated"), marked)
+    made.build("all")
+    return made
+
+
 @unittest.skipIf(missing(), f"not there: {', '.join(missing())}")
 class GeneratedCode(Case):
-    """What --strict takes is taken by the generated verifier, and accessors and UnPack read nothing outside of it, where
-    a schema has no buffers inside others."""
+    """What --strict takes is taken by the generated verifier, and accessors and UnPack read nothing outside of it."""
 
     def test_beside_generated_code(self):
-        for name in ["unions", "kinds"]:
-            dice = Random(63)
-            made = Generated(name, FOLDER / "generated", marked=False)
-            made.build("all")
+        for name, marked in [("unions", False), ("kinds", True), ("kinds", False)]:
+            dice, made = Random(63), built(name, marked)
             messages = list(damaged(dice, MESSAGES[name], 61))
             told = lines_of(made.file, messages, "--strict")
             taken = made.verdicts(messages, "all")
@@ -411,8 +421,8 @@ class GeneratedCode(Case):
         self.same("UnPack or Pack doesn't bear these", fell, UNPACKED)
 
     def test_what_no_ok_covers(self):
-        made = Generated("kinds", FOLDER / "marked")
-        made.build("all")
+        made = built("kinds", True)
+        self.same("--strict refuses buffers inside", {line[:3] for line in lines_of(made.file, INSIDE, "--strict")}, {"bad"})
         for what, messages, is_taken in UNCOVERED:
             told = lines_of(made.file, messages, "--strict", "--plain-bytes")
             self.same(f"{what}: --strict takes these", [line[:2] for line in told], ["ok"] * len(messages))

@@ -17,7 +17,10 @@ KNOWN = {
     ("fb_verify/verified.rt", "seal("): 2,  # a good buffer after its walk; a bad one whose links are looked up
     ("fb_bfbs/loading.rt", "Meter::new("): 1,  # a schema file, which `verify` takes
     ("fb_bfbs/marks.rt", "Meter::new("): 1,  # the same, of which marks are read
-    ("fb_strict/strictly.rt", "Meter::new("): 1,  # a good buffer, whose reads are counted on from its walk's
+    # an open buffer, whose reads are counted on from those before: where it begins, at each leg, and for a walk inside
+    ("fb_strict/levels.rt", "Meter::new("): 3,
+    ("fb_strict/way.rt", "Meter::new("): 1,  # a buffer whose links are looked up
+    ("fb_strict/way.rt", "seal("): 1,
     ("fb_lines/checker.rt", "Meter::new("): 1,  # a message's buffer, which `report` is lent or `verify` takes
     ("fb_run/front.rt", "Meter::new("): 1,  # a piece of a stream, to find the message at its front
     ("fb_run/front.rt", "seal("): 1,

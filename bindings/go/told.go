@@ -106,9 +106,9 @@ const (
 	TooManySteps   Status = C.FBCHECK_NO_ROOM         // the path has more than 31 steps
 	Misfit         Status = C.FBCHECK_MISFIT          // a path is none of this schema from this root
 	TooMuchShared  Status = C.FBCHECK_TOO_MUCH_SHARED // the file has more rows, or longer names, than its length pays for
-	NotPlanned     Status = C.FBCHECK_NOT_PLANNED     // a schema was asked for Strict that was loaded without it
+	NotPlanned     Status = C.FBCHECK_NOT_PLANNED     // a schema was asked for what it wasn't loaded with, as Strict
 	UnmarkedBytes  Status = C.FBCHECK_UNMARKED_BYTES  // Strict can't tell what a field of type [ubyte] holds
-	MarkedBytes    Status = C.FBCHECK_MARKED_BYTES    // Strict doesn't look inside the nested buffer of a field
+	NoSuchTable    Status = C.FBCHECK_NO_SUCH_TABLE   // the file marks a nested buffer of a table that it doesn't have
 )
 
 var texts = map[Status]string{
@@ -123,11 +123,10 @@ var texts = map[Status]string{
 	TooManySteps:   fmt.Sprintf("the path has more than %d steps", C.FBCHECK_STEPS),
 	Misfit:         "a path is none of this schema from this root",
 	TooMuchShared:  "schema: L6 TooMuchShared",
-	NotPlanned:     "the schema was loaded with other demands: ask for Strict when you load it",
+	NotPlanned:     "the schema was loaded with other demands: ask for these when you load it",
 	UnmarkedBytes: "strict can't tell which bytes are nested buffers or flexbuffers: %s; flatc --bfbs-builtins writes it" +
 		" to the .bfbs, PlainBytes takes such fields as bytes",
-	MarkedBytes: "strict doesn't look inside nested buffers and flexbuffers yet: %s;" +
-		" PlainBytes takes such fields as bytes",
+	NoSuchTable: "strict can't find the table of a nested buffer: %s; PlainBytes takes such fields as bytes",
 }
 
 // noSchema is said behind the fault of a file that isn't well-formed.
@@ -160,7 +159,7 @@ func errorOf(verdict C.fbcheck_verdict, asked string) *Error {
 			word = "at"
 		}
 		text = fmt.Sprintf("path: %s %s=%d", name, word, uint64(verdict.at))
-	case UnmarkedBytes, MarkedBytes:
+	case UnmarkedBytes, NoSuchTable:
 		text = fmt.Sprintf(text, asked)
 	}
 	if status == BadPath || status == TooManySteps {

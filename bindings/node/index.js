@@ -8,7 +8,7 @@ const {
 const native = require('./fbcheck.node');
 
 const {
-  BAD, BAD_TEXT, DEEPEST, MARKED_BYTES, MORE, NONE, NO_ROOT, NO_TABLE, OK, OVERSIZE, TOO_LONG, UNMARKED_BYTES,
+  BAD, BAD_TEXT, DEEPEST, MORE, NONE, NO_ROOT, NO_SUCH_TABLE, NO_TABLE, OK, OVERSIZE, TOO_LONG, UNMARKED_BYTES,
 } = numbers;
 
 // What a call tells beside its answer, by the places that the enum in fbcheck.c gives.
@@ -31,15 +31,14 @@ const TEXTS = {
   NO_ROOM: `the path has more than ${numbers.STEPS} steps`,
   MISFIT: 'a path is none of this schema from this root',
   TOO_MUCH_SHARED: 'schema: L6 TooMuchShared',
-  NOT_PLANNED: 'the schema was loaded with other demands: ask for strict when you load it',
+  NOT_PLANNED: 'the schema was loaded with other demands: ask for these when you load it',
 };
 
 // Why strict checks refuse a schema file with a field of bytes, whose name stands between.
 const REFUSALS = {
   UNMARKED_BYTES: ["strict can't tell which bytes are nested buffers or flexbuffers: ",
     '; flatc --bfbs-builtins writes it to the .bfbs, plainBytes takes such fields as bytes'],
-  MARKED_BYTES: ["strict doesn't look inside nested buffers and flexbuffers yet: ",
-    '; plainBytes takes such fields as bytes'],
+  NO_SUCH_TABLE: ["strict can't find the table of a nested buffer: ", '; plainBytes takes such fields as bytes'],
 };
 
 // What is said behind the fault of a file that isn't well-formed.
@@ -127,7 +126,9 @@ function whole(name, given, most) {
 const SWITCHES = { prefixed: OPTIONS.prefixed, alignment: OPTIONS.noAlignment, inlineSize: OPTIONS.inlineSize };
 
 // The demands by the bits that they are.
-const DEMANDS = { strict: numbers.STRICT, plainBytes: numbers.PLAIN_BYTES };
+const DEMANDS = {
+  strict: numbers.STRICT, knownFields: numbers.KNOWN_FIELDS, utf8: numbers.UTF8, plainBytes: numbers.PLAIN_BYTES,
+};
 
 /** True or false as they are. */
 function flag(name, value) {
@@ -147,7 +148,7 @@ function load(file, demands, path) {
   const loaded = native.load(file, demands);
   if (loaded !== undefined) return loaded;
   const [status, object, field] = [told[STATUS], told[OBJECT], told[FIELD]];
-  if (status !== UNMARKED_BYTES && status !== MARKED_BYTES) throw errorOf(status, path);
+  if (status !== UNMARKED_BYTES && status !== NO_SUCH_TABLE) throw errorOf(status, path);
   const plain = load(file, 0, path);
   const name = `${native.name(plain, object)}.${native.name(plain, object, field)}`;
   native.close(plain);

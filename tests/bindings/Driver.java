@@ -75,6 +75,8 @@ final class Driver {
                 case "alignment" -> asked.alignment(set);
                 case "inline_size" -> asked.inlineSize(set);
                 case "strict" -> asked.strict(set);
+                case "known_fields" -> asked.knownFields(set);
+                case "utf8" -> asked.utf8(set);
                 case "plain_bytes" -> asked.plainBytes(set);
                 default -> throw new IllegalArgumentException(word);
             };

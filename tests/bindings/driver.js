@@ -8,7 +8,8 @@ const { BadBuffer, Schema } = require('../../bindings/node');
 
 const NUMBERS = { max_depth: 'maxDepth', max_tables: 'maxTables', reads_per_byte: 'readsPerByte' };
 const SWITCHES = {
-  prefixed: 'prefixed', alignment: 'alignment', inline_size: 'inlineSize', strict: 'strict', plain_bytes: 'plainBytes',
+  prefixed: 'prefixed', alignment: 'alignment', inline_size: 'inlineSize', strict: 'strict',
+  known_fields: 'knownFields', utf8: 'utf8', plain_bytes: 'plainBytes',
 };
 
 function options(words) {

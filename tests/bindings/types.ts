@@ -19,7 +19,7 @@ export function texts(schema: Schema, message: Uint8Array, later: AsyncIterable<
   schema.with({ max_depth: 5 });
   // @ts-expect-error: it's true or false
   schema.with({ strict: 1 });
-  schema.with({ strict: true, plainBytes: false });
+  schema.with({ strict: true, knownFields: true, utf8: true, plainBytes: false });
   if (place.kind === 'struct') place.value.subarray(4);
   return [
     verdict.ok ? verdict.tables : verdict.reason,

@@ -97,7 +97,7 @@ int main(int count, char **words)
         return 2;
     read_file(0, words[1]);
     read_file(1, words[2]);
-    strict.demands = FBCHECK_STRICT | FBCHECK_PLAIN_BYTES;
+    strict.demands = FBCHECK_STRICT | FBCHECK_KNOWN_FIELDS | FBCHECK_UTF8 | FBCHECK_PLAIN_BYTES;
     schema = fbcheck_schema_new(bytes[0], lengths[0], &strict, NULL);
     scratch = fbcheck_scratch_new(FBCHECK_DEEPEST);
     if (schema == NULL || scratch == NULL

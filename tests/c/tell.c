@@ -54,6 +54,10 @@ static struct asked asked_by(int count, char **words)
             options->inline_size = 255;
         else if (strcmp(word, "--strict") == 0)
             options->demands |= FBCHECK_STRICT;
+        else if (strcmp(word, "--known-fields") == 0)
+            options->demands |= FBCHECK_KNOWN_FIELDS;
+        else if (strcmp(word, "--utf8") == 0)
+            options->demands |= FBCHECK_UTF8;
         else if (strcmp(word, "--plain-bytes") == 0)
             options->demands |= FBCHECK_PLAIN_BYTES;
         else if (i++, strcmp(word, "--schema") == 0)

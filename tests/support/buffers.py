@@ -8,6 +8,10 @@ from tests.support.program import TOP
 # By M: hp is 300 and name is "Orc".
 ORC = spelled("0c000000 0800 0c00 0800 0400 08000000 08000000 2c01 0000 03000000 4f726300")
 
+# By M: the same with a name that isn't UTF-8, from its first byte on; and with no name, and a third slot.
+NO_TEXT = changed(ORC, (28, "ff"))
+THIRD_SLOT = spelled("10000000 0a00 0c00 0800 0400 0500 0000 0c000000 08000000 2c01 0000 00000000 00")
+
 # A table without a field, by every schema whose root has no required one.
 PLAIN = spelled("08000000 0400 0400 04000000")
 

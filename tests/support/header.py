@@ -10,6 +10,8 @@ DEEPEST = 4096
 NONE = 0xffffffff
 NO_TABLE = 0xfffffffe
 STRICT = 1
+KNOWN_FIELDS = 2
+UTF8 = 4
 PLAIN_BYTES = 8
 STEPS = 31
 LONGEST_PLACE = 4098
@@ -44,7 +46,7 @@ class Status(enum.IntEnum):
     TOO_MUCH_SHARED = 20
     NOT_PLANNED = 21
     UNMARKED_BYTES = 22
-    MARKED_BYTES = 23
+    NO_SUCH_TABLE = 23
 
 
 class Reason(enum.IntEnum):

@@ -117,11 +117,13 @@ K = schema([table("K", field("s", TEXT, 4, required=True))], root="K")
 # table T { b: [ubyte]; } in the namespace a, and the same where b is marked as a flexbuffer
 BYTES = schema([table("a.T", field("b", vector(U_BYTE), 4))], root="a.T")
 FLEX = schema([table("a.T", {**field("b", vector(U_BYTE), 4), 9: [{0: "flexbuffer", 1: "0"}]})], root="a.T")
+LOST = schema([table("a.T", {**field("b", vector(U_BYTE), 4), 9: [{0: "nested_flatbuffer", 1: "a.U"}]})], root="a.T")
 
 
 def files():
     """The paths of the schema files, by name."""
-    named = {"M": M, "N": N, "X": X, "NODE": NODE, "CHAIN": CHAIN, "Z": Z, "G": G, "K": K, "BYTES": BYTES, "FLEX": FLEX}
+    named = {"M": M, "N": N, "X": X, "NODE": NODE, "CHAIN": CHAIN, "Z": Z, "G": G, "K": K, "BYTES": BYTES, "FLEX": FLEX,
+             "LOST": LOST}
     return {name: file_of(f"{name}.bfbs", data) for name, data in named.items()}
 
 # The tables of reflection.fbs as far as they are asked of schema files, each with its fields in order of their

@@ -5,24 +5,40 @@ import subprocess
 from tests.support.builder import prefixed
 from tests.support.every_kind import words_of
 from tests.support.program import PROGRAM, run
-from tests.support.strict import Demands, lacks_marks, marks_of
+from tests.support.naive import Schema
+from tests.support.strict import EVERYTHING, FLEX, STRICT, Demands, found_from, lacks_marks, marks_of
 
-# What --strict demands. It doesn't look into buffers inside others.
+# What options demand: --strict with --plain-bytes and by itself, --known-fields, --utf8, and some of them together.
 DEMANDED = Demands(unions=True)
-MARKED = "strict doesn't look inside nested buffers and flexbuffers yet"
+ASKED = [
+    DEMANDED, STRICT, Demands(known_fields=True), Demands(utf8=True), Demands(unions=True, known_fields=True),
+    EVERYTHING, Demands(known_fields=True, utf8=True),
+]
 UNMARKED = "strict can't tell which bytes are nested buffers or flexbuffers"
+LOST = "strict can't find the table of a nested buffer"
 
 
 def refusal_of(objects):
     """Why --strict is refused by a schema file with these rows, None where it isn't."""
-    if marks_of(objects):
-        return MARKED
-    return UNMARKED if lacks_marks(objects) else None
+    if lacks_marks(objects):
+        return UNMARKED
+    schema = Schema(objects)
+    names = [(owner, mark) for (owner, _), mark in marks_of(objects).items() if mark != FLEX]
+    return LOST if any(found_from(schema, owner, name) is None for owner, name in names) else None
 
 
 def strict_words(objects):
-    """The words that make strict checks by a schema file with these rows."""
-    return ["--strict", "--plain-bytes"] if refusal_of(objects) else ["--strict"]
+    """The words that make strict checks by a schema file with these rows which don't look inside."""
+    return ["--strict", "--plain-bytes"] if marks_of(objects) or lacks_marks(objects) else ["--strict"]
+
+
+def words_of_demands(demands):
+    """The words by which the program demands this."""
+    flags = [
+        ("--strict", demands.unions), ("--plain-bytes", demands.unions and not demands.nested),
+        ("--known-fields", demands.known_fields), ("--utf8", demands.utf8),
+    ]
+    return [word for word, is_asked in flags if is_asked]
 
 
 def words_of_limits(limits):

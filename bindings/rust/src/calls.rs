@@ -10,6 +10,8 @@ pub const DEEPEST: u32 = 4096;
 pub const NONE: u32 = 0xffffffff;
 pub const NO_TABLE: u32 = 0xfffffffe;
 pub const STRICT: u32 = 1;
+pub const KNOWN_FIELDS: u32 = 2;
+pub const UTF8: u32 = 4;
 pub const PLAIN_BYTES: u32 = 8;
 pub const STEPS: u32 = 31;
 pub const LONGEST_PLACE: u32 = 4098;
@@ -38,7 +40,7 @@ pub const MISFIT: u32 = 19;
 pub const TOO_MUCH_SHARED: u32 = 20;
 pub const NOT_PLANNED: u32 = 21;
 pub const UNMARKED_BYTES: u32 = 22;
-pub const MARKED_BYTES: u32 = 23;
+pub const NO_SUCH_TABLE: u32 = 23;
 
 // enum fbcheck_reason
 pub const WRONG_PREFIX: u32 = 1;

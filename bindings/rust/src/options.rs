@@ -99,9 +99,22 @@ impl Options {
 
     /// Whether unions must also be as code that `flatc` generates relies on: false. After such an ok a reader may fetch
     /// a union's value before it checks the type, as long as it follows no more than the value's own offset then; and
-    /// it may go through a vector of unions by the length of either vector. A schema is loaded with it, and keeps it.
+    /// it may go through a vector of unions by the length of either vector. Nested buffers must be so too, and there
+    /// may be no flexbuffers. A schema is loaded with it, and keeps it.
     pub fn strict(self, asked: bool) -> Options {
         self.demanding(calls::STRICT, asked)
+    }
+
+    /// Whether tables may only have fields that the schema knows and doesn't deprecate: false. A schema is loaded with
+    /// it, and keeps it.
+    pub fn known_fields(self, asked: bool) -> Options {
+        self.demanding(calls::KNOWN_FIELDS, asked)
+    }
+
+    /// Whether strings must be UTF-8, each byte of which counts as a read: false. A schema is loaded with it, and keeps
+    /// it.
+    pub fn utf8(self, asked: bool) -> Options {
+        self.demanding(calls::UTF8, asked)
     }
 
     /// Whether strict checks take fields of type `[ubyte]` for plain bytes, whatever the schema file says of nested

@@ -237,8 +237,8 @@ pub enum Error {
     NotPlanned,
     /// Strict checks can't tell whether this field of type `[ubyte]` is a nested buffer or flexbuffer.
     UnmarkedBytes(String),
-    /// Strict checks don't look inside nested buffers and flexbuffers, as in this field.
-    MarkedBytes(String),
+    /// The schema file marks this field as a nested buffer, of a table that it doesn't have.
+    NoSuchTable(String),
 }
 
 /// The code and name of a fault, by what a verdict tells of it.
@@ -253,12 +253,12 @@ const NO_SCHEMA: &str = "; this is no binary schema, which flatc --binary --sche
 
 /// Why strict checks refuse a schema file with a field of bytes, and what lets them take it.
 const UNMARKED: &str = "strict can't tell which bytes are nested buffers or flexbuffers";
-const MARKED: &str = "strict doesn't look inside nested buffers and flexbuffers yet";
+const LOST: &str = "strict can't find the table of a nested buffer";
 const BUILTINS: &str = "flatc --bfbs-builtins writes it to the .bfbs";
 const AS_BYTES: &str = "plain_bytes takes such fields as bytes";
 
 /// What is said where a schema is asked for other demands.
-const OTHERS: &str = "the schema was loaded with other demands: ask for strict when you load it";
+const OTHERS: &str = "the schema was loaded with other demands: ask for these when you load it";
 
 impl Error {
     /// What a call told, which was asked for something, or for nothing that has a name.
@@ -287,7 +287,7 @@ impl Error {
             calls::UNKNOWN_OPTIONS => Error::UnknownOptions,
             calls::NOT_PLANNED => Error::NotPlanned,
             calls::UNMARKED_BYTES => Error::UnmarkedBytes(asked.to_owned()),
-            calls::MARKED_BYTES => Error::MarkedBytes(asked.to_owned()),
+            calls::NO_SUCH_TABLE => Error::NoSuchTable(asked.to_owned()),
             status => unreachable!("fbcheck answers {status}"),
         }
     }
@@ -324,7 +324,7 @@ impl fmt::Display for Error {
             Error::UnmarkedBytes(ref field) => {
                 write!(to, "{UNMARKED}: {field}; {BUILTINS}, {AS_BYTES}")
             }
-            Error::MarkedBytes(ref field) => write!(to, "{MARKED}: {field}; {AS_BYTES}"),
+            Error::NoSuchTable(ref field) => write!(to, "{LOST}: {field}; {AS_BYTES}"),
         }
     }
 }

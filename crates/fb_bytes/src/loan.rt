@@ -14,7 +14,7 @@ const LONG: u128 = 1 << 57;
 /// lends, and each read counts.
 ///
 /// A contract sees it as its bytes and its count, in 128 bits, which no walk fills. Nothing seals it and nothing of its
-/// bytes is lent as a slice, so what holds no more than a loan reads nothing uncounted. [`crate::Meter::lend`] makes
+/// bytes is lent uncounted, so what holds no more than a loan reads nothing uncounted. [`crate::Meter::lend`] makes
 /// one, and [`crate::Meter::settle`] takes its count, but no bytes: no way leads from a loan to a meter.
 #[derive(Drop)]
 pub struct Loan<'a> {
@@ -30,14 +30,14 @@ impl<'a> Model for Loan<'a> {
 
     ghost view = { λ t. record { bytes = t.window; count = t.count; base = 0 } };
 
-    ghost invariant = { λ t. t.count ≤ 2 ^ 101 };
+    ghost invariant = { λ t. t.count ≤ 2 ^ 121 };
 }
 
 impl<'a> Loan<'a> {
     /// A loan over this window that begins at this count.
     #[inline(always)]
     pub(crate) fn over(window: Window<'a>, count: u128) -> Self
-        requires few { count ≤ 2 ^ 100 }
+        requires few { count ≤ 2 ^ 120 }
         ensures { result ≡ record { bytes = window.entry; count = count; base = 0 } }
     {
         Loan { window, count }
@@ -47,7 +47,7 @@ impl<'a> Loan<'a> {
     #[inline(always)]
     pub fn reads(&self) -> u128
         ensures count { result ≡ self.now.count }
-        ensures few { result ≤ 2 ^ 101 }
+        ensures few { result ≤ 2 ^ 121 }
     {
         self.count
     }
@@ -56,7 +56,7 @@ impl<'a> Loan<'a> {
     /// with none. Until [`Loan::settle`] takes them back, the loan has no bytes.
     #[inline(always)]
     pub fn lend(&mut self) -> Reads<'a>
-        requires few { self.old.count ≤ 2 ^ 100 }
+        requires few { self.old.count ≤ 2 ^ 120 }
         ensures lent { result ≡ record self.old { base = result.base } }
         ensures short { self.old.count < 2 ^ 57 → result ≡ self.old }
         ensures few { self.old.count < result.base + 2 ^ 57 }

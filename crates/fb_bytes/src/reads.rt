@@ -1,6 +1,6 @@
 //! A loan's bytes, lent out to be read under a short count.
 
-ghost use Rattle.std.specs.Prelude.{◌≡◌, ◌+◌, ◌^◌, ◌<◌, ◌≤◌, [], length, IsTrue, ◌↔◌};
+ghost use Rattle.std.specs.Prelude.{◌≡◌, ◌+◌, ◌^◌, ◌<◌, ◌≤◌, [], length, take, drop, IsTrue, ◌↔◌};
 ghost use Rattle.fb_bytes.specs.Word.{word, signed_word};
 
 use crate::window::Window;
@@ -10,7 +10,7 @@ use std::mem;
 /// The bytes of a [`crate::Loan`] under its count, which goes on in 64 bits: a loop keeps those in a register.
 ///
 /// A contract sees it as its bytes, all reads that were counted, and how many of these were counted before the count
-/// in 64 bits began. There is no way to the bytes but by a counted read: nothing seals them. The count goes with the
+/// in 64 bits began. There is no way to the bytes but by counted reads: nothing seals them. The count goes with the
 /// bytes, so that whichever loan takes them back has every read that was made of them, and those that were counted
 /// without being made. [`crate::Loan::lend`] makes one, and [`crate::Loan::settle`] takes it back.
 #[derive(Drop)]
@@ -28,14 +28,14 @@ impl<'a> Model for Reads<'a> {
 
     ghost view = { λ r. record { bytes = r.window; count = r.base + r.count; base = r.base } };
 
-    ghost invariant = { λ r. (r.base ≤ 2 ^ 100) × (0 < r.base → 2 ^ 57 ≤ r.base) };
+    ghost invariant = { λ r. (r.base ≤ 2 ^ 120) × (0 < r.base → 2 ^ 57 ≤ r.base) };
 }
 
 impl<'a> Reads<'a> {
     /// A window of which so many reads were counted, and so many more in the count of 64 bits.
     #[inline(always)]
     pub(crate) fn over(window: Window<'a>, base: u128, count: u64) -> Self
-        requires few { base ≤ 2 ^ 100 }
+        requires few { base ≤ 2 ^ 120 }
         requires many { 0 < base → 2 ^ 57 ≤ base }
         ensures { result ≡ record { bytes = window.entry; count = base + count; base = base } }
     {
@@ -51,7 +51,7 @@ impl<'a> Reads<'a> {
     pub(crate) fn into_parts(self) -> (Window<'a>, u128)
         ensures window { result.0 ≡ self.entry.bytes }
         ensures count { result.1 ≡ self.entry.count }
-        ensures few { result.1 ≤ 2 ^ 101 }
+        ensures few { result.1 ≤ 2 ^ 121 }
     {
         (self.window, self.base + u128::from(self.count))
     }
@@ -90,6 +90,18 @@ impl<'a> Reads<'a> {
         ensures { self.new ≡ record self.old { count = self.old.count + n } }
     {
         self.count += n;
+    }
+
+    /// Reads the `n` bytes at `at`, each of which counts.
+    #[inline(always)]
+    pub fn bytes_at(&mut self, at: u64, n: u64) -> &'a [u8]
+        requires fits { at + n ≤ length self.old.bytes }
+        requires few { self.old.count + n < self.old.base + 2 ^ 63 }
+        ensures bytes { result.now ≡ take n (drop at self.old.bytes) }
+        ensures counted { self.new ≡ record self.old { count = self.old.count + n } }
+    {
+        self.count_again(n);
+        self.window.bytes(at, n)
     }
 
     /// How many bytes there are.

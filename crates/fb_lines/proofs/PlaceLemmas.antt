@@ -36,6 +36,10 @@ module _ {job : Job} {rows : Rows} (options : Options) {start : Start} {limits :
       → checked.verified ≡ record { bytes = bytes; schema = rows; root = options.root; start = start; checks = options.checks; report = checked.verified.report } → IsChecked job bytes checked
   checked_yes checked reports kept = record { reports = by_job (λ p q. ReportsBy p q bytes checked.report) reports; kept = rw (sym starts, sym is) kept }
 
+  -- or that is the fault
+  pub checked_no : (fault : Fault) → StopsBy plan (asked_by rows options start limits) bytes fault → StopsBy job.plan (asked_of job bytes) bytes fault
+  checked_no fault stops = by_job (λ p q. StopsBy p q bytes fault) stops
+
   -- or these links lead to its fault
   pub checked_along : (fault : Fault) (links : List Link) → StopsAlongBy plan (asked_by rows options start limits) bytes fault links → StopsAlongBy job.plan (asked_of job bytes) bytes fault links
   checked_along fault links along = by_job (λ p q. StopsAlongBy p q bytes fault links) along

@@ -8,7 +8,7 @@ use Rattle.fb_lines.specs.{Job.asked_of, StrictLaws.StrictIsOk}
 
 -- the walk alone reports this
 walked : (plan : Option Planned) (q : Question) (bytes : List ℕ) (report : Report) → ReportsBy plan q bytes report → IsOk q bytes report
-walked None q bytes report h = record { walked = report; reports = h; tables = refl; depth = refl; reads = omega arith }
+walked None q bytes report h = record { walked = report; reports = h; tables = omega arith; depth = omega arith; reads = omega arith }
 walked (Some p) q bytes report h = strict.strict_is_ok p q bytes report h
 
 pub strict_is_ok : StrictIsOk

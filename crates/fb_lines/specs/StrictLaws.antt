@@ -7,8 +7,8 @@ use Rattle.fb_lines.specs.Job.{IsVerdict, Job, Yes}
 abbrev pub leniently : Job → Job
 leniently job = record job { plan = None }
 
--- a strict ok is an ok: with the same values, of as many tables as deep, in no more reads
+-- a strict ok is an ok: with the same values, of no more tables and depth, in no more reads
 abbrev pub StrictIsOk : Type 0
 StrictIsOk = (job : Job) (bytes : List ℕ) (found : Yes) → IsVerdict job bytes (Ok found)
     → (walked : Report) × IsVerdict (leniently job) bytes (Ok (record { report = walked; answers = found.answers }))
-    × (walked.tables ≡ found.report.tables) × (walked.depth ≡ found.report.depth) × (walked.reads ≤ found.report.reads)
+    × (walked.tables ≤ found.report.tables) × (walked.depth ≤ found.report.depth) × (walked.reads ≤ found.report.reads)

@@ -1,16 +1,21 @@
 -- Tests that were made, and the budget that was asked after them.
-use Rattle.std.proofs.Common.{◌≡◌, ℕ, ◌+◌, ◌^◌, ◌<◌, ◌≤◌, Bool, true, false, List, inl, inr, ◌⊎◌, Option, Some, None, Result, Ok, Err, refl, sym, ap, ◌∙◌, subst, arith}
-use Rattle.std.specs.Prelude.{IfOk}
+use Rattle.std.proofs.Common.{◌≡◌, ℕ, ◌+◌, ◌^◌, ◌<◌, ◌≤◌, true, false, List, Option, Some, None, Result, Ok, Err, refl, sym, ap, ◌∙◌, subst, arith, Bool, inl, inr, ◌⊎◌}
+use Rattle.std.specs.Prelude.{IfOk, IfErr, IsErrAnd}
 use Rattle.std.specs.Option.{is_some}
 use Rattle.std.proofs.lemmas.Bool.Decides.{nat_tests}
-use Rattle.fb_bytes.specs.Word.{Lent}
+use Rattle.fb_bytes.specs.Word.{Lent, word}
 use Rattle.fb_rules.specs.declared.{site.Site.Site, site.Stop.Stop, fault.Reason.Reason}
 use Rattle.fb_rules.specs.{Bounds.Bounds, Bounds.AreAllowed, Plain.tested_by, Plain.place_from, Plain.IsTested, Told.IsAskedAt}
-use Rattle.fb_rules.specs.Order.{Failure, after}
-use Rattle.fb_schema.specs.Rows.{Rows}
+use Rattle.fb_rules.specs.Order.{Failure, check, after}
+use Rattle.fb_rules.specs.{Places.field_place, Places.target}
+use Rattle.std.specs.{Str.is_utf8, Str.Lossy.utf8_valid_len}
+use Rattle.fb_rules.specs.declared.fault.Reason.TheVariants.{NotUtf8, UnknownField}
 use Rattle.fb_rules.specs.declared.offset_row.Row.{Row}
+use Rattle.fb_strict.specs.declared.{inner.Inner.Inner, tasks.Ask.Ask, tasks.Ask.TheVariants.Bytes, tasks.Held.Held}
+use Rattle.fb_strict.specs.{InOrder.together_failure, InOrder.flex_failure, Passing.Passing, Passing.IsRoom, Passing.wants_of, Passing.task_inner, Passing.task_row, Passing.TaskPassed, Passing.TaskDone, Skipped.Wants, InOrder.where_asked, Asked.vectors_reads}
+use Rattle.fb_schema.specs.Rows.{Rows}
 use Rattle.fb_strict.specs.declared.tasks.Ask.TheVariants.{Unions as AskUnions}
-use Rattle.fb_strict.specs.{Skipped.Wants, InOrder.where_asked, InOrder.together_failure, Asked.vectors_reads, Passing.IsRoom, Passing.task_row}
+use Rattle.fb_strict.specs.{InOrder.text_reads, Strict.text_at, Passing.TextPassed}
 use Rattle.fb_strict.proofs.Asking.{told_allowed}
 
 same_lent : (m new : Lent) (n : ℕ) → new.bytes ≡ m.bytes → new.count ≡ n → new.base ≡ m.base → new ≡ record m { count = n }
@@ -124,3 +129,58 @@ ok_for a b site L m new chain n p h = record { ok = h.ok; counted = h.counted; r
 
 pub err_for : {A B : Type 0} (s : Stop) (site : Site) (L : Bounds) (m new : Lent) (chain : Option Failure) (n p : ℕ) → IsAskedAt {A = A} site L m new chain n p (Err s) → IsAskedAt {A = B} site L m new chain n p (Err s)
 err_for s site L m new chain n p h = record { ok = tt; counted = tt; reads = tt; err = h.err; bytes = h.bytes }
+
+-- what `?` answers
+pub err_is : {B : Type 0} (r : Result B Stop) (s : Stop) → IsErrAnd r (λ e. e ≡ s) → r ≡ Err s
+err_is (Ok b) s h = absurd h
+err_is (Err e) s h = ap Err h
+
+-- a task whose field holds no buffer
+pub holds_none : (p : Passing) (m new : Lent) (t : ℕ) (site : Site) (slot : ℕ) (ask : Ask) (old past : Row) (r : Result Unit Stop) (result : Result (Option Inner) Stop) → task_inner m.bytes ask (field_place m.bytes t slot) ≡ None
+    → TaskPassed p m new t site slot ask old past r → IfOk r (λ _. result ≡ Ok None) → IfErr r (λ s. result ≡ Err s) → TaskDone p m new t site slot ask old past result
+holds_none p m new t site slot ask old past (Ok u) result none h ok err = rw ok (record { passed = record { asked = ok_for _ _ _ _ _ _ _ _ _ h.asked; row = h.row }; inner = sym none })
+holds_none p m new t site slot ask old past (Err s) result none h ok err = rw err (record { passed = record { asked = err_for _ _ _ _ _ _ _ _ h.asked; row = tt }; inner = tt })
+
+-- a test of a field that may not be there, which reads nothing
+pub flex_tested : (m : Lent) (at : ℕ) (failed : Option Reason) (o : Option ℕ) → tested_by at m.count failed ≡ after m.count (flex_failure o) → IsTested m m at (flex_failure o) 0 failed
+flex_tested m at failed o told = record { told = told; counted = λ h. omega arith; bytes = refl; base = refl }
+
+-- a field of bytes leads to no words
+pub bytes_row : (p : Passing) (b : List ℕ) (types place : Option ℕ) (held : Held) (row : Row) → row ≡ task_row (wants_of p) b p.rows types place (Bytes held) row
+bytes_row p b types None held row = refl
+bytes_row p b types (Some q) held row = refl
+
+-- A text that was read.
+module _ (p : Passing) (m : Lent) (site : Site) (place at size : ℕ) (at_is : at ≡ target m.bytes place) (size_is : size ≡ word m.bytes at 4) where
+  -- all of its reads
+  pub all_read : (mid new : Lent) → mid ≡ record m { count = m.count + 1 } → new ≡ record mid { count = mid.count + (1 + size) } → new ≡ record m { count = m.count + text_reads m.bytes (target m.bytes place) }
+  all_read mid new one two =
+      let all = reads_more m mid new 1 (1 + size) one two in
+      let same : 1 + (1 + size) ≡ text_reads m.bytes (target m.bytes place) = (let n = size_is ∙ ap (λ a. word m.bytes a 4) at_is in omega (arith, n)) in
+      all ∙ ap (λ n. record m { count = m.count + n }) same
+
+  module _ (new : Lent) (read : new ≡ record m { count = m.count + text_reads m.bytes (target m.bytes place) }) (text : List ℕ) (text_is : text ≡ text_at m.bytes at) where
+    its_text : text ≡ text_at m.bytes (target m.bytes place)
+    its_text = text_is ∙ ap (text_at m.bytes) at_is
+
+    pub text_told : IsTested m new place None (text_reads m.bytes (target m.bytes place)) None
+    text_told = only_read m new place (text_reads m.bytes (target m.bytes place)) read
+
+    -- it was asked, and is whole
+    pub text_whole : AreAllowed (p.limits).reads new.count → is_utf8 text ≡ true → TextPassed p m new site place (Ok tt)
+    text_whole a whole = (read, a, let same = ap is_utf8 (sym its_text) ∙ whole in rw same refl)
+
+    -- it isn't
+    pub text_wrong : AreAllowed (p.limits).reads new.count → is_utf8 text ≡ false → (front : ℕ) → front ≡ utf8_valid_len text → TextPassed p m new site place (Err (record { refusal = record { at = at + 4 + front; reason = NotUtf8 }; site = site }))
+    text_wrong a wrong front front_is =
+        let same = ap is_utf8 (sym its_text) ∙ wrong in
+        let front_same : utf8_valid_len (text_at m.bytes (target m.bytes place)) ≡ front = ap utf8_valid_len (sym its_text) ∙ sym front_is in
+        let none : new.count + 0 ≡ new.count = omega arith in
+        inr (read, a, rw (same, front_same, sym at_is, none) refl)
+
+-- a slot that was read
+pub slot_tested : (m new : Lent) (at : ℕ) (x : Bool) (failed : Option Reason) → new ≡ record m { count = m.count + 1 } → (x ≡ true → failed ≡ None) → (x ≡ false → failed ≡ Some UnknownField) → IsTested m new at (check x UnknownField at 1 None) 1 failed
+slot_tested m new at true failed is known unknown = rw (known refl) (only_read m new at 1 is)
+slot_tested m new at false failed is known unknown =
+    let c = ap (λ (x : Lent). x.count) is in
+    rw (unknown refl) (record { told = rw c refl; counted = λ h. absurd (cc); bytes = ap (λ (x : Lent). x.bytes) is; base = ap (λ (x : Lent). x.base) is })

@@ -1,50 +1,48 @@
 -- A whole buffer is asked: its length, and then its root table.
-use Rattle.std.proofs.Common.{◌≡◌, ℕ, ◌+◌, ◌≤◌, List, [], ◌∷◌, length, Option, Some, None, Result, Ok, Err, Bool, true, false, if◌then◌else◌, refl, sym, subst, ◌∙◌, arith}
+use Rattle.std.proofs.Common.{◌≡◌, ℕ, ◌+◌, List, [], ◌∷◌, length, Option, Some, None, Bool, true, false, if◌then◌else◌, ap, refl, sym, subst, ◌∙◌, arith}
+use Rattle.std.specs.Prelude.{◌||◌}
 use Rattle.fb_bytes.specs.Word.{Lent}
 use Rattle.fb_schema.specs.{Rows.Rows}
 use Rattle.fb_rules.specs.declared.{fault.Fault.Fault, fault.Reason.Reason, site.Stop.Stop, site.Halt.Halt, site.LastLink.TheVariants.Behind, table.Child.Child}
 use Rattle.fb_rules.specs.{Bounds.AreAllowed, Tree.Tree, Plain.tested_by, Stops.reads_failure, Told.stopped}
 use Rattle.fb_rules.specs.Order.{Failure, after, ◌▷◌}
-use Rattle.fb_strict.specs.{Skipped.IsClosed, Skipped.has_asked, InOrder.length_failure, InOrder.where_asked, Planned.Planned, Planned.IsPlan, Planned.marked, Planned.wants_in}
-use Rattle.fb_strict.specs.Asked.{Demand, demands_in, demand_fault, demands_reads}
+use Rattle.fb_strict.specs.{Skipped.IsClosed, Skipped.has_asked, InOrder.length_failure, InOrder.where_asked, Planned.Planned, Planned.IsPlan, Planned.marked, Planned.marked_wants, Planned.wants_in}
+use Rattle.fb_strict.specs.Asked.{Demand, demands_in, demand_fault}
 use Rattle.fb_strict.specs.declared.room.Frame.{Frame}
-use Rattle.fb_strict.specs.Passing.{Passing, wants_of, IsNext, IsRooted, Moves, Breaks, GoesOn, Halts, Ran}
+use Rattle.fb_strict.specs.Passing.{Passing, wants_of, IsNext, IsRooted, Moves, Breaks, GoesOn, Halts}
 use Rattle.fb_strict.proofs.Marks.{reaches}
-use Rattle.fb_strict.proofs.{Looping.halts_then}
-use Rattle.fb_strict.proofs.Moving.{one, onward, breaks}
-use Rattle.fb_strict.proofs.Few.{first_reads}
+use Rattle.fb_strict.proofs.Moving.{one, breaks}
 
 -- the objects that a plan asks are closed
-pub plan_closed : (S : Rows) (p : Planned) → IsPlan S p.demands p → IsClosed (wants_in p) S
-plan_closed S p h k unasked = by (has_asked (wants_in p) S k) refl
-  where
-    by : (x : Bool) → has_asked (wants_in p) S k ≡ x → has_asked (wants_in p) S k ≡ false
-    by false is = is
-    by true is = absurd (let is-asked = (h.asked k).1 (reaches p.demands S (marked p.marks) (λ k m. (h.asked k).0 m) k is) in let w : false ≡ true = sym unasked ∙ is-asked in cc)
+module _ (S : Rows) (p : Planned) (h : IsPlan S p.demands p) where
+  unmarked : (k : ℕ) → marked p.marks k ≡ false → (x : Bool) → has_asked (marked_wants p.demands p.marks) S k ≡ x → x ≡ false
+  unmarked k none false is = refl
+  unmarked k none true is = absurd (let m = (h.asked k).1 (reaches p.demands S (marked p.marks) (λ j a. (h.asked j).0 a) k is) in let w : false ≡ true = sym none ∙ m in cc)
+
+  closed_by : (x : Bool) → p.demands.known_fields ≡ x → (k : ℕ) → (x || marked p.marks k) ≡ false → (x ≡ false) × (has_asked (wants_in p) S k ≡ false)
+  closed_by true is k none = absurd (let w : true ≡ false = none in cc)
+  closed_by false is k none =
+      let same : wants_in p ≡ marked_wants p.demands p.marks = λ i. record { demands = p.demands; asks = λ j. is i || marked p.marks j } in
+      (refl, ap (λ w. has_asked w S k) same ∙ unmarked k none (has_asked (marked_wants p.demands p.marks) S k) refl)
+
+  pub plan_closed : IsClosed (wants_in p) S
+  plan_closed k none = let c = closed_by p.demands.known_fields refl k none in (c.0, c.1)
 
 module _ (p : Passing) (m : Lent) (allowed : AreAllowed (p.limits).reads m.count) (root : Child) where
   abbrev pub length_demand : Demand
-  length_demand = record { links = []; object = root.object; field = None; at = length m.bytes; reads = 0; chain = where_asked (p.plan).demands.unions (length_failure m.bytes) }
+  length_demand = record { links = []; object = root.object; field = None; at = length m.bytes; reads = 0; chain = where_asked (p.plan).demands.unions (length_failure m.bytes); inner = None }
 
   abbrev pub rest_of : Tree → List Demand
   rest_of y = if (wants_of p).asks root.object then demands_in y (wants_of p) p.checks m.bytes p.rows [] else []
 
   -- the length is enough
-  long : where_asked (p.plan).demands.unions (length_failure m.bytes) ≡ None → (ds : List Demand) → Moves p.limits m.count (length_demand ∷ ds) m.count ds
+  pub long : where_asked (p.plan).demands.unions (length_failure m.bytes) ≡ None → (ds : List Demand) → Moves p.limits m.count (length_demand ∷ ds) m.count ds
   long chain ds =
       let same : m.count + 0 ≡ m.count = omega arith in
-      subst (λ n. Moves p.limits m.count (length_demand ∷ ds) n ds) same (one p.limits m.count length_demand ds chain (subst (AreAllowed (p.limits).reads) (sym same) allowed))
+      subst (λ n. Moves p.limits m.count (length_demand ∷ ds) n ds) same (one p.limits m.count length_demand ds refl chain (subst (AreAllowed (p.limits).reads) (sym same) allowed))
 
   pub quiet : where_asked (p.plan).demands.unions (length_failure m.bytes) ≡ None → (wants_of p).asks root.object ≡ false → (new : Lent) → new ≡ m → (y : Tree) → GoesOn p m new (length_demand ∷ rest_of y) []
   quiet chain unasked new same y = rw (unasked, same) (record { moves = long chain []; grows = omega arith; same = refl })
-
-  ran_in : where_asked (p.plan).demands.unions (length_failure m.bytes) ≡ None → (new : Lent) (ds : List Demand) (frames : List Frame) (r : Result Unit Halt) → Ran {A = Unit {0}} p m new ds frames r → Ran {A = Unit {0}} p m new (length_demand ∷ ds) frames r
-  ran_in chain new ds frames (Ok a) h = record { moves = onward p.limits (long chain ds) h.moves; grows = h.grows; same = h.same }
-  ran_in chain new ds frames (Err s) h = halts_then p m m new (length_demand ∷ ds) ds frames s refl (long chain ds) h
-
-  pub goes_in : where_asked (p.plan).demands.unions (length_failure m.bytes) ≡ None → (wants_of p).asks root.object ≡ true → (mid new : Lent) → mid ≡ m → (y : Tree) (frames : List Frame) (r : Result Unit Halt) → Ran {A = Unit {0}} p mid new (demands_in y (wants_of p) p.checks m.bytes p.rows []) frames r
-      → Ran {A = Unit {0}} p m new (length_demand ∷ rest_of y) frames r
-  goes_in chain is-asked mid new same y frames r h = rw is-asked (ran_in chain new (demands_in y (wants_of p) p.checks m.bytes p.rows []) frames r (rw same at h))
 
   by_chain : (f : Fault) (e : Option Failure) → demand_fault length_demand m.count e ≡ Some f → demand_fault length_demand m.count (e ▷ reads_failure p.limits m.count 0 (length m.bytes)) ≡ Some f
   by_chain f None h = absurd (cc)
@@ -63,7 +61,3 @@ module _ (p : Passing) (m : Lent) (allowed : AreAllowed (p.limits).reads m.count
   -- a root table that is asked can be opened
   pub its_next : (room : ℕ) (y : Tree) → IsRooted p m.bytes room root y → IsNext p m.bytes room [] root (demands_in y (wants_of p) p.checks m.bytes p.rows [])
   its_next room y h = record { tree = y; unfolds = h.unfolds; object = h.object; near = h.near; deep = h.deep; all = refl }
-
-  -- and costs no more than all
-  pub no_more : (y : Tree) → (wants_of p).asks root.object ≡ true → demands_reads (demands_in y (wants_of p) p.checks m.bytes p.rows []) ≤ demands_reads (length_demand ∷ rest_of y)
-  no_more y is-asked = rw is-asked (let s = first_reads length_demand (demands_in y (wants_of p) p.checks m.bytes p.rows []) in omega (arith, s))

@@ -6,10 +6,13 @@ use Rattle.fb_rules.specs.declared.fault.Fault.{Fault}
 use Rattle.fb_rules.specs.Question.{Question}
 use Rattle.fb_verify.specs.Sealed.{Sealed, asked_of}
 use Rattle.fb_strict.specs.declared.strictly.VerifiedStrictly.{VerifiedStrictly}
-use Rattle.fb_strict.specs.{Planned.Planned, MostReads.most_reads_strictly, Strictly.sealed_by, Strictly.ReportsStrictly, Strictly.StopsStrictly}
-use Rattle.fb_strict.proofs.Price.{strict_cost_is_bounded, strict_reads_are_bounded}
+use Rattle.fb_strict.specs.{Planned.Planned, MostReads.most_reads_strictly, Strictly.sealed_by, Strictly.ReportsStrictly, Strictly.HasNoneStrictly, Strictly.StopsStrictly}
+use Rattle.fb_strict.proofs.Bounded.{strict_cost_is_bounded, strict_reads_are_bounded}
 
 module _ (p : Planned) (q : Question) (b : List ℕ) (r : Result VerifiedStrictly Fault) (v : Sealed) (kept : v ≡ sealed_by q b v.report) where
+  pub told_none : IfErr r (λ _. HasNoneStrictly p (asked_of v q.ident q.limits) v.bytes) → IfErr r (λ _. HasNoneStrictly p q b)
+  told_none h = subst (λ w. IfErr r (λ _. HasNoneStrictly p (asked_of w q.ident q.limits) w.bytes)) kept h
+
   pub price_of_yes : IfOk r (λ s. ReportsStrictly p (asked_of v q.ident q.limits) v.bytes s.report) → IfOk r (λ s. (s.report).reads ≤ most_reads_strictly q.rows q.limits (length b))
   price_of_yes h =
       let yes = subst (λ w. IfOk r (λ s. ReportsStrictly p (asked_of w q.ident q.limits) w.bytes s.report)) kept h in

@@ -1,19 +1,22 @@
 -- What is left of the fields of a table: the next one that has a task.
-use Rattle.std.proofs.Common.{◌≡◌, ℕ, zero, suc, ◌≤◌, List, [], ◌∷◌, ◌++◌, Option, Some, None, option_map, Bool, true, false, if◌then◌else◌, append_assoc, refl, ap, subst, ◌∙◌, max, arith}
+use Rattle.std.proofs.Common.{◌≡◌, ℕ, zero, suc, ◌≤◌, List, [], ◌∷◌, ◌++◌, Option, Some, None, option_map, Bool, true, false, if◌then◌else◌, append_assoc, refl, sym, ap, subst, ◌∙◌, ◌⊎◌, inl, inr, max, arith}
 use Rattle.std.specs.List.{cons_option}
 use Rattle.std.specs.Prelude.{slice_get}
-use Rattle.fb_schema.specs.declared.kinds.Kind.{Kind}
+use Rattle.fb_schema.specs.declared.kinds.{Kind.Kind, Kind.TheVariants.Scalars, Scalar.TheVariants.UByte}
 use Rattle.fb_schema.specs.{Rows.Rows, Live.Live, Live.live_fields, Served.IsServed}
 use Rattle.fb_rules.specs.declared.{checks.Checks.Checks, link.Link.Link}
-use Rattle.fb_rules.specs.{Links.field_link, Links.element_link, Places.field_place, Fields.type_place, Fields.IsField, Fields.entries}
-use Rattle.fb_rules.specs.Tree.{Kids, no_kids, kid, kids_depth, Elements, elements_depth}
+use Rattle.fb_rules.specs.{Links.field_link, Links.element_link, Places.field_place, Fields.type_place, Fields.IsField, Fields.entries_of, Fields.entries_at, Fields.entries}
+use Rattle.fb_rules.specs.Tree.{Kids, no_kids, kid, kids_depth, Elements, no_elements, element, elements_depth}
 use Rattle.fb_rules.specs.Unfolds.{FieldsUnfold, ElementsUnfold}
 use Rattle.fb_rules.proofs.Typed.{typed_by}
-use Rattle.fb_strict.specs.declared.{tasks.Ask.Ask, tasks.Task.Task}
+use Rattle.fb_strict.specs.declared.{tasks.Held.Held, tasks.Ask.Ask, tasks.Ask.TheVariants.Bytes, tasks.Task.Task}
+use Rattle.fb_strict.specs.Demanded.{held_of}
+use Rattle.fb_strict.proofs.How.{IsHeld, IsOfKind, how, not_by_kind}
 use Rattle.fb_strict.specs.Skipped.{Wants, is_kind_asked}
-use Rattle.fb_strict.specs.Planned.{ask_by, ask_of, task_with, task_of, tasks_in}
-use Rattle.fb_strict.specs.Asked.{Demand, field_demands, row_types, row_place, demands_in_fields, demands_in_row}
-use Rattle.fb_strict.specs.Passing.{task_failure, task_reads, IsKnown, AreKnown}
+use Rattle.fb_rules.specs.declared.offset_row.Leads.{Leads}
+use Rattle.fb_strict.specs.Planned.{ask_by, ask_of, asked_of, task_with, task_of, tasks_in}
+use Rattle.fb_strict.specs.Asked.{Demand, held_demands, field_demands, row_leads, row_place, demands_in_fields, demands_in_row}
+use Rattle.fb_strict.specs.Passing.{task_failure, task_reads, task_inner, IsKnown, AreKnown}
 use Rattle.fb_strict.proofs.Unasked.{nothing_asked}
 
 -- what is asked is what its kind says
@@ -24,6 +27,16 @@ module _ (w : Wants) (S : Rows) where
 
   pub asked_by : (kind : Kind) (ask : Ask) → ask_of w S kind ≡ Some ask → ask_by kind ≡ Some ask
   asked_by kind ask h = asked_if (is_kind_asked w S kind) (ask_by kind) ask h
+
+module _ (b : List ℕ) (S : Rows) (t : ℕ) (f : Live) where
+  none_at : f.kind ≡ Scalars UByte → (place : Option ℕ) → entries_at b S t f place ≡ []
+  none_at kind None = refl
+  none_at kind (Some p) = ap (entries_of b S t f p) kind
+
+  -- a vector of bytes has no offset words
+  pub no_entries : f.kind ≡ Scalars UByte → entries b S t f ≡ []
+  unfolding entries
+  no_entries kind = none_at kind (field_place b t f.slot)
 
 module _ (c : Checks) (b : List ℕ) (S : Rows) where
   -- the fields of a table that unfolds are known
@@ -46,30 +59,84 @@ module _ (c : Checks) (b : List ℕ) (S : Rows) where
         own = field_met t kids fs i f u e;
         typed = typed_by c b S t fs i f.slot (λ kind h. field_met t kids fs h.place h.field u h.found) f.kind (served.typed k i f e);
         kind = served.kinds k i f e;
+        sized = served.sized k i f e;
       })
 
   module _ (w : Wants) (via : List Link) (k t : ℕ) where
-    -- what is demanded of a field by itself
-    abbrev own_demands : Live → List Demand
-    own_demands f = field_demands w.demands c b S (via ++ field_link k f ∷ []) k f.number t f.slot (type_place b t f.slot) (field_place b t f.slot) f.kind
-
-    -- and of its offset words
+    -- what is demanded of the offset words of a field
     abbrev word_demands : Live → Elements → List Demand
-    word_demands f ys = demands_in_row ys w c b S (λ j. via ++ element_link b k t f j ∷ []) k f.number 0 (row_place b (field_place b t f.slot) f.kind) (row_types b (type_place b t f.slot) f.kind)
+    word_demands f ys = demands_in_row ys w c b S (λ j. via ++ element_link b k t f j ∷ []) k f.number 0 (row_place b (field_place b t f.slot) f.kind) (row_leads w b S (type_place b t f.slot) f.kind)
 
-    -- a field with a task is asked
-    module _ (f : Live) (task : Task) where
-      gated : (x : Bool) → option_map (task_with f) (if x then ask_by f.kind else None) ≡ Some task → x ≡ true
-      gated true h = refl
-      gated false h = absurd (cc)
+    -- a field with a task is demanded one thing
+    abbrev pub task_demand : List Link → ℕ → ℕ → (types place : Option ℕ) → Ask → Demand
+    task_demand links n slot types place ask = record { links = links; object = k; field = Some n; at = t; reads = task_reads w.demands b S t slot types place ask; chain = task_failure w.demands c b S t slot types place ask; inner = task_inner b ask place }
 
-      pub is_asked : task_of w S f ≡ Some task → is_kind_asked w S f.kind ≡ true
-      is_asked h = gated (is_kind_asked w S f.kind) h
+    by_kind : (links : List Link) (n slot : ℕ) (types place : Option ℕ) (kind : Kind) (ask : Ask) → ask_by kind ≡ Some ask → field_demands w.demands c b S links k n t slot types place kind ≡ task_demand links n slot types place ask ∷ []
+    by_kind links n slot types place kind ask h = grind arith
+
+    one_demand : (links : List Link) (n slot : ℕ) (types place : Option ℕ) (kind : Kind) (ask : Ask) → ask_of w S kind ≡ Some ask → field_demands w.demands c b S links k n t slot types place kind ≡ task_demand links n slot types place ask ∷ []
+    one_demand links n slot types place kind ask h = by_kind links n slot types place kind ask (asked_by w S kind ask h)
+
+    -- its task
+    pub record IsTask (f : Live) (task : Task) : Type 0 where
+      pub ask : asked_of w S k f ≡ Some task.ask
+      pub number : task.number ≡ f.number
+      pub slot : task.slot ≡ f.slot
+
+    its_task : (f : Live) (task : Task) (o : Option Ask) → asked_of w S k f ≡ o → option_map (task_with f) o ≡ Some task → IsTask f task
+    its_task f task None is h = absurd (cc)
+    its_task f task (Some ask) is h = let same : task_with f ask ≡ task = cc in subst (IsTask f) same (record { ask = is; number = refl; slot = refl })
+
+    pub task_is : (f : Live) (task : Task) → task_of w S k f ≡ Some task → IsTask f task
+    task_is f task h = its_task f task (asked_of w S k f) refl h
+
+    -- what holds something has no offset words
+
+    none_row : (way : ℕ → List Link) (n j p : ℕ) (leads : Leads) (ys : Elements) → ElementsUnfold ys c b S [] → demands_in_row ys w c b S way k n j p leads ≡ []
+    unfolding ElementsUnfold demands_in_row
+    none_row way n j p leads no_elements u = refl
+    none_row way n j p leads (element y ys) u = absurd u
+
+    no_words : (f : Live) (ys : Elements) → f.kind ≡ Scalars UByte → ElementsUnfold ys c b S (entries b S t f) → word_demands f ys ≡ []
+    no_words f ys kind u = none_row _ f.number 0 _ _ ys (subst (ElementsUnfold ys c b S) (no_entries b S t f kind) u)
+
+    -- so a field that is asked is demanded one thing, and what its offset words are
+    module _ (f : Live) (ys : Elements) (u : ElementsUnfold ys c b S (entries b S t f)) (rest : List Demand) where
+      abbrev links : List Link
+      links = via ++ field_link k f ∷ []
+
+      abbrev types : Option ℕ
+      types = type_place b t f.slot
+
+      abbrev place : Option ℕ
+      place = field_place b t f.slot
+
+      abbrev by_its_kind : List Demand
+      by_its_kind = field_demands w.demands c b S links k f.number t f.slot types place f.kind
+
+      abbrev of_both : Option Held → List Demand
+      of_both o = held_demands b links k f.number t f.slot place o ++ ((if is_kind_asked w S f.kind then by_its_kind ++ word_demands f ys else []) ++ rest)
+
+      gated : (x : Bool) (o : Option Ask) (ask : Ask) → (if x then o else None) ≡ Some ask → x ≡ true
+      gated true o ask h = refl
+      gated false o ask h = absurd (cc)
+
+      one_of : (ask : Ask) → IsHeld w S k f ask ⊎ IsOfKind w S k f ask → of_both (held_of w.demands k f) ≡ task_demand links f.number f.slot types place ask ∷ (word_demands f ys ++ rest)
+      one_of ask (inl h) =
+          let quiet = not_by_kind w S k f h.held h.is in
+          let none = sym (no_words f ys h.kind u) in
+          ap of_both h.is
+          ∙ (λ i. task_demand links f.number f.slot types place (Bytes h.held) ∷ ((if quiet i then by_its_kind ++ word_demands f ys else []) ++ rest))
+          ∙ (λ i. task_demand links f.number f.slot types place (sym h.same i) ∷ (none i ++ rest))
+      one_of ask (inr h) =
+          let asked = gated (is_kind_asked w S f.kind) (ask_by f.kind) ask h.is in
+          let one = one_demand links f.number f.slot types place f.kind ask h.is in
+          ap of_both h.none ∙ (λ i. (if asked i then by_its_kind ++ word_demands f ys else []) ++ rest) ∙ append_assoc by_its_kind (word_demands f ys) rest ∙ ap (λ xs. xs ++ (word_demands f ys ++ rest)) one
 
     -- the next of these fields that has a task, past those that have none
     pub record IsNextField (kids : Kids) (fs : List Live) (task : Task) (more : List Task) : Type 0 where
       pub field : Live
-      pub its : task_of w S field ≡ Some task
+      pub its : task_of w S k field ≡ Some task
       pub known : IsKnown c b S t field
       pub words : Elements
       pub unfolds : ElementsUnfold words c b S (entries b S t field)
@@ -77,17 +144,18 @@ module _ (c : Checks) (b : List ℕ) (S : Rows) where
       pub others_known : AreKnown c b S t others
       pub others_kids : Kids
       pub others_unfold : FieldsUnfold others_kids c b S t others
-      pub tasks : more ≡ tasks_in w S others
+      pub tasks : more ≡ tasks_in w S k others
       pub deep : max (elements_depth words) (kids_depth others_kids) ≤ kids_depth kids
-      pub all : demands_in_fields kids w c b S via k t fs ≡ own_demands field ++ (word_demands field words ++ demands_in_fields others_kids w c b S via k t others)
+      pub all : demands_in_fields kids w c b S via k t fs ≡ task_demand (via ++ field_link k field ∷ []) field.number field.slot (type_place b t field.slot) (field_place b t field.slot) task.ask ∷ (word_demands field words ++ demands_in_fields others_kids w c b S via k t others)
 
     module _ (task : Task) (more : List Task) where
-      by_task : (ys : Elements) (kids : Kids) (f : Live) (fs : List Live) (u : FieldsUnfold (kid ys kids) c b S t (f ∷ fs)) → AreKnown c b S t (f ∷ fs) → (tasks_in w S fs ≡ task ∷ more → IsNextField kids fs task more)
-          → (o : Option Task) → task_of w S f ≡ o → cons_option o (tasks_in w S fs) ≡ task ∷ more → IsNextField (kid ys kids) (f ∷ fs) task more
+      by_task : (ys : Elements) (kids : Kids) (f : Live) (fs : List Live) (u : FieldsUnfold (kid ys kids) c b S t (f ∷ fs)) → AreKnown c b S t (f ∷ fs) → (tasks_in w S k fs ≡ task ∷ more → IsNextField kids fs task more)
+          → (o : Option Task) → task_of w S k f ≡ o → cons_option o (tasks_in w S k fs) ≡ task ∷ more → IsNextField (kid ys kids) (f ∷ fs) task more
       unfolding FieldsUnfold AreKnown demands_in_fields kids_depth
       by_task ys kids f fs u a later (Some x) is h =
           let same : x ≡ task = cc in
-          let asked = is_asked f x is in
+          let i = task_is f task (is ∙ ap Some same) in
+          let rest = demands_in_fields kids w c b S via k t fs in
           record {
             field = f;
             its = is ∙ ap Some same;
@@ -100,7 +168,7 @@ module _ (c : Checks) (b : List ℕ) (S : Rows) where
             others_unfold = u.2;
             tasks = cc;
             deep = omega arith;
-            all = rw asked (append_assoc (own_demands f) (word_demands f ys) (demands_in_fields kids w c b S via k t fs));
+            all = one_of f ys u.1 rest task.ask (how w S k f task.ask i.ask);
           }
       by_task ys kids f fs u a later None is h =
           let r = later h in
@@ -119,44 +187,21 @@ module _ (c : Checks) (b : List ℕ) (S : Rows) where
             all = nothing_asked w S f fs ys kids c b via k t is ∙ r.all;
           }
 
-      pub next_field : (kids : Kids) (fs : List Live) → FieldsUnfold kids c b S t fs → AreKnown c b S t fs → tasks_in w S fs ≡ task ∷ more → IsNextField kids fs task more
+      pub next_field : (kids : Kids) (fs : List Live) → FieldsUnfold kids c b S t fs → AreKnown c b S t fs → tasks_in w S k fs ≡ task ∷ more → IsNextField kids fs task more
       unfolding FieldsUnfold AreKnown
       next_field kids [] u a h = absurd (cc)
       next_field no_kids (f ∷ fs) u a h = absurd u
-      next_field (kid ys kids) (f ∷ fs) u a h = by_task ys kids f fs u a (next_field kids fs u.2 a.1) (task_of w S f) refl h
+      next_field (kid ys kids) (f ∷ fs) u a h = by_task ys kids f fs u a (next_field kids fs u.2 a.1) (task_of w S k f) refl h
 
     -- where no task is left, nothing is demanded
-    none_by : (ys : Elements) (kids : Kids) (f : Live) (fs : List Live) (u : FieldsUnfold (kid ys kids) c b S t (f ∷ fs)) → (tasks_in w S fs ≡ [] → demands_in_fields kids w c b S via k t fs ≡ [])
-        → (o : Option Task) → task_of w S f ≡ o → cons_option o (tasks_in w S fs) ≡ [] → demands_in_fields (kid ys kids) w c b S via k t (f ∷ fs) ≡ []
+    none_by : (ys : Elements) (kids : Kids) (f : Live) (fs : List Live) (u : FieldsUnfold (kid ys kids) c b S t (f ∷ fs)) → (tasks_in w S k fs ≡ [] → demands_in_fields kids w c b S via k t fs ≡ [])
+        → (o : Option Task) → task_of w S k f ≡ o → cons_option o (tasks_in w S k fs) ≡ [] → demands_in_fields (kid ys kids) w c b S via k t (f ∷ fs) ≡ []
     unfolding FieldsUnfold demands_in_fields
     none_by ys kids f fs u later (Some x) is h = absurd (cc)
     none_by ys kids f fs u later None is h = nothing_asked w S f fs ys kids c b via k t is ∙ later h
 
-    pub no_field : (kids : Kids) (fs : List Live) → FieldsUnfold kids c b S t fs → tasks_in w S fs ≡ [] → demands_in_fields kids w c b S via k t fs ≡ []
+    pub no_field : (kids : Kids) (fs : List Live) → FieldsUnfold kids c b S t fs → tasks_in w S k fs ≡ [] → demands_in_fields kids w c b S via k t fs ≡ []
     unfolding FieldsUnfold demands_in_fields
     no_field no_kids fs u h = refl
     no_field (kid ys kids) [] u h = absurd u
-    no_field (kid ys kids) (f ∷ fs) u h = none_by ys kids f fs u (no_field kids fs u.2) (task_of w S f) refl h
-
-    -- a field with a task is demanded one thing
-    abbrev pub task_demand : List Link → ℕ → ℕ → (types place : Option ℕ) → Ask → Demand
-    task_demand links n slot types place ask = record { links = links; object = k; field = Some n; at = t; reads = task_reads w.demands b S t slot types place ask; chain = task_failure w.demands c b S t slot types place ask }
-
-    by_kind : (links : List Link) (n slot : ℕ) (types place : Option ℕ) (kind : Kind) (ask : Ask) → ask_by kind ≡ Some ask → field_demands w.demands c b S links k n t slot types place kind ≡ task_demand links n slot types place ask ∷ []
-    by_kind links n slot types place kind ask h = grind arith
-
-    pub one_demand : (links : List Link) (n slot : ℕ) (types place : Option ℕ) (kind : Kind) (ask : Ask) → ask_of w S kind ≡ Some ask → field_demands w.demands c b S links k n t slot types place kind ≡ task_demand links n slot types place ask ∷ []
-    one_demand links n slot types place kind ask h = by_kind links n slot types place kind ask (asked_by w S kind ask h)
-
-    -- its task
-    pub record IsTask (f : Live) (task : Task) : Type 0 where
-      pub ask : ask_of w S f.kind ≡ Some task.ask
-      pub number : task.number ≡ f.number
-      pub slot : task.slot ≡ f.slot
-
-    its_task : (f : Live) (task : Task) (o : Option Ask) → ask_of w S f.kind ≡ o → option_map (task_with f) o ≡ Some task → IsTask f task
-    its_task f task None is h = absurd (cc)
-    its_task f task (Some ask) is h = let same : task_with f ask ≡ task = cc in subst (IsTask f) same (record { ask = is; number = refl; slot = refl })
-
-    pub task_is : (f : Live) (task : Task) → task_of w S f ≡ Some task → IsTask f task
-    task_is f task h = its_task f task (ask_of w S f.kind) refl h
+    no_field (kid ys kids) (f ∷ fs) u h = none_by ys kids f fs u (no_field kids fs u.2) (task_of w S k f) refl h

@@ -1,17 +1,31 @@
 -- What a call promises of the way to a fault, by the verdict on a buffer that the walk took.
-use Rattle.std.proofs.Common.{◌≡◌, ℕ, ◌≤◌, List, length, Result, subst, take}
+use Rattle.std.proofs.Common.{◌≡◌, ℕ, ◌≤◌, List, ◌++◌, length, Result, Ok, Err, sym, subst, take, arith, length-append}
 use Rattle.std.specs.Prelude.{IfOk, IfErr}
+use Rattle.std.proofs.lemmas.List.{take-append-le}
 use Rattle.std.proofs.lemmas.Result.{IfOk-weaker, IfErr-weaker}
-use Rattle.fb_rules.specs.declared.link.Link.{Link}
+use Rattle.fb_rules.specs.declared.{fault.Fault.Fault, link.Link.Link}
 use Rattle.fb_rules.specs.Question.{Question}
 use Rattle.fb_verify.specs.Sealed.{Sealed, asked_of}
 use Rattle.fb_verify.specs.declared.links.Located.{Located}
 use Rattle.fb_strict.specs.declared.strictly.VerifiedStrictly.{VerifiedStrictly}
 use Rattle.fb_strict.specs.{Planned.Planned, MostReads.most_reads_strictly}
-use Rattle.fb_strict.specs.Strictly.{sealed_by, ReportsStrictly, StopsStrictly, StopsAlongStrictly}
-use Rattle.fb_strict.proofs.Price.{strict_cost_is_bounded, strict_reads_are_bounded}
+use Rattle.fb_strict.specs.Strictly.{sealed_by, ReportsStrictly, HasNoneStrictly, StopsStrictly, StopsAlongStrictly}
+use Rattle.fb_strict.proofs.Bounded.{strict_cost_is_bounded, strict_reads_are_bounded}
+
+-- of the front of a row of links
+pub along_in : (P : Fault → List Link → Type 0) (r : Result VerifiedStrictly Located) (depth : ℕ) (old : ℕ) (front behind : List Link) → depth ≤ old → IfErr r (λ l. depth ≤ old → P l.fault (take l.links front)) → IfErr r (λ l. l.links ≤ length front)
+    → IfErr r (λ l. P l.fault (take l.links (front ++ behind)))
+along_in P (Ok v) depth old front behind enough h few = tt
+along_in P (Err l) depth old front behind enough h few = subst (P l.fault) (sym (take-append-le l.links front behind few)) (h enough)
+
+pub few_in : (r : Result VerifiedStrictly Located) (front behind : List Link) → IfErr r (λ l. l.links ≤ length front) → IfErr r (λ l. l.links ≤ length (front ++ behind))
+few_in (Ok v) front behind few = tt
+few_in (Err l) front behind few = let n = length-append front behind in omega (arith, n, few)
 
 module _ (p : Planned) (q : Question) (b : List ℕ) (r : Result VerifiedStrictly Located) (v : Sealed) (kept : v ≡ sealed_by q b v.report) where
+  pub told_none : IfErr r (λ _. HasNoneStrictly p (asked_of v q.ident q.limits) v.bytes) → IfErr r (λ _. HasNoneStrictly p q b)
+  told_none h = subst (λ w. IfErr r (λ _. HasNoneStrictly p (asked_of w q.ident q.limits) w.bytes)) kept h
+
   pub told_no : IfErr r (λ l. StopsStrictly p (asked_of v q.ident q.limits) v.bytes l.fault) → IfErr r (λ l. StopsStrictly p q b l.fault)
   told_no h = subst (λ w. IfErr r (λ l. StopsStrictly p (asked_of w q.ident q.limits) w.bytes l.fault)) kept h
 

@@ -3,16 +3,17 @@ use Rattle.std.proofs.Common.{◌≡◌, ◌↔◌, ℕ, zero, suc, ◌+◌, ◌
 use Rattle.std.specs.List.{list_any}
 use Rattle.std.specs.Prelude.{◌||◌}
 use Rattle.fb_strict.proofs.Lists.{or_by, or_first, or_later}
-use Rattle.fb_strict.specs.declared.demands.Demands.{Demands}
+use Rattle.fb_strict.specs.Demanded.{Demanded}
 use Rattle.std.proofs.lemmas.{Option.slice_get_past, Bool.cases_lt}
 use Rattle.fb_schema.specs.declared.kinds.Kind.{Kind}
 use Rattle.fb_schema.specs.declared.kinds.Kind.TheVariants.{Scalar, Text, Struct, Table, Union, Scalars, Texts, Structs, Tables, Unions}
 use Rattle.fb_schema.specs.{Rows.Rows, Rows.Object, Rows.is_table, Rows.is_some_table, Live.Live, Live.live_in, Live.live_fields, Live.live_of_view, Members.member_of, Served.IsServed, Served.KindHolds}
 use Rattle.fb_schema.specs.declared.views.FieldView.{FieldView}
 use Rattle.fb_strict.specs.Leading.{KindIsThere}
-use Rattle.fb_strict.specs.Skipped.{Wants, is_member_asked, some_member, is_kind_asked, has_asked, IsClosed, reaches_demand, ReachesDemand}
+use Rattle.fb_strict.specs.Skipped.{Wants, is_member_asked, some_member, is_kind_asked, has_held, has_asked, reaches_demand, ReachesDemand}
+use Rattle.fb_strict.specs.Marking.{AreClosed}
 use Rattle.fb_strict.specs.declared.tasks.Task.{Task}
-use Rattle.fb_strict.specs.Planned.{marked, marked_wants, tasks_in, AreFounded, AreMarks, AreTasks, OnePlanLaw}
+use Rattle.fb_strict.specs.Planned.{marked, marked_wants, all_wants, tasks_in, AreFounded, AreMarks, AreTasks, OnePlanLaw}
 
 -- an object that is no table has no live fields
 no_fields_in : (S : Rows) (o : Option Object) → is_some_table o ≡ false → live_in S o ≡ []
@@ -26,7 +27,7 @@ no_fields S k h = no_fields_in S (slice_get S.objects k) h
 pub past_all : (S : Rows) (k : ℕ) → length S.objects ≤ k → is_table S k ≡ false
 past_all S k h = ap is_some_table (slice_get_past S.objects k h)
 
-module _ (D : Demands) (S : Rows) where
+module _ (D : Demanded) (S : Rows) where
   -- what is wanted where these objects are asked
   abbrev wants : (ℕ → Bool) → Wants
   wants asks = record { demands = D; asks = asks }
@@ -42,7 +43,7 @@ module _ (D : Demands) (S : Rows) where
       found_member (Some (Table k)) h = founded k h
       found_member None h = absurd (grind arith)
       found_member (Some (Scalar s)) h = absurd (grind arith)
-      found_member (Some Text) h = absurd (grind arith)
+      found_member (Some Text) h = (0, h)
       found_member (Some (Struct k)) h = absurd (grind arith)
       found_member (Some (Union e)) h = absurd (grind arith)
       found_member (Some (Scalars s)) h = absurd (grind arith)
@@ -71,10 +72,10 @@ module _ (D : Demands) (S : Rows) where
       found_kind (Union e) h = found_union e h
       found_kind (Unions e) h = found_union e h
       found_kind (Scalar s) h = absurd (grind arith)
-      found_kind Text h = absurd (grind arith)
+      found_kind Text h = (0, h)
       found_kind (Struct k) h = absurd (grind arith)
       found_kind (Scalars s) h = absurd (grind arith)
-      found_kind Texts h = absurd (grind arith)
+      found_kind Texts h = (0, h)
       found_kind (Structs k) h = absurd (grind arith)
 
       found_among : (fs : List Live) → list_any (λ (f : Live). is_kind_asked (wants asks) S f.kind) fs ≡ true → (n : ℕ) × (list_any (λ (f : Live). is_kind_asked (reaching n) S f.kind) fs ≡ true)
@@ -87,10 +88,13 @@ module _ (D : Demands) (S : Rows) where
       -- so it is from an object with such a field
       pub reaches : (k : ℕ) → has_asked (wants asks) S k ≡ true → ReachesDemand D S k
       unfolding reaches_demand
-      reaches k h = let a = found_among (live_fields S k) h in (suc a.0, a.1)
+      reaches k h = elim (or_by (list_any (λ (f : Live). is_kind_asked (wants asks) S f.kind) (live_fields S k)) (has_held D S k) h) [
+        | inl own ↦ (let a = found_among (live_fields S k) own in (suc a.0, or_first _ (has_held D S k) a.1))
+        | inr held ↦ (suc 0, or_later _ (has_held D S k) held)
+      ]
 
     -- marks that are closed have each object from which it is
-    module _ (closed : IsClosed (wants asks) S) where
+    module _ (closed : (k : ℕ) → asks k ≡ false → has_asked (wants asks) S k ≡ false) where
       module _ (less : ℕ → Bool) (up : (k : ℕ) → less k ≡ true → asks k ≡ true) where
         more_or : (a b x y : Bool) → (a ≡ true → b ≡ true) → (x ≡ true → y ≡ true) → (a || x) ≡ true → (b || y) ≡ true
         more_or a b x y first later h = elim (or_by a x h) [ inl own ↦ or_first b y (first own) | inr more ↦ or_later b y (later more) ]
@@ -126,11 +130,52 @@ module _ (D : Demands) (S : Rows) where
       pub reached : (n k : ℕ) → reaches_demand n D S k ≡ true → asks k ≡ true
       unfolding reaches_demand
       reached zero k h = absurd (grind arith)
-      reached (suc n) k h = not_left k (asks k) refl (more_among (reaches_demand n D S) (reached n) (live_fields S k) h)
+      reached (suc n) k h = not_left k (asks k) refl (more_or (reaches_demand n D S) (reached n) _ _ _ _ (more_among (reaches_demand n D S) (reached n) (live_fields S k)) (λ x. x) h)
 
   -- marks that are founded and closed are exact
-  pub exact : (marks : List Bool) → AreFounded D S marks → IsClosed (marked_wants D marks) S → length marks ≡ length S.objects → AreMarks D S marks
+  pub exact : (marks : List Bool) → AreFounded D S marks → AreClosed D S marks → length marks ≡ length S.objects → AreMarks D S marks
   exact marks founded closed long = record { asked = λ k. (founded k, λ r. reached (marked marks) closed r.0 k r.1); long = long }
+
+-- what is asked of fields alone doesn't ask slots
+module _ (D : Demanded) (S : Rows) (marks : List Bool) where
+  abbrev less : Wants
+  less = all_wants (record D { known_fields = false }) marks
+
+  abbrev plain : Wants
+  plain = marked_wants D marks
+
+  same_member : (o : Option Kind) → is_member_asked less o ≡ is_member_asked plain o
+  same_member (Some (Table k)) = refl
+  same_member None = refl
+  same_member (Some (Scalar s)) = refl
+  same_member (Some Text) = refl
+  same_member (Some (Struct k)) = refl
+  same_member (Some (Union e)) = refl
+  same_member (Some (Scalars s)) = refl
+  same_member (Some Texts) = refl
+  same_member (Some (Structs k)) = refl
+  same_member (Some (Tables k)) = refl
+  same_member (Some (Unions e)) = refl
+
+  same_some : (e n : ℕ) → some_member less S e n ≡ some_member plain S e n
+  unfolding some_member
+  same_some e zero = refl
+  same_some e (suc n) = λ i. same_member (member_of S e n) i || same_some e n i
+
+  same_kind : (kind : Kind) → is_kind_asked less S kind ≡ is_kind_asked plain S kind
+  same_kind (Union e) = ap (λ x. D.unions || x) (same_some e 256)
+  same_kind (Unions e) = ap (λ x. D.unions || x) (same_some e 256)
+  same_kind (Table k) = refl
+  same_kind (Tables k) = refl
+  same_kind (Scalar s) = refl
+  same_kind Text = refl
+  same_kind (Struct k) = refl
+  same_kind (Scalars s) = refl
+  same_kind Texts = refl
+  same_kind (Structs k) = refl
+
+  pub same_own : (k : ℕ) → has_asked less S k ≡ has_asked plain S k
+  same_own k = ap (λ test. list_any test (live_fields S k) || has_held D S k) (λ i (f : Live). same_kind f.kind i)
 
 -- a list with an item more at its end
 pub before : {X : Type 0} (xs : List X) (x : X) (k : ℕ) → k < length xs → slice_get (xs ++ x ∷ []) k ≡ slice_get xs k
@@ -169,7 +214,7 @@ kind_there S k fields i d served same lt =
 
 -- the tasks of one object more
 module _ (w : Wants) (S : Rows) (n : ℕ) where
-  pub tasks_then : (tasks : List (List Task)) (ts : List Task) → AreTasks w S n tasks → ts ≡ tasks_in w S (live_fields S n) → AreTasks w S (n + 1) (tasks ++ ts ∷ [])
+  pub tasks_then : (tasks : List (List Task)) (ts : List Task) → AreTasks w S n tasks → ts ≡ tasks_in w S n (live_fields S n) → AreTasks w S (n + 1) (tasks ++ ts ∷ [])
   tasks_then tasks ts h is = record {
     long = length-append tasks (ts ∷ []) ∙ ap (λ m. m + 1) h.long;
     at = λ k lt. elim (cases_lt k n) [ inl below ↦ before tasks ts k (omega (arith, h.long)) ∙ h.at k below | inr here ↦ let at : k ≡ n = omega (arith, lt, here) in rw at (last tasks ts n (sym h.long) ∙ ap Some is) ];
@@ -210,5 +255,5 @@ one_plan S D p q h i =
     let tasks : p.tasks ≡ q.tasks =
     same_items p.tasks q.tasks (h.long ∙ sym i.long) (λ k lt.
     let within : k < length S.objects = subst (λ n. k < n) h.long lt in
-    h.tasks k within ∙ ap Some (λ j. tasks_in (marked_wants (demands j) (marks j)) S (live_fields S k)) ∙ sym (i.tasks k within)) in
+    h.tasks k within ∙ ap Some (λ j. tasks_in (all_wants (demands j) (marks j)) S k (live_fields S k)) ∙ sym (i.tasks k within)) in
     λ j. record { demands = demands j; marks = marks j; tasks = tasks j }

@@ -1,39 +1,54 @@
 -- A strict verdict costs few reads, and a fault comes soon after what was asked before it.
-use Rattle.std.proofs.Common.{◌≡◌, ℕ, ◌+◌, ◌-◌, ◌*◌, ◌≤◌, Bool, true, false, if◌then◌else◌, List, [], ◌∷◌, ◌++◌, length, inl, inr, refl, arith, Option, Some, None, mul-le-mul_left}
+use Rattle.std.proofs.Common.{◌≡◌, ℕ, zero, suc, ◌+◌, ◌-◌, ◌≤◌, Bool, true, false, if◌then◌else◌, List, [], ◌∷◌, ◌++◌, length, refl, arith, Option, Some, None}
 use Rattle.std.proofs.lemmas.Bool.Decides.{nat_tests}
 use Rattle.fb_schema.specs.declared.kinds.Kind.{Kind}
 use Rattle.fb_schema.specs.declared.kinds.Kind.TheVariants.{Scalar, Text, Struct, Table, Union, Scalars, Texts, Structs, Tables, Unions}
-use Rattle.fb_schema.specs.{Rows.Rows, Live.Live, Live.live_fields, Live.widest}
+use Rattle.fb_schema.specs.{Rows.Rows, Live.Live, Live.live_fields}
 use Rattle.fb_rules.specs.declared.{checks.Checks.Checks, fault.Fault.Fault, fault.Reason.TheVariants.TooManyReads, link.Link.Link}
-use Rattle.fb_rules.specs.{Bounds.Bounds, Bounds.AreAllowed, Bounds.allowed, Question.Question, Places.target, Places.field_place, Fields.type_place}
-use Rattle.fb_rules.specs.{MostReads.within_budget, MostReads.most_reads, Stops.reads_failure, WellFormed.base, WellFormed.IsWellFormed, WellFormed.cost}
+use Rattle.fb_rules.specs.{Bounds.Bounds, Bounds.AreAllowed, Bounds.allowed, Places.target, Places.field_place, Fields.type_place}
+use Rattle.fb_rules.specs.{MostReads.within_budget, Stops.reads_failure}
 use Rattle.fb_rules.specs.Order.{Failure, check, after, ◌▷◌, offset_failure}
 use Rattle.fb_rules.specs.Tree.{Tree, node, Kids, no_kids, kid, Elements, no_elements, element, Element, leaf, table, size}
-use Rattle.fb_rules.proofs.{Budgets.near, Few.head_few, Few.slot_few, Few.if_present_few, Price.cost_is_bounded, Price.reads_are_bounded}
+use Rattle.fb_strict.proofs.Referents.{IsAnswered, IsRowOf}
+use Rattle.fb_rules.specs.declared.{offset_row.Leads.Leads, offset_row.Leads.TheVariants.All, offset_row.Leads.TheVariants.ByType, offset_row.Referent.Referent}
+use Rattle.fb_rules.specs.declared.offset_row.Referent.TheVariants.{Text as AText, Table as ATable, Struct as AStruct, Nothing}
+use Rattle.fb_strict.specs.Strict.{slot_count}
+use Rattle.fb_rules.specs.{Facts.IsOffset, Facts.IsString, OffsetRows.leads_after, Links.field_link, Links.element_link}
+use Rattle.fb_rules.specs.Fields.{Lead, to_table, to_struct, to_string, to_nothing, Entry, entries}
+use Rattle.fb_rules.specs.Unfolds.{Unfolds, FieldsUnfold, ElementsUnfold, ElementUnfolds}
+use Rattle.fb_rules.proofs.{Few.head_few, Few.slot_few, Few.if_present_few}
 use Rattle.fb_strict.specs.InOrder.{where_asked, length_failure, inside_failure, value_failure, value_reads, union_failure, union_reads}
-use Rattle.fb_strict.specs.InOrder.{together_failure, typed_failure, typed_reads, element_failure, element_reads}
-use Rattle.fb_strict.specs.Asked.{Demand, Types, reading, vectors_reads, field_demands, row_types, row_place, next_types, element_demands, object_of}
+use Rattle.fb_strict.specs.InOrder.{together_failure, typed_failure, typed_reads, element_failure, element_reads, text_failure}
+use Rattle.fb_strict.specs.Asked.{Demand, held_demands, reading, slot_demand, slots_from, vectors_reads, field_demands, row_leads, row_place, first_referent, element_demands, text_demands, object_of}
 use Rattle.fb_strict.specs.Asked.{demands_in, demands_in_fields, demands_in_row, demands_below, demands_of, demands_reads, demand_fault, first_fault}
-use Rattle.fb_strict.specs.{MostReads.most_reads_strictly, Planned.Planned, Planned.wants_in, Skipped.Wants, Skipped.is_kind_asked, Laws.StrictCostIsBounded, Laws.StrictReadsAreBounded}
-use Rattle.fb_strict.specs.Strictly.{strict_cost}
-use Rattle.fb_strict.proofs.{Few.first_reads, Few.union_few, Few.vectors_few, Few.element_few, Few.tree_few, Verdicts.first_few, Verdicts.least_of}
+use Rattle.fb_strict.specs.{MostReads.within_past, Skipped.Wants, Skipped.is_kind_asked}
+use Rattle.fb_strict.specs.Demanded.{held_of}
+use Rattle.fb_strict.specs.declared.tasks.{Held.Held, Held.TheVariants.Buffer, Held.TheVariants.Flex}
+use Rattle.fb_rules.specs.Cost.{slot_reads}
+use Rattle.fb_strict.specs.InOrder.{flex_failure}
+use Rattle.fb_strict.proofs.{Few.first_reads, Few.union_few, Few.vectors_few, Few.element_few, Few.its_row}
 
 -- no failure of the chain comes after more reads
-abbrev AtMost : ℕ → Option Failure → Type 0
+abbrev pub AtMost : ℕ → Option Failure → Type 0
 AtMost n None = Unit {0}
 AtMost n (Some e) = e.reads ≤ n
 
--- a demand fails after no more reads than it costs, and it costs at most 7
-abbrev IsCheap : Demand → Type 0
-IsCheap d = AtMost d.reads d.chain × (d.reads ≤ 7)
+-- a demand fails after no more reads than it costs, and it costs at most 7 and so many
+abbrev pub IsCheap : ℕ → Demand → Type 0
+IsCheap len d = AtMost d.reads d.chain × (d.reads ≤ 7 + len)
 
-abbrev AreCheap : List Demand → Type 0
-AreCheap [] = Unit {0}
-AreCheap (d ∷ ds) = IsCheap d × AreCheap ds
+abbrev pub AreCheap : ℕ → List Demand → Type 0
+AreCheap len [] = Unit {0}
+AreCheap len (d ∷ ds) = IsCheap len d × AreCheap len ds
 
-cheap_joined : (xs ys : List Demand) → AreCheap xs → AreCheap ys → AreCheap (xs ++ ys)
-cheap_joined [] ys h i = i
-cheap_joined (x ∷ xs) ys h i = (h.0, cheap_joined xs ys h.1 i)
+-- so they are where more is allowed
+pub cheap_more : (n m : ℕ) (ds : List Demand) → n ≤ m → AreCheap n ds → AreCheap m ds
+cheap_more n m [] le h = tt
+cheap_more n m (d ∷ ds) le h = ((h.0.0, omega (arith, le, h.0.1)), cheap_more n m ds le h.1)
+
+cheap_joined : (len : ℕ) (xs ys : List Demand) → AreCheap len xs → AreCheap len ys → AreCheap len (xs ++ ys)
+cheap_joined len [] ys h i = i
+cheap_joined len (x ∷ xs) ys h i = (h.0, cheap_joined len xs ys h.1 i)
 
 after_most : (a n : ℕ) (e : Option Failure) → AtMost n e → AtMost (a + n) (after a e)
 after_most a n None h = tt
@@ -76,67 +91,120 @@ together_most : (types place : Option ℕ) → AtMost (vectors_reads types place
 together_most types place = grind arith
 
 module _ (w : Wants) (c : Checks) (b : List ℕ) (S : Rows) where
-  by_ask : (x : Bool) (d : Demand) (ds : List Demand) → IsCheap d → AreCheap ds → AreCheap (if x then d ∷ ds else [])
+  abbrev Cheap : List Demand → Type 0
+  Cheap ds = AreCheap (length b) ds
+
+  by_ask : (x : Bool) (d : Demand) (ds : List Demand) → IsCheap (length b) d → Cheap ds → Cheap (if x then d ∷ ds else [])
   by_ask true d ds h i = (h, i)
   by_ask false d ds h i = tt
 
-  own_cheap : (links : List Link) (k n t slot : ℕ) (types place : Option ℕ) (kind : Kind) → AreCheap (field_demands w.demands c b S links k n t slot types place kind)
+  own_cheap : (links : List Link) (k n t slot : ℕ) (types place : Option ℕ) (kind : Kind) → Cheap (field_demands w.demands c b S links k n t slot types place kind)
+  own_cheap links k n t slot types place Text = ((tt, omega (arith, slot_few b t slot)), tt)
   own_cheap links k n t slot types place (Table j) = ((tt, omega (arith, slot_few b t slot)), tt)
   own_cheap links k n t slot types place (Union e) =
       ((after_most _ _ _ (union_told w.demands.unions c b S e t types place), omega (arith, slot_few b t slot, slot_few b t (slot - 2), union_few w.demands.unions b S e types place)), tt)
+  own_cheap links k n t slot types place Texts = ((tt, omega (arith, slot_few b t slot, if_present_few 2 place)), tt)
   own_cheap links k n t slot types place (Tables j) = ((tt, omega (arith, slot_few b t slot, if_present_few 2 place)), tt)
   own_cheap links k n t slot types place (Unions e) =
       ((after_most _ _ _ (asked_most w.demands.unions _ _ (λ on. together_most types place)), omega (arith, slot_few b t slot, slot_few b t (slot - 2), vectors_few types place)), tt)
   own_cheap links k n t slot types place (Scalar s) = tt
-  own_cheap links k n t slot types place Text = tt
   own_cheap links k n t slot types place (Struct j) = tt
   own_cheap links k n t slot types place (Scalars s) = tt
-  own_cheap links k n t slot types place Texts = tt
   own_cheap links k n t slot types place (Structs j) = tt
 
-  element_cheap : (links : List Link) (k n p : ℕ) (types : Option Types) → AreCheap (element_demands w.demands c b S links k n p types)
-  element_cheap links k n p None = tt
-  element_cheap links k n p (Some ts) = ((element_told w.demands.unions c b S ts.union ts.at p, omega (arith, element_few w.demands.unions b S ts.union ts.at)), tt)
+  element_cheap : (links : List Link) (k n p : ℕ) (leads : Leads) → Cheap (element_demands w.demands c b S links k n p leads)
+  element_cheap links k n p (All referent) = tt
+  element_cheap links k n p (ByType e q) = ((element_told w.demands.unions c b S e q p, omega (arith, element_few w.demands.unions b S e q)), tt)
 
-  gated_cheap : (x : Bool) (ds : List Demand) → AreCheap ds → AreCheap (if x then ds else [])
-  gated_cheap true ds h = h
-  gated_cheap false ds h = tt
+  flex_most : (n : ℕ) (place : Option ℕ) → AtMost n (after n (flex_failure place))
+  flex_most n None = tt
+  flex_most n (Some p) = omega arith
+
+  held_cheap : (links : List Link) (k n t slot : ℕ) (place : Option ℕ) (o : Option Held) → Cheap (held_demands b links k n t slot place o)
+  held_cheap links k n t slot place None = tt
+  held_cheap links k n t slot place (Some (Buffer root)) = ((tt, omega (arith, slot_few b t slot, if_present_few 2 place)), tt)
+  held_cheap links k n t slot place (Some Flex) = ((flex_most (slot_reads b t slot) place, omega (arith, slot_few b t slot)), tt)
+
+  slot_most : (via : List Link) (k t slot : ℕ) → IsCheap (length b) (slot_demand b S via k t slot)
+  slot_most via k t slot = (grind arith, omega arith)
+
+  slots_each : (via : List Link) (k t n slot : ℕ) → Cheap (slots_from b S via k t n slot)
+  unfolding slots_from
+  slots_each via k t zero slot = tt
+  slots_each via k t (suc n) slot = (slot_most via k t slot, slots_each via k t n (slot + 2))
+
+  slots_cheap : (via : List Link) (k t : ℕ) (x : Bool) → Cheap (if x then slots_from b S via k t (slot_count b t) 4 else [])
+  slots_cheap via k t true = slots_each via k t (slot_count b t) 4
+  slots_cheap via k t false = tt
+
+  -- a text fails at once, once it is read
+  text_most : (s : ℕ) → AtMost 0 (text_failure b s)
+  text_most s = grind arith
+
+  text_cheap : (links : List Link) (k n p : ℕ) → IsOffset c b p × IsString c b (target b p) → Cheap (text_demands b links k n p)
+  text_cheap links k n p h = ((tt, omega (arith, (h.1).within)), ((text_most (target b p), omega arith), tt))
+
+  field_cheap : (ys : Elements) (via : List Link) (k t : ℕ) (f : Live) (x : Bool) → is_kind_asked w S f.kind ≡ x
+      → (IsRowOf w S b (row_leads w b S (type_place b t f.slot) f.kind) (row_place b (field_place b t f.slot) f.kind) (entries b S t f)
+      → Cheap (demands_in_row ys w c b S (λ j. via ++ element_link b k t f j ∷ []) k f.number 0 (row_place b (field_place b t f.slot) f.kind) (row_leads w b S (type_place b t f.slot) f.kind)))
+      → Cheap (if x
+      then field_demands w.demands c b S (via ++ field_link k f ∷ []) k f.number t f.slot (type_place b t f.slot) (field_place b t f.slot) f.kind
+      ++ demands_in_row ys w c b S (λ j. via ++ element_link b k t f j ∷ []) k f.number 0 (row_place b (field_place b t f.slot) f.kind) (row_leads w b S (type_place b t f.slot) f.kind)
+      else [])
+  field_cheap ys via k t f false is row = tt
+  field_cheap ys via k t f true is row = cheap_joined (length b) _ _ (own_cheap _ k f.number t f.slot (type_place b t f.slot) (field_place b t f.slot) f.kind) (row (its_row w c b S t f is))
 
   mutual
-    unfolding demands_in demands_in_fields demands_in_row demands_below
+    unfolding Unfolds FieldsUnfold ElementsUnfold ElementUnfolds demands_in demands_in_fields demands_in_row demands_below IsRowOf
 
-    tree_cheap : (y : Tree) (via : List Link) → AreCheap (demands_in y w c b S via)
-    tree_cheap (node k t kids) via = ((tt, omega (arith, head_few c)), fields_cheap kids via k t (live_fields S k))
+    tree_cheap : (y : Tree) (via : List Link) (k t : ℕ) → Unfolds y c b S k t → Cheap (demands_in y w c b S via)
+    tree_cheap (node k' t' kids) via k t u = ((tt, omega (arith, head_few c)), cheap_joined (length b) _ _ (slots_cheap via k' t' w.demands.known_fields) (fields_cheap kids via k' t' (live_fields S k') (rw (u.0, u.1) u.3)))
 
-    fields_cheap : (kids : Kids) (via : List Link) (k t : ℕ) (fs : List Live) → AreCheap (demands_in_fields kids w c b S via k t fs)
-    fields_cheap no_kids via k t fs = tt
-    fields_cheap (kid ys kids) via k t [] = tt
-    fields_cheap (kid ys kids) via k t (f ∷ fs) =
-        let types = type_place b t f.slot in
-        let place = field_place b t f.slot in
-        let row = row_cheap ys _ k f.number 0 (row_place b place f.kind) (row_types b types f.kind) in
-        cheap_joined _ _ (gated_cheap (is_kind_asked w S f.kind) _ (cheap_joined _ _ (own_cheap _ k f.number t f.slot types place f.kind) row)) (fields_cheap kids via k t fs)
+    fields_cheap : (kids : Kids) (via : List Link) (k t : ℕ) (fs : List Live) → FieldsUnfold kids c b S t fs → Cheap (demands_in_fields kids w c b S via k t fs)
+    fields_cheap no_kids via k t fs u = tt
+    fields_cheap (kid ys kids) via k t [] u = tt
+    fields_cheap (kid ys kids) via k t (f ∷ fs) u =
+        let row = row_cheap ys (entries b S t f) (λ j. via ++ element_link b k t f j ∷ []) k f.number 0 (row_place b (field_place b t f.slot) f.kind) (row_leads w b S (type_place b t f.slot) f.kind) in
+        cheap_joined (length b) _ _ (held_cheap _ k f.number t f.slot (field_place b t f.slot) (held_of w.demands k f))
+        (cheap_joined (length b) _ _ (field_cheap ys via k t f (is_kind_asked w S f.kind) refl (λ is. row is u.1)) (fields_cheap kids via k t fs u.2))
 
-    row_cheap : (ys : Elements) (way : ℕ → List Link) (k n j p : ℕ) (types : Option Types) → AreCheap (demands_in_row ys w c b S way k n j p types)
-    row_cheap no_elements way k n j p types = tt
-    row_cheap (element y ys) way k n j p types =
-        cheap_joined _ _ (element_cheap (way j) k n p types) (cheap_joined _ _ (below_cheap y (way j) k n p) (row_cheap ys way k n (j + 1) (p + 4) (next_types types)))
+    row_cheap : (ys : Elements) (xs : List Entry) (way : ℕ → List Link) (k n j p : ℕ) (leads : Leads) → IsRowOf w S b leads p xs → ElementsUnfold ys c b S xs → Cheap (demands_in_row ys w c b S way k n j p leads)
+    row_cheap no_elements xs way k n j p leads is u = tt
+    row_cheap (element y ys) [] way k n j p leads is u = absurd u
+    row_cheap (element y ys) (x ∷ xs) way k n j p leads is u =
+        let below = below_cheap y x.lead (first_referent w b S leads) (way j) k n p is.1 (rw is.0 at u.0) in
+        cheap_joined (length b) _ _ (element_cheap (way j) k n p leads) (cheap_joined (length b) _ _ below (row_cheap ys xs way k n (j + 1) (p + 4) (leads_after leads) is.2 u.1))
 
-    below_cheap : (y : Element) (links : List Link) (k n p : ℕ) → AreCheap (demands_below y w c b S links k n p)
-    below_cheap leaf links k n p = tt
-    below_cheap (table y) links k n p = by_ask (w.asks (object_of y)) (reading links k (Some n) p 1) (demands_in y w c b S links) (tt, omega arith) (tree_cheap y links)
+    below_cheap : (y : Element) (lead : Lead) (referent : Referent) (links : List Link) (k n p : ℕ) → IsAnswered w referent lead → ElementUnfolds y c b S p lead → Cheap (demands_below y w c b S links k n p referent)
+    below_cheap leaf lead AText links k n p a u = text_cheap links k n p (rw (a.text refl).0 at u)
+    below_cheap leaf lead (ATable i) links k n p a u = tt
+    below_cheap leaf lead (AStruct size align) links k n p a u = tt
+    below_cheap leaf lead Nothing links k n p a u = tt
+    below_cheap (table y) (to_table j) referent links k n p a u = by_ask (w.asks (object_of y)) (reading links k (Some n) p 1) (demands_in y w c b S links) (tt, omega arith) (tree_cheap y links j (target b p) u.1)
+    below_cheap (table y) (to_struct size align) referent links k n p a u = absurd u
+    below_cheap (table y) to_string referent links k n p a u = absurd u
+    below_cheap (table y) to_nothing referent links k n p a u = absurd u
 
   short_cheap : AtMost 0 (length_failure b)
   short_cheap = grind (arith, nat_tests)
 
-  buffer_cheap : (root : ℕ) (y : Tree) → AreCheap (demands_of w c b S root y)
-  buffer_cheap root y = ((asked_most w.demands.unions 0 (length_failure b) (λ on. short_cheap), omega arith), gated_cheap (w.asks root) (demands_in y w c b S []) (tree_cheap y []))
+  gated_cheap : (x : Bool) (ds : List Demand) → Cheap ds → Cheap (if x then ds else [])
+  gated_cheap true ds h = h
+  gated_cheap false ds h = tt
+
+  pub buffer_cheap : (root t : ℕ) (y : Tree) → Unfolds y c b S root t → Cheap (demands_of w c b S root y)
+  buffer_cheap root t y u = ((asked_most w.demands.unions 0 (length_failure b) (λ on. short_cheap), omega arith), gated_cheap (w.asks root) (demands_in y w c b S []) (tree_cheap y [] root t u))
+
+-- no more than so many reads past what is allowed
+pub near_past : (budget : Option ℕ) (past m n : ℕ) → n ≤ m + past → AreAllowed budget m → n ≤ within_past budget past n
+near_past None past m n h a = omega arith
+near_past (Some most) past m n h a = omega (arith, h, a)
 
 -- the first fault of such demands
-module _ (L : Bounds) (f : Fault) where
-  -- it comes after no more reads than they all cost, and than the budget and 7
-  abbrev ComesSoon : (paid all : ℕ) → Type 0
-  ComesSoon paid all = (f.reads ≤ paid + all) × (f.reads ≤ within_budget L.reads f.reads)
+module _ (L : Bounds) (f : Fault) (len : ℕ) where
+  -- it comes after no more reads than they all cost, and than the budget, 7 and so many
+  abbrev pub ComesSoon : (paid all : ℕ) → Type 0
+  ComesSoon paid all = (f.reads ≤ paid + all) × (f.reads ≤ within_past L.reads (7 + len) f.reads)
 
   -- so do those behind a demand
   abbrev RestComesSoon : Demand → (paid all : ℕ) → Option Fault → Type 0
@@ -147,20 +215,20 @@ module _ (L : Bounds) (f : Fault) where
   told_at d paid (Some x) h e = grind arith
 
   by_budget : (d : Demand) (paid all : ℕ) (rest : Option Fault) (x : Bool) → allowed L.reads (paid + d.reads) ≡ x
-      → IsCheap d → AreAllowed L.reads paid → RestComesSoon d paid all rest
+      → IsCheap len d → AreAllowed L.reads paid → RestComesSoon d paid all rest
       → (demand_fault d paid (check x TooManyReads d.at d.reads None) ▷ rest) ≡ Some f → ComesSoon paid (d.reads + all)
   by_budget d paid all rest true is cheap a on h = let r = on (grind (arith, nat_tests)) h in (omega (arith, r.0), r.1)
   by_budget d paid all rest false is cheap a on h =
-      let n : f.reads ≤ paid + d.reads = grind arith in (omega (arith, n), near L.reads paid f.reads (omega (arith, n, cheap.1)) a)
+      let n : f.reads ≤ paid + d.reads = grind arith in (omega (arith, n), near_past L.reads (7 + len) paid f.reads (omega (arith, n, cheap.1)) a)
 
   by_chain : (d : Demand) (paid all : ℕ) (rest : Option Fault) (chain : Option Failure) → AtMost d.reads chain
-      → IsCheap d → AreAllowed L.reads paid → RestComesSoon d paid all rest
+      → IsCheap len d → AreAllowed L.reads paid → RestComesSoon d paid all rest
       → (demand_fault d paid (chain ▷ reads_failure L paid d.reads d.at) ▷ rest) ≡ Some f → ComesSoon paid (d.reads + all)
   by_chain d paid all rest None most cheap a on h = by_budget d paid all rest (allowed L.reads (paid + d.reads)) refl cheap a on h
   by_chain d paid all rest (Some x) most cheap a on h =
-      let n = told_at d paid (Some x) most h in (omega (arith, n), near L.reads paid f.reads (omega (arith, n, cheap.1)) a)
+      let n = told_at d paid (Some x) most h in (omega (arith, n), near_past L.reads (7 + len) paid f.reads (omega (arith, n, cheap.1)) a)
 
-  comes_soon : (ds : List Demand) (paid : ℕ) → AreCheap ds → AreAllowed L.reads paid → first_fault L paid ds ≡ Some f → ComesSoon paid (demands_reads ds)
+  pub comes_soon : (ds : List Demand) (paid : ℕ) → AreCheap len ds → AreAllowed L.reads paid → first_fault L paid ds ≡ Some f → ComesSoon paid (demands_reads ds)
   unfolding first_fault
   comes_soon [] paid cheap a h = absurd (cc)
   comes_soon (d ∷ ds) paid cheap a h =
@@ -169,37 +237,10 @@ module _ (L : Bounds) (f : Fault) where
 
 -- a whole buffer
 
-lesser : (budget : Option ℕ) (n m : ℕ) → n ≤ m → n ≤ within_budget budget n → n ≤ within_budget budget m
-lesser budget n m h i = grind arith
+pub lesser : (budget : Option ℕ) (past n m : ℕ) → n ≤ m → n ≤ within_past budget past n → n ≤ within_past budget past m
+lesser None past n m h i = h
+lesser (Some most) past n m h i = omega (arith, h, i)
 
-pass_cost : (p : Planned) (q : Question) (b : List ℕ) (y : Tree) → IsWellFormed q b y → size y ≤ (q.limits).tables
-    → demands_reads (demands_of (wants_in p) q.checks b q.rows q.root y) ≤ (q.limits).tables * (3 + widest q.rows * (8 + length b))
-pass_cost p q b y h many =
-    let few = tree_few (wants_in p) q.checks b q.rows y [] q.root (target b (base q.start)) h.unfolds in
-    let all = mul-le-mul_left (3 + widest q.rows * (8 + length b)) many in
-    let d : Demand = record { links = []; object = q.root; field = None; at = length b; reads = 0; chain = where_asked p.demands.unions (length_failure b) } in
-    first_few ((wants_in p).asks q.root) d (demands_in y (wants_in p) q.checks b q.rows []) _ refl (omega (arith, few, all))
-
-walk_cost : (o : Option ℕ) (cost n : ℕ) → cost ≤ within_budget o n → cost ≤ n
-walk_cost o cost n h = omega (arith, h, least_of o n)
-
-pub strict_cost_is_bounded : StrictCostIsBounded
-unfolding most_reads most_reads_strictly
-strict_cost_is_bounded p q b r h =
-    let walk = walk_cost (q.limits).reads (cost q b h.found) _ (cost_is_bounded q b h.found h.well_formed h.within) in
-    let pass = pass_cost p q b h.found h.well_formed (h.within).tables in
-    rw h.reads (lesser (q.limits).reads _ _ (omega (arith, walk, pass)) (near (q.limits).reads (strict_cost p q b h.found) _ (omega arith) h.paid))
-
-more_budget : (budget : Option ℕ) (n m k : ℕ) → k ≤ within_budget budget n → n ≤ m → k ≤ within_budget budget m
-more_budget budget n m k h i = grind arith
-
-pub strict_reads_are_bounded : StrictReadsAreBounded
-unfolding most_reads most_reads_strictly
-strict_reads_are_bounded p q b f (inl h) = more_budget (q.limits).reads _ _ f.reads (reads_are_bounded q b f h) (omega arith)
-strict_reads_are_bounded p q b f (inr h) =
-    let walk = walk_cost (q.limits).reads (cost q b h.found) _ (cost_is_bounded q b h.found h.well_formed h.within) in
-    let pass = pass_cost p q b h.found h.well_formed (h.within).tables in
-    let ds = demands_of (wants_in p) q.checks b q.rows q.root h.found in
-    let cheap = buffer_cheap (wants_in p) q.checks b q.rows q.root h.found in
-    let soon = comes_soon q.limits f ds (cost q b h.found) cheap (h.within).reads h.first in
-    lesser (q.limits).reads f.reads _ (omega (arith, walk, pass, soon.0)) soon.1
+pub more_past : (budget : Option ℕ) (past n m k : ℕ) → 7 ≤ past → n ≤ m → k ≤ within_budget budget n → k ≤ within_past budget past m
+more_past None past n m k p h i = omega (arith, h, i)
+more_past (Some most) past n m k p h i = omega (arith, p, h, i)

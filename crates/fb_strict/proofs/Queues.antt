@@ -1,19 +1,19 @@
 -- The queue of the objects that are marked, and the marks once each of them was followed.
 use Rattle.std.proofs.Common.{◌≡◌, ◌⊎◌, inl, inr, ℕ, zero, suc, ◌+◌, ◌<◌, ◌≤◌, List, [], ◌∷◌, ◌++◌, length, length-append, replicate, slice_get, get_or, Option, Some, None, Bool, true, false, not, cond, sym, ◌∙◌, ap, subst, refl, arith}
 use Rattle.std.specs.List.{list_any, count_by}
-use Rattle.std.specs.Prelude.{◌||◌}
+use Rattle.std.specs.Prelude.{◌||◌, is_some}
 use Rattle.fb_strict.proofs.Lists.{or_by, or_first, or_later}
-use Rattle.fb_strict.specs.declared.demands.Demands.{Demands}
+use Rattle.fb_strict.specs.Demanded.{Demanded, flags, held_of}
 use Rattle.std.proofs.Math.ListN.{set}
 use Rattle.std.proofs.lemmas.{List.length-set, List.length-replicate, List.Sums.sum_by-set, Option.slice_get_within, Option.slice_get-get_or, Bool.cases_lt, Bool.cases_Bool}
 use Rattle.fb_schema.specs.declared.kinds.Kind.{Kind}
 use Rattle.fb_schema.specs.declared.kinds.Kind.TheVariants.{Scalar, Text, Struct, Table, Union, Scalars, Texts, Structs, Tables, Unions}
 use Rattle.fb_schema.specs.{Rows.Rows, Rows.is_table, Live.Live, Live.live_fields, Members.member_of}
 use Rattle.fb_strict.specs.declared.leads.Edge.{Edge}
-use Rattle.fb_strict.specs.Leading.{MemberLeads, KindLeads, LeadAmong, IsOn, IsFrom, AreLeads}
-use Rattle.fb_strict.specs.Marking.{IsQueue, NoneMarked, Grew, Spread, OwnMarked}
+use Rattle.fb_strict.specs.Leading.{MemberLeads, KindLeads, OneOf, LeadsTo, IsOn, is_first, is_later}
+use Rattle.fb_strict.specs.Marking.{IsQueue, NoneMarked, Grew, Spread, AreClosed, OwnMarked}
 use Rattle.fb_strict.specs.{Planned.marked, Planned.marked_wants, Planned.AreFounded}
-use Rattle.fb_strict.specs.Skipped.{Wants, is_member_asked, some_member, is_kind_asked, has_asked, IsClosed, ReachesDemand}
+use Rattle.fb_strict.specs.Skipped.{Wants, is_member_asked, some_member, is_kind_asked, has_held, has_asked, ReachesDemand}
 use Rattle.fb_strict.proofs.Marks.{no_fields, past_all, before, last, reaches}
 use Rattle.fb_strict.proofs.Leading.{none_on, first_or_later}
 
@@ -37,11 +37,6 @@ marked_at : (marks : List Bool) (k : ℕ) → k < length marks → marked (set m
 marked_at [] k lt = absurd (omega arith)
 marked_at (m ∷ ms) zero lt = refl
 marked_at (m ∷ ms) (suc k) lt = marked_at ms k (omega arith)
-
-pub marked_within : (marks : List Bool) (k : ℕ) → marked marks k ≡ true → k < length marks
-marked_within [] k h = absurd (grind arith)
-marked_within (m ∷ ms) zero h = omega arith
-marked_within (m ∷ ms) (suc k) h = let lt = marked_within ms k h in omega (arith, lt)
 
 none_marked : (n k : ℕ) → marked (replicate n false) k ≡ true → ⊥
 none_marked zero k h = absurd (grind arith)
@@ -74,6 +69,28 @@ module _ (P : ℕ → Type 0) (marks : List Bool) (queue : List ℕ) where
       ahead = λ i k at. h.ahead i k (g.ahead i k at);
       weight = h.weight ∙ g.weight;
     }
+
+-- the same of more objects
+grew_as : (P Q : ℕ → Type 0) (marks : List Bool) (queue : List ℕ) (marks' : List Bool) (queue' : List ℕ) → ((k : ℕ) → P k → Q k) → Grew P marks queue marks' queue' → Grew Q marks queue marks' queue'
+grew_as P Q marks queue marks' queue' to g = record {
+  queued = g.queued;
+  long = g.long;
+  kept = g.kept;
+  only = λ k m. elim (g.only k m) [ inl l ↦ inl l | inr r ↦ inr (to k r) ];
+  ahead = g.ahead;
+  weight = g.weight;
+}
+
+-- of the same, said otherwise
+pub spread_as : (P Q : ℕ → Type 0) (marks : List Bool) (queue : List ℕ) (marks' : List Bool) (queue' : List ℕ) → ((k : ℕ) → P k → Q k) → ((k : ℕ) → Q k → P k) → Spread P marks queue marks' queue' → Spread Q marks queue marks' queue'
+spread_as P Q marks queue marks' queue' to back s = record { grew = grew_as P Q marks queue marks' queue' to s.grew; all = λ k h. s.all k (back k h) }
+
+-- and then of others
+pub spread_both : (P Q : ℕ → Type 0) (marks : List Bool) (queue : List ℕ) (mid : List Bool) (some : List ℕ) (marks' : List Bool) (queue' : List ℕ) → Spread P marks queue mid some → Spread Q mid some marks' queue' → Spread (λ k. P k ⊎ Q k) marks queue marks' queue'
+spread_both P Q marks queue mid some marks' queue' s r = record {
+  grew = grew_more (λ k. P k ⊎ Q k) marks queue mid some (grew_as P (λ k. P k ⊎ Q k) marks queue mid some (λ k h. inl h) s.grew) Q marks' queue' (λ k h. inr h) r.grew;
+  all = λ k led. elim led [ inl l ↦ r.grew.kept k (s.all k l) | inr q ↦ r.all k q ];
+}
 
 module _ (marks : List Bool) (queue : List ℕ) (q : IsQueue marks queue) (object : ℕ) where
   -- an object that is marked
@@ -114,7 +131,7 @@ module _ (marks : List Bool) (queue : List ℕ) (q : IsQueue marks queue) (objec
 
 -- the objects of which something is demanded by themselves
 
-module _ (D : Demands) (S : Rows) where
+module _ (D : Demanded) (S : Rows) where
   none_asked : (k : ℕ) → marked [] k ≡ true → ReachesDemand D S k
   none_asked k h = absurd (grind arith)
 
@@ -158,38 +175,38 @@ module _ (D : Demands) (S : Rows) where
     own_all most = record { queued = h.queued; long = h.long; founded = h.founded; all = λ k lt asked. h.all k (omega (arith, lt, most)) asked }
 
   pub none_own : (k : ℕ) → is_table S k ≡ false → has_asked (marked_wants D []) S k ≡ false
-  none_own k isnt = ap (list_any (λ (f : Live). is_kind_asked (marked_wants D []) S f.kind)) (no_fields S k isnt)
+  none_own k isnt = ap (λ fs. list_any (λ (f : Live). is_kind_asked (marked_wants D []) S f.kind) fs || list_any (λ (f : Live). is_some (held_of D k f)) fs) (no_fields S k isnt)
 
--- the chain of an object is followed to this place
-pub record Followed (edges : List Edge) (top : ℕ) (marks : List Bool) (queue : List ℕ) (marks' : List Bool) (queue' : List ℕ) (p : ℕ) : Type 0 where
-  pub grew : Grew (λ k. IsOn edges k top) marks queue marks' queue'
-  pub rest : (k : ℕ) → IsOn edges k p → IsOn edges k top
-  pub done : (k : ℕ) → IsOn edges k top → (marked marks' k ≡ true) ⊎ IsOn edges k p
+-- a chain is followed to this place, and for each edge on it from e all are marked of which V e holds
+pub record Followed (V : ℕ → ℕ → Type 0) (edges : List Edge) (top : ℕ) (marks : List Bool) (queue : List ℕ) (marks' : List Bool) (queue' : List ℕ) (p : ℕ) : Type 0 where
+  pub grew : Grew (λ k. (e : ℕ) × IsOn edges e top × V e k) marks queue marks' queue'
+  pub rest : (e : ℕ) → IsOn edges e p → IsOn edges e top
+  pub done : (e : ℕ) → IsOn edges e top → ((k : ℕ) → V e k → marked marks' k ≡ true) ⊎ IsOn edges e p
   pub low : p ≤ length edges
 
-module _ (edges : List Edge) (top : ℕ) (marks : List Bool) (queue : List ℕ) where
-  pub followed_none : IsQueue marks queue → top ≤ length edges → Followed edges top marks queue marks queue top
-  followed_none q low = record { grew = grew_none (λ k. IsOn edges k top) marks queue q; rest = λ k on. on; done = λ k on. inr on; low = low }
+module _ (V : ℕ → ℕ → Type 0) (edges : List Edge) (top : ℕ) (marks : List Bool) (queue : List ℕ) where
+  pub followed_none : IsQueue marks queue → top ≤ length edges → Followed V edges top marks queue marks queue top
+  followed_none q low = record { grew = grew_none (λ k. (e : ℕ) × IsOn edges e top × V e k) marks queue q; rest = λ e on. on; done = λ e on. inr on; low = low }
 
-  module _ (mid : List Bool) (some : List ℕ) (p : ℕ) (h : Followed edges top marks queue mid some p) where
-    pub followed_more : (i : ℕ) (e : Edge) → p ≡ i + 1 → slice_get edges i ≡ Some e → e.before ≤ i → IsOn edges e.from p → ((k : ℕ) → IsOn edges k e.before → IsOn edges k p)
-        → (marks' : List Bool) (queue' : List ℕ) → Spread (λ k. k ≡ e.from) mid some marks' queue' → Followed edges top marks queue marks' queue' e.before
-    followed_more i e at got back first later marks' queue' s = record {
-      grew = grew_more (λ k. IsOn edges k top) marks queue mid some h.grew (λ k. k ≡ e.from) marks' queue' (λ k is. subst (λ j. IsOn edges j top) (sym is) (h.rest e.from first)) s.grew;
-      rest = λ k on. h.rest k (later k on);
-      done = λ k on. elim (h.done k on) [
-        | inl was ↦ inl (s.grew.kept k was)
-        | inr now ↦ elim (first_or_later edges k p i e at got now) [ inl is ↦ inl (s.all k is) | inr on ↦ inr on ]
+  module _ (mid : List Bool) (some : List ℕ) (p : ℕ) (h : Followed V edges top marks queue mid some p) where
+    pub followed_more : (i : ℕ) (d : Edge) → p ≡ i + 1 → slice_get edges i ≡ Some d → d.before ≤ i
+        → (marks' : List Bool) (queue' : List ℕ) → Spread (V d.from) mid some marks' queue' → Followed V edges top marks queue marks' queue' d.before
+    followed_more i d at got back marks' queue' s = record {
+      grew = grew_more (λ k. (e : ℕ) × IsOn edges e top × V e k) marks queue mid some h.grew (V d.from) marks' queue' (λ k v. (d.from, h.rest d.from (is_first p i d at got refl), v)) s.grew;
+      rest = λ e on. h.rest e (is_later p i d at got on);
+      done = λ e on. elim (h.done e on) [
+        | inl was ↦ inl (λ k v. s.grew.kept k (was k v))
+        | inr now ↦ elim (first_or_later edges e p i d at got now) [ inl is ↦ inl (λ k v. s.all k (subst (λ m. V m k) is v)) | inr on ↦ inr on ]
       ];
       low = (let low = h.low in omega (arith, at, back, low));
     }
 
-    pub followed_all : p ≡ 0 → Spread (λ k. IsOn edges k top) marks queue mid some
-    followed_all z = record { grew = h.grew; all = λ k on. elim (h.done k on) [ inl is ↦ is | inr none ↦ absurd (none_on edges k p z none) ] }
+    pub followed_all : p ≡ 0 → Spread (λ k. (e : ℕ) × IsOn edges e top × V e k) marks queue mid some
+    followed_all z = record { grew = h.grew; all = λ k led. elim (h.done led.0 led.1) [ inl is ↦ is k led.2 | inr none ↦ absurd (none_on edges led.0 p z none) ] }
 
 -- what is asked
 
-module _ (D : Demands) (S : Rows) (asks : ℕ → Bool) where
+module _ (D : Demanded) (S : Rows) (asks : ℕ → Bool) where
   abbrev w : Wants
   w = record { demands = D; asks = asks }
 
@@ -214,12 +231,12 @@ module _ (D : Demands) (S : Rows) (asks : ℕ → Bool) where
   no_more_member e n zero is none isnt = absurd (omega (arith, is))
   no_more_member e n (suc more) is none isnt = let same : more ≡ n = omega (arith, is) in rw (same, none, isnt) refl
 
-  -- a member that is asked is a table that is
-  member_by : (o : Option Kind) → is_member_asked w o ≡ true → (t : ℕ) × (asks t ≡ true) × (o ≡ Some (Table t))
-  member_by (Some (Table k)) h = (k, h, refl)
+  -- a member is asked by itself, or is a table that is
+  member_by : (o : Option Kind) → is_member_asked w o ≡ true → (is_member_asked own o ≡ true) ⊎ ((t : ℕ) × (asks t ≡ true) × (o ≡ Some (Table t)))
+  member_by (Some (Table k)) h = inr (k, h, refl)
   member_by None h = absurd (grind arith)
   member_by (Some (Scalar s)) h = absurd (grind arith)
-  member_by (Some Text) h = absurd (grind arith)
+  member_by (Some Text) h = inl h
   member_by (Some (Struct k)) h = absurd (grind arith)
   member_by (Some (Union e)) h = absurd (grind arith)
   member_by (Some (Scalars s)) h = absurd (grind arith)
@@ -228,12 +245,18 @@ module _ (D : Demands) (S : Rows) (asks : ℕ → Bool) where
   member_by (Some (Tables k)) h = absurd (grind arith)
   member_by (Some (Unions e)) h = absurd (grind arith)
 
-  some_by : (e n : ℕ) → some_member w S e n ≡ true → (t : ℕ) × (asks t ≡ true) × MemberLeads S e n t
+  some_by : (e n : ℕ) → some_member w S e n ≡ true → (some_member own S e n ≡ true) ⊎ ((t : ℕ) × (asks t ≡ true) × MemberLeads S e n t)
   unfolding some_member
   some_by e zero h = absurd (grind arith)
   some_by e (suc n) h = elim (or_by (is_member_asked w (member_of S e n)) (some_member w S e n) h) [
-    | inl here ↦ (let m = member_by (member_of S e n) here in (m.0, m.1, (n, omega arith, m.2)))
-    | inr more ↦ (let m = some_by e n more in (m.0, m.1, ((m.2).0, omega (arith, (m.2).1), (m.2).2)))
+    | inl here ↦ elim (member_by (member_of S e n) here) [
+      | inl itself ↦ inl (or_first (is_member_asked own (member_of S e n)) (some_member own S e n) itself)
+      | inr m ↦ inr (m.0, m.1, (n, omega arith, m.2))
+    ]
+    | inr more ↦ elim (some_by e n more) [
+      | inl itself ↦ inl (or_later (is_member_asked own (member_of S e n)) (some_member own S e n) itself)
+      | inr m ↦ inr (m.0, m.1, ((m.2).0, omega (arith, (m.2).1), (m.2).2))
+    ]
   ]
 
   union_by : (e : ℕ) (x : Bool) → D.unions ≡ x → (D.unions || some_member w S e 256) ≡ true
@@ -241,11 +264,11 @@ module _ (D : Demands) (S : Rows) (asks : ℕ → Bool) where
   union_by e true is h = inl (or_first D.unions (some_member own S e 256) is)
   union_by e false is h = elim (or_by D.unions (some_member w S e 256) h) [
     | inl does ↦ inl (or_first D.unions (some_member own S e 256) does)
-    | inr more ↦ (let m = some_by e 256 more in inr (m.0, m.1, (is, m.2)))
+    | inr more ↦ elim (some_by e 256 more) [ inl itself ↦ inl (or_later D.unions (some_member own S e 256) itself) | inr m ↦ inr (m.0, m.1, (is, m.2)) ]
   ]
 
   -- a field is asked by itself, or leads to what is
-  kind_by : (kind : Kind) → is_kind_asked w S kind ≡ true → (is_kind_asked own S kind ≡ true) ⊎ ((t : ℕ) × (asks t ≡ true) × KindLeads D S kind t)
+  kind_by : (kind : Kind) → is_kind_asked w S kind ≡ true → (is_kind_asked own S kind ≡ true) ⊎ ((t : ℕ) × (asks t ≡ true) × KindLeads (flags D) S kind t)
   kind_by (Table k) h = inr (k, h, refl)
   kind_by (Tables k) h = inr (k, h, refl)
   kind_by (Union e) h = union_by e D.unions refl h
@@ -258,7 +281,7 @@ module _ (D : Demands) (S : Rows) (asks : ℕ → Bool) where
   kind_by (Structs k) h = inl h
 
   -- one of these fields is
-  asked_by : (fs : List Live) → list_any (λ (f : Live). is_kind_asked w S f.kind) fs ≡ true → (list_any (λ (f : Live). is_kind_asked own S f.kind) fs ≡ true) ⊎ ((t : ℕ) × (asks t ≡ true) × LeadAmong D S fs t)
+  asked_by : (fs : List Live) → list_any (λ (f : Live). is_kind_asked w S f.kind) fs ≡ true → (list_any (λ (f : Live). is_kind_asked own S f.kind) fs ≡ true) ⊎ ((t : ℕ) × (asks t ≡ true) × OneOf (KindLeads (flags D) S) fs t)
   asked_by [] h = absurd (grind arith)
   asked_by (f ∷ fs) h = elim (or_by (is_kind_asked w S f.kind) (list_any (λ (f : Live). is_kind_asked w S f.kind) fs) h) [
     | inl is ↦ elim (kind_by f.kind is) [
@@ -276,7 +299,7 @@ module _ (D : Demands) (S : Rows) (asks : ℕ → Bool) where
     led_member : (e n value : ℕ) → value < n → member_of S e value ≡ Some (Table t) → some_member w S e n ≡ true
     led_member e n value lt at = has_member e n value lt (ap (is_member_asked w) at ∙ is)
 
-    led_kind : (kind : Kind) → KindLeads D S kind t → is_kind_asked w S kind ≡ true
+    led_kind : (kind : Kind) → KindLeads (flags D) S kind t → is_kind_asked w S kind ≡ true
     led_kind (Table k) h = ap asks (sym h) ∙ is
     led_kind (Tables k) h = ap asks (sym h) ∙ is
     led_kind (Union e) h = or_later D.unions (some_member w S e 256) (led_member e 256 (h.1).0 (h.1).1 (h.1).2)
@@ -288,22 +311,23 @@ module _ (D : Demands) (S : Rows) (asks : ℕ → Bool) where
     led_kind Texts h = absurd h
     led_kind (Structs k) h = absurd h
 
-    led_asked : (fs : List Live) → LeadAmong D S fs t → list_any (λ (f : Live). is_kind_asked w S f.kind) fs ≡ true
+    led_asked : (fs : List Live) → OneOf (KindLeads (flags D) S) fs t → list_any (λ (f : Live). is_kind_asked w S f.kind) fs ≡ true
     led_asked [] h = absurd h
     led_asked (f ∷ fs) (inl h) = or_first (is_kind_asked w S f.kind) (list_any (λ (f : Live). is_kind_asked w S f.kind) fs) (led_kind f.kind h)
     led_asked (f ∷ fs) (inr h) = or_later (is_kind_asked w S f.kind) (list_any (λ (f : Live). is_kind_asked w S f.kind) fs) (led_asked fs h)
 
 -- the first n objects in the queue were followed
-pub record FollowedFirst (D : Demands) (S : Rows) (lasts : List ℕ) (edges : List Edge) (marks : List Bool) (queue : List ℕ) (n : ℕ) : Type 0 where
+pub record FollowedFirst (D : Demanded) (S : Rows) (L : ℕ → ℕ → Type 0) (marks : List Bool) (queue : List ℕ) (n : ℕ) : Type 0 where
   pub queued : IsQueue marks queue
   pub long : length marks ≡ length S.objects
   pub founded : AreFounded D S marks
   pub own : (k : ℕ) → has_asked (marked_wants D []) S k ≡ true → marked marks k ≡ true
-  pub led : (i t : ℕ) → i < n → slice_get queue i ≡ Some t → (k : ℕ) → IsFrom lasts edges k t → marked marks k ≡ true
+  pub led : (i t : ℕ) → i < n → slice_get queue i ≡ Some t → (k : ℕ) → L k t → marked marks k ≡ true
   pub low : n ≤ length queue
 
-module _ (D : Demands) (S : Rows) (lasts : List ℕ) (edges : List Edge) (leads : AreLeads D S lasts edges) where
-  pub first_none : (marks : List Bool) (queue : List ℕ) → OwnMarked D S (length S.objects) marks queue → FollowedFirst D S lasts edges marks queue 0
+-- where L says which object leads to which
+module _ (D : Demanded) (S : Rows) (L : ℕ → ℕ → Type 0) (whole : (k t : ℕ) → LeadsTo (flags D) S k t → L k t) (only : (k t : ℕ) → L k t → LeadsTo (flags D) S k t) where
+  pub first_none : (marks : List Bool) (queue : List ℕ) → OwnMarked D S (length S.objects) marks queue → FollowedFirst D S L marks queue 0
   first_none marks queue u = record {
     queued = u.queued;
     long = u.long;
@@ -316,21 +340,21 @@ module _ (D : Demands) (S : Rows) (lasts : List ℕ) (edges : List Edge) (leads 
     low = omega arith;
   }
 
-  module _ (marks : List Bool) (queue : List ℕ) (n : ℕ) (h : FollowedFirst D S lasts edges marks queue n) where
+  module _ (marks : List Bool) (queue : List ℕ) (n : ℕ) (h : FollowedFirst D S L marks queue n) where
     -- what leads to an object is there
-    pub from_within : (t k : ℕ) → IsFrom lasts edges k t → k < length marks
+    pub from_within : (t k : ℕ) → L k t → k < length marks
     from_within t k on = elim (cases_lt k (length S.objects)) [
       | inl lt ↦ subst (λ m. k < m) (sym h.long) lt
-      | inr past ↦ absurd (subst (λ fs. LeadAmong D S fs t) (no_fields S k (past_all S k past)) (leads.only k t on))
+      | inr past ↦ absurd (subst (λ fs. OneOf (KindLeads (flags D) S) fs t) (no_fields S k (past_all S k past)) (only k t on))
     ]
 
-    pub first_more : (t : ℕ) → slice_get queue n ≡ Some t → (marks' : List Bool) (queue' : List ℕ) → Spread (λ k. IsFrom lasts edges k t) marks queue marks' queue' → FollowedFirst D S lasts edges marks' queue' (n + 1)
+    pub first_more : (t : ℕ) → slice_get queue n ≡ Some t → (marks' : List Bool) (queue' : List ℕ) → Spread (λ k. L k t) marks queue marks' queue' → FollowedFirst D S L marks' queue' (n + 1)
     first_more t got marks' queue' s = record {
       queued = s.grew.queued;
       long = s.grew.long ∙ h.long;
       founded = λ k m. elim (s.grew.only k m) [
         | inl was ↦ h.founded k was
-        | inr on ↦ reaches D S (marked marks) h.founded k (led_asked D S (marked marks) t (h.queued.only n t got) (live_fields S k) (leads.only k t on))
+        | inr on ↦ reaches D S (marked marks) h.founded k (or_first _ (has_held D S k) (led_asked D S (marked marks) t (h.queued.only n t got) (live_fields S k) (only k t on)))
       ];
       own = λ k asked. s.grew.kept k (h.own k asked);
       led = λ i u lt at k on. elim (cases_lt i n) [
@@ -340,25 +364,30 @@ module _ (D : Demands) (S : Rows) (lasts : List ℕ) (edges : List Edge) (leads 
             let was = slice_get-get_or queue i 0 (omega (arith, below, low)) in
             let same : Some v ≡ Some u = sym (s.grew.ahead i v was) ∙ at in
             let what : u ≡ v = cc in
-            s.grew.kept k (h.led i v below was k (subst (IsFrom lasts edges k) what on))
+            s.grew.kept k (h.led i v below was k (subst (L k) what on))
         | inr here ↦ (let is : i ≡ n = omega (arith, lt, here) in
             let same : Some t ≡ Some u = sym (s.grew.ahead n t got) ∙ ap (slice_get queue') (sym is) ∙ at in
-            let what : u ≡ t = cc in s.all k (subst (IsFrom lasts edges k) what on))
+            let what : u ≡ t = cc in s.all k (subst (L k) what on))
       ];
       low = (let more = slice_get_within queue' n t (s.grew.ahead n t got) in omega (arith, more));
     }
 
-    pub first_all : length queue ≤ n → IsClosed (marked_wants D marks) S
+    by_field : (k : ℕ) → has_asked (marked_wants D marks) S k ≡ true → (has_asked (marked_wants D []) S k ≡ true) ⊎ ((t : ℕ) × (marked marks t ≡ true) × OneOf (KindLeads (flags D) S) (live_fields S k) t)
+    by_field k does = elim (or_by (list_any (λ (f : Live). is_kind_asked (marked_wants D marks) S f.kind) (live_fields S k)) (has_held D S k) does) [
+      | inl kinds ↦ elim (asked_by D S (marked marks) (live_fields S k) kinds) [ inl itself ↦ inl (or_first _ (has_held D S k) itself) | inr led ↦ inr led ]
+      | inr held ↦ inl (or_later _ (has_held D S k) held)
+    ]
+
+    pub first_all : length queue ≤ n → AreClosed D S marks
     first_all most k un = elim (cases_Bool (has_asked (marked_wants D marks) S k)) [
       | inr isnt ↦ isnt
-      | inl does ↦ absurd (elim (asked_by D S (marked marks) (live_fields S k) does) [
+      | inl does ↦ absurd (elim (by_field k does) [
         | inl itself ↦ (let w : false ≡ true = sym un ∙ h.own k itself in cc)
         | inr led ↦
             let t = led.0 in
             let at = h.queued.all t led.1 in
             let low = slice_get_within queue at.0 t at.1 in
-            let within = marked_within marks t led.1 in
-            let on = leads.whole k t (subst (λ m. t < m) h.long within) led.2 in
+            let on = whole k t led.2 in
             let w : false ≡ true = sym un ∙ h.led at.0 t (omega (arith, low, most)) at.1 k on in cc
       ])
     ]

@@ -5,16 +5,16 @@ use Rattle.fb_schema.specs.{Rows.Rows}
 use Rattle.fb_rules.specs.declared.checks.Checks.{Checks}
 use Rattle.fb_rules.specs.{Places.field_place, Fields.type_place}
 use Rattle.fb_rules.specs.Tree.{Tree, node, Kids, no_kids, kid, Elements, no_elements, element, Element, leaf, table}
-use Rattle.fb_strict.specs.declared.demands.Demands.{Demands}
+use Rattle.fb_strict.specs.Demanded.{Demanded}
 use Rattle.fb_strict.specs.Strict.{LeadsInside, IsStrict, KidsAreStrict, ElementsAreStrict, ElementIsStrict, HasStrictUnions, IsStrictTable}
-use Rattle.fb_strict.specs.Readers.{HasNode, KidsHave, ElementsHave, ElementHas, MayFollow, TablesLaw, ValuesLaw, ElementsLaw}
+use Rattle.fb_strict.specs.Readers.{HasNode, KidsHave, ElementsHave, ElementHas, MayFollow, TablesLaw, ValuesLaw, ElementsLaw, TextsLaw, SlotsLaw}
 
-module _ (D : Demands) (c : Checks) (b : List ℕ) (S : Rows) where
+module _ (D : Demanded) (c : Checks) (b : List ℕ) (S : Rows) where
   module _ (k t : ℕ) where
     mutual
       unfolding IsStrict KidsAreStrict ElementsAreStrict ElementIsStrict HasNode KidsHave ElementsHave ElementHas
 
-      node_met : (y : Tree) → IsStrict y D c b S → HasNode y k t → IsStrictTable D c b S k t
+      pub node_met : (y : Tree) → IsStrict y D c b S → HasNode y k t → IsStrictTable D c b S k t
       node_met (node k' t' kids) h (inl e) = rw (e.0, e.1) at h.0
       node_met (node k' t' kids) h (inr n) = kids_met kids h.1 n
 
@@ -71,3 +71,9 @@ pub element_inside : ElementsLaw
 element_inside y D c b S asked h k t i f e p j n at is place lt typed none =
     let met = ((node_met D c b S k t y h n).fields i f at).unions asked in
     may_follow D c b S _ ((of_unions D c b S e (type_place b t f.slot) (field_place b t f.slot) f.kind is met).leads p j place lt typed none)
+
+pub texts_utf8 : TextsLaw
+texts_utf8 y D c b S asked h k t i f n at = ((node_met D c b S k t y h n).fields i f at).texts asked
+
+pub slots_known : SlotsLaw
+slots_known y D c b S asked h k t n = (node_met D c b S k t y h n).known asked

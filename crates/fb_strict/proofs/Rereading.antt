@@ -1,5 +1,5 @@
 -- What of the field of a frame's last task can be read again, and the link that is read.
-use Rattle.std.proofs.Common.{◌≡◌, ℕ, ◌-◌, ◌<◌, List, [], Some, refl, sym, ap, subst, ◌∙◌, arith}
+use Rattle.std.proofs.Common.{◌⊎◌, inl, inr, ◌≡◌, ℕ, ◌-◌, ◌<◌, List, [], Some, refl, sym, ap, subst, ◌∙◌, arith}
 use Rattle.std.specs.Prelude.{slice_get, slice_index_or}
 use Rattle.std.proofs.lemmas.Option.{get_or_from_slice_get}
 use Rattle.fb_bytes.specs.Word.{word}
@@ -9,11 +9,12 @@ use Rattle.fb_schema.specs.{Live.Live}
 use Rattle.fb_rules.specs.{Places.target, Places.field_place, Fields.type_place, Fields.type_count}
 use Rattle.fb_rules.proofs.Typed.{present}
 use Rattle.fb_strict.specs.declared.{room.Frame.Frame, tasks.Ask.Ask, tasks.Task.Task}
-use Rattle.fb_strict.specs.declared.tasks.Ask.TheVariants.{Union as AskUnion, Unions as AskUnions, Table as GoInto, Tables as GoIntoEach}
-use Rattle.fb_strict.specs.Planned.{ask_by}
+use Rattle.fb_strict.specs.declared.tasks.Ask.TheVariants.{Text as AskText, Texts as AskTexts, Union as AskUnion, Unions as AskUnions, Table as GoInto, Tables as GoIntoEach, Bytes as AskBytes}
+use Rattle.fb_strict.proofs.How.{IsHeld, IsOfKind, how}
+use Rattle.fb_strict.specs.Planned.{IsPlan, ask_by}
 use Rattle.fb_strict.specs.Passing.{Passing, wants_of, IsKnown, IsTaskable, ask_words, task_words, task_link, link_behind, frame_link, IsLinked}
 use Rattle.fb_strict.specs.Reread.{WordsStand, MemberStands}
-use Rattle.fb_strict.proofs.{Fields.asked_by, Fields.IsTask, Fields.task_is, Tasking.taskable_by}
+use Rattle.fb_strict.proofs.{Fields.asked_by, Fields.IsTask, Fields.task_is, Tasking.taskable_how}
 
 -- a vector of unions has as many types as offset words
 module _ (p : Passing) (b : List ℕ) (t : ℕ) (f : Live) (known : IsKnown p.checks b p.rows t f) (place : ℕ) (there : field_place b t f.slot ≡ Some place) where
@@ -32,7 +33,7 @@ module _ (p : Passing) (b : List ℕ) (t : ℕ) (f : Live) (known : IsKnown p.ch
   pub counts : (e : ℕ) → ask_by f.kind ≡ Some (AskUnions e) → word b (target b place) 4 ≡ type_count b (type_place b t f.slot)
   counts e h = counts_by f.kind refl e h
 
-module _ (p : Passing) (b : List ℕ) (fr : Frame) (h : IsLinked (wants_of p) p.checks b p.rows fr) where
+module _ (p : Passing) (b : List ℕ) (plan : IsPlan p.rows (p.plan).demands p.plan) (fr : Frame) (h : IsLinked (wants_of p) p.checks b p.rows fr) where
   abbrev t : ℕ
   t = (fr.table).at
 
@@ -42,13 +43,13 @@ module _ (p : Passing) (b : List ℕ) (fr : Frame) (h : IsLinked (wants_of p) p.
   is_task : IsTask p.checks b p.rows (wants_of p) [] (fr.table).object t (h.last).field task
   is_task = task_is p.checks b p.rows (wants_of p) [] (fr.table).object t (h.last).field task (h.last).its
 
-  its_ask : ask_by ((h.last).field).kind ≡ Some task.ask
-  its_ask = asked_by (wants_of p) p.rows ((h.last).field).kind task.ask is_task.ask
+  its_how : IsHeld (wants_of p) p.rows (fr.table).object (h.last).field task.ask ⊎ IsOfKind (wants_of p) p.rows (fr.table).object (h.last).field task.ask
+  its_how = how (wants_of p) p.rows (fr.table).object (h.last).field task.ask is_task.ask
 
   taskable : IsTaskable b p.rows t task.slot (field_place b t task.slot) task.ask
   taskable =
       subst (λ o. IsTaskable b p.rows t o (field_place b t o) task.ask) (sym is_task.slot)
-      (taskable_by p b t (h.last).field (h.last).known ((h.last).field).kind refl task.ask its_ask)
+      (taskable_how p b plan (fr.table).object t (h.last).field (h.last).known task.ask its_how)
 
   module _ (place : ℕ) (there : field_place b t task.slot ≡ Some place) where
     its_words : task_words b t task ≡ ask_words b (Some place) task.ask
@@ -58,25 +59,35 @@ module _ (p : Passing) (b : List ℕ) (fr : Frame) (h : IsLinked (wants_of p) p.
     more_words = omega (arith, h.more, its_words)
 
     words_by : (ask : Ask) → IsTaskable b p.rows t task.slot (field_place b t task.slot) ask → WordsStand b place ask
+    words_by AskText able = tt
+    words_by AskTexts able = able place there
     words_by (GoInto j) able = tt
     words_by (AskUnion e) able = tt
     words_by (GoIntoEach j) able = able place there
     words_by (AskUnions e) able = able.1 place there
+    words_by (AskBytes held) able = tt
 
     pub words_stand : WordsStand b place task.ask
     words_stand = words_by task.ask taskable
+
+    kind_how : IsHeld (wants_of p) p.rows (fr.table).object (h.last).field task.ask ⊎ IsOfKind (wants_of p) p.rows (fr.table).object (h.last).field task.ask → (e : ℕ) → task.ask ≡ AskUnions e → ask_by ((h.last).field).kind ≡ Some (AskUnions e)
+    kind_how (inl x) e is = absurd (let w : AskBytes x.held ≡ AskUnions e = sym x.same ∙ is in cc)
+    kind_how (inr x) e is = asked_by (wants_of p) p.rows ((h.last).field).kind task.ask x.is ∙ ap Some is
 
     counts_here : (e : ℕ) → task.ask ≡ AskUnions e → word b (target b place) 4 ≡ type_count b (type_place b t task.slot)
     counts_here e is =
         let f = (h.last).field in
         let slot = is_task.slot in
-        let n = counts p b t f (h.last).known place (ap (field_place b t) (sym slot) ∙ there) e (its_ask ∙ ap Some is) in
+        let n = counts p b t f (h.last).known place (ap (field_place b t) (sym slot) ∙ there) e (kind_how its_how e is) in
         subst (λ o. word b (target b place) 4 ≡ type_count b (type_place b t o)) (sym slot) n
 
     member_by : (ask : Ask) → task.ask ≡ ask → IsTaskable b p.rows t task.slot (field_place b t task.slot) ask → (j : ℕ) → j < ask_words b (Some place) ask → MemberStands b t task.slot j ask
+    member_by AskText is able i less = tt
+    member_by AskTexts is able i less = tt
     member_by (GoInto j) is able i less = tt
     member_by (GoIntoEach j) is able i less = tt
     member_by (AskUnion e) is able i less = able.1
+    member_by (AskBytes held) is able i less = tt
     member_by (AskUnions e) is able i less = (able.0, omega (arith, less, counts_here e is))
 
     pub member_stands : (j : ℕ) → j < ask_words b (Some place) task.ask → MemberStands b t task.slot j task.ask

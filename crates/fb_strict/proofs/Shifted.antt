@@ -4,7 +4,7 @@ use Rattle.std.proofs.lemmas.Bool.Decides.{nat_tests}
 use Rattle.fb_rules.specs.declared.{fault.Fault.Fault, fault.Reason.TheVariants.TooManyReads}
 use Rattle.fb_rules.specs.{Bounds.Bounds, Bounds.AreAllowed, Bounds.allowed, Stops.reads_failure}
 use Rattle.fb_rules.specs.Order.{Failure, check, ◌▷◌}
-use Rattle.fb_strict.specs.{Asked.Demand, Asked.demand_fault, Asked.first_fault, Asked.links_where, Asked.first_links, Strictly.budget_left, Strictly.limits_left, Strictly.later}
+use Rattle.fb_strict.specs.{Asked.Demand, Asked.demand_fault, Asked.first_fault, Nested.budget_left, Nested.limits_left, Nested.later}
 
 same_test : (most w n : ℕ) → w ≤ most → nat_le (w + n) most ≡ nat_le n (most - w)
 same_test most w n le = grind (arith, nat_tests)
@@ -14,12 +14,12 @@ allowed_left None w n a = refl
 allowed_left (Some most) w n a = same_test most w n a
 
 module _ (L : Bounds) (w : ℕ) (a : AreAllowed L.reads w) where
-  budget : (paid n at : ℕ) → reads_failure L (w + paid) n at ≡ reads_failure (limits_left L w) paid n at
+  pub budget : (paid n at : ℕ) → reads_failure L (w + paid) n at ≡ reads_failure (limits_left L w) paid n at
   budget paid n at =
       let s : w + paid + n ≡ w + (paid + n) = omega arith in
       ap (λ x. check x TooManyReads at n None) (ap (allowed L.reads) s ∙ allowed_left L.reads w (paid + n) a)
 
-  fault_later : (d : Demand) (paid : ℕ) (e : Option Failure) → demand_fault d (w + paid) e ≡ option_map (later w) (demand_fault d paid e)
+  pub fault_later : (d : Demand) (paid : ℕ) (e : Option Failure) → demand_fault d (w + paid) e ≡ option_map (later w) (demand_fault d paid e)
   fault_later d paid None = refl
   fault_later d paid (Some e) = let s : w + paid + e.reads ≡ w + (paid + e.reads) = omega arith in rw s refl
 
@@ -36,12 +36,3 @@ module _ (L : Bounds) (w : ℕ) (a : AreAllowed L.reads w) where
       let rest = ap (λ n. first_fault L n ds) s ∙ shifted (paid + d.reads) ds in
       ap (λ e. e ▷ first_fault L (w + paid + d.reads) ds) one ∙ ap (λ f. option_map (later w) (demand_fault d paid (d.chain ▷ reads_failure (limits_left L w) paid d.reads d.at)) ▷ f) rest
       ∙ first_later (demand_fault d paid (d.chain ▷ reads_failure (limits_left L w) paid d.reads d.at)) (first_fault (limits_left L w) (paid + d.reads) ds)
-
-  -- the links that lead there are the same
-  pub same_links : (paid : ℕ) (ds : List Demand) → first_links L (w + paid) ds ≡ first_links (limits_left L w) paid ds
-  unfolding first_links
-  same_links paid [] = refl
-  same_links paid (d ∷ ds) =
-      let s : w + paid + d.reads ≡ w + (paid + d.reads) = omega arith in
-      let rest = ap (λ n. first_links L n ds) s ∙ same_links (paid + d.reads) ds in
-      λ i. links_where (d.chain ▷ budget paid d.reads d.at i) d.links (rest i)

@@ -1,6 +1,6 @@
 -- What isn't asked may be passed by.
-use Rattle.std.proofs.Common.{◌≡◌, ℕ, zero, suc, ◌+◌, ◌<◌, List, [], ◌∷◌, arith, inl, inr, Option, Some, None, false, subst, ap}
-use Rattle.std.specs.Prelude.{slice_get, true}
+use Rattle.std.proofs.Common.{◌≡◌, ℕ, zero, suc, ◌+◌, ◌<◌, List, [], ◌∷◌, arith, inl, inr, Option, Some, None, false, subst, ap, ◌∙◌, sym}
+use Rattle.std.specs.Prelude.{slice_get, true, is_some}
 use Rattle.std.specs.List.{list_any}
 use Rattle.fb_schema.specs.declared.kinds.Kind.{Kind}
 use Rattle.std.proofs.lemmas.Bool.{cases_lt}
@@ -12,14 +12,17 @@ use Rattle.fb_rules.specs.Places.{target, field_place}
 use Rattle.fb_rules.specs.Fields.{type_place, union_type, Lead, lead_of, to_table, to_struct, to_string, to_nothing, Entry, row, union_row, union_entry, entries_of, entries_at, entries}
 use Rattle.fb_rules.specs.Tree.{Tree, node, Kids, no_kids, kid, Elements, no_elements, element, Element, leaf, table}
 use Rattle.fb_rules.specs.Unfolds.{Unfolds, FieldsUnfold, ElementsUnfold, ElementUnfolds}
-use Rattle.fb_strict.specs.Strict.{IsStrict, KidsAreStrict, ElementsAreStrict, ElementIsStrict, IsStrictField, HasStrictUnions}
+use Rattle.fb_strict.specs.Strict.{IsFlexless, IsStrict, KidsAreStrict, ElementsAreStrict, ElementIsStrict, IsStrictField, HasStrictUnions, AreUtf8}
+use Rattle.fb_strict.specs.Demanded.{held_of}
+use Rattle.fb_strict.specs.declared.tasks.Held.{Held}
 use Rattle.fb_strict.specs.Skipped.{Wants, is_member_asked, some_member, is_kind_asked, IsClosed, SkipLaw}
 use Rattle.fb_strict.proofs.{Lists.or_false, Members.no_such_member}
 
 module _ (w : Wants) (S : Rows) where
-  -- an offset word that leads to no table that is asked
+  -- an offset word that leads to nothing that is asked
   abbrev pub IsQuiet : Lead → Type 0
   IsQuiet (to_table k) = w.asks k ≡ false
+  IsQuiet to_string = w.demands.utf8 ≡ false
   IsQuiet _ = Unit {0}
 
   unfoldable pub AreQuiet : List Entry → Type 0
@@ -66,8 +69,8 @@ module _ (w : Wants) (S : Rows) where
   quiet_of b t f p (Unions e) h = quiet_by_types b e _ _ _ (or_false w.demands.unions (some_member w S e 256) h).1
   quiet_of b t f p (Table k) h = (h, tt)
   quiet_of b t f p (Tables k) h = quiet_row (to_table k) _ _ h
-  quiet_of b t f p Text h = (tt, tt)
-  quiet_of b t f p Texts h = quiet_row to_string _ _ tt
+  quiet_of b t f p Text h = (h, tt)
+  quiet_of b t f p Texts h = quiet_row to_string _ _ h
   quiet_of b t f p (Scalar s) h = tt
   quiet_of b t f p (Struct k) h = tt
   quiet_of b t f p (Scalars s) h = tt
@@ -88,11 +91,33 @@ module _ (w : Wants) (S : Rows) where
   at_each (g ∷ fs) h zero f e = let same : g ≡ f = cc in subst (λ (x : Live). is_kind_asked w S x.kind ≡ false) same (or_false _ _ h).0
   at_each (g ∷ fs) h (suc i) f e = at_each fs (or_false _ _ h).1 i f e
 
+  -- nor holds anything
+  pub held_each : (k : ℕ) (fs : List Live) → list_any (λ (f : Live). is_some (held_of w.demands k f)) fs ≡ false → (i : ℕ) (f : Live) → slice_get fs i ≡ Some f → is_some (held_of w.demands k f) ≡ false
+  held_each k [] h i f e = absurd (grind arith)
+  held_each k (g ∷ fs) h zero f e = let same : g ≡ f = cc in subst (λ (x : Live). is_some (held_of w.demands k x) ≡ false) same (or_false _ _ h).0
+  held_each k (g ∷ fs) h (suc i) f e = held_each k fs (or_false _ _ h).1 i f e
+
+  flexless_by : (b : List ℕ) (t : ℕ) (f : Live) (o : Option Held) → is_some o ≡ false → IsFlexless b t f o
+  flexless_by b t f None h = tt
+  flexless_by b t f (Some held) h = absurd (cc)
+
   no_unions : (c : Checks) (b : List ℕ) (types place : Option ℕ) (kind : Kind) → is_kind_asked w S kind ≡ false → w.demands.unions ≡ true → HasStrictUnions c b S types place kind
   no_unions c b types place kind h on = grind arith
 
+  -- so it leads to no text that is asked
+  no_texts : (b : List ℕ) (xs : List Entry) → AreQuiet xs → w.demands.utf8 ≡ true → AreUtf8 b xs
+  unfolding AreQuiet
+  no_texts b [] q on i x at text = absurd (cc)
+  no_texts b (y ∷ xs) q on zero x at text = absurd (
+      let same : y ≡ x = cc in
+      let lead : y.lead ≡ to_string = ap (λ (z : Entry). z.lead) same ∙ text in
+      let off : w.demands.utf8 ≡ false = rw lead at q.0 in
+      let z : true ≡ false = sym on ∙ off in
+      cc)
+  no_texts b (y ∷ xs) q on (suc i) x at text = no_texts b xs q.1 on i x at text
+
   pub strict_field : (c : Checks) (b : List ℕ) (t : ℕ) (f : Live) → is_kind_asked w S f.kind ≡ false → IsStrictField w.demands c b S t f
-  strict_field c b t f h = record { unions = λ on. no_unions c b (type_place b t f.slot) (field_place b t f.slot) f.kind h on }
+  strict_field c b t f h = record { unions = λ on. no_unions c b (type_place b t f.slot) (field_place b t f.slot) f.kind h on; texts = no_texts b (entries b S t f) (quiet_entries b t f h) }
 
   module _ (closed : IsClosed w S) (c : Checks) (b : List ℕ) where
     mutual
@@ -101,7 +126,15 @@ module _ (w : Wants) (S : Rows) where
       strict_tree : (y : Tree) (k t : ℕ) → w.asks k ≡ false → Unfolds y c b S k t → IsStrict y w.demands c b S
       strict_tree (node k' t' kids) k t q h =
           let same : w.asks k' ≡ false = rw h.0 q in
-          (record { fields = λ i f e. strict_field c b t' f (at_each (live_fields S k') (closed k' same) i f e) }, strict_kids kids t (live_fields S k) (closed k q) h.3)
+          let closed_here = closed k' same in
+          let none = or_false _ _ closed_here.1 in (
+            record {
+              known = λ on. absurd (let off : true ≡ false = sym on ∙ closed_here.0 in cc);
+              fields = λ i f e. strict_field c b t' f (at_each (live_fields S k') none.0 i f e);
+              flexless = λ i f e. flexless_by b t' f (held_of w.demands k' f) (held_each k' (live_fields S k') none.1 i f e);
+            },
+            strict_kids kids t (live_fields S k) (or_false _ _ (closed k q).1).0 h.3,
+          )
 
       strict_kids : (kids : Kids) (t : ℕ) (fs : List Live) → list_any (λ (f : Live). is_kind_asked w S f.kind) fs ≡ false → FieldsUnfold kids c b S t fs → KidsAreStrict kids w.demands c b S
       strict_kids no_kids t fs q h = tt

@@ -1,18 +1,19 @@
 -- A turn over the frames of the open tables.
-use Rattle.std.proofs.Common.{◌≡◌, ℕ, zero, suc, ◌+◌, ◌-◌, ◌^◌, ◌<◌, ◌≤◌, List, [], ◌∷◌, ◌++◌, length, get_or, take, map, inl, inr, refl, sym, ap, subst, ◌∙◌, append_assoc, arith, None, Ok, Err}
+use Rattle.std.proofs.Common.{IsTrue, ◌≡◌, ℕ, zero, suc, ◌+◌, ◌-◌, ◌^◌, ◌<◌, ◌≤◌, List, [], ◌∷◌, ◌++◌, length, get_or, take, map, inl, inr, refl, sym, ap, subst, ◌∙◌, append_assoc, arith, Ok, Err}
 use Rattle.std.proofs.Math.ListN.{set, length-set}
 use Rattle.std.proofs.lemmas.{List.get_or-set_same, List.get_or-set_other, List.take-set-le, List.append-nil, Bool.cases_lt}
 use Rattle.fb_bytes.specs.Word.{Lent}
-use Rattle.fb_rules.specs.declared.{checks.Checks.Checks, site.Stop.Stop, site.Halt.Halt, table.Child.Child, table.Head.Head, link.Link.Link}
+use Rattle.fb_schema.specs.Rows.{is_table}
+use Rattle.fb_rules.specs.declared.{site.Stop.Stop, site.Halt.Halt, table.Child.Child, table.Head.Head, link.Link.Link}
 use Rattle.fb_rules.specs.declared.site.LastLink.{LastLink}
 use Rattle.fb_rules.specs.declared.site.LastLink.TheVariants.{Behind, InField}
-use Rattle.fb_rules.specs.{Tree.Tree, Tree.node, Tree.depth, Told.stopped, Told.IsAskedAt, Told.IsHead, Cost.head_reads, Facts.IsTable}
-use Rattle.fb_strict.specs.declared.room.Frame.{Frame}
+use Rattle.fb_rules.specs.{Tree.Tree, Tree.node, Tree.depth, Told.stopped, Told.IsHead, Facts.IsTable}
+use Rattle.fb_strict.specs.declared.{inner.Inner.Inner, room.Frame.Frame}
 use Rattle.fb_strict.specs.Asked.{Demand}
 use Rattle.fb_verify.specs.Stack.{own_link}
-use Rattle.fb_strict.specs.Passing.{Passing, wants_of, IsPassing, opened, blank, frame_link, frame_links, IsLinked, AreLinked, IsLeft, AreLeft, Moves, Breaks, GoesOn, frame_work, frames_work, Stays, GoesDown, StopsHere, Halts, Turns}
+use Rattle.fb_strict.specs.Passing.{Passing, Opens, opening, IsPassing, opened, blank, frame_link, frame_links, IsLinked, AreLinked, IsLeft, AreLeft, Moves, Breaks, GoesOn, frame_work, frames_work, Stays, GoesDown, GoesIn, StopsHere, Halts, Turns, Enters, wants_of}
 use Rattle.fb_strict.proofs.Lists.{one_more}
-use Rattle.fb_strict.proofs.Moving.{onward, before, breaks_before, breaks_then, met, unmet}
+use Rattle.fb_strict.proofs.Moving.{still, onward, before, breaks_before, breaks_then}
 use Rattle.fb_strict.proofs.{Frames.opened_left, Frames.head_first, Frames.next_table, Tasking.opened_few}
 
 module _ (p : Passing) (b : List ℕ) (frames : List Frame) (m : ℕ) (y : Frame) where
@@ -48,9 +49,6 @@ module _ (p : Passing) (b : List ℕ) (frames : List Frame) (n : ℕ) where
   pub linked_more : AreLinked (wants_of p) p.checks b p.rows frames n → IsLinked (wants_of p) p.checks b p.rows (get_or frames n blank) → AreLinked (wants_of p) p.checks b p.rows frames (suc n)
   linked_more h one i lt = elim (cases_lt i n) [ inl less ↦ h i less | inr past ↦ (let same : i ≡ n = omega (arith, past, lt) in rw same one) ]
 
-some_head : (c : Checks) → 2 ≤ head_reads c
-some_head c = grind arith
-
 pub some_deep : (y : Tree) → 0 < depth y
 unfolding depth
 some_deep (node k t kids) = omega arith
@@ -77,10 +75,42 @@ module _ (p : Passing) (m new : Lent) (frames : List Frame) (at : ℕ) (within :
   unfolding frames_work
   goes_up past none same = rw (none, same) (record {
     left = others;
-    on = record { moves = record { same = λ more. refl; links = λ more. refl; reads = refl; allowed = λ a. a }; grows = omega arith; same = refl };
+    on = record { moves = still p.limits m.count others; grows = omega arith; same = refl };
     stack = kept p m.bytes frames at past at others (omega arith) below;
     falls = rw (work_kept p m.bytes frames at past at (omega arith)) (omega arith);
   })
+
+-- A buffer inside is next.
+module _ (p : Passing) (m new : Lent) (frames : List Frame) (at : ℕ) (within : at < length frames) (own others : List Demand) (below : AreLeft p m.bytes frames at others) (linked : AreLinked (wants_of p) p.checks m.bytes p.rows frames at) where
+  abbrev via_in : List Link
+  via_in = frame_links (wants_of p) m.bytes p.rows frames at
+
+  -- the top has its link
+  links_in : (past : Frame) → frame_links (wants_of p) m.bytes p.rows (set frames at past) (suc at) ≡ via_in ++ frame_link (wants_of p) m.bytes p.rows past ∷ []
+  links_in past =
+      let same = get_or-set_same frames at past blank within in
+      links_more p m.bytes (set frames at past) at (omega (arith, within, length-set frames at past))
+      ∙ (λ i. links_kept p m.bytes frames at past at (omega arith) i ++ frame_link (wants_of p) m.bytes p.rows (same i) ∷ [])
+
+  pub goes_in : (past : Frame) (i : Inner) → GoesIn p m new (length frames - at) via_in own (get_or frames at blank) past i → Enters p m new (own ++ others) (set frames at past) (suc at) i
+  unfolding AreLeft
+  goes_in past i g =
+      let same = get_or-set_same frames at past blank within in
+      let kept_links = linked_kept p m.bytes frames at past at (omega arith) linked in
+      let ds = g.it ∷ (g.left ++ others) in
+      record {
+        last = m.count;
+        it = g.it;
+        left = g.left ++ others;
+        moves = subst (λ xs. Moves p.limits m.count xs m.count ds) (sym (ap (λ xs. xs ++ others) g.all)) (still p.limits m.count ds);
+        meets = g.meets;
+        same = g.same;
+        stack = (g.left, others, rw (length-set frames at past, same, links_kept p m.bytes frames at past at (omega arith)) g.frame, kept p m.bytes frames at past at others (omega arith) below, refl, kept_links);
+        within = omega (arith, within, length-set frames at past);
+        some = omega arith;
+        linked = linked_more p m.bytes (set frames at past) at kept_links (rw same g.linked);
+        way = g.way ∙ sym (links_in past);
+      }
 
 -- A table below the top was opened: the pass went on to its demands, and then past its head.
 module _ (p : Passing) (m mid new : Lent) (frames : List Frame) (at : ℕ) (within : at < length frames) (own others : List Demand) (below : AreLeft p m.bytes frames at others) (linked : AreLinked (wants_of p) p.checks m.bytes p.rows frames at) (past fr : Frame) (child : Child) where
@@ -193,6 +223,11 @@ module _ (p : Passing) (m new : Lent) (frames : List Frame) (many at : ℕ) (som
       let past-frames = set frames at past in
       (rw t.all (subst (λ n. Turns p m new (t.own ++ t.others) frames n past-frames (many - 1)) many_is (subst (λ n. Turns p m new (t.own ++ t.others) frames (suc at) past-frames n) is r)), omega (arith, within, length-set frames at past))
 
+  pub in_turned : (past : Frame) (i : Inner) → ((room : ℕ) (via : List Link) (own : List Demand) → IsLeft p m.bytes room via top own → GoesIn p m new room via own top past i) → Enters p m new ds (set frames at past) many i
+  in_turned past i h =
+      let t = top_of p m.bytes frames many at ds some is stack in
+      rw t.all (rw many_is at (goes_in p m new frames at in_frames t.own t.others t.below t.linked past i (h (length frames - at) via_top t.own t.left)))
+
   -- it stops: behind a word of the top's, or in a field of its table
   module _ (past : Frame) (h : Halt) where
     stopped_in : (own others : List Demand) (last : LastLink) → h.last ≡ last → ds ≡ own ++ others → AreLinked (wants_of p) p.checks m.bytes p.rows frames at → StopsHere p m new via_top many own past h last → Halts p m new ds (set frames at past) h
@@ -239,20 +274,23 @@ module _ (p : Passing) (m new : Lent) (frames : List Frame) (many at : ℕ) (som
     pub its_table : IsTable p.checks m.bytes child.at
     its_table = next_table p m.bytes holds (length frames - at - 1) via_child child (g.below) g.next
 
+    pub its_object : IsTrue (is_table p.rows child.object)
+    its_object = (g.next).object
+
     pub its_reads : GoesOn p m mid t.own (g.below ++ g.left)
     its_reads = g.on
 
     pub its_paid : mid.count ≤ m.count + 8
     its_paid = g.paid
 
-    abbrev head_read : Demand
-    head_read = record { links = via_child; object = child.object; field = None; at = child.at; reads = head_reads p.checks; chain = None }
+    its_bytes : mid.bytes ≡ m.bytes
+    its_bytes = ap (λ (x : Lent). x.bytes) (g.on).same
 
-    pub open_stops : (s : Stop) → IsAskedAt {A = Unit {0}} (record { object = child.object; field = None }) p.limits mid new None (head_reads p.checks) child.at (Err s) → (fr : Frame) (h : Halt) → h ≡ record { stop = s; links = many; last = Behind } → Halts p m new ds (set (set frames at past) (at + 1) fr) h
+    pub open_stops : (s : Stop) → Opens p mid new child (Err s) → (fr : Frame) (h : Halt) → h ≡ record { stop = s; links = many; last = Behind } → Halts p m new ds (set (set frames at past) (at + 1) fr) h
     open_stops s a fr h is =
         let o = head_first p m.bytes holds (length frames - at - 1) via_child child g.below g.next in
         let f = stopped s new.count in
-        let first = subst (λ xs. Breaks p.limits mid.count xs f via_child) (sym o.1) (unmet p mid new head_read o.0 {A = Unit {0}} s (Err s) refl a) in
+        let first = subst (λ xs. Breaks p.limits mid.count xs f via_child) (sym o.1) (subst (λ b. Breaks p.limits mid.count (opening p b via_child child ++ o.0) f via_child) its_bytes (a via_child o.0)) in
         let broken = breaks_before p.limits m.count t.own t.others f via_child (breaks_then p.limits f via_child (g.on).moves (breaks_before p.limits mid.count g.below g.left f via_child first)) in
         let links = ap (frame_links (wants_of p) m.bytes p.rows (set (set frames at past) (at + 1) fr)) (sym many_is) ∙ links_deeper p m mid new frames at in_frames t.own t.others t.below t.linked past fr child has_frame in
         subst (Halts p m new ds (set (set frames at past) (at + 1) fr)) (sym is) (record {
@@ -261,14 +299,14 @@ module _ (p : Passing) (m new : Lent) (frames : List Frame) (many at : ℕ) (som
           within = omega (arith, within, length-set (set frames at past) (at + 1) fr, length-set frames at past);
         })
 
-    pub down_turned : IsAskedAt {A = Unit {0}} (record { object = child.object; field = None }) p.limits mid new None (head_reads p.checks) child.at (Ok (tt {0})) → (head : Head) → IsHead p.checks m.bytes child.at head
+    pub down_turned : Opens p mid new child (Ok (tt {0})) → (head : Head) → IsHead p.checks m.bytes child.at head
         → (fr : Frame) → fr ≡ opened (record { object = child.object; at = child.at; head = head })
         → Turns p m new ds frames many (set (set frames at past) (at + 1) fr) (many + 1) × (many + 1 ≤ length (set (set frames at past) (at + 1) fr))
     down_turned a head is-head fr it =
         let o = opened_left p m.bytes holds (length frames - at - 1) via_child child g.below g.next head is-head in
-        let on : GoesOn p mid new g.below o.left = subst (λ xs. GoesOn p mid new xs o.left) (sym o.all) (met p mid new head_read o.left {A = Unit {0}} (tt {0}) (Ok (tt {0})) refl a) in
+        let on : GoesOn p mid new g.below o.left = subst (λ xs. GoesOn p mid new xs o.left) (sym o.all) (subst (λ b. GoesOn p mid new (opening p b via_child child ++ o.left) o.left) its_bytes (a.1 via_child o.left)) in
         let after = set (set frames at past) (at + 1) fr in
         let two : suc (suc at) ≡ many + 1 = omega (arith, many_is) in
         let few = opened_few p m.bytes (record { object = child.object; at = child.at; head = head }) holds in
-        let r = goes_down p m mid new frames at in_frames t.own t.others t.below t.linked past fr child g o.left on (omega (arith, (g.on).grows, ap (λ (x : Lent). x.count) a.counted, some_head p.checks)) (rw it o.frame) (rw it (omega (arith, few))) in
+        let r = goes_down p m mid new frames at in_frames t.own t.others t.below t.linked past fr child g o.left on (omega (arith, (g.on).grows, a.0)) (rw it o.frame) (rw it (omega (arith, few))) in
         (rw t.all (subst (λ n. Turns p m new (t.own ++ t.others) frames n after (many + 1)) many_is (subst (λ n. Turns p m new (t.own ++ t.others) frames (suc at) after n) two r)), omega (arith, has_frame, many_is, length-set (set frames at past) (at + 1) fr, length-set frames at past))

@@ -4,6 +4,7 @@ use Rattle.fb_schema.specs.declared.kinds.Kind.{Kind}
 use Rattle.fb_schema.specs.declared.kinds.Kind.TheVariants.{Scalar, Text, Struct, Table, Union, Scalars, Texts, Structs, Tables, Unions}
 use Rattle.fb_schema.specs.{Rows.Rows, Live.Live}
 use Rattle.fb_strict.specs.{Skipped.Wants, Skipped.is_kind_asked, Planned.ask_by, Planned.task_with}
+use Rattle.fb_strict.proofs.How.{unheld}
 use Rattle.fb_strict.specs.Asked.{demands_in_fields, TasksLaw}
 
 -- each kind that is asked has an ask
@@ -26,4 +27,7 @@ module _ (w : Wants) (S : Rows) (f : Live) where
 
 pub nothing_asked : TasksLaw
 unfolding demands_in_fields
-nothing_asked w S f fs ys kids c b via k t none = let quiet = unasked w S f none in rw quiet refl
+nothing_asked w S f fs ys kids c b via k t none =
+    let u = unheld w S k f none in
+    let quiet = unasked w S f u.1 in
+    rw (u.0, quiet) refl

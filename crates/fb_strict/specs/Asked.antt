@@ -1,21 +1,26 @@
 -- All that is asked of a tree, one thing after another in the order of the walk's visits.
-use Rattle.std.specs.Prelude.{◌≡◌, ◌↔◌, ℕ, ◌+◌, if◌then◌else◌, List, [], ◌∷◌, ◌++◌, length, Option, Some, None}
+use Rattle.std.specs.Prelude.{◌≡◌, ◌↔◌, ℕ, zero, suc, ◌+◌, if◌then◌else◌, List, [], ◌∷◌, ◌++◌, length, Option, Some, None}
 use Rattle.std.specs.List.{sum_by}
 use Rattle.fb_schema.specs.declared.kinds.Kind.{Kind}
-use Rattle.fb_schema.specs.declared.kinds.Kind.TheVariants.{Table, Union, Tables, Unions}
-use Rattle.fb_schema.specs.{Rows.Rows, Live.Live, Live.live_fields}
+use Rattle.fb_schema.specs.declared.kinds.Kind.TheVariants.{Text, Table, Union, Texts, Tables, Unions}
+use Rattle.fb_rules.specs.declared.{offset_row.Leads.Leads, offset_row.Leads.TheVariants.All, offset_row.Leads.TheVariants.ByType, offset_row.Referent.Referent}
+use Rattle.fb_rules.specs.declared.offset_row.Referent.TheVariants.{Text as AText, Table as ATable, Nothing}
+use Rattle.fb_schema.specs.{Rows.Rows, Live.Live, Live.live_fields, Members.member_of}
+use Rattle.fb_bytes.specs.Word.{word}
 use Rattle.fb_rules.specs.declared.{checks.Checks.Checks, fault.Fault.Fault, link.Link.Link}
-use Rattle.fb_rules.specs.{Bounds.Bounds, Bounds.AreAllowed, Places.target, Places.field_place, Fields.type_place, Fields.types_begin, Unfolds.Unfolds}
+use Rattle.fb_rules.specs.{Bounds.Bounds, Bounds.AreAllowed, Places.target, Places.field_place, Places.vtable, Fields.type_place, Fields.types_begin, Fields.union_type, OffsetRows.leads_after, Unfolds.Unfolds}
 use Rattle.fb_rules.specs.{Links.field_link, Links.element_link}
 use Rattle.fb_rules.specs.{Cost.head_reads, Cost.slot_reads, Cost.reads_if_present, Order.Failure, Order.after, Order.◌▷◌, Stops.reads_failure}
 use Rattle.fb_rules.specs.Tree.{Tree, node, Kids, no_kids, kid, Elements, no_elements, element, Element, leaf, table}
-use Rattle.fb_strict.specs.declared.demands.Demands.{Demands}
-use Rattle.fb_strict.specs.{Strict.IsStrictBuffer, Skipped.Wants, Skipped.is_kind_asked, Skipped.IsClosed, Planned.task_of}
-use Rattle.fb_strict.specs.InOrder.{where_asked, length_failure, places_reads, union_failure, union_reads, together_failure, element_failure, element_reads}
+use Rattle.fb_strict.specs.declared.inner.Inner.{Inner}
+use Rattle.fb_strict.specs.{Strict.slot_count, Strict.IsStrictBuffer, Skipped.Wants, Skipped.is_kind_asked, Skipped.IsClosed, Planned.task_of}
+use Rattle.fb_strict.specs.InOrder.{where_asked, bytes_failure, bytes_reads, bytes_inner, length_failure, places_reads, union_failure, union_reads, together_failure, element_failure, element_reads, text_failure, text_reads, slot_failure}
+use Rattle.fb_strict.specs.Demanded.{Demanded, held_of}
+use Rattle.fb_strict.specs.declared.tasks.Held.{Held}
 
 -- one thing that is asked at a table of this object, at the field with this number or at its head: a chain of tests,
--- the reads that are made where it finds nothing, and the position at which these are told to be too many; and the
--- links that lead there, the root's first
+-- the reads that are made where it finds nothing, and the position at which these are told to be too many; the links
+-- that lead there, the root's first; and the buffer that is asked then, where the field's bytes hold one
 pub record Demand : Type 0 where
   pub links : List Link
   pub object : ℕ
@@ -23,10 +28,11 @@ pub record Demand : Type 0 where
   pub at : ℕ
   pub reads : ℕ
   pub chain : Option Failure
+  pub inner : Option Inner
 
 -- reading what is known to hold
 abbrev pub reading : List Link → ℕ → Option ℕ → (at reads : ℕ) → Demand
-reading links k field at reads = record { links = links; object = k; field = field; at = at; reads = reads; chain = None }
+reading links k field at reads = record { links = links; object = k; field = field; at = at; reads = reads; chain = None; inner = None }
 
 -- the reads of a vector of unions that is there, and of where its types begin
 abbrev pub vectors_reads : (types place : Option ℕ) → ℕ
@@ -35,7 +41,8 @@ vectors_reads _ _ = 0
 
 -- a field by itself, to which these links lead, with this number and slot, of the table at t, of the object k: its type
 -- field and its value stand at these places
-abbrev pub field_demands : Demands → Checks → List ℕ → Rows → List Link → (k n t slot : ℕ) → (types place : Option ℕ) → Kind → List Demand
+abbrev pub field_demands : Demanded → Checks → List ℕ → Rows → List Link → (k n t slot : ℕ) → (types place : Option ℕ) → Kind → List Demand
+field_demands D c b S links k n t slot types place Text = reading links k (Some n) t (slot_reads b t slot) ∷ []
 field_demands D c b S links k n t slot types place (Table j) = reading links k (Some n) t (slot_reads b t slot) ∷ []
 field_demands D c b S links k n t slot types place (Union e) = record {
   links = links;
@@ -44,7 +51,9 @@ field_demands D c b S links k n t slot types place (Union e) = record {
   at = t;
   reads = places_reads b t slot + union_reads D.unions b S e types place;
   chain = after (places_reads b t slot) (where_asked D.unions (union_failure c b S e t types place));
+  inner = None;
 } ∷ []
+field_demands D c b S links k n t slot types place Texts = reading links k (Some n) t (slot_reads b t slot + reads_if_present 2 place) ∷ []
 field_demands D c b S links k n t slot types place (Tables j) = reading links k (Some n) t (slot_reads b t slot + reads_if_present 2 place) ∷ []
 field_demands D c b S links k n t slot types place (Unions e) = record {
   links = links;
@@ -53,72 +62,124 @@ field_demands D c b S links k n t slot types place (Unions e) = record {
   at = t;
   reads = places_reads b t slot + vectors_reads types place;
   chain = after (places_reads b t slot) (where_asked D.unions (together_failure types place));
+  inner = None;
 } ∷ []
 field_demands D c b S links k n t slot types place _ = []
 
--- where the types of offset words stand, and of which union they are
-pub record Types : Type 0 where
-  pub union : ℕ
-  pub at : ℕ
+-- the same of a field that holds this
+abbrev pub held_demands : List ℕ → List Link → (k n t slot : ℕ) → (place : Option ℕ) → Option Held → List Demand
+held_demands b links k n t slot place None = []
+held_demands b links k n t slot place (Some held) = record {
+  links = links;
+  object = k;
+  field = Some n;
+  at = t;
+  reads = bytes_reads b t slot place held;
+  chain = bytes_failure b t slot place held;
+  inner = bytes_inner b held place;
+} ∷ []
 
--- those of a field of this kind, where types tell what its offset words lead to
-abbrev pub row_types : List ℕ → Option ℕ → Kind → Option Types
-row_types b types (Unions e) = Some (record { union = e; at = types_begin b types })
-row_types b types _ = None
+-- what a member of a union refers to that is asked
+abbrev pub asked_referent : Wants → Option Kind → Referent
+asked_referent w (Some Text) = if w.demands.utf8 then AText else Nothing
+asked_referent w (Some (Table k)) = if w.asks k then ATable k else Nothing
+asked_referent w _ = Nothing
+
+-- what the offset words of a field of this kind lead to that is asked
+abbrev pub row_leads : Wants → List ℕ → Rows → Option ℕ → Kind → Leads
+row_leads w b S types Text = All AText
+row_leads w b S types (Table j) = All (ATable j)
+row_leads w b S types (Union e) = All (asked_referent w (member_of S e (union_type b types)))
+row_leads w b S types Texts = All AText
+row_leads w b S types (Tables j) = All (ATable j)
+row_leads w b S types (Unions e) = ByType e (types_begin b types)
+row_leads w b S types _ = All Nothing
+
+-- what the first of such words does
+abbrev pub first_referent : Wants → List ℕ → Rows → Leads → Referent
+first_referent w b S (All referent) = referent
+first_referent w b S (ByType e q) = asked_referent w (member_of S e (word b q 1))
 
 -- where its offset words begin
 abbrev pub row_place : List ℕ → Option ℕ → Kind → ℕ
 row_place b None kind = 0
+row_place b (Some p) Texts = target b p + 4
 row_place b (Some p) (Tables j) = target b p + 4
 row_place b (Some p) (Unions e) = target b p + 4
 row_place b (Some p) _ = p
 
--- the types of the others
-abbrev pub next_types : Option Types → Option Types
-next_types None = None
-next_types (Some ts) = Some (record { union = ts.union; at = ts.at + 1 })
-
 -- an offset word at p by itself, through which these links lead, where its type tells what it leads to
-abbrev pub element_demands : Demands → Checks → List ℕ → Rows → List Link → (k n p : ℕ) → Option Types → List Demand
-element_demands D c b S links k n p None = []
-element_demands D c b S links k n p (Some ts) = record {
+abbrev pub element_demands : Demanded → Checks → List ℕ → Rows → List Link → (k n p : ℕ) → Leads → List Demand
+element_demands D c b S links k n p (All referent) = []
+element_demands D c b S links k n p (ByType e q) = record {
   links = links;
   object = k;
   field = Some n;
   at = p;
-  reads = element_reads D.unions b S ts.union ts.at;
-  chain = where_asked D.unions (element_failure c b S ts.union ts.at p);
+  reads = element_reads D.unions b S e q;
+  chain = where_asked D.unions (element_failure c b S e q p);
+  inner = None;
 } ∷ []
+
+-- the text to which the offset word at p leads: its reads, and then its bytes
+abbrev pub text_demands : List ℕ → List Link → (k n p : ℕ) → List Demand
+text_demands b links k n p =
+    reading links k (Some n) p (text_reads b (target b p)) ∷ record { links = links; object = k; field = Some n; at = p; reads = 0; chain = text_failure b (target b p); inner = None } ∷ []
+
+-- what the offset word at p leads to, where that is no table
+abbrev pub leaf_demands : List ℕ → List Link → (k n p : ℕ) → Referent → List Demand
+leaf_demands b links k n p AText = text_demands b links k n p
+leaf_demands b links k n p _ = []
 
 abbrev pub object_of : Tree → ℕ
 object_of (node k t kids) = k
 
-unfoldable mutual
-  -- a table to which these links lead: its head, and then its fields
-  pub demands_in : Tree → Wants → Checks → List ℕ → Rows → List Link → List Demand
-  demands_in (node k t kids) w c b S via = reading via k None t (head_reads c) ∷ demands_in_fields kids w c b S via k t (live_fields S k)
+-- the slot at this place in the vtable of the table at t, of the object k, to which these links lead; and so many from
+-- there on
+abbrev pub slot_demand : List ℕ → Rows → List Link → (k t slot : ℕ) → Demand
+slot_demand b S via k t slot = record { links = via; object = k; field = None; at = t; reads = 1; chain = slot_failure b (live_fields S k) (vtable b t) slot; inner = None }
 
-  -- each field that is asked by itself, and then its offset words
+unfoldable pub slots_from : List ℕ → Rows → List Link → (k t n slot : ℕ) → List Demand
+slots_from b S via k t zero slot = []
+slots_from b S via k t (suc n) slot = slot_demand b S via k t slot ∷ slots_from b S via k t n (slot + 2)
+
+-- all of them, where they are asked
+abbrev pub slots_demands : Demanded → List ℕ → Rows → List Link → (k t : ℕ) → List Demand
+slots_demands D b S via k t = if D.known_fields then slots_from b S via k t (slot_count b t) 4 else []
+
+unfoldable mutual
+  -- a table to which these links lead: its head and its slots, and then its fields
+  pub demands_in : Tree → Wants → Checks → List ℕ → Rows → List Link → List Demand
+  demands_in (node k t kids) w c b S via = reading via k None t (head_reads c) ∷ (slots_demands w.demands b S via k t ++ demands_in_fields kids w c b S via k t (live_fields S k))
+
+  -- what each field holds; each that is asked by itself, and then its offset words
   pub demands_in_fields : Kids → Wants → Checks → List ℕ → Rows → List Link → ℕ → ℕ → List Live → List Demand
   demands_in_fields no_kids w c b S via k t fs = []
   demands_in_fields (kid ys kids) w c b S via k t [] = []
   demands_in_fields (kid ys kids) w c b S via k t (f ∷ fs) =
-      (if is_kind_asked w S f.kind
+      held_demands b (via ++ field_link k f ∷ []) k f.number t f.slot (field_place b t f.slot) (held_of w.demands k f)
+      ++ ((if is_kind_asked w S f.kind
       then field_demands w.demands c b S (via ++ field_link k f ∷ []) k f.number t f.slot (type_place b t f.slot) (field_place b t f.slot) f.kind
-      ++ demands_in_row ys w c b S (λ j. via ++ element_link b k t f j ∷ []) k f.number 0 (row_place b (field_place b t f.slot) f.kind) (row_types b (type_place b t f.slot) f.kind)
-      else []) ++ demands_in_fields kids w c b S via k t fs
+      ++ demands_in_row ys w c b S (λ j. via ++ element_link b k t f j ∷ []) k f.number 0 (row_place b (field_place b t f.slot) f.kind) (row_leads w b S (type_place b t f.slot) f.kind)
+      else []) ++ demands_in_fields kids w c b S via k t fs)
 
-  -- each offset word from p on by itself, and then the table that it leads to; j others are before it, and by such a
-  -- number its links are told
-  pub demands_in_row : Elements → Wants → Checks → List ℕ → Rows → (ℕ → List Link) → (k n j p : ℕ) → Option Types → List Demand
-  demands_in_row no_elements w c b S way k n j p types = []
-  demands_in_row (element y ys) w c b S way k n j p types =
-      element_demands w.demands c b S (way j) k n p types ++ (demands_below y w c b S (way j) k n p ++ demands_in_row ys w c b S way k n (j + 1) (p + 4) (next_types types))
+  -- each offset word from p on by itself, and then what it leads to; j others are before it, and by such a number its
+  -- links are told
+  pub demands_in_row : Elements → Wants → Checks → List ℕ → Rows → (ℕ → List Link) → (k n j p : ℕ) → Leads → List Demand
+  demands_in_row no_elements w c b S way k n j p leads = []
+  demands_in_row (element y ys) w c b S way k n j p leads =
+      element_demands w.demands c b S (way j) k n p leads
+      ++ (demands_below y w c b S (way j) k n p (first_referent w b S leads) ++ demands_in_row ys w c b S way k n (j + 1) (p + 4) (leads_after leads))
 
   -- where anything is asked of that
-  pub demands_below : Element → Wants → Checks → List ℕ → Rows → List Link → (k n p : ℕ) → List Demand
-  demands_below leaf w c b S links k n p = []
-  demands_below (table y) w c b S links k n p = if w.asks (object_of y) then reading links k (Some n) p 1 ∷ demands_in y w c b S links else []
+  pub demands_below : Element → Wants → Checks → List ℕ → Rows → List Link → (k n p : ℕ) → Referent → List Demand
+  demands_below leaf w c b S links k n p referent = leaf_demands b links k n p referent
+  demands_below (table y) w c b S links k n p referent = if w.asks (object_of y) then reading links k (Some n) p 1 ∷ demands_in y w c b S links else []
+
+-- none of them has a buffer inside
+abbrev pub ArePlain : List Demand → Type 0
+ArePlain [] = Unit {0}
+ArePlain (d ∷ ds) = (d.inner ≡ None) × ArePlain ds
 
 -- all chains find nothing
 abbrev pub AreMet : List Demand → Type 0
@@ -159,6 +220,7 @@ demands_of w c b S root y = record {
   at = length b;
   reads = 0;
   chain = where_asked w.demands.unions (length_failure b);
+  inner = None;
 } ∷ (if w.asks root then demands_in y w c b S [] else [])
 
 -- it finds nothing exactly where the buffer is strict
@@ -174,4 +236,4 @@ FirstLaw = (L : Bounds) (ds : List Demand) (paid : ℕ) → AreAllowed L.reads p
 abbrev pub TasksLaw : Type 0
 TasksLaw =
     (w : Wants) (S : Rows) (f : Live) (fs : List Live) (ys : Elements) (kids : Kids) (c : Checks) (b : List ℕ) (via : List Link) (k t : ℕ)
-    → task_of w S f ≡ None → demands_in_fields (kid ys kids) w c b S via k t (f ∷ fs) ≡ demands_in_fields kids w c b S via k t fs
+    → task_of w S k f ≡ None → demands_in_fields (kid ys kids) w c b S via k t (f ∷ fs) ≡ demands_in_fields kids w c b S via k t fs

@@ -1,15 +1,17 @@
 -- Examples of what is demanded: bytes that meet it or don't, most of them beside those around.
-use Rattle.std.specs.Prelude.{◌≡◌, ℕ, Bool, true, false, List, [], ◌∷◌, ◌++◌, Option, Some, None}
-use Rattle.fb_rules.specs.declared.fault.Reason.TheVariants.{OutOfBuffer, Misaligned, ZeroOffset, MissingRequired, LengthsDiffer, TooManyReads}
+use Rattle.std.specs.Prelude.{◌≡◌, ℕ, Bool, true, false, List, [], ◌∷◌, ◌++◌, map, Option, Some, None}
+use Rattle.fb_rules.specs.declared.fault.Reason.TheVariants.{OutOfBuffer, Misaligned, ZeroOffset, MissingRequired, LengthsDiffer, NotUtf8, UnknownField, TooManyReads}
 use Rattle.fb_rules.specs.declared.{fault.Fault.Fault, link.Link.Link}
 use Rattle.fb_rules.specs.Tree.{Tree, node, no_kids, kid, no_elements, element, leaf, table as table_below}
 use Rattle.fb_schema.specs.{Rows.Rows, Live.live_fields}
 use Rattle.fb_rules.specs.{Samples.fault, Samples.published_checks, Samples.unions, Samples.table, Samples.field, Samples.object, Samples.vector, Tests.found}
 use Rattle.fb_rules.specs.Order.{Failure}
-use Rattle.fb_strict.specs.declared.{demands.Demands.Demands, tasks.Ask.Ask, tasks.Task.Task}
+use Rattle.fb_strict.specs.Demanded.{Demanded, demanded, held_of}
+use Rattle.fb_strict.specs.declared.{inner.Inner.Inner, tasks.Ask.Ask, tasks.Task.Task, tasks.Held.TheVariants.Buffer, tasks.Held.TheVariants.Flex}
+use Rattle.fb_strict.specs.{Nested.bytes_inside, Readers.buffer_at}
 use Rattle.fb_strict.specs.declared.tasks.Ask.TheVariants.{Union as AskUnion, Unions as AskUnions, Table as GoInto, Tables as GoIntoEach}
-use Rattle.fb_strict.specs.{Skipped.Wants, Skipped.reaches_demand, Planned.tasks_in, Asked.demands_of, Asked.first_fault, Asked.first_links}
-use Rattle.fb_strict.specs.InOrder.{length_failure, inside_failure, union_failure, together_failure, element_failure}
+use Rattle.fb_strict.specs.{Skipped.Wants, Skipped.reaches_demand, Planned.tasks_in, Asked.Demand, Asked.demands_of, Asked.first_fault, Asked.first_links}
+use Rattle.fb_strict.specs.InOrder.{length_failure, text_failure, slot_failure, inside_failure, union_failure, together_failure, element_failure}
 
 -- the union of a table at 4, whose type and value stand at these places of such bytes: 1 is its member, 9 is none
 abbrev pub union_in : List ℕ → (types place : Option ℕ) → Option Failure
@@ -29,6 +31,22 @@ pub record WordRows : Type 0 where
   pub to_itself : inside_failure published_checks (0 ∷ 0 ∷ 0 ∷ 0 ∷ 7 ∷ []) 0 ≡ found ZeroOffset 0 1
   pub misaligned : inside_failure published_checks (7 ∷ 1 ∷ 0 ∷ 0 ∷ 0 ∷ []) 1 ≡ found Misaligned 1 0
   pub not_whole : inside_failure published_checks (1 ∷ 0 ∷ 0 ∷ []) 0 ≡ found OutOfBuffer 0 0
+
+-- texts at 0: of three bytes, and of one
+pub record TextRows : Type 0 where
+  pub of_two_characters : text_failure (3 ∷ 0 ∷ 0 ∷ 0 ∷ 97 ∷ 195 ∷ 169 ∷ 0 ∷ []) 0 ≡ None
+  pub wrong_at_the_second : text_failure (3 ∷ 0 ∷ 0 ∷ 0 ∷ 97 ∷ 195 ∷ 40 ∷ 0 ∷ []) 0 ≡ found NotUtf8 5 0
+  pub cut_off : text_failure (2 ∷ 0 ∷ 0 ∷ 0 ∷ 97 ∷ 195 ∷ 169 ∷ 0 ∷ []) 0 ≡ found NotUtf8 5 0
+  pub empty : text_failure (0 ∷ 0 ∷ 0 ∷ 0 ∷ 255 ∷ []) 0 ≡ None
+
+-- the slot at this place of a vtable at 0, of a table R
+abbrev pub slot_in : List ℕ → ℕ → Option Failure
+slot_in b slot = slot_failure b (live_fields unions 2) 0 slot
+
+pub record SlotRows : Type 0 where
+  pub of_a_live_field : slot_in (0 ∷ 0 ∷ 0 ∷ 0 ∷ 8 ∷ 0 ∷ []) 4 ≡ None
+  pub absent : slot_in (0 ∷ 0 ∷ 0 ∷ 0 ∷ 0 ∷ 0 ∷ 0 ∷ 0 ∷ 0 ∷ 0 ∷ []) 8 ≡ None
+  pub of_none : slot_in (0 ∷ 0 ∷ 0 ∷ 0 ∷ 0 ∷ 0 ∷ 0 ∷ 0 ∷ 4 ∷ 0 ∷ []) 8 ≡ found UnknownField 8 1
 
 pub record UnionRows : Type 0 where
   pub neither : union_in [] None None ≡ None
@@ -58,8 +76,8 @@ around = record {
 }
 
 -- where unions are asked, or nothing is
-abbrev pub asking : Bool → Demands
-asking unions = record { unions = unions; nested = false; known_fields = false; utf8 = false }
+abbrev pub asking : Bool → Demanded
+asking unions = demanded (record { unions = unions; nested = false; known_fields = false; utf8 = false }) []
 
 -- and what is reached by two fields of tables at most
 abbrev pub wanting : Bool → Wants
@@ -67,7 +85,7 @@ wanting unions = record { demands = asking unions; asks = reaches_demand 3 (aski
 
 -- the tasks of an object
 abbrev pub tasks_of : ℕ → List Task
-tasks_of k = tasks_in (wanting true) around (live_fields around k)
+tasks_of k = tasks_in (wanting true) around k (live_fields around k)
 
 abbrev pub task : ℕ → ℕ → Ask → Task
 task number slot ask = record { number = number; slot = slot; ask = ask }
@@ -79,7 +97,7 @@ pub record PlanRows : Type 0 where
   pub a_vector_of_unions : tasks_of 3 ≡ task 1 6 (AskUnions 0) ∷ []
   pub every_kind : tasks_of 4 ≡ task 5 14 (AskUnion 0) ∷ task 11 26 (AskUnions 0) ∷ []
   pub below : tasks_of 5 ≡ task 0 4 (GoInto 2) ∷ task 2 8 (GoIntoEach 5) ∷ []
-  pub nothing_asked : tasks_in (wanting false) around (live_fields around 5) ≡ []
+  pub nothing_asked : tasks_in (wanting false) around 5 (live_fields around 5) ≡ []
 
 -- a table R whose union has this offset word and this type, and its tree where no member has the type
 abbrev pub lone : ℕ → ℕ → List ℕ
@@ -140,3 +158,24 @@ pub record LinkRows : Type 0 where
   pub below : links_in None 5 (nested 8) nested_tree ≡ link 5 0 None None ∷ link 2 1 None None ∷ []
   pub in_the_head_below : links_in (Some 14) 5 (nested 7) nested_tree ≡ link 5 0 None None ∷ []
   pub in_a_vector : links_in None 3 (pair 4) pair_tree ≡ link 3 1 (Some 1) (Some 9) ∷ []
+
+-- a table with two vectors of bytes, of which the first holds a buffer with a root of the same table, and the second a
+-- flexbuffer
+abbrev pub holders : Rows
+holders = record { objects = table (72 ∷ []) (field (98 ∷ []) 4 (vector 4 0) ∷ field (102 ∷ []) 6 (vector 4 0) ∷ []) ∷ []; enums = [] }
+
+abbrev pub holding : Demanded
+holding = demanded (record { unions = false; nested = true; known_fields = false; utf8 = false }) (record { object = 0; slot = 4; held = Buffer 0 } ∷ record { object = 0; slot = 6; held = Flex } ∷ [])
+
+-- such a table, with these places of its fields, and the vector at 20 has two bytes; and the buffers inside
+abbrev pub holder : ℕ → ℕ → List ℕ
+holder first second = 12 ∷ 0 ∷ 0 ∷ 0 ∷ 8 ∷ 0 ∷ 8 ∷ 0 ∷ first ∷ 0 ∷ second ∷ 0 ∷ 8 ∷ 0 ∷ 0 ∷ 0 ∷ 4 ∷ 0 ∷ 0 ∷ 0 ∷ 2 ∷ 0 ∷ 0 ∷ 0 ∷ 7 ∷ 9 ∷ []
+
+abbrev pub inners_of : List ℕ → List (Option Inner)
+inners_of b = map (λ (d : Demand). d.inner) (demands_of (record { demands = holding; asks = reaches_demand 1 holding holders }) published_checks b holders 0 (node 0 12 (kid no_elements (kid no_elements no_kids))))
+
+pub record HeldRows : Type 0 where
+  pub held : map (held_of holding 0) (live_fields holders 0) ≡ Some (Buffer 0) ∷ Some Flex ∷ []
+  pub inside : inners_of (holder 4 0) ≡ None ∷ None ∷ Some (buffer_at (holder 4 0) 0 16) ∷ None ∷ []
+  pub bytes : bytes_inside (holder 4 0) (buffer_at (holder 4 0) 0 16) ≡ 7 ∷ 9 ∷ []
+  pub absent : inners_of (holder 0 0) ≡ None ∷ None ∷ None ∷ None ∷ []

@@ -1,13 +1,16 @@
 -- The demands in their order: each chain answers the first that isn't met, after the reads that were made by then.
-use Rattle.std.specs.Prelude.{◌≡◌, ◌↔◌, ℕ, ◌+◌, ◌-◌, ◌*◌, ◌<◌, ◌≤◌, ◌==◌, nat_le, Bool, true, false, if◌then◌else◌, List, length, Option, Some, None}
+use Rattle.std.specs.Prelude.{◌≡◌, ◌↔◌, ℕ, ◌+◌, ◌-◌, ◌*◌, ◌<◌, ◌≤◌, ◌≢◌, ◌==◌, ◌||◌, nat_le, Bool, true, false, if◌then◌else◌, List, length, Option, Some, None}
 use Rattle.fb_bytes.specs.Word.{word}
 use Rattle.fb_schema.specs.declared.kinds.Kind.{Kind}
-use Rattle.fb_schema.specs.{Rows.Rows, Members.member_of}
+use Rattle.std.specs.List.{list_any}
+use Rattle.fb_schema.specs.{Rows.Rows, Live.Live, Live.live_fields, Members.member_of}
 use Rattle.fb_rules.specs.declared.checks.Checks.{Checks}
-use Rattle.fb_rules.specs.declared.fault.Reason.TheVariants.{OutOfBuffer, MissingRequired, LengthsDiffer}
+use Rattle.fb_rules.specs.declared.fault.Reason.TheVariants.{OutOfBuffer, MissingRequired, LengthsDiffer, FlexContent, NotUtf8, UnknownField}
 use Rattle.fb_rules.specs.{Places.fits, Places.target, Cost.slot_reads, Cost.reads_if_present, Fields.union_type, Fields.types_begin}
 use Rattle.fb_rules.specs.Order.{Failure, check, after, ◌▷◌, offset_failure}
-use Rattle.fb_strict.specs.Strict.{LeadsInside, IsStrictUnion, IsStrictElement, IsStrictUnions}
+use Rattle.std.specs.{Str.is_utf8, Str.Lossy.utf8_valid_len}
+use Rattle.fb_strict.specs.declared.{inner.Inner.Inner, tasks.Held.Held, tasks.Held.TheVariants.Buffer, tasks.Held.TheVariants.Flex}
+use Rattle.fb_strict.specs.Strict.{text_at, IsUtf8At, IsLiveSlot, LeadsInside, IsStrictUnion, IsStrictElement, IsStrictUnions}
 
 -- a chain, where it is asked
 abbrev pub where_asked : Bool → Option Failure → Option Failure
@@ -66,6 +69,39 @@ element_failure c b S e q p = after 1 (typed_failure c b S e (word b q 1) p)
 unfoldable pub element_reads : Bool → List ℕ → Rows → (e q : ℕ) → ℕ
 element_reads asked b S e q = 1 + (if asked then typed_reads S e (word b q 1) else 0)
 
+-- a field whose value stands at this place, and whose bytes hold a flexbuffer: none may be there
+abbrev pub flex_failure : (place : Option ℕ) → Option Failure
+flex_failure None = None
+flex_failure (Some p) = Some (record { reason = FlexContent; at = p; reads = 0 })
+
+-- a field with this slot of the table at t, whose bytes hold this: its chain, its reads, and the buffer that lies in it
+abbrev pub bytes_failure : List ℕ → (t slot : ℕ) → (place : Option ℕ) → Held → Option Failure
+bytes_failure b t slot place (Buffer k) = None
+bytes_failure b t slot place Flex = after (slot_reads b t slot) (flex_failure place)
+
+abbrev pub bytes_reads : List ℕ → (t slot : ℕ) → (place : Option ℕ) → Held → ℕ
+bytes_reads b t slot place (Buffer k) = slot_reads b t slot + reads_if_present 2 place
+bytes_reads b t slot place Flex = slot_reads b t slot
+
+abbrev pub bytes_inner : List ℕ → Held → (place : Option ℕ) → Option Inner
+bytes_inner b (Buffer k) (Some p) = Some (record { at = target b p + 4; size = word b (target b p) 4; root = k })
+bytes_inner b _ _ = None
+
+-- the text at s, told at its first byte that can't go on
+abbrev pub text_failure : List ℕ → ℕ → Option Failure
+text_failure b s = check (is_utf8 (text_at b s)) NotUtf8 (s + 4 + utf8_valid_len (text_at b s)) 0 None
+
+-- its offset word, its length, and each of its bytes
+abbrev pub text_reads : List ℕ → ℕ → ℕ
+text_reads b s = 2 + word b s 4
+
+-- the slot at this place in the vtable at v, of a table with these live fields: it is read first
+abbrev pub is_live_slot : List Live → ℕ → Bool
+is_live_slot fs slot = list_any (λ (f : Live). f.slot == slot) fs
+
+abbrev pub slot_failure : List ℕ → List Live → (v slot : ℕ) → Option Failure
+slot_failure b fs v slot = check (word b (v + slot) 2 == 0 || is_live_slot fs slot) UnknownField (v + slot) 1 None
+
 -- the reads of where a union or a vector of them stands in the table at t, and of where its types do
 abbrev pub places_reads : List ℕ → (t slot : ℕ) → ℕ
 places_reads b t slot = slot_reads b t slot + slot_reads b t (slot - 2)
@@ -83,6 +119,12 @@ UnionLaw = (c : Checks) (b : List ℕ) (S : Rows) (e t : ℕ) (types place : Opt
 
 abbrev pub ElementLaw : Type 0
 ElementLaw = (c : Checks) (b : List ℕ) (S : Rows) (e q p : ℕ) → (element_failure c b S e q p ≡ None) ↔ IsStrictElement c b S e (word b q 1) p
+
+abbrev pub SlotLaw : Type 0
+SlotLaw = (b : List ℕ) (S : Rows) (k v slot : ℕ) → (slot_failure b (live_fields S k) v slot ≡ None) ↔ (word b (v + slot) 2 ≢ 0 → IsLiveSlot S k slot)
+
+abbrev pub TextLaw : Type 0
+TextLaw = (b : List ℕ) (s : ℕ) → (text_failure b s ≡ None) ↔ IsUtf8At b s
 
 -- of a vector of unions: that it is there with its types, and of each of its offset words
 abbrev pub UnionsAreTold : Checks → List ℕ → Rows → ℕ → (types place : Option ℕ) → Type 0

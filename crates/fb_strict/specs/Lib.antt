@@ -9,8 +9,12 @@ pub mod Marking
 pub mod Asked
 pub mod Passing
 pub mod Reread
+pub mod Nested
+pub mod Levels
 pub mod Strictly
 pub mod AsAsked
 pub mod MostReads
 pub mod Laws
 pub mod Examples
+pub mod Holding
+pub mod Demanded

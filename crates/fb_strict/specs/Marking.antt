@@ -1,7 +1,7 @@
 -- Marks while they are made, and the marked objects in the order in which they were marked.
 use Rattle.std.specs.Prelude.{◌≡◌, ◌⊎◌, ◌+◌, ◌<◌, ℕ, Bool, true, false, not, List, [], length, replicate, slice_get, Some, count_by}
 use Rattle.fb_schema.specs.{Rows.Rows}
-use Rattle.fb_strict.specs.declared.demands.Demands.{Demands}
+use Rattle.fb_strict.specs.Demanded.{Demanded}
 use Rattle.fb_strict.specs.Skipped.{has_asked}
 use Rattle.fb_strict.specs.Planned.{marked, marked_wants, AreFounded}
 
@@ -29,8 +29,12 @@ pub record Spread (P : ℕ → Type 0) (marks : List Bool) (queue : List ℕ) (m
   pub grew : Grew P marks queue marks' queue'
   pub all : (k : ℕ) → P k → marked marks' k ≡ true
 
+-- an object that isn't marked has no field that is asked where these are
+abbrev pub AreClosed : Demanded → Rows → List Bool → Type 0
+AreClosed D S marks = (k : ℕ) → marked marks k ≡ false → has_asked (marked_wants D marks) S k ≡ false
+
 -- of the first n objects those are marked of which something is demanded by itself, and no others
-pub record OwnMarked (D : Demands) (S : Rows) (n : ℕ) (marks : List Bool) (queue : List ℕ) : Type 0 where
+pub record OwnMarked (D : Demanded) (S : Rows) (n : ℕ) (marks : List Bool) (queue : List ℕ) : Type 0 where
   pub queued : IsQueue marks queue
   pub long : length marks ≡ length S.objects
   pub founded : AreFounded D S marks

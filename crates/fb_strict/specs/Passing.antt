@@ -1,25 +1,23 @@
 -- A pass over a buffer that unfolds: what is left to be asked, as the frames of the open tables hold it.
-use Rattle.std.specs.Prelude.{◌≡◌, ℕ, zero, suc, ◌+◌, ◌-◌, ◌*◌, ◌^◌, ◌<◌, ◌≤◌, nat_le, IsTrue, true, if◌then◌else◌, max, List, [], ◌∷◌, ◌++◌, length, map, take, drop, get_or, slice_get, Option, Some, None, Result, Ok, Err, IfOk}
+use Rattle.std.specs.Prelude.{◌≡◌, ◌⊎◌, ℕ, zero, suc, ◌+◌, ◌-◌, ◌*◌, ◌^◌, ◌<◌, ◌≤◌, nat_le, IsTrue, true, max, List, [], ◌∷◌, ◌++◌, length, map, take, drop, get_or, slice_get, Option, Some, None, Result, Ok, Err, IfOk}
 use Rattle.fb_bytes.specs.Word.{Lent, word}
-use Rattle.fb_schema.specs.declared.kinds.Kind.{Kind}
-use Rattle.fb_schema.specs.declared.kinds.Kind.TheVariants.{Table as TableKind}
-use Rattle.fb_schema.specs.{Rows.Rows, Rows.is_table, Rows.is_union, Live.Live, Live.live_fields, Members.member_of, Served.IsServed, Served.KindHolds}
+use Rattle.fb_schema.specs.{Rows.Rows, Rows.is_table, Rows.is_union, Live.Live, Live.live_fields, Served.IsServed, Served.IsSized, Served.KindHolds}
 use Rattle.fb_rules.specs.declared.{checks.Checks.Checks, fault.Fault.Fault, site.Site.Site, site.Stop.Stop, site.Halt.Halt, table.Table.Table, table.Child.Child}
 use Rattle.fb_rules.specs.declared.{site.LastLink.LastLink, site.LastLink.TheVariants.Behind, site.LastLink.TheVariants.InField, link.Link.Link}
-use Rattle.fb_rules.specs.declared.{offset_row.Row.Row, offset_row.Leads.Leads, offset_row.Leads.TheVariants.All, offset_row.Leads.TheVariants.ByType}
-use Rattle.fb_rules.specs.declared.offset_row.Referent.TheVariants.{Table as ATable, Nothing}
+use Rattle.fb_rules.specs.declared.{offset_row.Referent.Referent, offset_row.Row.Row, offset_row.Leads.Leads, offset_row.Leads.TheVariants.All, offset_row.Leads.TheVariants.ByType}
+use Rattle.fb_rules.specs.declared.offset_row.Referent.TheVariants.{Text as AText, Table as ATable, Nothing}
 use Rattle.fb_rules.specs.{Bounds.Bounds, Bounds.AreAllowed, Bounds.allowed, Places.target, Places.field_place, Fields.IsField, Fields.type_place, Fields.types_begin, Fields.union_type}
-use Rattle.fb_rules.specs.{Cost.slot_reads, Cost.reads_if_present, Order.Failure, Order.after, Told.IsHead, Told.IsAskedAt, Told.stopped, OffsetRows.words_of, OffsetRows.IsTyped, OffsetRows.TypeFits, OffsetRows.TypesFit}
+use Rattle.fb_rules.specs.{Cost.head_reads, Cost.slot_reads, Cost.reads_if_present, Order.Failure, Order.after, Order.◌▷◌, Stops.reads_failure, Told.IsHead, Told.IsAskedAt, Told.told, Told.stopped, OffsetRows.words_of, OffsetRows.IsTyped, OffsetRows.TypeFits, OffsetRows.TypesFit}
 use Rattle.fb_rules.specs.Tree.{Tree, Kids, kids_depth, Elements, elements_depth, depth}
 use Rattle.fb_rules.specs.Unfolds.{FieldsUnfold, ElementsUnfold, Unfolds}
 use Rattle.fb_verify.specs.Stack.{own_link, last_link, links_left}
-use Rattle.fb_strict.specs.declared.{room.Frame.Frame, tasks.Ask.Ask, tasks.Task.Task, pass.Turn.Turn}
-use Rattle.fb_strict.specs.declared.tasks.Ask.TheVariants.{Union as AskUnion, Unions as AskUnions, Table as GoInto, Tables as GoIntoEach}
-use Rattle.fb_strict.specs.declared.pass.Turn.TheVariants.{Here, Up, Down}
-use Rattle.fb_strict.specs.declared.demands.Demands.{Demands}
-use Rattle.fb_strict.specs.{Skipped.Wants, Planned.Planned, Planned.IsPlan, Planned.wants_in, Planned.task_of, Planned.tasks_in}
-use Rattle.fb_strict.specs.InOrder.{where_asked, places_reads, union_failure, union_reads, together_failure, element_failure, element_reads, member_at}
-use Rattle.fb_strict.specs.Asked.{Demand, Types, vectors_reads, demands_in_fields, demands_in_row, demands_in, demands_reads, first_fault, first_links}
+use Rattle.fb_strict.specs.declared.{inner.Inner.Inner, room.Frame.Frame, tasks.Ask.Ask, tasks.Task.Task, pass.Turn.Turn, pass.Turned.Turned, pass.Turn.TheVariants.Here, pass.Turn.TheVariants.Up, pass.Turn.TheVariants.Down, pass.Turn.TheVariants.In, pass.Turned.TheVariants.Open, pass.Turned.TheVariants.Inside}
+use Rattle.fb_strict.specs.declared.tasks.Held.TheVariants.{Buffer, Flex}
+use Rattle.fb_strict.specs.declared.tasks.Ask.TheVariants.{Text as AskText, Texts as AskTexts, Union as AskUnion, Unions as AskUnions, Table as GoInto, Tables as GoIntoEach, Bytes as AskBytes}
+use Rattle.fb_strict.specs.{Planned.Planned, Planned.IsPlan, Planned.task_of, Planned.tasks_in, Skipped.Wants, Planned.wants_in}
+use Rattle.fb_strict.specs.InOrder.{where_asked, places_reads, union_failure, union_reads, together_failure, bytes_failure, bytes_reads, bytes_inner, element_failure, element_reads, member_at, text_failure, text_reads}
+use Rattle.fb_strict.specs.Asked.{Demand, reading, slots_demands, asked_referent, first_referent, vectors_reads, demands_in_fields, demands_in_row, demands_in, ArePlain, demands_reads, demand_fault, first_fault}
+use Rattle.fb_strict.specs.Demanded.{Demanded}
 
 -- what a pass carries: its plan, the rows, its limits and checks
 pub record Passing : Type 0 where
@@ -53,55 +51,85 @@ opened table = record { table = table; next = blank.next; number = blank.number;
 -- One task of the table at t, whose field has this slot, and whose type field and value stand at these places.
 
 -- the chain of its tests
-abbrev pub task_failure : Demands → Checks → List ℕ → Rows → (t slot : ℕ) → (types place : Option ℕ) → Ask → Option Failure
+abbrev pub task_failure : Demanded → Checks → List ℕ → Rows → (t slot : ℕ) → (types place : Option ℕ) → Ask → Option Failure
+task_failure D c b S t slot types place AskText = None
+task_failure D c b S t slot types place AskTexts = None
 task_failure D c b S t slot types place (GoInto k) = None
 task_failure D c b S t slot types place (AskUnion e) = after (places_reads b t slot) (where_asked D.unions (union_failure c b S e t types place))
 task_failure D c b S t slot types place (GoIntoEach k) = None
 task_failure D c b S t slot types place (AskUnions e) = after (places_reads b t slot) (where_asked D.unions (together_failure types place))
+task_failure D c b S t slot types place (AskBytes held) = bytes_failure b t slot place held
 
 -- the reads where this finds nothing
-abbrev pub task_reads : Demands → List ℕ → Rows → (t slot : ℕ) → (types place : Option ℕ) → Ask → ℕ
+abbrev pub task_reads : Demanded → List ℕ → Rows → (t slot : ℕ) → (types place : Option ℕ) → Ask → ℕ
+task_reads D b S t slot types place AskText = slot_reads b t slot
+task_reads D b S t slot types place AskTexts = slot_reads b t slot + reads_if_present 2 place
 task_reads D b S t slot types place (GoInto k) = slot_reads b t slot
 task_reads D b S t slot types place (AskUnion e) = places_reads b t slot + union_reads D.unions b S e types place
 task_reads D b S t slot types place (GoIntoEach k) = slot_reads b t slot + reads_if_present 2 place
 task_reads D b S t slot types place (AskUnions e) = places_reads b t slot + vectors_reads types place
+task_reads D b S t slot types place (AskBytes held) = bytes_reads b t slot place held
 
--- the object of the table that a member of a union is, if that is asked
-abbrev pub asked_object : Wants → Option Kind → Option ℕ
-asked_object w (Some (TableKind k)) = if w.asks k then Some k else None
-asked_object w _ = None
+-- the buffer that its bytes hold
+abbrev pub task_inner : List ℕ → Ask → (place : Option ℕ) → Option Inner
+task_inner b (AskBytes held) place = bytes_inner b held place
+task_inner b _ _ = None
 
--- one offset word at p that leads to a table of this object, if there is one
-abbrev pub word_row : ℕ → Option ℕ → Row → Row
-word_row p None old = old
-word_row p (Some k) old = record { leads = All (ATable k); place = p; left = 1 }
+-- one offset word at p that leads to this, if it is anything
+abbrev pub word_row : ℕ → Referent → Row → Row
+word_row p Nothing old = old
+word_row p referent old = record { leads = All referent; place = p; left = 1 }
 
 -- the words that are left of the field then
 abbrev pub task_row : Wants → List ℕ → Rows → (types place : Option ℕ) → Ask → Row → Row
 task_row w b S types None ask old = old
+task_row w b S types (Some p) AskText old = record { leads = All AText; place = p; left = 1 }
+task_row w b S types (Some p) AskTexts old = record { leads = All AText; place = target b p + 4; left = word b (target b p) 4 }
 task_row w b S types (Some p) (GoInto k) old = record { leads = All (ATable k); place = p; left = 1 }
-task_row w b S types (Some p) (AskUnion e) old = word_row p (asked_object w (member_at b S e types (Some p))) old
+task_row w b S types (Some p) (AskUnion e) old = word_row p (asked_referent w (member_at b S e types (Some p))) old
 task_row w b S types (Some p) (GoIntoEach k) old = record { leads = All (ATable k); place = target b p + 4; left = word b (target b p) 4 }
 task_row w b S (Some q) (Some p) (AskUnions e) old = record { leads = ByType e (target b q + 4); place = target b p + 4; left = word b (target b p) 4 }
 task_row w b S None (Some p) (AskUnions e) old = old
+task_row w b S types (Some p) (AskBytes held) old = old
 
 -- an offset word stands at p, and the count of the vector to which it leads
 pub record CountStands (b : List ℕ) (p : ℕ) : Type 0 where
   pub offset : p + 4 ≤ length b
   pub count : target b p + 4 ≤ length b
 
+-- and the bytes behind that
+pub record BytesStand (b : List ℕ) (p : ℕ) : Type 0 where
+  pub vector : CountStands b p
+  pub within : target b p + 4 + word b (target b p) 4 ≤ length b
+
 -- what a task relies on, whose field's value stands at this place
 abbrev pub IsTaskable : List ℕ → Rows → (t slot : ℕ) → Option ℕ → Ask → Type 0
+IsTaskable b S t slot place AskText = Unit {0}
+IsTaskable b S t slot place AskTexts = (p : ℕ) → place ≡ Some p → CountStands b p
 IsTaskable b S t slot place (GoInto k) = Unit {0}
 IsTaskable b S t slot place (AskUnion e) = IsTrue (is_union S e) × TypeFits b t slot
 IsTaskable b S t slot place (GoIntoEach k) = (p : ℕ) → place ≡ Some p → CountStands b p
 IsTaskable b S t slot place (AskUnions e) = TypesFit b t slot × ((p : ℕ) → place ≡ Some p → CountStands b p)
+IsTaskable b S t slot place (AskBytes Flex) = Unit {0}
+IsTaskable b S t slot place (AskBytes (Buffer k)) = IsTrue (is_table S k) × ((p : ℕ) → place ≡ Some p → BytesStand b p)
+
+-- a field with this task has one offset word, or a vector of them, and each leads to this
+abbrev pub IsOne : Ask → Referent → Type 0
+IsOne AskText referent = referent ≡ AText
+IsOne (GoInto k) referent = referent ≡ ATable k
+IsOne _ referent = ⊥
+
+abbrev pub IsEach : Ask → Referent → Type 0
+IsEach AskTexts referent = referent ≡ AText
+IsEach (GoIntoEach k) referent = referent ≡ ATable k
+IsEach _ referent = ⊥
 
 -- What is left of a frame.
 
--- a row of words is left of which each leads to a table that is asked, or has a type
+-- a row of words is left of which each leads to a text, or to a table that is asked, or has a type
 abbrev pub AreAskedWords : Passing → List ℕ → ℕ → Leads → Type 0
 AreAskedWords p b n (All (ATable k)) = ((wants_of p).asks k ≡ true) × IsTrue (is_table p.rows k)
+AreAskedWords p b n (All AText) = (wants_of p).demands.utf8 ≡ true
 AreAskedWords p b n (All _) = ⊥
 AreAskedWords p b n (ByType e q) = IsTrue (is_union p.rows e) × (q + n ≤ length b)
 
@@ -109,16 +137,12 @@ pub record IsAskedRow (p : Passing) (b : List ℕ) (r : Row) : Type 0 where
   pub near : r.place + 4 * r.left < 2 ^ 35
   pub leads : 0 < r.left → AreAskedWords p b r.left r.leads
 
--- where the types of its words stand
-abbrev pub leads_types : Leads → Option Types
-leads_types (All referent) = None
-leads_types (ByType e q) = Some (record { union = e; at = q })
-
 -- a live field of the table at t, which holds: a union's types were checked before
 pub record IsKnown (c : Checks) (b : List ℕ) (S : Rows) (t : ℕ) (f : Live) : Type 0 where
   pub own : IsField c b S t f
   pub typed : IsTyped b t f.slot f.kind
   pub kind : KindHolds S f f.kind
+  pub sized : IsSized S f
 
 unfoldable pub AreKnown : Checks → List ℕ → Rows → ℕ → List Live → Type 0
 AreKnown c b S t [] = Unit {0}
@@ -130,6 +154,7 @@ AreKnown c b S t (f ∷ fs) = IsKnown c b S t f × AreKnown c b S t fs
 -- how many offset words a field with this task has, whose value stands at this place
 abbrev pub ask_words : List ℕ → Option ℕ → Ask → ℕ
 ask_words b None ask = 0
+ask_words b (Some p) AskTexts = word b (target b p) 4
 ask_words b (Some p) (GoIntoEach k) = word b (target b p) 4
 ask_words b (Some p) (AskUnions e) = word b (target b p) 4
 ask_words b (Some p) _ = 1
@@ -139,6 +164,7 @@ task_words b t task = ask_words b (field_place b t task.slot) task.ask
 
 -- the number of an element with j others before it, where the field with this task is a vector
 abbrev pub ask_element : ℕ → Ask → Option ℕ
+ask_element j AskTexts = Some j
 ask_element j (GoIntoEach k) = Some j
 ask_element j (AskUnions e) = Some j
 ask_element j _ = None
@@ -160,7 +186,7 @@ link_behind b fr (Some task) = task_link b (fr.table).object (fr.table).at task 
 
 -- the same, of the task before the frame's next
 abbrev pub frame_link : Wants → List ℕ → Rows → Frame → Link
-frame_link w b S fr = link_behind b fr (slice_get (tasks_in w S (live_fields S (fr.table).object)) (fr.next - 1))
+frame_link w b S fr = link_behind b fr (slice_get (tasks_in w S (fr.table).object (live_fields S (fr.table).object)) (fr.next - 1))
 
 -- the last task of an open table, before this one, and its field
 pub record IsTasked (w : Wants) (c : Checks) (b : List ℕ) (S : Rows) (table : Table) (next : ℕ) : Type 0 where
@@ -169,9 +195,9 @@ pub record IsTasked (w : Wants) (c : Checks) (b : List ℕ) (S : Rows) (table : 
   pub head : IsHead c b table.at table.head
   pub some : 0 < next
   pub task : Task
-  pub found : slice_get (tasks_in w S (live_fields S table.object)) (next - 1) ≡ Some task
+  pub found : slice_get (tasks_in w S table.object (live_fields S table.object)) (next - 1) ≡ Some task
   pub field : Live
-  pub its : task_of w S field ≡ Some task
+  pub its : task_of w S table.object field ≡ Some task
   pub known : IsKnown c b S table.at field
 
 -- a word of it stands before the row that was left
@@ -201,7 +227,7 @@ pub record IsLeft (p : Passing) (b : List ℕ) (room : ℕ) (via : List Link) (f
   pub head : IsHead p.checks b (fr.table).at (fr.table).head
   pub fields : List Live
   pub known : AreKnown p.checks b p.rows (fr.table).at fields
-  pub tasks : drop fr.next (tasks_in (wants_of p) p.rows (live_fields p.rows (fr.table).object)) ≡ tasks_in (wants_of p) p.rows fields
+  pub tasks : drop fr.next (tasks_in (wants_of p) p.rows (fr.table).object (live_fields p.rows (fr.table).object)) ≡ tasks_in (wants_of p) p.rows (fr.table).object fields
   pub kids : Kids
   pub unfolds : FieldsUnfold kids p.checks b p.rows (fr.table).at fields
   pub words : Elements
@@ -211,7 +237,7 @@ pub record IsLeft (p : Passing) (b : List ℕ) (room : ℕ) (via : List Link) (f
   pub way : ℕ → List Link
   pub passed : ℕ
   pub linked : 0 < (fr.row).left → IsOnWay (wants_of p) p.checks b p.rows via fr way passed
-  pub all : ds ≡ demands_in_row words (wants_of p) p.checks b p.rows way (fr.table).object fr.number passed (fr.row).place (leads_types (fr.row).leads)
+  pub all : ds ≡ demands_in_row words (wants_of p) p.checks b p.rows way (fr.table).object fr.number passed (fr.row).place (fr.row).leads
       ++ demands_in_fields kids (wants_of p) p.checks b p.rows via (fr.table).object (fr.table).at fields
 
 -- the first so many of these frames stand for these demands, the last of them first, and each but that has its link
@@ -219,21 +245,27 @@ unfoldable pub AreLeft : Passing → List ℕ → List Frame → ℕ → List De
 AreLeft p b frames zero ds = ds ≡ []
 AreLeft p b frames (suc n) ds = (own : List Demand) × (others : List Demand) × IsLeft p b (length frames - n) (frame_links (wants_of p) b p.rows frames n) (get_or frames n blank) own × AreLeft p b frames n others × (ds ≡ own ++ others) × AreLinked (wants_of p) p.checks b p.rows frames n
 
--- a pass goes on from these demands after so many reads to those after so many, whatever is demanded afterwards
+-- a pass goes on from these demands after so many reads to those after so many: it met those before them, none of which
+-- has a buffer inside
 pub record Moves (L : Bounds) (paid : ℕ) (ds : List Demand) (last : ℕ) (left : List Demand) : Type 0 where
-  pub same : (more : List Demand) → first_fault L paid (ds ++ more) ≡ first_fault L last (left ++ more)
-  pub links : (more : List Demand) → first_links L paid (ds ++ more) ≡ first_links L last (left ++ more)
-  pub reads : paid + demands_reads ds ≡ last + demands_reads left
-  pub allowed : AreAllowed L.reads paid → AreAllowed L.reads last
+  pub met : List Demand
+  pub all : ds ≡ met ++ left
+  pub plain : ArePlain met
+  pub none : first_fault L paid met ≡ None
+  pub count : last ≡ paid + demands_reads met
 
--- one of these demands isn't met: the fault is told first, and these links lead to it, whatever is demanded afterwards
+-- it goes on to one that isn't met, to which these links lead
 pub record Breaks (L : Bounds) (paid : ℕ) (ds : List Demand) (f : Fault) (links : List Link) : Type 0 where
-  pub first : (more : List Demand) → first_fault L paid (ds ++ more) ≡ Some f
-  pub along : (more : List Demand) → first_links L paid (ds ++ more) ≡ links
+  pub last : ℕ
+  pub it : Demand
+  pub later : List Demand
+  pub moves : Moves L paid ds last (it ∷ later)
+  pub fails : demand_fault it last (it.chain ▷ reads_failure L last it.reads it.at) ≡ Some f
+  pub along : it.links ≡ links
 
 -- the turns that are left for a frame at most, but for those of tables to be opened
 abbrev pub frame_work : Passing → Frame → ℕ
-frame_work p fr = 1 + 2 ^ 33 * (length (tasks_in (wants_of p) p.rows (live_fields p.rows (fr.table).object)) - fr.next) + (fr.row).left
+frame_work p fr = 1 + 2 ^ 33 * (length (tasks_in (wants_of p) p.rows (fr.table).object (live_fields p.rows (fr.table).object)) - fr.next) + (fr.row).left
 
 -- and for so many of these frames
 unfoldable pub frames_work : Passing → List Frame → ℕ → ℕ
@@ -255,17 +287,33 @@ pub record TaskPassed {A : Type 0} (p : Passing) (m new : Lent) (t : ℕ) (site 
   pub asked : IsAskedAt site p.limits m new (task_failure (p.plan).demands p.checks m.bytes p.rows t slot (type_place m.bytes t slot) (field_place m.bytes t slot) ask) (task_reads (p.plan).demands m.bytes p.rows t slot (type_place m.bytes t slot) (field_place m.bytes t slot) ask) t result
   pub row : IfOk result (λ _. past ≡ task_row (wants_of p) m.bytes p.rows (type_place m.bytes t slot) (field_place m.bytes t slot) ask old)
 
--- the object of the table to which the first word of a row leads, if that is asked
-abbrev pub first_object : Passing → List ℕ → Leads → Option ℕ
-first_object p b (All (ATable k)) = Some k
-first_object p b (All _) = None
-first_object p b (ByType e q) = asked_object (wants_of p) (member_of p.rows e (word b q 1))
+-- the same, of a task whose field's bytes may hold a buffer, which is told
+pub record TaskDone (p : Passing) (m new : Lent) (t : ℕ) (site : Site) (slot : ℕ) (ask : Ask) (old past : Row) (result : Result (Option Inner) Stop) : Type 0 where
+  pub passed : TaskPassed p m new t site slot ask old past result
+  pub inner : IfOk result (λ o. o ≡ task_inner m.bytes ask (field_place m.bytes t slot))
 
--- that word was asked, where its type tells what it leads to; or the pass stops
-abbrev pub FirstPassed : (p : Passing) → (m new : Lent) → Site → (place : ℕ) → Leads → Result (Option ℕ) Stop → Type 0
-FirstPassed p m new site place (All referent) result = (result ≡ Ok (first_object p m.bytes (All referent))) × (new ≡ m)
+-- the first word of a row was asked, where its type tells what it leads to, and this tells what that is; or the pass
+-- stops
+abbrev pub FirstPassed : (p : Passing) → (m new : Lent) → Site → (place : ℕ) → Leads → Result Referent Stop → Type 0
+FirstPassed p m new site place (All referent) result = (result ≡ Ok referent) × (new ≡ m)
 FirstPassed p m new site place (ByType e q) result =
-    IsAskedAt site p.limits m new (where_asked (p.plan).demands.unions (element_failure p.checks m.bytes p.rows e q place)) (element_reads (p.plan).demands.unions m.bytes p.rows e q) place result × IfOk result (λ o. o ≡ first_object p m.bytes (ByType e q))
+    IsAskedAt site p.limits m new (where_asked (p.plan).demands.unions (element_failure p.checks m.bytes p.rows e q place)) (element_reads (p.plan).demands.unions m.bytes p.rows e q) place result
+    × IfOk result (λ r. r ≡ first_referent (wants_of p) m.bytes p.rows (ByType e q))
+
+-- the offset word at p leads to a text that lies in the buffer
+pub record TextStands (b : List ℕ) (p : ℕ) : Type 0 where
+  pub offset : p + 4 ≤ length b
+  pub count : target b p + 4 ≤ length b
+  pub within : target b p + 4 + word b (target b p) 4 ≤ length b
+
+-- the text to which the offset word at this place leads was asked: its reads are within the limits, and then it is
+-- UTF-8; or the pass stops
+abbrev pub TextPassed : (p : Passing) → (m new : Lent) → Site → (place : ℕ) → Result (Unit {0}) Stop → Type 0
+TextPassed p m new site place (Ok a) =
+    (new ≡ record m { count = m.count + text_reads m.bytes (target m.bytes place) }) × AreAllowed (p.limits).reads new.count × (text_failure m.bytes (target m.bytes place) ≡ None)
+TextPassed p m new site place (Err s) =
+    (told site m.count (reads_failure p.limits m.count (text_reads m.bytes (target m.bytes place)) place) ≡ Some (stopped s new.count))
+    ⊎ ((new ≡ record m { count = m.count + text_reads m.bytes (target m.bytes place) }) × AreAllowed (p.limits).reads new.count × (told site new.count (text_failure m.bytes (target m.bytes place)) ≡ Some (stopped s new.count)))
 
 -- One step in the top table, from a frame to another, after which the pass goes on there, in the table above or in one
 -- below; or it stops.
@@ -275,6 +323,20 @@ pub record GoesOn (p : Passing) (m new : Lent) (ds left : List Demand) : Type 0 
   pub moves : Moves p.limits m.count ds new.count left
   pub grows : m.count ≤ new.count
   pub same : new ≡ record m { count = new.count }
+
+-- what is demanded of a table before its fields: its head, and its slots
+abbrev pub opening : Passing → List ℕ → List Link → Child → List Demand
+opening p b via child = reading via child.object None child.at (head_reads p.checks) ∷ slots_demands (p.plan).demands b p.rows via child.object child.at
+
+-- its slots were asked, whatever is demanded afterwards; or the pass stops, by the links to the table
+abbrev pub SlotsPassed : (p : Passing) → (m new : Lent) → Child → Result (Unit {0}) Stop → Type 0
+SlotsPassed p m new child (Ok a) = (via : List Link) (rest : List Demand) → GoesOn p m new (slots_demands (p.plan).demands m.bytes p.rows via child.object child.at ++ rest) rest
+SlotsPassed p m new child (Err s) = (via : List Link) (rest : List Demand) → Breaks p.limits m.count (slots_demands (p.plan).demands m.bytes p.rows via child.object child.at ++ rest) (stopped s new.count) via
+
+-- so was all of that, which is more than no read; or the pass stops
+abbrev pub Opens : (p : Passing) → (m new : Lent) → Child → Result (Unit {0}) Stop → Type 0
+Opens p m new child (Ok a) = (m.count < new.count) × ((via : List Link) (rest : List Demand) → GoesOn p m new (opening p m.bytes via child ++ rest) rest)
+Opens p m new child (Err s) = (via : List Link) (rest : List Demand) → Breaks p.limits m.count (opening p m.bytes via child ++ rest) (stopped s new.count) via
 
 pub record Stays (p : Passing) (m new : Lent) (room : ℕ) (via : List Link) (ds : List Demand) (top past : Frame) : Type 0 where
   pub left : List Demand
@@ -292,6 +354,31 @@ pub record GoesDown (p : Passing) (m new : Lent) (room : ℕ) (via : List Link) 
   pub linked : IsLinked (wants_of p) p.checks m.bytes p.rows past
   pub falls : frame_work p past ≤ frame_work p top
 
+-- a buffer lies in these bytes, whose root table can be one of this object
+pub record IsInner (p : Passing) (b : List ℕ) (i : Inner) : Type 0 where
+  pub within : i.at + i.size ≤ length b
+  pub table : IsTrue (is_table p.rows i.root)
+
+-- the first of these demands has a buffer inside, and was met itself after so many reads
+pub record Meets (p : Passing) (b : List ℕ) (paid : ℕ) (it : Demand) (last : ℕ) (i : Inner) : Type 0 where
+  pub inner : it.inner ≡ Some i
+  pub stands : IsInner p b i
+  pub chain : it.chain ≡ None
+  pub count : last ≡ paid + it.reads
+  pub allowed : AreAllowed (p.limits).reads last
+
+-- it comes to a buffer that lies in a field of the top's table: its demand was met, and the frame has the link to it
+pub record GoesIn (p : Passing) (m new : Lent) (room : ℕ) (via : List Link) (ds : List Demand) (top past : Frame) (i : Inner) : Type 0 where
+  pub it : Demand
+  pub left : List Demand
+  pub all : ds ≡ it ∷ left
+  pub meets : Meets p m.bytes m.count it new.count i
+  pub same : new ≡ record m { count = new.count }
+  pub frame : IsLeft p m.bytes room via past left
+  pub linked : IsLinked (wants_of p) p.checks m.bytes p.rows past
+  pub way : it.links ≡ via ++ frame_link (wants_of p) m.bytes p.rows past ∷ []
+  pub falls : frame_work p past < frame_work p top
+
 -- it stops with so many frames open: behind a word of the top's, or in a field of its table
 abbrev pub StopsHere : (p : Passing) → (m new : Lent) → (via : List Link) → (many : ℕ) → (ds : List Demand) → (past : Frame) → Halt → LastLink → Type 0
 StopsHere p m new via many ds past h Behind =
@@ -302,6 +389,7 @@ abbrev pub Stepped : (p : Passing) → (m new : Lent) → (room : ℕ) → (via 
 Stepped p m new room via many ds top past child (Ok Here) = Stays p m new room via ds top past
 Stepped p m new room via many ds top past child (Ok Up) = (ds ≡ []) × (new ≡ m)
 Stepped p m new room via many ds top past child (Ok Down) = GoesDown p m new room via ds top past child
+Stepped p m new room via many ds top past child (Ok (In i)) = GoesIn p m new room via ds top past i
 Stepped p m new room via many ds top past child (Err h) = StopsHere p m new via many ds past h h.last
 
 -- a pass stops: the links of so many of these frames lead to the fault, and then what they leave
@@ -317,9 +405,25 @@ pub record Turns (p : Passing) (m new : Lent) (ds : List Demand) (old : List Fra
   pub stack : AreLeft p m.bytes frames after-it left
   pub falls : frames_work p frames after-it + 2 ^ 49 * m.count < frames_work p old before + 2 ^ 49 * new.count
 
-abbrev pub Turned : (p : Passing) → (m new : Lent) → (ds : List Demand) → (old : List Frame) → ℕ → (frames : List Frame) → Result ℕ Halt → Type 0
-Turned p m new ds old before frames (Ok n) = Turns p m new ds old before frames n × (n ≤ length frames)
-Turned p m new ds old before frames (Err h) = Halts p m new ds frames h
+-- a pass goes on to a buffer that lies in these bytes: the demand that has it was met itself, and these frames, of
+-- which so many are open, stand for what follows; their links lead there
+pub record Enters (p : Passing) (m new : Lent) (ds : List Demand) (frames : List Frame) (many : ℕ) (i : Inner) : Type 0 where
+  pub last : ℕ
+  pub it : Demand
+  pub left : List Demand
+  pub moves : Moves p.limits m.count ds last (it ∷ left)
+  pub meets : Meets p m.bytes last it new.count i
+  pub same : new ≡ record m { count = new.count }
+  pub stack : AreLeft p m.bytes frames many left
+  pub within : many ≤ length frames
+  pub some : 0 < many
+  pub linked : AreLinked (wants_of p) p.checks m.bytes p.rows frames many
+  pub way : it.links ≡ frame_links (wants_of p) m.bytes p.rows frames many
+
+abbrev pub HasTurned : (p : Passing) → (m new : Lent) → (ds : List Demand) → (old : List Frame) → ℕ → (frames : List Frame) → Result Turned Halt → Type 0
+HasTurned p m new ds old before frames (Ok (Open n)) = Turns p m new ds old before frames n × (n ≤ length frames)
+HasTurned p m new ds old before frames (Ok (Inside i)) = Enters p m new ds frames before i
+HasTurned p m new ds old before frames (Err h) = Halts p m new ds frames h
 
 -- frames of which so many are open, in a pass within the limits, whose reads a count holds
 pub record IsStanding (p : Passing) (m : Lent) (frames : List Frame) (many : ℕ) : Type 0 where
@@ -328,11 +432,11 @@ pub record IsStanding (p : Passing) (m : Lent) (frames : List Frame) (many : ℕ
   pub within : many ≤ length frames
   pub small : length frames ≤ 4096
   pub allowed : AreAllowed (p.limits).reads m.count
-  pub few : m.count + demands_reads left ≤ 2 ^ 96
+  pub few : m.count + demands_reads left ≤ 2 ^ 112
 
 -- the turns that are left to it at most
 abbrev pub work_left : Passing → ℕ → List Frame → ℕ → ℕ
-work_left p count frames many = frames_work p frames many + 2 ^ 49 * (2 ^ 96 - count)
+work_left p count frames many = frames_work p frames many + 2 ^ 49 * (2 ^ 112 - count)
 
 -- a pass went on over frames of which so many were open, so that less work is left to it
 pub record WentBy (p : Passing) (m new : Lent) (ds : List Demand) (old : List Frame) (before : ℕ) (frames : List Frame) (many : ℕ) : Type 0 where
@@ -342,15 +446,27 @@ pub record WentBy (p : Passing) (m new : Lent) (ds : List Demand) (old : List Fr
   pub within : many ≤ length frames
   pub falls : work_left p new.count frames many < work_left p m.count old before
 
-abbrev pub WentOn : {A : Type 0} → (p : Passing) → (m new : Lent) → (ds : List Demand) → (old : List Frame) → (before : ℕ) → (frames : List Frame) → (many : ℕ) → Result A Halt → Type 0
-WentOn p m new ds old before frames many (Ok a) = WentBy p m new ds old before frames many
+abbrev pub WentOn : (p : Passing) → (m new : Lent) → (ds : List Demand) → (old : List Frame) → (before : ℕ) → (frames : List Frame) → (many : ℕ) → Result (Option Inner) Halt → Type 0
+WentOn p m new ds old before frames many (Ok None) = WentBy p m new ds old before frames many
+WentOn p m new ds old before frames many (Ok (Some i)) = Enters p m new ds frames many i
 WentOn p m new ds old before frames many (Err h) = Halts p m new ds frames h
 
--- a whole pass found that all of these demands are met within the limits, or it stops at the first that isn't, by the
--- links of these frames
-abbrev pub Ran : {A : Type 0} → (p : Passing) → (m new : Lent) → (ds : List Demand) → (frames : List Frame) → Result A Halt → Type 0
-Ran p m new ds frames (Ok a) = GoesOn p m new ds []
-Ran p m new ds frames (Err h) = Halts p m new ds frames h
+-- a root table was opened, and one frame stands for what follows its head
+pub record Began (p : Passing) (m new : Lent) (ds : List Demand) (frames : List Frame) : Type 0 where
+  pub left : List Demand
+  pub on : GoesOn p m new ds left
+  pub stack : AreLeft p m.bytes frames 1 left
+
+abbrev pub Begins : {A : Type 0} → (p : Passing) → (m new : Lent) → (ds : List Demand) → (frames : List Frame) → Result A Halt → Type 0
+Begins p m new ds frames (Ok a) = Began p m new ds frames
+Begins p m new ds frames (Err h) = Halts p m new ds frames h
+
+-- a pass went on until no frame was open, so that all of these demands are met within the limits, or until it came to a
+-- buffer inside; or it stops at the first that isn't met
+abbrev pub Went : (p : Passing) → (m new : Lent) → (ds : List Demand) → (frames : List Frame) → (many : ℕ) → Result (Option Inner) Halt → Type 0
+Went p m new ds frames many (Ok None) = GoesOn p m new ds []
+Went p m new ds frames many (Ok (Some i)) = Enters p m new ds frames many i
+Went p m new ds frames many (Err h) = Halts p m new ds frames h
 
 -- the root table at this position, of this object, unfolds into this tree, for whose tables there are so many frames
 pub record IsRooted (p : Passing) (b : List ℕ) (room : ℕ) (root : Child) (y : Tree) : Type 0 where

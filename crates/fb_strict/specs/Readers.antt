@@ -4,10 +4,12 @@ use Rattle.fb_bytes.specs.Word.{word}
 use Rattle.fb_schema.specs.declared.kinds.Kind.TheVariants.{Union, Unions}
 use Rattle.fb_schema.specs.{Rows.Rows, Live.Live, Live.live_fields, Members.member_of}
 use Rattle.fb_rules.specs.declared.checks.Checks.{Checks}
-use Rattle.fb_rules.specs.{Places.target, Places.field_place, Fields.type_place, Fields.types_begin, Fields.union_type}
+use Rattle.fb_rules.specs.{Places.target, Places.field_place, Fields.type_place, Fields.types_begin, Fields.union_type, Fields.entries}
 use Rattle.fb_rules.specs.Tree.{Tree, node, Kids, no_kids, kid, Elements, no_elements, element, Element, leaf, table}
-use Rattle.fb_strict.specs.declared.demands.Demands.{Demands}
-use Rattle.fb_strict.specs.Strict.{IsStrict, IsStrictTable}
+use Rattle.fb_rules.specs.{Question.Question, declared.fault.Report.Report}
+use Rattle.fb_strict.specs.declared.{inner.Inner.Inner, tasks.Held.TheVariants.Buffer, tasks.Held.TheVariants.Flex}
+use Rattle.fb_strict.specs.{Demanded.Demanded, Demanded.held_of, Planned.Planned, Nested.bytes_inside, Nested.question_inside, Nested.IsGood}
+use Rattle.fb_strict.specs.Strict.{IsStrict, IsStrictTable, AreUtf8, HasKnownFields}
 
 -- the tree has a visit of a table of the object k at t
 unfoldable mutual
@@ -28,7 +30,7 @@ unfoldable mutual
 
 -- a tree is strict exactly where each table in it is
 abbrev pub TablesLaw : Type 0
-TablesLaw = (y : Tree) (D : Demands) (c : Checks) (b : List ℕ) (S : Rows) → IsStrict y D c b S ↔ ((k t : ℕ) → HasNode y k t → IsStrictTable D c b S k t)
+TablesLaw = (y : Tree) (D : Demanded) (c : Checks) (b : List ℕ) (S : Rows) → IsStrict y D c b S ↔ ((k t : ℕ) → HasNode y k t → IsStrictTable D c b S k t)
 
 -- the offset word at p lies in the buffer, and leads inside
 pub record MayFollow (b : List ℕ) (p : ℕ) : Type 0 where
@@ -49,10 +51,45 @@ ElementsLeadInside y b S =
     → j < word b (target b p) 4 → word b (types_begin b (type_place b t f.slot) + j) 1 ≢ 0 → member_of S e (word b (types_begin b (type_place b t f.slot) + j) 1) ≡ None
     → MayFollow b (target b p + 4 + 4 * j)
 
--- both hold of a strict tree, where unions are asked
+-- each text is UTF-8 to which an offset word of a table of this tree leads
+abbrev pub TextsAreUtf8 : Tree → List ℕ → Rows → Type 0
+TextsAreUtf8 y b S = (k t i : ℕ) (f : Live) → HasNode y k t → slice_get (live_fields S k) i ≡ Some f → AreUtf8 b (entries b S t f)
+
+-- it holds of a strict tree, where texts are asked
+abbrev pub TextsLaw : Type 0
+TextsLaw = (y : Tree) (D : Demanded) (c : Checks) (b : List ℕ) (S : Rows) → D.utf8 ≡ true → IsStrict y D c b S → TextsAreUtf8 y b S
+
+-- no table of this tree has a slot of no live field
+abbrev pub HasNoUnknownFields : Tree → List ℕ → Rows → Type 0
+HasNoUnknownFields y b S = (k t : ℕ) → HasNode y k t → HasKnownFields b S k t
+
+-- it holds of a strict tree, where slots are asked
+abbrev pub SlotsLaw : Type 0
+SlotsLaw = (y : Tree) (D : Demanded) (c : Checks) (b : List ℕ) (S : Rows) → D.known_fields ≡ true → IsStrict y D c b S → HasNoUnknownFields y b S
+
+-- the buffer in the bytes of the vector to which the offset word at p leads, with a root table of this object
+abbrev pub buffer_at : List ℕ → (root p : ℕ) → Inner
+buffer_at b root p = record { at = target b p + 4; size = word b (target b p) 4; root = root }
+
+-- what `x_nested_root()` returns is the root of a good buffer: wherever a table of this tree stands, the bytes of a
+-- field that holds a buffer are good by themselves, by the plan, the rows, the checks and the limits of the whole
+abbrev pub HeldAreGood : Planned → Question → List ℕ → Tree → Type 0
+HeldAreGood p q b y =
+    (k t i : ℕ) (f : Live) (root place : ℕ) → HasNode y k t → slice_get (live_fields q.rows k) i ≡ Some f → held_of p.demands k f ≡ Some (Buffer root) → field_place b t f.slot ≡ Some place
+    → (own : Report) × IsGood p (question_inside q (buffer_at b root place)) (bytes_inside b (buffer_at b root place)) own
+
+-- no field of a table of this tree that holds a flexbuffer is there
+abbrev pub HasNoFlexbuffers : Demanded → Tree → List ℕ → Rows → Type 0
+HasNoFlexbuffers D y b S = (k t i : ℕ) (f : Live) → HasNode y k t → slice_get (live_fields S k) i ≡ Some f → held_of D k f ≡ Some Flex → field_place b t f.slot ≡ None
+
+-- it holds of a strict tree
+abbrev pub FlexLaw : Type 0
+FlexLaw = (y : Tree) (D : Demanded) (c : Checks) (b : List ℕ) (S : Rows) → IsStrict y D c b S → HasNoFlexbuffers D y b S
+
+-- the two about unions do, where these are asked
 
 abbrev pub ValuesLaw : Type 0
-ValuesLaw = (y : Tree) (D : Demands) (c : Checks) (b : List ℕ) (S : Rows) → D.unions ≡ true → IsStrict y D c b S → ValuesLeadInside y b S
+ValuesLaw = (y : Tree) (D : Demanded) (c : Checks) (b : List ℕ) (S : Rows) → D.unions ≡ true → IsStrict y D c b S → ValuesLeadInside y b S
 
 abbrev pub ElementsLaw : Type 0
-ElementsLaw = (y : Tree) (D : Demands) (c : Checks) (b : List ℕ) (S : Rows) → D.unions ≡ true → IsStrict y D c b S → ElementsLeadInside y b S
+ElementsLaw = (y : Tree) (D : Demanded) (c : Checks) (b : List ℕ) (S : Rows) → D.unions ≡ true → IsStrict y D c b S → ElementsLeadInside y b S

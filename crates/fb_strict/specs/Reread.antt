@@ -2,11 +2,12 @@
 use Rattle.std.specs.Prelude.{ℕ, ◌<◌, List}
 use Rattle.fb_rules.specs.{Fields.type_place, Fields.type_count, OffsetRows.TypeFits, OffsetRows.TypesFit}
 use Rattle.fb_strict.specs.declared.tasks.Ask.{Ask}
-use Rattle.fb_strict.specs.declared.tasks.Ask.TheVariants.{Union as AskUnion, Unions as AskUnions, Tables as GoIntoEach}
+use Rattle.fb_strict.specs.declared.tasks.Ask.TheVariants.{Texts as AskTexts, Union as AskUnion, Unions as AskUnions, Tables as GoIntoEach}
 use Rattle.fb_strict.specs.Passing.{CountStands}
 
 -- where it is a vector that stands at p, its count
 abbrev pub WordsStand : List ℕ → (p : ℕ) → Ask → Type 0
+WordsStand b p AskTexts = CountStands b p
 WordsStand b p (GoIntoEach k) = CountStands b p
 WordsStand b p (AskUnions e) = CountStands b p
 WordsStand b p _ = Unit {0}

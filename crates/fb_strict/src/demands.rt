@@ -6,10 +6,11 @@ pub struct Demands {
     /// A union whose type isn't 0 has its value, and a vector of unions its types; what nobody knows leads inside the
     /// buffer, which is no shorter than 12 bytes.
     pub unions: bool,
-    /// The bytes of a field that are marked to hold a buffer do. Nothing is asked by this yet.
+    /// The bytes of a field that is marked to hold a buffer do, and that buffer is good by all that is demanded here; a
+    /// field that is marked to hold a flexbuffer is absent. Nothing is asked by this of a plan without marks.
     pub nested: bool,
-    /// Each slot of a vtable that isn't 0 is one of a live field. Nothing is asked by this yet.
+    /// Each slot of a vtable that isn't 0 is one of a live field.
     pub known_fields: bool,
-    /// Each string is UTF-8. Nothing is asked by this yet.
+    /// Each text is UTF-8.
     pub utf8: bool,
 }

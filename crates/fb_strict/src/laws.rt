@@ -1,18 +1,21 @@
 //! Laws of the definitions: each is the contract of a function that does nothing.
 
 ghost use Rattle.fb_strict.specs.Asked.{DemandsLaw, FirstLaw, TasksLaw};
-ghost use Rattle.fb_strict.specs.Laws.{HasOneStrictVerdict, StrictCostIsBounded, StrictIsOk, StrictReadsAreBounded, UnionsLeadInside};
-ghost use Rattle.fb_strict.specs.InOrder.{ElementLaw, InsideLaw, LengthLaw, UnionLaw, UnionsLaw};
+ghost use Rattle.fb_strict.specs.Laws.{AllTextsAreUtf8, HasOneStrictVerdict, HeldBuffersAreGood, NoFieldIsUnknown, StrictCostIsBounded, StrictIsOk, StrictReadsAreBounded, UnionsLeadInside};
+ghost use Rattle.fb_strict.specs.InOrder.{ElementLaw, InsideLaw, LengthLaw, SlotLaw, TextLaw, UnionLaw, UnionsLaw};
+ghost use Rattle.fb_strict.specs.Nested.{ComeToOneEnd, PlainLaw, GoodInside, GoodIsStrict};
 ghost use Rattle.fb_strict.specs.Readers.{ElementsLaw, TablesLaw, ValuesLaw};
 ghost use Rattle.fb_strict.specs.{Skipped.SkipLaw, Planned.OnePlanLaw};
 
 /// A chain of tests finds nothing exactly where what is demanded holds.
-#[tactic(auto, using(crate::proofs::Chains::inside_none, crate::proofs::Chains::union_none, crate::proofs::Chains::element_none))]
+#[tactic(auto, using(crate::proofs::Chains::inside_none, crate::proofs::Chains::union_none, crate::proofs::Chains::element_none, crate::proofs::Chains::text_none, crate::proofs::Chains::slot_none))]
 pub fn chains_tell()
     ensures of_lengths { LengthLaw }
     ensures of_words { InsideLaw }
     ensures of_unions { UnionLaw }
     ensures of_elements { ElementLaw }
+    ensures of_texts { TextLaw }
+    ensures of_slots { SlotLaw }
 {}
 
 /// A vector of unions meets what is demanded exactly where the chains of it and of its offset words find nothing.
@@ -37,8 +40,8 @@ pub fn one_plan()
     ensures { OnePlanLaw }
 {}
 
-/// Where unions are asked, in a strict buffer the value of a union whose type is 0 or unknown leads inside, wherever its table stands, and so
-/// does an offset word in a vector of unions whose type is unknown.
+/// Where unions are asked, in a strict buffer the value of a union whose type is 0 or unknown leads inside, wherever
+/// its table stands, and so does an offset word in a vector of unions whose type is unknown.
 pub fn unknown_values_lead_inside()
     ensures values { ValuesLaw }
     ensures elements { ElementsLaw }
@@ -56,14 +59,32 @@ pub fn tasks_are_all()
     ensures { TasksLaw }
 {}
 
-/// A strict ok is an ok: the walk alone reports as many tables, as deep, and no more reads.
+/// A strict ok is an ok: the walk alone reports no more tables, depth and reads.
 pub fn strict_is_ok()
     ensures { StrictIsOk }
 {}
 
-/// In a buffer that is reported strictly where unions are asked, such values and offset words lead inside, wherever a table of its tree stands.
+/// In a buffer that is reported strictly where unions are asked, such values and offset words lead inside, wherever a
+/// table of its tree stands.
 pub fn unions_lead_inside()
     ensures { UnionsLeadInside }
+{}
+
+/// In a buffer that is reported strictly where texts are asked, each text of its tree is UTF-8.
+pub fn texts_are_utf8()
+    ensures { AllTextsAreUtf8 }
+{}
+
+/// In a buffer that is reported strictly where slots are asked, no table of its tree has a slot of no live field.
+pub fn no_field_is_unknown()
+    ensures { NoFieldIsUnknown }
+{}
+
+/// In a buffer that is reported strictly, wherever a table of its tree stands, the bytes of a field that holds a buffer
+/// are a good buffer by themselves, with a root table of the object that the field's mark names; and a field that holds
+/// a flexbuffer is absent. What a field holds is told by the plan.
+pub fn held_buffers_are_good()
+    ensures { HeldBuffersAreGood }
 {}
 
 /// At most one answer of `verify_strictly` applies to a question: one report, or one fault, and never one of each.
@@ -76,4 +97,22 @@ pub fn one_strict_answer_applies()
 pub fn strict_reads_are_bounded()
     ensures of_yes { StrictCostIsBounded }
     ensures of_no { StrictReadsAreBounded }
+{}
+
+/// What is asked of a buffer with those inside it comes to one end: so much is spent, or a fault is the first, to which
+/// one way leads.
+#[tactic(auto, using(crate::proofs::Nesting::come_to_one_end))]
+pub fn demands_come_to_one_end()
+    ensures { ComeToOneEnd }
+{}
+
+/// Where no buffer is inside, what is asked comes to what a pass over one buffer tells.
+pub fn plain_demands_come_to_the_first()
+    ensures { PlainLaw }
+{}
+
+/// Each buffer inside a good one is good by itself, and so on inwards; and its tree is strict.
+pub fn buffers_inside_are_good()
+    ensures inside { GoodInside }
+    ensures strict { GoodIsStrict }
 {}

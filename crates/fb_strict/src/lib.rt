@@ -1,11 +1,14 @@
-//! What code that `flatc` generates asks of unions beside the rules of the format: what it means, a test for each part,
-//! and the plan of which tables are asked.
+//! What is demanded beside the rules of the format, as of unions by code that `flatc` generates, of texts and of slots:
+//! what it means, a test for each part, and the plan of which tables are asked.
 #![tactic(auto)]
 
 mod demands;
 pub mod examples;
+mod holding;
+mod inner;
 pub mod laws;
 mod leads;
+mod levels;
 mod links;
 mod located;
 mod marking;
@@ -13,11 +16,17 @@ mod most;
 mod pass;
 mod plan;
 mod room;
+mod slots;
 mod strictly;
 mod tasks;
+mod texts;
 pub mod unions;
+mod way;
+mod whole;
 
 pub use demands::Demands;
+pub use holding::PlanFault;
+pub use inner::Inner;
 pub use located::{verify_strictly_and_locate, verify_strictly_and_locate_shallow};
 pub use most::most_reads_strictly;
 pub use plan::Plan;

@@ -1,18 +1,15 @@
-//! The way to a demand that isn't met, link by link.
+//! The links of open tables.
 
-ghost use Rattle.std.specs.Prelude.{◌≡◌, ◌+◌, ◌^◌, ◌<◌, ◌≤◌, ◌++◌, length, take, IfSome, Some};
+ghost use Rattle.std.specs.Prelude.{◌≡◌, ◌+◌, ◌^◌, ◌<◌, ◌≤◌, length, IfSome, Some};
 ghost use Rattle.fb_rules.specs.{Places.field_place, Fields.type_place, Told.IsVtable};
-ghost use Rattle.fb_verify.specs.Stack.{last_link, links_left};
 ghost use Rattle.fb_strict.specs.{Planned.IsPlan, Reread.WordsStand, Reread.MemberStands};
 ghost use Rattle.fb_strict.specs.Passing.{wants_of, ask_words, ask_element, ask_member, IsLinked, AreLinked, frame_link, frame_links};
 
 use crate::pass::Pass;
 use crate::room::Frame;
-use crate::strictly::Unmet;
 use crate::tasks::{Ask, Task};
 use fb_bytes::Window;
 use fb_rules::link::Link;
-use fb_rules::site::LastLink;
 use fb_rules::table::Table;
 use std::alloc::Allocator;
 
@@ -40,7 +37,7 @@ fn words_at(window: &Window<'_>, place: u64, ask: Ask) -> u32
     ensures { result ≡ ask_words window.now (Some place) ask }
 {
     match ask {
-        Ask::Tables(_) | Ask::Unions(_) => {
+        Ask::Texts | Ask::Tables(_) | Ask::Unions(_) => {
             let at = place + u64::from(window.u32_at(place));
             window.u32_at(at)
         }
@@ -53,7 +50,7 @@ fn element_at(ask: Ask, before: u32) -> Option<u32>
     ensures { result ≡ ask_element before ask }
 {
     match ask {
-        Ask::Tables(_) | Ask::Unions(_) => Some(before),
+        Ask::Texts | Ask::Tables(_) | Ask::Unions(_) => Some(before),
         _ => None,
     }
 }
@@ -104,40 +101,17 @@ impl<'p, 's, 'n, A: Allocator> Pass<'p, 's, 'n, A> {
         }
     }
 
-    /// Puts the links of so many frames as lead to a demand that isn't met, and what they leave, at the front of a row
-    /// of links, and answers how many they are.
-    pub(crate) fn put_links(
-        &self,
-        window: &Window<'_>,
-        frames: &[Frame],
-        unmet: &Unmet,
-        links: &mut [Link],
-    ) -> u32
+    /// Puts the links of as many frames as the row is long.
+    pub(crate) fn put_links(&self, window: &Window<'_>, frames: &[Frame], links: &mut [Link])
         requires plan { IsPlan self.now.rows (self.now.plan).demands self.now.plan }
-        requires linked { AreLinked (wants_of self.now) self.now.checks window.now self.now.rows frames.now (unmet.now).links }
-        requires within { (unmet.now).links ≤ length frames.now }
-        requires room { (unmet.now).links + links_left (unmet.now).last ≤ length links.old }
-        requires few { (unmet.now).links < 2 ^ 31 }
-        ensures within { result ≤ length links.new }
-        ensures links { take result links.new ≡ frame_links (wants_of self.now) window.now self.now.rows frames.now (unmet.now).links ++ last_link (unmet.now).last (unmet.now).fault }
+        requires linked { AreLinked (wants_of self.now) self.now.checks window.now self.now.rows frames.now (length links.old) }
+        requires within { length links.old ≤ length frames.now }
+        ensures { links.new ≡ frame_links (wants_of self.now) window.now self.now.rows frames.now (length links.old) }
     {
-        let many = unmet.links as usize;
         let mut count = 0;
-        while count < many {
+        while count < links.len() {
             links[count] = self.link_of(window, &frames[count]);
             count += 1;
         }
-        if unmet.last == LastLink::InField {
-            if let Some(field) = unmet.fault.field {
-                links[count] = Link {
-                    object: unmet.fault.object,
-                    field,
-                    element: None,
-                    member: None,
-                };
-                count += 1;
-            }
-        }
-        count as u32
     }
 }

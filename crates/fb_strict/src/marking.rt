@@ -2,13 +2,15 @@
 
 ghost use Rattle.std.specs.Prelude.{◌≡◌, ◌↔◌, ◌<◌, ℕ, [], length, true, false, map, OnOk, IfOk};
 ghost use Rattle.fb_schema.specs.Rows.{Rows};
-ghost use Rattle.fb_strict.specs.Skipped.{has_asked, IsClosed};
+ghost use Rattle.fb_strict.specs.Skipped.{has_asked};
 ghost use Rattle.fb_strict.specs.Planned.{marked, marked_wants, AreFounded, AreMarks};
-ghost use Rattle.fb_strict.specs.Leading.{IsChained, IsFrom, AreLeads};
-ghost use Rattle.fb_strict.specs.Marking.{IsQueue, NoneMarked, Spread, OwnMarked};
+ghost use Rattle.fb_strict.specs.Demanded.{demanded};
+ghost use Rattle.fb_strict.specs.Leading.{IsChained, IsFrom, Leads as LeadsOf, AreLeads};
+ghost use Rattle.fb_strict.specs.Marking.{IsQueue, NoneMarked, Spread, AreClosed, OwnMarked};
 
 use crate::demands::Demands;
-use crate::leads::Leads;
+use crate::holding::Holding;
+use crate::leads::{Chains, Leads};
 use crate::tasks::has_asked;
 use fb_schema::Schema;
 use std::alloc::{AllocError, Allocator};
@@ -23,13 +25,17 @@ pub struct Marking<A: Allocator> {
 
 /// Whether anything is demanded of a table of this object by itself.
 #[tactic(auto, using(crate::proofs::Queues::none_own))]
-fn has_own(schema: &Schema<'_>, demands: Demands, object: u32) -> bool
-    ensures { result ≡ has_asked (marked_wants demands []) schema.now object }
+fn has_own(schema: &Schema<'_>, demands: Demands, holdings: &[Holding], object: u32) -> bool
+    ensures { result ≡ has_asked (marked_wants (demanded demands holdings.now) []) schema.now object }
 {
     if !schema.is_table(object) {
         return false;
     }
-    has_asked(demands, &[], schema, object)
+    let fields = Demands {
+        known_fields: false,
+        ..demands
+    };
+    has_asked(fields, holdings, &[], schema, object)
 }
 
 impl<A: Allocator + Copy> Marking<A> {
@@ -57,31 +63,67 @@ impl<A: Allocator + Copy> Marking<A> {
     }
 
     /// Marks the objects of which something is demanded by itself, where none is marked yet.
-    fn mark_own(&mut self, schema: &Schema<'_>, demands: Demands) -> Result<(), AllocError>
+    fn mark_own(
+        &mut self,
+        schema: &Schema<'_>,
+        demands: Demands,
+        holdings: &[Holding],
+    ) -> Result<(), AllocError>
         requires { NoneMarked (length schema.now.objects) self.old.marks.items self.old.queue.items }
-        ensures { OnOk result (OwnMarked demands schema.now (length schema.now.objects) self.new.marks.items self.new.queue.items) }
+        ensures { OnOk result (OwnMarked (demanded demands holdings.now) schema.now (length schema.now.objects) self.new.marks.items self.new.queue.items) }
     {
         for object in 0..schema.object_count() {
-            if has_own(schema, demands, object) {
+            if has_own(schema, demands, holdings, object) {
                 self.mark(object)?;
             }
         }
         Ok(())
     }
 
-    /// Marks the objects that lead to this one.
-    fn follow(&mut self, leads: &Leads<A>, to: u32) -> Result<(), AllocError>
-        requires chained { IsChained leads.now.lasts.items leads.now.edges.items }
-        requires within { (k : ℕ) → IsFrom leads.now.lasts.items leads.now.edges.items k to → k < length self.old.marks.items }
+    /// Marks the objects from which edges lead to this end.
+    fn follow(&mut self, chains: &Chains<A>, to: u32) -> Result<(), AllocError>
+        requires chained { IsChained chains.now.lasts.items chains.now.edges.items }
+        requires within { (k : ℕ) → IsFrom chains.now.lasts.items chains.now.edges.items k to → k < length self.old.marks.items }
         requires queue { IsQueue self.old.marks.items self.old.queue.items }
-        ensures { OnOk result (Spread (λ k. IsFrom leads.now.lasts.items leads.now.edges.items k to) self.old.marks.items self.old.queue.items self.new.marks.items self.new.queue.items) }
+        ensures { OnOk result (Spread (λ k. IsFrom chains.now.lasts.items chains.now.edges.items k to) self.old.marks.items self.old.queue.items self.new.marks.items self.new.queue.items) }
     {
-        let mut place = leads.last(to);
+        let mut place = chains.last(to);
         while place > 0 {
-            let edge = leads.edges[place - 1];
+            let edge = chains.edges[place - 1];
             self.mark(edge.from)?;
             place = edge.before;
         }
+        Ok(())
+    }
+
+    /// Marks the objects with fields of the unions of which tables of this object are members.
+    fn follow_members(&mut self, leads: &Leads<A>, to: u32) -> Result<(), AllocError>
+        requires unions { IsChained leads.now.unions.lasts.items leads.now.unions.edges.items }
+        requires members { IsChained leads.now.members.lasts.items leads.now.members.edges.items }
+        requires within { (k e : ℕ) → IsFrom leads.now.unions.lasts.items leads.now.unions.edges.items k e → IsFrom leads.now.members.lasts.items leads.now.members.edges.items e to → k < length self.old.marks.items }
+        requires queue { IsQueue self.old.marks.items self.old.queue.items }
+        ensures { OnOk result (Spread (λ k. (e : ℕ) × IsFrom leads.now.unions.lasts.items leads.now.unions.edges.items k e × IsFrom leads.now.members.lasts.items leads.now.members.edges.items e to) self.old.marks.items self.old.queue.items self.new.marks.items self.new.queue.items) }
+    {
+        let mut place = leads.members.last(to);
+        while place > 0 {
+            let edge = leads.members.edges[place - 1];
+            self.follow(&leads.unions, edge.from)?;
+            place = edge.before;
+        }
+        Ok(())
+    }
+
+    /// Marks the objects that lead to this one.
+    fn follow_back(&mut self, leads: &Leads<A>, to: u32) -> Result<(), AllocError>
+        requires tables { IsChained leads.now.tables.lasts.items leads.now.tables.edges.items }
+        requires unions { IsChained leads.now.unions.lasts.items leads.now.unions.edges.items }
+        requires members { IsChained leads.now.members.lasts.items leads.now.members.edges.items }
+        requires within { (k : ℕ) → LeadsOf leads.now.tables.lasts.items leads.now.tables.edges.items leads.now.unions.lasts.items leads.now.unions.edges.items leads.now.members.lasts.items leads.now.members.edges.items k to → k < length self.old.marks.items }
+        requires queue { IsQueue self.old.marks.items self.old.queue.items }
+        ensures { OnOk result (Spread (λ k. LeadsOf leads.now.tables.lasts.items leads.now.tables.edges.items leads.now.unions.lasts.items leads.now.unions.edges.items leads.now.members.lasts.items leads.now.members.edges.items k to) self.old.marks.items self.old.queue.items self.new.marks.items self.new.queue.items) }
+    {
+        self.follow(&leads.tables, to)?;
+        self.follow_members(leads, to)?;
         Ok(())
     }
 
@@ -90,19 +132,20 @@ impl<A: Allocator + Copy> Marking<A> {
         &mut self,
         schema: &Schema<'_>,
         demands: Demands,
+        holdings: &[Holding],
         leads: &Leads<A>,
     ) -> Result<(), AllocError>
-        requires leads { AreLeads demands schema.now leads.now.lasts.items leads.now.edges.items }
-        requires own { OwnMarked demands schema.now (length schema.now.objects) self.old.marks.items self.old.queue.items }
-        ensures founded { OnOk result (AreFounded demands schema.now self.new.marks.items) }
-        ensures closed { OnOk result (IsClosed (marked_wants demands self.new.marks.items) schema.now) }
+        requires leads { AreLeads demands schema.now leads.now.tables.lasts.items leads.now.tables.edges.items leads.now.unions.lasts.items leads.now.unions.edges.items leads.now.members.lasts.items leads.now.members.edges.items }
+        requires own { OwnMarked (demanded demands holdings.now) schema.now (length schema.now.objects) self.old.marks.items self.old.queue.items }
+        ensures founded { OnOk result (AreFounded (demanded demands holdings.now) schema.now self.new.marks.items) }
+        ensures closed { OnOk result (AreClosed (demanded demands holdings.now) schema.now self.new.marks.items) }
         ensures long { OnOk result (length self.new.marks.items ≡ length schema.now.objects) }
     {
-        let (_schema, _demands) = (schema, demands);
+        let (_schema, _demands, _holdings) = (schema, demands, holdings);
         let mut passed = 0;
         while passed < self.queue.len() {
             let object = self.queue[passed];
-            self.follow(leads, object)?;
+            self.follow_back(leads, object)?;
             passed += 1;
         }
         Ok(())
@@ -114,12 +157,13 @@ pub fn marks_of<A: Allocator + Copy>(
     alloc: A,
     schema: &Schema<'_>,
     demands: Demands,
+    holdings: &[Holding],
 ) -> Result<Vec<bool, A>, AllocError>
-    ensures { IfOk result (λ marks. AreMarks demands schema.now marks.items) }
+    ensures { IfOk result (λ marks. AreMarks (demanded demands holdings.now) schema.now marks.items) }
 {
     let leads = Leads::of(alloc, schema, demands)?;
     let mut marking = Marking::new(alloc, schema.object_count() as usize)?;
-    marking.mark_own(schema, demands)?;
-    marking.follow_all(schema, demands, &leads)?;
+    marking.mark_own(schema, demands, holdings)?;
+    marking.follow_all(schema, demands, holdings, &leads)?;
     Ok(marking.marks)
 }

@@ -1,19 +1,22 @@
 // The pass over a buffer that unfolds: the tables of its tree that are asked, in the order of the walk's visits.
 
-ghost use Rattle.std.specs.Prelude.{◌≡◌, ◌+◌, ◌^◌, ◌<◌, ◌≤◌, ℕ, List, [], Option, length, IfOk, IfErr, IsTrue, Some, None};
+ghost use Rattle.std.specs.Prelude.{◌≡◌, ◌+◌, ◌^◌, ◌<◌, ◌≤◌, ℕ, List, [], Option, length, IfOk, IfErr, Ok, Err, Some, None};
 ghost use Rattle.fb_bytes.specs.Word.{Lent, word};
-ghost use Rattle.fb_schema.specs.{Rows.is_union, Members.member_of};
 ghost use Rattle.fb_rules.specs.declared.link.Link.{Link};
-ghost use Rattle.fb_rules.specs.{Bounds.AreAllowed, Cost.head_reads, Facts.IsTable, Order.Failure, Places.target, Places.field_place, Places.vtable, Fields.type_place};
-ghost use Rattle.fb_rules.specs.{Plain.IsTested, Told.IsAskedAt, Told.IsHead, Told.IsVtable};
-ghost use Rattle.fb_strict.specs.declared.tasks.Ask.TheVariants.{Union as AskUnion, Unions as AskUnions, Table as GoInto, Tables as GoIntoEach};
-ghost use Rattle.fb_strict.specs.Asked.{Demand, demands_reads};
-ghost use Rattle.fb_strict.specs.Passing.{wants_of, IsPassing, IsRoom, opened, IsTaskable, CountStands, IsAskedRow, asked_object, TaskPassed, FirstPassed, IsLeft, IsNext, AreLeft, IsStanding, Stepped, Turned, WentOn, Ran};
+ghost use Rattle.fb_rules.specs.{Bounds.AreAllowed, Order.Failure, Places.target, Places.field_place};
+ghost use Rattle.fb_rules.specs.{Plain.IsTested, Told.IsAskedAt, Told.IsVtable};
+ghost use Rattle.fb_strict.specs.declared.tasks.Ask.{Ask};
+ghost use Rattle.fb_strict.specs.declared.tasks.Held.TheVariants.{Buffer, Flex};
+ghost use Rattle.fb_strict.specs.declared.tasks.Ask.TheVariants.{Union as AskUnion, Unions as AskUnions, Bytes as AskBytes};
+ghost use Rattle.fb_strict.specs.Asked.{Demand, asked_referent, demands_reads};
+ghost use Rattle.fb_strict.specs.Passing.{wants_of, IsPassing, IsRoom, IsTaskable, IsOne, IsEach, CountStands, IsAskedRow, word_row, TaskPassed, TaskDone, FirstPassed, TextStands, TextPassed, IsLeft, IsNext, AreLeft, IsStanding, Stepped, HasTurned, WentOn, Begins, Went};
 
+use crate::inner::Inner;
 use crate::plan::Plan;
 use crate::room::Frame;
-use crate::tasks::{Ask, Task};
-use crate::unions::{read_places, test_element, test_together, test_union};
+use crate::tasks::{Ask, Held, Task};
+use crate::texts::{read_text, wrong_from};
+use crate::unions::{read_places, test_element, test_flex, test_together, test_union};
 use fb_bytes::{Loan, Reads};
 use fb_rules::checks::Checks;
 use fb_rules::fault::Reason;
@@ -21,7 +24,7 @@ use fb_rules::limits::Limits;
 use fb_rules::offset_row::{Leads, Referent, Row};
 use fb_rules::plain::slot_at;
 use fb_rules::site::{Halt, LastLink, Refusal, Site, Stop};
-use fb_rules::table::{Child, Head, NO_CHILD, Table};
+use fb_rules::table::{Child, NO_CHILD, Table};
 use fb_schema::{Kind, Schema};
 use std::alloc::Allocator;
 use std::marker::Model;
@@ -35,6 +38,17 @@ pub enum Turn {
     Up,
     /// In a table below, which is to be opened.
     Down,
+    /// In a buffer that lies in a field of the top's table.
+    In(Inner),
+}
+
+/// What a turn comes to.
+#[derive(Clone, Copy)]
+pub enum Turned {
+    /// So many frames are open.
+    Open(u32),
+    /// A buffer that lies in a field of the top's table is next.
+    Inside(Inner),
 }
 
 /// What a pass carries: what it asks, by which rows, checks and limits.
@@ -52,6 +66,18 @@ impl<'p, 's, 'n, A: Allocator> Model for Pass<'p, 's, 'n, A> {
     ghost Value = { Passing };
 
     ghost view = { λ p. record { plan = p.plan.now; rows = p.schema.now; limits = p.limits; checks = p.checks } };
+}
+
+/// What a task answers whose field holds no buffer.
+#[inline(always)]
+fn holding_none(passed: Result<(), Stop>) -> Result<Option<Inner>, Stop>
+    ensures yes { IfOk passed (λ _. result ≡ Ok None) }
+    ensures no { IfErr passed (λ s. result ≡ Err s) }
+{
+    match passed {
+        Ok(()) => Ok(None),
+        Err(stop) => Err(stop),
+    }
 }
 
 /// After so many reads the count of 64 bits begins again.
@@ -72,7 +98,7 @@ fn room_of(limits: Limits, base: u128) -> u64
 #[inline(always)]
 fn lend<'b>(loan: &mut Loan<'b>, limits: Limits) -> (Reads<'b>, u64)
     requires allowed { AreAllowed limits.reads loan.old.count }
-    requires few { loan.old.count ≤ 2 ^ 100 }
+    requires few { loan.old.count ≤ 2 ^ 120 }
     ensures lent { result.0 ≡ record loan.old { base = result.0.base } }
     ensures few { loan.old.count < result.0.base + 2 ^ 57 }
     ensures bare { loan.new ≡ record loan.old { bytes = [] } }
@@ -84,40 +110,14 @@ fn lend<'b>(loan: &mut Loan<'b>, limits: Limits) -> (Reads<'b>, u64)
     (reads, room)
 }
 
-/// Reads where the vtable of a table stands that was verified.
+/// Puts the offset word at a place that leads to this, if it is anything that is asked.
 #[inline(always)]
-#[tactic(auto, unfolding(fb_rules::specs::Places::has_vtable, fb_rules::specs::Places::vtable))]
-fn read_vtable(reads: &mut Reads<'_>, checks: Checks, at: u64) -> u64
-    requires few { reads.old.count < reads.old.base + 2 ^ 60 }
-    requires table { IsTable checks reads.old.bytes at }
-    requires short { length reads.old.bytes < 2 ^ 31 }
-    ensures value { result ≡ vtable reads.old.bytes at }
-    ensures counted { reads.new ≡ record reads.old { count = reads.old.count + 1 } }
+fn put_word(referent: Referent, at: u64, row: &mut Row)
+    ensures { row.new ≡ word_row at referent row.old }
 {
-    let _checks = checks;
-    (at as i64 - i64::from(reads.i32_at(at))) as u64
-}
-
-/// Reads the head of a table that was verified.
-#[inline(always)]
-fn read_head(reads: &mut Reads<'_>, checks: Checks, at: u64) -> Head
-    requires few { reads.old.count < reads.old.base + 2 ^ 59 }
-    requires table { IsTable checks reads.old.bytes at }
-    requires short { length reads.old.bytes < 2 ^ 31 }
-    ensures head { IsHead checks reads.old.bytes at result }
-    ensures counted { reads.new ≡ record reads.old { count = reads.old.count + head_reads checks } }
-{
-    let vtable = read_vtable(reads, checks, at);
-    let size = reads.u16_at(vtable);
-    let inline = if checks.inline_size {
-        reads.u16_at(vtable + 2)
-    } else {
-        0
-    };
-    Head {
-        vtable,
-        size,
-        inline,
+    match referent {
+        Referent::Nothing => {}
+        _ => *row = Row::one(referent, at),
     }
 }
 
@@ -125,7 +125,7 @@ impl<'p, 's, 'n, A: Allocator> Pass<'p, 's, 'n, A> {
     /// Answers whether the limits allow the reads counted so far, where no test failed. A test that failed is told
     /// where it did, and too many reads at the position of what was asked.
     #[inline(always)]
-    fn answer(
+    pub fn answer(
         &self,
         reads: &Reads<'_>,
         room: u64,
@@ -166,76 +166,45 @@ impl<'p, 's, 'n, A: Allocator> Pass<'p, 's, 'n, A> {
         Ok(at)
     }
 
-    /// Opens a table of this object that was verified, and asks the budget.
+    /// Passes a field of which nothing is asked but what its offset word leads to, and puts that, if it is there.
     #[inline(always)]
-    fn open(
-        &self,
-        reads: &mut Reads<'_>,
-        room: u64,
-        child: Child,
-        frame: &mut Frame,
-    ) -> Result<(), Stop>
-        requires room { IsRoom self.now.limits reads.old.base room }
-        requires few { reads.old.count < reads.old.base + 2 ^ 59 }
-        requires short { length reads.old.bytes < 2 ^ 31 }
-        requires table { IsTable self.now.checks reads.old.bytes child.at }
-        ensures asked { IsAskedAt (record { object = child.object; field = None }) self.now.limits reads.old reads.new None (head_reads self.now.checks) child.at result }
-        ensures head { IfOk result (λ _. IsHead self.now.checks reads.old.bytes child.at ((frame.new).table).head) }
-        ensures frame { IfOk result (λ _. frame.new ≡ opened (record { object = child.object; at = child.at; head = ((frame.new).table).head })) }
-        ensures same { reads.new ≡ record reads.old { count = reads.old.count + head_reads self.now.checks } }
-    {
-        let site = Site {
-            object: child.object,
-            field: None,
-        };
-        let head = read_head(reads, self.checks, child.at);
-        self.answer(reads, room, site, None, child.at, child.at)?;
-        *frame = Frame::opened(Table {
-            head,
-            object: child.object,
-            at: child.at,
-        });
-        Ok(())
-    }
-
-    /// Passes a field that leads to one table of this object, and puts its offset word, if it is there.
-    #[inline(always)]
-    fn pass_table(
+    fn pass_one(
         &self,
         reads: &mut Reads<'_>,
         room: u64,
         table: Table,
         site: Site,
         slot: u16,
-        object: u32,
+        referent: Referent,
         row: &mut Row,
     ) -> Result<(), Stop>
         requires room { IsRoom self.now.limits reads.old.base room }
         requires few { reads.old.count < reads.old.base + 2 ^ 58 }
         requires near { table.at < 2 ^ 33 }
         requires head { IsVtable reads.old.bytes table.at table.head }
-        ensures { TaskPassed self.now reads.old reads.new table.at site slot (GoInto object) row.old row.new result }
+        ensures { (ask : Ask) → IsOne ask referent → TaskPassed self.now reads.old reads.new table.at site slot ask row.old row.new result }
     {
         let at = slot_at(reads, table.at, table.head, slot);
         self.answer(reads, room, site, None, table.at, table.at)?;
         if at != table.at {
-            *row = Row::one(Referent::Table(object), at);
+            *row = Row::one(referent, at);
         }
         Ok(())
     }
 
-    /// The object of the table that a member of a union is, if that is asked.
+    /// What a member of a union refers to, if that is asked.
     #[inline(always)]
-    fn asked_object(&self, member: Option<Kind>) -> Option<u32>
-        ensures { result ≡ asked_object (wants_of self.now) member }
+    fn asked_referent(&self, member: Option<Kind>) -> Referent
+        ensures { result ≡ asked_referent (wants_of self.now) member }
     {
         match member {
-            Some(Kind::Table(object)) if self.plan.asks(object) => Some(object),
-            _ => None,
+            Some(Kind::Text) if self.plan.demands().utf8 => Referent::Text,
+            Some(Kind::Table(object)) if self.plan.asks(object) => Referent::Table(object),
+            _ => Referent::Nothing,
         }
     }
 
-    /// Passes a union with this number, and puts its offset word, if that leads to a table that is asked.
+    /// Passes a union with this number, and puts its offset word, if what that leads to is asked.
     #[inline(always)]
     fn pass_union(
         &self,
@@ -270,9 +239,7 @@ impl<'p, 's, 'n, A: Allocator> Pass<'p, 's, 'n, A> {
             &mut member,
         );
         self.answer(reads, room, site, failed, at, table.at)?;
-        if let Some(object) = self.asked_object(member) {
-            *row = Row::one(Referent::Table(object), at);
-        }
+        put_word(self.asked_referent(member), at, row);
         Ok(())
     }
 
@@ -293,31 +260,31 @@ impl<'p, 's, 'n, A: Allocator> Pass<'p, 's, 'n, A> {
         }
     }
 
-    /// Passes a field that leads to a vector of tables of this object, and puts its offset words.
+    /// Passes a field of which nothing is asked but what the offset words of its vector lead to, and puts these.
     #[inline(always)]
-    fn pass_tables(
+    fn pass_each(
         &self,
         reads: &mut Reads<'_>,
         room: u64,
         table: Table,
         site: Site,
         slot: u16,
-        object: u32,
+        referent: Referent,
         row: &mut Row,
     ) -> Result<(), Stop>
         requires room { IsRoom self.now.limits reads.old.base room }
         requires few { reads.old.count < reads.old.base + 2 ^ 58 }
         requires near { table.at < 2 ^ 33 }
         requires head { IsVtable reads.old.bytes table.at table.head }
-        requires taskable { IsTaskable reads.old.bytes self.now.rows table.at slot (field_place reads.old.bytes table.at slot) (GoIntoEach object) }
+        requires stands { (p : ℕ) → field_place reads.old.bytes table.at slot ≡ Some p → CountStands reads.old.bytes p }
         requires short { length reads.old.bytes < 2 ^ 31 }
-        ensures { TaskPassed self.now reads.old reads.new table.at site slot (GoIntoEach object) row.old row.new result }
+        ensures { (ask : Ask) → IsEach ask referent → TaskPassed self.now reads.old reads.new table.at site slot ask row.old row.new result }
     {
         let at = slot_at(reads, table.at, table.head, slot);
         if at == table.at {
             return self.answer(reads, room, site, None, table.at, table.at);
         }
-        let words = self.read_row(reads, Leads::All(Referent::Table(object)), at);
+        let words = self.read_row(reads, Leads::All(referent), at);
         self.answer(reads, room, site, None, table.at, table.at)?;
         *row = words;
         Ok(())
@@ -363,7 +330,87 @@ impl<'p, 's, 'n, A: Allocator> Pass<'p, 's, 'n, A> {
         Ok(())
     }
 
-    /// Does a task of an open table, and puts the offset words by which its field leads on.
+    /// Passes a field whose bytes hold a buffer with a root table of this object, and tells where that lies.
+    #[inline(always)]
+    fn pass_buffer(
+        &self,
+        reads: &mut Reads<'_>,
+        room: u64,
+        table: Table,
+        site: Site,
+        slot: u16,
+        root: u32,
+    ) -> Result<Option<Inner>, Stop>
+        requires room { IsRoom self.now.limits reads.old.base room }
+        requires few { reads.old.count < reads.old.base + 2 ^ 58 }
+        requires near { table.at < 2 ^ 33 }
+        requires head { IsVtable reads.old.bytes table.at table.head }
+        requires taskable { IsTaskable reads.old.bytes self.now.rows table.at slot (field_place reads.old.bytes table.at slot) (AskBytes (Buffer root)) }
+        requires short { length reads.old.bytes < 2 ^ 31 }
+        ensures { (row : Row) → TaskDone self.now reads.old reads.new table.at site slot (AskBytes (Buffer root)) row row result }
+    {
+        let at = slot_at(reads, table.at, table.head, slot);
+        if at == table.at {
+            self.answer(reads, room, site, None, table.at, table.at)?;
+            return Ok(None);
+        }
+        let bytes = self.read_row(reads, Leads::All(Referent::Nothing), at);
+        self.answer(reads, room, site, None, table.at, table.at)?;
+        Ok(Some(Inner {
+            at: bytes.place,
+            size: u64::from(bytes.left),
+            root,
+        }))
+    }
+
+    /// Asks a field whose bytes hold a flexbuffer whether it is absent.
+    #[inline(always)]
+    fn pass_flex(
+        &self,
+        reads: &mut Reads<'_>,
+        room: u64,
+        table: Table,
+        site: Site,
+        slot: u16,
+    ) -> Result<(), Stop>
+        requires room { IsRoom self.now.limits reads.old.base room }
+        requires few { reads.old.count < reads.old.base + 2 ^ 58 }
+        requires near { table.at < 2 ^ 33 }
+        requires head { IsVtable reads.old.bytes table.at table.head }
+        ensures { (row : Row) → TaskPassed self.now reads.old reads.new table.at site slot (AskBytes Flex) row row result }
+    {
+        let at = slot_at(reads, table.at, table.head, slot);
+        let failed = test_flex(table.at, at);
+        self.answer(reads, room, site, failed, at, table.at)
+    }
+
+    /// Passes a field whose bytes hold this, and tells where a buffer in them lies.
+    #[inline(always)]
+    fn pass_bytes(
+        &self,
+        reads: &mut Reads<'_>,
+        room: u64,
+        table: Table,
+        site: Site,
+        slot: u16,
+        held: Held,
+    ) -> Result<Option<Inner>, Stop>
+        requires room { IsRoom self.now.limits reads.old.base room }
+        requires few { reads.old.count < reads.old.base + 2 ^ 58 }
+        requires near { table.at < 2 ^ 33 }
+        requires head { IsVtable reads.old.bytes table.at table.head }
+        requires taskable { IsTaskable reads.old.bytes self.now.rows table.at slot (field_place reads.old.bytes table.at slot) (AskBytes held) }
+        requires short { length reads.old.bytes < 2 ^ 31 }
+        ensures { (row : Row) → TaskDone self.now reads.old reads.new table.at site slot (AskBytes held) row row result }
+    {
+        match held {
+            Held::Buffer(root) => self.pass_buffer(reads, room, table, site, slot, root),
+            Held::Flex => holding_none(self.pass_flex(reads, room, table, site, slot)),
+        }
+    }
+
+    /// Does a task of an open table, and puts the offset words by which its field leads on, or tells the buffer that
+    /// its bytes hold.
     #[inline(always)]
     fn pass_task(
         &self,
@@ -373,26 +420,55 @@ impl<'p, 's, 'n, A: Allocator> Pass<'p, 's, 'n, A> {
         site: Site,
         task: Task,
         row: &mut Row,
-    ) -> Result<(), Stop>
+    ) -> Result<Option<Inner>, Stop>
         requires room { IsRoom self.now.limits reads.old.base room }
         requires few { reads.old.count < reads.old.base + 2 ^ 58 }
         requires near { table.at < 2 ^ 33 }
         requires head { IsVtable reads.old.bytes table.at table.head }
         requires taskable { IsTaskable reads.old.bytes self.now.rows table.at task.slot (field_place reads.old.bytes table.at task.slot) task.ask }
         requires short { length reads.old.bytes < 2 ^ 31 }
-        ensures { TaskPassed self.now reads.old reads.new table.at site task.slot task.ask row.old row.new result }
+        ensures { TaskDone self.now reads.old reads.new table.at site task.slot task.ask row.old row.new result }
     {
         let slot = task.slot;
         match task.ask {
-            Ask::Table(object) => self.pass_table(reads, room, table, site, slot, object, row),
-            Ask::Tables(object) => self.pass_tables(reads, room, table, site, slot, object, row),
-            Ask::Union(union) => self.pass_union(reads, room, table, site, slot, union, row),
-            Ask::Unions(union) => self.pass_unions(reads, room, table, site, slot, union, row),
+            Ask::Text => holding_none(self.pass_one(
+                reads,
+                room,
+                table,
+                site,
+                slot,
+                Referent::Text,
+                row,
+            )),
+            Ask::Texts => holding_none(self.pass_each(
+                reads,
+                room,
+                table,
+                site,
+                slot,
+                Referent::Text,
+                row,
+            )),
+            Ask::Table(object) => {
+                let referent = Referent::Table(object);
+                holding_none(self.pass_one(reads, room, table, site, slot, referent, row))
+            }
+            Ask::Tables(object) => {
+                let referent = Referent::Table(object);
+                holding_none(self.pass_each(reads, room, table, site, slot, referent, row))
+            }
+            Ask::Union(union) => {
+                holding_none(self.pass_union(reads, room, table, site, slot, union, row))
+            }
+            Ask::Unions(union) => {
+                holding_none(self.pass_unions(reads, room, table, site, slot, union, row))
+            }
+            Ask::Bytes(held) => self.pass_bytes(reads, room, table, site, slot, held),
         }
     }
 
-    /// Asks the first offset word of a row, where its type tells what it leads to, and tells the object of the table
-    /// to which it leads, if that is asked.
+    /// Asks the first offset word of a row, where its type tells what it leads to, and tells what that is, if it is
+    /// asked.
     #[inline(always)]
     fn pass_first(
         &self,
@@ -400,7 +476,7 @@ impl<'p, 's, 'n, A: Allocator> Pass<'p, 's, 'n, A> {
         room: u64,
         site: Site,
         row: Row,
-    ) -> Result<Option<u32>, Stop>
+    ) -> Result<Referent, Stop>
         requires room { IsRoom self.now.limits reads.old.base room }
         requires few { reads.old.count < reads.old.base + 2 ^ 58 }
         requires more { 0 < row.left }
@@ -408,8 +484,7 @@ impl<'p, 's, 'n, A: Allocator> Pass<'p, 's, 'n, A> {
         ensures { FirstPassed self.now reads.old reads.new site row.place row.leads result }
     {
         match row.leads {
-            Leads::All(Referent::Table(object)) => Ok(Some(object)),
-            Leads::All(_) => Ok(None),
+            Leads::All(referent) => Ok(referent),
             Leads::ByType(union, types) => {
                 let asked = self.plan.demands().unions;
                 let mut at = row.place;
@@ -425,13 +500,43 @@ impl<'p, 's, 'n, A: Allocator> Pass<'p, 's, 'n, A> {
                     &mut member,
                 );
                 self.answer(reads, room, site, failed, at, row.place)?;
-                Ok(self.asked_object(member))
+                Ok(self.asked_referent(member))
             }
         }
     }
 
-    /// Passes the first offset word that is left of the top's field, where so many frames are open, and comes to the
-    /// table to which it leads, if that is asked.
+    /// Reads the text to which the offset word at a place leads, asks the budget, and then whether it is UTF-8.
+    #[inline(always)]
+    fn pass_text(
+        &self,
+        reads: &mut Reads<'_>,
+        room: u64,
+        site: Site,
+        place: u64,
+    ) -> Result<(), Stop>
+        requires room { IsRoom self.now.limits reads.old.base room }
+        requires few { reads.old.count < reads.old.base + 2 ^ 59 }
+        requires stands { TextStands reads.old.bytes place }
+        requires short { length reads.old.bytes < 2 ^ 31 }
+        ensures { TextPassed self.now reads.old reads.new site place result }
+    {
+        let at = place + u64::from(reads.u32_at(place));
+        let text = read_text(reads, at);
+        if let Err(stop) = self.answer(reads, room, site, None, place, place) {
+            return Err(stop);
+        }
+        let Some(front) = wrong_from(text) else {
+            return Ok(());
+        };
+        let refusal = Refusal {
+            at: at + 4 + front,
+            reason: Reason::NotUtf8,
+        };
+        Err(Stop { refusal, site })
+    }
+
+    /// Passes the first offset word that is left of the top's field, where so many frames are open, and what it leads
+    /// to, if that is asked: it comes to a table.
     #[inline(always)]
     fn pass_word(
         &self,
@@ -452,8 +557,13 @@ impl<'p, 's, 'n, A: Allocator> Pass<'p, 's, 'n, A> {
         let row = top.row;
         top.row.advance();
         let object = match self.pass_first(reads, room, site, row) {
-            Ok(Some(object)) => object,
-            Ok(None) => return Ok(Turn::Here),
+            Ok(Referent::Table(object)) => object,
+            Ok(Referent::Text) => match self.pass_text(reads, room, site, row.place) {
+                Ok(()) => return Ok(Turn::Here),
+                Err(stop) => return Err(stop.halt(many, LastLink::Behind)),
+            },
+            Ok(Referent::Nothing) => return Ok(Turn::Here),
+            Ok(Referent::Struct(_, _)) => return Ok(Turn::Here),
             Err(stop) => return Err(stop.halt(many, LastLink::Behind)),
         };
         match self.follow(reads, room, site, row.place) {
@@ -494,13 +604,14 @@ impl<'p, 's, 'n, A: Allocator> Pass<'p, 's, 'n, A> {
         top.number = task.number;
         let site = top.site();
         match self.pass_task(reads, room, top.table, site, *task, &mut top.row) {
-            Ok(()) => Ok(Turn::Here),
+            Ok(None) => Ok(Turn::Here),
+            Ok(Some(inner)) => Ok(Turn::In(inner)),
             Err(stop) => Err(stop.halt(many - 1, LastLink::InField)),
         }
     }
 
     /// One turn over frames of which so many are open: a step in the last of them, behind which a table below it is
-    /// opened or it is closed. Answers how many are open then.
+    /// opened or it is closed. Answers how many are open then, or comes to a buffer inside.
     #[inline(always)]
     fn turn(
         &self,
@@ -508,7 +619,7 @@ impl<'p, 's, 'n, A: Allocator> Pass<'p, 's, 'n, A> {
         room: u64,
         frames: &mut [Frame],
         many: u32,
-    ) -> Result<u32, Halt>
+    ) -> Result<Turned, Halt>
         requires passing { IsPassing self.now reads.old.bytes }
         requires room { IsRoom self.now.limits reads.old.base room }
         requires few { reads.old.count < reads.old.base + 2 ^ 58 }
@@ -516,30 +627,31 @@ impl<'p, 's, 'n, A: Allocator> Pass<'p, 's, 'n, A> {
         requires within { many ≤ length frames.old }
         requires small { length frames.old ≤ 4096 }
         requires left { (ds : List Demand) × AreLeft self.now reads.old.bytes frames.old many ds }
-        ensures { (ds : List Demand) → AreLeft self.now reads.old.bytes frames.old many ds → Turned self.now reads.old reads.new ds frames.old many frames.new result }
+        ensures { (ds : List Demand) → AreLeft self.now reads.old.bytes frames.old many ds → HasTurned self.now reads.old reads.new ds frames.old many frames.new result }
     {
         let at = many as usize - 1;
         let mut child = NO_CHILD;
         match self.step(reads, room, many, &mut frames[at], &mut child) {
-            Ok(Turn::Here) => Ok(many),
-            Ok(Turn::Up) => Ok(many - 1),
+            Ok(Turn::Here) => Ok(Turned::Open(many)),
+            Ok(Turn::Up) => Ok(Turned::Open(many - 1)),
             Ok(Turn::Down) => match self.open(reads, room, child, &mut frames[at + 1]) {
-                Ok(()) => Ok(many + 1),
+                Ok(()) => Ok(Turned::Open(many + 1)),
                 Err(stop) => Err(stop.halt(many, LastLink::Behind)),
             },
+            Ok(Turn::In(inner)) => Ok(Turned::Inside(inner)),
             Err(halt) => Err(halt),
         }
     }
 
-    /// Goes on with frames of which so many are open until none is, or until so many reads were counted that the count
-    /// of 64 bits is to begin again.
-    fn go_on(
+    /// Takes turns over frames of which so many are open until none is, or until it comes to a buffer inside; or until
+    /// so many reads were counted that the count of 64 bits is to begin again.
+    fn take_turns(
         &self,
         reads: &mut Reads<'_>,
         room: u64,
         frames: &mut [Frame],
         many: &mut u32,
-    ) -> Result<(), Halt>
+    ) -> Result<Option<Inner>, Halt>
         requires passing { IsPassing self.now reads.old.bytes }
         requires room { IsRoom self.now.limits reads.old.base room }
         requires some { 0 < many.old }
@@ -550,38 +662,75 @@ impl<'p, 's, 'n, A: Allocator> Pass<'p, 's, 'n, A> {
         let mut open = *many;
         while open > 0 && reads.count() < LONG {
             match self.turn(reads, room, frames, open) {
-                Ok(then) => open = then,
+                Ok(Turned::Open(then)) => open = then,
+                Ok(Turned::Inside(inner)) => {
+                    *many = open;
+                    return Ok(Some(inner));
+                }
                 Err(halt) => return Err(halt),
             }
         }
         *many = open;
-        Ok(())
+        Ok(None)
     }
 
-    /// Passes all that is asked of a table that is asked, and of those below it. There are frames for all that are open
-    /// at once. Where it stops, the links of the frames that are open lead there.
-    pub fn run(&self, loan: &mut Loan<'_>, frames: &mut [Frame], root: Child) -> Result<(), Halt>
+    /// Opens the table of a root that is asked, as the first of the frames, and asks the budget.
+    pub fn begin(&self, loan: &mut Loan<'_>, frames: &mut [Frame], root: Child) -> Result<(), Halt>
         requires passing { IsPassing self.now loan.old.bytes }
         requires allowed { AreAllowed self.now.limits.reads loan.old.count }
         requires small { length frames.old ≤ 4096 }
-        requires next { (ds : List Demand) × IsNext self.now loan.old.bytes (length frames.old) [] root ds × (loan.old.count + demands_reads ds ≤ 2 ^ 96) }
-        ensures { (ds : List Demand) → IsNext self.now loan.old.bytes (length frames.old) [] root ds → Ran self.now loan.old loan.new ds frames.new result }
+        requires next { (ds : List Demand) × IsNext self.now loan.old.bytes (length frames.old) [] root ds × (loan.old.count + demands_reads ds ≤ 2 ^ 112) }
+        ensures begins { (ds : List Demand) → IsNext self.now loan.old.bytes (length frames.old) [] root ds → Begins self.now loan.old loan.new ds frames.new result }
+        ensures stands { IfOk result (λ _. IsStanding self.now loan.new frames.new 1) }
     {
         let (mut reads, room) = lend(loan, self.limits);
         let opened = self.open(&mut reads, room, root, &mut frames[0]);
         loan.settle(reads);
-        if let Err(stop) = opened {
-            return Err(stop.halt(0, LastLink::Behind));
+        match opened {
+            Ok(()) => Ok(()),
+            Err(stop) => Err(stop.halt(0, LastLink::Behind)),
         }
-        let mut many = 1;
-        while many > 0 {
-            let (mut reads, room) = lend(loan, self.limits);
-            let answer = self.go_on(&mut reads, room, frames, &mut many);
-            loan.settle(reads);
-            if let Err(halt) = answer {
-                return Err(halt);
+    }
+
+    /// Takes turns over frames of which so many are open, while one count of 64 bits lasts.
+    fn go_far(
+        &self,
+        loan: &mut Loan<'_>,
+        frames: &mut [Frame],
+        many: &mut u32,
+    ) -> Result<Option<Inner>, Halt>
+        requires passing { IsPassing self.now loan.old.bytes }
+        requires some { 0 < many.old }
+        requires stands { IsStanding self.now loan.old frames.old many.old }
+        ensures { (ds : List Demand) → AreLeft self.now loan.old.bytes frames.old many.old ds → WentOn self.now loan.old loan.new ds frames.old many.old frames.new many.new result }
+    {
+        let (mut reads, room) = lend(loan, self.limits);
+        let answer = self.take_turns(&mut reads, room, frames, many);
+        loan.settle(reads);
+        answer
+    }
+
+    /// Goes on with frames of which so many are open until none is, or until it has passed a field whose bytes hold a
+    /// buffer: that is told, and the pass can go on behind it. Where it stops, the links of the frames that are open
+    /// lead there.
+    pub fn go_on(
+        &self,
+        loan: &mut Loan<'_>,
+        frames: &mut [Frame],
+        many: &mut u32,
+    ) -> Result<Option<Inner>, Halt>
+        requires passing { IsPassing self.now loan.old.bytes }
+        requires stands { IsStanding self.now loan.old frames.old many.old }
+        ensures went { (ds : List Demand) → AreLeft self.now loan.old.bytes frames.old many.old ds → Went self.now loan.old loan.new ds frames.new many.new result }
+        ensures stands { IfOk result (λ _. IsStanding self.now loan.new frames.new many.new) }
+    {
+        while *many > 0 {
+            match self.go_far(loan, frames, many) {
+                Ok(None) => {}
+                Ok(Some(inner)) => return Ok(Some(inner)),
+                Err(halt) => return Err(halt),
             }
         }
-        Ok(())
+        Ok(None)
     }
 }

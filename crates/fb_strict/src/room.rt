@@ -4,6 +4,7 @@ ghost use Rattle.std.specs.Prelude.{◌≡◌, ◌<◌, ◌≤◌, IfOk, IfErr, 
 ghost use Rattle.fb_strict.specs.Passing.{opened};
 ghost use Rattle.fb_strict.specs.declared.room.RoomFault.TheVariants.{LimitOutOfRange, OutOfMemory};
 
+use crate::levels::{Level, NO_LEVEL};
 use fb_rules::offset_row::{NO_ROW, Row};
 use fb_rules::site::Site;
 use fb_rules::table::{NO_HEAD, Table};
@@ -61,22 +62,24 @@ impl Frame {
     }
 }
 
-/// Room for the open tables of a pass, made once and used again and again: one frame a level.
+/// Room for the open tables of a pass, and for the buffers in which they lie, made once and used again and again: one
+/// frame a level, and one place for a buffer.
 ///
 /// A contract sees it as the number of its levels. After every answer of a pass it serves again, for every schema.
 #[derive(Drop)]
 pub struct Room<A: Allocator = Global> {
     pub(crate) frames: Vec<Frame, A>,
+    pub(crate) levels: Vec<Level, A>,
 }
 
 impl<A: Allocator> Model for Room<A> {
-    ghost use Rattle.std.specs.Prelude.{ℕ, ◌≤◌, length};
+    ghost use Rattle.std.specs.Prelude.{◌≡◌, ℕ, ◌≤◌, length};
 
     ghost Value = { ℕ };
 
     ghost view = { λ r. length r.frames.items };
 
-    ghost invariant = { λ r. length r.frames.items ≤ 4096 };
+    ghost invariant = { λ r. (length r.frames.items ≤ 4096) × (length r.levels.items ≡ length r.frames.items) };
 }
 
 /// Why no room was made.
@@ -84,11 +87,11 @@ impl<A: Allocator> Model for Room<A> {
 pub enum RoomFault {
     /// The depth is above 4,096.
     LimitOutOfRange,
-    /// There was no memory for the frames.
+    /// There was no memory for the frames, or for the buffers.
     OutOfMemory,
 }
 
-impl<A: Allocator> Room<A> {
+impl<A: Allocator + Copy> Room<A> {
     /// Room for so many tables open at once, at most 4,096.
     ///
     /// # Errors
@@ -109,9 +112,17 @@ impl<A: Allocator> Room<A> {
         let Ok(()) = frames.resize(depth as usize, BLANK) else {
             return Err(RoomFault::OutOfMemory);
         };
-        Ok(Room { frames })
+        let Ok(mut levels) = Vec::with_capacity(alloc, depth as usize) else {
+            return Err(RoomFault::OutOfMemory);
+        };
+        let Ok(()) = levels.resize(depth as usize, NO_LEVEL) else {
+            return Err(RoomFault::OutOfMemory);
+        };
+        Ok(Room { frames, levels })
     }
+}
 
+impl<A: Allocator> Room<A> {
     /// The number of its levels.
     pub fn depth(&self) -> u32
         ensures { result ≡ self.now }

@@ -1,25 +1,26 @@
 // The strict verdict on a buffer.
 
-ghost use Rattle.std.specs.Prelude.{◌≡◌, ◌+◌, ◌^◌, ◌<◌, ◌≤◌, ℕ, length, IfOk, IfErr, IfSome, Some, None, IsTrue};
+ghost use Rattle.std.specs.Prelude.{◌≡◌, ◌+◌, ◌^◌, ◌<◌, ◌≤◌, length, IfOk, IfErr, IfSome, Some, None, IsTrue};
 ghost use Rattle.fb_schema.specs.Rows.{is_table};
-ghost use Rattle.fb_rules.specs.{Bounds.AreAllowed, Order.after, Places.target, Plain.tested_by, Question.question, Verdict.Reports, Told.stopped, Tree.Tree, WellFormed.base, WellFormed.IsWellFormed};
+ghost use Rattle.fb_rules.specs.{Bounds.AreAllowed, Order.after, Places.target, Plain.tested_by, Question.question, Verdict.Reports, WellFormed.base};
 ghost use Rattle.fb_verify.specs.Sealed.{asked_of};
-ghost use Rattle.fb_strict.specs.{InOrder.where_asked, InOrder.length_failure, Planned.IsPlan, Asked.demands_of, Asked.demands_reads};
-ghost use Rattle.fb_strict.specs.Passing.{wants_of, IsPassing, IsRooted, Ran};
+ghost use Rattle.fb_strict.specs.{InOrder.where_asked, InOrder.length_failure, Planned.IsPlan};
 ghost use Rattle.fb_strict.specs.MostReads.{most_reads_strictly};
-ghost use Rattle.fb_strict.specs.Strictly.{limits_left, counted_on, sealed_by, unmet_by, Asked, AskedAlone, ReportsStrictly, HasNoneStrictly, StopsStrictly};
+ghost use Rattle.fb_strict.specs.Nested.{limits_left};
+ghost use Rattle.fb_strict.specs.Strictly.{sealed_by, ReportsStrictly, HasNoneStrictly, StopsStrictly};
 
-use crate::pass::Pass;
+use crate::levels::{Level, NO_LEVEL, Walker};
+use crate::located::verdict_along;
 use crate::plan::Plan;
 use crate::room::{BLANK, Frame, Room};
 use crate::unions::test_length;
+use crate::whole::OnStack;
 use fb_bytes::{Loan, Meter, Window};
 use fb_rules::checks::Checks;
 use fb_rules::fault::{Fault, Report};
-use fb_rules::limits::{Limits, tables_of};
-use fb_rules::site::{Halt, LastLink, Refusal, Site, Stop};
+use fb_rules::limits::Limits;
+use fb_rules::site::Refusal;
 use fb_rules::start::{Ident, Start};
-use fb_rules::table::Child;
 use fb_schema::Schema;
 use fb_verify::{Scratch, Verified, verify, verify_shallow};
 use std::alloc::Allocator;
@@ -31,17 +32,8 @@ pub struct VerifiedStrictly<'b, 's, 'n> {
     pub report: Report,
 }
 
-/// A demand that isn't met: the fault that this is, the number of the frames whose links lead there, and what these
-/// leave.
-#[derive(Clone, Copy)]
-pub(crate) struct Unmet {
-    pub(crate) fault: Fault,
-    pub(crate) links: u32,
-    pub(crate) last: LastLink,
-}
-
 /// Where the root table of a buffer stands that begins so.
-fn root_of(window: &Window<'_>, start: Start) -> u64
+pub(crate) fn root_of(window: &Window<'_>, start: Start) -> u64
     requires offset { base start + 4 ≤ length window.now }
     ensures value { result ≡ target window.now (base start) }
     ensures near { result < 2 ^ 33 }
@@ -54,8 +46,8 @@ fn root_of(window: &Window<'_>, start: Start) -> u64
 }
 
 /// Why a buffer is refused that is shorter than generated code takes, if it is and that is asked: at its end.
-fn refuse_short(asked: bool, loan: &mut Loan<'_>) -> Option<Refusal>
-    requires few { loan.old.count ≤ 2 ^ 100 }
+pub(crate) fn refuse_short(asked: bool, loan: &mut Loan<'_>) -> Option<Refusal>
+    requires few { loan.old.count ≤ 2 ^ 120 }
     ensures none { result ≡ None → where_asked asked (length_failure loan.old.bytes) ≡ None }
     ensures some { IfSome result (λ e. (e.at ≡ length loan.old.bytes) × (tested_by (length loan.old.bytes) loan.old.count (Some e.reason) ≡ after loan.old.count (where_asked asked (length_failure loan.old.bytes)))) }
     ensures same { loan.new ≡ loan.old }
@@ -74,7 +66,7 @@ fn refuse_short(asked: bool, loan: &mut Loan<'_>) -> Option<Refusal>
 }
 
 /// What is left of these limits after so many reads.
-fn left_of(limits: Limits, walked: u128) -> Limits
+pub(crate) fn left_of(limits: Limits, walked: u128) -> Limits
     requires { AreAllowed limits.reads walked }
     ensures { result ≡ limits_left limits walked }
 {
@@ -84,168 +76,78 @@ fn left_of(limits: Limits, walked: u128) -> Limits
     }
 }
 
-/// Asks the buffer's length, where unions are asked, and then its root table, with all tables below it.
-fn ask_buffer<A: Allocator>(
-    pass: &Pass<'_, '_, '_, A>,
-    loan: &mut Loan<'_>,
-    frames: &mut [Frame],
-    root: Child,
-) -> Result<(), Halt>
-    requires passing { IsPassing pass.now loan.old.bytes }
-    requires allowed { AreAllowed pass.now.limits.reads loan.old.count }
-    requires small { length frames.old ≤ 4096 }
-    requires tree { (y : Tree) × IsRooted pass.now loan.old.bytes (length frames.old) root y × (loan.old.count + demands_reads (demands_of (wants_of pass.now) pass.now.checks loan.old.bytes pass.now.rows root.object y) ≤ 2 ^ 96) }
-    ensures { (y : Tree) → IsRooted pass.now loan.old.bytes (length frames.old) root y → Ran pass.now loan.old loan.new (demands_of (wants_of pass.now) pass.now.checks loan.old.bytes pass.now.rows root.object y) frames.new result }
-{
-    if let Some(refusal) = refuse_short(pass.plan.demands().unions, loan) {
-        let site = Site {
-            object: root.object,
-            field: None,
-        };
-        let stop = Stop { refusal, site };
-        return Err(stop.halt(0, LastLink::Behind));
-    }
-    if !pass.plan.asks(root.object) {
-        return Ok(());
-    }
-    pass.run(loan, frames, root)
-}
-
-/// What isn't met where a pass halts, after so many reads.
-fn told(halt: Halt, reads: u128) -> Unmet
-    ensures { result ≡ unmet_by halt reads }
-{
-    let stop = halt.stop;
-    Unmet {
-        fault: Fault {
-            at: stop.refusal.at,
-            object: stop.site.object,
-            field: stop.site.field,
-            reads,
-            reason: stop.refusal.reason,
-        },
-        links: halt.links,
-        last: halt.last,
-    }
-}
-
-/// Asks these bytes, which unfold from this root table, and answers how many reads there were.
-fn ask_bytes<A: Allocator>(
-    bytes: &[u8],
-    pass: &Pass<'_, '_, '_, A>,
-    frames: &mut [Frame],
-    root: Child,
-) -> Result<u128, Unmet>
-    requires passing { IsPassing pass.now bytes.now }
-    requires small { length frames.old ≤ 4096 }
-    requires tree { (y : Tree) × IsRooted pass.now bytes.now (length frames.old) root y × (demands_reads (demands_of (wants_of pass.now) pass.now.checks bytes.now pass.now.rows root.object y) ≤ 2 ^ 96) }
-    ensures asked { (y : Tree) → IsRooted pass.now bytes.now (length frames.old) root y → AskedAlone pass.now.plan pass.now.checks bytes.now pass.now.rows pass.now.limits (demands_of (wants_of pass.now) pass.now.checks bytes.now pass.now.rows root.object y) frames.new result }
-    ensures few_of_yes { IfOk result (λ n. n ≤ 2 ^ 101) }
-    ensures few_of_no { IfErr result (λ u. (u.fault).reads ≤ 2 ^ 101) }
-{
-    let Ok(mut meter) = Meter::new(bytes) else {
-        unreachable!()
-    };
-    let mut loan = meter.lend();
-    let answer = ask_buffer(pass, &mut loan, frames, root);
-    let reads = loan.reads();
-    match answer {
-        Ok(()) => Ok(reads),
-        Err(halt) => Err(told(halt, reads)),
-    }
-}
-
-/// The same answer after so many reads more.
-fn count_on(walked: u128, answer: Result<u128, Unmet>) -> Result<u128, Unmet>
-    requires walked { walked ≤ 2 ^ 96 }
-    requires few_of_yes { IfOk answer (λ n. n ≤ 2 ^ 101) }
-    requires few_of_no { IfErr answer (λ u. (u.fault).reads ≤ 2 ^ 101) }
-    ensures { result ≡ counted_on walked answer }
-{
-    match answer {
-        Ok(reads) => Ok(walked + reads),
-        Err(unmet) => {
-            let fault = Fault {
-                reads: walked + unmet.fault.reads,
-                ..unmet.fault
-            };
-            Err(Unmet { fault, ..unmet })
-        }
-    }
-}
-
-/// Asks a buffer that was verified with this identifier and within these limits, and answers how many reads there were
-/// in all. There are frames for as many tables as may be open at once. Only the contract speaks of the identifier.
-pub(crate) fn ask<A: Allocator>(
-    verified: &Verified<'_, '_, '_>,
-    ident: Ident,
-    limits: Limits,
-    plan: &Plan<A>,
-    frames: &mut [Frame],
-) -> Result<u128, Unmet>
-    requires plan { IsPlan (verified.now).schema (plan.now).demands plan.now }
-    requires reports { Reports (asked_of verified.now ident limits) (verified.now).bytes (verified.now).report }
-    requires short { length (verified.now).bytes < 2 ^ 31 }
-    requires table { IsTrue (is_table (verified.now).schema (verified.now).root) }
-    requires room { limits.depth ≤ length frames.old }
-    requires small { length frames.old ≤ 4096 }
-    ensures asked { (y : Tree) → IsWellFormed (asked_of verified.now ident limits) (verified.now).bytes y → Asked plan.now (asked_of verified.now ident limits) (verified.now).bytes y frames.new result }
-{
-    let _ident = ident;
-    let window = verified.window();
-    let schema = verified.schema();
-    schema.lawful();
-    let _bounds = (tables_of(limits), schema.widest());
-    let walked = verified.report().reads;
-    let root = Child {
-        object: verified.root(),
-        at: root_of(window, verified.start()),
-    };
-    let pass = Pass {
-        plan,
-        schema,
-        limits: left_of(limits, walked),
-        checks: verified.checks(),
-    };
-    let bytes = window.bytes(0, window.len());
-    let answer = ask_bytes(bytes, &pass, frames, root);
-    count_on(walked, answer)
-}
-
-/// The strict verdict on a buffer that was verified with this identifier and within these limits.
-fn verdict<'b, 's, 'n, A: Allocator>(
+/// The strict verdict on a buffer that was verified with this identifier and within these limits, and on those inside
+/// it, which are walked in this room.
+fn verdict<'b, 's, 'n, A: Allocator, W: Walker>(
     verified: Verified<'b, 's, 'n>,
     ident: Ident,
     limits: Limits,
     plan: &Plan<A>,
+    walker: &mut W,
     frames: &mut [Frame],
+    levels: &mut [Level],
 ) -> Result<VerifiedStrictly<'b, 's, 'n>, Fault>
     requires plan { IsPlan verified.schema (plan.now).demands plan.now }
     requires reports { Reports (asked_of verified ident limits) verified.bytes verified.report }
     requires short { length verified.bytes < 2 ^ 31 }
     requires table { IsTrue (is_table verified.schema verified.root) }
-    requires room { limits.depth ≤ length frames.old }
-    requires small { length frames.old ≤ 4096 }
+    requires frames { limits.depth ≡ length frames.old }
+    requires levels { limits.depth ≤ length levels.old }
+    requires room { limits.depth ≤ W.room walker.old }
     ensures yes { IfOk result (λ v. ReportsStrictly plan.now (asked_of verified.entry ident limits) (verified.entry).bytes v.report) }
     ensures kept { IfOk result (λ v. v.verified ≡ verified.entry) }
     ensures none { IfErr result (λ _. HasNoneStrictly plan.now (asked_of verified.entry ident limits) (verified.entry).bytes) }
     ensures no { IfErr result (λ f. StopsStrictly plan.now (asked_of verified.entry ident limits) (verified.entry).bytes f) }
+    ensures same { W.room walker.new ≡ W.room walker.old }
 {
-    match ask(&verified, ident, limits, plan, frames) {
-        Ok(reads) => {
-            let report = Report {
-                reads,
-                ..verified.report()
-            };
-            Ok(VerifiedStrictly { verified, report })
-        }
-        Err(unmet) => Err(unmet.fault),
+    match verdict_along(
+        verified,
+        ident,
+        limits,
+        plan,
+        walker,
+        frames,
+        levels,
+        &mut [],
+    ) {
+        Ok(strict) => Ok(strict),
+        Err(located) => Err(located.fault),
     }
 }
 
-/// Checks a buffer as [`verify`] does, and then asks of each union in it what code that `flatc` generates relies on, by
-/// the plan of the schema: the reads are counted on within the same limits. The room must have as many levels as the
-/// depth limit says, and serves again after every answer, as the scratch does.
+/// The same in the frames and the places of a room, of which there are enough.
+fn verdict_in<'b, 's, 'n, A: Allocator, B: Allocator, C: Allocator>(
+    verified: Verified<'b, 's, 'n>,
+    ident: Ident,
+    limits: Limits,
+    plan: &Plan<A>,
+    scratch: &mut Scratch<B>,
+    frames: &mut Vec<Frame, C>,
+    levels: &mut Vec<Level, C>,
+) -> Result<VerifiedStrictly<'b, 's, 'n>, Fault>
+    requires plan { IsPlan verified.schema (plan.now).demands plan.now }
+    requires reports { Reports (asked_of verified ident limits) verified.bytes verified.report }
+    requires short { length verified.bytes < 2 ^ 31 }
+    requires table { IsTrue (is_table verified.schema verified.root) }
+    requires scratch { limits.depth ≤ scratch.old }
+    requires frames { limits.depth ≤ length frames.old.items }
+    requires levels { limits.depth ≤ length levels.old.items }
+    ensures yes { IfOk result (λ v. ReportsStrictly plan.now (asked_of verified.entry ident limits) (verified.entry).bytes v.report) }
+    ensures kept { IfOk result (λ v. v.verified ≡ verified.entry) }
+    ensures none { IfErr result (λ _. HasNoneStrictly plan.now (asked_of verified.entry ident limits) (verified.entry).bytes) }
+    ensures no { IfErr result (λ f. StopsStrictly plan.now (asked_of verified.entry ident limits) (verified.entry).bytes f) }
+    ensures scratch { scratch.new ≡ scratch.old }
+    ensures frames { length frames.new.items ≡ length frames.old.items }
+    ensures levels { length levels.new.items ≡ length levels.old.items }
+{
+    let open = &mut frames[..limits.depth() as usize];
+    verdict(verified, ident, limits, plan, scratch, open, levels)
+}
+
+/// Checks a buffer as [`verify`] does, and then asks what the plan of the schema demands of it, and of each buffer that
+/// its fields hold by the marks: such a buffer is checked by itself, and asked likewise. Tables, depth and reads are
+/// counted on within the same limits, for a text as many reads as it has bytes. The room must have as many levels as
+/// the depth limit says, and serves again after every answer, as the scratch does.
 ///
 /// # Errors
 ///
@@ -284,7 +186,15 @@ pub fn verify_strictly<'b, 's, 'n, A: Allocator, B: Allocator, C: Allocator>(
         Ok(verified) => verified,
         Err(fault) => return Err(fault),
     };
-    verdict(verified, ident, limits, plan, &mut room.frames)
+    verdict_in(
+        verified,
+        ident,
+        limits,
+        plan,
+        scratch,
+        &mut room.frames,
+        &mut room.levels,
+    )
 }
 
 /// Checks a buffer as [`verify_strictly`] does, in room for 64 tables on the call's own stack.
@@ -319,5 +229,15 @@ pub fn verify_strictly_shallow<'b, 's, 'n, A: Allocator>(
         Err(fault) => return Err(fault),
     };
     let mut frames = [BLANK; 64];
-    verdict(verified, ident, limits, plan, &mut frames)
+    let mut levels = [NO_LEVEL; 64];
+    let frames = &mut frames[..limits.depth() as usize];
+    verdict(
+        verified,
+        ident,
+        limits,
+        plan,
+        &mut OnStack,
+        frames,
+        &mut levels,
+    )
 }

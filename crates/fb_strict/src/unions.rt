@@ -4,7 +4,7 @@ ghost use Rattle.std.specs.Prelude.{◌≡◌, ◌≢◌, ℕ, ◌+◌, ◌^◌,
 ghost use Rattle.fb_bytes.specs.Word.{word};
 ghost use Rattle.fb_schema.specs.{Rows.is_union, Members.member_of};
 ghost use Rattle.fb_rules.specs.{Places.target, Fields.union_type, Plain.IsTested, Plain.place_from, Plain.tested_by, Told.IsVtable, Order.after, Cost.reads_if_present};
-ghost use Rattle.fb_strict.specs.InOrder.{where_asked, length_failure, inside_failure, union_failure, union_reads, member_at, together_failure, element_failure, element_reads, places_reads};
+ghost use Rattle.fb_strict.specs.InOrder.{length_failure, inside_failure, union_failure, union_reads, member_at, together_failure, flex_failure, element_failure, element_reads, places_reads, where_asked};
 ghost use Rattle.fb_strict.specs.Leaves.{ArePlaces};
 
 use fb_bytes::Reads;
@@ -137,8 +137,19 @@ pub fn test_together(asked: bool, table: u64, places: Places, at: &mut u64) -> O
     None
 }
 
-/// Reads the type at a position, of an offset word in a vector of unions, and tests the word where it is asked: where the
-/// type isn't 0 and has no member, it goes on where the word leads. It tells the member.
+/// Tests that a field whose bytes hold a flexbuffer, in the table at this position, is absent. It fails where it
+/// stands.
+pub fn test_flex(table: u64, at: u64) -> Option<Reason>
+    ensures { (n : ℕ) → tested_by at n result ≡ after n (flex_failure (place_from table at)) }
+{
+    if at != table {
+        return fails(Reason::FlexContent);
+    }
+    None
+}
+
+/// Reads the type at a position, of an offset word in a vector of unions, and tests the word where it is asked: where
+/// the type isn't 0 and has no member, it goes on where the word leads. It tells the member.
 #[inline(always)]
 #[tactic(auto, unfolding(crate::specs::InOrder::element_failure, crate::specs::InOrder::element_reads))]
 pub fn test_element(

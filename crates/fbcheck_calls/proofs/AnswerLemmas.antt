@@ -1,7 +1,7 @@
 -- To whom a yes is due, and to whom a no.
 use Rattle.std.proofs.Common.{length, ◌≡◌, ◌==◌, ℕ, ◌≤◌, ◌<◌, ◌^◌, List, refl, sym, subst, arith, Bool, true, false, Option, Some, None, option_map, IsSome, IsSomeAnd, if◌then◌else◌, eqb-true}
 use Rattle.std.proofs.lemmas.Bool.{ne_eqb}
-use Rattle.fb_rules.specs.{Question.Question, Tree.Tree}
+use Rattle.fb_rules.specs.Question.{Question}
 use Rattle.fb_rules.specs.declared.start.Ident.{Ident}
 use Rattle.fb_rules.specs.declared.fault.Report.{Report}
 use Rattle.fb_strict.specs.{AsAsked.HasNoneBy, AsAsked.ReportsBy, Planned.Planned}
@@ -14,14 +14,14 @@ use Rattle.fbcheck_calls.specs.{AnswerLaws.CanServe, AnswerLaws.DemandsArePlanne
 at_value : {X : Type 0} (o : Option X) (x : X) (P : X → Type 0) → o ≡ Some x → IsSomeAnd o P → P x
 at_value o x P e h = subst (λ v. IsSomeAnd v P) e h
 
--- no tree is as it is asked for where none is said to be, and some is where a report counts it
-none_asked : (plan : Option Planned) (q : Question) (b : List ℕ) (y : Tree) → HasNoneBy plan q b → IsAsAsked plan q b y → ⊥
-none_asked None q b y none is = none y is.well_formed is.within
-none_asked (Some plan) q b y none is = none y is.well_formed is.within is.strict.0 is.strict.1
+-- the buffer isn't as it is asked for where nothing is said to be, and is where a report counts it
+none_asked : (plan : Option Planned) (q : Question) (b : List ℕ) → HasNoneBy plan q b → IsAsAsked plan q b → ⊥
+none_asked None q b none is = none is.0 is.1 is.2
+none_asked (Some plan) q b none is = none is.0 is.1
 
-some_asked : (plan : Option Planned) (q : Question) (b : List ℕ) (r : Report) → ReportsBy plan q b r → (y : Tree) × IsAsAsked plan q b y
-some_asked None q b r h = (h.found, record { well_formed = h.well_formed; within = h.within; strict = tt })
-some_asked (Some plan) q b r h = (h.found, record { well_formed = h.well_formed; within = h.within; strict = (h.strict, h.paid) })
+some_asked : (plan : Option Planned) (q : Question) (b : List ℕ) (r : Report) → ReportsBy plan q b r → IsAsAsked plan q b
+some_asked None q b r h = (h.found, h.well_formed, h.within)
+some_asked (Some plan) q b r h = (r, h)
 
 module _ (s : Based) (n : ℕ) (o : Options) (b : List ℕ) (plan : Option Planned) (root : ℕ) (ident : Ident) (c : CanServe s n o plan root ident) where
   served : (P : Option Planned → ℕ → Ident → Type 0) → Serves s n o P → P plan root ident
@@ -38,16 +38,15 @@ module _ (s : Based) (n : ℕ) (o : Options) (b : List ℕ) (plan : Option Plann
   never_unserved NoRoot h = let e = c.root_is in let none = h.2 in cc
   never_unserved _ h = h
 
-  pub good_gets_yes : (y : Tree) (a : Answer) → IsAsAsked plan (question_of s.loaded o b root ident) b y → length b < 2 ^ 31 → IsChecked s n o b a → (told a).status ≡ 0
-  good_gets_yes y (Good r) is short h = refl
-  good_gets_yes y (Bad f) is short h = let bad = served (IsBadFrom s o b f) h.1 in absurd (none_asked plan (question_of s.loaded o b root ident) b y bad.none is)
-  good_gets_yes y TooLong is short h = let long = served (λ p r d. 2 ^ 31 ≤ length b) h in absurd (omega arith)
-  good_gets_yes y a is short h = absurd (never_unserved a h)
+  pub good_gets_yes : (a : Answer) → IsAsAsked plan (question_of s.loaded o b root ident) b → length b < 2 ^ 31 → IsChecked s n o b a → (told a).status ≡ 0
+  good_gets_yes (Good r) is short h = refl
+  good_gets_yes (Bad f) is short h = let bad = served (IsBadFrom s o b f) h.1 in absurd (none_asked plan (question_of s.loaded o b root ident) b bad.none is)
+  good_gets_yes TooLong is short h = let long = served (λ p r d. 2 ^ 31 ≤ length b) h in absurd (omega arith)
+  good_gets_yes a is short h = absurd (never_unserved a h)
 
-  pub bad_gets_no : (a : Answer) → ((y : Tree) → IsAsAsked plan (question_of s.loaded o b root ident) b y → ⊥) → length b < 2 ^ 31 → IsChecked s n o b a → (told a).status ≡ 1
+  pub bad_gets_no : (a : Answer) → (IsAsAsked plan (question_of s.loaded o b root ident) b → ⊥) → length b < 2 ^ 31 → IsChecked s n o b a → (told a).status ≡ 1
   bad_gets_no (Good r) none short h =
-      let good = served (IsGoodFrom s o b r) h.1 in
-      let some = some_asked plan (question_of s.loaded o b root ident) b r good in absurd (none some.0 some.1)
+      let good = served (IsGoodFrom s o b r) h.1 in absurd (none (some_asked plan (question_of s.loaded o b root ident) b r good))
   bad_gets_no (Bad f) none short h = refl
   bad_gets_no TooLong none short h = let long = served (λ p r d. 2 ^ 31 ≤ length b) h in absurd (omega arith)
   bad_gets_no a none short h = absurd (never_unserved a h)

@@ -1,9 +1,9 @@
 -- The laws of what a check answers: to whom a yes is due, and to whom a no; and where a value's bytes are.
-use Rattle.std.specs.Prelude.{◌≡◌, ◌≢◌, ⊤, ℕ, ◌<◌, ◌≤◌, ◌^◌, List, length, IsSome, Option, Some, None, option_and_then}
+use Rattle.std.specs.Prelude.{◌≡◌, ◌≢◌, ℕ, ◌<◌, ◌≤◌, ◌^◌, List, length, IsSome, Option, Some, None, option_and_then}
 use Rattle.fb_schema.specs.Rows.{Rows}
-use Rattle.fb_rules.specs.{Bounds.AreAllowed, Question.Question, Tree.Tree, WellFormed.IsWellFormed, WellFormed.IsWithin}
-use Rattle.fb_strict.specs.{Planned.Planned, Strict.IsStrictBuffer, Strictly.strict_cost}
-use Rattle.fb_rules.specs.declared.start.Ident.{Ident}
+use Rattle.fb_rules.specs.{Question.Question, Tree.Tree, WellFormed.IsWellFormed, WellFormed.IsWithin}
+use Rattle.fb_strict.specs.{Planned.Planned, Strictly.ReportsStrictly}
+use Rattle.fb_rules.specs.declared.{fault.Report.Report, start.Ident.Ident}
 use Rattle.fb_access.specs.declared.{extent.Extent.Extent, spot.Spot.Spot}
 use Rattle.fb_access.specs.Denotes as denotes
 use Rattle.fb_access.specs.{Denotes.Shown, Denotes.bytes_at, Denotes.value, Extents.extent, Spots.kind_at, StepLaws.size_in_place, StepLaws.HoldsElements}
@@ -18,31 +18,26 @@ pub record CanServe (s : Based) (n : ℕ) (o : Options) (plan : Option Planned) 
   pub root_is : root_asked s.loaded o ≡ Some root
   pub ident_is : ident_asked s.loaded o ≡ Some ident
 
--- by a plan, a tree is strict, and its reads are within the limits with those of the pass
-abbrev pub IsStrictBy : Option Planned → Question → List ℕ → Tree → Type 0
-IsStrictBy None q b y = ⊤
-IsStrictBy (Some plan) q b y = IsStrictBuffer plan.demands q.checks b q.rows y × AreAllowed (q.limits).reads (strict_cost plan q b y)
+-- the buffer is as it is asked for: some tree of it is well formed and within the limits; by a plan also all that is
+-- asked of it, and of the buffers inside, is met and within the limits
+abbrev pub IsAsAsked : Option Planned → Question → List ℕ → Type 0
+IsAsAsked None q b = (y : Tree) × IsWellFormed q b y × IsWithin q b y
+IsAsAsked (Some plan) q b = (r : Report) × ReportsStrictly plan q b r
 
--- a tree is as it is asked for
-pub record IsAsAsked (plan : Option Planned) (q : Question) (b : List ℕ) (y : Tree) : Type 0 where
-  pub well_formed : IsWellFormed q b y
-  pub within : IsWithin q b y
-  pub strict : IsStrictBy plan q b y
-
--- where the buffer is short enough and some tree of it is as it is asked for, every answer is the number of a yes
+-- where it is short enough and as it is asked for, every answer is the number of a yes
 abbrev pub GoodGetsYes : Type 0
-GoodGetsYes = (s : Based) (n : ℕ) (o : Options) (b : List ℕ) (plan : Option Planned) (root : ℕ) (ident : Ident) (y : Tree) (a : Answer)
+GoodGetsYes = (s : Based) (n : ℕ) (o : Options) (b : List ℕ) (plan : Option Planned) (root : ℕ) (ident : Ident) (a : Answer)
     → CanServe s n o plan root ident
     → length b < 2 ^ 31
-    → IsAsAsked plan (question_of s.loaded o b root ident) b y
+    → IsAsAsked plan (question_of s.loaded o b root ident) b
     → IsChecked s n o b a → (told a).status ≡ 0
 
--- where none is, every answer is the number of a no
+-- where it is not, every answer is the number of a no
 abbrev pub BadGetsNo : Type 0
 BadGetsNo = (s : Based) (n : ℕ) (o : Options) (b : List ℕ) (plan : Option Planned) (root : ℕ) (ident : Ident) (a : Answer)
     → CanServe s n o plan root ident
     → length b < 2 ^ 31
-    → ((y : Tree) → IsAsAsked plan (question_of s.loaded o b root ident) b y → ⊥)
+    → (IsAsAsked plan (question_of s.loaded o b root ident) b → ⊥)
     → IsChecked s n o b a → (told a).status ≡ 1
 
 -- where it is too long, whatever is in it, every answer is that number

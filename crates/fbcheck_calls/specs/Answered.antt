@@ -1,60 +1,78 @@
 -- Which answer a call gives.
-use Rattle.std.specs.Prelude.{◌≡◌, ◌≢◌, ℕ, ◌<◌, ◌≤◌, ◌^◌, List, length, map, Option, Some, None, Result, Ok, Err, IsSomeAnd, IsSome, IsTrue}
-use Rattle.fb_schema.specs.{Live.Live, Rows.Rows, Rows.is_table}
+use Rattle.std.specs.Prelude.{◌≡◌, ◌≢◌, ℕ, ◌<◌, ◌≤◌, ◌^◌, List, [], length, map, slice_get, Option, Some, None, Result, Ok, Err, IsSomeAnd, IsSome, IsTrue, Bool, true, false}
+use Rattle.fb_schema.specs.{Live.Live, Live.live_fields, Rows.Rows, Rows.is_table}
 use Rattle.fb_rules.specs.{Bounds.Bounds, MostReads.most_reads, Question.Question, Question.question}
 use Rattle.fb_rules.specs.declared.{fault.Fault.Fault, fault.Report.Report, start.Ident.Ident}
-use Rattle.fb_bfbs.specs.{ByteFields.AreAllPlain, ByteFields.IsMarkedField, ByteFields.LacksMark, Loads.IsLoaded, Loads.IsLoadFault, Marks.AreMarks, Marks.marked}
+use Rattle.fb_bfbs.specs.{ByteFields.HasUnmarked, ByteFields.LacksMark, Loads.IsLoaded, Loads.IsLoadFault, Marks.AreMarks, Marks.Marked, Marks.marked}
 use Rattle.fb_bfbs.specs.declared.{loading.Loaded.Loaded, load_fault.LoadFault.TheVariants.OutOfMemory, marks.Marks.Marks}
-use Rattle.fb_strict.specs.{Planned.Planned, Planned.IsPlan, MostReads.most_reads_strictly}
+use Rattle.fb_strict.specs.{Demanded.demanded, Holding.holdings_if, Holding.IsPlanFault, Planned.Planned, Planned.IsPlan, MostReads.most_reads_strictly}
+use Rattle.fb_strict.specs.declared.holding.PlanFault.TheVariants.{NoSuchTable as LostAt}
 use Rattle.fb_strict.specs.AsAsked.{ReportsBy, HasNoneBy, StopsBy}
 use Rattle.fbcheck_calls.specs.declared.{answer.Answer.Answer, answer.FieldAt.FieldAt, answer.Verdict.Verdict, checking.Begun.Begun, held.Held.Held}
 use Rattle.fbcheck_calls.specs.declared.{held.Held.TheVariants.Schema, held.Held.TheVariants.Room, options.Options.Options}
-use Rattle.fbcheck_calls.specs.declared.answer.Answer.TheVariants.{Done, Good, Bad, OutOfRange, NoIdent, NoRoot, TooLong, NoSchema, NotPlanned, UnmarkedBytes, MarkedBytes}
+use Rattle.fbcheck_calls.specs.declared.answer.Answer.TheVariants.{Done, Good, Bad, OutOfRange, NoIdent, NoRoot, TooLong, NoSchema, NotPlanned, UnmarkedBytes, NoSuchTable}
 use Rattle.fbcheck_calls.specs.Asked.{HasLimits, LimitsFail, asks_marks, checks_asked, demands_of, ident_asked, limits_of, plan_asked, question_of, root_asked, start_asked}
 use Rattle.fbcheck_calls.specs.Bases.{Based}
 use Rattle.fbcheck_calls.specs.Told.{blank, low, told}
 
 -- ---- to load a schema
 
--- the plan of rows for these demands, none where there are none
-abbrev pub IsPlanFor : Rows → ℕ → Option Planned → Type 0
-IsPlanFor rows n None = n ≡ 0
-IsPlanFor rows n (Some plan) = (n ≢ 0) × IsPlan rows (demands_of n) plan
+-- the plan of rows for these demands, where these marks say what fields of bytes hold; none where there are none
+abbrev pub IsPlanFor : Rows → List Marked → ℕ → Option Planned → Type 0
+IsPlanFor rows ms n None = n ≡ 0
+IsPlanFor rows ms n (Some plan) = (n ≢ 0) × IsPlan rows (demanded (demands_of n) (holdings_if (demands_of n) rows ms)) plan
 
 -- these are the marks of a file that are asked where checks are strict and bytes aren't taken for plain
 abbrev pub AreMarksAsked : List ℕ → Options → Marks → Type 0
 AreMarksAsked file o marks = IsTrue (asks_marks o.demands) × AreMarks file (limits_of o (length file)) marks
 
--- by them no field of bytes holds a buffer or a flexbuffer
-abbrev pub HasPlainBytes : List ℕ → Options → Rows → Type 0
-HasPlainBytes file o rows = IsTrue (asks_marks o.demands) → (marks : Marks) × AreMarksAsked file o marks × AreAllPlain rows (map marked marks.fields.items) marks.builtins
+-- such as say what each field of bytes holds; where they aren't asked, there are none
+abbrev pub AreMarksFor : Bool → List ℕ → Options → Rows → List Marked → Type 0
+AreMarksFor false file o rows ms = ms ≡ []
+AreMarksFor true file o rows ms = (marks : Marks) × AreMarksAsked file o marks × (ms ≡ map marked marks.fields.items) × (HasUnmarked rows ms marks.builtins → ⊥)
 
 -- the schema that the file describes, with the plan for the demands
 pub record IsOpened (file : List ℕ) (o : Options) (s : Based) : Type 0 where
   pub limits : HasLimits o 4096
   pub loaded : IsLoaded file (limits_of o (length file)) s.loaded
   pub demands : s.demands ≡ o.demands
-  pub bytes : HasPlainBytes file o s.loaded.schema
-  pub plan : IsPlanFor s.loaded.schema o.demands s.plan
+  pub marks : List Marked
+  pub says : AreMarksFor (asks_marks o.demands) file o s.loaded.schema marks
+  pub plan : IsPlanFor s.loaded.schema marks o.demands s.plan
 
 -- a live field has these numbers
 pub record IsNumbered (object : ℕ) (f : Live) (at : FieldAt) : Type 0 where
   pub object_is : at.object ≡ object
   pub field_is : at.field ≡ f.number
 
--- the field is one of bytes that the file marks, or one that may have to be
-abbrev pub HasMarkedAt : List ℕ → Options → FieldAt → Type 0
-HasMarkedAt file o at = (loaded : Loaded) × IsLoaded file (limits_of o (length file)) loaded × (marks : Marks) × AreMarksAsked file o marks
-    × (object : ℕ) × (f : Live) × IsNumbered object f at × IsMarkedField loaded.schema (map marked marks.fields.items) object f
+-- a live field of an object stands in this slot
+pub record IsInSlot (rows : Rows) (object slot : ℕ) (f : Live) : Type 0 where
+  pub place : ℕ
+  pub at : slice_get (live_fields rows object) place ≡ Some f
+  pub slot_is : f.slot ≡ slot
+
+-- one of these marks names no table, at the live field with these numbers
+abbrev pub IsLostAt : Rows → List Marked → FieldAt → Type 0
+IsLostAt rows ms at = (object : ℕ) × (slot : ℕ) × (f : Live) × IsNumbered object f at × IsInSlot rows object slot f × IsPlanFault rows ms (LostAt object slot)
+
+-- the field is one with such a mark of the file, or one of bytes that may have to be marked
+abbrev pub HasLostAt : List ℕ → Options → FieldAt → Type 0
+HasLostAt file o at = (loaded : Loaded) × IsLoaded file (limits_of o (length file)) loaded × (marks : Marks) × AreMarksAsked file o marks × IsLostAt loaded.schema (map marked marks.fields.items) at
 
 abbrev pub HasUnmarkedAt : List ℕ → Options → FieldAt → Type 0
 HasUnmarkedAt file o at = (loaded : Loaded) × IsLoaded file (limits_of o (length file)) loaded × (marks : Marks) × AreMarksAsked file o marks
     × (object : ℕ) × (f : Live) × IsNumbered object f at × LacksMark loaded.schema (map marked marks.fields.items) marks.builtins object f
 
+-- why no plan is made of rows with these marks
+abbrev pub IsNotPlanned : Rows → List Marked → Answer → Type 0
+IsNotPlanned rows ms (NoSchema fault) = fault ≡ OutOfMemory
+IsNotPlanned rows ms (NoSuchTable at) = IsLostAt rows ms at
+IsNotPlanned rows ms _ = ⊥
+
 -- why there is none
 abbrev pub IsNotOpened : List ℕ → Options → Answer → Type 0
 IsNotOpened file o (NoSchema fault) = HasLimits o 4096 × IsLoadFault file (limits_of o (length file)) fault
-IsNotOpened file o (MarkedBytes at) = HasLimits o 4096 × HasMarkedAt file o at
+IsNotOpened file o (NoSuchTable at) = HasLimits o 4096 × HasLostAt file o at
 IsNotOpened file o (UnmarkedBytes at) = HasLimits o 4096 × HasUnmarkedAt file o at
 IsNotOpened file o a = LimitsFail o 4096 a
 

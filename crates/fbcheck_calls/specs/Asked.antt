@@ -32,17 +32,18 @@ checks_asked o = checks_of (o.no_alignment == 0) (o.inline_size == 0)
 abbrev pub limits_of : Options → ℕ → Bounds
 limits_of o n = limits_of_length (record { depth = o.max_depth; tables = o.max_tables; reads = Some o.max_reads }) o.reads_per_byte (min n 2147483647)
 
--- this library knows these demands: none, strict checks, and such of plain bytes
+-- this library knows these demands: strict checks by the first bit, known fields by the second, texts of UTF-8 by the
+-- third, and plain bytes by the fourth, which only strict checks take
 abbrev pub known_demands : ℕ → Bool
-known_demands n = n == 0 || (n == 1 || n == 9)
+known_demands n = nat_le n 7 || (nat_le n 15 && n % 2 == 1)
 
 -- such as a schema file's marks are asked for: strict checks, in which bytes aren't plain
 abbrev pub asks_marks : ℕ → Bool
 asks_marks n = n % 2 == 1 && nat_le n 7
 
--- what is demanded of buffers by them; of buffers inside others nothing is asked yet
+-- what is demanded of buffers by them; of those inside where the marks are asked for
 abbrev pub demands_of : ℕ → Demands
-demands_of n = record { unions = n % 2 == 1; nested = false; known_fields = (n / 2) % 2 == 1; utf8 = (n / 4) % 2 == 1 }
+demands_of n = record { unions = n % 2 == 1; nested = asks_marks n; known_fields = (n / 2) % 2 == 1; utf8 = (n / 4) % 2 == 1 }
 
 -- this library knows the options
 pub record AreKnown (o : Options) : Type 0 where

@@ -14,8 +14,8 @@ use Rattle.fb_access.specs.declared.path_fault.PathFault.TheVariants as path
 use Rattle.fb_access.specs.declared.step.Step.TheVariants.{Field, Element, Member}
 use Rattle.fbcheck_calls.specs.declared.{answer.Answer.Answer, answer.Verdict.Verdict, options.Options.Options, steps.PlainPath.PlainPath}
 use Rattle.fbcheck_calls.specs.declared.steps.PlainStep.{PlainStep}
-use Rattle.fbcheck_calls.specs.declared.answer.Answer.TheVariants.{Done, Good, Bad, UnknownOptions, OutOfRange, NoIdent, NoRoot, TooLong, NoSchema, NoSpan, BadStream, BadPath, NoRoom, Misfit, NotPlanned, UnmarkedBytes, MarkedBytes}
-use Rattle.fb_strict.specs.Planned.{Planned}
+use Rattle.fbcheck_calls.specs.declared.answer.Answer.TheVariants.{Done, Good, Bad, UnknownOptions, OutOfRange, NoIdent, NoRoot, TooLong, NoSchema, NoSpan, BadStream, BadPath, NoRoom, Misfit, NotPlanned, UnmarkedBytes, NoSuchTable}
+use Rattle.fb_strict.specs.{Demanded.demanded, Planned.Planned}
 use Rattle.fb_strict.specs.declared.demands.Demands.{Demands}
 use Rattle.fbcheck_calls.specs.Asked.{asks_marks, checks_asked, demands_of, ident_asked, known_demands, limits_of, plan_asked, published, root_asked, start_asked}
 use Rattle.fbcheck_calls.specs.Bases.{Based}
@@ -51,7 +51,7 @@ pub record Verdicts : Type 0 where
   pub demands : map code_number (NoSuchObject ∷ NoSuchEnum ∷ Unsupported ∷ BadSlot ∷ NoTypeField ∷ BadStruct ∷ BadMember ∷ NameTwice ∷ []) ≡ 1 ∷ 2 ∷ 3 ∷ 4 ∷ 5 ∷ 6 ∷ 7 ∷ 8 ∷ []
   pub of_no_part : told (NoSchema (load.BadSchema (record { code = NameTwice; owner = 5; part = None }))) ≡ verdict 9 8 5 4294967295
   pub other_files : map (λ f. status (NoSchema f)) (load.TooLong ∷ load.RootNotListed ∷ load.OutOfMemory ∷ load.TooMuchShared ∷ []) ≡ 7 ∷ 10 ∷ 11 ∷ 20 ∷ []
-  pub of_bytes : map told (UnmarkedBytes (record { object = 5; field = 1 }) ∷ MarkedBytes (record { object = 5; field = 0 }) ∷ []) ≡ verdict 22 0 5 1 ∷ verdict 23 0 5 0 ∷ []
+  pub of_bytes : map told (UnmarkedBytes (record { object = 5; field = 1 }) ∷ NoSuchTable (record { object = 5; field = 0 }) ∷ []) ≡ verdict 22 0 5 1 ∷ verdict 23 0 5 0 ∷ []
   pub no_path : told (BadPath (path.NoSuchField 4)) ≡ record (verdict 17 2 0 4294967295) { at = 4 }
   pub other_paths : map (λ f. (told (BadPath f)).reason) (path.BadText 0 ∷ path.NotIndexable 0 ∷ path.NotAUnion 0 ∷ path.NoSuchMember 0 ∷ path.NotATable 0 ∷ []) ≡ 1 ∷ 3 ∷ 4 ∷ 5 ∷ 6 ∷ []
   pub no_memory : told (BadPath path.OutOfMemory) ≡ verdict 11 0 0 4294967295
@@ -67,12 +67,21 @@ schema root ident = record {
   ident = ident;
 }
 
+abbrev pub with_nested : Demands
+with_nested = record { unions = true; nested = true; known_fields = false; utf8 = false }
+
 abbrev pub unions_alone : Demands
 unions_alone = record { unions = true; nested = false; known_fields = false; utf8 = false }
 
+abbrev pub fields_alone : Demands
+fields_alone = record { unions = false; nested = false; known_fields = true; utf8 = false }
+
+abbrev pub texts_alone : Demands
+texts_alone = record { unions = false; nested = false; known_fields = false; utf8 = true }
+
 -- one that was made with these demands, whose plan asks nothing
 abbrev pub no_tasks : Planned
-no_tasks = record { demands = demands_of 1; marks = []; tasks = [] }
+no_tasks = record { demands = demanded (demands_of 1) []; marks = []; tasks = [] }
 
 abbrev pub made_with : ℕ → Based
 made_with demands = record { loaded = schema (Some 2) None; demands = demands; plan = Some no_tasks }
@@ -99,9 +108,10 @@ pub record Questions : Type 0 where
   pub no_own_ident : ident_asked (schema None None) (with_ident 2) ≡ Some Any
   pub empty_ident : ident_asked (schema None (name [])) (with_ident 2) ≡ Some Any
   pub long_ident : ident_asked (schema None (name (codes "LONGER"))) (with_ident 2) ≡ None
-  pub demands : filter known_demands (0 ∷ 1 ∷ 2 ∷ 3 ∷ 4 ∷ 8 ∷ 9 ∷ 16 ∷ []) ≡ 0 ∷ 1 ∷ 9 ∷ []
-  pub of_unions : map demands_of (1 ∷ 9 ∷ []) ≡ unions_alone ∷ unions_alone ∷ []
-  pub marks : filter asks_marks (0 ∷ 1 ∷ 9 ∷ []) ≡ 1 ∷ []
+  pub demands : filter known_demands (0 ∷ 1 ∷ 2 ∷ 3 ∷ 4 ∷ 5 ∷ 6 ∷ 7 ∷ 8 ∷ 9 ∷ 10 ∷ 11 ∷ 12 ∷ 13 ∷ 14 ∷ 15 ∷ 16 ∷ 17 ∷ []) ≡ 0 ∷ 1 ∷ 2 ∷ 3 ∷ 4 ∷ 5 ∷ 6 ∷ 7 ∷ 9 ∷ 11 ∷ 13 ∷ 15 ∷ []
+  pub of_one : map demands_of (1 ∷ 9 ∷ 2 ∷ 4 ∷ []) ≡ with_nested ∷ unions_alone ∷ fields_alone ∷ texts_alone ∷ []
+  pub of_several : map demands_of (3 ∷ 13 ∷ 6 ∷ []) ≡ record with_nested { known_fields = true } ∷ record unions_alone { utf8 = true } ∷ record fields_alone { utf8 = true } ∷ []
+  pub marks : filter asks_marks (0 ∷ 1 ∷ 2 ∷ 3 ∷ 4 ∷ 5 ∷ 6 ∷ 7 ∷ 9 ∷ 11 ∷ 13 ∷ 15 ∷ []) ≡ 1 ∷ 3 ∷ 5 ∷ 7 ∷ []
   pub no_demands : plan_asked (made_with 1) published ≡ Some None
   pub planned : plan_asked (made_with 1) (record published { demands = 1 }) ≡ Some (Some no_tasks)
   pub unplanned : map (λ n. plan_asked (made_with n) (record published { demands = 1 })) (0 ∷ 9 ∷ []) ≡ None ∷ None ∷ []

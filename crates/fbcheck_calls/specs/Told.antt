@@ -11,7 +11,7 @@ use Rattle.fb_bytes.specs.declared.stream_fault.StreamFault.TheVariants as strea
 use Rattle.fb_bfbs.specs.declared.load_fault.LoadFault.{LoadFault}
 use Rattle.fb_bfbs.specs.declared.load_fault.LoadFault.TheVariants as load
 use Rattle.fbcheck_calls.specs.declared.{answer.Answer.Answer, answer.FieldAt.FieldAt, answer.Verdict.Verdict}
-use Rattle.fbcheck_calls.specs.declared.answer.Answer.TheVariants.{Done, Good, Bad, UnknownOptions, OutOfRange, NoIdent, NoRoot, TooLong, NoSchema, NoSpan, BadStream, BadPath, NoRoom, Misfit, NotPlanned, UnmarkedBytes, MarkedBytes}
+use Rattle.fbcheck_calls.specs.declared.answer.Answer.TheVariants.{Done, Good, Bad, UnknownOptions, OutOfRange, NoIdent, NoRoot, TooLong, NoSchema, NoSpan, BadStream, BadPath, NoRoom, Misfit, NotPlanned, UnmarkedBytes, NoSuchTable}
 
 -- what is wrong with rows, by the number of its code
 abbrev pub code_number : Code → ℕ
@@ -106,4 +106,4 @@ told NoRoom = blank 18
 told (Misfit place) = record (blank 19) { at = place }
 told NotPlanned = blank 21
 told (UnmarkedBytes f) = field_told 22 f
-told (MarkedBytes f) = field_told 23 f
+told (NoSuchTable f) = field_told 23 f

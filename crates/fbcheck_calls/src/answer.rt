@@ -49,8 +49,8 @@ pub enum Answer {
     NotPlanned,
     /// 22: the schema file doesn't show what this field of bytes holds.
     UnmarkedBytes(FieldAt),
-    /// 23: the schema file marks this field of bytes, into which strict checks don't look.
-    MarkedBytes(FieldAt),
+    /// 23: the schema file marks this field of bytes as a nested buffer, and the mark names no table for its root.
+    NoSuchTable(FieldAt),
 }
 
 /// A live field of a table, by the table's number and its own.
@@ -280,7 +280,7 @@ impl Answer {
             Answer::BadStream(fault) => blank(stream_number(fault)),
             Answer::NotPlanned => blank(21),
             Answer::UnmarkedBytes(field) => field_told(22, field),
-            Answer::MarkedBytes(field) => field_told(23, field),
+            Answer::NoSuchTable(field) => field_told(23, field),
         }
     }
 

@@ -1,19 +1,19 @@
 //! What buffers are checked by: a schema, and the plan for the demands with which it was made.
 
-ghost use Rattle.std.specs.Prelude.{◌≡◌, ◌↔◌, IfErr, IfOk, IfSome, IsSome, IsTrue, MatchResult, OnOk, length, option_map};
-ghost use Rattle.fb_bfbs.specs.Loads.{IsLoaded};
-ghost use Rattle.fb_schema.specs.Live.{live_of_view};
-ghost use Rattle.fb_strict.specs.Planned.{IsPlan};
-ghost use Rattle.fbcheck_calls.specs.Answered.{HasPlainBytes, IsNotOpened, IsNumbered, IsOpened, IsPlanFor};
-ghost use Rattle.fbcheck_calls.specs.Asked.{HasLimits, limits_of, plan_asked, plan_for};
+ghost use Rattle.std.specs.Prelude.{◌≡◌, ◌↔◌, IfErr, IfOk, IfSome, IsSome, IsTrue, MatchResult, length, map, option_map, true};
+ghost use Rattle.fb_bfbs.specs.{Loads.IsLoaded, Marks.marked as mark_of};
+ghost use Rattle.fb_schema.specs.{Live.Live, Live.live_of_view};
+ghost use Rattle.fb_strict.specs.{Holding.has_bytes, Planned.IsPlan};
+ghost use Rattle.fbcheck_calls.specs.Answered.{AreMarksFor, IsInSlot, IsNotOpened, IsNotPlanned, IsNumbered, IsOpened, IsPlanFor};
+ghost use Rattle.fbcheck_calls.specs.Asked.{HasLimits, asks_marks, limits_of, plan_asked, plan_for};
 
 use crate::answer::{Answer, FieldAt};
 use crate::options::{DEEPEST, Options, asks_marks, demands_of};
-use fb_bfbs::{ByteField, BytesFault, LoadFault, Loaded, load, load_marks, test_bytes};
+use fb_bfbs::{ByteField, BytesFault, LoadFault, Loaded, Mark, load, load_marks, test_bytes};
 use fb_schema::Schema;
-use fb_strict::Plan;
+use fb_strict::{Plan, PlanFault};
 use fb_verify::Limits;
-use std::alloc::{AllocError, Global};
+use std::alloc::Global;
 use std::marker::Model;
 
 /// A schema, and the plan for the demands with which it was made, none where it was made without any.
@@ -76,48 +76,81 @@ fn numbered(found: ByteField<'_>) -> FieldAt
     }
 }
 
-/// Whether a schema file that was loaded within these limits says that its fields of bytes are plain, where the options
-/// ask for that.
+/// The live field of a table in this slot, where one of bytes is.
+fn field_in(schema: &Schema<'_>, object: u32, slot: u16) -> FieldAt
+    requires { has_bytes schema.now object slot ≡ true }
+    ensures { (f : Live) × IsNumbered object f result × IsInSlot schema.now object slot f }
+{
+    for place in 0..schema.field_count(object) {
+        let field = schema.field_at(object, place);
+        if field.slot == slot {
+            return FieldAt {
+                object,
+                field: field.number,
+            };
+        }
+    }
+    unreachable!()
+}
+
+/// The marks of a schema file that was loaded within these limits, where the options ask for them: none where they
+/// don't.
 ///
 /// # Errors
 ///
-/// `MarkedBytes` where the file marks a field of bytes, and then `UnmarkedBytes` where it has one and doesn't show that
-/// it would mark it. `NoSchema` where memory was refused.
-fn test_file(
+/// `UnmarkedBytes` where the file marks no field of bytes, has one, and doesn't show that it would mark it. `NoSchema`
+/// where memory was refused.
+fn marks_asked<'f>(
     alloc: Global,
-    file: &[u8],
+    file: &'f [u8],
     limits: Limits,
     options: &Options,
     loaded: &Loaded<'_>,
-) -> Result<(), Answer>
+) -> Result<Vec<Mark<'f>>, Answer>
     requires has { HasLimits options.now 4096 }
     requires limits { limits ≡ limits_of options.now (length file.now) }
     requires loaded { IsLoaded file.now limits loaded.now }
-    ensures ok { OnOk result (HasPlainBytes file.now options.now loaded.now.schema) }
+    ensures ok { IfOk result (λ v. AreMarksFor (asks_marks options.now.demands) file.now options.now loaded.now.schema (map mark_of v.items)) }
     ensures no { IfErr result (IsNotOpened file.now options.now) }
 {
     if !asks_marks(options.demands) {
-        return Ok(());
+        return Ok(Vec::new(alloc));
     }
     let marks = match load_marks(alloc, file, limits) {
         Ok(marks) => marks,
         Err(fault) => return Err(Answer::NoSchema(fault)),
     };
     match test_bytes(&loaded.schema, &marks) {
-        Ok(()) => Ok(()),
-        Err(BytesFault::Marked(found)) => Err(Answer::MarkedBytes(numbered(found))),
         Err(BytesFault::Unmarked(found)) => Err(Answer::UnmarkedBytes(numbered(found))),
+        Err(BytesFault::Marked(_)) => Ok(marks.fields),
+        Ok(()) => Ok(marks.fields),
     }
 }
 
-/// The plan of a schema for these demands, none where there are none.
-fn plan_of(alloc: Global, schema: &Schema<'_>, demands: u32) -> Result<Option<Plan>, AllocError>
-    ensures { IfOk result (IsPlanFor schema.now demands) }
+/// The plan of a schema for these demands, none where there are none, by the marks of its file.
+///
+/// # Errors
+///
+/// `NoSuchTable` of a mark that names no table. `NoSchema` where memory was refused.
+fn plan_of(
+    alloc: Global,
+    schema: &Schema<'_>,
+    marks: &[Mark<'_>],
+    demands: u32,
+) -> Result<Option<Plan>, Answer>
+    ensures ok { IfOk result (IsPlanFor schema.now (map mark_of marks.now) demands) }
+    ensures no { IfErr result (IsNotPlanned schema.now (map mark_of marks.now)) }
 {
     if demands == 0 {
         return Ok(None);
     }
-    Ok(Some(Plan::new(alloc, schema, demands_of(demands))?))
+    match Plan::new(alloc, schema, marks, demands_of(demands)) {
+        Ok(plan) => Ok(Some(plan)),
+        Err(PlanFault::OutOfMemory) => Err(Answer::NoSchema(LoadFault::OutOfMemory)),
+        Err(PlanFault::NoSuchTable(object, slot)) => {
+            Err(Answer::NoSuchTable(field_in(schema, object, slot)))
+        }
+    }
 }
 
 /// Loads a schema file within the limits of the options, and makes the plan for their demands.
@@ -125,7 +158,7 @@ fn plan_of(alloc: Global, schema: &Schema<'_>, demands: u32) -> Result<Option<Pl
 /// # Errors
 ///
 /// As [`Options::limits`] has it for 4,096 levels; then `NoSchema`; then, with strict checks that don't take bytes for
-/// plain, `MarkedBytes` and `UnmarkedBytes`.
+/// plain, `UnmarkedBytes` and `NoSuchTable`.
 pub fn open(alloc: Global, file: &'static [u8], options: &Options) -> Result<Basis, Answer>
     ensures { MatchResult result (IsOpened file.now options.now) (IsNotOpened file.now options.now) }
 {
@@ -134,14 +167,14 @@ pub fn open(alloc: Global, file: &'static [u8], options: &Options) -> Result<Bas
         Ok(loaded) => loaded,
         Err(fault) => return Err(Answer::NoSchema(fault)),
     };
-    test_file(alloc, file, limits, options, &loaded)?;
+    let marks = marks_asked(alloc, file, limits, options, &loaded)?;
     let demands = options.demands;
-    match plan_of(alloc, &loaded.schema, demands) {
+    match plan_of(alloc, &loaded.schema, &marks, demands) {
         Ok(plan) => Ok(Basis {
             loaded,
             demands,
             plan,
         }),
-        Err(_) => Err(Answer::NoSchema(LoadFault::OutOfMemory)),
+        Err(why) => Err(why),
     }
 }

@@ -3,14 +3,14 @@
 ghost use Rattle.fbcheck_calls.specs.AnswerLaws.{BadGetsNo, DemandsArePlanned, GoodGetsYes, LongGetsItsNumber, PlainIsPlain, ValuesStand};
 ghost use Rattle.fbcheck_calls.specs.Names.{FaultsHaveTheirNames, StatusesHaveWords};
 
-/// Where the schema, the room and the options can serve a buffer of less than 2^31 bytes, and some tree of it is as they
-/// ask, the answer is 0.
+/// Where the schema, the room and the options can serve a buffer of less than 2^31 bytes, and it is as they ask, the
+/// answer is 0.
 #[tactic(auto, using(crate::proofs::AnswerLemmas::good_gets_yes))]
 pub fn a_good_buffer_gets_a_yes()
     ensures { GoodGetsYes }
 {}
 
-/// Where they can, and none is, the answer is 1.
+/// Where they can, and it isn't as they ask, the answer is 1.
 #[tactic(auto, using(crate::proofs::AnswerLemmas::bad_gets_no))]
 pub fn a_bad_buffer_gets_a_no()
     ensures { BadGetsNo }

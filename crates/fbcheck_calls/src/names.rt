@@ -175,7 +175,7 @@ fn status_text(status: u32) -> Option<&'static str>
         20 => Some("its rows or names are more than its length pays for"),
         21 => Some("the schema was made with other demands"),
         22 => Some("strict can't tell which bytes are nested buffers or flexbuffers"),
-        23 => Some("strict doesn't look inside nested buffers and flexbuffers yet"),
+        23 => Some("strict can't find the table of a nested buffer"),
         _ => None,
     }
 }

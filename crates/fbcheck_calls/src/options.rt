@@ -14,7 +14,7 @@ use fb_verify::{Checks, Ident, Limits, Start};
 /// The version of the options that this library knows.
 const VERSION: u32 = 1;
 
-/// The demand of strict checks that bytes are taken for plain. Those before it come in any set.
+/// The demand of strict checks that bytes are taken for plain. Those below it come in any set.
 const PLAIN_BYTES: u32 = 8;
 
 /// The most levels that there may be room for.
@@ -57,7 +57,8 @@ pub struct Options {
     pub no_alignment: u8,
     /// Whether a field must end within the inline size of its table.
     pub inline_size: u8,
-    /// What is demanded beside the rules: 0 for nothing, 1 for strict checks, 9 for such that take bytes for plain.
+    /// What is demanded beside the rules: 0 for nothing; else the sum of 1 for strict checks, 2 for known fields, 4 for
+    /// texts of UTF-8, and, beside 1, 8 for bytes that are plain.
     pub demands: u32,
     /// Room for what later versions ask. Version 1 doesn't read it.
     pub reserved: [u32; 6],
@@ -78,7 +79,7 @@ fn if_table(schema: &Schema<'_>, number: Option<u32>) -> Option<u32>
 fn are_known(demands: u32) -> bool
     ensures { result ≡ known_demands demands }
 {
-    matches!(demands, 0 | 1 | 9)
+    demands < PLAIN_BYTES || (demands < 2 * PLAIN_BYTES && demands % 2 == 1)
 }
 
 /// Whether the marks of a schema file are asked by these demands: by strict checks, in which bytes aren't plain.
@@ -94,7 +95,7 @@ pub fn demands_of(demands: u32) -> Demands
 {
     Demands {
         unions: demands % 2 == 1,
-        nested: false,
+        nested: asks_marks(demands),
         known_fields: demands / 2 % 2 == 1,
         utf8: demands / 4 % 2 == 1,
     }

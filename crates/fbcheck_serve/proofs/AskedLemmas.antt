@@ -15,7 +15,7 @@ use Rattle.fb_lines.specs.Ends.{Ends}
 use Rattle.fbcheck_serve.specs.Asked.{IsAskedPlan, IsFound, Own, asked_root, path_texts}
 use Rattle.fbcheck_serve.specs.Checking.{IsHint, IsIdle, IsPathless, IsPlanless, IsSchema, IsUntold, LacksJob}
 use Rattle.fbcheck_serve.proofs.PathLemmas.{fails_at}
-use Rattle.fbcheck_texts.specs.declared.{fault.AskFault.AskFault, fault.AskFault.TheVariants.MarkedBytes, fault.AskFault.TheVariants.NoRoot, fault.AskFault.TheVariants.OutOfMemory, fault.AskFault.TheVariants.Path, fault.AskFault.TheVariants.UnmarkedBytes, hint.Unasked.Unasked}
+use Rattle.fbcheck_texts.specs.declared.{fault.AskFault.AskFault, fault.AskFault.TheVariants.NoRoot, fault.AskFault.TheVariants.NoSuchTable, fault.AskFault.TheVariants.OutOfMemory, fault.AskFault.TheVariants.Path, fault.AskFault.TheVariants.UnmarkedBytes, hint.Unasked.Unasked}
 use Rattle.fbcheck_texts.specs.Hints.{root_hint, with_hint}
 use Rattle.fbcheck_words.specs.declared.choices.Settings.{Settings}
 
@@ -36,17 +36,17 @@ path_untold file settings rows own root _ hint schema is told = absurd told
 -- marks that keep strict checks from being made leave nothing to check by, with this told behind that
 pub planless_untold : (file : Option (Bor (List ℕ))) (settings : Settings) (rows : Rows) (own : Own) (fault : AskFault) (hint : List ℕ) → IsSchema file rows own → IsFound rows own settings
     → IsPlanless file rows settings fault hint → LacksJob file settings fault × IsHint file settings fault hint
-planless_untold file settings rows own MarkedBytes hint schema found (needs, marks, builtins, is, misses) =
-    ((rows, own, schema, found, (needs, marks, builtins, is, (misses.0, misses.1, misses.2))), (rows, own, schema, marks, builtins, is, misses))
 planless_untold file settings rows own UnmarkedBytes hint schema found (needs, marks, builtins, is, misses) =
     ((rows, own, schema, found, (needs, marks, builtins, is, (misses.0, misses.1, misses.2))), (rows, own, schema, marks, builtins, is, misses))
+planless_untold file settings rows own NoSuchTable hint schema found (needs, marks, builtins, is, misses) =
+    ((rows, own, schema, found, (needs, marks, builtins, is, misses.0)), (rows, own, schema, marks, builtins, is, misses))
 planless_untold file settings rows own OutOfMemory hint schema found told = (tt, told)
 planless_untold file settings rows own _ hint schema found told = absurd told.4
 
 -- a plan that is asked is that of the rows
-pub planned : (rows : Rows) (settings : Settings) (plan : Option Planned) → IsAskedPlan rows settings plan → IfSome plan (λ p. IsPlan rows p.demands p)
-planned rows settings None asked = tt
-planned rows settings (Some plan) asked = subst (λ D. IsPlan rows D plan) (sym asked.1.demands) asked.1
+pub planned : (file : Option (Bor (List ℕ))) (rows : Rows) (settings : Settings) (plan : Option Planned) → IsAskedPlan file rows settings plan → IfSome plan (λ p. IsPlan rows p.demands p)
+planned file rows settings None asked = tt
+planned file rows settings (Some plan) asked = subst (λ D. IsPlan rows D plan) (sym asked.3.demands) asked.3
 
 -- a file that was loaded has no fault that keeps its marks from being read
 pub marks_read : (b : List ℕ) (L : Bounds) (loaded : Loaded) (f : LoadFault) → IsLoaded b L loaded → IsMarksFault b L f → (f ≡ load.OutOfMemory → ⊥) → ⊥

@@ -18,16 +18,16 @@ use Rattle.fb_bfbs.specs.LoadLaws.{Applies, IsSameLoad, ident_bytes}
 use Rattle.fb_bfbs.specs.declared.loading.Loaded.{Loaded}
 use Rattle.fb_lines.specs.Job.{Job, job_of}
 use Rattle.fb_schema.specs.Live.{live_fields}
-use Rattle.fb_strict.specs.Planned.{Planned}
+use Rattle.fb_strict.specs.{Planned.IsPlan, Planned.Planned}
 use Rattle.fb_strict.proofs.Marks.{one_plan}
-use Rattle.fbcheck_serve.specs.Asked.{ArePaths, AsksBy, IsAsked, IsAskedPlan, demanded, IsFound, IsPath, LacksIdent, IsPathFault, HasPathFault, Own, asked_root, options_of, own_label, path_texts}
+use Rattle.fbcheck_serve.specs.Asked.{ArePaths, AsksBy, IsAsked, IsAskedPlan, demanded, demanded_by, IsFound, IsPath, LacksIdent, IsPathFault, HasPathFault, Own, asked_root, options_of, own_label, path_texts}
 use Rattle.fbcheck_serve.specs.Inputs.{with_label}
 use Rattle.fbcheck_serve.specs.CheckLaws.{AsksOnce}
-use Rattle.fbcheck_serve.specs.ByteFields.{HasMarked, HasUnmarked}
-use Rattle.fbcheck_serve.specs.Checking.{AsksMarks, HasMarkedBytes, HasUnmarkedBytes, IsMarkedFile, MayAsk, IsSchema, IsNoSchema, own_of, schema_limits}
+use Rattle.fbcheck_serve.specs.{ByteFields.HasUnmarked, ByteFields.has_lost, FileMarks.ArePlanMarks, FileMarks.IsMarkedFile, FileMarks.schema_limits}
+use Rattle.fbcheck_serve.specs.Checking.{AsksMarks, HasLostMark, HasUnmarkedBytes, MayAsk, IsSchema, IsNoSchema, own_of}
 use Rattle.fbcheck_words.specs.declared.choices.Settings.{Settings}
 use Rattle.fbcheck_texts.specs.declared.fault.AskFault.{AskFault}
-use Rattle.fbcheck_texts.specs.declared.fault.AskFault.TheVariants.{Load, Path, NoRoot, NoIdent, MarkedBytes, UnmarkedBytes, OutOfMemory}
+use Rattle.fbcheck_texts.specs.declared.fault.AskFault.TheVariants.{Load, Path, NoRoot, NoIdent, UnmarkedBytes, NoSuchTable, OutOfMemory}
 
 module _ (rows : Rows) (root : ℕ) where
   one_path : (text : List ℕ) (x y : Wanted) → IsPath rows root text x → IsPath rows root text y → x ≡ y
@@ -69,24 +69,31 @@ same_marks (Some bytes) marks others builtins other h i =
     let w = marks_once bytes.now (map seen_mark h.0.fields.items) (map seen_mark i.0.fields.items) h.0.builtins i.0.builtins h.1.says i.1.says in
     (h.2 ∙ w.0 ∙ sym i.2, h.3 ∙ w.1 ∙ sym i.3)
 
--- where strict checks may be asked, no mark keeps them from it
+-- where nested buffers may be asked, no field of bytes and no mark keeps them from it
 module _ (file : Option (Bor (List ℕ))) (rows : Rows) (settings : Settings) where
-  may_or_marked : MayAsk file rows settings → HasMarkedBytes file rows settings → ⊥
-  may_or_marked may has =
-      let asked = may has.0 in
-      let w = same_marks file asked.0 has.1 asked.1 has.2 asked.2 has.3 in
-      asked.3.none (subst (HasMarked rows) (sym w.0) has.4)
-
   may_or_unmarked : MayAsk file rows settings → HasUnmarkedBytes file rows settings → ⊥
   may_or_unmarked may has =
       let asked = may has.0 in
       let w = same_marks file asked.0 has.1 asked.1 has.2 asked.2 has.3 in
-      asked.3.told (subst (λ m. HasUnmarked rows m asked.1) (sym w.0) (subst (λ b. HasUnmarked rows has.1 b) (sym w.1) has.4))
+      asked.3.all (subst (λ m. HasUnmarked rows m asked.1) (sym w.0) (subst (λ b. HasUnmarked rows has.1 b) (sym w.1) has.4))
 
-  marked_or_unmarked : HasMarkedBytes file rows settings → HasUnmarkedBytes file rows settings → ⊥
-  marked_or_unmarked h i =
+  may_or_lost : MayAsk file rows settings → HasLostMark file rows settings → ⊥
+  may_or_lost may has =
+      let asked = may has.0 in
+      let w = same_marks file asked.0 has.1 asked.1 has.2 asked.2 has.3 in
+      let e : true ≡ false = sym has.4.lost ∙ ap (has_lost rows) (sym w.0) ∙ asked.3.found in
+      cc
+
+  unmarked_or_lost : HasUnmarkedBytes file rows settings → HasLostMark file rows settings → ⊥
+  unmarked_or_lost h i =
       let w = same_marks file h.1 i.1 h.2 i.2 h.3 i.3 in
-      i.4.2.none (subst (HasMarked rows) w.0 h.4)
+      i.4.all (subst (λ m. HasUnmarked rows m i.2) w.0 (subst (λ b. HasUnmarked rows h.1 b) w.1 h.4))
+
+-- nor do other marks serve for a plan
+same_plan_marks : (file : Option (Bor (List ℕ))) (nested : Bool) (marks others : List Marked) → ArePlanMarks file nested marks → ArePlanMarks file nested others → marks ≡ others
+same_plan_marks (Some bytes) true marks others h i = (same_marks (Some bytes) marks others h.0 i.0 h.1 i.1).0
+same_plan_marks (Some bytes) false marks others h i = h ∙ sym i
+same_plan_marks None nested marks others h i = h ∙ sym i
 
 same_root : (r : Option ℕ) (n m : ℕ) → r ≡ Some n → r ≡ Some m → n ≡ m
 same_root r n m e f = let w : Some n ≡ Some m = sym e ∙ f in cc
@@ -109,18 +116,20 @@ module _ (rows : Rows) (own : Own) (settings : Settings) where
       ap (λ n. job_of rows (options_of settings n h.paths h.ident plan)) r ∙ same_job i.root h.ident plan h.paths i.paths s
       ∙ ap (λ d. job_of rows (options_of settings i.root i.paths d plan)) a
 
-  same_plan : (p q : Option Planned) → IsAskedPlan rows settings p → IsAskedPlan rows settings q → p ≡ q
-  same_plan None None h i = refl
-  same_plan None (Some q) h i = let w : true ≡ false = sym i.0 ∙ h in cc
-  same_plan (Some p) None h i = let w : true ≡ false = sym h.0 ∙ i in cc
-  same_plan (Some p) (Some q) h i = ap (λ r. Some r) (one_plan rows (demanded settings) p q h.1 i.1)
+  same_plan : (file : Option (Bor (List ℕ))) (p q : Option Planned) → IsAskedPlan file rows settings p → IsAskedPlan file rows settings q → p ≡ q
+  same_plan file None None h i = refl
+  same_plan file None (Some q) h i = let w : true ≡ false = sym i.0 ∙ h in cc
+  same_plan file (Some p) None h i = let w : true ≡ false = sym h.0 ∙ i in cc
+  same_plan file (Some p) (Some q) h i =
+      let w = same_plan_marks file (demanded settings).nested h.1 i.1 h.2 i.2 in
+      ap (λ r. Some r) (one_plan rows (demanded_by rows settings i.1) p q (subst (λ m. IsPlan rows (demanded_by rows settings m) p) w h.3) i.3)
 
   abbrev job_by : IsFound rows own settings → Option Planned → Job
   job_by h plan = with_label (own_label settings) (job_of rows (options_of settings h.root h.paths h.ident plan))
 
-  one_job : (x y : Job) → IsAsked rows own settings x → IsAsked rows own settings y → x ≡ y
-  one_job x y h i =
-      h.job_is ∙ ap (job_by h.found) (same_plan h.plan i.plan h.plan_is i.plan_is) ∙ ap (λ (j : Job). with_label (own_label settings) j) (same_found h.found i.found i.plan)
+  one_job : (file : Option (Bor (List ℕ))) (x y : Job) → IsAsked file rows own settings x → IsAsked file rows own settings y → x ≡ y
+  one_job file x y h i =
+      h.job_is ∙ ap (job_by h.found) (same_plan file h.plan i.plan h.plan_is i.plan_is) ∙ ap (λ (j : Job). with_label (own_label settings) j) (same_found h.found i.found i.plan)
       ∙ sym i.job_is
 
   found_or_fault : (root : ℕ) (paths : List Wanted) (f : PathFault) → asked_root rows own settings ≡ Some root → ArePaths rows root texts paths → HasPathFault rows own settings f → ⊥
@@ -148,46 +157,46 @@ module _ (rows : Rows) (own : Own) (settings : Settings) where
 
 -- what is asked by these rows, with what is asked of a file's marks
 abbrev AsksAll : Option (Bor (List ℕ)) → Rows → Own → Settings → Result Job AskFault → Type 0
-AsksAll file rows own settings answer = AsksBy rows own settings answer × AsksMarks file rows settings answer
+AsksAll file rows own settings answer = AsksBy file rows own settings answer × AsksMarks file rows settings answer
 
 module _ (file : Option (Bor (List ℕ))) (rows : Rows) (own : Own) (settings : Settings) where
   asks_by_once : (x y : Result Job AskFault) → AsksAll file rows own settings x → AsksAll file rows own settings y → x ≡ y
-  asks_by_once (Ok x) (Ok y) h i = ap (λ j. Ok j) (one_job rows own settings x y h.0 i.0)
+  asks_by_once (Ok x) (Ok y) h i = ap (λ j. Ok j) (one_job rows own settings file x y h.0 i.0)
   asks_by_once (Ok x) (Err NoRoot) h i = absurd (no_root_found rows own settings h.0.found i.0)
   asks_by_once (Ok x) (Err (Path g)) h i = absurd (no_path_found rows own settings h.0.found g i.0)
   asks_by_once (Ok x) (Err NoIdent) h i = absurd (no_ident_found rows own settings h.0.found i.0)
-  asks_by_once (Ok x) (Err MarkedBytes) h i = absurd (may_or_marked file rows settings h.1 i.1)
   asks_by_once (Ok x) (Err UnmarkedBytes) h i = absurd (may_or_unmarked file rows settings h.1 i.1)
+  asks_by_once (Ok x) (Err NoSuchTable) h i = absurd (may_or_lost file rows settings h.1 i.1)
   asks_by_once (Err NoRoot) (Ok y) h i = absurd (no_root_found rows own settings i.0.found h.0)
   asks_by_once (Err NoRoot) (Err NoRoot) h i = refl
   asks_by_once (Err NoRoot) (Err (Path g)) h i = absurd (rooted_or_not rows own settings (i.0).0 (i.0).1 h.0)
   asks_by_once (Err NoRoot) (Err NoIdent) h i = absurd (rooted_or_not rows own settings (i.0).root (i.0).root_is h.0)
-  asks_by_once (Err NoRoot) (Err MarkedBytes) h i = absurd (no_root_found rows own settings i.0 h.0)
   asks_by_once (Err NoRoot) (Err UnmarkedBytes) h i = absurd (no_root_found rows own settings i.0 h.0)
+  asks_by_once (Err NoRoot) (Err NoSuchTable) h i = absurd (no_root_found rows own settings i.0 h.0)
   asks_by_once (Err (Path f)) (Ok y) h i = absurd (no_path_found rows own settings i.0.found f h.0)
   asks_by_once (Err (Path f)) (Err NoRoot) h i = absurd (rooted_or_not rows own settings (h.0).0 (h.0).1 i.0)
   asks_by_once (Err (Path f)) (Err (Path g)) h i = ap (λ f. Err (Path f)) (one_fault_of_path rows own settings f g h.0 i.0)
   asks_by_once (Err (Path f)) (Err NoIdent) h i = absurd (found_or_fault rows own settings (i.0).root (i.0).paths f (i.0).root_is (i.0).paths_are h.0)
-  asks_by_once (Err (Path f)) (Err MarkedBytes) h i = absurd (no_path_found rows own settings i.0 f h.0)
   asks_by_once (Err (Path f)) (Err UnmarkedBytes) h i = absurd (no_path_found rows own settings i.0 f h.0)
+  asks_by_once (Err (Path f)) (Err NoSuchTable) h i = absurd (no_path_found rows own settings i.0 f h.0)
   asks_by_once (Err NoIdent) (Ok y) h i = absurd (no_ident_found rows own settings i.0.found h.0)
   asks_by_once (Err NoIdent) (Err NoRoot) h i = absurd (rooted_or_not rows own settings (h.0).root (h.0).root_is i.0)
   asks_by_once (Err NoIdent) (Err (Path g)) h i = absurd (found_or_fault rows own settings (h.0).root (h.0).paths g (h.0).root_is (h.0).paths_are i.0)
   asks_by_once (Err NoIdent) (Err NoIdent) h i = refl
-  asks_by_once (Err NoIdent) (Err MarkedBytes) h i = absurd (no_ident_found rows own settings i.0 h.0)
   asks_by_once (Err NoIdent) (Err UnmarkedBytes) h i = absurd (no_ident_found rows own settings i.0 h.0)
-  asks_by_once (Err MarkedBytes) (Ok y) h i = absurd (may_or_marked file rows settings i.1 h.1)
-  asks_by_once (Err MarkedBytes) (Err NoRoot) h i = absurd (no_root_found rows own settings h.0 i.0)
-  asks_by_once (Err MarkedBytes) (Err (Path g)) h i = absurd (no_path_found rows own settings h.0 g i.0)
-  asks_by_once (Err MarkedBytes) (Err NoIdent) h i = absurd (no_ident_found rows own settings h.0 i.0)
-  asks_by_once (Err MarkedBytes) (Err MarkedBytes) h i = refl
-  asks_by_once (Err MarkedBytes) (Err UnmarkedBytes) h i = absurd (marked_or_unmarked file rows settings h.1 i.1)
+  asks_by_once (Err NoIdent) (Err NoSuchTable) h i = absurd (no_ident_found rows own settings i.0 h.0)
   asks_by_once (Err UnmarkedBytes) (Ok y) h i = absurd (may_or_unmarked file rows settings i.1 h.1)
   asks_by_once (Err UnmarkedBytes) (Err NoRoot) h i = absurd (no_root_found rows own settings h.0 i.0)
   asks_by_once (Err UnmarkedBytes) (Err (Path g)) h i = absurd (no_path_found rows own settings h.0 g i.0)
   asks_by_once (Err UnmarkedBytes) (Err NoIdent) h i = absurd (no_ident_found rows own settings h.0 i.0)
-  asks_by_once (Err UnmarkedBytes) (Err MarkedBytes) h i = absurd (marked_or_unmarked file rows settings i.1 h.1)
   asks_by_once (Err UnmarkedBytes) (Err UnmarkedBytes) h i = refl
+  asks_by_once (Err UnmarkedBytes) (Err NoSuchTable) h i = absurd (unmarked_or_lost file rows settings h.1 i.1)
+  asks_by_once (Err NoSuchTable) (Ok y) h i = absurd (may_or_lost file rows settings i.1 h.1)
+  asks_by_once (Err NoSuchTable) (Err NoRoot) h i = absurd (no_root_found rows own settings h.0 i.0)
+  asks_by_once (Err NoSuchTable) (Err (Path g)) h i = absurd (no_path_found rows own settings h.0 g i.0)
+  asks_by_once (Err NoSuchTable) (Err NoIdent) h i = absurd (no_ident_found rows own settings h.0 i.0)
+  asks_by_once (Err NoSuchTable) (Err UnmarkedBytes) h i = absurd (unmarked_or_lost file rows settings i.1 h.1)
+  asks_by_once (Err NoSuchTable) (Err NoSuchTable) h i = refl
   asks_by_once (Err (Load f)) y h i = absurd h.0
   asks_by_once (Err OutOfMemory) y h i = absurd h.0
   asks_by_once x (Err _) h i = absurd i.0
@@ -223,7 +232,7 @@ same_own (Some bytes) rows others own other h i =
 
 -- what is asked by the rows of a file
 abbrev AsksOf : Option (Bor (List ℕ)) → Settings → Result Job AskFault → Type 0
-AsksOf file settings answer = (rows : Rows) × (own : Own) × IsSchema file rows own × AsksBy rows own settings answer × AsksMarks file rows settings answer
+AsksOf file settings answer = (rows : Rows) × (own : Own) × IsSchema file rows own × AsksBy file rows own settings answer × AsksMarks file rows settings answer
 
 of_one_file : (file : Option (Bor (List ℕ))) (settings : Settings) (x y : Result Job AskFault) → AsksOf file settings x → AsksOf file settings y → x ≡ y
 of_one_file file settings x y h i =

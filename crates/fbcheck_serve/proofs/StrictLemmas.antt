@@ -1,43 +1,122 @@
 -- What a schema file's marks let strict checks ask.
-use Rattle.std.proofs.Common.{◌≡◌, IfErr, OnOk, ℕ, List, None, Option, Result, Some, map, true, false, refl, sym, ◌∙◌, length}
-use Rattle.std.specs.Prelude.{Err, Ok}
+use Rattle.std.proofs.Common.{◌≡◌, IfErr, IfOk, OnOk, ℕ, Bool, List, [], None, Option, Result, Some, map, true, false, refl, sym, subst, ◌∙◌, length}
+use Rattle.std.specs.Prelude.{◌||◌, ◌&&◌, not, IsErrAnd, IsTrue, Err, Ok}
 use Rattle.std.specs.Borrow.{Bor}
 use Rattle.fb_schema.specs.Rows.{Rows}
-use Rattle.fb_bfbs.specs.Marks.{AreMarks, marked}
+use Rattle.fb_bfbs.specs.Marks.{AreMarks, Marked, marked}
 use Rattle.fb_bfbs.specs.declared.{marks.Marks.Marks}
-use Rattle.fbcheck_serve.specs.ByteFields.{AreAllPlain, Misses}
-use Rattle.fbcheck_serve.specs.Checking.{IsPlanless, MayAsk, NeedsMarks, schema_limits}
+use Rattle.fb_strict.specs.{Demanded.demanded as holding, Holding.holdings_if, Planned.IsPlan, Planned.Planned}
+use Rattle.fb_strict.specs.declared.demands.Demands.{Demands}
+use Rattle.fbcheck_serve.specs.Asked.{IsAskedPlan, demanded, demanded_by, is_demanding}
+use Rattle.fbcheck_serve.specs.ByteFields.{HasUnmarked, LacksPlan, Misses, has_lost}
+use Rattle.fbcheck_serve.specs.Checking.{IsPlanBy, IsPlanless, LacksPlanBy, MayAsk, NeedsMarks}
+use Rattle.fbcheck_serve.specs.FileMarks.{ArePlanMarks, schema_limits}
 use Rattle.fbcheck_texts.specs.Hints.{hint_text}
-use Rattle.fbcheck_texts.specs.declared.{fault.AskFault.AskFault, fault.AskFault.TheVariants.OutOfMemory, hint.Unasked.Unasked}
+use Rattle.fbcheck_texts.specs.declared.{fault.AskFault.AskFault, fault.AskFault.TheVariants.NoSuchTable, fault.AskFault.TheVariants.OutOfMemory, fault.AskFault.TheVariants.UnmarkedBytes, hint.Unasked.Unasked}
 use Rattle.fbcheck_words.specs.declared.choices.Settings.{Settings}
 
--- nothing is asked of marks where strict checks aren't asked for, and where bytes are plain
-unneeded : (file : Option (Bor (List ℕ))) (settings : Settings) → settings.strict ≡ false → NeedsMarks file settings → ⊥
-unneeded None settings lax needs = needs
-unneeded (Some bytes) settings lax needs = let w : true ≡ false = sym needs.0 ∙ lax in cc
+-- Whose marks are asked.
 
-unneeded_of_plain : (file : Option (Bor (List ℕ))) (settings : Settings) → settings.plain_bytes ≡ true → NeedsMarks file settings → ⊥
-unneeded_of_plain None settings plain needs = needs
-unneeded_of_plain (Some bytes) settings plain needs = let w : true ≡ false = sym plain ∙ needs.1 in cc
+-- nothing is asked of marks where nested buffers aren't
+unneeded : (strict plain : Bool) → (strict && not plain) ≡ false → IsTrue strict × (plain ≡ false) → ⊥
+unneeded true false none needs = cc
+unneeded true true none needs = let w : true ≡ false = needs.1 in cc
+unneeded false plain none needs = let w : false ≡ true = needs.0 in cc
 
-pub may_unless_strict : (file : Option (Bor (List ℕ))) (rows : Rows) (settings : Settings) → settings.strict ≡ false → MayAsk file rows settings
-may_unless_strict file rows settings lax needs = absurd (unneeded file settings lax needs)
+pub may_unless_nested : (file : Option (Bor (List ℕ))) (rows : Rows) (settings : Settings) → (demanded settings).nested ≡ false → MayAsk file rows settings
+may_unless_nested None rows settings none needs = absurd needs
+may_unless_nested (Some bytes) rows settings none needs = absurd (unneeded settings.strict settings.plain_bytes none needs)
 
-pub may_of_plain : (file : Option (Bor (List ℕ))) (rows : Rows) (settings : Settings) → settings.plain_bytes ≡ true → MayAsk file rows settings
-may_of_plain file rows settings plain needs = absurd (unneeded_of_plain file settings plain needs)
+-- nor where nothing is demanded
+not_strict : (strict other plain : Bool) → (strict || other) ≡ false → (strict && not plain) ≡ false
+not_strict false other plain none = refl
+not_strict true other plain none = cc
 
-module _ (bytes : Bor (List ℕ)) (rows : Rows) (settings : Settings) (marks : Marks) (are : AreMarks bytes.now (schema_limits (length bytes.now)) marks) where
-  -- where no field of bytes holds anything
-  pub may_by_marks : (r : Result (Unit {0}) Unasked) → OnOk r (AreAllPlain rows (map marked marks.fields.items) marks.builtins) → OnOk r (MayAsk (Some bytes) rows settings)
-  may_by_marks (Ok done) plain = λ needs. (map marked marks.fields.items, marks.builtins, (marks, are, refl, refl), plain)
-  may_by_marks (Err unasked) plain = tt
+pub may_undemanded : (file : Option (Bor (List ℕ))) (rows : Rows) (settings : Settings) → is_demanding settings ≡ false → MayAsk file rows settings
+may_undemanded file rows settings none = may_unless_nested file rows settings (not_strict settings.strict _ settings.plain_bytes none)
 
-  -- and where one may
-  planless_by : NeedsMarks (Some bytes) settings → (fault : AskFault) (hint : List ℕ) → Misses rows (map marked marks.fields.items) marks.builtins fault hint → IsPlanless (Some bytes) rows settings fault hint
-  planless_by needs OutOfMemory hint misses = misses
-  planless_by needs _ hint misses = (needs, map marked marks.fields.items, marks.builtins, (marks, are, refl, refl), misses)
+both : (strict plain : Bool) → (strict && not plain) ≡ true → IsTrue strict × (plain ≡ false)
+both true false is = (refl, refl)
+both true true is = absurd (cc)
+both false plain is = absurd (cc)
 
-  pub planless_by_marks : NeedsMarks (Some bytes) settings → (r : Result (Unit {0}) Unasked) → IfErr r (λ u. Misses rows (map marked marks.fields.items) marks.builtins u.fault (hint_text u.hint))
-      → IfErr r (λ u. IsPlanless (Some bytes) rows settings u.fault (hint_text u.hint))
-  planless_by_marks needs (Ok done) misses = tt
-  planless_by_marks needs (Err unasked) misses = planless_by needs unasked.fault (hint_text unasked.hint) misses
+pub needed : (bytes : Bor (List ℕ)) (settings : Settings) → (demanded settings).nested ≡ true → NeedsMarks (Some bytes) settings
+needed bytes settings is = both settings.strict settings.plain_bytes is
+
+-- A plan.
+
+no_marks : (bytes : Bor (List ℕ)) (nested : Bool) → nested ≡ false → ArePlanMarks (Some bytes) nested []
+no_marks bytes true is = absurd (cc)
+no_marks bytes false is = refl
+
+-- one by the marks of a file
+by_marks : (bytes : Bor (List ℕ)) (rows : Rows) (settings : Settings) (plan : Planned) → is_demanding settings ≡ true → (demanded settings).nested ≡ true → IsPlanBy bytes.now rows settings plan
+    → IsAskedPlan (Some bytes) rows settings (Some plan) × MayAsk (Some bytes) rows settings
+by_marks bytes rows settings plan is nested by =
+    let marks = map marked by.read.fields.items in
+    ((is, marks, go (demanded settings).nested nested, by.plan_is), λ needs. (marks, by.read.builtins, (by.read, by.are, refl, refl), by.told))
+  where
+    go : (x : Bool) → x ≡ true → ArePlanMarks (Some bytes) x (map marked by.read.fields.items)
+    go true e = (by.read.builtins, (by.read, by.are, refl, refl))
+    go false e = absurd (cc)
+
+pub by_file : (file : Option (Bor (List ℕ))) (bytes : Bor (List ℕ)) (rows : Rows) (settings : Settings) (plan made : Planned) → file ≡ Some bytes → plan ≡ made → is_demanding settings ≡ true
+    → (demanded settings).nested ≡ true → IsPlanBy bytes.now rows settings made → IsAskedPlan file rows settings (Some plan) × MayAsk file rows settings
+by_file file bytes rows settings plan made is same demanding nested by =
+    let by_made = by_marks bytes rows settings made demanding nested by in
+    let by_plan = subst (λ p. IsAskedPlan (Some bytes) rows settings (Some p) × MayAsk (Some bytes) rows settings) (sym same) by_made in
+    subst (λ f. IsAskedPlan f rows settings (Some plan) × MayAsk f rows settings) (sym is) by_plan
+
+-- and one without
+pub without : (file : Option (Bor (List ℕ))) (rows : Rows) (settings : Settings) (plan made : Planned) (d : Demands) → ArePlanMarks file (demanded settings).nested [] → plan ≡ made
+    → is_demanding settings ≡ true → d ≡ demanded settings → IsPlan rows (holding d (holdings_if d rows [])) made → IsAskedPlan file rows settings (Some plan)
+without file rows settings plan made d marks same demanding is by =
+    let by_plan = subst (λ p. IsPlan rows (holding d (holdings_if d rows [])) p) (sym same) by in
+    (demanding, [], marks, subst (λ e. IsPlan rows (holding e (holdings_if e rows [])) plan) is by_plan)
+
+pub no_file : (file : Option (Bor (List ℕ))) (nested : Bool) → file ≡ None → ArePlanMarks file nested []
+no_file file nested is = subst (λ f. ArePlanMarks f nested []) (sym is) refl
+
+pub not_nested : (file : Option (Bor (List ℕ))) (bytes : Bor (List ℕ)) (nested : Bool) → file ≡ Some bytes → nested ≡ false → ArePlanMarks file nested []
+not_nested file bytes nested is none = subst (λ f. ArePlanMarks f nested []) (sym is) (no_marks bytes nested none)
+
+pub may_without : (file : Option (Bor (List ℕ))) (rows : Rows) (settings : Settings) → file ≡ None → MayAsk file rows settings
+may_without file rows settings is = subst (λ f. MayAsk f rows settings) (sym is) (λ needs. absurd needs)
+
+-- Where there is none.
+
+-- what `?` answers
+pub err_told : {A : Type 0} (r : Result A Unasked) (x : Unasked) (P : Unasked → Type 0) → IsErrAnd r (λ e. e ≡ x) → P x → IfErr r P
+err_told (Ok a) x P h p = tt
+err_told (Err e) x P h p = subst P (sym h) p
+
+pub planless_by : (file : Option (Bor (List ℕ))) (bytes : Bor (List ℕ)) (rows : Rows) (settings : Settings) → file ≡ Some bytes → NeedsMarks (Some bytes) settings → (fault : AskFault) (hint : List ℕ)
+    → LacksPlanBy bytes.now rows fault hint → IsPlanless file rows settings fault hint
+planless_by file bytes rows settings is needs fault hint lacks = subst (λ f. IsPlanless f rows settings fault hint) (sym is) (go fault lacks)
+  where
+    go : (g : AskFault) → LacksPlanBy bytes.now rows g hint → IsPlanless (Some bytes) rows settings g hint
+    go OutOfMemory lacks = lacks
+    go _ (read, are, misses) = (needs, map marked read.fields.items, read.builtins, (read, are, refl, refl), misses)
+
+module _ (bytes : List ℕ) (rows : Rows) (read : Marks) (are : AreMarks bytes (schema_limits (length bytes)) read) where
+  -- a field of bytes without a mark
+  pub unmarked_by : (fault : AskFault) (hint : List ℕ) → Misses rows (map marked read.fields.items) read.builtins fault hint → LacksPlanBy bytes rows fault hint
+  unmarked_by OutOfMemory hint misses = misses
+  unmarked_by _ hint misses = (read, are, misses)
+
+  module _ (all : HasUnmarked rows (map marked read.fields.items) read.builtins → ⊥) where
+    -- a mark without a table
+    lost_by : (fault : AskFault) (hint : List ℕ) → LacksPlan rows (map marked read.fields.items) fault hint → LacksPlanBy bytes rows fault hint
+    lost_by OutOfMemory hint lacks = lacks
+    lost_by NoSuchTable hint lacks = (read, are, (record { all = all; lost = lacks.0 }, lacks.1, lacks.2, lacks.3, lacks.4))
+    lost_by _ hint lacks = absurd lacks
+
+    pub planned_not : (r : Result Planned Unasked) → IfErr r (λ u. LacksPlan rows (map marked read.fields.items) u.fault (hint_text u.hint)) → IfErr r (λ u. LacksPlanBy bytes rows u.fault (hint_text u.hint))
+    planned_not (Ok plan) lacks = tt
+    planned_not (Err u) lacks = lost_by u.fault (hint_text u.hint) lacks
+
+    -- and neither
+    pub planned_so : (settings : Settings) (r : Result Planned Unasked) → (demanded settings).nested ≡ true → IfOk r (IsPlan rows (demanded_by rows settings (map marked read.fields.items)))
+        → OnOk r ((demanded settings).nested ≡ true → has_lost rows (map marked read.fields.items) ≡ false) → IfOk r (IsPlanBy bytes rows settings)
+    planned_so settings (Ok plan) nested is found = record { read = read; are = are; told = record { all = all; found = found nested }; plan_is = is }
+    planned_so settings (Err u) nested is found = tt

@@ -1,13 +1,14 @@
 -- What the settings ask, by a schema that has a root table of its own, or none.
-use Rattle.std.specs.Prelude.{◌≡◌, ℕ, ◌&&◌, not, Bool, IsTrue, true, false, List, Option, Some, None, Result, Ok, Err, Vec, option_map, map, string_bytes, [], ◌∷◌, ◌⊎◌, codes, if◌then◌else◌}
-use Rattle.std.specs.{Global.Global, List.AllZip}
+use Rattle.std.specs.Prelude.{◌≡◌, ℕ, ◌&&◌, ◌||◌, not, Bool, IsTrue, true, false, List, Option, Some, None, Result, Ok, Err, Vec, option_map, map, string_bytes, [], ◌∷◌, ◌⊎◌, codes, if◌then◌else◌}
+use Rattle.std.specs.{Borrow.Bor, Global.Global, List.AllZip}
 use Rattle.fb_schema.specs.Rows.{Rows, table_named}
 use Rattle.fb_access.specs.declared.{step.Step.Step, path_fault.PathFault.PathFault}
 use Rattle.fb_access.specs.Resolving.{Resolves, IsFault}
 use Rattle.fb_rules.specs.declared.{start.Ident.Ident, start.Ident.TheVariants.Any, start.Ident.TheVariants.Want}
 use Rattle.fb_bfbs.specs.LoadLaws.{own_ident}
 use Rattle.fb_strict.specs.declared.demands.Demands.{Demands}
-use Rattle.fb_strict.specs.Planned.{IsPlan, Planned}
+use Rattle.fb_bfbs.specs.Marks.{Marked}
+use Rattle.fb_strict.specs.{Demanded.Demanded, Demanded.demanded as holding, Holding.holdings_if, Planned.IsPlan, Planned.Planned}
 use Rattle.fb_lines.specs.{Job.Job, Job.job_of, Job.start_of, Wanted.Wanted}
 use Rattle.fbcheck_words.specs.declared.choices.Form as asked
 use Rattle.fbcheck_words.specs.declared.choices.Form.TheVariants as words
@@ -18,8 +19,8 @@ use Rattle.fb_lines.specs.declared.{options.Places.Places, options.Places.TheVar
 use Rattle.fb_lines.specs.declared.{options.Prefix.TheVariants.Part, options.Prefix.TheVariants.Apart, options.Options.Options}
 use Rattle.fbcheck_texts.specs.Framing.{by_of, framing_of}
 use Rattle.fbcheck_texts.specs.declared.{framing.Framing.Framing, framing.Manner.Manner, fault.AskFault.AskFault}
-use Rattle.fbcheck_serve.specs.Inputs.{label_of, with_label}
-use Rattle.fbcheck_texts.specs.declared.fault.AskFault.TheVariants.{Path, NoRoot, NoIdent, MarkedBytes, UnmarkedBytes, OutOfMemory}
+use Rattle.fbcheck_serve.specs.{FileMarks.ArePlanMarks, Inputs.label_of, Inputs.with_label}
+use Rattle.fbcheck_texts.specs.declared.fault.AskFault.TheVariants.{Path, NoRoot, NoIdent, UnmarkedBytes, NoSuchTable, OutOfMemory}
 
 -- the root table: the listed one of the name that is asked for, or else the schema's own
 abbrev pub root_of : Rows → Option (List ℕ) → Option ℕ → Option ℕ
@@ -129,20 +130,29 @@ abbrev pub demanded : Settings → Demands
 demanded settings = record {
   unions = settings.strict;
   nested = settings.strict && not settings.plain_bytes;
-  known_fields = false;
-  utf8 = false;
+  known_fields = settings.known_fields;
+  utf8 = settings.utf8;
 }
 
--- where they ask for strict checks, the plan of the rows for that is asked, and else none
-abbrev pub IsAskedPlan : Rows → Settings → Option Planned → Type 0
-IsAskedPlan rows settings None = settings.strict ≡ false
-IsAskedPlan rows settings (Some plan) = IsTrue settings.strict × IsPlan rows (demanded settings) plan
+-- whether they demand anything
+abbrev pub is_demanding : Settings → Bool
+is_demanding settings = settings.strict || (settings.known_fields || settings.utf8)
+
+-- what is demanded where these marks say what fields hold
+abbrev pub demanded_by : Rows → Settings → List Marked → Demanded
+demanded_by rows settings marks = holding (demanded settings) (holdings_if (demanded settings) rows marks)
+
+-- where they do, the plan of the rows for that is asked, by the marks of a schema file, and else none
+abbrev pub IsAskedPlan : Option (Bor (List ℕ)) → Rows → Settings → Option Planned → Type 0
+IsAskedPlan file rows settings None = is_demanding settings ≡ false
+IsAskedPlan file rows settings (Some plan) =
+    IsTrue (is_demanding settings) × (marks : List Marked) × ArePlanMarks file (demanded settings).nested marks × IsPlan rows (demanded_by rows settings marks) plan
 
 -- the buffers are checked from the root, with the paths, by the identifier and as strictly as the settings ask
-pub record IsAsked (rows : Rows) (own : Own) (settings : Settings) (job : Job) : Type 0 where
+pub record IsAsked (file : Option (Bor (List ℕ))) (rows : Rows) (own : Own) (settings : Settings) (job : Job) : Type 0 where
   pub found : IsFound rows own settings
   pub plan : Option Planned
-  pub plan_is : IsAskedPlan rows settings plan
+  pub plan_is : IsAskedPlan file rows settings plan
   pub job_is : job ≡ with_label (own_label settings) (job_of rows (options_of settings found.root found.paths found.ident plan))
 
 -- the settings ask for a root and paths, and for the schema's own identifier, which has neither no bytes nor four
@@ -160,14 +170,14 @@ HasPathFault rows own settings fault =
 
 -- by these rows and what the schema has of its own, the settings ask that the buffers are checked by a job, or have
 -- nothing to check them by; what a schema file's marks are asked comes beside that
-abbrev pub AsksBy : Rows → Own → Settings → Result Job AskFault → Type 0
-AsksBy rows own settings (Ok job) = IsAsked rows own settings job
-AsksBy rows own settings (Err NoRoot) = asked_root rows own settings ≡ None
-AsksBy rows own settings (Err (Path fault)) = HasPathFault rows own settings fault
-AsksBy rows own settings (Err NoIdent) = LacksIdent rows own settings
-AsksBy rows own settings (Err MarkedBytes) = IsFound rows own settings
-AsksBy rows own settings (Err UnmarkedBytes) = IsFound rows own settings
-AsksBy rows own settings (Err _) = ⊥
+abbrev pub AsksBy : Option (Bor (List ℕ)) → Rows → Own → Settings → Result Job AskFault → Type 0
+AsksBy file rows own settings (Ok job) = IsAsked file rows own settings job
+AsksBy file rows own settings (Err NoRoot) = asked_root rows own settings ≡ None
+AsksBy file rows own settings (Err (Path fault)) = HasPathFault rows own settings fault
+AsksBy file rows own settings (Err NoIdent) = LacksIdent rows own settings
+AsksBy file rows own settings (Err UnmarkedBytes) = IsFound rows own settings
+AsksBy file rows own settings (Err NoSuchTable) = IsFound rows own settings
+AsksBy file rows own settings (Err _) = ⊥
 
 -- why a text gives no path
 abbrev pub PathFails : Rows → ℕ → List ℕ → AskFault → Type 0

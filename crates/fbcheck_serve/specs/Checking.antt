@@ -1,9 +1,8 @@
 -- A run by the schema of a file, or without one by the fixed table of schema files.
-use Rattle.std.specs.Prelude.{◌≡◌, ℕ, IsTrue, false, List, ◌∷◌, ◌++◌, Option, Some, None, Result, Ok, Err, min, length, codes, map, option_map, string_bytes}
+use Rattle.std.specs.Prelude.{◌≡◌, ℕ, IsTrue, false, List, ◌∷◌, ◌++◌, Option, Some, None, Result, Ok, Err, length, codes, map, option_map, string_bytes}
 use Rattle.std.specs.{Borrow.Bor, Io.KnownBytes.Keeps}
 use Rattle.fb_schema.specs.declared.kinds.Kind.{Kind}
 use Rattle.fb_schema.specs.Rows.{Rows}
-use Rattle.fb_rules.specs.Bounds.{Bounds, limits_of_length}
 use Rattle.fb_access.specs.Resolving.{IsFault, IsMisfitAt}
 use Rattle.fb_access.specs.declared.path_fault.PathFault.{PathFault}
 use Rattle.fb_bfbs.specs.{Fixed.fixed, Loads.IsLoaded, Loads.IsLoadFault, Loads.schema_number}
@@ -12,25 +11,21 @@ use Rattle.fb_bfbs.specs.declared.load_fault.LoadFault.TheVariants as load
 use Rattle.fb_bfbs.specs.LoadLaws.{ident_bytes}
 use Rattle.fb_bfbs.specs.Marks.{AreMarks, Marked, marked}
 use Rattle.fb_bfbs.specs.declared.{marks.Builtins.Builtins, marks.Marks.Marks}
-use Rattle.fbcheck_serve.specs.ByteFields.{AreAllPlain, HasMarked, HasUnmarked, Misses}
-use Rattle.fbcheck_serve.specs.Asked.{ArePaths, AsksBy, Own, asked_root, path_texts}
+use Rattle.fb_strict.specs.Planned.{IsPlan, Planned}
+use Rattle.fbcheck_serve.specs.{ByteFields.AreTold, ByteFields.HasUnmarked, ByteFields.LacksTable, ByteFields.Misses, FileMarks.IsMarkedFile, FileMarks.schema_limits}
+use Rattle.fbcheck_serve.specs.Asked.{ArePaths, AsksBy, Own, asked_root, demanded_by, path_texts}
 use Rattle.fbcheck_texts.specs.Hints.{hint_text, path_hint, root_hint, schema_hint}
 use Rattle.fbcheck_serve.specs.Inputs.{Folder, IsPromptAmong, IsPromptOver, MayReadEach, Seen, ServesEach, are_several, at_first, label_of, stand}
 use Rattle.fb_lines.specs.{Ends.Ends, Ends.Unwritten, Job.Job, Wanted.Wanted}
 use Rattle.fb_run.specs.{Prompt.IsPrompt, Run.IsRunBeside}
 use Rattle.fbcheck_words.specs.declared.choices.Settings.{Settings}
 use Rattle.fbcheck_texts.specs.declared.{fault.AskFault.AskFault, hint.Unasked.Unasked, fault.CheckFault.CheckFault}
-use Rattle.fbcheck_texts.specs.declared.fault.AskFault.TheVariants.{Load, NoRoot, Path, MarkedBytes, UnmarkedBytes, OutOfMemory}
+use Rattle.fbcheck_texts.specs.declared.fault.AskFault.TheVariants.{Load, NoRoot, Path, UnmarkedBytes, NoSuchTable, OutOfMemory}
 use Rattle.fbcheck_serve.specs.declared.{inputs.Course.Course, inputs.Passed.Passed}
 use Rattle.fbcheck_texts.specs.declared.fault.CheckFault.TheVariants as check
 use Rattle.fb_lines.specs.Faults.{End, EndsBeside, IsUnfailed, failures_of}
 use Rattle.fb_lines.specs.declared.tally.Tally.{Tally}
 use Rattle.fb_run.specs.declared.run.Ran.{Ran}
-
--- the limits by which a schema file of so many bytes is verified: the published ones, with a budget of 100,000,000
--- reads, and of 64 a byte and 4,096 beside (one too long for offsets is refused by its length)
-abbrev pub schema_limits : ℕ → Bounds
-schema_limits len = limits_of_length (record { depth = 64; tables = 1000000; reads = Some 100000000 }) 64 (min len 2147483647)
 
 -- the root table and the identifier of a schema that was loaded
 abbrev pub own_of : Loaded → Own
@@ -51,40 +46,34 @@ IsNoSchema None fault = ⊥
 IsNoSchema (Some bytes) load.OutOfMemory = ⊥
 IsNoSchema (Some bytes) fault = IsLoadFault bytes.now (schema_limits (length bytes.now)) fault
 
--- these are the marks of a schema file, and what it tells of built-in attributes; without a file there are none
-abbrev pub IsMarkedFile : Option (Bor (List ℕ)) → List Marked → Builtins → Type 0
-IsMarkedFile None marks builtins = ⊥
-IsMarkedFile (Some bytes) marks builtins =
-    (read : Marks) × AreMarks bytes.now (schema_limits (length bytes.now)) read × (marks ≡ map marked read.fields.items) × (builtins ≡ read.builtins)
-
 -- the settings ask for strict checks by a schema file, and not for plain bytes: so its marks are asked
 abbrev pub NeedsMarks : Option (Bor (List ℕ)) → Settings → Type 0
 NeedsMarks None settings = ⊥
 NeedsMarks (Some bytes) settings = IsTrue settings.strict × (settings.plain_bytes ≡ false)
 
--- where a file's marks are asked, they say that no field of bytes holds a buffer or a flexbuffer
+-- where a file's marks are asked, they say what each field of bytes holds
 abbrev pub MayAsk : Option (Bor (List ℕ)) → Rows → Settings → Type 0
-MayAsk file rows settings = NeedsMarks file settings → (marks : List Marked) × (builtins : Builtins) × IsMarkedFile file marks builtins × AreAllPlain rows marks builtins
+MayAsk file rows settings = NeedsMarks file settings → (marks : List Marked) × (builtins : Builtins) × IsMarkedFile file marks builtins × AreTold rows marks builtins
 
--- a file's marks are asked, and say something else
-abbrev pub HasMarkedBytes : Option (Bor (List ℕ)) → Rows → Settings → Type 0
-HasMarkedBytes file rows settings = NeedsMarks file settings × (marks : List Marked) × (builtins : Builtins) × IsMarkedFile file marks builtins × HasMarked rows marks
-
+-- a file's marks are asked, and don't: a field of bytes may have to have one, or some mark names no table
 abbrev pub HasUnmarkedBytes : Option (Bor (List ℕ)) → Rows → Settings → Type 0
 HasUnmarkedBytes file rows settings = NeedsMarks file settings × (marks : List Marked) × (builtins : Builtins) × IsMarkedFile file marks builtins × HasUnmarked rows marks builtins
+
+abbrev pub HasLostMark : Option (Bor (List ℕ)) → Rows → Settings → Type 0
+HasLostMark file rows settings = NeedsMarks file settings × (marks : List Marked) × (builtins : Builtins) × IsMarkedFile file marks builtins × LacksTable rows marks builtins
 
 -- what a job, or a fault, says of a file's marks
 abbrev pub AsksMarks : Option (Bor (List ℕ)) → Rows → Settings → Result Job AskFault → Type 0
 AsksMarks file rows settings (Ok job) = MayAsk file rows settings
-AsksMarks file rows settings (Err MarkedBytes) = HasMarkedBytes file rows settings
 AsksMarks file rows settings (Err UnmarkedBytes) = HasUnmarkedBytes file rows settings
+AsksMarks file rows settings (Err NoSuchTable) = HasLostMark file rows settings
 AsksMarks file rows settings (Err _) = Unit {0}
 
 -- a schema file, or none, and the settings ask that the buffers are checked by a job; or there is nothing to check them
 -- by, and why
 abbrev pub Asks : Option (Bor (List ℕ)) → Settings → Result Job AskFault → Type 0
 Asks file settings (Err (Load fault)) = IsNoSchema file fault
-Asks file settings answer = (rows : Rows) × (own : Own) × IsSchema file rows own × AsksBy rows own settings answer × AsksMarks file rows settings answer
+Asks file settings answer = (rows : Rows) × (own : Own) × IsSchema file rows own × AsksBy file rows own settings answer × AsksMarks file rows settings answer
 
 -- why there is no schema, where memory may be refused
 abbrev pub LacksSchema : Option (Bor (List ℕ)) → AskFault → Type 0
@@ -122,6 +111,18 @@ abbrev pub IsPlanless : Option (Bor (List ℕ)) → Rows → Settings → AskFau
 IsPlanless file rows settings OutOfMemory hint = hint ≡ codes "\n"
 IsPlanless file rows settings fault hint = NeedsMarks file settings × (marks : List Marked) × (builtins : Builtins) × IsMarkedFile file marks builtins × Misses rows marks builtins fault hint
 
+-- a plan is made by the marks of a schema file, which say what each field of bytes holds; or why none is, with what is
+-- told behind that, where memory may be refused
+pub record IsPlanBy (bytes : List ℕ) (rows : Rows) (settings : Settings) (plan : Planned) : Type 0 where
+  pub read : Marks
+  pub are : AreMarks bytes (schema_limits (length bytes)) read
+  pub told : AreTold rows (map marked read.fields.items) read.builtins
+  pub plan_is : IsPlan rows (demanded_by rows settings (map marked read.fields.items)) plan
+
+abbrev pub LacksPlanBy : List ℕ → Rows → AskFault → List ℕ → Type 0
+LacksPlanBy bytes rows OutOfMemory hint = hint ≡ codes "\n"
+LacksPlanBy bytes rows fault hint = (read : Marks) × AreMarks bytes (schema_limits (length bytes)) read × Misses rows (map marked read.fields.items) read.builtins fault hint
+
 -- a field of bytes is told, with what can be done
 abbrev pub TellsBytes : Option (Bor (List ℕ)) → Settings → AskFault → List ℕ → Type 0
 TellsBytes file settings fault text =
@@ -132,8 +133,8 @@ abbrev pub IsHint : Option (Bor (List ℕ)) → Settings → AskFault → List �
 IsHint file settings (Load fault) text = text ≡ schema_hint (option_map string_bytes settings.schema) file
 IsHint file settings NoRoot text = (rows : Rows) × (own : Own) × IsSchema file rows own × (text ≡ root_hint rows (option_map string_bytes settings.root) (option_map string_bytes settings.schema))
 IsHint file settings (Path fault) text = (rows : Rows) × (own : Own) × (root : ℕ) × IsSchema file rows own × (asked_root rows own settings ≡ Some root) × TellsPath rows root (path_texts settings) fault text
-IsHint file settings MarkedBytes text = TellsBytes file settings MarkedBytes text
 IsHint file settings UnmarkedBytes text = TellsBytes file settings UnmarkedBytes text
+IsHint file settings NoSuchTable text = TellsBytes file settings NoSuchTable text
 IsHint file settings _ text = text ≡ codes "\n"
 
 -- there is nothing to check by, for this fault, and this is told behind it

@@ -1,5 +1,6 @@
 -- What public contracts say, in reading order.
 pub mod ByteFields
+pub mod FileMarks
 pub mod Asked
 pub mod Inputs
 pub mod Checking

@@ -265,10 +265,11 @@ pub struct Asked<'b> {
 /// # Errors
 ///
 /// `Load` where the schema file gives no schema, then `NoRoot` where there is no root table, then `Path` where a path
-/// isn't one from there, then `NoIdent` where the schema's own identifier is asked for and has neither no bytes nor four,
-/// and then, where strict checks are asked for by a schema file and bytes aren't plain, `MarkedBytes` where it marks a
-/// field of bytes, and `UnmarkedBytes` where it has one without a mark and doesn't show that it would mark it;
-/// `OutOfMemory` in place of any where memory was refused. Each with what is told behind it.
+/// isn't one from there, then `NoIdent` where the schema's own identifier is asked for and has neither no bytes nor
+/// four, and then, where strict checks are asked for by a schema file and bytes aren't plain, `UnmarkedBytes` where it
+/// has a field of bytes without a mark and doesn't show that it would mark it, and `NoSuchTable` where it marks one as
+/// a nested buffer of no table; `OutOfMemory` in place of any where memory was refused. Each with what is told behind
+/// it.
 pub fn asked_of<'b>(
     alloc: Global,
     schema_bytes: Option<&'b [u8]>,

@@ -1,23 +1,18 @@
-//! Fields of bytes, of which strict checks can be made where a schema file says what they hold.
+//! Fields of bytes, and whether a schema file says what each of them holds.
 
-ghost use Rattle.std.specs.Prelude.{ℕ, IfErr, IfNone, IfSome, IsTrue, OnOk, ◌≡◌, map};
-ghost use Rattle.fb_bfbs.specs.Marks.{marked};
-ghost use Rattle.fb_schema.specs.{Live.Live, Live.live_of_view, Rows.is_table};
-ghost use Rattle.fbcheck_serve.specs.ByteFields.{AreAllPlain, HasMarked, IsMarkedField, IsOfBytes, Misses, Names, are_written, is_bytes};
+ghost use Rattle.std.specs.Prelude.{ℕ, IfErr, IfNone, IfSome, OnOk, true, ◌&&◌, ◌==◌, ◌≡◌, ◌<◌, length, map};
+ghost use Rattle.fb_bfbs.specs.{ByteFields.are_written, Marks.marked};
+ghost use Rattle.fb_schema.specs.{Live.Live, Live.live_of_view};
+ghost use Rattle.fb_strict.specs.Holding.{has_bytes, is_bytes};
+ghost use Rattle.fbcheck_serve.specs.ByteFields.{HasUnmarked, IsField, Misses, NamesField, has_mark, is_unmarked};
 ghost use Rattle.fbcheck_texts.specs.Hints.{hint_text};
+ghost use Rattle.fbcheck_texts.specs.declared.fault.AskFault.TheVariants.{NoSuchTable};
 
-use fb_bfbs::{Builtins, Mark, Marks};
+use fb_bfbs::{Builtins, ByteField, Mark, Marks};
 use fb_schema::{FieldView, Kind, Scalar, Schema};
 use fbcheck_texts::fault::AskFault;
 use fbcheck_texts::hint::{Unasked, bytes_hint};
 use std::alloc::Global;
-
-/// A field of bytes, by its table's name and its own.
-#[derive(Clone, Copy)]
-pub struct BytesField<'n> {
-    table: &'n [u8],
-    field: &'n [u8],
-}
 
 /// Whether a field of this kind is of bytes.
 fn is_bytes(kind: Kind) -> bool
@@ -33,107 +28,118 @@ fn are_written(builtins: Builtins) -> bool
     matches!(builtins, Builtins::Written)
 }
 
-/// The slot of a field.
-fn slot_of(field: &FieldView) -> u16
-    ensures { result ≡ field.now.slot }
-{
-    field.slot
-}
-
-/// The names of a field and of its table.
-fn named<'n>(schema: &Schema<'n>, table: u32, field: &FieldView<'n>) -> BytesField<'n>
-    requires { IsTrue (is_table schema.now table) }
-    ensures { Names schema.now table (live_of_view field.now) result }
-{
-    BytesField {
-        table: schema.object(table).name,
-        field: field.name,
-    }
-}
-
-/// The field of bytes in this slot of a table.
-fn bytes_at<'n>(schema: &Schema<'n>, object: u32, slot: u16) -> Option<BytesField<'n>>
-    ensures some { IfSome result (λ names. (f : Live) × IsOfBytes schema.now object f × (f.slot ≡ slot) × Names schema.now object f names) }
-    ensures none { IfNone result ((f : Live) → IsOfBytes schema.now object f → f.slot ≡ slot → ⊥) }
-{
-    schema.lawful();
-    if !schema.is_table(object) {
-        return None;
-    }
-    let fields = schema.fields_of(object);
-    let Ok(place) = fields.binary_search_by_key(&slot, slot_of) else {
-        return None;
-    };
-    let field = schema.field_at(object, place as u32);
-    if !is_bytes(field.kind) {
-        return None;
-    }
-    Some(named(schema, object, &field))
-}
-
-/// The field of the first of these marks that is of bytes.
-fn find_marked<'n>(schema: &Schema<'n>, marks: &[Mark<'_>]) -> Option<BytesField<'n>>
-    ensures some { IfSome result (λ names. (object : ℕ) × (f : Live) × IsMarkedField schema.now (map marked marks.now) object f × Names schema.now object f names) }
-    ensures none { IfNone result (HasMarked schema.now (map marked marks.now) → ⊥) }
+/// Whether one of these marks is of this slot of an object.
+fn has_mark(marks: &[Mark<'_>], object: u32, slot: u16) -> bool
+    ensures { result ≡ has_mark (map marked marks.now) object slot }
 {
     for mark in marks {
-        if let Some(field) = bytes_at(schema, mark.object, mark.slot) {
-            return Some(field);
+        if mark.object == object && mark.slot == slot {
+            return true;
         }
     }
-    None
+    false
 }
 
-/// The first field of bytes of an object, none where it is a struct.
-fn bytes_of<'n>(schema: &Schema<'n>, object: u32) -> Option<BytesField<'n>>
-    ensures some { IfSome result (λ names. (f : Live) × IsOfBytes schema.now object f × Names schema.now object f names) }
-    ensures none { IfNone result ((f : Live) → IsOfBytes schema.now object f → ⊥) }
+/// Whether a live field of a table is of bytes and has no mark.
+fn is_unmarked(marks: &[Mark<'_>], table: u32, field: &FieldView<'_>) -> bool
+    ensures { result ≡ is_unmarked (map marked marks.now) table (live_of_view field.now) }
+{
+    is_bytes(field.kind) && !has_mark(marks, table, field.slot)
+}
+
+/// The first field of bytes of an object that has no mark, none where it is a struct.
+fn unmarked_in<'n>(schema: &Schema<'n>, marks: &[Mark<'_>], object: u32) -> Option<ByteField<'n>>
+    ensures some { IfSome result (λ b. IsField schema.now b.table (is_unmarked (map marked marks.now) b.table) (live_of_view b.field)) }
+    ensures none { IfNone result ((f : Live) → IsField schema.now object (is_unmarked (map marked marks.now) object) f → ⊥) }
 {
     if !schema.is_table(object) {
         return None;
     }
     for place in 0..schema.field_count(object) {
         let field = schema.field_at(object, place);
-        if is_bytes(field.kind) {
-            return Some(named(schema, object, &field));
+        if is_unmarked(marks, object, &field) {
+            return Some(ByteField {
+                table: object,
+                field,
+            });
         }
     }
     None
 }
 
-/// The first field of bytes of all tables.
-fn find_bytes<'n>(schema: &Schema<'n>) -> Option<BytesField<'n>>
-    ensures some { IfSome result (λ names. (object : ℕ) × (f : Live) × IsOfBytes schema.now object f × Names schema.now object f names) }
-    ensures none { IfNone result ((object : ℕ) (f : Live) → IsOfBytes schema.now object f → ⊥) }
+/// The first field of bytes of all tables that has no mark.
+fn find_unmarked<'n>(schema: &Schema<'n>, marks: &[Mark<'_>]) -> Option<ByteField<'n>>
+    ensures some { IfSome result (λ b. IsField schema.now b.table (is_unmarked (map marked marks.now) b.table) (live_of_view b.field)) }
+    ensures none { IfNone result ((object : ℕ) (f : Live) → IsField schema.now object (is_unmarked (map marked marks.now) object) f → ⊥) }
 {
     for object in 0..schema.object_count() {
-        if let Some(field) = bytes_of(schema, object) {
-            return Some(field);
+        if let Some(found) = unmarked_in(schema, marks, object) {
+            return Some(found);
         }
     }
     None
 }
 
-/// Whether strict checks can be made by the marks of a schema file, or else why not, with a field that is the cause.
+/// Whether a live field is of bytes and has this slot.
+fn is_at(field: &FieldView<'_>, slot: u16) -> bool
+    ensures { result ≡ ((field.now.slot == slot) && is_bytes field.now.kind) }
+{
+    field.slot == slot && is_bytes(field.kind)
+}
+
+/// The field of bytes of a table in this slot.
+fn bytes_at<'n>(schema: &Schema<'n>, table: u32, slot: u16) -> ByteField<'n>
+    requires { has_bytes schema.now table slot ≡ true }
+    ensures field { IsField schema.now table (λ (f : Live). (f.slot == slot) && is_bytes f.kind) (live_of_view result.field) }
+    ensures table { result.table ≡ table }
+{
+    for place in 0..schema.field_count(table) {
+        let field = schema.field_at(table, place);
+        if is_at(&field, slot) {
+            return ByteField { table, field };
+        }
+    }
+    unreachable!()
+}
+
+/// A fault with the names of a field of bytes and of its table.
+fn unasked(alloc: Global, schema: &Schema<'_>, fault: AskFault, found: &ByteField<'_>) -> Unasked
+    requires { found.now.table < length schema.now.objects }
+    ensures { NamesField schema.now fault found.now.table (live_of_view found.now.field) result }
+{
+    let table = schema.object(found.table).name;
+    Unasked::new(fault, bytes_hint(alloc, fault, table, found.field.name))
+}
+
+/// Why nested buffers can't be asked where a mark of this field of bytes names no table.
+pub fn lost(alloc: Global, schema: &Schema<'_>, table: u32, slot: u16) -> Unasked
+    requires { has_bytes schema.now table slot ≡ true }
+    ensures { (f : Live) × IsField schema.now table (λ (g : Live). (g.slot == slot) && is_bytes g.kind) f × NamesField schema.now NoSuchTable table f result }
+{
+    unasked(
+        alloc,
+        schema,
+        AskFault::NoSuchTable,
+        &bytes_at(schema, table, slot),
+    )
+}
+
+/// Whether the marks of a schema file say what each field of bytes holds, or else why not, with a field that is the
+/// cause.
 ///
 /// # Errors
 ///
-/// `MarkedBytes` where a field of bytes is marked, and then `UnmarkedBytes` where there is one and the file doesn't show
-/// that it would be; `OutOfMemory` in place of either where memory was refused.
+/// `UnmarkedBytes` where a field of bytes has no mark and the file doesn't show that it would have one; `OutOfMemory`
+/// in its place where memory was refused.
 pub fn test_marks(alloc: Global, schema: &Schema<'_>, marks: &Marks<'_>) -> Result<(), Unasked>
-    ensures ok { OnOk result (AreAllPlain schema.now (map marked marks.now.fields.items) marks.now.builtins) }
+    ensures ok { OnOk result (HasUnmarked schema.now (map marked marks.now.fields.items) marks.now.builtins → ⊥) }
     ensures no { IfErr result (λ u. Misses schema.now (map marked marks.now.fields.items) marks.now.builtins u.fault (hint_text u.hint)) }
 {
-    if let Some(found) = find_marked(schema, marks.fields.as_slice()) {
-        let hint = bytes_hint(alloc, AskFault::MarkedBytes, found.table, found.field);
-        return Err(Unasked::new(AskFault::MarkedBytes, hint));
-    }
     if are_written(marks.builtins) {
         return Ok(());
     }
-    let Some(found) = find_bytes(schema) else {
-        return Ok(());
-    };
-    let hint = bytes_hint(alloc, AskFault::UnmarkedBytes, found.table, found.field);
-    Err(Unasked::new(AskFault::UnmarkedBytes, hint))
+    match find_unmarked(schema, marks.fields.as_slice()) {
+        Some(found) => Err(unasked(alloc, schema, AskFault::UnmarkedBytes, &found)),
+        None => Ok(()),
+    }
 }

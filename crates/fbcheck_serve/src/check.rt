@@ -31,10 +31,11 @@ use std::alloc::Global;
 ///
 /// `Load` where the schema file gives no schema, then `NoRoot` where there is no root table, then `Path` where the path
 /// isn't one from there, then `NoIdent` where the schema's own identifier is asked for and has neither no bytes nor
-/// four, then, where strict checks are asked for by a schema file and bytes aren't plain, `MarkedBytes` where it marks a
-/// field of bytes, and `UnmarkedBytes` where it has one without a mark and doesn't show that it would mark it; all
-/// before anything is read of the input, and `OutOfMemory` in place of any where memory was refused. Each with what is
-/// told behind it. A run ends as [`run_beside`](fb_run::run_beside) says, with at most 2^32 reads.
+/// four, then, where strict checks are asked for by a schema file and bytes aren't plain, `UnmarkedBytes` where it has
+/// a field of bytes without a mark and doesn't show that it would mark it, and `NoSuchTable` where it marks one as a
+/// nested buffer of no table; all before anything is read of the input, and `OutOfMemory` in place of any where memory
+/// was refused. Each with what is told behind it. A run ends as [`run_beside`](fb_run::run_beside) says, with at most
+/// 2^32 reads.
 pub fn check_beside<S: Input<K, N>, K: Sink, N: Sink>(
     alloc: Global,
     schema_bytes: Option<&[u8]>,

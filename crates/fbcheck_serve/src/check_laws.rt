@@ -7,8 +7,9 @@ ghost use Rattle.fbcheck_texts.specs.TextTests.{AskTexts, HintTexts, LoadTexts, 
 /// A schema file, or none, and the settings ask at most one thing: that the buffers are checked by one job, or that
 /// nothing is checked, for one cause: the file gives no schema, there is no root table, the
 /// path isn't one from there, the schema's own identifier is asked for and has neither no bytes nor four, or strict
-/// checks are asked for and the file marks a field of bytes, or doesn't show that it would. So
-/// [`check`](crate::check::check) tells each of these exactly where it is so, or want of memory in its place.
+/// checks are asked for and the file doesn't show that it would mark a field of bytes, or marks one as a nested buffer
+/// of no table. So [`check`](crate::check::check) tells each of these exactly where it is so, or want of memory in its
+/// place.
 #[tactic(auto, using(crate::proofs::OneAsk::asks_once))]
 pub fn settings_ask_once()
     ensures { AsksOnce }

@@ -1,7 +1,7 @@
 //! By which limits a schema file is read.
 
 ghost use Rattle.std.specs.Prelude.{◌≡◌};
-ghost use Rattle.fbcheck_serve.specs.Checking.{schema_limits};
+ghost use Rattle.fbcheck_serve.specs.FileMarks.{schema_limits};
 
 use fb_verify::Limits;
 

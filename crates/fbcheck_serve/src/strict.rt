@@ -1,18 +1,22 @@
 //! The plan of strict checks, where the settings ask for them and a schema file says enough.
 
-ghost use Rattle.std.specs.Prelude.{IfErr, IfOk, IsTrue, OnOk, ◌≡◌, length};
+ghost use Rattle.std.specs.Prelude.{IfErr, IfOk, OnOk, false, true, ◌≡◌, length, map};
 ghost use Rattle.fb_bfbs.specs.{Loads.IsLoaded, Marks.AreMarks};
 ghost use Rattle.fb_bfbs.specs.declared.loading.Loaded.{Loaded};
-ghost use Rattle.fbcheck_serve.specs.Asked.{IsAskedPlan, Own, demanded};
-ghost use Rattle.fbcheck_serve.specs.Checking.{IsPlanless, IsSchema, MayAsk, schema_limits};
+ghost use Rattle.fb_bfbs.specs.Marks.{marked};
+ghost use Rattle.fb_strict.specs.{Demanded.demanded as holding, Holding.holdings_if, Planned.IsPlan};
+ghost use Rattle.fbcheck_serve.specs.Asked.{IsAskedPlan, Own, demanded, is_demanding};
+ghost use Rattle.fbcheck_serve.specs.ByteFields.{LacksPlan, has_lost};
+ghost use Rattle.fbcheck_serve.specs.Checking.{IsPlanBy, IsPlanless, IsSchema, LacksPlanBy, MayAsk};
+ghost use Rattle.fbcheck_serve.specs.FileMarks.{schema_limits};
 ghost use Rattle.fbcheck_texts.specs.Hints.{hint_text};
 ghost use Rattle.fbcheck_texts.specs.declared.fault.AskFault.TheVariants.{OutOfMemory};
 
-use crate::byte_fields::test_marks;
+use crate::byte_fields::{lost, test_marks};
 use crate::limits::schema_limits;
-use fb_bfbs::{LoadFault, Marks, load_marks};
+use fb_bfbs::{LoadFault, Mark, Marks, load_marks};
 use fb_schema::Schema;
-use fb_strict::{Demands, Plan};
+use fb_strict::{Demands, Plan, PlanFault};
 use fbcheck_texts::fault::AskFault;
 use fbcheck_texts::hint::Unasked;
 use fbcheck_words::Settings;
@@ -40,45 +44,61 @@ fn demanded(settings: &Settings) -> Demands
     Demands {
         unions: settings.strict,
         nested: settings.strict && !settings.plain_bytes,
-        known_fields: false,
-        utf8: false,
+        known_fields: settings.known_fields,
+        utf8: settings.utf8,
     }
 }
 
-/// Whether what the settings demand can be asked by a schema file, or else why not: its marks are asked for strict
-/// checks, unless bytes are plain. Without a file it can.
-fn test_file(
+/// Whether they demand anything.
+fn is_demanding(settings: &Settings) -> bool
+    ensures { result ≡ is_demanding settings.now }
+{
+    settings.strict || settings.known_fields || settings.utf8
+}
+
+/// The plan of a schema for these demands, by these marks.
+fn planned(
     alloc: Global,
     schema: &Schema<'_>,
-    file: Option<&[u8]>,
-    settings: &Settings,
-) -> Result<(), Unasked>
-    requires schema { (own : Own) × IsSchema file schema.now own }
-    ensures ok { OnOk result (MayAsk file.entry schema.now settings.now) }
-    ensures no { IfErr result (λ u. IsPlanless file.entry schema.now settings.now u.fault (hint_text u.hint)) }
+    marks: &[Mark<'_>],
+    demands: Demands,
+) -> Result<Plan, Unasked>
+    ensures plan { IfOk result (IsPlan schema.now (holding demands (holdings_if demands schema.now (map marked marks.now)))) }
+    ensures found { OnOk result (demands.nested ≡ true → has_lost schema.now (map marked marks.now) ≡ false) }
+    ensures no { IfErr result (λ u. LacksPlan schema.now (map marked marks.now) u.fault (hint_text u.hint)) }
 {
-    let Some(bytes) = file else {
-        return Ok(());
-    };
-    if !settings.strict {
-        return Ok(());
-    }
-    if settings.plain_bytes {
-        return Ok(());
-    }
-    match marks_of(alloc, bytes) {
-        Ok(marks) => test_marks(alloc, schema, &marks),
-        Err(unasked) => Err(unasked),
+    match Plan::new(alloc, schema, marks, demands) {
+        Ok(plan) => Ok(plan),
+        Err(PlanFault::OutOfMemory) => Err(Unasked::plain(AskFault::OutOfMemory)),
+        Err(PlanFault::NoSuchTable(table, slot)) => Err(lost(alloc, schema, table, slot)),
     }
 }
 
-/// The plan of a schema for what the settings demand, where they ask for strict checks, and else none.
+/// The plan of a schema for these demands, of nested buffers too, by the marks of its file.
+fn planned_by(
+    alloc: Global,
+    schema: &Schema<'_>,
+    bytes: &[u8],
+    settings: &Settings,
+) -> Result<Plan, Unasked>
+    requires loaded { (loaded : Loaded) × IsLoaded bytes.now (schema_limits (length bytes.now)) loaded }
+    requires nested { (demanded settings.now).nested ≡ true }
+    ensures plan { IfOk result (IsPlanBy bytes.now schema.now settings.now) }
+    ensures no { IfErr result (λ u. LacksPlanBy bytes.now schema.now u.fault (hint_text u.hint)) }
+{
+    let marks = marks_of(alloc, bytes)?;
+    test_marks(alloc, schema, &marks)?;
+    planned(alloc, schema, marks.fields.as_slice(), demanded(settings))
+}
+
+/// The plan of a schema for what the settings demand, and none where that is nothing. Where that is of nested buffers,
+/// the marks of its file say what fields of bytes hold.
 ///
 /// # Errors
 ///
-/// Where they ask for strict checks by a schema file, and not for plain bytes: `MarkedBytes` where it marks a field of bytes, and
-/// then `UnmarkedBytes` where it has one without a mark and doesn't show that it would mark it. `OutOfMemory` where
-/// memory was refused.
+/// Where they ask for strict checks by a schema file, and not for plain bytes: `UnmarkedBytes` where it has a field of
+/// bytes without a mark and doesn't show that it would mark it, and then `NoSuchTable` where it marks one as a nested
+/// buffer of no table. `OutOfMemory` where memory was refused.
 pub fn plan_of(
     alloc: Global,
     schema: &Schema<'_>,
@@ -86,16 +106,17 @@ pub fn plan_of(
     settings: &Settings,
 ) -> Result<Option<Plan>, Unasked>
     requires { (own : Own) × IsSchema file schema.now own }
-    ensures plan { IfOk result (IsAskedPlan schema.now settings.now) }
+    ensures plan { IfOk result (IsAskedPlan file.entry schema.now settings.now) }
     ensures may { OnOk result (MayAsk file.entry schema.now settings.now) }
     ensures no { IfErr result (λ u. IsPlanless file.entry schema.now settings.now u.fault (hint_text u.hint)) }
 {
-    if !settings.strict {
+    if !is_demanding(settings) {
         return Ok(None);
     }
-    test_file(alloc, schema, file, settings)?;
-    match Plan::new(alloc, schema, demanded(settings)) {
-        Ok(plan) => Ok(Some(plan)),
-        Err(_) => Err(Unasked::plain(AskFault::OutOfMemory)),
-    }
+    let demands = demanded(settings);
+    let plan = match file {
+        Some(bytes) if demands.nested => planned_by(alloc, schema, bytes, settings)?,
+        _ => planned(alloc, schema, &[], demands)?,
+    };
+    Ok(Some(plan))
 }

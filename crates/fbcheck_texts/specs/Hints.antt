@@ -13,7 +13,7 @@ use Rattle.fb_schema.specs.declared.kinds.Scalar as scalars
 use Rattle.fb_schema.specs.declared.kinds.Scalar.TheVariants as scalar
 use Rattle.fb_schema.specs.{Live.Live, Live.live_fields, Members.member_name, Parts.parts_of, Rows.Field, Rows.Object, Rows.Rows}
 use Rattle.fbcheck_texts.specs.Alike.{is_alike, step_name}
-use Rattle.fbcheck_texts.specs.declared.{fault.AskFault.AskFault, fault.AskFault.TheVariants.MarkedBytes, fault.AskFault.TheVariants.OutOfMemory, fault.AskFault.TheVariants.Path, fault.AskFault.TheVariants.UnmarkedBytes}
+use Rattle.fbcheck_texts.specs.declared.{fault.AskFault.AskFault, fault.AskFault.TheVariants.NoSuchTable, fault.AskFault.TheVariants.OutOfMemory, fault.AskFault.TheVariants.Path, fault.AskFault.TheVariants.UnmarkedBytes}
 use Rattle.fbcheck_texts.specs.declared.{fault.FileFault.FileFault, hint.Unasked.Unasked}
 use Rattle.std.specs.declared.alloc.AllocError.{AllocError}
 use Rattle.fbcheck_texts.specs.declared.fault.FileFault.TheVariants as file
@@ -243,8 +243,8 @@ path_hint rows path text fault at = codes "\n"
 
 -- what can be done where strict checks can't be made of a field of bytes
 abbrev pub remedy : AskFault → List ℕ
-remedy MarkedBytes = codes "; --plain-bytes takes such fields as bytes\n"
 remedy UnmarkedBytes = codes "; flatc --bfbs-builtins writes it to the .bfbs, --plain-bytes takes such fields as bytes\n"
+remedy NoSuchTable = codes "; --plain-bytes takes such fields as bytes\n"
 remedy fault = codes "\n"
 
 -- behind such a fault stand the field, by its table's name and its own, and what can be done

@@ -63,8 +63,8 @@ pub record AskTexts : Type 0 where
   pub table : path_text (path.NotATable 1) ≡ codes "P6 NotATable step=1"
   pub path_memory : path_text path.OutOfMemory ≡ codes "P7 OutOfMemory"
   pub ident : ask_text ask.NoIdent ≡ codes "the schema's identifier isn't four bytes"
-  pub marked : ask_text ask.MarkedBytes ≡ codes "strict doesn't look inside nested buffers and flexbuffers yet"
   pub unmarked : ask_text ask.UnmarkedBytes ≡ codes "strict can't tell which bytes are nested buffers or flexbuffers"
+  pub lost : ask_text ask.NoSuchTable ≡ codes "strict can't find the table of a nested buffer"
   pub memory : ask_text ask.OutOfMemory ≡ codes "out of memory"
 
 -- what stands behind a run's fault, and what is told of a run's end
@@ -72,7 +72,7 @@ abbrev pub ones : ℕ → ℕ → ℕ → Tally
 ones good aligned bad = record no_tally { yes = good; no = bad; reasons = 0 ∷ aligned ∷ (bad - aligned) ∷ 0 ∷ [] }
 
 pub record HintTexts : Type 0 where
-  pub marked : bytes_hint ask.MarkedBytes (codes "t.M") (codes "inner") ≡ codes ": t.M.inner; --plain-bytes takes such fields as bytes\n"
+  pub lost : bytes_hint ask.NoSuchTable (codes "t.M") (codes "inner") ≡ codes ": t.M.inner; --plain-bytes takes such fields as bytes\n"
   pub unmarked : bytes_hint ask.UnmarkedBytes (codes "M") (codes "data") ≡ codes ": M.data; flatc --bfbs-builtins writes it to the .bfbs, --plain-bytes takes such fields as bytes\n"
   pub stray : run_hint Prefixed (run.Stream stream.Failed) (ones 0 2 3) ≡ codes "; no good message came before: --bare is for a buffer without a prefix, --delimited for prefixes outside the buffers\n"
   pub delimited : run_hint Delimited (run.Stream stream.Failed) (ones 0 2 3) ≡ codes "; no good message came before: --bare is for a buffer without a prefix\n"

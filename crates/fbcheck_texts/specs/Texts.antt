@@ -78,8 +78,8 @@ ask_text (ask.Load cause) = codes "schema: " ++ load_text cause
 ask_text ask.NoRoot = codes "no root table"
 ask_text (ask.Path cause) = codes "path: " ++ path_text cause
 ask_text ask.NoIdent = codes "the schema's identifier isn't four bytes"
-ask_text ask.MarkedBytes = codes "strict doesn't look inside nested buffers and flexbuffers yet"
 ask_text ask.UnmarkedBytes = codes "strict can't tell which bytes are nested buffers or flexbuffers"
+ask_text ask.NoSuchTable = codes "strict can't find the table of a nested buffer"
 ask_text ask.OutOfMemory = codes "out of memory"
 
 -- why a schema file can't be read

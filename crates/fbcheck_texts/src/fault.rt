@@ -27,12 +27,11 @@ pub enum AskFault {
     Path(PathFault),
     /// The schema's own identifier is asked for, and it has neither no bytes nor four.
     NoIdent,
-    /// Strict checks are asked for, and the schema file marks a field of bytes as a nested buffer or a flexbuffer, into
-    /// which they don't look yet.
-    MarkedBytes,
-    /// Strict checks are asked for, and the schema file has a field of bytes without such a mark, and doesn't show that
-    /// it would have one.
+    /// Strict checks are asked for, and the schema file has a field of bytes without a mark, and doesn't show that one
+    /// which holds a buffer or a flexbuffer would have a mark.
     UnmarkedBytes,
+    /// Strict checks are asked for, and the schema file marks a field of bytes as a nested buffer of no table.
+    NoSuchTable,
     /// Memory was refused.
     OutOfMemory,
 }

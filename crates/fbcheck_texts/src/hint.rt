@@ -449,9 +449,9 @@ fn remedy(fault: AskFault) -> &'static [u8]
     ensures { result.now ≡ remedy fault }
 {
     match fault {
-        AskFault::MarkedBytes => b"; --plain-bytes takes such fields as bytes\n",
         AskFault::UnmarkedBytes =>
             b"; flatc --bfbs-builtins writes it to the .bfbs, --plain-bytes takes such fields as bytes\n",
+        AskFault::NoSuchTable => b"; --plain-bytes takes such fields as bytes\n",
         _ => b"\n",
     }
 }

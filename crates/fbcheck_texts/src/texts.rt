@@ -202,12 +202,10 @@ pub fn ask_text(fault: &AskFault) -> Line
         AskFault::NoRoot => Line::of("no root table"),
         AskFault::Path(cause) => headed("path: ", path_text(cause)),
         AskFault::NoIdent => Line::of("the schema's identifier isn't four bytes"),
-        AskFault::MarkedBytes => Line::of(
-            "strict doesn't look inside nested buffers and flexbuffers yet",
-        ),
         AskFault::UnmarkedBytes => Line::of(
             "strict can't tell which bytes are nested buffers or flexbuffers",
         ),
+        AskFault::NoSuchTable => Line::of("strict can't find the table of a nested buffer"),
         AskFault::OutOfMemory => Line::of("out of memory"),
     }
 }

@@ -76,7 +76,7 @@ abbrev pub inputs : App
 inputs = with_rule (with_rule (with_rule (with_rule numbers (flag_rule (codes "bare"))) (flag_rule (codes "delimited"))) (flag_rule (codes "no-alignment"))) (flag_rule (codes "inline-size"))
 
 abbrev pub demands : App
-demands = with_rule (with_rule inputs (flag_rule (codes "strict"))) (flag_rule (codes "plain-bytes"))
+demands = with_rule (with_rule (with_rule (with_rule inputs (flag_rule (codes "strict"))) (flag_rule (codes "plain-bytes"))) (flag_rule (codes "known-fields"))) (flag_rule (codes "utf8"))
 
 abbrev pub outputs : App
 outputs = with_rule (with_rule (with_rule (with_rule (with_rule demands (flag_rule (codes "quiet"))) (flag_rule (codes "filter"))) (flag_rule (codes "summary"))) (flag_rule (codes "names")))

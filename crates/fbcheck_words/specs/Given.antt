@@ -27,6 +27,8 @@ pub record Say (given : List Text) (settings : Settings) : Type 0 where
   pub inline_size : IsTrue settings.checks.inline_size ↔ IsGiven (codes "inline-size") given
   pub strict : IsTrue settings.strict ↔ IsGiven (codes "strict") given
   pub plain_bytes : IsTrue settings.plain_bytes ↔ IsGiven (codes "plain-bytes") given
+  pub known_fields : IsTrue settings.known_fields ↔ IsGiven (codes "known-fields") given
+  pub utf8 : IsTrue settings.utf8 ↔ IsGiven (codes "utf8") given
   pub quiet : IsTrue settings.quiet ↔ IsGiven (codes "quiet") given
   pub filter : IsTrue settings.filter ↔ IsGiven (codes "filter") given
   pub summary : IsTrue settings.summary ↔ IsGiven (codes "summary") given

@@ -64,6 +64,10 @@ pub struct Settings {
     /// Whether fields that the schema file marks as nested buffers or flexbuffers are taken for bytes then
     /// (`--plain-bytes`); `strict` is true then.
     pub plain_bytes: bool,
+    /// Whether each field that a buffer has must be one that the schema knows, and not deprecated (`--known-fields`).
+    pub known_fields: bool,
+    /// Whether each string must be UTF-8 (`--utf8`).
+    pub utf8: bool,
     /// Whether good buffers have no lines (`--quiet`).
     pub quiet: bool,
     /// Whether the good buffers themselves are written (`--filter`); there are no paths then.

@@ -39,7 +39,7 @@ struct Choice<'a> {
 
 /// All options, in the order of help. As a constant they would be built anew in the loop's function, text by text,
 /// which is dear to prove.
-static CHOICES: [Choice<'static>; 23] = [
+static CHOICES: [Choice<'static>; 25] = [
     Choice {
         name: "schema",
         takes: Takes::Text("FILE"),
@@ -119,6 +119,16 @@ static CHOICES: [Choice<'static>; 23] = [
         name: "plain-bytes",
         takes: Takes::Nothing,
         help: "With --strict, take nested buffers and flexbuffers for bytes, and don't look inside",
+    },
+    Choice {
+        name: "known-fields",
+        takes: Takes::Nothing,
+        help: "Require each field that is present to be in the schema, and not deprecated",
+    },
+    Choice {
+        name: "utf8",
+        takes: Takes::Nothing,
+        help: "Require strings to be UTF-8",
     },
     Choice {
         name: "quiet",

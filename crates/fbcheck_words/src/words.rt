@@ -64,6 +64,8 @@ fn said(alloc: Global, matches: &ArgMatches<'_>) -> Result<Settings, SettingsFau
         },
         strict: flag(matches, "strict"),
         plain_bytes: flag(matches, "plain-bytes"),
+        known_fields: flag(matches, "known-fields"),
+        utf8: flag(matches, "utf8"),
         quiet: flag(matches, "quiet"),
         filter: flag(matches, "filter"),
         summary: flag(matches, "summary"),

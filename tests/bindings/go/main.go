@@ -74,6 +74,10 @@ func options(words []string) fbcheck.Options {
 			asked.InlineSize = value == "1"
 		case "strict":
 			asked.Strict = value == "1"
+		case "known_fields":
+			asked.KnownFields = value == "1"
+		case "utf8":
+			asked.UTF8 = value == "1"
 		case "plain_bytes":
 			asked.PlainBytes = value == "1"
 		default:

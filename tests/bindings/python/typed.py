@@ -22,6 +22,8 @@ schema.replace(roots="R")  # error
 schema.replace(max_depth="5")  # error
 fbcheck.Schema("my.bfbs", strict=True, plain_bytes=True).replace(strict=False).options.strict
 schema.replace(strict="yes")  # error
+fbcheck.Schema("my.bfbs", known_fields=True, utf8=True).replace(utf8=False)
+schema.replace(known_fields=1)  # error
 
 value: fbcheck.Value = schema.read(b"", "name")
 first, second = schema.read(b"", "name", schema.path("hp"))

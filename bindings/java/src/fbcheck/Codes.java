@@ -15,6 +15,8 @@ final class Codes {
     static final int NONE = -1;
     static final int NO_TABLE = -2;
     static final int STRICT = 1;
+    static final int KNOWN_FIELDS = 2;
+    static final int UTF8 = 4;
     static final int PLAIN_BYTES = 8;
     static final int STEPS = 31;
     static final int LONGEST_PLACE = 4098;
@@ -43,7 +45,7 @@ final class Codes {
     static final int TOO_MUCH_SHARED = 20;
     static final int NOT_PLANNED = 21;
     static final int UNMARKED_BYTES = 22;
-    static final int MARKED_BYTES = 23;
+    static final int NO_SUCH_TABLE = 23;
 
     // enum fbcheck_reason
     static final int WRONG_PREFIX = 1;

@@ -39,12 +39,12 @@ public class FbcheckException extends RuntimeException {
         /** The schema file has more rows, or longer names, than its length pays for. */
         TOO_MUCH_SHARED(Codes.TOO_MUCH_SHARED, "schema: L6 TooMuchShared"),
         /** A schema was asked for demands, such as {@link Demand#STRICT}, that it wasn't loaded with. */
-        NOT_PLANNED(Codes.NOT_PLANNED, "the schema was loaded with other demands: ask for strict when you load it"),
+        NOT_PLANNED(Codes.NOT_PLANNED, "the schema was loaded with other demands: ask for these when you load it"),
         /** Strict checks can't tell whether a field of type {@code [ubyte]} is a nested buffer or flexbuffer. */
         UNMARKED_BYTES(Codes.UNMARKED_BYTES, "strict can't tell which bytes are nested buffers or flexbuffers: %s;"
                 + " flatc --bfbs-builtins writes it to the .bfbs, plainBytes takes such fields as bytes"),
-        /** Strict checks don't look inside nested buffers and flexbuffers, of which the schema file marks one. */
-        MARKED_BYTES(Codes.MARKED_BYTES, "strict doesn't look inside nested buffers and flexbuffers yet: %s;"
+        /** The schema file marks a field as a nested buffer, of a table that it doesn't have. */
+        NO_SUCH_TABLE(Codes.NO_SUCH_TABLE, "strict can't find the table of a nested buffer: %s;"
                 + " plainBytes takes such fields as bytes");
 
         private final int number;
@@ -99,7 +99,7 @@ public class FbcheckException extends RuntimeException {
                     + " part=" + Told.dash(Told.field(told));
             case BAD_PATH -> "path: " + Calls.faultName(status.number, code)
                     + (code == Codes.BAD_TEXT ? " at=" : " step=") + Told.at(told);
-            case UNMARKED_BYTES, MARKED_BYTES -> status.text.formatted(field);
+            case UNMARKED_BYTES, NO_SUCH_TABLE -> status.text.formatted(field);
             default -> status.text;
         }));
     }

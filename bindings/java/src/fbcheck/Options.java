@@ -103,6 +103,16 @@ public record Options(String root, int maxDepth, int maxTables, long maxReads, i
         return demanding(Demand.STRICT, asked);
     }
 
+    /** Whether tables may only have fields that the schema knows and doesn't deprecate: {@link Demand#KNOWN_FIELDS}. */
+    public Options knownFields(boolean asked) {
+        return demanding(Demand.KNOWN_FIELDS, asked);
+    }
+
+    /** Whether strings must be UTF-8: {@link Demand#UTF8}. */
+    public Options utf8(boolean asked) {
+        return demanding(Demand.UTF8, asked);
+    }
+
     /** Whether strict checks take fields of type {@code [ubyte]} for plain bytes: {@link Demand#PLAIN_BYTES}. */
     public Options plainBytes(boolean asked) {
         return demanding(Demand.PLAIN_BYTES, asked);

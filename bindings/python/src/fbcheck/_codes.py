@@ -10,6 +10,8 @@ DEEPEST: Final = 4096
 NONE: Final = 0xffffffff
 NO_TABLE: Final = 0xfffffffe
 STRICT: Final = 1
+KNOWN_FIELDS: Final = 2
+UTF8: Final = 4
 PLAIN_BYTES: Final = 8
 STEPS: Final = 31
 LONGEST_PLACE: Final = 4098
@@ -52,7 +54,7 @@ class Status(enum.IntEnum):
     TOO_MUCH_SHARED = 20
     NOT_PLANNED = 21
     UNMARKED_BYTES = 22
-    MARKED_BYTES = 23
+    NO_SUCH_TABLE = 23
 
 
 class Code(enum.IntEnum):

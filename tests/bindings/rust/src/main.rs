@@ -44,6 +44,8 @@ fn options(words: &[&str]) -> Result<Options, Box<dyn std::error::Error>> {
             "alignment" => asked.alignment(value == "1"),
             "inline_size" => asked.inline_size(value == "1"),
             "strict" => asked.strict(value == "1"),
+            "known_fields" => asked.known_fields(value == "1"),
+            "utf8" => asked.utf8(value == "1"),
             "plain_bytes" => asked.plain_bytes(value == "1"),
             _ => return Err("no such option".into()),
         };

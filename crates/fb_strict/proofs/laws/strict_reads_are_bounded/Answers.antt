@@ -1,4 +1,4 @@
-use Rattle.fb_strict.proofs.Price.{strict_cost_is_bounded, strict_reads_are_bounded}
+use Rattle.fb_strict.proofs.Bounded.{strict_cost_is_bounded, strict_reads_are_bounded}
 use Rattle.fb_strict.proofs.laws.strict_reads_are_bounded.Goals as goal
 
 -- src/laws.rt

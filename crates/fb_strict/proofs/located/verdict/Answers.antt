@@ -1,28 +1,14 @@
+use Rattle.std.proofs.Common.{arith}
 use Rattle.fb_verify.specs.Sealed.{asked_of}
-use Rattle.fb_strict.proofs.Verdicts.{says_yes, says_none, says_along}
+use Rattle.fb_strict.specs.Strictly.{StopsAlongStrictly}
+use Rattle.fb_strict.proofs.Locating.{along_in, few_in}
 use Rattle.fb_strict.proofs.located.verdict.Goals as goal
 
 -- src/located.rt
-pub returns-in-Ok-clause-yes : goal.returns-in-Ok-clause-yes
-returns-in-Ok-clause-yes g c =
+pub returns-clause-along : goal.returns-clause-along
+returns-clause-along g c =
     let v = c.args.verified in
-    let r = c.requires.reports in
-    rw c.report.ensures.value (says_yes c.args.plan.now (asked_of v c.args.ident c.args.limits) v.bytes c.requires.plan v.report r c.in-Ok.reads c.ask.new.frames (c.in-Ok.ensures.asked r.found r.well_formed))
+    along_in (StopsAlongStrictly c.args.plan.now (asked_of v c.args.ident c.args.limits) v.bytes) c.verdict_along.result c.args.limits.depth _ c.verdict_along.new.links _ (omega (arith, c.split_at_mut-links.ensures.front_len)) c.verdict_along.ensures.along c.verdict_along.ensures.few
 
-pub put_links-links-requires-clause-linked : goal.put_links-links-requires-clause-linked
-put_links-links-requires-clause-linked g c =
-    let r = c.requires.reports in
-    rw (c.window.ensures.value, c.schema.ensures.value, c.checks.ensures.value) (c.in-Err.ensures.asked r.found r.well_formed).linked
-
-pub returns-in-Err-clause-none : goal.returns-in-Err-clause-none
-returns-in-Err-clause-none g c =
-    let v = c.args.verified in
-    let r = c.requires.reports in
-    says_none c.args.plan.now (asked_of v c.args.ident c.args.limits) v.bytes c.requires.plan v.report r c.in-Err.unmet c.ask.new.frames (c.in-Err.ensures.asked r.found r.well_formed)
-
-pub returns-in-Err-clause-along : goal.returns-in-Err-clause-along
-returns-in-Err-clause-along g c =
-    let v = c.args.verified in
-    let r = c.requires.reports in
-    says_along c.args.plan.now (asked_of v c.args.ident c.args.limits) v.bytes c.requires.plan v.report r c.in-Err.unmet c.ask.new.frames _ (c.in-Err.ensures.asked r.found r.well_formed)
-    (rw (c.window.ensures.value, c.schema.ensures.value) at c.put_links-links.ensures.links)
+pub returns-clause-few : goal.returns-clause-few
+returns-clause-few g c = few_in c.verdict_along.result c.verdict_along.new.links _ c.verdict_along.ensures.few

@@ -1,7 +1,7 @@
 use Rattle.std.proofs.Common.{inl}
 use Rattle.fb_rules.specs.Question.{question}
-use Rattle.fb_strict.proofs.Price.{strict_reads_are_bounded}
-use Rattle.fb_strict.proofs.Calls.{price_of_yes, price_of_no}
+use Rattle.fb_strict.proofs.Bounded.{strict_reads_are_bounded}
+use Rattle.fb_strict.proofs.Calls.{told_none, price_of_yes, price_of_no}
 use Rattle.fb_strict.proofs.strictly.verify_strictly_shallow.Goals as goal
 
 -- src/strictly.rt
@@ -22,3 +22,9 @@ returns-clause-price_of_no g c =
     let a = c.args in
     let q = question a.schema.now a.root a.start a.ident a.limits a.checks in
     price_of_no a.plan.now q a.meter.bytes c.verdict.result c.in-Ok.verified c.in-Ok.ensures.kept c.verdict.ensures.no
+
+pub returns-clause-none : goal.returns-clause-none
+returns-clause-none g c =
+    let a = c.args in
+    let q = question a.schema.now a.root a.start a.ident a.limits a.checks in
+    told_none a.plan.now q a.meter.bytes c.verdict.result c.in-Ok.verified c.in-Ok.ensures.kept c.verdict.ensures.none

@@ -90,5 +90,5 @@ returns-clause-serves c =
       few = rw (c.in_ok-paths.ensures.count, c.as_slice.ensures.value) c.requires.few;
       least = c.requires.least;
       most = c.requires.most;
-      planned = planned c.in-Ok.loaded.schema c.args.settings.now c.in_ok-plan.plan c.in_ok-plan.ensures.plan;
+      planned = planned c.args.schema_bytes c.in-Ok.loaded.schema c.args.settings.now c.in_ok-plan.plan c.in_ok-plan.ensures.plan;
     })

@@ -1,29 +1,26 @@
-use Rattle.std.proofs.Common.{rules, sym, ◌∙◌}
-use Rattle.std.proofs.lemmas.List.Sorted.{answers_always}
-use Rattle.fb_schema.specs.Live.{live_of_view}
-use Rattle.fbcheck_serve.proofs.ByteLemmas.{found_slot, missed_slot, no_bytes, other_slot}
+use Rattle.std.proofs.Common.{arith, sym, ◌∙◌}
+use Rattle.std.specs.Prelude.{◌==◌, ◌&&◌}
+use Rattle.fb_schema.specs.Live.{Live, live_of_view}
+use Rattle.fb_strict.specs.Holding.{is_bytes}
+use Rattle.fbcheck_serve.proofs.ByteLemmas.{has_table, none_more, some_does}
 use Rattle.fbcheck_serve.proofs.byte_fields.bytes_at.Goals as goal
 
-pub returns-then-not-is_table-clause-none : goal.returns-then-not-is_table-clause-none
-returns-then-not-is_table-clause-none c f is slot = no_bytes c.args.schema.now c.args.object (sym c.is_table.ensures ∙ c.if-not-is_table.true) f is
+pub field_count-place-end-requires : goal.field_count-place-end-requires
+field_count-place-end-requires c = has_table c.args.schema.now c.args.table c.args.slot c.requires
 
-pub returns-in_default-clause-none : goal.returns-in_default-clause-none
-returns-in_default-clause-none c =
-    missed_slot c.args.schema.now c.lawful.ensures.served c.args.object c.fields_of-fields.result.now c.fields_of-fields.ensures.value c.in_default.field-0 c.args.slot
-    (c.in_default.ensures.position (λ f. f.slot) (answers_always _ _ _ (λ f a r g called. search rules)))
+pub field_at-field-requires-clause-table : goal.field_at-field-requires-clause-table
+field_at-field-requires-clause-table c = has_table c.args.schema.now c.args.table c.args.slot c.requires
 
-pub returns-then-not-is_bytes-clause-none : goal.returns-then-not-is_bytes-clause-none
-returns-then-not-is_bytes-clause-none c =
-    other_slot c.args.schema.now c.lawful.ensures.served c.args.object c.in-Ok.place c.args.slot (live_of_view c.field_at-field.result) c.field_at-field.ensures
-    (found_slot c.args.schema.now c.lawful.ensures.served c.args.object c.fields_of-fields.result.now c.fields_of-fields.ensures.value c.in-Ok.place c.args.slot c.field_at-field.result c.in-Ok.ensures.bound
-    (c.in-Ok.ensures.position (λ f. f.slot) (answers_always _ _ _ (λ f a r g called. search rules))) c.field_at-field.ensures)
-    (sym c.is_bytes.ensures ∙ c.if-not-is_bytes.true)
+pub loop-place-init : goal.loop-place-init
+loop-place-init c i f low at = absurd (omega (arith, low))
 
-pub returns-clause-some : goal.returns-clause-some
-returns-clause-some c = (
-  live_of_view c.field_at-field.result,
-  record { place = c.in-Ok.place; at = c.field_at-field.ensures; bytes = sym c.is_bytes.ensures ∙ c.if-not-is_bytes.false },
-  found_slot c.args.schema.now c.lawful.ensures.served c.args.object c.fields_of-fields.result.now c.fields_of-fields.ensures.value c.in-Ok.place c.args.slot c.field_at-field.result c.in-Ok.ensures.bound
-      (c.in-Ok.ensures.position (λ f. f.slot) (answers_always _ _ _ (λ f a r g called. search rules))) c.field_at-field.ensures,
-  c.named.ensures,
-)
+pub loop-place-preserved : goal.loop-place-preserved
+loop-place-preserved c =
+    none_more c.args.schema.now c.args.table (λ (f : Live). (f.slot == c.args.slot) && is_bytes f.kind) c.loop-place.place (live_of_view c.field_at-field.result) c.field_at-field.ensures
+    (sym c.is_at.ensures ∙ c.if-is_at.false) c.loop-place.invariant
+
+pub returns-then-is_at-clause-field : goal.returns-then-is_at-clause-field
+returns-then-is_at-clause-field c = record { place = c.loop-place.place; at = c.field_at-field.ensures; is = sym c.is_at.ensures ∙ c.if-is_at.true }
+
+pub unreachable-requires : goal.unreachable-requires
+unreachable-requires c = some_does c.args.schema.now c.args.table c.args.slot c.loop-place.place c.requires (omega (arith, c.loop-place-test.false, c.field_count-place-end.ensures)) c.loop-place.invariant

@@ -1,4 +1,4 @@
-use Rattle.fb_lines.proofs.PlaceLemmas.{checked_along, checked_yes}
+use Rattle.fb_lines.proofs.PlaceLemmas.{checked_along, checked_no, checked_yes}
 use Rattle.fb_lines.proofs.checker.Checker.located.Goals as goal
 
 pub returns-in-Ok-clause-yes : goal.returns-in-Ok-clause-yes
@@ -13,3 +13,7 @@ returns-in-Ok-verify_strictly_and_locate-clause-yes g c =
 pub returns-in-Err-verify_strictly_and_locate-clause-along : goal.returns-in-Err-verify_strictly_and_locate-clause-along
 returns-in-Err-verify_strictly_and_locate-clause-along g c =
     checked_along c.self.inside.options.now c.args.meter.bytes c.self.view_is c.start-start.ensures c.limits_for-limits.ensures c.in-Some.is _ _ c.in-Err-verify_strictly_and_locate.ensures.along
+
+pub returns-in-Err-verify_strictly_and_locate-clause-no : goal.returns-in-Err-verify_strictly_and_locate-clause-no
+returns-in-Err-verify_strictly_and_locate-clause-no g c =
+    checked_no c.self.inside.options.now c.args.meter.bytes c.self.view_is c.start-start.ensures c.limits_for-limits.ensures c.in-Some.is _ c.in-Err-verify_strictly_and_locate.ensures.no

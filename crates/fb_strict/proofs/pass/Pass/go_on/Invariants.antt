@@ -2,10 +2,10 @@ use Rattle.fb_strict.specs.Passing.{work_left}
 use Rattle.fb_strict.proofs.Looping.{WentSoFar}
 use Rattle.fb_strict.proofs.pass.Pass.go_on.Given as goal
 
--- the turns so far
-abbrev pub invariant-loop-open : goal.invariant-loop-open
-invariant-loop-open g l = WentSoFar l.self l.fn.reads l.reads l.fn.frames l.fn.many l.frames l.open
+-- the pass so far
+abbrev pub invariant-loop-many : goal.invariant-loop-many
+invariant-loop-many g l = WentSoFar l.self l.fn.loan l.loan l.fn.frames l.fn.many l.frames l.many
 
--- each leaves less work
-abbrev pub decreases-loop-open : goal.decreases-loop-open
-decreases-loop-open g l = work_left l.self l.reads.count l.frames l.open
+-- each round leaves less work
+abbrev pub decreases-loop-many : goal.decreases-loop-many
+decreases-loop-many g l = work_left l.self l.loan.count l.frames l.many

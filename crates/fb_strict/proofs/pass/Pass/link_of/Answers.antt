@@ -23,34 +23,34 @@ there g c = rw (same_task g c _) at (sym c.place_of.ensures.value ∙ c.in-Some.
 -- src/links.rt
 pub words_at-requires-clause-stands : goal.words_at-requires-clause-stands
 words_at-requires-clause-stands g c =
-    subst (λ (x : Task). WordsStand c.args.window.now c.in-Some.place x.ask) (sym (same_task g c _)) (words_stand c.args.self.now c.args.window.now c.args.frame.now c.requires.linked c.in-Some.place (there g c))
+    subst (λ (x : Task). WordsStand c.args.window.now c.in-Some.place x.ask) (sym (same_task g c _)) (words_stand c.args.self.now c.args.window.now c.requires.plan c.args.frame.now c.requires.linked c.in-Some.place (there g c))
 
 pub overflow_sub-before : goal.overflow_sub-before
 overflow_sub-before g c =
     let s = (goal.at.overflow_sub-before g c).In-Some in
-    let more = more_words c.args.self.now c.args.window.now c.args.frame.now c.requires.linked c.in-Some.place (there g s) in
+    let more = more_words c.args.self.now c.args.window.now c.requires.plan c.args.frame.now c.requires.linked c.in-Some.place (there g s) in
     let words = c.words_at.ensures ∙ ap (λ (x : Task). ask_words c.args.window.now (Some c.in-Some.place) x.ask) (same_task g s _) in
     omega (arith, more, words)
 
 pub overflow_sub-before-2 : goal.overflow_sub-before-2
 overflow_sub-before-2 g c =
     let s = (goal.at.overflow_sub-before-2 g c).In-Some in
-    let more = more_words c.args.self.now c.args.window.now c.args.frame.now c.requires.linked c.in-Some.place (there g s) in
+    let more = more_words c.args.self.now c.args.window.now c.requires.plan c.args.frame.now c.requires.linked c.in-Some.place (there g s) in
     let words = c.words_at.ensures ∙ ap (λ (x : Task). ask_words c.args.window.now (Some c.in-Some.place) x.ask) (same_task g s _) in
     omega (arith, more, words)
 
 pub member_at-requires-clause-stands : goal.member_at-requires-clause-stands
 member_at-requires-clause-stands g c =
     let s = (goal.at.member_at-requires-clause-stands g c).In-Some in
-    let more = more_words c.args.self.now c.args.window.now c.args.frame.now c.requires.linked c.in-Some.place (there g s) in
+    let more = more_words c.args.self.now c.args.window.now c.requires.plan c.args.frame.now c.requires.linked c.in-Some.place (there g s) in
     let words = c.words_at.ensures ∙ ap (λ (x : Task). ask_words c.args.window.now (Some c.in-Some.place) x.ask) (same_task g s _) in
     let n = c.words_at.result - c.args.frame.now.row.left - 1 in
     subst (λ (x : Task). MemberStands c.args.window.now c.args.frame.now.table.at x.slot n x.ask) (sym (same_task g s _))
-    (member_stands c.args.self.now c.args.window.now c.args.frame.now c.requires.linked c.in-Some.place (there g s) n (omega (arith, more, words)))
+    (member_stands c.args.self.now c.args.window.now c.requires.plan c.args.frame.now c.requires.linked c.in-Some.place (there g s) n (omega (arith, more, words)))
 
 pub returns : goal.returns
 returns g c =
     let s = (goal.at.returns g c).In-Some in
     let same = same_task g s _ in
     let words = c.words_at.ensures ∙ ap (λ (x : Task). ask_words c.args.window.now (Some c.in-Some.place) x.ask) same in
-    rw (c.element_at.ensures, c.member_at.ensures, same) (link_read c.args.self.now c.args.window.now c.args.frame.now c.requires.linked c.in-Some.place (there g s) _ (ap (λ (k : ℕ). k - c.args.frame.now.row.left - 1) words))
+    rw (c.element_at.ensures, c.member_at.ensures, same) (link_read c.args.self.now c.args.window.now c.requires.plan c.args.frame.now c.requires.linked c.in-Some.place (there g s) _ (ap (λ (k : ℕ). k - c.args.frame.now.row.left - 1) words))

@@ -1,7 +1,8 @@
 use Rattle.std.proofs.Common.{ap, ◌∙◌}
 use Rattle.fb_strict.specs.declared.demands.Demands.{Demands}
 use Rattle.fb_strict.specs.Planned.{Planned}
-use Rattle.fb_strict.specs.Passing.{Passing, wants_of, asked_object}
+use Rattle.fb_strict.specs.Passing.{Passing, wants_of}
+use Rattle.fb_strict.specs.Asked.{asked_referent}
 use Rattle.fb_strict.proofs.Answered.{ok_for, failed_none}
 use Rattle.fb_strict.proofs.pass.Pass.pass_first.Goals as goal
 
@@ -17,4 +18,4 @@ returns-in_ok-answer-in-ByType g c =
     let tested = rw (checks, rows, asked) at u.ensures.tested in
     let a = c.in_ok-answer-in-ByType.ensures m _ _ tested in
     let none = failed_none m u.new.reads u.new.at _ u.result _ tested a.ok in
-    rw c.in-ByType.is (ok_for _ _ c.args.site c.args.self.now.limits m u.new.reads _ _ c.args.row.place a, c.asked_object.ensures ∙ ap (asked_object (wants_of c.args.self.now)) (rw rows at (u.ensures.member none)))
+    rw c.in-ByType.is (ok_for _ _ c.args.site c.args.self.now.limits m u.new.reads _ _ c.args.row.place a, c.asked_referent.ensures ∙ ap (asked_referent (wants_of c.args.self.now)) (rw rows at (u.ensures.member none)))

@@ -6,9 +6,9 @@ use Rattle.fb_strict.proofs.pass.Pass.put_links.Given as goal
 abbrev pub invariant-loop-count : goal.invariant-loop-count
 invariant-loop-count g l = record {
   same : length l.links ≡ length l.fn.links;
-  within : l.count ≤ l.many;
+  within : l.count ≤ length l.links;
   done : take l.count l.links ≡ frame_links (wants_of l.self) l.window l.self.rows l.frames l.count;
 }
 
 abbrev pub decreases-loop-count : goal.decreases-loop-count
-decreases-loop-count g l = l.many - l.count
+decreases-loop-count g l = length l.links - l.count

@@ -3,7 +3,7 @@ use Rattle.std.specs.Prelude.{slice_get}
 use Rattle.std.proofs.lemmas.Option.{slice_get_past, slice_get_within}
 use Rattle.fb_schema.specs.{Rows.is_table, Live.live_fields}
 use Rattle.fb_strict.specs.{Planned.tasks_in, Passing.Passing, Passing.wants_of}
-use Rattle.fb_strict.proofs.Tasking.{at_task, at_end, stays_at, stops_at, halts_in, tasks_are, item_some, few_tasks}
+use Rattle.fb_strict.proofs.Tasking.{at_task, at_end, stays_at, goes_in_at, stops_at, halts_in, tasks_are, item_some, few_tasks}
 use Rattle.fb_strict.proofs.pass.Pass.step.Goals as goal
 use Rattle.fb_strict.proofs.pass.Pass.step.Goals.{In-Some}
 
@@ -11,7 +11,7 @@ none_left : (n : ℕ) → n ≤ 0 → n ≡ 0
 none_left n h = omega arith
 
 -- the next task
-found : (g : _) (c : In-Some g) → IsTrue (is_table c.args.self.now.rows (c.args.top.now.table).object) → slice_get (tasks_in (wants_of c.args.self.now) c.args.self.now.rows (live_fields c.args.self.now.rows (c.args.top.now.table).object)) c.args.top.now.next ≡ Some c.in-Some.task.now
+found : (g : _) (c : In-Some g) → IsTrue (is_table c.args.self.now.rows (c.args.top.now.table).object) → slice_get (tasks_in (wants_of c.args.self.now) c.args.self.now.rows (c.args.top.now.table).object (live_fields c.args.self.now.rows (c.args.top.now.table).object)) c.args.top.now.next ≡ Some c.in-Some.task.now
 found g c object =
     let p = c.args.self.now in
     let plan = ap (λ (x : Passing). x.plan) c.self.view_is in
@@ -32,8 +32,8 @@ pub overflow_add-top : goal.overflow_add-top
 overflow_add-top g c =
     let p = c.args.self.now in
     let fs = live_fields p.rows (c.args.top.now.table).object in
-    let within = slice_get_within (tasks_in (wants_of p) p.rows fs) c.args.top.now.next c.in-Some.task.now (found g c c.requires.left.3.object) in
-    let few = few_tasks (wants_of p) p.rows fs in
+    let within = slice_get_within (tasks_in (wants_of p) p.rows (c.args.top.now.table).object fs) c.args.top.now.next c.in-Some.task.now (found g c c.requires.left.3.object) in
+    let few = few_tasks (wants_of p) p.rows (c.args.top.now.table).object fs in
     let most = c.requires.passing.served.few (c.args.top.now.table).object in
     omega (arith, within, few, most)
 
@@ -43,11 +43,17 @@ pass_task-requires-clause-taskable g c =
     let l = c.requires.left.3 in
     (at_task c.args.self.now c.args.reads.now.bytes c.requires.passing c.requires.left.0 c.requires.left.1 c.args.top.now c.requires.left.2 l (none_left c.args.top.now.row.left c.if-top-gt0.false) c.in-Some.task.now (found g s l.object)).taskable
 
-pub returns-in-Ok : goal.returns-in-Ok
-returns-in-Ok g c deep via ds l =
-    let s = (goal.at.returns-in-Ok g c).In-Some in
+pub returns-in-Ok-None : goal.returns-in-Ok-None
+returns-in-Ok-None g c deep via ds l =
+    let s = (goal.at.returns-in-Ok-None g c).In-Some in
     stays_at c.args.self.now c.args.reads.now c.pass_task.new.reads c.requires.passing deep via c.args.top.now ds l (none_left c.args.top.now.row.left c.if-top-gt0.false) c.in-Some.task.now (found g s l.object) c.pass_task.new.row
-    (rw (c.site-site.ensures, c.in-Ok.is) at c.pass_task.ensures)
+    (rw (c.site-site.ensures, c.in-Ok-None.is, c.in-Ok-None.field-0-is) at c.pass_task.ensures)
+
+pub returns-in-Ok-Some : goal.returns-in-Ok-Some
+returns-in-Ok-Some g c deep via ds l =
+    let s = (goal.at.returns-in-Ok-Some g c).In-Some in
+    goes_in_at c.args.self.now c.args.reads.now c.pass_task.new.reads c.requires.passing deep via c.args.top.now ds l (none_left c.args.top.now.row.left c.if-top-gt0.false) c.in-Some.task.now (found g s l.object) c.pass_task.new.row c.in-Ok-Some.inner
+    (rw (c.site-site.ensures, c.in-Ok-Some.is, c.in-Ok-Some.field-0-is) at c.pass_task.ensures)
 
 pub returns-in-Err : goal.returns-in-Err
 returns-in-Err g c deep via ds l =

@@ -3,8 +3,8 @@ use Rattle.std.proofs.Math.ListN.{length-set}
 use Rattle.fb_bytes.specs.Word.{Lent}
 use Rattle.fb_strict.specs.Asked.{Demand}
 use Rattle.fb_rules.specs.declared.link.Link.{Link}
-use Rattle.fb_strict.specs.Passing.{wants_of, blank, frame_links, IsRoom, IsLeft, GoesDown}
-use Rattle.fb_strict.proofs.Stacks.{top_of, stays_turned, up_turned, stops_turned, has_frame, its_table, its_reads, its_paid, open_stops, down_turned}
+use Rattle.fb_strict.specs.Passing.{blank, frame_links, IsPassing, IsRoom, IsLeft, GoesDown, wants_of}
+use Rattle.fb_strict.proofs.Stacks.{top_of, stays_turned, up_turned, in_turned, stops_turned, has_frame, its_table, its_object, its_reads, its_paid, open_stops, down_turned}
 use Rattle.fb_strict.proofs.pass.Pass.turn.Goals as goal
 use Rattle.fb_strict.proofs.pass.Pass.turn.Goals.{After-open-arg-1}
 
@@ -23,6 +23,11 @@ pub returns-in-Ok-Up : goal.returns-in-Ok-Up
 returns-in-Ok-Up g c ds stack =
     up_turned c.args.self.now c.args.reads.now c.step.new.reads c.args.frames.now c.args.many (c.args.many - 1) c.requires.some c.requires.within refl ds stack c.step.new.top
     (λ room via own l. rw (c.in-Ok-Up.is, c.in-Ok-Up.field-0-is) at (c.step.ensures room via own l))
+
+pub returns-in-Ok-In : goal.returns-in-Ok-In
+returns-in-Ok-In g c ds stack =
+    in_turned c.args.self.now c.args.reads.now c.step.new.reads c.args.frames.now c.args.many (c.args.many - 1) c.requires.some c.requires.within refl ds stack c.step.new.top c.in-Ok-In.inner
+    (λ room via own l. rw (c.in-Ok-In.is, c.in-Ok-In.field-0-is) at (c.step.ensures room via own l))
 
 pub returns-in-Err : goal.returns-in-Err
 returns-in-Err g c ds stack =
@@ -58,10 +63,15 @@ open-requires-clause-few g c =
     let base = ap (λ (x : Lent). x.base) (on g o) in
     omega (arith, paid, base, c.requires.few)
 
-pub open-requires-clause-short : goal.open-requires-clause-short
-open-requires-clause-short g c =
-    let o = (goal.at.open-requires-clause-short g c).After-open-arg-1 in
-    rw (same_bytes g o) c.requires.passing.short
+pub open-requires-clause-passing : goal.open-requires-clause-passing
+open-requires-clause-passing g c =
+    let o = (goal.at.open-requires-clause-passing g c).After-open-arg-1 in
+    subst (IsPassing c.args.self.now) (sym (same_bytes g o)) c.requires.passing
+
+pub open-requires-clause-object : goal.open-requires-clause-object
+open-requires-clause-object g c =
+    let o = (goal.at.open-requires-clause-object g c).After-open-arg-1 in
+    its_object c.args.self.now c.args.reads.now c.step.new.reads c.args.frames.now c.args.many (c.args.many - 1) c.requires.some c.requires.within refl c.requires.left.0 c.requires.left.1 c.step.new.reads c.step.new.top c.step.new.child (down g o) c.requires.passing
 
 pub open-requires-clause-table : goal.open-requires-clause-table
 open-requires-clause-table g c =
@@ -74,9 +84,9 @@ overflow_add-result g c = omega (arith, c.requires.within, c.requires.small)
 pub returns-in-Ok : goal.returns-in-Ok
 returns-in-Ok g c ds stack =
     let o = (goal.at.returns-in-Ok g c).After-open-arg-1 in
-    down_turned c.args.self.now c.args.reads.now c.open.new.reads c.args.frames.now c.args.many (c.args.many - 1) c.requires.some c.requires.within refl ds stack c.step.new.reads c.step.new.top c.step.new.child (down g o) c.requires.passing c.in-Ok.ensures.asked _ (rw (same_bytes g o) at c.in-Ok.ensures.head) c.open.new.frame c.in-Ok.ensures.frame
+    down_turned c.args.self.now c.args.reads.now c.open.new.reads c.args.frames.now c.args.many (c.args.many - 1) c.requires.some c.requires.within refl ds stack c.step.new.reads c.step.new.top c.step.new.child (down g o) c.requires.passing c.in-Ok.ensures.opens _ (rw (same_bytes g o) at c.in-Ok.ensures.head) c.open.new.frame c.in-Ok.ensures.frame
 
 pub returns-in-Err-open : goal.returns-in-Err-open
 returns-in-Err-open g c ds stack =
     let o = (goal.at.returns-in-Err-open g c).After-open-arg-1 in
-    open_stops c.args.self.now c.args.reads.now c.open.new.reads c.args.frames.now c.args.many (c.args.many - 1) c.requires.some c.requires.within refl ds stack c.step.new.reads c.step.new.top c.step.new.child (down g o) c.requires.passing c.in-Err-open.stop c.in-Err-open.ensures.asked c.open.new.frame c.halt.result c.halt.ensures
+    open_stops c.args.self.now c.args.reads.now c.open.new.reads c.args.frames.now c.args.many (c.args.many - 1) c.requires.some c.requires.within refl ds stack c.step.new.reads c.step.new.top c.step.new.child (down g o) c.requires.passing c.in-Err-open.stop c.in-Err-open.ensures.opens c.open.new.frame c.halt.result c.halt.ensures

@@ -1,0 +1,16 @@
+use Rattle.std.proofs.Common.{◌≡◌, ◌≤◌, length}
+use Rattle.fb_strict.specs.Levels.{IsUnderWay, turns_left}
+use Rattle.fb_strict.proofs.levels.Asking.run.Given as goal
+
+-- the verdict is under way
+abbrev pub invariant-loop-many : goal.invariant-loop-many
+invariant-loop-many g l = record {
+  under : IsUnderWay l.self l.spent l.frames l.levels l.many;
+  frames : l.self.question.limits.depth ≡ length l.frames;
+  levels : l.self.question.limits.depth ≤ length l.levels;
+  room : g.W.Walker.room l.walker ≡ g.W.Walker.room l.fn.walker;
+}
+
+-- each turn leaves fewer
+abbrev pub decreases-loop-many : goal.decreases-loop-many
+decreases-loop-many g l = turns_left l.self l.spent l.many
