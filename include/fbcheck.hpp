@@ -105,8 +105,7 @@ inline std::string why(const fbcheck_verdict &told) {
     if (told.status == FBCHECK_BAD_PATH)
         return name + part(told.reason == FBCHECK_BAD_TEXT ? " at=" : " step=", told.at);
     const std::string words(text, fbcheck_status_text(told.status, text, sizeof text));
-    if (words.empty()) return part("status ", told.status);
-    return told.status == FBCHECK_NULL ? words + ", or the schema was moved from" : words;
+    return words.empty() ? part("status ", told.status) : words;
 }
 
 // The same for a status alone.
@@ -143,11 +142,12 @@ class PathError : public std::runtime_error {
 };
 
 // A stream ended inside a message (FBCHECK_TRUNCATED), a message exceeds the maximum (FBCHECK_OVERSIZE), or the Framer
-// was used after such an error (FBCHECK_FAILED).
+// was used after such an error (FBCHECK_FAILED) or after it was moved from (FBCHECK_NULL).
 class StreamError : public std::runtime_error {
   public:
     StreamError(std::uint32_t told, const fbcheck_framer &framer)
-        : std::runtime_error(why(told) + (told == FBCHECK_OVERSIZE ? ": " + std::to_string(framer.declared) : "")),
+        : std::runtime_error(why(told) + (told == FBCHECK_OVERSIZE ? ": " + std::to_string(framer.declared) : "") +
+                             (told == FBCHECK_NULL ? ", or the framer was moved from" : "")),
           status(told) {}
     std::uint32_t status;
 };
@@ -158,7 +158,8 @@ class Misuse : public std::logic_error {
   public:
     explicit Misuse(std::uint32_t told, std::uint64_t place = 0)
         : std::logic_error("nothing was checked: " + why(told) +
-                           (told == FBCHECK_MISFIT ? ": paths[" + std::to_string(place) + "]" : "")),
+                           (told == FBCHECK_MISFIT ? ": paths[" + std::to_string(place) + "]" : "") +
+                           (told == FBCHECK_NULL ? ", or the schema was moved from" : "")),
           status(told), at(place) {}
     std::uint32_t status;
     std::uint64_t at;

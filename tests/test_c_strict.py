@@ -19,7 +19,7 @@ from tests.support.strict import FLEX, Demands, Plan, Strict, found_from, lacks_
 from tests.support.strict_messages import MESSAGES, PREFIXED
 from tests.support.strict_program import words_of_limits
 from tests.support.tools import there
-from tests.test_strict import Made, damaged, mark
+from tests.test_strict import Made, attributed, damaged, mark
 
 # The module once, so that its classes are the same ones everywhere.
 module = functools.cache(module_anew)
@@ -44,8 +44,7 @@ def is_lost(kept):
 
 def demands_of(kept):
     """The demands by which a schema is strict, which knows what its fields of bytes hold if it can."""
-    is_told = kept.marks or not lacks_marks(kept.objects)
-    return STRICT if is_told and not is_lost(kept) else STRICTLY_PLAIN
+    return STRICTLY_PLAIN if lacks_marks(kept.objects) or is_lost(kept) else STRICT
 
 
 def words_for(demands):
@@ -156,8 +155,7 @@ class StrictForC(LibraryCase):
         self.same("why a schema isn't made, or is", refused, {0, status.UNMARKED_BYTES, status.NO_SUCH_TABLE})
 
     def refused_alike(self, name, made):
-        """A file is refused as the program refuses it, with the same table and field; but that to the library a mark
-        shows, too, that there would be others."""
+        """A file is refused as the program refuses it, with the same table and field."""
         python, program = module(), run("--schema", made.file, "--strict")
         try:
             self.made(made, STRICT).close()
@@ -168,9 +166,25 @@ class StrictForC(LibraryCase):
             with self.made(made, 0) as plain:
                 told = f"fbcheck: {plain.status_text(status)}: {plain.object_name(table)}.{plain.field_name(table, field)}"
         self.same(f"{name}: why it is refused", program.err.decode().partition("\n")[0].startswith(told), True)
-        beside_a_mark = bool(made.marks) and lacks_marks(made.objects)
-        self.same(f"{name}: whether it is", told != "", program.status == 2 and not beside_a_mark)
+        self.same(f"{name}: whether it is", told != "", program.status == 2)
         return status
+
+    def test_a_mark_shows_nothing_of_other_fields(self):
+        """Where a schema declares one of the two attributes itself, the file has that one alone."""
+        nested, flex = {"nested_flatbuffer": "T"}, {"flexbuffer": "0"}
+        bare, status = attributed("b", 6, {}), module().Status.UNMARKED_BYTES
+        other = schemas.table("S", schemas.field("a", schemas.INT, 4), attributed("b", 6, flex))
+        for name, others, fields in [
+            ("a nested buffer before it", [], [attributed("a", 4, nested), bare]),
+            ("a flexbuffer before it", [], [attributed("a", 4, flex), bare]),
+            ("a flexbuffer behind it", [], [schemas.field("a", schemas.INT, 4), bare, attributed("c", 8, flex)]),
+            ("one of its slot in another table", [other], [schemas.field("a", schemas.INT, 4), bare]),
+        ]:
+            objects = [*others, schemas.table("T", *fields)]
+            made = Made(schemas.schema(objects, root="T"), objects, Schema(objects), len(others))
+            self.same(f"{name}: the library", self.refused_alike(name, made), status)
+            err = run("--schema", made.file, "--strict").err.decode()
+            self.holds(f"{name}: with the field", ": T.b;" in err, err)
 
     def test_places(self):
         """Where faults are, in words, as the program names them."""

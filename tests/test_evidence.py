@@ -90,8 +90,10 @@ class Evidence(unittest.TestCase):
 
     def test_what_carries_a_promise_is_there(self):
         page = (TOP / "docs/PROOFS.md").read_text().split("## What is proved")[1].split("\n## ")[0]
-        for cell in re.findall(r"(?m)^\| .+ \| (.+) \|$", page):
-            for claim in re.sub(r": .*", "", cell).split("; "):
+        promises = re.findall(r"(?m)^- .+ → (.+)$", re.sub(r"\n  +", " ", page))
+        self.assertGreater(len(promises), 60)
+        for carried in promises:
+            for claim in re.sub(r": .*", "", carried).split("; "):
                 with self.subTest(claim=claim):
                     self.carries(claim)
 

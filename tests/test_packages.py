@@ -329,7 +329,8 @@ class Packages(LibraryCase):
         versions = {name: VERSION if (TOP / "crates" / name).is_dir() or name == "library" else logic for name in known}
         self.same("with its version", known, versions)
         for package, place in [("*.whl", f"fbcheck-{VERSION}.dist-info/sboms/fbcheck.cdx.json"),
-                               (f"fbcheck-{VERSION}.jar", "META-INF/fbcheck.cdx.json"), ("*.crate", None), ("*.tgz", None), ("fbcheck-go-*", None)]:
+                               (f"fbcheck-{VERSION}.jar", "META-INF/fbcheck.cdx.json"), ("*.crate", None),
+                               ("*.tgz", None), ("fbcheck-go-*", None)]:
             if made(package) and place:
                 with zipfile.ZipFile(made(package)) as file:
                     self.holds(f"{package} has it", file.read(place) == bill)

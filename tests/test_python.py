@@ -9,11 +9,13 @@ import mmap
 import os
 import pathlib
 import pickle
+import pydoc
 import re
 import socket
 import struct
 import subprocess
 import sys
+import textwrap
 import threading
 import time
 import timeit
@@ -73,15 +75,17 @@ WRITTEN = """
 import mmap, os, sys, time
 import fbcheck
 file, message = (bytes.fromhex(word) for word in sys.argv[1:3])
-at, end, seen = int(sys.argv[3]), time.monotonic() + 1, set()
+at, begun, seen = int(sys.argv[3]), time.monotonic(), set()
 schema, shared = fbcheck.Schema(file), mmap.mmap(-1, len(message))
 shared[:] = message
+parent = os.getpid()
 if os.fork() == 0:
-    while time.monotonic() < end:
+    while os.getppid() == parent:
         for word in (b"\\0\\xff\\xff\\x7f", message[at:at + 4]) * 1000:
             shared[at:at + 4] = word
     os._exit(0)
-while time.monotonic() < end:
+# For a second at least; the writer may have to wait for its turn.
+while time.monotonic() < begun + (1 if len(seen) > 2 else 30):
     for _ in range(1000):
         seen.add(schema.check(shared).reason)
         try:
@@ -208,6 +212,27 @@ class Python(LibraryCase):
         self.same("names that are long", (told.reason, told.object, told.field), (8, "L" * 70_000, None))
         told = self.module.Schema(file, inline_size=True).check(buffer({0: ("i", 5)})[:-1])
         self.same("of a field too", (told.reason, told.object, told.field), (2, "L" * 70_000, "f" * 5000))
+
+    def test_verdicts_that_are_kept(self):
+        """What was told of a message stays, whatever is told of others meanwhile, and whoever still has it."""
+        checker, messages = self.module.Schema(ORDERS, prefixed=True), messages_of(POST)
+        given = [one[:end] for one in messages for end in (len(one), 9, 40, len(one) - 1)]
+        want = [str(self.module.Schema(ORDERS, prefixed=True).check(one)) for one in given]
+        for kept in (1, 2, 3, len(given)):
+            held, told = [], []
+            for one in given * 3:
+                held.append(checker.check(one))
+                if len(held) == kept:
+                    told += map(str, held)
+                    held.clear()
+            self.same(f"{kept} at a time", told + [*map(str, held)], want * 3)
+        first, second = checker.check(messages[0]), checker.check(messages[4])
+        keys = {first: "a good one", second: "a bad one"}
+        told = [keys.get(checker.check(one)) for one in messages]
+        self.same("as keys", told, ["a good one", None, None, None, "a bad one", None])
+        error = self.fails("a bad message", self.module.BadBuffer, "V10", lambda: checker.verify(messages[4]))
+        checker.check(messages[0]), checker.check(messages[0])
+        self.same("an exception's", (error.verdict, str(error)), (second, str(second)))
 
     def test_options(self):
         good = self.by("M").check(ORC)
@@ -424,8 +449,11 @@ class Python(LibraryCase):
         long = self.by("CHAIN").path(".".join(["next"] * 31))
         self.same("31 steps", self.by("CHAIN").read(buffers.levels(2), long), None)
         self.fails("32 steps", of.PathError, "31 steps", lambda: self.by("CHAIN").path(".".join(["next"] * 32)))
-        for path in (3, None, b"name", ["name"]):
-            self.fails(f"a path that is {path!r}", TypeError, "", lambda: checker.read(ORC, path))
+        for path in (3, None, b"name", ["name"], ("name", "hp"), {"name"}):
+            words = f"not {type(path).__name__!r}; read(message, *paths) takes several"
+            for call in (lambda: checker.read(ORC, path), lambda: checker.read(ORC, "hp", path),
+                         lambda: checker.path(path)):
+                self.fails(f"a path that is {path!r}", TypeError, words, call)
         self.fails("another's path", of.PathError, "another schema", lambda: checker.read(ORC, paths.path("to.name")))
         self.fails("no path", TypeError, "path", lambda: checker.read(ORC))
         paths = paths.replace(prefixed=True)
@@ -491,7 +519,8 @@ class Python(LibraryCase):
         """A check that fails at its last reads costs as much as one that ends well: it goes through a message once."""
         chain, checkers = buffers.doubling(12), [self.by("NODE", reads_per_byte=reads) for reads in (77, 76)]
         self.same("they end well and fail", [of.check(chain).reason for of in checkers], [None, 13])
-        good, bad = (min(timeit.repeat(lambda: of.check(chain), number=10, repeat=400)) for of in checkers)
+        turns = [[timeit.timeit(lambda: of.check(chain), number=10) for of in checkers] for _ in range(400)]
+        good, bad = map(min, zip(*turns))
         self.holds("and cost as much", bad < 1.5 * good, (good, bad))
 
     def test_messages_that_change(self):
@@ -533,14 +562,20 @@ class Python(LibraryCase):
         """While a message takes long, another thread does its work."""
         chain = buffers.doubling(22)
         checker = self.by("NODE", max_tables=2**32 - 1, max_reads=2**64 - 1, reads_per_byte=2**32 - 1)
-        ended, turns = threading.Event(), 0
-        thread = threading.Thread(target=lambda: (checker.check(chain), ended.set()))
-        thread.start()
-        while not ended.is_set():
-            time.sleep(0.001)
-            turns += 1
-        thread.join()
-        self.holds("turns of the other thread", turns > 10, turns)
+
+        def turns():
+            """How many the other thread has meanwhile; where it has to wait for a check, that is one or two."""
+            count, thread = 0, threading.Thread(target=checker.check, args=(chain,))
+            thread.start()
+            while thread.is_alive():
+                time.sleep(0.001)
+                count += 1
+            return count
+
+        told = []
+        while len(told) < 20 and (not told or told[-1] <= 10):
+            told.append(turns())
+        self.holds("turns of the other thread", told[-1] > 10, told)
 
     def test_streams(self):
         """The same messages and verdicts however a stream is cut and handed over."""
@@ -616,6 +651,22 @@ class Python(LibraryCase):
         for name, stream in {"a reader": reader(POST), **streams_of_post}.items():
             got = asyncio.run(told(stream))
             self.same(name, ([message for message, _ in got], lines_of(verdict for _, verdict in got)), (want, lines))
+
+        async def slowly(end, begin):
+            """What comes of a pipe that has no bytes for a while, more than once."""
+            reader, loop = asyncio.StreamReader(), asyncio.get_running_loop()
+            await loop.connect_read_pipe(lambda: asyncio.StreamReaderProtocol(reader), end)
+            going = asyncio.create_task(told(reader))
+            for at in range(0, len(POST), 300):
+                await asyncio.sleep(0.01)
+                os.write(begin, POST[at:at + 300])
+            os.close(begin)
+            return await going
+
+        end, begin = os.pipe()
+        with open(end, "rb", 0) as stream:
+            got = asyncio.run(slowly(stream, begin))
+        self.same("a pipe", [message for message, _ in got], want)
         long = prefixed(bytes(1 << 18))
         self.same("no line's end", len(asyncio.run(told(reader(long * 3)))), 3)
         got = asyncio.run(told(pieces(POST[:-3], 100)))
@@ -657,6 +708,10 @@ class Python(LibraryCase):
         for wrong in ("text", ["text"], io.StringIO("text"), 5, None, [5]):
             words = "" if wrong in (5, None, [5]) else 'open its file with "rb"'
             self.fails(f"a stream that is {wrong!r}", TypeError, words, lambda: [*checker.messages(wrong)])
+        with open(TOP / "examples/deliveries.bin", encoding="utf-8") as text:
+            self.fails("a file of a text", TypeError, 'open its file with "rb"', lambda: checker.messages(text))
+            self.fails("no schema's", TypeError, "a path or a bytes-like object, and not 'TextIOWrapper'",
+                       lambda: of.Schema(text))
         self.holds("an end too early is an EOFError too", issubclass(of.Truncated, EOFError))
 
     def test_long_streams(self):
@@ -679,11 +734,29 @@ class Python(LibraryCase):
             self.skipTest("mypy isn't there")
         folder, path = TOP / "tests/bindings/python", str(BINDING / "src")
         words = ["mypy", "--strict", "--no-error-summary", "--hide-error-context", "--cache-dir", FOLDER / "mypy"]
-        self.same("the package", ran(*words, "-p", "fbcheck", MYPYPATH=path), (0, "", ""))
+        self.same("the package", ran(*words, "-p", "fbcheck", MYPYPATH=path, seconds=300), (0, "", ""))
         want = {str(number) for number, line in enumerate((folder / "typed.py").read_text().splitlines(), 1)
                 if line.endswith("# error")}
-        told = ran("env", "-C", folder, *words, "-m", "typed", MYPYPATH=path)[1]
+        told = ran("env", "-C", folder, *words, "-m", "typed", MYPYPATH=path, seconds=300)[1]
         self.same("what uses it", {*re.findall(r"^typed\.py:(\d+): error: ", told, re.M)}, want)
+
+    def test_help(self):
+        """help() begins with what one does with the package, and no name is offered that isn't for everybody."""
+        page = pydoc.render_doc(self.module, renderer=pydoc.plaintext)
+        script = textwrap.dedent(page.partition("DESCRIPTION\n")[2].partition("    A message")[0])
+        self.holds("its first words are a program", script.startswith("import fbcheck\n"), script)
+        script = script.replace('"my.bfbs"', f'"{ORDERS}", prefixed=True')
+        script = script.replace("monster.name", "to.name").replace("monster.hp", "to.age")
+        for message, want in [(0, ["Ada", "36"]), (4, ["bad V10", "in items[1]@Note"])]:
+            given = f"message = bytes.fromhex('{messages_of(POST)[message].hex()}')\n{script}"
+            told = self.alone(f"{given}if verdict: print(name, hp)\n")
+            self.holds("it runs", (told[0], told[2]) == (0, "") and all(word in told[1] for word in want), told)
+        offered = [name for name in dir(self.module) if not name.startswith("_")]
+        self.same("names", offered, sorted(self.module.__all__))
+        for kind in (self.module.Schema, self.module.Verdict):
+            parts = [part for part in dir(kind) if not part.startswith("_") and not getattr(kind, part).__doc__]
+            self.same(f"what {kind.__name__} has begins with _, or is documented", parts, [])
+        self.holds("a call tells its words", "read(self, message, path, /, *paths)" in page, page)
 
     def test_nothing_leaks(self):
         status, out, err = self.alone(LEAKS, schemas.M.hex(), ORC.hex(), ORC[:-1].hex())
@@ -701,7 +774,8 @@ class Python(LibraryCase):
         lines = run("--schema", ORDERS, "--names", given=POST).out.decode().splitlines()
         lines = [line.partition(" ")[2] for line in lines]
         script = file_of("shipped.py", SHIPPED.encode())
-        told = ran(sys.executable, script, ORDERS, TOP / "examples/deliveries.bin", PYTHONPATH=str(self.folder))
+        told = ran(sys.executable, script, ORDERS, TOP / "examples/deliveries.bin", PYTHONPATH=str(self.folder),
+                   seconds=300)
         self.same("by other processes", told, (0, "\n".join([*lines, lines[4], ""]), ""))
 
     def test_the_page(self):
@@ -715,6 +789,7 @@ class Python(LibraryCase):
         version = re.search(r"^Version: (.*)$", (TOP / "c/fbcheck.pc.in").read_text(), re.M)[1]
         project = (BINDING / "pyproject.toml").read_text()
         self.holds("it has the library's version", f'version = "{version}"\n' in project, project)
+        self.same("and tells it", self.module.__version__, version)
         checker = self.module.Schema(ORDERS, prefixed=True)
         bad = page.split("fbcheck.BadBuffer: ")[1].splitlines()[0]
         self.same("what a no looks like", str(checker.check(messages_of(POST)[4])), bad)

@@ -413,7 +413,8 @@ class GeneratedCode(Case):
             self.same(f"{name}: what the generated verifier refuses", refused[:3], [])
             self.same(f"{name}: what its code doesn't bear", made.failures("reads", good, "good", "all"), [])
         self.same("plain checks take these", {line[:2] for line in lines_of(made.file, UNBORNE)}, {"ok"})
-        self.same("--strict refuses them", {line[:3] for line in lines_of(made.file, UNBORNE, "--strict")}, {"bad"})
+        told = [line.split()[:2] for line in lines_of(made.file, UNBORNE, "--strict")]
+        self.same("--strict refuses them", told, [["bad", code] for code in ("V2", "V2", "V9", "V11")])
         fell = [data for data, _ in made.failures("reads", UNBORNE, "bad", "all")]
         self.same("generated code doesn't bear them", fell, UNBORNE)
         self.same("the generated verifier takes a type alone", made.verdicts(UNBORNE, "all"), [False, False, True, False])

@@ -23,7 +23,7 @@ const (
 	TooManyReads    Reason = 13 // more reads were counted than the options allow
 	FlexContent     Reason = 14 // strict: a field holds a flexbuffer, which isn't checked
 	NotUtf8         Reason = 15 // a string isn't UTF-8
-	UnknownField    Reason = 16 // a table has a field that the schema doesn't know, or one that is deprecated
+	UnknownField    Reason = 16 // a table has a field that the schema lacks or deprecates
 )
 
 // A Kind tells what stands at the end of a path.
@@ -31,7 +31,7 @@ type Kind uint32
 
 // What stands at the end of a path, and which part of a Value has it.
 const (
-	Absent      Kind = 0  // nothing: the field, or one on the way, is absent and has no default
+	Absent      Kind = 0  // nothing: a table on the way is absent, or the field is, and isn't a Bool or a whole number with a default
 	NoElement   Kind = 1  // nothing: the index is past the vector's end
 	OtherMember Kind = 2  // nothing: the union has another type
 	Bool        Kind = 3  // Uint: 0 or 1

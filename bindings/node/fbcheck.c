@@ -122,6 +122,16 @@ static bool bytes_of(napi_env env, napi_value word, uint8_t **bytes, size_t *len
     return true;
 }
 
+/* Whether an array's bytes were handed on to another thread, so that it has none any more. */
+static bool is_detached(napi_env env, napi_value array)
+{
+    napi_value buffer;
+    bool detached = false;
+    if (napi_get_typedarray_info(env, array, NULL, NULL, NULL, &buffer, NULL) == napi_ok)
+        napi_is_detached_arraybuffer(env, buffer, &detached);
+    return detached;
+}
+
 static napi_value text_of(napi_env env, const char *text, size_t length)
 {
     napi_value made = NULL;
@@ -393,6 +403,10 @@ static napi_value feed(napi_env env, napi_callback_info info)
     if (!bytes_of(env, words[1], &piece, &length))
         return NULL;
     napi_get_value_double(env, words[2], &at);
+    if (at == 0 && length == 0 && is_detached(env, words[1])) {
+        napi_throw_type_error(env, NULL, "a piece of the stream is detached: it has no bytes any more");
+        return NULL;
+    }
     size_t from = at < (double)length ? (size_t)at : length;
     piece = from == 0 ? piece : piece + from;
     uint32_t status = fbcheck_framer_feed(&stream->framer, stream->room, stream->size, piece, length - from, &used);

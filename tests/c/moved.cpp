@@ -1,6 +1,7 @@
-// What a Schema of fbcheck.hpp holds goes with it when it is moved: moved SCHEMA.bfbs GOOD_BUFFER
+// What a Schema or a Framer of fbcheck.hpp holds goes with it when it is moved: moved SCHEMA.bfbs GOOD_BUFFER
 //
-// Prints the answers of each of two Schemas, those with room of their own, and the name of the schema's first object.
+// Prints the answers of each of two Schemas, those with room of their own, and the name of the schema's first object;
+// then what is told of a Schema and a Framer that were moved from, and of the Framer that has what was moved.
 #include <fbcheck.hpp>
 
 #include <fstream>
@@ -41,6 +42,20 @@ int main(int, char **words) {
 #if __cplusplus >= 202002L
     std::cout << bool(first.check(std::span(buffer), {}, &scratch)) << first.good(std::span(buffer).first(4)) << " ";
 #endif
+    fbcheck::Framer framer(64, fbcheck::Framing::Delimited);
+    fbcheck::Framer taken(std::move(framer));
+    const auto told = [&](auto &&call) {
+        try {
+            call();
+        } catch (const std::exception &error) {
+            std::cout << error.what() << "\n";
+        }
+    };
     char name[16];
     std::cout << std::string(name, fbcheck_object_name(first.get(), 0, name, sizeof name)) << "\n";
+    told([&] { second.check(buffer); });
+    told([&] { framer.feed(fbcheck::Bytes("\0", 1), [](fbcheck::Bytes) {}); });
+    told([&] { framer.finish(); });
+    taken.feed(fbcheck::Bytes("\4", 1), [](fbcheck::Bytes) {});
+    told([&] { taken.finish(); });
 }

@@ -23,8 +23,9 @@
 #define SHORT_MESSAGE 2048
 #define FEW_READS 64
 
-/* How long a name is without memory of its own. */
+/* How long a name is without memory of its own, and how many paths are. */
 #define SHORT_NAME 128
+#define FEW_PATHS 8
 
 /* The longest message. */
 #define LONGEST_MESSAGE 0x7fffffff
@@ -38,17 +39,20 @@ typedef struct {
     PyObject *field;
 } Verdict;
 
-/* A schema with its options; `handle` owns what `schema` leads to, and other options may share it. */
+/* A schema with its options; `handle` owns what `schema` leads to, and other options may share it. `kept` has what the
+   package makes of what is told. */
 typedef struct {
     PyObject_HEAD
     PyObject *handle;
     const fbcheck_schema *schema;
     fbcheck_options options;
     fbcheck_scratch *idle; /* room for tables that no call has at the moment, or null */
-    PyObject *verdict;     /* what the package makes of what is told: the class of verdicts, */
-    PyObject *bad_buffer;  /* the exception that has one, */
-    PyObject *fault;       /* the exception for a status, */
-    PyObject *value;       /* and what stands for a value that is more than a number or a text */
+    PyObject *told[2];     /* the verdicts that were told last, or null */
+    PyObject *paths;       /* by each text or path that was read at, the bytes of _resolve() with a letter behind */
+    PyObject *kept;
+    PyObject *verdict, *bad_buffer, *fault; /* the class of verdicts, the exception with one, and that of a status */
+    PyObject *table, *a_union, *vector;     /* what stands for a table, and the classes of unions and vectors, */
+    PyObject *type, *count;                 /* with the names of what these two have */
 } Schema;
 
 /* The messages of a stream, of which the next one stands in `room`. */
@@ -208,15 +212,24 @@ static void schema_free(PyObject *object)
     Schema *self = (Schema *)object;
     fbcheck_scratch_free(self->idle);
     Py_XDECREF(self->handle);
-    Py_XDECREF(self->verdict);
-    Py_XDECREF(self->bad_buffer);
-    Py_XDECREF(self->fault);
-    Py_XDECREF(self->value);
+    Py_XDECREF(self->told[0]);
+    Py_XDECREF(self->told[1]);
+    Py_XDECREF(self->paths);
+    Py_XDECREF(self->kept);
     freed(object);
 }
 
+/* Makes room for tables, and tells whether the options can be served: no bytes are bad then. */
+static uint32_t tried(Schema *self)
+{
+    self->idle = fbcheck_scratch_new(self->options.max_depth);
+    return self->idle == NULL ? FBCHECK_NO_MEMORY
+                              : fbcheck_verify(self->schema, self->idle, &self->options, NULL, 0, NULL);
+}
+
 /* Schema(handle, (root, ident_from, ident, prefixed, alignment, inline_size, max_depth, max_tables, max_reads,
-   reads_per_byte, demands), (Verdict, BadBuffer, fault, value)) */
+   reads_per_byte, demands), (Verdict, BadBuffer, fault, Table(), Union, Vector, "type",
+   "count")) */
 static PyObject *schema_new(PyTypeObject *type, PyObject *words, PyObject *named)
 {
     fbcheck_options asked = FBCHECK_OPTIONS_INIT;
@@ -224,13 +237,13 @@ static PyObject *schema_new(PyTypeObject *type, PyObject *words, PyObject *named
     int prefixed, alignment, inline_size;
     const char *ident;
     Py_ssize_t length;
-    PyObject *handle, *verdict, *bad_buffer, *fault, *value;
+    PyObject *handle, *kept;
     Schema *self;
     uint32_t status;
     (void)named;
-    if (!PyArg_ParseTuple(words, "O(Iby#pppIIKII)(OOOO)", &handle, &asked.root, &asked.ident_from, &ident, &length,
+    if (!PyArg_ParseTuple(words, "O(Iby#pppIIKII)O!", &handle, &asked.root, &asked.ident_from, &ident, &length,
                           &prefixed, &alignment, &inline_size, &asked.max_depth, &asked.max_tables, &max_reads,
-                          &asked.reads_per_byte, &asked.demands, &verdict, &bad_buffer, &fault, &value))
+                          &asked.reads_per_byte, &asked.demands, &PyTuple_Type, &kept))
         return NULL;
     memcpy(asked.ident, ident, length < 4 ? (size_t)length : 4);
     asked.max_reads = max_reads;
@@ -242,16 +255,12 @@ static PyObject *schema_new(PyTypeObject *type, PyObject *words, PyObject *named
         return NULL;
     self->options = asked;
     self->handle = Py_NewRef(handle);
-    self->verdict = Py_NewRef(verdict);
-    self->bad_buffer = Py_NewRef(bad_buffer);
-    self->fault = Py_NewRef(fault);
-    self->value = Py_NewRef(value);
-    self->schema = PyCapsule_GetPointer(handle, HANDLE);
-    self->idle = fbcheck_scratch_new(asked.max_depth);
-    /* No bytes are bad by any options that can be served. */
-    status = self->schema == NULL ? FBCHECK_NULL
-             : self->idle == NULL ? FBCHECK_NO_MEMORY
-                                  : fbcheck_verify(self->schema, self->idle, &self->options, NULL, 0, NULL);
+    self->kept = Py_NewRef(kept);
+    status = FBCHECK_NULL;
+    if (PyArg_ParseTuple(kept, "OOOOOOOO", &self->verdict, &self->bad_buffer, &self->fault, &self->table,
+                         &self->a_union, &self->vector, &self->type, &self->count) &&
+        (self->paths = PyDict_New()) != NULL && (self->schema = PyCapsule_GetPointer(handle, HANDLE)) != NULL)
+        status = tried(self);
     if (status != FBCHECK_BAD) {
         if (!PyErr_Occurred())
             refused(self, status);
@@ -372,10 +381,35 @@ static PyObject *name(PyObject *module, PyObject *words)
     return whole;
 }
 
+/* A verdict with what was told: one of the last two again, where nobody else has that any more. So a loop that holds
+   each verdict until it has the next one makes no third. */
+static Verdict *another(Schema *self, const fbcheck_verdict *told)
+{
+    PyObject **last = self->told, *kept = last[0];
+    Verdict *verdict;
+    if (kept == NULL || Py_REFCNT(kept) != 1)
+        kept = last[1];
+    if (kept == NULL || Py_REFCNT(kept) != 1) {
+        verdict = verdict_of(self->verdict, told);
+        if (verdict == NULL)
+            return NULL;
+        last[1] = last[0];
+        last[0] = Py_NewRef((PyObject *)verdict);
+        Py_XDECREF(kept);
+        return verdict;
+    }
+    verdict = (Verdict *)Py_NewRef(kept);
+    verdict->told = *told;
+    Py_CLEAR(verdict->place);
+    Py_CLEAR(verdict->object);
+    Py_CLEAR(verdict->field);
+    return verdict;
+}
+
 /* The verdict that was told, of a bad message with this place. */
 static PyObject *judged(Schema *self, const fbcheck_verdict *told, const char *place, size_t length)
 {
-    Verdict *verdict = verdict_of(self->verdict, told);
+    Verdict *verdict = another(self, told);
     if (verdict != NULL && told->status == FBCHECK_BAD) {
         verdict->place = PyUnicode_DecodeUTF8(place, (Py_ssize_t)length, "replace");
         verdict->object = name_of(self->schema, told->object, FBCHECK_NONE);
@@ -448,8 +482,47 @@ static PyObject *float_of(const char *bytes, uint64_t size)
     return PyFloat_FromDouble(single);
 }
 
+/* An instance of a class that has one number by this name, which can't be changed later. */
+static PyObject *numbered(PyObject *class, PyObject *name, uint64_t number)
+{
+    PyObject *made = PyType_GenericAlloc((PyTypeObject *)class, 0);
+    PyObject *value = PyLong_FromUnsignedLongLong(number);
+    if (made != NULL && (value == NULL || PyObject_GenericSetAttr(made, name, value) != 0))
+        Py_CLEAR(made);
+    Py_XDECREF(value);
+    return made;
+}
+
+/* What a method of a view answers, which takes the place of the view; a view that is null stays so. */
+static PyObject *instead(PyObject *view, const char *method, const char *letter)
+{
+    PyObject *next = view == NULL     ? NULL
+                     : letter == NULL ? PyObject_CallMethod(view, method, NULL)
+                                      : PyObject_CallMethod(view, method, "s", letter);
+    Py_XDECREF(view);
+    return next;
+}
+
+/* The part of a message where a value lies, as a view that doesn't write; a vector's numbers have this letter. */
+static PyObject *part_of(PyObject *message, const fbcheck_value *value, char letter)
+{
+    char letters[2] = { letter, 0 };
+    Py_ssize_t at = (Py_ssize_t)value->at;
+    PyObject *part, *view = PyMemoryView_FromObject(message);
+    int as_it_is = PyBytes_CheckExact(message);
+    if (!as_it_is)
+        view = instead(view, "cast", "B");
+    if (view == NULL)
+        return NULL;
+    part = PySequence_GetSlice(view, at, at + (Py_ssize_t)value->size);
+    Py_DECREF(view);
+    if (!as_it_is)
+        part = instead(part, "toreadonly", NULL);
+    return letter == 'B' ? part : instead(part, "cast", letters);
+}
+
 /* A value as Python has it; of a vector of numbers by their letter. */
-static PyObject *value_of(Schema *self, PyObject *message, const char *bytes, const fbcheck_value *value, int letter)
+static PyObject *value_of(Schema *self, PyObject *message, const char *bytes, const fbcheck_value *value, char letter)
 {
     switch (value->kind) {
     case FBCHECK_ABSENT:
@@ -466,74 +539,108 @@ static PyObject *value_of(Schema *self, PyObject *message, const char *bytes, co
         return float_of(bytes + value->at, value->size);
     case FBCHECK_TEXT:
         return PyUnicode_DecodeUTF8(bytes + value->at, (Py_ssize_t)value->size, "surrogateescape");
+    case FBCHECK_TABLE:
+        return Py_NewRef(self->table);
+    case FBCHECK_UNION:
+        return numbered(self->a_union, self->type, value->number);
     default:
-        return PyObject_CallFunction(self->value, "OIKKKC", message, value->kind, (unsigned long long)value->number,
-                                     (unsigned long long)value->at, (unsigned long long)value->size, letter);
+        return value->at == 0 ? numbered(self->vector, self->count, value->number) : part_of(message, value, letter);
     }
 }
 
-/* The values that were read, of each path one. */
-static PyObject *values_of(Schema *self, PyObject *message, const char *bytes, PyObject *paths, fbcheck_value *values)
+/* What is read of a message: of each path its steps, the letter of a vector's numbers, and the value. */
+typedef struct {
+    size_t count;
+    fbcheck_path *paths;
+    fbcheck_value *values;
+    char *letters;
+} Read;
+
+/* The values that were read: one, or a tuple of several. */
+static PyObject *values_of(Schema *self, PyObject *message, const char *bytes, const Read *read)
 {
-    Py_ssize_t at, count = PyTuple_Size(paths);
-    PyObject *told = PyTuple_New(count);
-    for (at = 0; told != NULL && at < count; at++) {
-        const char *path = PyBytes_AsString(PyTuple_GetItem(paths, at));
-        PyObject *one = value_of(self, message, bytes, values + at, path[sizeof(fbcheck_path)]);
-        if (one == NULL || PyTuple_SetItem(told, at, one) != 0)
+    size_t at;
+    PyObject *told;
+    if (read->count == 1)
+        return value_of(self, message, bytes, read->values, read->letters[0]);
+    told = PyTuple_New((Py_ssize_t)read->count);
+    for (at = 0; told != NULL && at < read->count; at++) {
+        PyObject *one = value_of(self, message, bytes, read->values + at, read->letters[at]);
+        if (one == NULL || PyTuple_SetItem(told, (Py_ssize_t)at, one) != 0)
             Py_CLEAR(told);
     }
     return told;
 }
 
-/* Puts the paths in a row, or raises where one is none. */
-static void in_a_row(PyObject *paths, fbcheck_path *row)
+/* Copies the steps of a text or path, and its letter. The first time the package resolves it, and keeps that. */
+static int copy_steps(Schema *self, PyObject *path, fbcheck_path *steps, char *letter)
 {
-    Py_ssize_t at, size;
+    PyObject *kept = PyDict_GetItemWithError(self->paths, path);
+    Py_ssize_t size;
     char *bytes;
-    for (at = 0; at < PyTuple_Size(paths); at++) {
-        if (PyBytes_AsStringAndSize(PyTuple_GetItem(paths, at), &bytes, &size) != 0)
-            return;
-        if ((size_t)size != sizeof *row + 1) {
-            PyErr_SetString(PyExc_ValueError, "not the bytes of a path");
-            return;
-        }
-        memcpy(row + at, bytes, sizeof *row);
+    int answer;
+    Py_XINCREF(kept);
+    if (kept == NULL && PyErr_Occurred() && PyErr_ExceptionMatches(PyExc_TypeError))
+        PyErr_Clear(); /* what can't be looked up is no path, which is told there */
+    if (kept == NULL && !PyErr_Occurred())
+        kept = PyObject_CallMethod((PyObject *)self, "_keep", "(O)", path);
+    if (kept == NULL)
+        return -1;
+    answer = PyBytes_AsStringAndSize(kept, &bytes, &size);
+    if (answer == 0 && (size_t)size == sizeof *steps + 1) {
+        memcpy(steps, bytes, sizeof *steps);
+        *letter = bytes[sizeof *steps];
+    } else if (answer == 0) {
+        PyErr_SetString(PyExc_ValueError, "not the bytes of a path");
+        answer = -1;
     }
+    Py_DECREF(kept);
+    return answer;
 }
 
-/* _read(message, paths): a tuple of the values at paths, each the bytes of _resolve() with a letter behind them, by
-   which a memoryview has the numbers of a vector. */
-static PyObject *schema_read(Schema *self, PyObject *words)
+/* Checks a message, and reads at these texts and paths. */
+static PyObject *read_at(Schema *self, PyObject *message, PyObject *const *paths, Read *read)
 {
-    fbcheck_path *row;
-    fbcheck_value *values;
-    PyObject *message, *paths, *read = NULL;
-    size_t count;
     Check check;
+    size_t at;
     uint32_t status;
-    if (!PyArg_ParseTuple(words, "OO!", &message, &PyTuple_Type, &paths))
+    PyObject *values;
+    for (at = 0; at < read->count; at++)
+        if (copy_steps(self, paths[at], read->paths + at, read->letters + at) != 0)
+            return NULL;
+    if (begin(self, message, &check) != 0)
         return NULL;
-    count = (size_t)PyTuple_Size(paths);
-    row = malloc((count + 1) * (sizeof *row + sizeof *values));
-    if (row == NULL)
-        return PyErr_NoMemory();
-    values = (fbcheck_value *)(row + count);
-    in_a_row(paths, row);
-    if (!PyErr_Occurred() && begin(self, message, &check) == 0) {
-        status = fbcheck_read(self->schema, check.scratch, &self->options, check.bytes, (size_t)check.view.len, row,
-                              values, count, NULL);
-        if (status == FBCHECK_BAD) {
-            raised(self, located(self, &check));
-        } else {
-            resume(&check);
-            read = status == FBCHECK_OK ? values_of(self, message, (const char *)check.bytes, paths, values)
-                                        : refused(self, status);
-            end(self, &check);
-        }
+    status = fbcheck_read(self->schema, check.scratch, &self->options, check.bytes, (size_t)check.view.len, read->paths,
+                          read->values, read->count, NULL);
+    if (status == FBCHECK_BAD)
+        return raised(self, located(self, &check));
+    resume(&check);
+    values = status == FBCHECK_OK ? values_of(self, message, (const char *)check.bytes, read) : refused(self, status);
+    end(self, &check);
+    return values;
+}
+
+static PyObject *schema_read(Schema *self, PyObject *const *words, Py_ssize_t count)
+{
+    fbcheck_path few[FEW_PATHS];
+    fbcheck_value values[FEW_PATHS];
+    char letters[FEW_PATHS];
+    Read read = { (size_t)count - 1, few, values, letters };
+    PyObject *told;
+    if (count < 2) {
+        PyErr_SetString(PyExc_TypeError, "read() takes a message, and a path or several");
+        return NULL;
     }
-    free(row);
-    return read;
+    if (read.count <= FEW_PATHS)
+        return read_at(self, words[0], words + 1, &read);
+    read.paths = malloc(read.count * (sizeof *read.paths + sizeof *read.values + 1));
+    if (read.paths == NULL)
+        return PyErr_NoMemory();
+    read.values = (fbcheck_value *)(read.paths + read.count);
+    read.letters = (char *)(read.values + read.count);
+    told = read_at(self, words[0], words + 1, &read);
+    free(read.paths);
+    return told;
 }
 
 static PyMethodDef schema_methods[] = {
@@ -541,15 +648,29 @@ static PyMethodDef schema_methods[] = {
       "check($self, message, /)\n--\n\nThe verdict on a message: whatever has bytes." },
     { "verify", (PyCFunction)schema_verify, METH_O,
       "verify($self, message, /)\n--\n\nThe verdict on a good message; raises BadBuffer where it is bad." },
+    { "read", (PyCFunction)(void (*)(void))schema_read, METH_FASTCALL,
+      "read($self, message, path, /, *paths)\n--\n\n"
+      "Checks a message once, and reads the value at the end of a path, or a tuple of those at the end of several.\n\n"
+      "None says that nothing is there: the field, or one on the way, is absent and has no default, the vector has\n"
+      "fewer elements, or the union another type. Text is a str; bytes of it that aren't UTF-8 stand in it as with\n"
+      "os.fsdecode(), and text.encode('utf-8', 'surrogateescape') gives them back. A struct is a memoryview of its\n"
+      "bytes, and a vector of numbers one of these (of Bools and structs, of their bytes): read-only slices of the\n"
+      "message, which live as long as they are held, and show what is written there later.\n\n"
+      "Raises BadBuffer, whose place takes a second check, and PathError." },
     { "_resolve", (PyCFunction)schema_resolve, METH_O, NULL },
-    { "_read", (PyCFunction)schema_read, METH_VARARGS, NULL },
     { NULL, NULL, 0, NULL },
+};
+
+static PyMemberDef schema_members[] = {
+    { "_paths", T_OBJECT, offsetof(Schema, paths), READONLY, NULL },
+    { NULL, 0, 0, 0, NULL },
 };
 
 static PyType_Slot schema_slots[] = {
     { Py_tp_new, schema_new },
     { Py_tp_dealloc, schema_free },
     { Py_tp_methods, schema_methods },
+    { Py_tp_members, schema_members },
     { 0, NULL },
 };
 

@@ -37,7 +37,7 @@ pub enum Reason {
     FlexContent = 14,
     /// A string isn't UTF-8.
     NotUtf8 = 15,
-    /// A table has a field that the schema doesn't know, or one that is deprecated.
+    /// A table has a field that the schema lacks or deprecates.
     UnknownField = 16,
 }
 

@@ -1,12 +1,12 @@
--- Fields of bytes: which of them a schema file marks, and whether its marks say what all of them hold.
-use Rattle.std.specs.Prelude.{◌≡◌, ℕ, Bool, true, false, List, slice_get, Some}
+-- Fields of bytes, and whether a schema file says what each of them holds.
+use Rattle.std.specs.Prelude.{◌≡◌, ◌==◌, ◌&&◌, not, ℕ, Bool, true, false, List, slice_get, Option, Some, None}
+use Rattle.std.specs.List.{list_any}
 use Rattle.fb_schema.specs.declared.kinds.Kind.{Kind}
 use Rattle.fb_schema.specs.declared.kinds.Kind.TheVariants.{Scalars}
 use Rattle.fb_schema.specs.declared.kinds.Scalar.TheVariants.{UByte}
 use Rattle.fb_schema.specs.{Live.Live, Live.live_fields, Live.live_of_view, Rows.Rows}
 use Rattle.fb_bfbs.specs.Marks.{Marked}
-use Rattle.fb_bfbs.specs.declared.{byte_fields.BytesFault.BytesFault, byte_fields.BytesFault.TheVariants.Marked as ByMark, byte_fields.BytesFault.TheVariants.Unmarked as NoMark}
-use Rattle.fb_bfbs.specs.declared.{marks.Builtins.Builtins, marks.Builtins.TheVariants.Written}
+use Rattle.fb_bfbs.specs.declared.{byte_fields.ByteField.ByteField, marks.Builtins.Builtins, marks.Builtins.TheVariants.Written}
 
 -- a field of this kind is of bytes: a vector of ubyte
 abbrev pub is_bytes : Kind → Bool
@@ -18,43 +18,33 @@ abbrev pub are_written : Builtins → Bool
 are_written Written = true
 are_written _ = false
 
--- a live field of a table is of bytes
-pub record IsOfBytes (rows : Rows) (object : ℕ) (f : Live) : Type 0 where
-  pub place : ℕ
-  pub at : slice_get (live_fields rows object) place ≡ Some f
-  pub bytes : is_bytes f.kind ≡ true
+-- a live field is of bytes, and has this slot
+abbrev pub is_at : ℕ → Live → Bool
+is_at slot f = (f.slot == slot) && is_bytes f.kind
 
 -- one of these marks is of this slot of an object
-pub record IsMarkedAt (marks : List Marked) (object : ℕ) (slot : ℕ) : Type 0 where
+abbrev pub has_mark : List Marked → (object slot : ℕ) → Bool
+has_mark marks object slot = list_any (λ (m : Marked). (m.object == object) && (m.slot == slot)) marks
+
+-- a live field of an object is of bytes, and has no mark
+abbrev pub is_unmarked : List Marked → ℕ → Live → Bool
+is_unmarked marks object f = is_bytes f.kind && not (has_mark marks object f.slot)
+
+-- a live field of an object passes a test
+pub record IsField (rows : Rows) (object : ℕ) (P : Live → Bool) (f : Live) : Type 0 where
   pub place : ℕ
-  pub mark : Marked
-  pub at : slice_get marks place ≡ Some mark
-  pub object_is : mark.object ≡ object
-  pub slot_is : mark.slot ≡ slot
+  pub at : slice_get (live_fields rows object) place ≡ Some f
+  pub is : P f ≡ true
 
--- a field of bytes has a mark
-pub record IsMarkedField (rows : Rows) (marks : List Marked) (object : ℕ) (f : Live) : Type 0 where
-  pub bytes : IsOfBytes rows object f
-  pub mark : IsMarkedAt marks object f.slot
-
-abbrev pub HasMarked : Rows → List Marked → Type 0
-HasMarked rows marks = (object : ℕ) × (f : Live) × IsMarkedField rows marks object f
-
--- no field of bytes has a mark, and one has none that might have one: the file doesn't show that it would be there
+-- a field of bytes has no mark and might have one: the file doesn't show that it would be there
 pub record LacksMark (rows : Rows) (marks : List Marked) (builtins : Builtins) (object : ℕ) (f : Live) : Type 0 where
-  pub bytes : IsOfBytes rows object f
-  pub none : HasMarked rows marks → ⊥
+  pub field : IsField rows object (is_unmarked marks object) f
   pub untold : are_written builtins ≡ false
 
 abbrev pub HasUnmarked : Rows → List Marked → Builtins → Type 0
 HasUnmarked rows marks builtins = (object : ℕ) × (f : Live) × LacksMark rows marks builtins object f
 
--- by these marks no field of bytes holds a buffer or a flexbuffer: none is marked, and each would be
-pub record AreAllPlain (rows : Rows) (marks : List Marked) (builtins : Builtins) : Type 0 where
-  pub none : HasMarked rows marks → ⊥
-  pub told : HasUnmarked rows marks builtins → ⊥
-
--- why a field of bytes may hold a buffer or a flexbuffer by these marks
-abbrev pub IsBytesFault : Rows → List Marked → Builtins → BytesFault → Type 0
-IsBytesFault rows marks builtins (ByMark b) = IsMarkedField rows marks b.table (live_of_view b.field)
-IsBytesFault rows marks builtins (NoMark b) = LacksMark rows marks builtins b.table (live_of_view b.field)
+-- this field is such a one, and there is none where there is no field
+abbrev pub IsUnmarked : Rows → List Marked → Builtins → Option ByteField → Type 0
+IsUnmarked rows marks builtins (Some b) = LacksMark rows marks builtins b.table (live_of_view b.field)
+IsUnmarked rows marks builtins None = HasUnmarked rows marks builtins → ⊥

@@ -14,3 +14,4 @@ pub mod Examples
 -- What proofs alone need.
 pub mod Seen
 pub mod Tags
+pub mod MarkedSlots

@@ -1,27 +1,20 @@
-// Fields of bytes, of which strict checks can be made where a schema file says what they hold.
+// Fields of bytes, and whether a schema file says what each of them holds.
 
-ghost use Rattle.std.specs.Prelude.{ℕ, IfErr, IfNone, IfSome, OnOk, ◌≡◌, ◌<◌, map};
+ghost use Rattle.std.specs.Prelude.{ℕ, IfNone, IfOk, IfSome, IsSorted, ◌≡◌, map};
 ghost use Rattle.fb_schema.specs.{Live.Live, Live.live_of_view};
 ghost use Rattle.fb_bfbs.specs.Marks.{marked};
-ghost use Rattle.fb_bfbs.specs.ByteFields.{AreAllPlain, HasMarked, IsBytesFault, IsMarkedField, IsOfBytes, are_written, is_bytes};
+ghost use Rattle.fb_bfbs.specs.ByteFields.{IsField, IsUnmarked, are_written, is_at, is_bytes};
+ghost use Rattle.fb_bfbs.specs.MarkedSlots.{AreSlots, has_slot, is_slotless, slot_cmp};
 
 use crate::marks::{Builtins, Mark, Marks};
 use fb_schema::{FieldView, Kind, Scalar, Schema};
+use std::alloc::{AllocError, Global};
 
 /// A live field of a table that is a vector of `ubyte`, with the number of the table.
 #[derive(Clone, Copy)]
 pub struct ByteField<'n> {
     pub table: u32,
     pub field: FieldView<'n>,
-}
-
-/// Why a field of bytes may hold a buffer or a flexbuffer, with such a field.
-#[derive(Clone, Copy)]
-pub enum BytesFault<'n> {
-    /// The schema file marks it.
-    Marked(ByteField<'n>),
-    /// The file marks no field of bytes, and doesn't show that it would mark this one.
-    Unmarked(ByteField<'n>),
 }
 
 /// Whether a field of this kind is of bytes.
@@ -46,9 +39,9 @@ fn slot_of(field: &FieldView) -> u16
 }
 
 /// The field of bytes in this slot of a table.
-fn bytes_at<'n>(schema: &Schema<'n>, table: u32, slot: u16) -> Option<ByteField<'n>>
-    ensures some { IfSome result (λ b. IsOfBytes schema.now table (live_of_view b.field) × ((b.field).slot ≡ slot) × (b.table ≡ table)) }
-    ensures none { IfNone result ((f : Live) → IsOfBytes schema.now table f → f.slot ≡ slot → ⊥) }
+pub fn bytes_at<'n>(schema: &Schema<'n>, table: u32, slot: u16) -> Option<ByteField<'n>>
+    ensures some { IfSome result (λ b. IsField schema.now table (is_at slot) (live_of_view b.field) × (b.table ≡ table)) }
+    ensures none { IfNone result ((f : Live) → IsField schema.now table (is_at slot) f → ⊥) }
 {
     schema.lawful();
     if !schema.is_table(table) {
@@ -65,30 +58,46 @@ fn bytes_at<'n>(schema: &Schema<'n>, table: u32, slot: u16) -> Option<ByteField<
     Some(ByteField { table, field })
 }
 
-/// The field of the first of these marks that is of bytes.
-fn find_marked<'n>(schema: &Schema<'n>, marks: &[Mark<'_>]) -> Option<ByteField<'n>>
-    ensures some { IfSome result (λ b. IsMarkedField schema.now (map marked marks.now) b.table (live_of_view b.field)) }
-    ensures none { IfNone result (HasMarked schema.now (map marked marks.now) → ⊥) }
+/// The slots of marks, each behind the number of its object, in order.
+fn slots_of(alloc: Global, marks: &[Mark<'_>]) -> Result<Vec<(u32, u16)>, AllocError>
+    ensures { IfOk result (λ slots. AreSlots (map marked marks.now) slots.items) }
 {
+    let mut slots = Vec::new(alloc);
     for mark in marks {
-        if let Some(found) = bytes_at(schema, mark.object, mark.slot) {
-            return Some(found);
-        }
+        slots.push((mark.object, mark.slot))?;
     }
-    None
+    slots.sort_unstable();
+    Ok(slots)
 }
 
-/// The first field of bytes of an object, none where it is a struct.
-fn bytes_of<'n>(schema: &Schema<'n>, object: u32) -> Option<ByteField<'n>>
-    ensures some { IfSome result (λ b. IsOfBytes schema.now b.table (live_of_view b.field)) }
-    ensures none { IfNone result ((f : Live) → IsOfBytes schema.now object f → ⊥) }
+/// Whether one of these slots, which are in order, is this one of an object.
+fn has_slot(slots: &[(u32, u16)], object: u32, slot: u16) -> bool
+    requires { IsSorted slot_cmp slots.now }
+    ensures { result ≡ has_slot slots.now object slot }
+{
+    slots.binary_search(&(object, slot)).is_ok()
+}
+
+/// Whether a live field of a table is of bytes and has none of these slots, which are in order.
+fn is_slotless(slots: &[(u32, u16)], table: u32, field: &FieldView<'_>) -> bool
+    requires { IsSorted slot_cmp slots.now }
+    ensures { result ≡ is_slotless slots.now table (live_of_view field.now) }
+{
+    is_bytes(field.kind) && !has_slot(slots, table, field.slot)
+}
+
+/// The first such field of an object, none where it is a struct.
+fn slotless_in<'n>(schema: &Schema<'n>, slots: &[(u32, u16)], object: u32) -> Option<ByteField<'n>>
+    requires { IsSorted slot_cmp slots.now }
+    ensures some { IfSome result (λ b. IsField schema.now b.table (is_slotless slots.now b.table) (live_of_view b.field)) }
+    ensures none { IfNone result ((f : Live) → IsField schema.now object (is_slotless slots.now object) f → ⊥) }
 {
     if !schema.is_table(object) {
         return None;
     }
     for place in 0..schema.field_count(object) {
         let field = schema.field_at(object, place);
-        if is_bytes(field.kind) {
+        if is_slotless(slots, object, &field) {
             return Some(ByteField {
                 table: object,
                 field,
@@ -98,37 +107,39 @@ fn bytes_of<'n>(schema: &Schema<'n>, object: u32) -> Option<ByteField<'n>>
     None
 }
 
-/// The first field of bytes of all tables.
-fn find_bytes<'n>(schema: &Schema<'n>) -> Option<ByteField<'n>>
-    ensures some { IfSome result (λ b. IsOfBytes schema.now b.table (live_of_view b.field)) }
-    ensures none { IfNone result ((table : ℕ) (f : Live) → IsOfBytes schema.now table f → ⊥) }
+/// The first such field of all tables.
+fn find_slotless<'n>(schema: &Schema<'n>, slots: &[(u32, u16)]) -> Option<ByteField<'n>>
+    requires { IsSorted slot_cmp slots.now }
+    ensures some { IfSome result (λ b. IsField schema.now b.table (is_slotless slots.now b.table) (live_of_view b.field)) }
+    ensures none { IfNone result ((object : ℕ) (f : Live) → IsField schema.now object (is_slotless slots.now object) f → ⊥) }
 {
     for object in 0..schema.object_count() {
-        if let Some(found) = bytes_of(schema, object) {
+        if let Some(found) = slotless_in(schema, slots, object) {
             return Some(found);
         }
     }
     None
 }
 
-/// Whether no field of bytes of a schema holds a buffer or a flexbuffer, by the marks of its file.
+/// A field of bytes without a mark, of which the schema file doesn't show that it would have one. Where there is none,
+/// the marks say what each field of bytes holds.
+///
+/// A mark of another field shows nothing: where a schema declares the attributes of one kind itself, `flatc` writes
+/// these and leaves those of the other kind out.
 ///
 /// # Errors
 ///
-/// `Marked` where a field of bytes is marked, and then `Unmarked` where there is one and the file doesn't show that it
-/// would be.
-pub fn test_bytes<'n>(schema: &Schema<'n>, marks: &Marks<'_>) -> Result<(), BytesFault<'n>>
-    ensures ok { OnOk result (AreAllPlain schema.now (map marked marks.now.fields.items) marks.now.builtins) }
-    ensures no { IfErr result (IsBytesFault schema.now (map marked marks.now.fields.items) marks.now.builtins) }
+/// Memory was refused.
+pub fn find_unmarked<'n>(
+    alloc: Global,
+    schema: &Schema<'n>,
+    marks: &Marks<'_>,
+) -> Result<Option<ByteField<'n>>, AllocError>
+    ensures { IfOk result (IsUnmarked schema.now (map marked marks.now.fields.items) marks.now.builtins) }
 {
-    if let Some(found) = find_marked(schema, marks.fields.as_slice()) {
-        return Err(BytesFault::Marked(found));
-    }
     if are_written(marks.builtins) {
-        return Ok(());
+        return Ok(None);
     }
-    match find_bytes(schema) {
-        Some(found) => Err(BytesFault::Unmarked(found)),
-        None => Ok(()),
-    }
+    let slots = slots_of(alloc, marks.fields.as_slice())?;
+    Ok(find_slotless(schema, &slots))
 }

@@ -18,7 +18,7 @@ mod tags;
 mod taking;
 mod values;
 
-pub use byte_fields::{ByteField, BytesFault, test_bytes};
+pub use byte_fields::{ByteField, bytes_at, find_unmarked};
 pub use fixed::reflection;
 pub use load_fault::{LoadFault, code_text};
 pub use loading::{Loaded, load, own_ident};

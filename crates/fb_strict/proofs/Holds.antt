@@ -2,7 +2,7 @@
 use Rattle.std.proofs.Common.{◌≡◌, ℕ, zero, suc, ◌+◌, ◌-◌, ◌<◌, List, [], ◌∷◌, ◌++◌, length, map, get_or, take, if◌then◌else◌, Option, Some, None, Result, Ok, Err, subst, Bool, true, false, refl, sym, ◌∙◌, arith}
 use Rattle.std.specs.Prelude.{◌==◌, slice_index_or, is_some, slice_get, ◌&&◌, IsErrAnd, IfErr, IsTrue, option_map, option_and_then, ◌⊎◌}
 use Rattle.std.proofs.lemmas.Bool.Decides.{nat_tests}
-use Rattle.std.specs.List.{find, cons_option}
+use Rattle.std.specs.List.{find, cons_option, list_any}
 use Rattle.std.proofs.Common.{inl, inr, ap}
 use Rattle.fb_rules.specs.Order.{◌▷◌}
 use Rattle.fb_bfbs.specs.Marks.{Held as HeldBy, buffer, flex}
@@ -11,9 +11,9 @@ use Rattle.fb_strict.specs.Holding.{name_of, holding_with, holding_of, holdings_
 use Rattle.fb_schema.specs.declared.kinds.Kind.{Kind}
 use Rattle.fb_strict.specs.declared.tasks.Held.{Held}
 use Rattle.fb_strict.specs.Demanded.{held_by}
-use Rattle.fb_schema.specs.{Rows.Rows, Rows.is_table, Rows.table_named}
-use Rattle.fb_strict.specs.Holding.{found_within, has_bytes, is_bytes, meant, is_lost, IsPlanFault}
-use Rattle.fb_bfbs.specs.Marks.{Marked}
+use Rattle.fb_schema.specs.{Live.Live, Live.live_fields, Rows.Rows, Rows.is_table, Rows.table_named}
+use Rattle.fb_strict.specs.Holding.{found_within, has_bytes, meant, is_lost, IsPlanFault}
+use Rattle.fb_bfbs.specs.{ByteFields.IsField, ByteFields.is_at, ByteFields.is_bytes, Marks.Marked}
 use Rattle.fb_strict.specs.declared.holding.{PlanFault.PlanFault, PlanFault.TheVariants.OutOfMemory, PlanFault.TheVariants.NoSuchTable}
 use Rattle.fb_strict.proofs.Tasking.{within_objects}
 use Rattle.fb_strict.proofs.Marks.{no_fields}
@@ -64,26 +64,14 @@ module _ {X : Type 0} (p : X → Bool) where
   find_by : (x : X) (xs : List X) (y : Bool) → p x ≡ y → (if y then Some x else find p xs) ≡ find p (x ∷ xs)
   find_by x xs y is = sym (grind arith)
 
-  not_yet : (x : X) (xs : List X) → p x ≡ true → find p (x ∷ xs) ≡ None → ⊥
-  not_yet x xs is h = grind arith
+  pub find_first : (xs : List X) (i : ℕ) (x : X) → slice_get xs i ≡ Some x → p x ≡ true → ((j : ℕ) (y : X) → j < i → slice_get xs j ≡ Some y → p y ≡ false) → find p xs ≡ Some x
+  find_first [] i x at is none = absurd (cc)
+  find_first (z ∷ zs) zero x at is none = let same : z ≡ x = cc in sym (find_by z zs true (ap p same ∙ is)) ∙ ap Some same
+  find_first (z ∷ zs) (suc i) x at is none = sym (find_by z zs false (none 0 z (omega arith) refl)) ∙ find_first zs i x at is (λ j y low there. none (suc j) y (omega (arith, low)) there)
 
-  pub found_first : (xs : List X) (i : ℕ) (d : X) → i < length xs → find p (take i xs) ≡ None → p (get_or xs i d) ≡ true → find p xs ≡ Some (get_or xs i d)
-  found_first [] i d lt none is = absurd (omega (arith, lt))
-  found_first (x ∷ xs) zero d lt none is = grind arith
-  found_first (x ∷ xs) (suc i) d lt none is = by (p x) refl (λ rest. found_first xs i d (omega (arith, lt)) rest is)
-    where
-      by : (y : Bool) → p x ≡ y → (find p (take i xs) ≡ None → find p xs ≡ Some (get_or xs i d)) → find p (x ∷ xs) ≡ Some (get_or xs i d)
-      by true at later = absurd (not_yet x (take i xs) at none)
-      by false at later = let rest : find p (take i xs) ≡ None = grind arith in let more = later rest in grind arith
-
-  pub none_yet : (xs : List X) (i : ℕ) (d : X) → i < length xs → find p (take i xs) ≡ None → p (get_or xs i d) ≡ false → find p (take (i + 1) xs) ≡ None
-  none_yet [] i d lt none isnt = absurd (omega (arith, lt))
-  none_yet (x ∷ xs) zero d lt none isnt = grind arith
-  none_yet (x ∷ xs) (suc i) d lt none isnt = by (p x) refl (λ rest. none_yet xs i d (omega (arith, lt)) rest isnt)
-    where
-      by : (y : Bool) → p x ≡ y → (find p (take i xs) ≡ None → find p (take (i + 1) xs) ≡ None) → find p (take (suc i + 1) (x ∷ xs)) ≡ None
-      by true at later = absurd (not_yet x (take i xs) at none)
-      by false at later = let rest : find p (take i xs) ≡ None = grind arith in let next = later rest in let more : suc i + 1 ≡ suc (i + 1) = omega arith in rw more (grind arith)
+  pub find_none : (xs : List X) → ((j : ℕ) (y : X) → slice_get xs j ≡ Some y → p y ≡ false) → find p xs ≡ None
+  find_none [] none = refl
+  find_none (z ∷ zs) none = sym (find_by z zs false (none 0 z refl)) ∙ find_none zs (λ j y there. none (suc j) y there)
 
 -- Marks.
 
@@ -93,6 +81,18 @@ bytes_within S k slot h = by (is_table S k) refl
     by : (x : Bool) → is_table S k ≡ x → k < length S.objects
     by true is = within_objects S k is
     by false is = absurd (let none = no_bytes S k slot is in let w : true ≡ false = sym h ∙ none in cc)
+
+-- a field of bytes stands in a slot that has one
+some_passes : {X : Type 0} (p : X → Bool) (xs : List X) → list_any p xs ≡ true → (i : ℕ) × (x : X) × (slice_get xs i ≡ Some x) × (p x ≡ true)
+some_passes p [] h = absurd (grind arith)
+some_passes {X = X} p (x ∷ xs) h = by (p x) refl (some_passes p xs)
+  where
+    by : (y : Bool) → p x ≡ y → (list_any p xs ≡ true → (i : ℕ) × (z : X) × (slice_get xs i ≡ Some z) × (p z ≡ true)) → (i : ℕ) × (z : X) × (slice_get (x ∷ xs) i ≡ Some z) × (p z ≡ true)
+    by true is later = (zero, x, refl, is)
+    by false is later = let found = later (grind arith) in (suc found.0, found.1, found.2, found.3)
+
+pub bytes_stand : (S : Rows) (k slot : ℕ) → has_bytes S k slot ≡ true → ((f : Live) → IsField S k (is_at slot) f → ⊥) → ⊥
+bytes_stand S k slot has none = let (i, f, at, is) = some_passes (is_at slot) (live_fields S k) has in none f (record { place = i; at = at; is = is })
 
 pub lost_at : (S : Rows) (ms : List Marked) (i : ℕ) (m : Marked) → slice_get ms i ≡ Some m → (f : PlanFault) → IsPlanFault S (m ∷ []) f → IsPlanFault S ms f
 lost_at S ms i m at OutOfMemory h = tt

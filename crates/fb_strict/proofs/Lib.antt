@@ -12,6 +12,8 @@ pub mod How
 pub mod Unasked
 pub mod Moving
 pub mod Holds
+pub mod BySlot
+pub mod HeldOrder
 pub mod Fields
 pub mod Words
 pub mod KnownSlots
@@ -33,6 +35,7 @@ pub mod Legs
 pub mod Walking
 pub mod Entering
 pub mod Turning
+pub mod Typed
 pub mod Wholes
 pub mod Ways
 pub mod Bounded

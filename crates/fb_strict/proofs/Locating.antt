@@ -1,5 +1,5 @@
 -- What a call promises of the way to a fault, by the verdict on a buffer that the walk took.
-use Rattle.std.proofs.Common.{◌≡◌, ℕ, ◌≤◌, List, ◌++◌, length, Result, Ok, Err, sym, subst, take, arith, length-append}
+use Rattle.std.proofs.Common.{◌≡◌, ℕ, ◌≤◌, List, ◌++◌, length, Result, sym, subst, take, arith, length-append}
 use Rattle.std.specs.Prelude.{IfOk, IfErr}
 use Rattle.std.proofs.lemmas.List.{take-append-le}
 use Rattle.std.proofs.lemmas.Result.{IfOk-weaker, IfErr-weaker}
@@ -13,14 +13,11 @@ use Rattle.fb_strict.specs.Strictly.{sealed_by, ReportsStrictly, HasNoneStrictly
 use Rattle.fb_strict.proofs.Bounded.{strict_cost_is_bounded, strict_reads_are_bounded}
 
 -- of the front of a row of links
-pub along_in : (P : Fault → List Link → Type 0) (r : Result VerifiedStrictly Located) (depth : ℕ) (old : ℕ) (front behind : List Link) → depth ≤ old → IfErr r (λ l. depth ≤ old → P l.fault (take l.links front)) → IfErr r (λ l. l.links ≤ length front)
-    → IfErr r (λ l. P l.fault (take l.links (front ++ behind)))
-along_in P (Ok v) depth old front behind enough h few = tt
-along_in P (Err l) depth old front behind enough h few = subst (P l.fault) (sym (take-append-le l.links front behind few)) (h enough)
+pub along_in : (P : Fault → List Link → Type 0) (l : Located) (front behind : List Link) → l.links ≤ length front → P l.fault (take l.links front) → P l.fault (take l.links (front ++ behind))
+along_in P l front behind few h = subst (P l.fault) (sym (take-append-le l.links front behind few)) h
 
-pub few_in : (r : Result VerifiedStrictly Located) (front behind : List Link) → IfErr r (λ l. l.links ≤ length front) → IfErr r (λ l. l.links ≤ length (front ++ behind))
-few_in (Ok v) front behind few = tt
-few_in (Err l) front behind few = let n = length-append front behind in omega (arith, n, few)
+pub few_in : (l : Located) (front behind : List Link) → l.links ≤ length front → l.links ≤ length (front ++ behind)
+few_in l front behind few = let n = length-append front behind in omega (arith, n, few)
 
 module _ (p : Planned) (q : Question) (b : List ℕ) (r : Result VerifiedStrictly Located) (v : Sealed) (kept : v ≡ sealed_by q b v.report) where
   pub told_none : IfErr r (λ _. HasNoneStrictly p (asked_of v q.ident q.limits) v.bytes) → IfErr r (λ _. HasNoneStrictly p q b)

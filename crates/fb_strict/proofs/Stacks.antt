@@ -280,8 +280,8 @@ module _ (p : Passing) (m new : Lent) (frames : List Frame) (many at : ℕ) (som
     pub its_reads : GoesOn p m mid t.own (g.below ++ g.left)
     its_reads = g.on
 
-    pub its_paid : mid.count ≤ m.count + 8
-    its_paid = g.paid
+    pub its_paid : mid.count ≤ m.count + 2 ^ 36
+    its_paid = omega (arith, g.paid, ((t.left).asked).near)
 
     its_bytes : mid.bytes ≡ m.bytes
     its_bytes = ap (λ (x : Lent). x.bytes) (g.on).same

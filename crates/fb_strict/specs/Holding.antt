@@ -1,10 +1,12 @@
 -- What the bytes of fields hold, by the marks of a schema file.
-use Rattle.std.specs.Prelude.{◌≡◌, ℕ, zero, suc, ◌==◌, ◌&&◌, Bool, true, false, if◌then◌else◌, List, [], ◌++◌, length, take, find, filter_map, slice_get, slice_index_or, Option, Some, None, option_map, is_none}
+use Rattle.std.specs.Prelude.{◌≡◌, ℕ, zero, suc, ◌<◌, ◌==◌, ◌&&◌, ◌||◌, nat_lt, map, Bool, true, if◌then◌else◌, List, [], ◌++◌, length, take, find, filter_map, slice_get, slice_index_or, Option, Some, None, option_map, is_none}
 use Rattle.std.specs.List.{list_any}
-use Rattle.fb_schema.specs.declared.kinds.{Kind.Kind, Kind.TheVariants.Scalars, Scalar.TheVariants.UByte}
-use Rattle.fb_schema.specs.{Rows.Object, Rows.Rows, Rows.table_named, Live.Live, Live.live_fields}
+use Rattle.std.specs.Ordering.{nat_cmp}
+use Rattle.std.specs.declared.cmp.Ordering.{Ordering}
+use Rattle.fb_schema.specs.Sorting.{IsOrderOf, entry_cmp}
+use Rattle.fb_schema.specs.{Rows.Object, Rows.Rows, Rows.table_named, Live.live_fields}
 use Rattle.fb_rules.specs.Order.{◌▷◌}
-use Rattle.fb_bfbs.specs.Marks.{Marked, Held as HeldBy, buffer, flex}
+use Rattle.fb_bfbs.specs.{ByteFields.is_at, Marks.Marked, Marks.Held as HeldBy, Marks.buffer, Marks.flex}
 use Rattle.fb_strict.specs.declared.{demands.Demands.Demands, tasks.Held.Held, holding.Holding.Holding, holding.PlanFault.PlanFault, holding.PlanFault.TheVariants.OutOfMemory, holding.PlanFault.TheVariants.NoSuchTable}
 use Rattle.fb_strict.specs.declared.tasks.Held.TheVariants.{Buffer, Flex}
 
@@ -30,14 +32,9 @@ name_of S k = name_in (slice_get S.objects k)
 
 -- Marks.
 
--- a field of this kind is a vector of bytes
-abbrev pub is_bytes : Kind → Bool
-is_bytes (Scalars UByte) = true
-is_bytes _ = false
-
--- a live field of a table in this slot is
+-- a live field of a table in this slot is of bytes
 abbrev pub has_bytes : Rows → (k slot : ℕ) → Bool
-has_bytes S k slot = list_any (λ (f : Live). (f.slot == slot) && is_bytes f.kind) (live_fields S k)
+has_bytes S k slot = list_any (is_at slot) (live_fields S k)
 
 -- what a mark in the object k says that they hold: none where it names no table
 abbrev pub meant : Rows → ℕ → HeldBy → Option Held
@@ -73,3 +70,32 @@ IsPlanFault S ms (NoSuchTable k slot) = (i : ℕ) × (m : Marked) × (slice_get 
 -- what the bytes of a field with this slot of the object k hold by these
 abbrev pub held_in : List Holding → (k slot : ℕ) → Option Held
 held_in hs k slot = option_map (λ (h : Holding). h.held) (find (λ (h : Holding). (h.object == k) && (h.slot == slot)) hs)
+
+-- Order.
+
+-- a field by its object's number and its slot
+abbrev pub Slotted : Type 0
+Slotted = ℕ × ℕ
+
+abbrev pub field_of : Holding → Slotted
+field_of h = (h.object, h.slot)
+
+-- by object, and then by slot
+abbrev pub field_cmp : Slotted → Slotted → Ordering
+field_cmp a b = entry_cmp nat_cmp a b
+
+-- the fields of holdings in order, each with the place of its holding
+abbrev pub AreInOrder : List Holding → List (Slotted × ℕ) → Type 0
+AreInOrder hs order = IsOrderOf field_cmp (map field_of hs) order
+
+-- an entry of such an order is of a field before this one, or of this one
+abbrev pub is_before : (k slot : ℕ) → Slotted × ℕ → Bool
+is_before k slot e = nat_lt e.0.0 k || ((e.0.0 == k) && nat_lt e.0.1 slot)
+
+abbrev pub is_of : (k slot : ℕ) → Slotted × ℕ → Bool
+is_of k slot e = (e.0.0 == k) && (e.0.1 == slot)
+
+-- the field stands at this place first, or nowhere
+abbrev pub IsFirstPlace : List Slotted → (k slot : ℕ) → Option ℕ → Type 0
+IsFirstPlace fields k slot None = (i : ℕ) → slice_get fields i ≡ Some (k, slot) → ⊥
+IsFirstPlace fields k slot (Some i) = (slice_get fields i ≡ Some (k, slot)) × ((j : ℕ) → j < i → slice_get fields j ≡ Some (k, slot) → ⊥)

@@ -7,7 +7,7 @@ use Rattle.fb_rules.specs.declared.{site.LastLink.LastLink, site.LastLink.TheVar
 use Rattle.fb_rules.specs.declared.{offset_row.Referent.Referent, offset_row.Row.Row, offset_row.Leads.Leads, offset_row.Leads.TheVariants.All, offset_row.Leads.TheVariants.ByType}
 use Rattle.fb_rules.specs.declared.offset_row.Referent.TheVariants.{Text as AText, Table as ATable, Nothing}
 use Rattle.fb_rules.specs.{Bounds.Bounds, Bounds.AreAllowed, Bounds.allowed, Places.target, Places.field_place, Fields.IsField, Fields.type_place, Fields.types_begin, Fields.union_type}
-use Rattle.fb_rules.specs.{Cost.head_reads, Cost.slot_reads, Cost.reads_if_present, Order.Failure, Order.after, Order.◌▷◌, Stops.reads_failure, Told.IsHead, Told.IsAskedAt, Told.told, Told.stopped, OffsetRows.words_of, OffsetRows.IsTyped, OffsetRows.TypeFits, OffsetRows.TypesFit}
+use Rattle.fb_rules.specs.{Cost.head_reads, Cost.slot_reads, Cost.reads_if_present, Order.Failure, Order.after, Order.◌▷◌, Stops.reads_failure, Told.IsHead, Told.IsAskedAt, Told.told, Told.stopped, OffsetRows.words_of, OffsetRows.past_first, OffsetRows.IsTyped, OffsetRows.TypeFits, OffsetRows.TypesFit}
 use Rattle.fb_rules.specs.Tree.{Tree, Kids, kids_depth, Elements, elements_depth, depth}
 use Rattle.fb_rules.specs.Unfolds.{FieldsUnfold, ElementsUnfold, Unfolds}
 use Rattle.fb_verify.specs.Stack.{own_link, last_link, links_left}
@@ -315,6 +315,24 @@ TextPassed p m new site place (Err s) =
     (told site m.count (reads_failure p.limits m.count (text_reads m.bytes (target m.bytes place)) place) ≡ Some (stopped s new.count))
     ⊎ ((new ≡ record m { count = m.count + text_reads m.bytes (target m.bytes place) }) × AreAllowed (p.limits).reads new.count × (told site new.count (text_failure m.bytes (target m.bytes place)) ≡ Some (stopped s new.count)))
 
+-- what an offset word at p leads to lies in the buffer, where it is asked
+abbrev pub ReferentStands : List ℕ → (p : ℕ) → Referent → Type 0
+ReferentStands b p AText = TextStands b p
+ReferentStands b p (ATable k) = p + 4 ≤ length b
+ReferentStands b p _ = Unit {0}
+
+-- it was asked, so that a pass with so many frames open goes on, or comes to a table; or it stops behind the word
+abbrev pub ReferentPassed : (p : Passing) → (m new : Lent) → Site → (place many : ℕ) → Child → Referent → Result Turn Halt → Type 0
+ReferentPassed p m new site place many child AText (Ok Here) = TextPassed p m new site place (Ok tt)
+ReferentPassed p m new site place many child AText (Err h) = (h ≡ record { stop = h.stop; links = many; last = Behind }) × TextPassed p m new site place (Err h.stop)
+ReferentPassed p m new site place many child (ATable k) (Ok Down) =
+    IsAskedAt {A = ℕ} site p.limits m new None 1 place (Ok child.at) × (child.at ≡ target m.bytes place) × (child.at < 2 ^ 33) × (child.object ≡ k)
+ReferentPassed p m new site place many child (ATable k) (Err h) = (h ≡ record { stop = h.stop; links = many; last = Behind }) × IsAskedAt {A = ℕ} site p.limits m new None 1 place (Err h.stop)
+ReferentPassed p m new site place many child AText _ = ⊥
+ReferentPassed p m new site place many child (ATable k) _ = ⊥
+ReferentPassed p m new site place many child _ (Ok Here) = new ≡ m
+ReferentPassed p m new site place many child _ _ = ⊥
+
 -- One step in the top table, from a frame to another, after which the pass goes on there, in the table above or in one
 -- below; or it stops.
 
@@ -344,11 +362,34 @@ pub record Stays (p : Passing) (m new : Lent) (room : ℕ) (via : List Link) (ds
   pub frame : IsLeft p m.bytes room via past left
   pub falls : frame_work p past < frame_work p top
 
+-- offset words of a frame's field were passed of which none leads to what is asked, by at most two reads each
+pub record PassesBy (p : Passing) (m new : Lent) (room : ℕ) (via : List Link) (ds : List Demand) (top past : Frame) : Type 0 where
+  pub left : List Demand
+  pub on : GoesOn p m new ds left
+  pub frame : IsLeft p m.bytes room via past left
+  pub same : past ≡ record top { row = past.row }
+  pub fewer : (past.row).left ≤ (top.row).left
+  pub paid : new.count + 2 * (past.row).left ≤ m.count + 2 * (top.row).left
+
+-- the first word that is left of a frame was asked by its type, and is passed
+pub record FrontPassed (p : Passing) (m new : Lent) (fr past : Frame) (result : Result Referent Stop) : Type 0 where
+  pub more : 0 < (fr.row).left
+  pub is : past ≡ record fr { row = past_first fr.row }
+  pub first : FirstPassed p m new (record { object = (fr.table).object; field = Some fr.number }) (fr.row).place (fr.row).leads result
+
+-- behind words that lead to nothing that is asked, from this frame on and after so many reads, one was passed that does,
+-- or where none is left, nothing; or the pass stops behind one
+pub record WordsPassed (p : Passing) (m new : Lent) (room : ℕ) (via : List Link) (ds : List Demand) (top past : Frame) (result : Result Referent Stop) : Type 0 where
+  pub before : Lent
+  pub reached : Frame
+  pub by : PassesBy p m before room via ds top reached
+  pub last : FrontPassed p before new reached past result ⊎ ((result ≡ Ok Nothing) × (past ≡ reached) × (new ≡ before) × ((reached.row).left ≡ 0))
+
 pub record GoesDown (p : Passing) (m new : Lent) (room : ℕ) (via : List Link) (ds : List Demand) (top past : Frame) (child : Child) : Type 0 where
   pub below : List Demand
   pub left : List Demand
   pub on : GoesOn p m new ds (below ++ left)
-  pub paid : new.count ≤ m.count + 8
+  pub paid : new.count ≤ m.count + 2 * (top.row).left + 8
   pub next : IsNext p m.bytes (room - 1) (via ++ frame_link (wants_of p) m.bytes p.rows past ∷ []) child below
   pub frame : IsLeft p m.bytes room via past left
   pub linked : IsLinked (wants_of p) p.checks m.bytes p.rows past

@@ -1,11 +1,13 @@
 //! What the bytes of fields hold, by the marks of a schema file.
 
 ghost use Rattle.std.specs.Prelude.{◌≡◌, ◌<◌, ◌++◌, ◌∷◌, [], ℕ, length, map, Some, IfOk, IfErr, OnOk, true, false, is_some, IsTrue};
+ghost use Rattle.std.specs.Prelude.{List};
 ghost use Rattle.std.specs.List.{list_any};
-ghost use Rattle.fb_schema.specs.{Rows.table_named, Rows.is_table, Live.live_fields};
+ghost use Rattle.fb_schema.specs.{Rows.table_named, Rows.is_table, Live.live_fields, Sorting.IsOrderOf};
 ghost use Rattle.fb_strict.specs.{Demanded.held_by, Holding.held_in};
-ghost use Rattle.fb_bfbs.specs.Marks.{marked, held_of};
-ghost use Rattle.fb_strict.specs.Holding.{found_from, is_bytes, has_bytes, name_of, meant, holding_of, holdings_in, holdings_if, is_lost, IsPlanFault};
+ghost use Rattle.fb_bfbs.specs.{ByteFields.is_bytes, Marks.marked, Marks.held_of};
+ghost use Rattle.fb_strict.specs.Holding.{found_from, has_bytes, name_of, meant, holding_of, holdings_in, holdings_if, is_lost, IsPlanFault};
+ghost use Rattle.fb_strict.specs.Holding.{AreInOrder, IsFirstPlace, field_cmp, field_of, is_before, is_of};
 ghost use Rattle.fb_strict.specs.declared.holding.PlanFault.TheVariants.{OutOfMemory, NoSuchTable};
 
 use crate::demands::Demands;
@@ -13,6 +15,7 @@ use crate::tasks::Held;
 use fb_bfbs::{Content, Mark};
 use fb_schema::{FieldView, Kind, Scalar, Schema};
 use std::alloc::{AllocError, Allocator};
+use std::marker::Model;
 
 /// A field whose bytes hold something: its object's number, its slot, and what they hold.
 #[derive(Clone, Copy)]
@@ -83,21 +86,30 @@ pub fn is_bytes(kind: Kind) -> bool
     matches!(kind, Kind::Scalars(Scalar::UByte))
 }
 
+/// The slot of a field.
+fn slot_of(field: &FieldView<'_>) -> u16
+    ensures { result ≡ field.now.slot }
+{
+    field.slot
+}
+
 /// Whether the live field of a table in this slot is.
 #[tactic(auto, using(crate::proofs::Holds::no_bytes))]
 fn has_bytes(schema: &Schema<'_>, object: u32, slot: u16) -> bool
     ensures { result ≡ has_bytes schema.now object slot }
 {
+    schema.lawful();
     if !schema.is_table(object) {
         return false;
     }
     let fields = schema.fields_of(object);
-    for field in fields {
-        if field.slot == slot && is_bytes(field.kind) {
-            return true;
+    match fields.binary_search_by_key(&slot, slot_of) {
+        Ok(place) => {
+            let field = &fields[place];
+            is_bytes(field.kind)
         }
+        Err(_) => false,
     }
-    false
 }
 
 /// What a mark in an object says that bytes hold, none where it names no table.
@@ -190,31 +202,114 @@ pub fn holdings_if<A: Allocator + Copy>(
     holdings_in(alloc, schema, marks)
 }
 
-/// What is held by these in the field of an object with this slot.
-fn held_at(holdings: &[Holding], object: u32, slot: u16) -> Option<Held>
-    ensures { result ≡ held_in holdings.now object slot }
+/// A field by its object's number and its slot, and a place in holdings of which one is of it.
+pub type Entry = ((u32, u16), usize);
+
+/// Holdings, and the order of their fields by which they are looked up. Contracts see the holdings.
+#[derive(Drop)]
+pub struct Holdings<'h> {
+    items: &'h [Holding],
+    order: &'h [Entry],
+}
+
+impl<'h> Model for Holdings<'h> {
+    ghost use Rattle.std.specs.Prelude.{List};
+    ghost use Rattle.fb_strict.specs.declared.holding.Holding.{Holding};
+    ghost use Rattle.fb_strict.specs.Holding.{AreInOrder};
+
+    ghost Value = { List Holding };
+
+    ghost view = { λ h. h.items.now };
+
+    ghost invariant = { λ h. AreInOrder h.items.now h.order.now };
+}
+
+/// The field of a holding, with its place.
+fn entry_of(holding: &Holding, place: usize) -> Entry
+    ensures { result ≡ (field_of holding.now, place) }
 {
-    for holding in holdings {
-        if holding.object == object && holding.slot == slot {
-            return Some(holding.held);
-        }
+    ((holding.object, holding.slot), place)
+}
+
+/// The fields of holdings in order: by object, then by slot, and of one field by place.
+pub fn order_of<A: Allocator>(alloc: A, holdings: &[Holding]) -> Result<Vec<Entry, A>, AllocError>
+    ensures { IfOk result (λ order. AreInOrder holdings.now order.items) }
+{
+    let mut order = Vec::new(alloc);
+    for (place, holding) in holdings.iter().enumerate() {
+        order.push(entry_of(holding, place))?;
+    }
+    order.sort_unstable();
+    Ok(order)
+}
+
+/// Whether an entry is of a field before this one.
+fn is_before(entry: &Entry, object: u32, slot: u16) -> bool
+    ensures { result ≡ is_before object slot entry.now }
+{
+    let (at, _) = *entry;
+    at.0 < object || (at.0 == object && at.1 < slot)
+}
+
+/// Whether it is of this one.
+fn is_of(entry: &Entry, object: u32, slot: u16) -> bool
+    ensures { result ≡ is_of object slot entry.now }
+{
+    let (at, _) = *entry;
+    at.0 == object && at.1 == slot
+}
+
+/// The place of the first holding of a field.
+fn first_place(order: &[Entry], object: u32, slot: u16) -> Option<usize>
+    ensures { (fields : List (ℕ × ℕ)) → IsOrderOf field_cmp fields order.now → IsFirstPlace fields object slot result }
+{
+    let first = order.partition_point(
+        |entry: &Entry| -> bool
+            ensures { result ≡ is_before object slot entry.now }
+        { is_before(entry, object, slot) },
+    );
+    let Some(entry) = order.get(first) else {
+        return None;
+    };
+    if is_of(entry, object, slot) {
+        return Some(entry.1);
     }
     None
 }
 
+impl<'h> Holdings<'h> {
+    /// Holdings with the order of their fields.
+    pub fn new(items: &'h [Holding], order: &'h [Entry]) -> Holdings<'h>
+        requires { AreInOrder items.now order.now }
+        ensures { result ≡ items.now }
+    {
+        Holdings { items, order }
+    }
+
+    /// What is held by these in the field of an object with this slot: by the first where there are more.
+    fn held_at(&self, object: u32, slot: u16) -> Option<Held>
+        ensures { result ≡ held_in self.now object slot }
+    {
+        match first_place(self.order, object, slot) {
+            Some(place) => Some(self.items[place].held),
+            None => None,
+        }
+    }
+}
+
 /// What the bytes of a field hold by these.
 #[tactic(auto, using(crate::proofs::Holds::of_bytes, crate::proofs::Holds::of_others))]
-pub fn held_of(holdings: &[Holding], object: u32, field: &FieldView<'_>) -> Option<Held>
+pub fn held_of(holdings: &Holdings<'_>, object: u32, field: &FieldView<'_>) -> Option<Held>
     ensures { result ≡ held_by (held_in holdings.now object field.now.slot) field.now.kind }
 {
     if is_bytes(field.kind) {
-        return held_at(holdings, object, field.slot);
+        return holdings.held_at(object, field.slot);
     }
     None
 }
 
 /// Whether a field of this table holds something by these.
-pub fn has_held(holdings: &[Holding], schema: &Schema<'_>, object: u32) -> bool
+pub fn has_held(holdings: &Holdings<'_>, schema: &Schema<'_>, object: u32) -> bool
     requires { IsTrue (is_table schema.now object) }
     ensures { result ≡ list_any (λ f. is_some (held_by (held_in holdings.now object f.slot) f.kind)) (live_fields schema.now object) }
 {

@@ -13,6 +13,7 @@ mod links;
 mod located;
 mod marking;
 mod most;
+mod offset_words;
 mod pass;
 mod plan;
 mod room;

@@ -14,6 +14,7 @@ use crate::strictly::VerifiedStrictly;
 use crate::whole::{OnStack, ask_whole};
 use fb_bytes::Meter;
 use fb_rules::checks::Checks;
+use fb_rules::fault::Report;
 use fb_rules::limits::Limits;
 use fb_rules::link::Link;
 use fb_rules::start::{Ident, Start};
@@ -22,10 +23,10 @@ use fb_verify::{Located, Scratch, Verified, verify_and_locate, verify_and_locate
 use std::alloc::Allocator;
 
 /// The strict verdict on a buffer that was verified with this identifier and within these limits, and on those inside
-/// it, which are walked in this room. Where there is a fault, and room for as many links as the depth limit says, those
-/// that lead to it are put at the front of `links`.
-pub(crate) fn verdict_along<'b, 's, 'n, A: Allocator, W: Walker>(
-    verified: Verified<'b, 's, 'n>,
+/// it, which are walked in this room: what all of them spend. Where there is a fault, and room for as many links as the
+/// depth limit says, those that lead to it are put at the front of `links`.
+pub(crate) fn verdict_along<A: Allocator, W: Walker>(
+    verified: &Verified<'_, '_, '_>,
     ident: Ident,
     limits: Limits,
     plan: &Plan<A>,
@@ -33,29 +34,23 @@ pub(crate) fn verdict_along<'b, 's, 'n, A: Allocator, W: Walker>(
     frames: &mut [Frame],
     levels: &mut [Level],
     links: &mut [Link],
-) -> Result<VerifiedStrictly<'b, 's, 'n>, Located>
-    requires plan { IsPlan verified.schema (plan.now).demands plan.now }
-    requires reports { Reports (asked_of verified ident limits) verified.bytes verified.report }
-    requires short { length verified.bytes < 2 ^ 31 }
-    requires table { IsTrue (is_table verified.schema verified.root) }
+) -> Result<Report, Located>
+    requires plan { IsPlan (verified.now).schema (plan.now).demands plan.now }
+    requires reports { Reports (asked_of verified.now ident limits) (verified.now).bytes (verified.now).report }
+    requires short { length (verified.now).bytes < 2 ^ 31 }
+    requires table { IsTrue (is_table (verified.now).schema (verified.now).root) }
     requires frames { limits.depth ≡ length frames.old }
     requires levels { limits.depth ≤ length levels.old }
     requires room { limits.depth ≤ W.room walker.old }
     requires links { length links.old ≤ 4096 }
-    ensures yes { IfOk result (λ v. ReportsStrictly plan.now (asked_of verified.entry ident limits) (verified.entry).bytes v.report) }
-    ensures kept { IfOk result (λ v. v.verified ≡ verified.entry) }
-    ensures none { IfErr result (λ _. HasNoneStrictly plan.now (asked_of verified.entry ident limits) (verified.entry).bytes) }
-    ensures no { IfErr result (λ l. StopsStrictly plan.now (asked_of verified.entry ident limits) (verified.entry).bytes l.fault) }
-    ensures along { IfErr result (λ l. limits.depth ≤ length links.old → StopsAlongStrictly plan.now (asked_of verified.entry ident limits) (verified.entry).bytes l.fault (take l.links links.new)) }
+    ensures yes { IfOk result (λ r. ReportsStrictly plan.now (asked_of verified.now ident limits) (verified.now).bytes r) }
+    ensures none { IfErr result (λ _. HasNoneStrictly plan.now (asked_of verified.now ident limits) (verified.now).bytes) }
+    ensures no { IfErr result (λ l. StopsStrictly plan.now (asked_of verified.now ident limits) (verified.now).bytes l.fault) }
+    ensures along { IfErr result (λ l. limits.depth ≤ length links.old → StopsAlongStrictly plan.now (asked_of verified.now ident limits) (verified.now).bytes l.fault (take l.links links.new)) }
     ensures few { IfErr result (λ l. l.links ≤ length links.new) }
     ensures same { W.room walker.new ≡ W.room walker.old }
 {
-    match ask_whole(
-        &verified, ident, limits, plan, walker, frames, levels, links,
-    ) {
-        Ok(report) => Ok(VerifiedStrictly { verified, report }),
-        Err(located) => Err(located),
-    }
+    ask_whole(verified, ident, limits, plan, walker, frames, levels, links)
 }
 
 /// The same in frames, places and a row of links of which there are enough.
@@ -88,7 +83,12 @@ fn verdict<'b, 's, 'n, A: Allocator, W: Walker>(
     let depth = limits.depth() as usize;
     let (frames, _) = frames.split_at_mut(depth);
     let (links, _) = links.split_at_mut(depth);
-    verdict_along(verified, ident, limits, plan, walker, frames, levels, links)
+    match verdict_along(
+        &verified, ident, limits, plan, walker, frames, levels, links,
+    ) {
+        Ok(report) => Ok(VerifiedStrictly { verified, report }),
+        Err(located) => Err(located),
+    }
 }
 
 /// The same in the frames and the places of a room.

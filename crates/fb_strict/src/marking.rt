@@ -9,7 +9,7 @@ ghost use Rattle.fb_strict.specs.Leading.{IsChained, IsFrom, Leads as LeadsOf, A
 ghost use Rattle.fb_strict.specs.Marking.{IsQueue, NoneMarked, Spread, AreClosed, OwnMarked};
 
 use crate::demands::Demands;
-use crate::holding::Holding;
+use crate::holding::Holdings;
 use crate::leads::{Chains, Leads};
 use crate::tasks::has_asked;
 use fb_schema::Schema;
@@ -25,7 +25,7 @@ pub struct Marking<A: Allocator> {
 
 /// Whether anything is demanded of a table of this object by itself.
 #[tactic(auto, using(crate::proofs::Queues::none_own))]
-fn has_own(schema: &Schema<'_>, demands: Demands, holdings: &[Holding], object: u32) -> bool
+fn has_own(schema: &Schema<'_>, demands: Demands, holdings: &Holdings<'_>, object: u32) -> bool
     ensures { result ≡ has_asked (marked_wants (demanded demands holdings.now) []) schema.now object }
 {
     if !schema.is_table(object) {
@@ -67,7 +67,7 @@ impl<A: Allocator + Copy> Marking<A> {
         &mut self,
         schema: &Schema<'_>,
         demands: Demands,
-        holdings: &[Holding],
+        holdings: &Holdings<'_>,
     ) -> Result<(), AllocError>
         requires { NoneMarked (length schema.now.objects) self.old.marks.items self.old.queue.items }
         ensures { OnOk result (OwnMarked (demanded demands holdings.now) schema.now (length schema.now.objects) self.new.marks.items self.new.queue.items) }
@@ -132,7 +132,7 @@ impl<A: Allocator + Copy> Marking<A> {
         &mut self,
         schema: &Schema<'_>,
         demands: Demands,
-        holdings: &[Holding],
+        holdings: &Holdings<'_>,
         leads: &Leads<A>,
     ) -> Result<(), AllocError>
         requires leads { AreLeads demands schema.now leads.now.tables.lasts.items leads.now.tables.edges.items leads.now.unions.lasts.items leads.now.unions.edges.items leads.now.members.lasts.items leads.now.members.edges.items }
@@ -157,7 +157,7 @@ pub fn marks_of<A: Allocator + Copy>(
     alloc: A,
     schema: &Schema<'_>,
     demands: Demands,
-    holdings: &[Holding],
+    holdings: &Holdings<'_>,
 ) -> Result<Vec<bool, A>, AllocError>
     ensures { IfOk result (λ marks. AreMarks (demanded demands holdings.now) schema.now marks.items) }
 {

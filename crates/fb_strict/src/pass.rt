@@ -1,22 +1,22 @@
 // The pass over a buffer that unfolds: the tables of its tree that are asked, in the order of the walk's visits.
 
-ghost use Rattle.std.specs.Prelude.{◌≡◌, ◌+◌, ◌^◌, ◌<◌, ◌≤◌, ℕ, List, [], Option, length, IfOk, IfErr, Ok, Err, Some, None};
+ghost use Rattle.std.specs.Prelude.{◌≡◌, ◌+◌, ◌^◌, ◌<◌, ◌≤◌, ℕ, List, [], Option, length, IfOk, IfErr, Ok, Err, Some, None, IsTrue};
 ghost use Rattle.fb_bytes.specs.Word.{Lent, word};
-ghost use Rattle.fb_rules.specs.declared.link.Link.{Link};
+ghost use Rattle.fb_rules.specs.declared.{link.Link.Link, offset_row.Leads.TheVariants.ByType};
+ghost use Rattle.fb_schema.specs.{Rows.is_union, Targets.kind_to};
 ghost use Rattle.fb_rules.specs.{Bounds.AreAllowed, Order.Failure, Places.target, Places.field_place};
 ghost use Rattle.fb_rules.specs.{Plain.IsTested, Told.IsAskedAt, Told.IsVtable};
 ghost use Rattle.fb_strict.specs.declared.tasks.Ask.{Ask};
 ghost use Rattle.fb_strict.specs.declared.tasks.Held.TheVariants.{Buffer, Flex};
 ghost use Rattle.fb_strict.specs.declared.tasks.Ask.TheVariants.{Union as AskUnion, Unions as AskUnions, Bytes as AskBytes};
 ghost use Rattle.fb_strict.specs.Asked.{Demand, asked_referent, demands_reads};
-ghost use Rattle.fb_strict.specs.Passing.{wants_of, IsPassing, IsRoom, IsTaskable, IsOne, IsEach, CountStands, IsAskedRow, word_row, TaskPassed, TaskDone, FirstPassed, TextStands, TextPassed, IsLeft, IsNext, AreLeft, IsStanding, Stepped, HasTurned, WentOn, Begins, Went};
+ghost use Rattle.fb_strict.specs.Passing.{wants_of, IsPassing, IsRoom, IsTaskable, IsOne, IsEach, CountStands, IsAskedRow, word_row, TaskPassed, TaskDone, IsLeft, IsNext, AreLeft, IsStanding, Stepped, HasTurned, WentOn, Begins, Went};
 
 use crate::inner::Inner;
 use crate::plan::Plan;
 use crate::room::Frame;
 use crate::tasks::{Ask, Held, Task};
-use crate::texts::{read_text, wrong_from};
-use crate::unions::{read_places, test_element, test_flex, test_together, test_union};
+use crate::unions::{NO_TARGET, read_places, test_flex, test_together, test_union};
 use fb_bytes::{Loan, Reads};
 use fb_rules::checks::Checks;
 use fb_rules::fault::Reason;
@@ -25,7 +25,7 @@ use fb_rules::offset_row::{Leads, Referent, Row};
 use fb_rules::plain::slot_at;
 use fb_rules::site::{Halt, LastLink, Refusal, Site, Stop};
 use fb_rules::table::{Child, NO_CHILD, Table};
-use fb_schema::{Kind, Schema};
+use fb_schema::{Goal, Schema, Target};
 use std::alloc::Allocator;
 use std::marker::Model;
 
@@ -149,23 +149,6 @@ impl<'p, 's, 'n, A: Allocator> Pass<'p, 's, 'n, A> {
         Err(Stop { refusal, site })
     }
 
-    /// Reads where the offset word at a position leads, and asks the budget.
-    #[inline(always)]
-    fn follow(&self, reads: &mut Reads<'_>, room: u64, site: Site, place: u64) -> Result<u64, Stop>
-        requires room { IsRoom self.now.limits reads.old.base room }
-        requires few { reads.old.count < reads.old.base + 2 ^ 60 }
-        requires within { place + 4 ≤ length reads.old.bytes }
-        requires near { place < 2 ^ 32 }
-        ensures asked { IsAskedAt site self.now.limits reads.old reads.new None 1 place result }
-        ensures value { IfOk result (λ at. at ≡ target reads.old.bytes place) }
-        ensures near { IfOk result (λ at. at < 2 ^ 33) }
-        ensures same { reads.new ≡ record reads.old { count = reads.old.count + 1 } }
-    {
-        let at = place + u64::from(reads.u32_at(place));
-        self.answer(reads, room, site, None, place, place)?;
-        Ok(at)
-    }
-
     /// Passes a field of which nothing is asked but what its offset word leads to, and puts that, if it is there.
     #[inline(always)]
     fn pass_one(
@@ -192,14 +175,14 @@ impl<'p, 's, 'n, A: Allocator> Pass<'p, 's, 'n, A> {
         Ok(())
     }
 
-    /// What a member of a union refers to, if that is asked.
+    /// What the member of a union that leads there refers to, if that is asked.
     #[inline(always)]
-    fn asked_referent(&self, member: Option<Kind>) -> Referent
-        ensures { result ≡ asked_referent (wants_of self.now) member }
+    pub fn asked_referent(&self, target: Target) -> Referent
+        ensures { result ≡ asked_referent (wants_of self.now) (kind_to target) }
     {
-        match member {
-            Some(Kind::Text) if self.plan.demands().utf8 => Referent::Text,
-            Some(Kind::Table(object)) if self.plan.asks(object) => Referent::Table(object),
+        match target.goal {
+            Goal::Text if self.plan.demands().utf8 => Referent::Text,
+            Goal::Table if self.plan.asks(target.object) => Referent::Table(target.object),
             _ => Referent::Nothing,
         }
     }
@@ -226,7 +209,7 @@ impl<'p, 's, 'n, A: Allocator> Pass<'p, 's, 'n, A> {
         let asked = self.plan.demands().unions;
         let places = read_places(reads, table, slot);
         let mut at = table.at;
-        let mut member = None;
+        let mut target = NO_TARGET;
         let failed = test_union(
             reads,
             asked,
@@ -236,10 +219,10 @@ impl<'p, 's, 'n, A: Allocator> Pass<'p, 's, 'n, A> {
             union,
             places,
             &mut at,
-            &mut member,
+            &mut target,
         );
         self.answer(reads, room, site, failed, at, table.at)?;
-        put_word(self.asked_referent(member), at, row);
+        put_word(self.asked_referent(target), at, row);
         Ok(())
     }
 
@@ -464,115 +447,6 @@ impl<'p, 's, 'n, A: Allocator> Pass<'p, 's, 'n, A> {
                 holding_none(self.pass_unions(reads, room, table, site, slot, union, row))
             }
             Ask::Bytes(held) => self.pass_bytes(reads, room, table, site, slot, held),
-        }
-    }
-
-    /// Asks the first offset word of a row, where its type tells what it leads to, and tells what that is, if it is
-    /// asked.
-    #[inline(always)]
-    fn pass_first(
-        &self,
-        reads: &mut Reads<'_>,
-        room: u64,
-        site: Site,
-        row: Row,
-    ) -> Result<Referent, Stop>
-        requires room { IsRoom self.now.limits reads.old.base room }
-        requires few { reads.old.count < reads.old.base + 2 ^ 58 }
-        requires more { 0 < row.left }
-        requires row { IsAskedRow self.now reads.old.bytes row }
-        ensures { FirstPassed self.now reads.old reads.new site row.place row.leads result }
-    {
-        match row.leads {
-            Leads::All(referent) => Ok(referent),
-            Leads::ByType(union, types) => {
-                let asked = self.plan.demands().unions;
-                let mut at = row.place;
-                let mut member = None;
-                let failed = test_element(
-                    reads,
-                    asked,
-                    self.checks,
-                    self.schema,
-                    union,
-                    types,
-                    &mut at,
-                    &mut member,
-                );
-                self.answer(reads, room, site, failed, at, row.place)?;
-                Ok(self.asked_referent(member))
-            }
-        }
-    }
-
-    /// Reads the text to which the offset word at a place leads, asks the budget, and then whether it is UTF-8.
-    #[inline(always)]
-    fn pass_text(
-        &self,
-        reads: &mut Reads<'_>,
-        room: u64,
-        site: Site,
-        place: u64,
-    ) -> Result<(), Stop>
-        requires room { IsRoom self.now.limits reads.old.base room }
-        requires few { reads.old.count < reads.old.base + 2 ^ 59 }
-        requires stands { TextStands reads.old.bytes place }
-        requires short { length reads.old.bytes < 2 ^ 31 }
-        ensures { TextPassed self.now reads.old reads.new site place result }
-    {
-        let at = place + u64::from(reads.u32_at(place));
-        let text = read_text(reads, at);
-        if let Err(stop) = self.answer(reads, room, site, None, place, place) {
-            return Err(stop);
-        }
-        let Some(front) = wrong_from(text) else {
-            return Ok(());
-        };
-        let refusal = Refusal {
-            at: at + 4 + front,
-            reason: Reason::NotUtf8,
-        };
-        Err(Stop { refusal, site })
-    }
-
-    /// Passes the first offset word that is left of the top's field, where so many frames are open, and what it leads
-    /// to, if that is asked: it comes to a table.
-    #[inline(always)]
-    fn pass_word(
-        &self,
-        reads: &mut Reads<'_>,
-        room: u64,
-        many: u32,
-        top: &mut Frame,
-        child: &mut Child,
-    ) -> Result<Turn, Halt>
-        requires passing { IsPassing self.now reads.old.bytes }
-        requires room { IsRoom self.now.limits reads.old.base room }
-        requires few { reads.old.count < reads.old.base + 2 ^ 58 }
-        requires more { 0 < (top.old.row).left }
-        requires left { (deep : ℕ) × (via : List Link) × (ds : List Demand) × IsLeft self.now reads.old.bytes deep via top.old ds }
-        ensures { (deep : ℕ) (via : List Link) (ds : List Demand) → IsLeft self.now reads.old.bytes deep via top.old ds → Stepped self.now reads.old reads.new deep via many ds top.old top.new child.new result }
-    {
-        let site = top.site();
-        let row = top.row;
-        top.row.advance();
-        let object = match self.pass_first(reads, room, site, row) {
-            Ok(Referent::Table(object)) => object,
-            Ok(Referent::Text) => match self.pass_text(reads, room, site, row.place) {
-                Ok(()) => return Ok(Turn::Here),
-                Err(stop) => return Err(stop.halt(many, LastLink::Behind)),
-            },
-            Ok(Referent::Nothing) => return Ok(Turn::Here),
-            Ok(Referent::Struct(_, _)) => return Ok(Turn::Here),
-            Err(stop) => return Err(stop.halt(many, LastLink::Behind)),
-        };
-        match self.follow(reads, room, site, row.place) {
-            Ok(at) => {
-                child.object = object;
-                child.at = at;
-                Ok(Turn::Down)
-            }
-            Err(stop) => Err(stop.halt(many, LastLink::Behind)),
         }
     }
 

@@ -9,7 +9,7 @@ ghost use Rattle.fb_strict.specs.Demanded.{demanded, flags};
 ghost use Rattle.fb_strict.specs.Planned.{all_wants, wants_in, tasks_in, IsPlan, AreTasks};
 
 use crate::demands::Demands;
-use crate::holding::{Holding, PlanFault, holdings_if};
+use crate::holding::{Holding, Holdings, PlanFault, holdings_if, order_of};
 use crate::marking::marks_of;
 use crate::tasks::{Task, is_marked, tasks_in};
 use fb_bfbs::Mark;
@@ -18,10 +18,13 @@ use std::alloc::{AllocError, Allocator, Global};
 use std::marker::Model;
 
 /// What a pass asks of the tables of a schema: for each object its tasks, none where nothing that is demanded is
-/// reached from a table of it. It takes 25 bytes an object and 12 a task. While it is made, it takes 12 bytes an object
-/// and at most 32 a live field and a union's member beside them. Its time grows as the objects and their live fields
-/// do, where unions aren't asked themselves each of these as often as its union has members; and as the marks times the
-/// fields of bytes, and times the length of the name of a mark's object where that stands in many namespaces.
+/// reached from a table of it. It takes 25 bytes an object, 12 a task, and 16 a mark that counts. While it is made, it
+/// takes 12 bytes an object, at most 32 a live field and a union's member, and 16 such a mark beside them.
+///
+/// Its time grows as the objects, their live fields and the marks do, but for a logarithm, since fields and marks are
+/// looked up in order; where unions aren't asked themselves, each of these fields counts as often as its union has
+/// members. The name in a mark of a nested buffer is looked up in each namespace around its object, so such a mark
+/// takes time as the lengths of both names do, times one more than the dots in the object's.
 #[derive(Drop)]
 pub struct Plan<A: Allocator = Global> {
     demands: Demands,
@@ -44,7 +47,7 @@ fn tasks_of<A: Allocator>(
     alloc: A,
     schema: &Schema<'_>,
     demands: Demands,
-    holdings: &[Holding],
+    holdings: &Holdings<'_>,
     marks: &[bool],
     object: u32,
 ) -> Result<Vec<Task, A>, AllocError>
@@ -61,7 +64,7 @@ fn tasks_of_all<A: Allocator + Copy>(
     alloc: A,
     schema: &Schema<'_>,
     demands: Demands,
-    holdings: &[Holding],
+    holdings: &Holdings<'_>,
     marks: &[bool],
 ) -> Result<Vec<Vec<Task, A>, A>, AllocError>
     ensures { IfOk result (λ tasks. AreTasks (all_wants (demanded demands holdings.now) marks.now) schema.now (length schema.now.objects) (map (λ v. v.items) tasks.items)) }
@@ -91,8 +94,10 @@ impl<A: Allocator + Copy> Plan<A> {
         ensures lost { IfErr result (λ f. IsPlanFault schema.now (map mark_of marks.now) f) }
     {
         let holdings = holdings_if(alloc, schema, marks, demands)?;
-        let marks = marks_of(alloc, schema, demands, &holdings)?;
-        let tasks = tasks_of_all(alloc, schema, demands, &holdings, &marks)?;
+        let order = order_of(alloc, &holdings)?;
+        let held = Holdings::new(&holdings, &order);
+        let marks = marks_of(alloc, schema, demands, &held)?;
+        let tasks = tasks_of_all(alloc, schema, demands, &held, &marks)?;
         Ok(Plan {
             demands,
             holdings,

@@ -101,7 +101,7 @@ fn verdict<'b, 's, 'n, A: Allocator, W: Walker>(
     ensures same { W.room walker.new ≡ W.room walker.old }
 {
     match verdict_along(
-        verified,
+        &verified,
         ident,
         limits,
         plan,
@@ -110,7 +110,7 @@ fn verdict<'b, 's, 'n, A: Allocator, W: Walker>(
         levels,
         &mut [],
     ) {
-        Ok(strict) => Ok(strict),
+        Ok(report) => Ok(VerifiedStrictly { verified, report }),
         Err(located) => Err(located.fault),
     }
 }

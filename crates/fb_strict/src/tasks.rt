@@ -9,7 +9,7 @@ ghost use Rattle.std.specs.List.{list_any};
 ghost use Rattle.fb_strict.specs.Skipped.{is_member_asked, some_member, is_kind_asked, has_asked};
 
 use crate::demands::Demands;
-use crate::holding::{Holding, has_held, held_of};
+use crate::holding::{Holdings, has_held, held_of};
 use fb_schema::{FieldView, Kind, Schema};
 use std::alloc::{AllocError, Allocator};
 
@@ -69,7 +69,7 @@ fn is_asked_object(demands: Demands, marks: &[bool], object: u32) -> bool
 /// Whether what a member of this kind is, is asked, where these objects are.
 fn is_member_asked(
     demands: Demands,
-    holdings: &[Holding],
+    holdings: &Holdings<'_>,
     marks: &[bool],
     member: Option<Kind>,
 ) -> bool
@@ -86,7 +86,7 @@ fn is_member_asked(
 /// Whether one of the members of a union is.
 fn has_asked_member(
     demands: Demands,
-    holdings: &[Holding],
+    holdings: &Holdings<'_>,
     marks: &[bool],
     schema: &Schema<'_>,
     union: u32,
@@ -110,7 +110,7 @@ fn has_asked_member(
 /// Whether a field of this kind is asked, or leads to what is.
 fn is_asked(
     demands: Demands,
-    holdings: &[Holding],
+    holdings: &Holdings<'_>,
     marks: &[bool],
     schema: &Schema<'_>,
     kind: Kind,
@@ -146,7 +146,7 @@ fn ask_by(kind: Kind) -> Option<Ask>
 /// What is asked of a field of this kind, where these objects are.
 fn ask_of(
     demands: Demands,
-    holdings: &[Holding],
+    holdings: &Holdings<'_>,
     marks: &[bool],
     schema: &Schema<'_>,
     kind: Kind,
@@ -163,7 +163,7 @@ fn ask_of(
 /// What is asked of a field of an object: what its bytes hold, or else by its kind.
 fn asked_of(
     demands: Demands,
-    holdings: &[Holding],
+    holdings: &Holdings<'_>,
     marks: &[bool],
     schema: &Schema<'_>,
     object: u32,
@@ -181,7 +181,7 @@ fn asked_of(
 /// Whether a field of this table is asked by its kind, where these objects are asked.
 fn has_asked_kind(
     demands: Demands,
-    holdings: &[Holding],
+    holdings: &Holdings<'_>,
     marks: &[bool],
     schema: &Schema<'_>,
     object: u32,
@@ -202,7 +202,7 @@ fn has_asked_kind(
 /// Whether anything is asked of a field of this table, where these objects are asked.
 pub fn has_asked(
     demands: Demands,
-    holdings: &[Holding],
+    holdings: &Holdings<'_>,
     marks: &[bool],
     schema: &Schema<'_>,
     object: u32,
@@ -217,7 +217,7 @@ pub fn has_asked(
 pub fn tasks_in<A: Allocator>(
     alloc: A,
     demands: Demands,
-    holdings: &[Holding],
+    holdings: &Holdings<'_>,
     marks: &[bool],
     schema: &Schema<'_>,
     object: u32,

@@ -1,9 +1,10 @@
 //! The tests of unions, by reads that are counted: what the walk left unasked.
 
 ghost use Rattle.std.specs.Prelude.{◌≡◌, ◌≢◌, ℕ, ◌+◌, ◌^◌, ◌<◌, ◌≤◌, length, Some, None, IsTrue, IsSome};
+ghost use Rattle.std.specs.Option.{is_some};
 ghost use Rattle.fb_bytes.specs.Word.{word};
-ghost use Rattle.fb_schema.specs.{Rows.is_union, Members.member_of};
-ghost use Rattle.fb_rules.specs.{Places.target, Fields.union_type, Plain.IsTested, Plain.place_from, Plain.tested_by, Told.IsVtable, Order.after, Cost.reads_if_present};
+ghost use Rattle.fb_schema.specs.{Rows.is_union, Members.member_of, Targets.kind_to};
+ghost use Rattle.fb_rules.specs.{Places.target, Fields.union_type, Plain.IsTested, Plain.place_from, Plain.tested_by, OffsetRows.AreUnionTargets, Told.IsVtable, Order.after, Cost.reads_if_present};
 ghost use Rattle.fb_strict.specs.InOrder.{length_failure, inside_failure, union_failure, union_reads, member_at, together_failure, flex_failure, element_failure, element_reads, places_reads, where_asked};
 ghost use Rattle.fb_strict.specs.Leaves.{ArePlaces};
 
@@ -12,7 +13,7 @@ use fb_rules::checks::Checks;
 use fb_rules::fault::Reason;
 use fb_rules::plain::{fails, slot_at, test_offset};
 use fb_rules::table::Table;
-use fb_schema::{Kind, Schema};
+use fb_schema::{Goal, Schema, Target, Targets};
 
 /// The fewest bytes of a buffer, its prefix included, that generated code takes: an offset word, a table's first word,
 /// and the two words of a vtable.
@@ -25,6 +26,14 @@ pub struct Places {
     pub types: u64,
     pub value: u64,
 }
+
+/// What leads to nothing.
+pub const NO_TARGET: Target = Target {
+    goal: Goal::Nothing,
+    object: 0,
+    size: 0,
+    align: 0,
+};
 
 /// Tests that a buffer isn't shorter than generated code takes. It fails at the buffer's end.
 pub fn test_length(reads: &Reads<'_>) -> Option<Reason>
@@ -82,6 +91,26 @@ fn type_at(reads: &mut Reads<'_>, table: u64, types: u64) -> u8
     reads.u8_at(types)
 }
 
+/// What an offset word of this type leads to, by these targets of a union. Only the contract speaks of the schema and
+/// of the union.
+#[inline(always)]
+fn target_of(targets: Targets<'_>, schema: &Schema<'_>, union: u32, value: u8) -> Target
+    requires targets { AreUnionTargets schema.now targets union }
+    ensures { kind_to result ≡ member_of schema.now union value }
+{
+    let _union = union;
+    schema.lawful();
+    targets.get(value)
+}
+
+/// Whether an offset word leads to a member.
+#[inline(always)]
+fn is_member(target: Target) -> bool
+    ensures { result ≡ is_some (kind_to target) }
+{
+    !matches!(target.goal, Goal::Nothing)
+}
+
 /// Reads the type of a union in the table at this position, and tests the union where it is asked. It goes on to the
 /// value, or, where the type has no member, to where that leads; and tells the member, none where the value is absent.
 #[inline(always)]
@@ -94,7 +123,7 @@ pub fn test_union(
     union: u32,
     places: Places,
     at: &mut u64,
-    member: &mut Option<Kind>,
+    target: &mut Target,
 ) -> Option<Reason>
     requires union { IsTrue (is_union schema.now union) }
     requires few { reads.old.count < reads.old.base + 2 ^ 60 }
@@ -102,20 +131,20 @@ pub fn test_union(
     requires typed { places.types ≢ table → places.types + 1 ≤ length reads.old.bytes }
     ensures tested { IsTested reads.old reads.new at.new (where_asked asked (union_failure checks reads.old.bytes schema.now union table (place_from table places.types) (place_from table places.value)))
         (union_reads asked reads.old.bytes schema.now union (place_from table places.types) (place_from table places.value)) result }
-    ensures member { result ≡ None → member.new ≡ member_at reads.old.bytes schema.now union (place_from table places.types) (place_from table places.value) }
-    ensures place { result ≡ None → IsSome member.new → at.new ≡ places.value }
+    ensures member { result ≡ None → kind_to target.new ≡ member_at reads.old.bytes schema.now union (place_from table places.types) (place_from table places.value) }
+    ensures place { result ≡ None → IsSome (kind_to target.new) → at.new ≡ places.value }
 {
     let value = type_at(reads, table, places.types);
     *at = places.value;
-    *member = None;
+    *target = NO_TARGET;
     if places.value == table {
         if asked && value != 0 {
             return fails(Reason::MissingRequired);
         }
         return None;
     }
-    *member = schema.member_of(union, value);
-    if !asked || member.is_some() {
+    *target = target_of(schema.targets_of(union), schema, union, value);
+    if !asked || is_member(*target) {
         return None;
     }
     test_inside(reads, checks, at)
@@ -149,7 +178,8 @@ pub fn test_flex(table: u64, at: u64) -> Option<Reason>
 }
 
 /// Reads the type at a position, of an offset word in a vector of unions, and tests the word where it is asked: where
-/// the type isn't 0 and has no member, it goes on where the word leads. It tells the member.
+/// the type isn't 0 and has no member, it goes on where the word leads. It tells what the type leads to, of which these
+/// are the union's. Only the contract speaks of the schema and of the union.
 #[inline(always)]
 #[tactic(auto, unfolding(crate::specs::InOrder::element_failure, crate::specs::InOrder::element_reads))]
 pub fn test_element(
@@ -158,21 +188,23 @@ pub fn test_element(
     checks: Checks,
     schema: &Schema<'_>,
     union: u32,
+    targets: Targets<'_>,
     types: u64,
     at: &mut u64,
-    member: &mut Option<Kind>,
+    target: &mut Target,
 ) -> Option<Reason>
     requires union { IsTrue (is_union schema.now union) }
+    requires targets { AreUnionTargets schema.now targets union }
     requires few { reads.old.count < reads.old.base + 2 ^ 60 }
     requires near { at.old < 2 ^ 35 }
     requires typed { types + 1 ≤ length reads.old.bytes }
     ensures tested { IsTested reads.old reads.new at.new (where_asked asked (element_failure checks reads.old.bytes schema.now union types at.old)) (element_reads asked reads.old.bytes schema.now union types) result }
-    ensures member { result ≡ None → member.new ≡ member_of schema.now union (word reads.old.bytes types 1) }
-    ensures place { result ≡ None → IsSome member.new → at.new ≡ at.old }
+    ensures member { result ≡ None → kind_to target.new ≡ member_of schema.now union (word reads.old.bytes types 1) }
+    ensures place { result ≡ None → IsSome (kind_to target.new) → at.new ≡ at.old }
 {
     let value = reads.u8_at(types);
-    *member = schema.member_of(union, value);
-    if !asked || value == 0 || member.is_some() {
+    *target = target_of(targets, schema, union, value);
+    if !asked || value == 0 || is_member(*target) {
         return None;
     }
     test_inside(reads, checks, at)

@@ -9,7 +9,7 @@ ghost use Rattle.fbcheck_calls.specs.Asked.{HasLimits, asks_marks, limits_of, pl
 
 use crate::answer::{Answer, FieldAt};
 use crate::options::{DEEPEST, Options, asks_marks, demands_of};
-use fb_bfbs::{ByteField, BytesFault, LoadFault, Loaded, Mark, load, load_marks, test_bytes};
+use fb_bfbs::{ByteField, LoadFault, Loaded, Mark, bytes_at, find_unmarked, load, load_marks};
 use fb_schema::Schema;
 use fb_strict::{Plan, PlanFault};
 use fb_verify::Limits;
@@ -81,16 +81,10 @@ fn field_in(schema: &Schema<'_>, object: u32, slot: u16) -> FieldAt
     requires { has_bytes schema.now object slot ≡ true }
     ensures { (f : Live) × IsNumbered object f result × IsInSlot schema.now object slot f }
 {
-    for place in 0..schema.field_count(object) {
-        let field = schema.field_at(object, place);
-        if field.slot == slot {
-            return FieldAt {
-                object,
-                field: field.number,
-            };
-        }
-    }
-    unreachable!()
+    let Some(found) = bytes_at(schema, object, slot) else {
+        unreachable!()
+    };
+    numbered(found)
 }
 
 /// The marks of a schema file that was loaded within these limits, where the options ask for them: none where they
@@ -98,7 +92,7 @@ fn field_in(schema: &Schema<'_>, object: u32, slot: u16) -> FieldAt
 ///
 /// # Errors
 ///
-/// `UnmarkedBytes` where the file marks no field of bytes, has one, and doesn't show that it would mark it. `NoSchema`
+/// `UnmarkedBytes` where a field of bytes has no mark and the file doesn't show that it would have one. `NoSchema`
 /// where memory was refused.
 fn marks_asked<'f>(
     alloc: Global,
@@ -120,10 +114,10 @@ fn marks_asked<'f>(
         Ok(marks) => marks,
         Err(fault) => return Err(Answer::NoSchema(fault)),
     };
-    match test_bytes(&loaded.schema, &marks) {
-        Err(BytesFault::Unmarked(found)) => Err(Answer::UnmarkedBytes(numbered(found))),
-        Err(BytesFault::Marked(_)) => Ok(marks.fields),
-        Ok(()) => Ok(marks.fields),
+    match find_unmarked(alloc, &loaded.schema, &marks) {
+        Ok(None) => Ok(marks.fields),
+        Ok(Some(found)) => Err(Answer::UnmarkedBytes(numbered(found))),
+        Err(_) => Err(Answer::NoSchema(LoadFault::OutOfMemory)),
     }
 }
 

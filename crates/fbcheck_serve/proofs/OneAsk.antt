@@ -10,7 +10,7 @@ use Rattle.fb_rules.specs.declared.start.Ident.{Ident}
 use Rattle.fb_lines.specs.Wanted.{Wanted}
 use Rattle.fb_bfbs.proofs.OneLoad.{one_answer as one_load}
 use Rattle.fb_bfbs.proofs.OneMarks.{marks_once}
-use Rattle.fb_bfbs.specs.Marks.{Marked, marked as seen_mark}
+use Rattle.fb_bfbs.specs.{ByteFields.HasUnmarked, Marks.Marked, Marks.marked as seen_mark}
 use Rattle.fb_bfbs.specs.declared.marks.Builtins.{Builtins}
 use Rattle.fb_bfbs.specs.declared.load_fault.LoadFault.{LoadFault}
 use Rattle.fb_bfbs.specs.declared.load_fault.LoadFault.TheVariants as load
@@ -23,7 +23,7 @@ use Rattle.fb_strict.proofs.Marks.{one_plan}
 use Rattle.fbcheck_serve.specs.Asked.{ArePaths, AsksBy, IsAsked, IsAskedPlan, demanded, demanded_by, IsFound, IsPath, LacksIdent, IsPathFault, HasPathFault, Own, asked_root, options_of, own_label, path_texts}
 use Rattle.fbcheck_serve.specs.Inputs.{with_label}
 use Rattle.fbcheck_serve.specs.CheckLaws.{AsksOnce}
-use Rattle.fbcheck_serve.specs.{ByteFields.HasUnmarked, ByteFields.has_lost, FileMarks.ArePlanMarks, FileMarks.IsMarkedFile, FileMarks.schema_limits}
+use Rattle.fbcheck_serve.specs.{ByteFields.has_lost, FileMarks.ArePlanMarks, FileMarks.IsMarkedFile, FileMarks.schema_limits}
 use Rattle.fbcheck_serve.specs.Checking.{AsksMarks, HasLostMark, HasUnmarkedBytes, MayAsk, IsSchema, IsNoSchema, own_of}
 use Rattle.fbcheck_words.specs.declared.choices.Settings.{Settings}
 use Rattle.fbcheck_texts.specs.declared.fault.AskFault.{AskFault}

@@ -3,12 +3,12 @@ use Rattle.std.proofs.Common.{◌≡◌, IfErr, IfOk, OnOk, ℕ, Bool, List, [],
 use Rattle.std.specs.Prelude.{◌||◌, ◌&&◌, not, IsErrAnd, IsTrue, Err, Ok}
 use Rattle.std.specs.Borrow.{Bor}
 use Rattle.fb_schema.specs.Rows.{Rows}
-use Rattle.fb_bfbs.specs.Marks.{AreMarks, Marked, marked}
+use Rattle.fb_bfbs.specs.{ByteFields.HasUnmarked, Marks.AreMarks, Marks.Marked, Marks.marked}
 use Rattle.fb_bfbs.specs.declared.{marks.Marks.Marks}
 use Rattle.fb_strict.specs.{Demanded.demanded as holding, Holding.holdings_if, Planned.IsPlan, Planned.Planned}
 use Rattle.fb_strict.specs.declared.demands.Demands.{Demands}
 use Rattle.fbcheck_serve.specs.Asked.{IsAskedPlan, demanded, demanded_by, is_demanding}
-use Rattle.fbcheck_serve.specs.ByteFields.{HasUnmarked, LacksPlan, Misses, has_lost}
+use Rattle.fbcheck_serve.specs.ByteFields.{LacksPlan, Misses, has_lost}
 use Rattle.fbcheck_serve.specs.Checking.{IsPlanBy, IsPlanless, LacksPlanBy, MayAsk, NeedsMarks}
 use Rattle.fbcheck_serve.specs.FileMarks.{ArePlanMarks, schema_limits}
 use Rattle.fbcheck_texts.specs.Hints.{hint_text}

@@ -1,34 +1,12 @@
 -- Fields of bytes: whether a schema file says what each of them holds, and what is told where it doesn't.
-use Rattle.std.specs.Prelude.{◌≡◌, ◌⊎◌, ◌==◌, ◌&&◌, not, ℕ, Bool, true, false, List, slice_get, Some, codes}
+use Rattle.std.specs.Prelude.{◌≡◌, ◌⊎◌, ℕ, Bool, true, false, List, slice_get, Some, codes}
 use Rattle.std.specs.List.{list_any}
-use Rattle.fb_schema.specs.{Live.Live, Live.live_fields, Rows.Rows}
-use Rattle.fb_bfbs.specs.{ByteFields.are_written, Marks.Marked}
+use Rattle.fb_schema.specs.{Live.Live, Rows.Rows}
+use Rattle.fb_bfbs.specs.{ByteFields.HasUnmarked, ByteFields.IsField, ByteFields.LacksMark, ByteFields.is_at, Marks.Marked}
 use Rattle.fb_bfbs.specs.declared.marks.Builtins.{Builtins}
-use Rattle.fb_strict.specs.Holding.{is_bytes, is_lost, name_of}
+use Rattle.fb_strict.specs.Holding.{is_lost, name_of}
 use Rattle.fbcheck_texts.specs.Hints.{bytes_hint, hint_text}
 use Rattle.fbcheck_texts.specs.declared.{fault.AskFault.AskFault, fault.AskFault.TheVariants.NoSuchTable, fault.AskFault.TheVariants.OutOfMemory, fault.AskFault.TheVariants.UnmarkedBytes, hint.Unasked.Unasked}
-
--- one of these marks is of this slot of an object
-abbrev pub has_mark : List Marked → (object slot : ℕ) → Bool
-has_mark marks object slot = list_any (λ (m : Marked). (m.object == object) && (m.slot == slot)) marks
-
--- a live field of an object is of bytes, and has no mark
-abbrev pub is_unmarked : List Marked → ℕ → Live → Bool
-is_unmarked marks object f = is_bytes f.kind && not (has_mark marks object f.slot)
-
--- a live field with this
-pub record IsField (rows : Rows) (object : ℕ) (P : Live → Bool) (f : Live) : Type 0 where
-  pub place : ℕ
-  pub at : slice_get (live_fields rows object) place ≡ Some f
-  pub is : P f ≡ true
-
--- a field of bytes has no mark and might have one: the file doesn't show that it would be there
-pub record LacksMark (rows : Rows) (marks : List Marked) (builtins : Builtins) (object : ℕ) (f : Live) : Type 0 where
-  pub field : IsField rows object (is_unmarked marks object) f
-  pub untold : are_written builtins ≡ false
-
-abbrev pub HasUnmarked : Rows → List Marked → Builtins → Type 0
-HasUnmarked rows marks builtins = (object : ℕ) × (f : Live) × LacksMark rows marks builtins object f
 
 -- some mark of a field of bytes names no table
 abbrev pub has_lost : Rows → List Marked → Bool
@@ -41,7 +19,7 @@ pub record IsLostField (rows : Rows) (marks : List Marked) (object : ℕ) (f : L
   pub at : slice_get marks place ≡ Some mark
   pub lost : is_lost rows mark ≡ true
   pub object_is : mark.object ≡ object
-  pub field : IsField rows object (λ (g : Live). (g.slot == mark.slot) && is_bytes g.kind) f
+  pub field : IsField rows object (is_at mark.slot) f
 
 -- these marks say what each field of bytes holds
 pub record AreTold (rows : Rows) (marks : List Marked) (builtins : Builtins) : Type 0 where

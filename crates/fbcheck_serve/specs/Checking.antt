@@ -9,10 +9,10 @@ use Rattle.fb_bfbs.specs.{Fixed.fixed, Loads.IsLoaded, Loads.IsLoadFault, Loads.
 use Rattle.fb_bfbs.specs.declared.{loading.Loaded.Loaded, load_fault.LoadFault.LoadFault}
 use Rattle.fb_bfbs.specs.declared.load_fault.LoadFault.TheVariants as load
 use Rattle.fb_bfbs.specs.LoadLaws.{ident_bytes}
-use Rattle.fb_bfbs.specs.Marks.{AreMarks, Marked, marked}
+use Rattle.fb_bfbs.specs.{ByteFields.HasUnmarked, Marks.AreMarks, Marks.Marked, Marks.marked}
 use Rattle.fb_bfbs.specs.declared.{marks.Builtins.Builtins, marks.Marks.Marks}
 use Rattle.fb_strict.specs.Planned.{IsPlan, Planned}
-use Rattle.fbcheck_serve.specs.{ByteFields.AreTold, ByteFields.HasUnmarked, ByteFields.LacksTable, ByteFields.Misses, FileMarks.IsMarkedFile, FileMarks.schema_limits}
+use Rattle.fbcheck_serve.specs.{ByteFields.AreTold, ByteFields.LacksTable, ByteFields.Misses, FileMarks.IsMarkedFile, FileMarks.schema_limits}
 use Rattle.fbcheck_serve.specs.Asked.{ArePaths, AsksBy, Own, asked_root, demanded_by, path_texts}
 use Rattle.fbcheck_texts.specs.Hints.{hint_text, path_hint, root_hint, schema_hint}
 use Rattle.fbcheck_serve.specs.Inputs.{Folder, IsPromptAmong, IsPromptOver, MayReadEach, Seen, ServesEach, are_several, at_first, label_of, stand}

@@ -35,7 +35,7 @@ public enum Reason {
     FLEX_CONTENT,
     /** A string isn't UTF-8. */
     NOT_UTF8,
-    /** A table has a field that the schema doesn't know, or one that is deprecated. */
+    /** A table has a field that the schema lacks or deprecates. */
     UNKNOWN_FIELD,
     // end of what is made
     ;

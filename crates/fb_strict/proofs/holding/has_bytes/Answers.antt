@@ -1,14 +1,15 @@
-use Rattle.std.proofs.Common.{sym, ap, ◌∙◌}
-use Rattle.std.specs.Prelude.{◌==◌, ◌&&◌}
-use Rattle.std.specs.List.{list_any}
-use Rattle.fb_schema.specs.Live.{Live, live_of_view}
-use Rattle.fb_schema.proofs.Blank.{blank_view}
-use Rattle.fb_strict.specs.Holding.{is_bytes}
-use Rattle.fb_strict.proofs.{Lists.one_does, Holds.are_equal, Holds.both_are}
+use Rattle.std.proofs.Common.{rules, sym, ◌∙◌}
+use Rattle.std.proofs.lemmas.List.Sorted.{answers_always}
+use Rattle.fb_strict.proofs.BySlot.{found, missed}
 use Rattle.fb_strict.proofs.holding.has_bytes.Goals as goal
 
 -- src/holding.rt
-pub returns-then-is_bytes : goal.returns-then-is_bytes
-returns-then-is_bytes c =
-    let test = λ (f : Live). (f.slot == c.args.slot) && is_bytes f.kind in
-    sym (ap (list_any test) (sym c.fields_of-fields.ensures.value) ∙ one_does live_of_view test c.fields_of-fields.result.now c.loop-field.field-index blank_view c.loop-field-test.true (both_are _ _ (are_equal _ _ c.if-field-slot.true) (sym c.is_bytes.ensures ∙ c.if-is_bytes.true)))
+pub returns-in-Ok : goal.returns-in-Ok
+returns-in-Ok c =
+    c.is_bytes.ensures ∙ found c.args.schema.now c.lawful.ensures.served c.args.object c.args.slot c.fields_of-fields.result.now c.fields_of-fields.ensures.value c.in-Ok.place _ c.in-Ok.ensures.bound
+    (c.in-Ok.ensures.position (λ f. f.slot) (answers_always _ _ _ (λ f a r g called. search rules)))
+
+pub returns-in-Err : goal.returns-in-Err
+returns-in-Err c =
+    sym (missed c.args.schema.now c.lawful.ensures.served c.args.object c.args.slot c.fields_of-fields.result.now c.fields_of-fields.ensures.value c.in-Err.field-0
+    (c.in-Err.ensures.position (λ f. f.slot) (answers_always _ _ _ (λ f a r g called. search rules))))

@@ -3,7 +3,7 @@ use Rattle.std.specs.Prelude.{IsSome}
 use Rattle.fb_bytes.specs.Word.{Lent}
 use Rattle.fb_schema.specs.declared.kinds.Kind.{Kind}
 use Rattle.fb_rules.specs.declared.{offset_row.Row.Row, offset_row.Referent.Referent, offset_row.Referent.TheVariants.Nothing}
-use Rattle.fb_schema.specs.Rows.{Rows}
+use Rattle.fb_schema.specs.{Rows.Rows, Targets.kind_to}
 use Rattle.fb_rules.specs.{Plain.place_from, Plain.IsTested, Places.field_place, Fields.type_place}
 use Rattle.fb_strict.specs.declared.tasks.Ask.TheVariants.{Union as AskUnion}
 use Rattle.fb_strict.specs.declared.demands.Demands.{Demands}
@@ -55,6 +55,6 @@ returns g c =
     let none = failed_none mid u.new.reads u.new.at _ u.result _ tested (nothing_after _ _ a.ok) in
     record {
       asked = a;
-      row = puts (wants_of k) m.bytes k.rows o e c.args.row.now t c.read_places-places.result.value u.new.at q p.value u.new.member (rw (p.types, p.value, bytes, rows) at (u.ensures.member none)) (u.ensures.place none) _
+      row = puts (wants_of k) m.bytes k.rows o e c.args.row.now t c.read_places-places.result.value u.new.at q p.value (kind_to u.new.target) (rw (p.types, p.value, bytes, rows) at (u.ensures.member none)) (u.ensures.place none) _
           (c.put_word.ensures ∙ ap (λ r. word_row u.new.at r c.args.row.now) c.asked_referent.ensures);
     }

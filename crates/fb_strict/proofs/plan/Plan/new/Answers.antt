@@ -13,9 +13,10 @@ returns-clause-plan g c =
     let d = c.args.demands in
     let ms = map mark_of c.args.marks.now in
     let items = c.in_ok-holdings.ensures.holdings in
-    let marks = subst (λ hs. AreMarks (demanded d hs) S c.in_ok-marks.marks.items) (c.deref.ensures.value ∙ items) c.in_ok-marks.ensures in
-    let first = subst (λ hs. AreTasks (all_wants (demanded d hs) c.deref-3.result.now) S (length S.objects) (map (λ v. v.items) c.in_ok-tasks.tasks.items)) c.deref-2.ensures.value c.in_ok-tasks.ensures in
-    let tasks = subst (λ m. AreTasks (all_wants (demanded d c.in_ok-holdings.holdings.items) m) S (length S.objects) (map (λ v. v.items) c.in_ok-tasks.tasks.items)) c.deref-3.ensures.value first in
+    let held = c.new-held.ensures ∙ c.deref-2.ensures.value in
+    let marks = subst (λ hs. AreMarks (demanded d hs) S c.in_ok-marks.marks.items) (held ∙ items) c.in_ok-marks.ensures in
+    let first = subst (λ hs. AreTasks (all_wants (demanded d hs) c.deref-4.result.now) S (length S.objects) (map (λ v. v.items) c.in_ok-tasks.tasks.items)) held c.in_ok-tasks.ensures in
+    let tasks = subst (λ m. AreTasks (all_wants (demanded d c.in_ok-holdings.holdings.items) m) S (length S.objects) (map (λ v. v.items) c.in_ok-tasks.tasks.items)) c.deref-4.ensures.value first in
     record {
       demands = ap (demanded d) items;
       asked = marks.asked;
