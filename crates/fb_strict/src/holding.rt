@@ -1,6 +1,6 @@
 //! What the bytes of fields hold, by the marks of a schema file.
 
-ghost use Rattle.std.specs.Prelude.{◌≡◌, ◌<◌, ◌++◌, ◌∷◌, [], ℕ, length, map, Some, IfOk, IfErr, OnOk, true, false, is_some, IsTrue};
+ghost use Rattle.std.specs.Prelude.{◌≡◌, ◌⊎◌, ◌<◌, ◌++◌, ◌∷◌, [], ℕ, length, map, Some, IfOk, IfErr, OnOk, true, false, is_some, IsTrue};
 ghost use Rattle.std.specs.Prelude.{List};
 ghost use Rattle.std.specs.List.{list_any};
 ghost use Rattle.fb_schema.specs.{Rows.table_named, Rows.is_table, Live.live_fields, Sorting.IsOrderOf};
@@ -195,6 +195,7 @@ pub fn holdings_if<A: Allocator + Copy>(
     ensures holdings { IfOk result (λ v. v.items ≡ holdings_if demands schema.now (map marked marks.now)) }
     ensures found { OnOk result (demands.nested ≡ true → list_any (is_lost schema.now) (map marked marks.now) ≡ false) }
     ensures lost { IfErr result (λ f. IsPlanFault schema.now (map marked marks.now) f) }
+    ensures asked { IfErr result (λ f. (f ≡ OutOfMemory) ⊎ (demands.nested ≡ true)) }
 {
     if !demands.nested {
         return Ok(Vec::new(alloc));

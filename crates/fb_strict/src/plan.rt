@@ -1,11 +1,12 @@
 //! The plan of a pass over buffers of a schema.
 
-ghost use Rattle.std.specs.Prelude.{◌≡◌, ◌<◌, length, map, slice_get, Some, IfOk, IfErr, OnOk, true, false};
+ghost use Rattle.std.specs.Prelude.{◌≡◌, ◌⊎◌, ◌<◌, length, map, slice_get, Some, IfOk, IfErr, OnOk, true, false};
 ghost use Rattle.std.specs.List.{list_any};
 ghost use Rattle.fb_schema.specs.{Rows.Rows, Live.live_fields};
 ghost use Rattle.fb_bfbs.specs.Marks.{marked as mark_of};
 ghost use Rattle.fb_strict.specs.{Holding.holdings_if, Holding.is_lost, Holding.IsPlanFault};
 ghost use Rattle.fb_strict.specs.Demanded.{demanded, flags};
+ghost use Rattle.fb_strict.specs.declared.holding.PlanFault.TheVariants.{OutOfMemory};
 ghost use Rattle.fb_strict.specs.Planned.{all_wants, wants_in, tasks_in, IsPlan, AreTasks};
 
 use crate::demands::Demands;
@@ -92,6 +93,7 @@ impl<A: Allocator + Copy> Plan<A> {
         ensures plan { IfOk result (λ p. IsPlan schema.now (demanded demands (holdings_if demands schema.now (map mark_of marks.now))) p) }
         ensures found { OnOk result (demands.nested ≡ true → list_any (is_lost schema.now) (map mark_of marks.now) ≡ false) }
         ensures lost { IfErr result (λ f. IsPlanFault schema.now (map mark_of marks.now) f) }
+        ensures asked { IfErr result (λ f. (f ≡ OutOfMemory) ⊎ (demands.nested ≡ true)) }
     {
         let holdings = holdings_if(alloc, schema, marks, demands)?;
         let order = order_of(alloc, &holdings)?;
