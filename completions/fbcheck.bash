@@ -1,19 +1,25 @@
-# Completions of fbcheck for bash.
+# Completions of fbcheck for bash, made by completions/make: don't edit.
 
-# Takes what stands there already, and what that excludes, from the options. Only --path may stand there again, and
-# behind -- there are none.
+# Takes what stands there already, and what that excludes, from the options. Behind -- there are none.
 _fbcheck_left() { # WORD..
     local word
     for word; do
         case $word in
+        -s*) word=--schema ;;
+        -r*) word=--root ;;
+        -p*) word=--path ;;
+        -q) word=--quiet ;;
+        -j) word=--json ;;
+        -H) word=--with-filename ;;
+        esac
+        case $word in
         --) left= ;;
-        --path) left=${left/ --filter / } ;;
-        --filter) left=${left/ --path / } ;;&
-        --bare) left=${left/ --delimited / } ;;&
-        --delimited) left=${left/ --bare / } ;;&
         --ident) left=${left/ --schema-ident / } ;;&
         --schema-ident) left=${left/ --ident / } ;;&
-        -H) left=${left/ --with-filename / } ;;
+        --path) left=${left/ --filter / } ;;
+        --bare) left=${left/ --delimited / } ;;&
+        --delimited) left=${left/ --bare / } ;;&
+        --filter) left=${left/ --path / } ;;&
         *) left=${left/ "$word" / } ;;
         esac
     done
@@ -22,18 +28,18 @@ _fbcheck_left() { # WORD..
 _fbcheck() {
     local word=${COMP_WORDS[COMP_CWORD]} before=${COMP_WORDS[COMP_CWORD - 1]}
     local left=" --schema --root --ident --schema-ident --path --max-depth --max-tables --max-reads --reads-per-byte \
---max-bytes --bare --delimited --no-alignment --inline-size --strict --plain-bytes --known-fields --utf8 --quiet --filter \
---summary --names --json --with-filename --help --version "
+--max-bytes --bare --delimited --no-alignment --inline-size --strict --plain-bytes --known-fields --utf8 --quiet \
+--filter --summary --names --json --with-filename --help --version "
     COMPREPLY=()
     # An equals sign is a word of its own.
     [ "$before" != = ] || before=${COMP_WORDS[COMP_CWORD - 2]}
     [ "$word" != = ] || word=
     case $before in
-    --schema)
+    -s | --schema)
         compopt -o filenames 2>/dev/null
         mapfile -t COMPREPLY < <(compgen -d -- "$word"; compgen -f -X '!*.bfbs' -- "$word")
         ;;
-    --root | --ident | --path | --max-depth | --max-tables | --max-reads | --reads-per-byte | --max-bytes) ;;
+    -r | --root | --ident | -p | --path | --max-depth | --max-tables | --max-reads | --reads-per-byte | --max-bytes) ;;
     *)
         _fbcheck_left "${COMP_WORDS[@]:1:COMP_CWORD-1}"
         mapfile -t COMPREPLY < <(compgen -W "$left" -- "$word")

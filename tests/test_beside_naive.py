@@ -4,13 +4,16 @@ Buffers with every kind of field, cut off everywhere and with each byte changed 
 as one stream, and each line, also as JSON, is held against what the walk says of that buffer, under several options.
 """
 
+import collections
+import random
+
 from tests.support import buffers, schemas
 from tests.support.builder import buffer, prefixed
 from tests.support.cases import Case
 from tests.support.every_kind import FILE, LITTLE, OBJECTS, OPTIONS, UNION, WHOLE, variants, words_of
 from tests.support.json_lines import names_of, read, said
-from tests.support.naive import NAMES, Reader, Schema, Walk
-from tests.support.program import UNSCHEMED, Ran, file_of, lines, run
+from tests.support.naive import NAMES, Reader, Schema, Walk, pieces_in, refusal
+from tests.support.program import UNSCHEMED, Ran, file_of, good, lines, refused, run
 from tests.support.schemas import an_object, field, table
 
 ALL = Schema(OBJECTS, [UNION])
@@ -129,13 +132,13 @@ class BesideNaive(Case):
 
     def test_reads_of_each_byte(self):
         """Chains whose levels each visit the next one twice, with more or fewer bytes behind them: a message may take
-        4,096 reads and so many for each of its own bytes, whatever stands before it."""
+        so many reads for each of its own bytes and for 64 more, whatever stands before it."""
         node = Schema([table("Node", field("a", an_object(0), 4), field("b", an_object(0), 6))], [])
         by = "--schema", file_of("node.bfbs", schemas.NODE)
         given = [prefixed(buffers.doubling(levels) + bytes(more)) for levels in (9, 10, 11, 12)
                  for more in (4000, 0, 400, 40)]
-        for most in 0, 1, 2:
-            wants = [f"{number} {Walk(node, 0, message, reads=4096 + most * len(message)).verdict()}"
+        for most in 1, 2, 9:
+            wants = [f"{number} {Walk(node, 0, message, reads=most * (len(message) + 64)).verdict()}"
                      for number, message in enumerate(given, 1)]
             ran = run(*by, "--reads-per-byte", str(most), given=b"".join(given))
             self.same(f"{most} for each byte", ran.out.decode().splitlines(), wants)
@@ -165,13 +168,36 @@ class BesideNaive(Case):
         given = [bent for bent in variants(data, [4]) if Walk(ALL, 0, prefixed(bent)).verdict().startswith("ok")]
         self.holds("some buffers are good", len(given) > 50, len(given))
         chunks = [PATHS[first : first + 16] for first in range(0, len(PATHS), 16)]
-        for paths in [*chunks, PATHS[15::-1], PATHS[:2] * 8, PATHS[1:3]]:
+        for paths in [*chunks, PATHS[15::-1], PATHS[1:3]]:
             words = [word for path in paths for word in ("--path", path)]
             ran = run(*BY_ALL, *words, given=b"".join(map(prefixed, given)))
             got = [line.split(" ", 5)[-1] for line in ran.out.decode().splitlines()]
             wants = [" ".join(map(Reader(ALL, 0, prefixed(bent)).value, paths)) for bent in given]
             differing = [(bent.hex(), value, want) for bent, value, want in zip(given, got, wants) if value != want]
             self.same(f"{' '.join(paths)} of each", (len(got), differing[:2]), (len(given), []))
+
+    def test_paths_that_are_refused(self):
+        """Chains of `below` of random lengths, some of them alike, some too many: refused as the plain reader refuses
+        them, and else read as it reads them."""
+        dice, data = random.Random(65), buffer(WHOLE, b"KIND", prefix=True)
+        seen = collections.Counter()
+        for _ in range(300):
+            total, paths = dice.choice([900, 1023, 1024, 1025, 1026, 2000]), []
+            for left in range(dice.choice([1, 2, 3, 15, 16, 17]), 0, -1):
+                steps = total if left == 1 else dice.randrange(1, max(2, 2 * total // left))
+                total = max(total - steps, 1)
+                paths.append("below" + ".next" * (steps - 1))
+            if dice.random() < 0.2:
+                paths.append(dice.choice(paths))
+            ran = run(*BY_ALL, *(word for path in paths for word in ("--path", path)), given=data)
+            why = refusal(paths)
+            self.same("as many steps as pieces", [1 + path.count(".") for path in paths],
+                      [len([*pieces_in(path)]) for path in paths])
+            values = " ".join(Reader(ALL, 0, data).value(path) for path in paths)
+            want = refused(why) if why else good(f"1 {Walk(ALL, 0, data).verdict()} {values}")
+            self.same(f"{[*map(len, paths)]}", ran, want)
+            seen[why] += 1
+        self.holds("each refusal is seen, and none", len(seen) == 4 and min(seen.values()) > 9, seen)
 
     def test_bare_buffers(self):
         data = buffer(LITTLE, b"KIND")

@@ -151,7 +151,7 @@ class Binding:
         self.same("a right prefix", one, want.removeprefix("1 ").strip())
         self.holds("a wrong one", other.startswith("bad V1 WrongPrefix at=0 object=1 field=- reads=1"), other)
         self.same("names", named_so, ["post.Delivery", "items", "-", "-"])
-        self.same("the most reads of 100 bytes", most, str(100 * 64 + 4096 + 7))
+        self.same("the most reads of 100 bytes", most, str(64 * (100 + 64) + 7))
 
     def test_long_places(self):
         """A place is told in words up to 1,024 bytes."""
@@ -364,11 +364,16 @@ class Binding:
     def test_once(self):
         """A check that fails at its last reads costs as much as one that ends well: it goes through a message once."""
         chain = file_of("doubling", doubling(12))
-        turn = ["with reads_per_byte=77", f"time {chain} 2000", "with reads_per_byte=76", f"time {chain} 2000"]
-        told = self.told(f"load {FILES['NODE']}", *turn * 4, f"check {chain}")
-        self.same("it fails", told[-1].split()[:2], ["bad", "V13"])
-        good, bad = (min(map(int, told[first:-1:4])) for first in (2, 4))
-        self.holds("and costs as much", bad < 1.5 * good, (good, bad))
+        turn = ["with reads_per_byte=74", f"time {chain} 2000", "with reads_per_byte=73", f"time {chain} 2000"]
+        good, bad = [], []
+        for _ in range(5):  # on a busy machine one run may have slow turns alone
+            told = self.told(f"load {FILES['NODE']}", *turn * 4, f"check {chain}")
+            self.same("it fails", told[-1].split()[:2], ["bad", "V13"])
+            good += map(int, told[2:-1:4])
+            bad += map(int, told[4:-1:4])
+            if min(bad) < 1.5 * min(good):
+                break
+        self.holds("and costs as much", min(bad) < 1.5 * min(good), (min(good), min(bad)))
 
     def test_page(self):
         """The program of its page, as it's pasted, writes what stands behind it."""

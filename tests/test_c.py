@@ -8,15 +8,13 @@ import array
 import ctypes
 import re
 import shutil
-import socket
 import struct
-import subprocess
 
 from tests.support import buffers, schemas
 from tests.support.buffers import MEMBER, ORC, POST
 from tests.support.builder import buffer, messages_of, prefixed
 from tests.support.every_kind import FILE, LITTLE, OPTIONS, WHOLE, variants, words_of
-from tests.support.header import Reason
+from tests.support.header import CALLS, Reason
 from tests.support.library import OUT, SANITIZED, SHARED, STATIC, LibraryCase, module, ran
 from tests.support.naive import NAMES
 from tests.support.program import FOLDER, TOP, file_of, run
@@ -104,7 +102,7 @@ class LibraryForC(LibraryCase):
         status, out, err = ran(TOP / "scripts/build_c", seconds=3600)
         self.same("scripts/build_c builds", (status, out), (0, ""))
         calls = sorted(re.findall(r"^(?:\w+ )+\*?(fbcheck_\w+)\(", HEADER, re.M))
-        self.same("of which the header has so many", len(calls), 22)
+        self.same("of which the header has so many", len(calls), len(CALLS))
         for library, words in [("libfbcheck.a", ["-g"]), ("libfbcheck.so.1", ["-D"])]:
             _, symbols, _ = ran("nm", *words, "--defined-only", OUT / library)
             found = sorted(line.split()[2].partition("@")[0] for line in symbols.splitlines()
@@ -310,36 +308,6 @@ class LibraryForC(LibraryCase):
         for given in (5, "text", None):
             for name, call in [("a schema", python.Verifier), ("a piece", python.Framer().messages)]:
                 self.holds(f"{name} that is {given!r} is refused", why(TypeError, lambda: call(given)))
-
-    def test_through_pipes(self):
-        """The example that checks a stream: the program's lines, from a pipe and a socket, in pieces of any length."""
-        program = self.compiled("stream_shared", TOP / "examples/c/stream.c", *SHARED)
-        sane = self.compiled("stream_sane", TOP / "examples/c/stream.c", *SANITIZED, *STATIC)
-        for root in (WHOLE, LITTLE):
-            data = buffer(root, b"KIND", prefix=True)[4:]
-            given = b"".join(map(prefixed, variants(data, [1, 252])))
-            want = run("--schema", str(ALL), given=given)
-            for made in (program, sane):
-                self.same(f"a stream by {made.name}", ran(made, ALL, given=given),
-                          (want.status, want.out.decode(), ""))
-        want = run("--schema", str(ORDERS), given=POST).out.decode()
-        for size in (1, 3, 17, 64, 1000):
-            mine, theirs = socket.socketpair()
-            with subprocess.Popen([sane, ORDERS], stdin=theirs, stdout=subprocess.PIPE, text=True) as running:
-                theirs.close()
-                for at in range(0, len(POST), size):
-                    mine.sendall(POST[at:at + size])
-                mine.close()
-                self.same(f"a socket in pieces of {size}", (running.stdout.read(), running.wait()), (want, 1))
-        for name, given, words, wanted in [
-            ("no messages", b"", [ORDERS], (0, "")), ("a part of one", POST[:-1], [ORDERS], (3, "after")),
-            ("too long a one", b"\xff\xff\xff\xff", [ORDERS], (3, "4294967295 bytes is too long")),
-            ("no schema", POST, [TOP / "README.md"], (2, "no schema")),
-            ("no file", POST, [FOLDER / "nowhere"], (2, "usage")),
-            ("no words", POST, [], (2, "usage")), ("no such table", POST, [ORDERS, "post.Nobody"], (2, "no table")),
-        ]:
-            status, _, err = ran(sane, *words, given=given)
-            self.same(name, (status, wanted[1] in err), (wanted[0], True))
 
     def test_paths(self):
         """Values at the end of paths: those that the program writes, on the messages of the example."""
@@ -698,13 +666,13 @@ class LibraryForC(LibraryCase):
             self.same(f"a file past its {option}", why, (8, reason))
 
     def test_reads_of_each_byte(self):
-        """A buffer of 160 bytes for which 16,379 reads are made; 4,096 are allowed beside those of its bytes."""
+        """A buffer of 160 bytes for which 16,379 reads are made; 64 bytes count beside its own."""
         python, chain = module(), buffers.doubling(12)
         with python.Verifier(schemas.NODE) as verifier:
             for name, asked, given, want in [
                 ("64 by default", {}, chain, (1, 13)), ("enough for a longer one", {}, chain + bytes(40), (0, 0)),
-                ("one too few", {"reads_per_byte": 76}, chain, (1, 13)), ("77", {"reads_per_byte": 77}, chain, (0, 0)),
-                ("fewer in all", {"reads_per_byte": 77, "max_reads": 16_378}, chain, (1, 13)),
+                ("one too few", {"reads_per_byte": 73}, chain, (1, 13)), ("74", {"reads_per_byte": 74}, chain, (0, 0)),
+                ("fewer in all", {"reads_per_byte": 74, "max_reads": 16_378}, chain, (1, 13)),
             ]:
                 told = verifier.verify(given, python.Options(**asked))
                 self.same(name, (told.status, told.reason), want)
@@ -716,7 +684,7 @@ class LibraryForC(LibraryCase):
             ]:
                 told = verifier.most_reads(32, python.Options(**{**unbounded, **asked}))
                 self.same(f"32 bytes with {asked}: all that a check may make, or the budget and 7", told, most)
-            for reads, length, most in [(64, 32, 6_144), (0, 32, 4_096), (64, 1_562_435, 99_999_936),
+            for reads, length, most in [(64, 32, 6_144), (2, 32, 192), (0, 32, 0), (64, 1_562_435, 99_999_936),
                                         (64, 1_562_437, 100_000_000), (2**32 - 1, 2_147_483_647, 100_000_000)]:
                 told = verifier.most_reads(length, python.Options(reads_per_byte=reads))
                 self.same(f"{length} bytes at {reads} reads each: the budget and 7", told, most + 7)
@@ -756,7 +724,7 @@ class LibraryForC(LibraryCase):
             self.same("or fewer", verifier.most_reads(10, python.Options(max_tables=0)), 4)
             asked = python.Options(max_reads=2**64 - 1, reads_per_byte=2**32 - 1)
             self.same("or those that the longest buffer may take", verifier.most_reads(2**64 - 1, asked),
-                      (2**32 - 1) * (2**31 - 1) + 4096 + 7)
+                      (2**32 - 1) * (2**31 - 1 + 64) + 7)
             verifier.choose_root("post.Person")
             self.same("another root", verifier.verify(b"").object != 1, True)
             try:

@@ -70,18 +70,18 @@ class Delimited(Case):
         self.holds("sums count the bytes of lengths", f"bytes={len(given)}" in told, told)
 
     def test_the_limits_are_those_of_the_buffer(self):
-        """Chains that may take 4,096 reads and so many for each byte, that of the length apart."""
+        """Chains that may take so many reads for each byte and for 64 more, those of the length apart."""
         node = Schema([table("Node", field("a", an_object(0), 4), field("b", an_object(0), 6))], [])
         by = "--schema", file_of("delimited.bfbs", schemas.NODE), "--delimited"
         given = [buffers.doubling(levels) + bytes(more) for levels in (9, 10, 11, 12) for more in (4000, 0, 400, 40)]
-        for most in 0, 1, 2, 76, 77:
-            wants = [f"{number} {Walk(node, 0, data, reads=4096 + most * len(data)).verdict(prefix=False)}"
+        for most in 0, 1, 2, 73, 74:
+            wants = [f"{number} {Walk(node, 0, data, reads=most * (len(data) + 64)).verdict(prefix=False)}"
                      for number, data in enumerate(given, 1)]
             ran = run(*by, "--reads-per-byte", str(most), given=dump(*given))
             self.same(f"{most} for each byte", ran.out.decode().splitlines(), wants)
         for length in range(160, 200, 4):
             data = buffers.doubling(12) + bytes(length - 160)
-            want = f"1 {Walk(node, 0, data, reads=4096 + 64 * length).verdict(prefix=False)}\n".encode()
+            want = f"1 {Walk(node, 0, data, reads=64 * (length + 64)).verdict(prefix=False)}\n".encode()
             self.same(f"{length} bytes by the default", run(*by, given=dump(data)).out, want)
 
     def test_pieces_make_no_difference(self):

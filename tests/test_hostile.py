@@ -38,7 +38,7 @@ STREAMS = [
 # Reads of the shape "texts of objects": before its objects 1 for the root offset, 2 for the head of the root table and
 # 3 for its first field, and behind them 3 for its second. Each of its objects has 1 for its offset and 2 for its head,
 # 4 for the name, 3 for the fields, 1 for each of the four absent fields then, 3 for the lines of documentation and 3
-# for each line. Its 160,081 bytes may take 64 reads each and 4,096 beside, 10,249,280: so 170 of 20,000 objects are
+# for each line. Its 160,081 bytes and 64 more may take 64 reads each, 10,249,280: so 170 of 20,000 objects are
 # passed, and 15,455 lines of the next one. An identifier that is asked for costs 1 more, for which there is room.
 OBJECTS = 20_000
 READS = 9 + OBJECTS * (17 + 3 * OBJECTS)

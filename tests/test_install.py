@@ -13,7 +13,7 @@ from tests.support.tools import there
 
 PAGES = ("README.md", "CHANGELOG.md", "CONTRIBUTING.md", "docs/*.md", "bindings/*/README.md", "bindings/node/index.d.ts",
          "bench/README.md", "bench/compare.svg", "crates/name_reader/src/lib.rt", "examples/deliveries.*",
-         "examples/jq.md", "examples/number.jq", "examples/c/*", "examples/split", "examples/engines/*")
+         "examples/jq.md", "examples/c/*", "examples/split", "examples/engines/*")
 PLACES = {
     "bin/fbcheck": 0o755,
     "share/man/man1/fbcheck.1": 0o644,
@@ -53,7 +53,7 @@ def packages():
 
 def options():
     """The long options of the program, as its help has them."""
-    return re.findall(r"^ +(?:-[hHV], )?(--[a-z0-9-]+)", run("--help").out.decode(), re.M)
+    return re.findall(r"^ +(?:-[a-zHV], )?(--[a-z0-9-]+)", run("--help").out.decode(), re.M)
 
 
 def reasons():
@@ -186,7 +186,7 @@ class Install(LibraryCase):
 
     def test_the_page(self):
         told = PAGE.replace(r"\-", "-").split(".SH OPTIONS")[1].split(".SH LINES")[0]
-        known = re.findall(r"^\.TP\n\.B[IR]? (?:-[hHV] \", \" )?(--[a-z0-9-]+)", told, re.M)
+        known = re.findall(r"^\.TP\n\.B[IR]? (?:-[a-zHV] \", \" )?(--[a-z0-9-]+)", told, re.M)
         self.same("the page has each option in the order of help", known, options())
         page = plain(PAGE)
         for reason in reasons():
@@ -213,6 +213,7 @@ class Install(LibraryCase):
         files = completed(folder, "--schema", "")
         self.same("also behind an equals sign", completed(folder, "--schema", "="), files)
         self.same("with a name begun", completed(folder, "--schema", "=", ""), files)
+        self.same("and behind its letter", completed(folder, "-s", ""), files)
         self.same("and nothing for a number", completed(folder, "--max-depth", ""), [])
         for name, words, gone in [
             ("not what stands there", ["--quiet", "--max-depth", "9", "--json"], {"--quiet", "--max-depth", "--json"}),
@@ -223,11 +224,14 @@ class Install(LibraryCase):
              {"--bare", "--delimited", "--ident", "--schema-ident"}),
             ("a path again, and no filter", ["--path", "id"], {"--filter"}),
             ("or the other way round", ["--filter"], {"--filter", "--path"}),
+            ("nor what a letter stands for", ["-s", "a.bfbs", "-rpost.Order", "-q", "-j", "-H"],
+             {"--schema", "--root", "--quiet", "--json", "--with-filename"}),
+            ("a path again behind its letter, and no filter", ["-p", "id"], {"--filter"}),
         ]:
             self.same(f"bash offers {name}", completed(folder, *words, "--"), sorted({*options()} - gone))
         (folder / "-x.bin").write_bytes(b"")
         self.same("and files alone behind --", completed(folder, "--bare", "--", "-"), ["-x.bin"])
         zsh = (TOP / "completions/_fbcheck").read_text()
         self.same("zsh knows each option", re.findall(r"(--[a-z0-9-]+)=?(?:\[|\})", zsh), options())
-        valued = re.findall(r"^ +(?:-[hHV], )?(--[a-z0-9-]+) <", run("--help").out.decode(), re.M)
-        self.same("and which have a value, behind an equals sign too", re.findall(r"(--[a-z0-9-]+)=\[", zsh), valued)
+        valued = re.findall(r"^ +(?:-[a-zHV], )?(--[a-z0-9-]+) <", run("--help").out.decode(), re.M)
+        self.same("and which have a value, behind an equals sign too", re.findall(r"(--[a-z0-9-]+)=(?:\[|\})", zsh), valued)

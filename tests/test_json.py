@@ -3,6 +3,7 @@
 import json
 import math
 import os
+import random
 import re
 import shutil
 import struct
@@ -14,7 +15,7 @@ from tests.support.buffers import NOTHING, ODD, ORC, PLAIN, SEVEN
 from tests.support.builder import Plain, buffer, prefixed
 from tests.support.cases import Case
 from tests.support.every_kind import FILE, LITTLE, OBJECTS, UNION, WHOLE, variants
-from tests.support.json_lines import names_of, read, said
+from tests.support.json_lines import Float, names_of, read, said
 from tests.support.naive import Schema
 from tests.support.program import FOLDER, PROGRAM, TOP, Ran, file_of, lines, run
 from tests.test_beside_naive import PATHS
@@ -111,65 +112,59 @@ class Json(Case):
                 ran = run("--schema", by, "--bare", "--json", "--path", "v", given=buffer({0: (form, number)}))
                 self.same(str(number), ran.out.rpartition(b'"values":')[2], b'{"v":%d}}\n' % number)
 
+    def test_floats(self):
+        """Floats of each size, near where an exponent begins, and any bits: a reader gets the same bits."""
+        for kind, form, word, bits, top in [(schemas.FLOAT, "<f", "I", 23, 127), (schemas.DOUBLE, "<d", "Q", 52, 1023)]:
+            size = struct.calcsize(form)
+            sign, infinity = 1 << (8 * size - 1), (2 * top + 1) << bits
+            edges = [1, 2, 3, (1 << bits) - 1, 1 << bits, infinity - 1, infinity, infinity + 1, sign - 1, sign // 4 * 3]
+            edges += [(power << bits) + more for power in range(1, 2 * top + 1, 7) for more in (-1, 0, 1)]
+            tens = [float(f"{digit}e{power}") for digit in (1, 1.5, 9.99999) for power in range(-44, 38)]
+            edges += [int.from_bytes(struct.pack(form, number), "little") for number in [0.1, 2 / 3, 16777217.0, *tens]]
+            drawn = random.Random(size)
+            numbers = [*edges, *(sign + edge for edge in edges), 0, sign, *(drawn.getrandbits(8 * size) for _ in range(3000))]
+            by = file_of("float.bfbs", schemas.schema([schemas.table("F", schemas.field("v", kind, 4))], root="F"))
+            stream = b"".join(prefixed(buffer({0: (word, number)})) for number in numbers)
+            told = run("--schema", by, "--json", "--no-alignment", "--path", "v", given=stream).out.splitlines()
+            self.same(f"{form}: as many", len(told), len(numbers))
+            floats = [Float(number.to_bytes(size, "little")) for number in numbers]
+            differing = [(it, line) for it, line in zip(floats, told) if it != read(line)["values"]["v"]]
+            self.same(f"{form}: those that differ", differing[:3], [])
+
 
 @unittest.skipIf(shutil.which("jq") is None, "jq isn't there")
 class Recipes(Case):
-    """The page's recipes for jq do what it says of them, and so does the file that they include."""
+    """The page's recipes for jq do what it says of them."""
 
     PAGE = (TOP / "examples/jq.md").read_text()
-    NUMBER = re.search(r"'(include .*?;)\n", PAGE)[1]
 
     def picked(self, kind, numbers, form, recipe):
         """Which of these numbers, each a field of a message, jq passes on by a recipe of the page."""
         by = file_of("by.bfbs", schemas.schema([schemas.table("T", schemas.field("hp", kind, 4))], root="T"))
         stream = b"".join(prefixed(buffer({} if number is None else {0: (form, number)})) for number in numbers)
         told = run("--schema", by, "--json", "--path", "hp", "--no-alignment", given=stream + prefixed(b"bad")).out
-        ran = subprocess.run(["jq", "-L", TOP / "examples", "-c", recipe], input=told, capture_output=True, timeout=60)
+        ran = subprocess.run(["jq", "-c", recipe], input=told, capture_output=True, timeout=60)
         self.same("jq has nothing to say", (ran.returncode, ran.stderr), (0, b""))
         return [json.loads(line) for line in ran.stdout.splitlines()]
 
     def test_floats(self):
-        for kind, form, bits, top in [(schemas.FLOAT, "f", 23, 127), (schemas.DOUBLE, "d", 52, 1023)]:
-            normal, most = 2.0 ** (1 - top), (2 - 2.0**-bits) * 2.0**top
-            least = normal * 2.0**-bits
-            numbers = [0.0, -0.0, 1.0, 1.5, -2.0, 50.001, 1e-30, -3e30, least, least * 5, normal - least, normal, most]
+        recipe = re.search(r"numbers as `(.*?)`", self.PAGE)[1]
+        default = re.search(r"`(\.values\[.*? // 0)`", self.PAGE)[1].replace('["pos.lat"]', ".hp")
+        for kind, form, top in [(schemas.FLOAT, "f", 127), (schemas.DOUBLE, "d", 1023)]:
+            numbers = [0.0, 1.0, 1.5, -2.0, 50.001, 1e-30, -3e30, 2.0 ** (1 - top), 2.0**top]
             numbers = [struct.unpack(form, struct.pack(form, number))[0] for number in numbers]
-            got = self.picked(kind, numbers, form, self.NUMBER + '.values | select(.) | [.hp | number]')
-            self.same(f"{form}: as many", len(got), len(numbers))
-            for number, told in zip(numbers, got):
-                self.holds(f"{form}: {number}", len(told) == 1 and math.isclose(told[0], number, rel_tol=1e-16), told)
-            ends = self.picked(kind, [math.inf, -math.inf, math.nan, None], form,
-                               self.NUMBER + '.values | select(.) | [.hp | number | . > 0, . == -infinite, . == null]')
-            self.same(f"{form}: no numbers", ends,
-                      [[True, False, False], [False, True, False], [False, False, True], [False, False, True]])
-            recipe = re.search(r"floats as `(.*?)`", self.PAGE)[1].replace("pos.lat", "hp")
-            got = self.picked(kind, [50.0, 51.0, -1e9, None, math.nan], form, f"{self.NUMBER} {recipe} | .message")
-            self.same(f"{form}: compared", got, [1, 3])
-            default = re.search(r"`(if \. == null .*?)`", self.PAGE)[1]
-            got = self.picked(kind, [1.5, None], form, f"{self.NUMBER} select(.ok).values.hp | {default}")
+            got = self.picked(kind, numbers, form, "select(.ok).values.hp")
+            got = [struct.unpack(form, struct.pack(form, number))[0] for number in got]
+            self.same(f"{form}: numbers", got, numbers)
+            ends = self.picked(kind, [math.inf, -math.inf, math.nan, None], form, "select(.ok).values.hp")
+            self.same(f"{form}: no numbers", ends, ["Infinity", "-Infinity", "NaN", None])
+            got = self.picked(kind, [50.0, 51.0, -1e9, None, math.nan], form, f"{recipe} | .message")
+            self.same(f"{form}: compared", got, [2])
+            got = self.picked(kind, [1.5, None], form, f"select(.ok) | {default}")
             self.same(f"{form}: left out", got, [1.5, 0])
 
-    def test_no_floats(self):
-        """What is no float is null, so that a row keeps its columns; so is a NaN with its sign."""
-        values = [None, True, 5, "0000c03f", {"struct": "0000c03f"}, {"absent": "no-element"}, {"union": 1},
-                  {"float": "000080ff"}, {"float": "0000c0ff"}, {"float": "ffffffffffffffff"}]
-        given = "\n".join(map(json.dumps, values))
-        ran = subprocess.run(["jq", "-L", TOP / "examples", "-c", self.NUMBER + "[1, number, 2]"], input=given,
-                             capture_output=True, text=True, timeout=60)
-        ends = ["[1,-1.7976931348623157e+308,2]" if value == {"float": "000080ff"} else "[1,null,2]" for value in values]
-        self.same("each", (ran.returncode, ran.stdout.split(), ran.stderr), (0, ends, ""))
-
-    def test_the_use_that_the_file_tells(self):
-        line = re.search(r"#   fbcheck (.*) <in \| jq -L examples '(.*)'\n", (TOP / "examples/number.jq").read_text())
-        by = file_of("by.bfbs", schemas.schema([schemas.table("T", schemas.field("lat", schemas.FLOAT, 4))], root="T"))
-        words = line[1].replace("my.bfbs", str(by)).replace("pos.lat", "lat").split()
-        told = run(*words, given=prefixed(buffer({0: ("f", 50.25)}))).out
-        ran = subprocess.run(["jq", "-L", TOP / "examples", line[2].replace("pos.lat", "lat")], input=told,
-                             capture_output=True)
-        self.same("a float", (ran.returncode, ran.stdout, ran.stderr), (0, b"50.25\n", b""))
-
     def test_whole_numbers(self):
-        recipe = re.search(r"whole numbers as `(.*?)`", self.PAGE)[1]
+        recipe = re.search(r"numbers as `(.*?)`", self.PAGE)[1]
         self.same("compared", self.picked(schemas.INT, [50, 51, -1, 70], "i", recipe + " | .message"), [2, 4])
         vector = '{"ok":true,"values":{"hp":{"absent":"no-element"}}}'
         ran = subprocess.run(["jq", "-c", recipe], input=vector, capture_output=True, text=True, timeout=60)
@@ -213,5 +208,5 @@ class Recipes(Case):
         stream = b"".join([delivery(b"\xc3", 1.0), delivery(b'"id":7', math.nan), prefixed(b"bad"), delivery(b"", -2.0)])
         words = ("--schema", "--no-alignment --schema"), ("examples/deliveries.bin", file_of("odd.bin", stream))
         number = f'"{2**53 + 1}"'
-        rows = [f'{number},{rest}' for rest in ['"{""bytes"":""c3""}",1,', '"""id"":7",,', '"",-2,']]
+        rows = [f'{number},{rest}' for rest in ['"{""bytes"":""c3""}",1,', '"""id"":7","NaN",', '"",-2,']]
         self.same("rows", self.csv(*words), (1, rows, ""))

@@ -110,11 +110,13 @@ class LargeValues(Case):
 
     def test_several_large_texts(self):
         """One behind another in a line, with others around them."""
+        three = file_of("three.bfbs", schema([table("T", *(field(name, TEXT, 4 + 2 * at) for at, name in enumerate("stu")))],
+                                             root="T"))
         texts = [(PATTERN * 200)[:size] for size in (3, 65_537, 9, 400_000, 0)]
-        stream = b"".join(prefixed(buffer({0: text})) for text in texts)
-        want = lines(*(f"{number} ok tables=1 depth=1 reads=8 {quoted(text)} {quoted(text)} {quoted(text)}"
+        stream = b"".join(prefixed(buffer({0: text, 1: text, 2: text})) for text in texts)
+        want = lines(*(f"{number} ok tables=1 depth=1 reads=16 {quoted(text)} {quoted(text)} {quoted(text)}"
                        for number, text in enumerate(texts, 1)))
-        words = *BY_TEXT, "--path", "s", "--path", "s", "--path", "s"
+        words = "--schema", three, "--path", "u", "--path", "s", "--path", "t"
         ran = run(*words, given=stream)
         self.same("large texts, each three times", (ran.status, ran.out == want, ran.err), (0, True, b""))
         for room in (0, 37, 66, 70_000, 300_000, len(want) - 1):

@@ -1,4 +1,5 @@
-"""What bindings/make makes of include/fbcheck.h is what stands in the bindings and in tests/support/header.py."""
+"""What bindings/make makes of include/fbcheck.h is what stands in the bindings and in tests/support/header.py, and what
+completions/make makes of the program's options in the completions and the manual page."""
 
 import re
 import shutil
@@ -7,14 +8,14 @@ import subprocess
 from tests.support.cases import Case
 from tests.support.program import FOLDER, TOP, loaded
 
-MAKE = loaded(TOP / "bindings/make")
+MAKE, COMPLETIONS = loaded(TOP / "bindings/make"), loaded(TOP / "completions/make")
 HEADER = (TOP / MAKE.HEADER).read_text()
 LAST = MAKE.Header(HEADER).enums["reason"].numbers[-1]
 NEXT = LAST.value + 1
 
 # The header with a reason more, and with a call more.
 MORE_REASONS = re.sub(rf"( FBCHECK_{LAST.name} = {LAST.value})( .*\n)",
-                      rf"\1,\2    FBCHECK_NOT_UTF8 = {NEXT} /* the bytes of a string aren't UTF-8 */\n", HEADER)
+                      rf"\1,\2    FBCHECK_OUT_OF_ORDER = {NEXT} /* the keys of a vector aren't in order */\n", HEADER)
 MORE_CALLS = HEADER.replace(
     "#ifdef __cplusplus\n}", "uint64_t fbcheck_bytes(const fbcheck_schema *schema, uint8_t *room, uint64_t count);\n"
     "#ifdef __cplusplus\n}")
@@ -80,15 +81,17 @@ class Made(Case):
         self.same("in all languages", made.keys(), {
             "bindings/rust/src/calls.rs", "bindings/rust/src/reason.rs", "bindings/go/codes.go", f"{folder}/Codes.java",
             f"{folder}/Reason.java", "bindings/node/codes.js", "bindings/node/index.d.ts",
-            "bindings/python/src/fbcheck/__init__.py", "tests/support/header.py"})
+            "bindings/python/src/fbcheck/__init__.py", "tests/support/header.py", "docs/fbcheck.1"})
         for name, text in [
-            ("bindings/rust/src/calls.rs", f"pub const NOT_UTF8: u32 = {NEXT};\n"),
-            ("bindings/rust/src/reason.rs", f"    /// The bytes of a string aren't UTF-8.\n    NotUtf8 = {NEXT},\n"),
+            ("bindings/rust/src/calls.rs", f"pub const OUT_OF_ORDER: u32 = {NEXT};\n"),
+            ("bindings/rust/src/reason.rs", "    /// The keys of a vector aren't in order.\n"),
+            ("bindings/rust/src/reason.rs", f"    OutOfOrder = {NEXT},\n"),
             ("bindings/rust/src/reason.rs", f"const REASONS: [Reason; {NEXT + 1}] ="),
-            ("bindings/go/codes.go", f"\tNotUtf8         Reason = {NEXT} // the bytes of a string aren't UTF-8\n"),
-            (f"{folder}/Reason.java", "    /** The bytes of a string aren't UTF-8. */\n    NOT_UTF8,\n"),
-            ("bindings/node/codes.js", "'NotUtf8'];"), ("bindings/node/index.d.ts", "| 'NotUtf8';"),
-            ("bindings/python/src/fbcheck/__init__.py", f" {LAST.name} = {LAST.value}\n    NOT_UTF8 = {NEXT}\n    # "),
+            ("bindings/go/codes.go", f"\tOutOfOrder      Reason = {NEXT} // the keys of a vector aren't in order\n"),
+            (f"{folder}/Reason.java", "    /** The keys of a vector aren't in order. */\n    OUT_OF_ORDER,\n"),
+            ("bindings/node/codes.js", "'OutOfOrder'];"), ("bindings/node/index.d.ts", "| 'OutOfOrder';"),
+            ("bindings/python/src/fbcheck/__init__.py", f" {LAST.name} = {LAST.value}\n    OUT_OF_ORDER = {NEXT}\n"),
+            ("docs/fbcheck.1", f".TP\n.B V{NEXT} OutOfOrder\nThe keys of a vector aren't in order.\n"),
         ]:
             self.holds(f"{name} has {text.strip()}", text in made[name], made[name][:2000])
 
@@ -142,3 +145,40 @@ class Made(Case):
         status, out, why = told(run())
         self.same("a file without its lines", (status, out), (1, ""))
         self.holds("it's told which", "bindings/node/index.d.ts: it has no part between the lines" in why, why)
+
+
+class Completions(Case):
+    SOURCE = (TOP / COMPLETIONS.SOURCE).read_text()
+
+    def more(self, name, takes, text):
+        """The source with an option more."""
+        count = re.search(r"CHOICES: \[Choice<'static>; (\d+)\]", self.SOURCE)[1]
+        choice = f'    Choice {{\n        name: "{name}",\n        takes: {takes},\n        help: "{text}",\n    }},\n'
+        source = self.SOURCE.replace(f"; {count}]", f"; {int(count) + 1}]")
+        return source.replace('    Choice {\n        name: "files",', choice + '    Choice {\n        name: "files",')
+
+    def test_files(self):
+        for name, text in COMPLETIONS.made(self.SOURCE).items():
+            self.holds(f"{name} is what completions/make makes: run it", (TOP / name).read_text() == text)
+
+    def test_an_option(self):
+        """One that the program gains is offered by both shells, and is in the manual page."""
+        for takes, bash, zsh, page in [
+            ("Takes::Nothing", " --sorted ", "'--sorted[Ask for keys]'", ".B \\-\\-sorted\nAsk for keys.\n"),
+            ("Takes::Letter('S')", "        -S) word=--sorted ;;", "'(-S --sorted)'{-S,--sorted}'[Ask for keys]'",
+             '.BR \\-S ", " \\-\\-sorted\nAsk for keys.\n'),
+            ('Takes::Texts("KEY")', " | --sorted) ;;", "'*--sorted=[Ask for keys]:sorted:'",
+             '.BI \\-\\-sorted " KEY"\nAsk for keys.\n'),
+            ('Takes::Number(ValueParser::Signed(0, 9), "7")', " | --sorted) ;;",
+             "'--sorted=[Ask for keys]:number [7]:'", '.BI \\-\\-sorted " N"\nAsk for keys (7).\n'),
+        ]:
+            made = COMPLETIONS.made(self.more("sorted", takes, "Ask for keys"))
+            for name, want in zip(made, (bash, zsh, page)):
+                self.holds(f"{name}, {takes}", want in made[name], made[name])
+
+    def test_what_it_cant_read(self):
+        for name, source in [("a bracket", self.more("sorted", "Takes::Nothing", "Ask for [keys]")),
+                             ("an option of another form", self.more("sorted", "Takes::Nothing", "Ask").replace(
+                                 'name: "sorted"', "name: SORTED"))]:
+            with self.assertRaises(COMPLETIONS.Unreadable, msg=name):
+                COMPLETIONS.made(source)

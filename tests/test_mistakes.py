@@ -73,24 +73,13 @@ def recipe(stream):
 
 # By what the list says was given: the words, and standard input.
 CALLS = {
-    "messages, given as the schema (for `.fbs` text or JSON the error says which; an empty file gives `V2`)": [
-        (("--schema", EXAMPLES / name), POST) for name in ("deliveries.fbs", "deliveries.jsonl", "deliveries.bin")
-    ],
-    "a root without its namespace (`--root Delivery`), or a struct": [((*BY_POST, "--root", "Delivery"), POST)],
-    'JSON: its first four bytes, `{"id`, are read as a length; any text gives one above 100,000,000': [(BY_POST, JSON)],
-    "a file compressed with `gzip`; with `zstd` it's `declared=4247762216`, with `zip` `declared=67324752`, and from a "
-    "pipe `gzip` gives `S2`, or a bad first message": [(BY_POST, gzipped(POST))],
-    "big-endian prefixes, as in Java and in network byte order; may also show as S2, or after an ok line": [
-        (BY_POST, turned(POST))
-    ],
-    "a message of 512 bytes with `--max-bytes 511`; with `--bare` it's `input longer than 511 bytes`": [
-        ((*BY_POST, "--max-bytes", "511"), FIRST)
-    ],
-    "a message behind gRPC's five-byte header (a zero byte, then a big-endian length); below 256 bytes it's `V2` at 4, "
-    "and for most of 1,024 or more `S1`": [(BY_POST, framed(FIRST))],
     "a bare buffer, read as a stream: what follows its first four bytes is taken for an offset": [((), BARE)],
-    "a size-prefixed message with `--bare`, so that the prefix is taken for the root's offset (`at=` is the length less "
-    "4); rarely ok": [
+    "a message behind gRPC's five-byte header; below 256 bytes it's `V2` at 4, and for most of 1,024 or more `S1`": [
+        (BY_POST, framed(FIRST))
+    ],
+    "a file packed by `zstd`; by `zip` it's `declared=67324752`, and `gzip` from a pipe gives `S2`, or a bad first "
+    "message": [(BY_POST, by_zstd(POST))],
+    "a size-prefixed message with `--bare` (`at=` is the length less 4); rarely ok": [
         ((*BY_POST, "--bare"), FIRST), ((*BY_POST, "--bare"), POST)
     ],
     "a prefix before a message that has one already": [(BY_POST, prefixed(FIRST))],
@@ -98,9 +87,21 @@ CALLS = {
         ((), prefixed(BARE))
     ],
     "with `--bare` a message whose prefix was taken off": [((*BY_POST, "--bare"), FIRST[4:])],
-    "`--schema` was forgotten, so messages are checked as schema files, whose objects are 0 to 9; `V9` is common too, "
-    "with `--path` it's `P2`, and with `--root` `no root table`, with tables of `reflection`": [((), POST)],
 }
+
+# What the page leaves to a hint: the words, standard input, the first line up to the hint, and what that says.
+HINTED = [
+    *[(("--schema", EXAMPLES / f"deliveries.{ending}"), POST,
+       "fbcheck: schema: L1 V5 WrongIdentifier at=4 object=9 field=- reads=1", hint)
+      for ending, hint in [("fbs", "a schema's text"), ("jsonl", "JSON"), ("bin", "no binary schema")]],
+    ((*BY_POST, "--root", "Delivery"), POST,
+     "fbcheck: no root table Delivery; tables: post.Delivery post.Letter post.Parcel post.Person", "post.Delivery"),
+    (BY_POST, JSON, "fbcheck: stream: S1 Oversize declared=1684611707", "looks like JSON"),
+    (BY_POST, gzipped(POST), "fbcheck: stream: S1 Oversize declared=134777631", "looks like gzip"),
+    (BY_POST, turned(POST), "fbcheck: stream: S1 Oversize declared=4227923968", "big-endian"),
+    ((*BY_POST, "--max-bytes", "511"), FIRST, "fbcheck: stream: S1 Oversize declared=508", "--max-bytes"),
+    ((), POST, "1 bad V3 Misaligned at=97 object=9 field=0 reads=6", "without --schema"),
+]
 
 
 def rows():
@@ -113,11 +114,12 @@ def rows():
 class Mistakes(Case):
     def test_each_line_is_what_is_printed(self):
         self.same("the list's lines", sorted(given for _, given in rows()), sorted(CALLS))
-        for line, given in rows():
-            for words, stream in CALLS.get(given, []):
-                ran = run(*words, given=stream)
-                told = re.split(" in |; (?:no good|the |--max-bytes)", (ran.out + ran.err).decode().splitlines()[0])[0]
-                self.same(f"{given}: {words}", told, line)
+        calls = [(*call, line, "") for line, given in rows() for call in CALLS.get(given, [])]
+        for words, stream, line, hint in calls + HINTED:
+            ran = run(*words, given=stream)
+            told = re.split(" in |; (?:no good|the |--max-bytes)", (ran.out + ran.err).decode().splitlines()[0])[0]
+            self.same(f"{line}: {words}", told, line)
+            self.holds(f"{line}: what is said of it", hint in ran.err.decode(), ran.err)
 
     def test_what_is_told_behind_them(self):
         refused = "fbcheck: schema: L1 V5 WrongIdentifier at=4 object=9 field=- reads=1"

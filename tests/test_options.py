@@ -34,7 +34,7 @@ CALL = {
     "--max-depth": "2",
     "--max-tables": "2",
     "--max-reads": "15",
-    "--reads-per-byte": "0",
+    "--reads-per-byte": "1",
     "--max-bytes": "49",
     "--no-alignment": None,
     "--inline-size": None,
@@ -52,15 +52,15 @@ Arguments:
   [FILE]...  The files to be read, - for standard input; without any, standard input
 
 Options:
-      --schema <FILE>       The binary schema (.bfbs); without it, the input is taken to be schema files
-      --root <NAME>         The root table with its namespace; without it, the schema's own
+  -s, --schema <FILE>       The binary schema (.bfbs); without it, the input is taken to be schema files
+  -r, --root <NAME>         The root table with its namespace; without it, the schema's own
       --ident <XXXX>        The file identifier that each buffer must have
       --schema-ident        Each buffer must have the schema's own file identifier, where it declares one
-      --path <P>            Append the value at this path to the line of each good buffer; may be given up to 16 times
+  -p, --path <P>            Append the value at this path to the line of each good buffer; may be given up to 16 times
       --max-depth <N>       Deepest nesting of tables, 0 to 4096 [default: 64]
       --max-tables <N>      Most tables in one buffer, 0 to 4294967295 [default: 1000000]
       --max-reads <N>       Most reads of one buffer, 0 to 18446744073709551615 [default: 100000000]
-      --reads-per-byte <N>  Most reads for each byte of a buffer, beside 4096 for all, 0 to 4294967295 [default: 64]
+      --reads-per-byte <N>  Most reads for each byte of a buffer and for 64 more, 0 to 4294967295 [default: 64]
       --max-bytes <N>       Most bytes of a message, prefix included, 8 to 2147483647 [default: 67108864]
       --bare                Each input is one bare buffer, not a stream
       --delimited           The four bytes with a message's length are no part of the buffer, which is a bare one
@@ -70,11 +70,11 @@ Options:
       --plain-bytes         With --strict, take nested buffers and flexbuffers for bytes, and don't look inside
       --known-fields        Require each field that is present to be in the schema, and not deprecated
       --utf8                Require strings to be UTF-8
-      --quiet               Print no lines for good buffers
+  -q, --quiet               Print no lines for good buffers
       --filter              Pass good buffers on, and write lines of bad ones to standard error
       --summary             Write a line of what was counted to standard error at the end
       --names               End lines of bad buffers with the place in words
-      --json                Write each line as a JSON object
+  -j, --json                Write each line as a JSON object
   -H, --with-filename       Begin lines with the file's name, also where there is one file alone
   -h, --help                Print help
   -V, --version             Print version
@@ -228,6 +228,8 @@ class Options(Case):
             ("none", bare("M", "--max-tables", "0"), ORC, bad("1 bad V7 TooManyTables at=12 object=0 field=- reads=1")),
             ("no table and no level", bare("M", "--max-tables", "0", "--max-depth", "0"), ORC,
              bad("1 bad V6 TooDeep at=12 object=0 field=- reads=1")),
+            ("the budget of 268 bytes ends first", bare("NODE"), chain,
+             bad("1 bad V13 TooManyReads at=256 object=0 field=- reads=21251")),
             ("a million are the default", bare("NODE", *ALL_READS), chain,
              bad("1 bad V7 TooManyTables at=256 object=0 field=1 reads=4000001")),
             ("as many as there are", bare("NODE", "--max-tables=2097151", *ALL_READS), chain,
@@ -238,21 +240,22 @@ class Options(Case):
         ])
 
     def test_the_reads_of_each_byte_are_limited(self):
-        """In a buffer of 160 bytes 12 levels each visit the next one twice: 4 * 2^12 - 5 reads. Beside 4,096 reads 77 for
-        each byte suffice, and 64 don't, but for a buffer of 200 bytes."""
+        """In a buffer of 160 bytes 12 levels each visit the next one twice: 4 * 2^12 - 5 reads. For each byte and for 64
+        more 74 reads suffice, and 64 don't, but for a buffer of 200 bytes."""
         chain, longer = buffers.doubling(12), buffers.doubling(12) + bytes(40)
         yes = good("1 ok tables=4095 depth=12 reads=16379")
         self.told_alike([
-            ("as many as it takes", bare("NODE", "--reads-per-byte", "77"), chain, yes),
+            ("as many as it takes", bare("NODE", "--reads-per-byte", "74"), chain, yes),
             ("the default for a longer one", bare("NODE"), longer, yes),
             ("the most", bare("NODE", *ALL_READS), chain, yes),
-            ("none but those for all", bare("M", "--reads-per-byte", "0"), ORC, good("1 ok tables=1 depth=1 reads=8")),
-            ("fewer by the other option", bare("NODE", "--max-reads", "27", "--reads-per-byte", "0"), TWINS,
+            ("one for each", bare("M", "--reads-per-byte", "1"), ORC, good("1 ok tables=1 depth=1 reads=8")),
+            ("none", bare("M", "--reads-per-byte", "0"), ORC, bad("1 bad V13 TooManyReads at=0 object=0 field=- reads=1")),
+            ("fewer by the other option", bare("NODE", "--max-reads", "27", "--reads-per-byte", "1"), TWINS,
              good("1 ok tables=7 depth=3 reads=27")),
         ])
-        for words, most in [([], 14_336), (["--reads-per-byte", "76"], 16_256), (["--reads-per-byte", "0"], 4_096)]:
+        for each, most in [("64", 14_336), ("73", 16_352), ("2", 448), ("0", 0)]:
             want = run(*bare("NODE", *ALL_READS, "--max-reads", str(most)), given=chain)
-            self.same(f"{most} reads, {words}", run(*bare("NODE", *words), given=chain), want)
+            self.same(f"{each} for each byte", run(*bare("NODE", "--reads-per-byte", each), given=chain), want)
             self.same(f"{most} reads aren't enough", want.out[:23], b"1 bad V13 TooManyReads ")
         told = run(*by("NODE"), given=prefixed(longer) + prefixed(chain) + prefixed(longer)).out.splitlines()
         self.same("for each message by its own length", [line.split(b"=")[0] for line in told],
@@ -497,6 +500,22 @@ class Options(Case):
         self.same("and a bare input", run(*words_of(CALL), "--bare", given=ODD_MEMBER[4:]),
                   good("1 ok tables=2 depth=2 reads=14 5"))
 
+    def test_letters_stand_for_options(self):
+        schema, yes = str(FILES["X"]), good("1 ok tables=2 depth=2 reads=11 5")
+        for name, words in [
+            ("apart", ["-s", schema, "-r", "R", "-p", "u@A.v"]),
+            ("joined", [f"-s{schema}", "-rR", "-pu@A.v"]),
+            ("by =", [f"-s={schema}", "-r=R", "-p=u@A.v"]),
+            ("behind a flag's", [f"-Hs{schema}", "-r", "R", "-pu@A.v"]),
+        ]:
+            want = yes if name != "behind a flag's" else good("-: 1 ok tables=2 depth=2 reads=11 5")
+            self.same(name, run(*words, "--bare", given=MEMBER), want)
+        longer = run(*by("X", "--root", "R", "--quiet", "--json", "--path", "u", "--path", "us", "--bare"), given=MEMBER)
+        self.same("flags together", run("-qjs", schema, "-rR", "-p", "u", "-pus", "--bare", given=MEMBER), longer)
+        for words in [["-q", "--quiet"], ["-jj"], ["-Q"], ["-b"], ["-s"], ["-qp"]]:
+            ran = run(*words, given=MEMBER)
+            self.holds(f"{words} is refused by clap", ran.status == 2 and ran.err.startswith(b"error: "), ran)
+
     def test_each_option_left_out_of_all(self):
         for name, want in [
             ("--schema", rootless("R", *REFLECTION, schema=False)),
@@ -565,22 +584,52 @@ class Options(Case):
              refused("ident must be four bytes")),
             ("a length before a bare buffer", ["--bare", "--delimited"], b"",
              refused("bare and delimited exclude each other")),
-            *[(f"a path twice in JSON, {name}", ["--json", *(word for path in given for word in ("--path", path))], b"",
-               refused("json takes no path twice"))
-              for name, given in [("alone", "aa"), ("first and last", "abca"), ("the last two", "abcc")]],
-            ("17 paths, one of them twice in JSON", ["--json", *paths[:32], *paths[:2]], b"", refused("more than 16 paths")),
-            ("a path twice in JSON, a bare buffer, its length", ["--json", *paths[:2] * 2, "--bare", "--delimited"], b"",
+            *[(f"a path twice, {name}", [*also, *(word for path in given for word in ("--path", path))], b"",
+               refused("the same path twice"))
+              for name, given in [("alone", "aa"), ("first and last", "abca"), ("the last two", "abcc")]
+              for also in [(), ("--json",)]],
+            ("17 paths, one of them twice", [*paths[:32], *paths[:2]], b"", refused("more than 16 paths")),
+            ("a path twice, a bare buffer, its length", [*paths[:2] * 2, "--bare", "--delimited"], b"",
              refused("bare and delimited exclude each other")),
+            ("a path twice, of too many steps", ["--path", "a" + ".b" * 512] * 2, b"", refused("the same path twice")),
         ])
         self.told_alike([
             ("plain bytes alone", ["--plain-bytes"], b"", refused("plain-bytes needs strict")),
             ("and a bare buffer, its length", ["--plain-bytes", "--bare", "--delimited"], b"",
              refused("bare and delimited exclude each other")),
-            ("and a path twice in JSON", ["--plain-bytes", "--json", *paths[:2] * 2], b"",
-             refused("plain-bytes needs strict")),
+            ("and a path twice", ["--plain-bytes", *paths[:2] * 2], b"", refused("plain-bytes needs strict")),
         ])
-        by_n = "--schema", FILES["N"], "--path", "v", "--path", "v"
-        self.same("a path twice in plain lines", run(*by_n, given=SEVEN), good("1 ok tables=1 depth=1 reads=5 7 7"))
+
+    def test_a_schema_file_as_input(self):
+        """Without `--schema`, a file `.bfbs` is no stream: one line, and nothing is read."""
+        told = refused("a .bfbs file is given as input: put --schema before it, or --bare to check the file itself")
+        path, other = FILES["M"], file_of("M.bin", prefixed(schemas.M))
+        self.told_alike([
+            ("alone", [path], ORC, told),
+            ("among others", [other, "/none/such.bfbs", "-"], ORC, told),
+            ("delimited", ["--delimited", path], ORC, told),
+            ("with a path too long", [path, "--path", "a" + ".b" * 1024], ORC, refused("more than 1024 steps in all paths")),
+            ("bare", ["--bare", path], ORC, good("1 ok tables=11 depth=4 reads=90")),
+            ("another name", ["--delimited", other], ORC, good("1 ok tables=11 depth=4 reads=90")),
+            ("as standard input", ["--delimited"], prefixed(schemas.M), good("1 ok tables=11 depth=4 reads=90")),
+        ])
+        ran = run("--schema", FILES["N"], path, given=ORC)
+        self.holds("beside a schema it is read", ran.status == 3 and b"stream: S" in ran.err, ran)
+
+    def test_steps_are_limited(self):
+        """1,024 of all paths, before a file is read; a text that is no path counts by the same bytes."""
+        many = refused("more than 1024 steps in all paths")
+        chain = lambda steps: "next" + ".next" * (steps - 1)
+        asked = lambda *counts: [word for count in counts for word in ("--path", chain(count))]
+        shown = lambda count: "table" if count == 1 else "absent"
+        told = lambda *counts: good(" ".join(["1 ok tables=2 depth=2 reads=7", *map(shown, counts)]))
+        for counts in [(1024,), (1023, 1), (512, 511, 1), (64, 65, 66, 67, 68, 69, 70, 71, 72, 73, 74, 75, 76, 77, 37)]:
+            self.same(f"{counts} steps", run(*bare("CHAIN"), *asked(*counts), given=levels(2)), told(*counts))
+        for counts in [(1025,), (1024, 1), (1023, 2), (20_000,), (3, 20_000, 1), (512, 511, 2)]:
+            self.same(f"{counts} steps", run("--schema", "/none/such", *asked(*counts)), many)
+        for name, text in [("dots", "." * 1024), ("brackets", "a" + "[0]" * 1024), ("members", "@" * 1024)]:
+            self.same(name, run("--path", text), many)
+            self.holds(f"one fewer of {name}", run(*bare("CHAIN"), "--path", text[:-3]).err.startswith(b"fbcheck: path: "))
 
     def test_texts_of_wrong_words(self):
         """The words of `clap`, to the letter."""

@@ -517,7 +517,7 @@ class Python(LibraryCase):
 
     def test_once(self):
         """A check that fails at its last reads costs as much as one that ends well: it goes through a message once."""
-        chain, checkers = buffers.doubling(12), [self.by("NODE", reads_per_byte=reads) for reads in (77, 76)]
+        chain, checkers = buffers.doubling(12), [self.by("NODE", reads_per_byte=reads) for reads in (74, 73)]
         self.same("they end well and fail", [of.check(chain).reason for of in checkers], [None, 13])
         turns = [[timeit.timeit(lambda: of.check(chain), number=10) for of in checkers] for _ in range(400)]
         good, bad = map(min, zip(*turns))

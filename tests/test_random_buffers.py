@@ -53,7 +53,7 @@ def choice(dice, length):
     alignment, inline_size = dice.once_in(2), dice.once_in(2)
     by_library = {"max_depth": depth, "max_tables": tables, "max_reads": most, "reads_per_byte": per_byte,
                   "no_alignment": int(not alignment), "inline_size": int(inline_size)}
-    reads = min(most, per_byte * length + 4096)
+    reads = min(most, per_byte * (length + 64))
     return by_library, {"depth": depth, "tables": tables, "reads": reads, "alignment": alignment,
                         "inline_size": inline_size}
 

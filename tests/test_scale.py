@@ -35,9 +35,8 @@ CUT, = blocks("Cutting a stream")
 NUMBERS, STATUS = blocks("Numbers and status of the whole")
 RECIPES = {
     "xargs": (blocks("On one machine")[0], ["xargs"]),
-    "parallel": (blocks("On one machine")[1], ["parallel"]),
-    "no files": (blocks("On one machine")[2], ["xargs", "tail", "head"]),
-    "pipes": (blocks("On one machine")[3], ["mkfifo"]),
+    "no files": (blocks("On one machine")[1], ["xargs", "tail", "head"]),
+    "pipes": (blocks("On one machine")[2], ["mkfifo"]),
     "ssh": (blocks("Over ssh")[0], []),
 }
 

@@ -54,6 +54,7 @@ static int check(const fbcheck_schema *schema, uint32_t root, const char *path)
         return 2;
     }
     tell(&verdict);
+    putchar('\n');
     if (verdict.status == FBCHECK_BAD)
         tell_names(schema, &verdict);
     return (int)verdict.status;

@@ -29,7 +29,7 @@ static inline uint8_t *bytes_of(FILE *file, size_t *length)
     return bytes;
 }
 
-/* Prints a verdict on a buffer as the program fbcheck does. */
+/* Prints a verdict on a buffer as the program fbcheck does, without the newline. */
 static inline void tell(const fbcheck_verdict *verdict)
 {
     char reason[20];
@@ -43,7 +43,7 @@ static inline void tell(const fbcheck_verdict *verdict)
         else
             printf("%" PRIu32, verdict->field);
     }
-    printf(" reads=%" PRIu64 "\n", verdict->reads);
+    printf(" reads=%" PRIu64, verdict->reads);
 }
 
 #endif

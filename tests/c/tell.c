@@ -171,6 +171,7 @@ int main(int count, char **words)
         verdicts[i] = verdict_on(schema, scratch, &asked.options, field, stream + spans[i].at, spans[i].length);
         printf("%zu ", i + 1);
         tell(&verdicts[i]);
+        putchar('\n');
     }
     check_at_once(schema, scratch, &asked.options, stream, stream_length, spans, verdicts, messages);
     fbcheck_scratch_free(scratch);

@@ -1,10 +1,49 @@
 """What a line of JSON says, by the plain line of the same message."""
 
 import json
+import math
 import re
+import struct
 
 WORDS = re.compile(rb'"(?:[^"\\]|\\.)*"|\S+')
 ESCAPE = re.compile(rb'\\(?:x([0-9a-f]{2})|(.))')
+
+
+class Numeral(str):
+    """A number with a point or an exponent, as it was written."""
+
+
+class Float:
+    """A float by its bytes. It equals the shortest numeral that reads as it, or its name where it is no number."""
+
+    def __init__(self, data):
+        self.data, self.form = data, "<f" if len(data) == 4 else "<d"
+        self.number = struct.unpack(self.form, data)[0]
+
+    def is_read_from(self, text):
+        try:
+            return struct.pack(self.form, float(text)) == self.data
+        except OverflowError:
+            return False
+
+    def __eq__(self, told):
+        if math.isnan(self.number):
+            return told == "NaN"
+        if math.isinf(self.number):
+            return told == ("Infinity" if self.number > 0 else "-Infinity")
+        return isinstance(told, Numeral) and self.is_read_from(told) and digits(told) <= self.digits()
+
+    def digits(self):
+        """How many digits a numeral that reads as it needs: those of the nearest with so many."""
+        return next(count for count in range(1, 18) if self.is_read_from(f"{self.number:.{count - 1}e}"))
+
+    def __repr__(self):
+        return f"Float({self.data.hex()}, {self.number!r})"
+
+
+def digits(numeral):
+    """How many digits it has, but for zeros at both ends."""
+    return max(len(numeral.lstrip("-").partition("e")[0].replace(".", "").strip("0")), 1)
 
 
 def pairs(members):
@@ -16,7 +55,7 @@ def pairs(members):
 
 def read(line):
     """What a line says to a reader of JSON."""
-    return json.loads(line, object_pairs_hook=pairs)
+    return json.loads(line, object_pairs_hook=pairs, parse_float=Numeral)
 
 
 def names_of(schema):
@@ -47,7 +86,7 @@ def value_of(word):
     word = word.decode()
     kind, colon, rest = word.partition(":")
     if colon:
-        return {kind: rest if kind in ("float", "struct") else int(rest)}
+        return Float(bytes.fromhex(rest)) if kind == "float" else {kind: rest if kind == "struct" else int(rest)}
     if word in ("no-element", "other-member"):
         return {"absent": word}
     named = {"absent": None, "true": True, "false": False, "table": {"table": True}}

@@ -309,6 +309,16 @@ def pieces_in(path):
         yield (FIELD, name) if name else (ELEMENT, int(number)) if number else (MEMBER, member)
 
 
+def refusal(paths):
+    """Why these paths are refused before anything is read; or None. What begins a further step is counted as written."""
+    if len(paths) > 16:
+        return "more than 16 paths"
+    if len({*paths}) < len(paths):
+        return "the same path twice"
+    steps = sum(1 + sum(path.count(byte) for byte in ".[@") for path in paths)
+    return "more than 1024 steps in all paths" if steps > 1024 else None
+
+
 class Reader:
     """Reads values of a buffer that is good.
 

@@ -60,7 +60,7 @@ impl Options {
         self
     }
 
-    /// At most so many counted reads for each byte, and 4,096 beside: 64.
+    /// At most so many counted reads for each byte and for 64 more: 64.
     pub fn reads_per_byte(mut self, reads: u32) -> Options {
         self.asked.reads_per_byte = reads;
         self

@@ -3,8 +3,8 @@ use Rattle.std.proofs.Common.{◌≡◌, ℕ, ◌+◌, ◌∙◌, ◌++◌, List
 use mathlib.Core.Logic.{inl}
 use Rattle.std.proofs.lemmas.List.Elements.{All-head, All-tail}
 use Rattle.fb_bytes.specs.Messages.{IsMessage, Splits}
-use Rattle.fb_lines.specs.{FilterLaws.PassesAgain, Job.Job, Line.line_of, Line.told_of, Lines.AreTold, Sums.no_tally, Sums.tally_with}
-use Rattle.fb_lines.specs.Texts.{Texts, to_out}
+use Rattle.fb_lines.specs.{FilterLaws.PassesAgain, Job.Job, Line.IsLine, Line.TellsLine, Line.ToldBy, Lines.AreTold, Sums.no_tally, Sums.tally_with}
+use Rattle.fb_lines.specs.Texts.{Texts, to_notes, to_out}
 use Rattle.fb_lines.specs.declared.{tally.Tally.Tally, options.Mode.TheVariants.Filter}
 use Rattle.fb_lines.proofs.Splitting.{empty_partial, splits_one, splits_rest, splits_then}
 
@@ -21,7 +21,7 @@ again job limit k j [] text tally filter each (e, none) = (
 )
 again job limit k j (m ∷ ms) text tally filter each (Ok found, line, rest, others, is, e, told, sums) =
     let more = again job limit (k + 1) (j + 1) ms rest others filter (All-tail (IsMessage limit) m ms each) told in
-    let line_is : line ≡ to_out m = is.text ∙ ap (λ o. told_of o (line_of job k (Ok found)) m (Ok found)) filter in
+    let line_is : line ≡ to_out m = subst (λ o. ToldBy o (IsLine job k (Ok found)) m (Ok found) line) filter is.text in
     let out_is : text.out ≡ m ++ rest.out = ap (λ t. t.out) e ∙ ap (λ t. t.out ++ rest.out) line_is in (
       m ∷ more.0,
       tally_with m (Ok found) more.1,
@@ -32,7 +32,7 @@ again job limit k j (m ∷ ms) text tally filter each (Ok found, line, rest, oth
         to_out m,
         to_out rest.out,
         more.1,
-        record { verdict_is = is.verdict_is; text = ap (λ o. told_of o (line_of job j (Ok found)) m (Ok found)) (sym filter) },
+        record { verdict_is = is.verdict_is; text = subst (λ o. ToldBy o (IsLine job j (Ok found)) m (Ok found) (to_out m)) (sym filter) refl },
         ap to_out out_is,
         more.3,
         refl,
@@ -42,8 +42,8 @@ again job limit k j (m ∷ ms) text tally filter each (Ok found, line, rest, oth
     )
 again job limit k j (m ∷ ms) text tally filter each (Err fault, line, rest, others, is, e, told, sums) =
     let more = again job limit (k + 1) j ms rest others filter (All-tail (IsMessage limit) m ms each) told in
-    let line_is = is.text ∙ ap (λ o. told_of o (line_of job k (Err fault)) m (Err fault)) filter in
-    let out_is : text.out ≡ rest.out = ap (λ t. t.out) e ∙ ap (λ t. t.out ++ rest.out) line_is in (
+    let noted : TellsLine (IsLine job k (Err fault)) to_notes line = subst (λ o. ToldBy o (IsLine job k (Err fault)) m (Err fault) line) filter is.text in
+    let out_is : text.out ≡ rest.out = ap (λ t. t.out) e ∙ ap (λ t. t.out ++ rest.out) noted.2 in (
       more.0,
       more.1,
       subst (λ (l : List ℕ). Splits limit l more.0 []) (sym out_is) more.2,

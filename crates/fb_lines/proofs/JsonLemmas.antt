@@ -13,8 +13,8 @@ use Rattle.json.proofs.Printed.Tokens.{print_from-append}
 use Rattle.fb_schema.specs.Rows.{Rows}
 use Rattle.fb_rules.specs.declared.{fault.Fault.Fault, fault.Report.Report}
 use Rattle.fb_access.specs.Denotes.{Shown, nothing, no_element, other_member, table}
-use Rattle.fb_lines.specs.Json.{json_text, text_json, value_json, labelled, digits_json, line_json, values_member, yes_members, no_members_of}
-use Rattle.fb_lines.specs.Json.{place_member, values_members, members_text, member_part, following, begin_part, counts_part, reason_part, names_part, end_part, json_yes, json_no}
+use Rattle.fb_lines.specs.Json.{AreValues, IsValue, IsValuesMember, json_text, text_json, value_json, labelled, digits_json, line_json, yes_members, no_members_of}
+use Rattle.fb_lines.specs.Json.{place_member, members_text, member_part, following, begin_part, counts_part, reason_part, names_part, end_part, json_yes, json_no}
 
 -- a comma, behind a value
 abbrev comma : Bool → List ℕ
@@ -107,6 +107,12 @@ pub fixed_texts : (json_text null ≡ codes "null") × (json_text (boolean true)
 unfolding print_from json_text escape_byte
 fixed_texts = (refl, refl, refl, refl, refl, refl)
 
+-- the words of floats that are no numbers
+pub word_texts : (json_text (string (codes "NaN")) ≡ codes "\"NaN\"") × (json_text (string (codes "Infinity")) ≡ codes "\"Infinity\"")
+    × (json_text (string (codes "-Infinity")) ≡ codes "\"-Infinity\"")
+unfolding print_from json_text escape_byte
+word_texts = (refl, refl, refl)
+
 -- an object of one member
 pub labelled_text : (key : List ℕ) (j : Json) → json_text (labelled key j) ≡ 123 ∷ (quoted key ++ (58 ∷ (json_text j ++ codes "}")))
 labelled_text key j = first_member key j no_members ∙ ap (λ l. 123 ∷ (quoted key ++ (58 ∷ (json_text j ++ l)))) no_more
@@ -158,50 +164,63 @@ pub place_parts : (place : List ℕ) → following (place_member (Some place)) �
 unfolding escape_byte
 place_parts place = simp (next_member, no_more)
 
--- the values of some paths up to the one with this number, and then one more
+-- whatever completes the values from number i on, behind this text, completes them all behind the one before
+abbrev pub Completes : List (List ℕ) → List Shown → ℕ → List ℕ → List ℕ → Type 0
+Completes paths shown i text before =
+    (rest : Members) → AreValues (drop i paths) (drop i shown) rest
+    → (all : Members) × AreValues paths shown all × (text ++ members_text (nat_lt 0 i) rest ≡ before ++ members_text false all)
+
 nat_lt_next : (i : ℕ) → nat_lt 0 (i + 1) ≡ true
 nat_lt_next i = grind (arith, nat_tests)
 
-pub one_value_more : (paths : List (List ℕ)) (values : List Shown) (i : ℕ) (text text' whole : List ℕ) → i < length paths → i < length values
-    → text ++ members_text (nat_lt 0 i) (values_members (drop i paths) (drop i values)) ≡ whole
-    → text' ≡ text ++ member_part (nat_lt 0 i) (get_or paths i []) (value_json (get_or values i nothing))
-    → text' ++ members_text (nat_lt 0 (i + 1)) (values_members (drop (i + 1) paths) (drop (i + 1) values)) ≡ whole
-one_value_more paths values i text text' whole few enough before more =
-    let next = rw (drop_more paths i [] few, drop_more values i nothing enough, part_then (nat_lt 0 i)) at before in
-    rw (nat_lt_next i, more, append_assoc text) next
+-- at first, with one value more, and at the end, where the object is closed
+pub none_yet : (paths : List (List ℕ)) (shown : List Shown) (text : List ℕ) → Completes paths shown 0 text text
+none_yet paths shown text rest are = (rest, are, refl)
 
--- where paths or values end, so do members
-none_valued : (paths : List (List ℕ)) → values_members paths [] ≡ no_members
+pub one_value_more : (paths : List (List ℕ)) (shown : List Shown) (i : ℕ) (text text' before : List ℕ) (value : Json) → i < length paths → i < length shown
+    → Completes paths shown i text before → IsValue (get_or shown i nothing) value → text' ≡ text ++ member_part (nat_lt 0 i) (get_or paths i []) value
+    → Completes paths shown (i + 1) text' before
+one_value_more paths shown i text text' before value few enough completes is more rest are =
+    let key = get_or paths i [] in
+    let next : AreValues (drop i paths) (drop i shown) (member key value rest) = rw (drop_more paths i [] few, drop_more shown i nothing enough) (value, rest, is, are, refl) in
+    let all = completes (member key value rest) next in (
+      all.0,
+      all.1,
+      ap (λ b. text' ++ members_text b rest) (nat_lt_next i) ∙ ap (λ l. l ++ following rest) more ∙ append_assoc text (member_part (nat_lt 0 i) key value) (following rest)
+          ∙ ap (λ l. text ++ l) (sym (part_then (nat_lt 0 i) key value rest)) ∙ all.2,
+    )
+
+none_valued : (paths : List (List ℕ)) → AreValues paths [] no_members
 none_valued [] = refl
 none_valued (path ∷ paths) = refl
 
--- and the object is closed
-pub values_end : (paths : List (List ℕ)) (values : List Shown) (i : ℕ) (text text' whole : List ℕ) → min (length paths) (length values) ≤ i
-    → text ++ members_text (nat_lt 0 i) (values_members (drop i paths) (drop i values)) ≡ whole → text' ≡ text ++ codes "}" → text' ≡ whole
-values_end paths values i text text' whole over before more =
-    let ended : values_members (drop i paths) (drop i values) ≡ no_members = elim (cases_lt i (length paths)) [
-      | inl fewer ↦ rw (drop_all i values (omega arith)) (none_valued (drop i paths))
-      | inr few ↦ rw (drop_all i paths few)
+pub values_end : (paths : List (List ℕ)) (shown : List Shown) (i : ℕ) (text text' before : List ℕ) → min (length paths) (length shown) ≤ i
+    → Completes paths shown i text before → text' ≡ text ++ codes "}" → (all : Members) × AreValues paths shown all × (text' ≡ before ++ members_text false all)
+values_end paths shown i text text' before over completes more =
+    let ended : AreValues (drop i paths) (drop i shown) no_members = elim (cases_lt i (length paths)) [
+      | inl fewer ↦ rw (drop_all i shown (omega arith)) (none_valued (drop i paths))
+      | inr few ↦ rw (drop_all i paths few) refl
     ] in
-    rw (more, ← none_left (nat_lt 0 i), ← ended) before
+    let all = completes no_members ended in
+    (all.0, all.1, more ∙ ap (λ l. text ++ l) (sym (none_left (nat_lt 0 i))) ∙ all.2)
 
 -- what a line has of values, where paths are asked for, and where none are
-pub asked_parts : (paths : List (List ℕ)) (values : List Shown) → 0 < length paths
-    → following (values_member paths values) ≡ codes ",\"values\":{" ++ (members_text false (values_members paths values) ++ codes "}")
+pub asked_parts : (paths : List (List ℕ)) (shown : List Shown) (values : Members) → 0 < length paths → AreValues paths shown values
+    → (member_of : Members) × IsValuesMember paths shown member_of × (following member_of ≡ codes ",\"values\":{" ++ (members_text false values ++ codes "}"))
 unfolding escape_byte
-asked_parts [] values some = absurd (omega arith)
-asked_parts (path ∷ paths) values some = simp (next_member, object_text, no_more)
+asked_parts [] shown values some are = absurd (omega arith)
+asked_parts (path ∷ paths) shown values some are =
+    (member (codes "values") (object values) no_members, (values, are, refl), simp (next_member, object_text, no_more))
 
-pub none_asked : (paths : List (List ℕ)) (values : List Shown) → length paths ≡ 0 → following (values_member paths values) ≡ codes "}"
-none_asked [] values none = no_more
-none_asked (path ∷ paths) values none = absurd (omega arith)
+pub none_asked : (paths : List (List ℕ)) (shown : List Shown) → length paths ≡ 0 → IsValuesMember paths shown no_members
+none_asked [] shown none = refl
+none_asked (path ∷ paths) shown none = absurd (omega arith)
 
 -- the lines by what is written
-pub yes_line : (file : Option (List ℕ)) (k : ℕ) (report : Report) (paths : List (List ℕ)) (values : List Shown)
-    → json_yes file k report paths values ≡ begin_part file k ++ (counts_part report ++ (following (values_member paths values) ++ codes "\n"))
+pub yes_line : (file : Option (List ℕ)) (k : ℕ) (report : Report) (values : Members)
+    → json_yes file k report values ≡ begin_part file k ++ (counts_part report ++ (following values ++ codes "\n"))
 unfolding escape_byte
-yes_line file k report paths values =
-    ap (λ l. l ++ codes "\n") (begun file k (yes_members report paths values)) ∙ simp (next_member, fixed_texts.1, number_text, append_assoc)
+yes_line file k report values = ap (λ l. l ++ codes "\n") (begun file k (yes_members report values)) ∙ simp (next_member, fixed_texts.1, number_text, append_assoc)
 
 pub no_line : (file : Option (List ℕ)) (k : ℕ) (rows : Rows) (fault : Fault) (place : Option (List ℕ))
     → json_no file k rows fault place
@@ -219,3 +238,6 @@ six_parts text t1 t2 t3 t4 t5 t6 a b c d e f whole is p1 p2 p3 p4 p5 p6 = rw (p6
 pub four_parts : (text t1 t2 t3 t4 a b c d whole : List ℕ) → whole ≡ a ++ (b ++ (c ++ d))
     → t1 ≡ text ++ a → t2 ≡ t1 ++ b → t3 ≡ t2 ++ c → t4 ≡ t3 ++ d → t4 ≡ text ++ whole
 four_parts text t1 t2 t3 t4 a b c d whole is p1 p2 p3 p4 = rw (p4, p3, p2, p1, is) (simp append_assoc)
+
+pub three_parts : (text t1 t2 t3 a b c whole : List ℕ) → whole ≡ a ++ (b ++ c) → t1 ≡ text ++ a → t2 ≡ t1 ++ b → t3 ≡ t2 ++ c → t3 ≡ text ++ whole
+three_parts text t1 t2 t3 a b c whole is p1 p2 p3 = rw (p3, p2, p1, is) (simp append_assoc)

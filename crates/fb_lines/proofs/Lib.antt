@@ -10,8 +10,10 @@ pub mod JsonSumsLemmas
 pub mod LongLemmas
 pub mod Pieces
 pub mod PutsLemmas
+pub mod RealLemmas
 pub mod Shown
 pub mod ShownJson
 pub mod Splitting
 pub mod StrictLemmas
 pub mod SumsLemmas
+pub mod ToldLemmas

@@ -3,9 +3,9 @@ use Rattle.std.proofs.Common.{◌≡◌, ℕ, List, [], ◌∷◌, ◌++◌, Res
 use Rattle.std.specs.List.{flat_map}
 use Rattle.hex.specs.Hex.{encode_lower, encode_with}
 use Rattle.fb_access.specs.declared.answer.Answer.{Answer}
-use Rattle.fb_lines.specs.{AnswerText.spaced_answer, AnswerText.spelled, Job.verdict_of, Texts.to_out}
-use Rattle.fb_lines.specs.Line.{short_line, told_of, verdict_line}
-use Rattle.fb_lines.specs.declared.{checker.Found.Found, checker.Wrong.Wrong, options.Mode.Mode, options.Mode.TheVariants.Lines}
+use Rattle.fb_lines.specs.{AnswerText.spaced_answer, AnswerText.spelled, Job.verdict_of}
+use Rattle.fb_lines.specs.Line.{short_line, verdict_line}
+use Rattle.fb_lines.specs.declared.{checker.Found.Found, checker.Wrong.Wrong}
 use Rattle.fb_lines.specs.declared.value_text.Spelling.TheVariants.{Digits}
 use Rattle.fb_lines.proofs.AnswerLemmas.{answers_each}
 
@@ -15,8 +15,7 @@ unfolding encode_with
 digits_each [] = refl
 digits_each (b ∷ bytes) = ap (λ l. encode_lower (b ∷ []) ++ l) (digits_each bytes)
 
--- the line with these answers is what is told
-pub told_with : (mode : Mode) (verdict : Result Found Wrong) (found : Found) (answers : List Answer) → mode ≡ Lines → verdict ≡ Ok found → answers ≡ found.answers
-    → (begin : List ℕ) (k : ℕ) (message : List ℕ)
-    → told_of mode (begin ++ verdict_line k (verdict_of verdict)) message (verdict_of verdict) ≡ to_out (begin ++ (short_line k (verdict_of verdict) ++ (flat_map spaced_answer answers ++ codes "\n")))
-told_with mode verdict found answers lines is same begin k message = rw (lines, is, same, answers_each found.answers)
+-- the line with these answers
+pub line_with : (verdict : Result Found Wrong) (found : Found) (answers : List Answer) → verdict ≡ Ok found → answers ≡ found.answers
+    → (k : ℕ) → verdict_line k (verdict_of verdict) ≡ short_line k (verdict_of verdict) ++ (flat_map spaced_answer answers ++ codes "\n")
+line_with verdict found answers is same k = rw (is, same, answers_each found.answers)

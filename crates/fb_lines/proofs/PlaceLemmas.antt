@@ -44,9 +44,10 @@ module _ {job : Job} {rows : Rows} (options : Options) {start : Start} {limits :
   pub checked_along : (fault : Fault) (links : List Link) → StopsAlongBy plan (asked_by rows options start limits) bytes fault links → StopsAlongBy job.plan (asked_of job bytes) bytes fault links
   checked_along fault links along = by_job (λ p q. StopsAlongBy p q bytes fault links) along
 
--- where no more is asked than a report, there are no values, and no words
-asks_none : (paths : List Wanted) (names : Places) (label : Option (List ℕ)) (form : Form) → asks_little paths names label form ≡ true → (paths ≡ []) × (names ≡ Numbers)
-asks_none [] Numbers None Plain little = (refl, refl)
+-- where no more is asked than a report, there are no values, no words, no name, and no JSON
+pub asks_none : (paths : List Wanted) (names : Places) (label : Option (List ℕ)) (form : Form) → asks_little paths names label form ≡ true
+    → (paths ≡ []) × (names ≡ Numbers) × (label ≡ None) × (form ≡ Plain)
+asks_none [] Numbers None Plain little = (refl, refl, refl, refl)
 asks_none [] Numbers None Json little = cc
 asks_none [] Numbers (Some name) form little = cc
 asks_none [] Words label form little = cc

@@ -1,5 +1,5 @@
 -- What a strict ok says without the plan.
-use Rattle.std.proofs.Common.{ℕ, List, Option, Some, None, refl, arith}
+use Rattle.std.proofs.Common.{ℕ, List, Option, Some, None, arith}
 use Rattle.fb_rules.specs.declared.fault.Report.{Report}
 use Rattle.fb_rules.specs.Question.{Question}
 use Rattle.fb_strict.specs.{AsAsked.ReportsBy, Laws.IsOk, Planned.Planned}

@@ -1,9 +1,13 @@
 -- Lines of JSON (RFC 8259): each is one value, as the kit's definition of such reads it, and a newline.
-use Rattle.std.specs.Prelude.{ℕ, ◌+◌, nat_lt, Bool, true, false, if◌then◌else◌, List, [], ◌∷◌, ◌++◌, Option, Some, None, codes, decimal, drop, take, option_map, option_and_then, slice_get}
+use Rattle.std.specs.Prelude.{◌≡◌, ℕ, ◌+◌, ◌≤◌, nat_lt, Bool, true, false, if◌then◌else◌, List, [], ◌∷◌, ◌++◌, Option, Some, None, codes, decimal, drop, from_bits, length, take, option_map, option_and_then, slice_get}
 use Rattle.std.specs.{Fmt.signed_decimal, Str.is_utf8}
+use Rattle.std.specs.Float.{Float, Format, binary32, binary64, nan, inf, fin}
 use Rattle.hex.specs.Hex.{encode_lower}
 use Rattle.json.specs.Json.{Json, null, boolean, number, string, object, Members, no_members, member}
 use Rattle.json.specs.{Print.print, Print.print_from, Tree.json_tokens, Tree.members_tokens}
+use Rattle.std.specs.Float.Parse.{parse_float}
+use Rattle.ryu.specs.Plain.{IsLaidOutNumber}
+use Rattle.fb_bytes.specs.Word.{word}
 use Rattle.fb_schema.specs.Rows.{Rows}
 use Rattle.fb_rules.specs.Reasons.{reason_number, reason_text}
 use Rattle.fb_rules.specs.declared.{fault.Fault.Fault, fault.Reason.Reason, fault.Report.Report}
@@ -35,7 +39,7 @@ name_json (Some name) = text_json name
 abbrev pub count_json : ℕ → Json
 count_json n = number (decimal n)
 
--- the value at the end of a path
+-- the value at the end of a path (a float by its digits: see below)
 abbrev pub value_json : Shown → Json
 value_json nothing = null
 value_json no_element = labelled (codes "absent") (string (codes "no-element"))
@@ -50,15 +54,50 @@ value_json (vector count) = labelled (codes "vector") (count_json count)
 value_json table = labelled (codes "table") (boolean true)
 value_json (union n) = labelled (codes "union") (count_json n)
 
+-- the most digits before the point, and the most zeros behind it, that a number has without an exponent
+abbrev pub most_digits : Format → ℕ
+most_digits binary32 = 13
+most_digits binary64 = 16
+
+abbrev pub most_zeros : Format → ℕ
+most_zeros binary32 = 5
+most_zeros binary64 = 4
+
+-- a number of RFC 8259 of at most 25 bytes that reads as this float, with an exponent just where it has more of those
+pub record IsNumeral (format : Format) (real : Float) (text : List ℕ) : Type 0 where
+  pub reads : parse_float format text ≡ Some real
+  pub layout : IsLaidOutNumber (most_digits format) (most_zeros format) text
+  pub short : length text ≤ 25
+
+-- a float: such a number, or a word where it is none
+abbrev pub IsReal : Format → Float → Json → Type 0
+IsReal format nan value = value ≡ string (codes "NaN")
+IsReal format (inf false) value = value ≡ string (codes "Infinity")
+IsReal format (inf true) value = value ≡ string (codes "-Infinity")
+IsReal format (fin negative m e) value = (text : List ℕ) × IsNumeral format (fin negative m e) text × (value ≡ number text)
+
+-- the same by its bytes, the lowest first: a Float has four, and a Double eight
+pub record IsFloat (bytes : List ℕ) (value : Json) : Type 0 where
+  pub single : length bytes ≡ 4 → IsReal binary32 (from_bits binary32 (word bytes 0 4)) value
+  pub double : length bytes ≡ 8 → IsReal binary64 (from_bits binary64 (word bytes 0 8)) value
+  pub neither : (length bytes ≡ 4 → ⊥) → (length bytes ≡ 8 → ⊥) → value ≡ value_json (float bytes)
+
+-- a value as a line has it
+abbrev pub IsValue : Shown → Json → Type 0
+IsValue (float bytes) value = IsFloat bytes value
+IsValue shown value = value ≡ value_json shown
+
 -- the values of some paths, each by the text of its path
-abbrev pub values_members : List (List ℕ) → List Shown → Members
-values_members (path ∷ paths) (value ∷ values) = member path (value_json value) (values_members paths values)
-values_members _ _ = no_members
+abbrev pub AreValues : List (List ℕ) → List Shown → Members → Type 0
+AreValues (path ∷ paths) (shown ∷ rest) members =
+    (value : Json) × (others : Members) × IsValue shown value × AreValues paths rest others × (members ≡ member path value others)
+AreValues _ _ members = members ≡ no_members
 
 -- what a line has of values: nothing where no path is asked for
-abbrev pub values_member : List (List ℕ) → List Shown → Members
-values_member [] values = no_members
-values_member (path ∷ paths) values = member (codes "values") (object (values_members (path ∷ paths) values)) no_members
+abbrev pub IsValuesMember : List (List ℕ) → List Shown → Members → Type 0
+IsValuesMember [] shown member_of = member_of ≡ no_members
+IsValuesMember (path ∷ paths) shown member_of =
+    (values : Members) × AreValues (path ∷ paths) shown values × (member_of ≡ member (codes "values") (object values) no_members)
 
 -- what every line begins with: the input's name, where it has one, and the message's number
 abbrev pub line_json : Option (List ℕ) → ℕ → Members → Json
@@ -66,13 +105,12 @@ line_json None k rest = object (member (codes "message") (count_json k) rest)
 line_json (Some file) k rest = object (member (codes "file") (text_json file) (member (codes "message") (count_json k) rest))
 
 -- what the line of a yes has behind that
-abbrev pub yes_members : Report → List (List ℕ) → List Shown → Members
-yes_members report paths values =
+abbrev pub yes_members : Report → Members → Members
+yes_members report values =
     member (codes "ok") (boolean true)
     (member (codes "tables") (count_json report.tables)
     (member (codes "depth") (count_json report.depth)
-    (member (codes "reads") (count_json report.reads)
-    (values_member paths values))))
+    (member (codes "reads") (count_json report.reads) values)))
 
 -- the code of a reason, and its name
 abbrev pub code_length : Reason → ℕ
@@ -109,8 +147,11 @@ no_members_of rows fault place =
     (place_member place)))))))
 
 -- the lines of a yes and of a no on message number k
-abbrev pub json_yes : Option (List ℕ) → ℕ → Report → List (List ℕ) → List Shown → List ℕ
-json_yes file k report paths values = json_text (line_json file k (yes_members report paths values)) ++ codes "\n"
+abbrev pub json_yes : Option (List ℕ) → ℕ → Report → Members → List ℕ
+json_yes file k report values = json_text (line_json file k (yes_members report values)) ++ codes "\n"
+
+abbrev pub IsYes : Option (List ℕ) → ℕ → Report → List (List ℕ) → List Shown → List ℕ → Type 0
+IsYes file k report paths shown line = (values : Members) × IsValuesMember paths shown values × (line ≡ json_yes file k report values)
 
 abbrev pub json_no : Option (List ℕ) → ℕ → Rows → Fault → Option (List ℕ) → List ℕ
 json_no file k rows fault place = json_text (line_json file k (no_members_of rows fault place)) ++ codes "\n"

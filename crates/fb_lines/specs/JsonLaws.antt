@@ -1,20 +1,41 @@
 -- What a reader of JSON gets of a line.
-use Rattle.std.specs.Prelude.{◌≡◌, ℕ, ◌<◌, ◌^◌, List, [], Option, Some}
-use Rattle.json.specs.Json.{Json, document}
+use Rattle.std.specs.Prelude.{◌≡◌, ℕ, ◌<◌, ◌≤◌, ◌^◌, List, Option, Some, length, option_map, slice_index, to_bits, unsigned_abs, ⊤}
+use Rattle.std.specs.{Float.binary32, Float.binary64, List.AllByRecursion}
+use Rattle.json.specs.Json.{Json, Members, document, number}
+use Rattle.std.specs.Float.Parse.{parse_float}
+use Rattle.fb_bytes.specs.Word.{word}
 use Rattle.fb_schema.specs.Rows.{Rows}
 use Rattle.fb_rules.specs.declared.{fault.Fault.Fault, fault.Report.Report}
-use Rattle.fb_lines.specs.Json.{json_text, line_json, no_members_of, yes_members}
+use Rattle.fb_access.specs.Denotes.{Shown, signed, unsigned, vector, union}
+use Rattle.fb_lines.specs.Json.{IsFloat, IsValuesMember, json_text, line_json, no_members_of, yes_members}
 
 -- by the grammar of RFC 8259 the text of this value is that value
 abbrev pub ReadsBack : Json → Type 0
 ReadsBack value = document (json_text value) ≡ Some value
 
--- the line of a yes without values, where its numbers have at most 64 bits
+-- a value whose whole number, if it has one, has at most 64 bits
+abbrev pub HasFewBits : Shown → Type 0
+HasFewBits (signed z) = unsigned_abs z ≤ 2 ^ 63
+HasFewBits (unsigned n) = n < 2 ^ 64
+HasFewBits (vector count) = count < 2 ^ 64
+HasFewBits (union n) = n < 2 ^ 64
+HasFewBits _ = ⊤
+
+-- the line of a yes, where its numbers have at most 64 bits
 abbrev pub YesReadsBack : Type 0
-YesReadsBack = (file : Option (List ℕ)) (k : ℕ) (report : Report) → k < 2 ^ 64 → report.tables < 2 ^ 64 → report.depth < 2 ^ 64 → report.reads < 2 ^ 64
-    → ReadsBack (line_json file k (yes_members report [] []))
+YesReadsBack = (file : Option (List ℕ)) (k : ℕ) (report : Report) (paths : List (List ℕ)) (shown : List Shown) (values : Members)
+    → k < 2 ^ 64 → report.tables < 2 ^ 64 → report.depth < 2 ^ 64 → report.reads < 2 ^ 64 → AllByRecursion HasFewBits shown → IsValuesMember paths shown values
+    → ReadsBack (line_json file k (yes_members report values))
 
 -- and that of a no
 abbrev pub NoReadsBack : Type 0
 NoReadsBack = (file : Option (List ℕ)) (k : ℕ) (rows : Rows) (fault : Fault) (place : Option (List ℕ)) → k < 2 ^ 64 → fault.at < 2 ^ 64 → fault.reads < 2 ^ 64
     → ReadsBack (line_json file k (no_members_of rows fault place))
+
+-- the float that a reader makes of a number has the very bits of that which stood in the buffer
+pub record ReadsAs (bytes text : List ℕ) : Type 0 where
+  pub single : length bytes ≡ 4 → option_map (to_bits binary32) (parse_float binary32 text) ≡ Some (word bytes 0 4)
+  pub double : length bytes ≡ 8 → option_map (to_bits binary64) (parse_float binary64 text) ≡ Some (word bytes 0 8)
+
+abbrev pub FloatsReadBack : Type 0
+FloatsReadBack = (bytes text : List ℕ) → ((i : ℕ) → slice_index bytes i < 256) → IsFloat bytes (number text) → ReadsAs bytes text

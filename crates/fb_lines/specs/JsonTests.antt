@@ -1,11 +1,13 @@
 -- Lines of JSON by example.
 use Rattle.std.specs.Prelude.{◌≡◌, ℕ, List, [], ◌∷◌, map, pos, codes, Some, None}
+use Rattle.std.specs.List.{AllByRecursion}
+use Rattle.json.specs.Json.{Json, no_members}
 use Rattle.fb_schema.specs.Rows.{Rows}
 use Rattle.fb_rules.specs.Samples.{short, field, table as table_row}
 use Rattle.fb_rules.specs.declared.{fault.Fault.Fault, fault.Reason.TheVariants.Misaligned, fault.Reason.TheVariants.NoTerminator}
 use Rattle.fb_rules.specs.declared.fault.Report.{Report}
-use Rattle.fb_access.specs.Denotes.{signed, text}
-use Rattle.fb_lines.specs.Json.{json_no, json_text, json_yes, text_json, value_json}
+use Rattle.fb_access.specs.Denotes.{Shown, float, signed, text}
+use Rattle.fb_lines.specs.Json.{IsValue, IsYes, json_no, json_text, json_yes, text_json}
 use Rattle.fb_lines.specs.LineTests.{of_each_kind}
 
 -- one table, eight reads
@@ -20,18 +22,26 @@ abbrev pub unended : Fault
 unended = record { at = 314; object = 0; field = Some 0; reads = 63; reason = NoTerminator }
 
 pub record JsonLines : Type 0 where
-  pub yes : json_yes None 7 counts [] [] ≡ codes "{\"message\":7,\"ok\":true,\"tables\":1,\"depth\":1,\"reads\":8}\n"
-  pub values : json_yes None 1 counts (codes "hp" ∷ codes "name" ∷ []) (signed (pos 300) ∷ text (codes "Orc") ∷ [])
-      ≡ codes "{\"message\":1,\"ok\":true,\"tables\":1,\"depth\":1,\"reads\":8,\"values\":{\"hp\":300,\"name\":\"Orc\"}}\n"
-  pub of_a_file : json_yes (Some (codes "a b.bin")) 7 counts [] [] ≡ codes "{\"file\":\"a b.bin\",\"message\":7,\"ok\":true,\"tables\":1,\"depth\":1,\"reads\":8}\n"
+  pub yes : json_yes None 7 counts no_members ≡ codes "{\"message\":7,\"ok\":true,\"tables\":1,\"depth\":1,\"reads\":8}\n"
+  pub values : IsYes None 1 counts (codes "hp" ∷ codes "name" ∷ []) (signed (pos 300) ∷ text (codes "Orc") ∷ [])
+      (codes "{\"message\":1,\"ok\":true,\"tables\":1,\"depth\":1,\"reads\":8,\"values\":{\"hp\":300,\"name\":\"Orc\"}}\n")
+  pub of_a_file : json_yes (Some (codes "a b.bin")) 7 counts no_members ≡ codes "{\"file\":\"a b.bin\",\"message\":7,\"ok\":true,\"tables\":1,\"depth\":1,\"reads\":8}\n"
   pub no : json_no None 5 deliveries unended (Some (codes "items[1]@Note"))
       ≡ codes "{\"message\":5,\"ok\":false,\"code\":\"V10\",\"reason\":\"NoTerminator\",\"at\":314,\"object\":\"post.Delivery\",\"field\":\"items\",\"reads\":63,\"place\":\"items[1]@Note\"}\n"
   pub no_field : json_no None 100 deliveries (record unended { field = None; reason = Misaligned }) None
       ≡ codes "{\"message\":100,\"ok\":false,\"code\":\"V3\",\"reason\":\"Misaligned\",\"at\":314,\"object\":\"post.Delivery\",\"field\":null,\"reads\":63}\n"
 
--- values of each kind are told so
-abbrev pub JsonValues : Type 0
-JsonValues = map (λ row. json_text (value_json row.0)) of_each_kind ≡ map (λ row. row.2) of_each_kind
+-- a value may be told so
+abbrev pub IsText : Shown → List ℕ → Type 0
+IsText shown told = (value : Json) × IsValue shown value × (json_text value ≡ told)
+
+-- values of each kind; a zero with its sign, and what is no number
+pub record JsonValues : Type 0 where
+  pub kinds : AllByRecursion (λ row. IsText row.0 row.2) of_each_kind
+  pub negative_zero : IsText (float (0 ∷ 0 ∷ 0 ∷ 128 ∷ [])) (codes "-0.0")
+  pub none : IsText (float (0 ∷ 0 ∷ 192 ∷ 127 ∷ [])) (codes "\"NaN\"")
+  pub infinite : IsText (float (0 ∷ 0 ∷ 128 ∷ 127 ∷ [])) (codes "\"Infinity\"")
+  pub negative : IsText (float (0 ∷ 0 ∷ 0 ∷ 0 ∷ 0 ∷ 0 ∷ 240 ∷ 255 ∷ [])) (codes "\"-Infinity\"")
 
 -- what is escaped, and what beside it isn't; a letter of two bytes; a byte that no text has, one that lacks the next, a
 -- letter that is longer than it need be, and half of a pair

@@ -1,6 +1,6 @@
 -- The lines that tell verdicts.
 use Rattle.std.specs.Prelude.{◌≡◌, ℕ, List, [], ◌++◌, map, Option, Some, None, Ok, Err, codes, decimal}
-use Rattle.fb_lines.specs.{AnswerText.answers_text, AnswerText.label_text, Json.json_no, Json.json_yes, Wanted.Wanted}
+use Rattle.fb_lines.specs.{AnswerText.answers_text, AnswerText.label_text, Json.IsYes, Json.json_no, Wanted.Wanted}
 use Rattle.fb_lines.specs.Job.{Job, Verdict, IsVerdict, buffer_in}
 use Rattle.fb_lines.specs.declared.{options.Form.Form, options.Form.TheVariants.Plain, options.Form.TheVariants.Json, options.Mode.Mode}
 use Rattle.fb_lines.specs.declared.options.Mode.TheVariants.{Lines, BadLines, Filter}
@@ -49,28 +49,32 @@ abbrev pub verdict_line : ℕ → Verdict → List ℕ
 verdict_line k verdict = short_line k verdict ++ (asked_text verdict ++ codes "\n")
 
 -- the same as JSON
-abbrev pub json_line : Job → ℕ → Verdict → List ℕ
-json_line job k (Ok found) = json_yes job.label k found.report (map (λ (wanted : Wanted). wanted.text) job.paths) found.answers
-json_line job k (Err bad) = json_no job.label k job.rows bad.fault bad.place
+abbrev pub IsJsonLine : Job → ℕ → Verdict → List ℕ → Type 0
+IsJsonLine job k (Ok found) line = IsYes job.label k found.report (map (λ (wanted : Wanted). wanted.text) job.paths) found.answers line
+IsJsonLine job k (Err bad) line = line ≡ json_no job.label k job.rows bad.fault bad.place
 
 -- the line of the verdict on message number k, with the input's name where it has one: before it, or as JSON has it
-abbrev pub line_in : Form → Job → ℕ → Verdict → List ℕ
-line_in Plain job k verdict = label_text job.label ++ verdict_line k verdict
-line_in Json job k verdict = json_line job k verdict
+abbrev pub IsLineIn : Form → Job → ℕ → Verdict → List ℕ → Type 0
+IsLineIn Plain job k verdict line = line ≡ label_text job.label ++ verdict_line k verdict
+IsLineIn Json job k verdict line = IsJsonLine job k verdict line
 
-abbrev pub line_of : Job → ℕ → Verdict → List ℕ
-line_of job k verdict = line_in job.form job k verdict
+abbrev pub IsLine : Job → ℕ → Verdict → List ℕ → Type 0
+IsLine job = IsLineIn job.form job
+
+-- a line that goes there
+abbrev pub TellsLine : (List ℕ → Type 0) → (List ℕ → Texts) → Texts → Type 0
+TellsLine IsItsLine there told = (line : List ℕ) × IsItsLine line × (told ≡ there line)
 
 -- what is told of a message by its verdict: the line of each, that of each bad message alone, or the good message itself
 -- and, in the notes, the line of a bad one
-abbrev pub told_of : Mode → List ℕ → List ℕ → Verdict → Texts
-told_of Lines line message verdict = to_out line
-told_of BadLines line message (Ok found) = silent
-told_of BadLines line message (Err bad) = to_out line
-told_of Filter line message (Ok found) = to_out message
-told_of Filter line message (Err bad) = to_notes line
+abbrev pub ToldBy : Mode → (List ℕ → Type 0) → List ℕ → Verdict → Texts → Type 0
+ToldBy Lines IsItsLine message verdict told = TellsLine IsItsLine to_out told
+ToldBy BadLines IsItsLine message (Ok found) told = told ≡ silent
+ToldBy BadLines IsItsLine message (Err bad) told = TellsLine IsItsLine to_out told
+ToldBy Filter IsItsLine message (Ok found) told = told ≡ to_out message
+ToldBy Filter IsItsLine message (Err bad) told = TellsLine IsItsLine to_notes told
 
 -- what is told of the message with number k, by the verdict on the buffer in it
-pub record IsTold (job : Job) (k : ℕ) (bytes : List ℕ) (verdict : Verdict) (line : Texts) : Type 0 where
+pub record IsTold (job : Job) (k : ℕ) (bytes : List ℕ) (verdict : Verdict) (told : Texts) : Type 0 where
   pub verdict_is : IsVerdict job (buffer_in job bytes) verdict
-  pub text : line ≡ told_of job.mode (line_of job k verdict) bytes verdict
+  pub text : ToldBy job.mode (IsLine job k verdict) bytes verdict told

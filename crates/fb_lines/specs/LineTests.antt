@@ -28,8 +28,8 @@ of_each_kind =
     ∷ (other_member, codes "other-member", codes "{\"absent\":\"other-member\"}")
     ∷ (truth true, codes "true", codes "true") ∷ (truth false, codes "false", codes "false") ∷ (unsigned 65535, codes "65535", codes "65535")
     ∷ (signed (negsuc 299), codes "-300", codes "-300") ∷ (signed (pos 40), codes "40", codes "40")
-    ∷ (float (0 ∷ 0 ∷ 128 ∷ 63 ∷ []), codes "float:0000803f", codes "{\"float\":\"0000803f\"}")
-    ∷ (float (0 ∷ 0 ∷ 192 ∷ 63 ∷ []), codes "float:0000c03f", codes "{\"float\":\"0000c03f\"}")
+    ∷ (float (0 ∷ 0 ∷ 128 ∷ 63 ∷ []), codes "float:0000803f", codes "1.0")
+    ∷ (float (0 ∷ 0 ∷ 192 ∷ 63 ∷ []), codes "float:0000c03f", codes "1.5")
     ∷ (structure (1 ∷ 171 ∷ []), codes "struct:01ab", codes "{\"struct\":\"01ab\"}")
     ∷ (vector 3, codes "vector:3", codes "{\"vector\":3}") ∷ (table, codes "table", codes "{\"table\":true}") ∷ (union 2, codes "union:2", codes "{\"union\":2}") ∷ []
 

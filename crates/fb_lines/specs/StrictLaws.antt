@@ -1,5 +1,5 @@
 -- The law of a strict job.
-use Rattle.std.specs.Prelude.{◌≡◌, ℕ, ◌≤◌, List, None, Ok}
+use Rattle.std.specs.Prelude.{ℕ, ◌≤◌, List, None, Ok}
 use Rattle.fb_rules.specs.declared.fault.Report.{Report}
 use Rattle.fb_lines.specs.Job.{IsVerdict, Job, Yes}
 

@@ -7,7 +7,7 @@ ghost use Rattle.fb_lines.specs.declared.checker.Course.TheVariants.{Brief, Brie
 ghost use Rattle.fb_lines.specs.Job.{AreAnswers, HasRoom, IsChecked, IsVerdict, PathsFit, Serves, Verdict, VerifiesBy, asked_of, brief_verdict, buffer_in, course_by, course_of, is_brief, job_of, limits_for, place_told, skip_of, start_of, verdict_beside, verdict_of};
 ghost use Rattle.fb_strict.specs.AsAsked.{StopsBy, StopsAlongBy};
 ghost use Rattle.fb_schema.specs.Rows.{Rows};
-ghost use Rattle.fb_lines.specs.Line.{json_line};
+ghost use Rattle.fb_lines.specs.{Line.IsJsonLine, Lines.AddsText};
 
 use crate::answers::{Answers, MOST_PATHS};
 use crate::json_line::{put_no, put_yes};
@@ -143,7 +143,7 @@ impl<'s, 'n, 'o> Checker<'s, 'n, 'o> {
         number: u64,
         verdict: &Result<Found<'_>, Wrong<'_>>,
     ) -> Result<(), AllocError>
-        ensures { OnOk result (text.new.items ≡ text.old.items ++ json_line self.now number (verdict_of verdict.now)) }
+        ensures { OnOk result (AddsText (IsJsonLine self.now number (verdict_of verdict.now)) text.old.items text.new.items) }
     {
         let Options { label, paths, .. } = self.options;
         match verdict {

@@ -2,18 +2,21 @@
 
 ghost use Rattle.std.specs.Prelude.{OnOk, Some, false, if◌then◌else◌, codes, [], ◌≡◌, ◌<◌, ◌≤◌, ◌++◌, length, map, option_map, take};
 ghost use Rattle.std.specs.Char.{digit_char};
-ghost use Rattle.json.specs.{Json.number, Json.string, Print.escape, Print.escape_byte, Print.escape_letter};
+ghost use Rattle.json.specs.{Json.Json, Json.Members, Json.number, Json.string, Print.escape, Print.escape_byte, Print.escape_letter};
 ghost use Rattle.fb_access.specs.Denotes.{shown};
-ghost use Rattle.fb_lines.specs.Json.{begin_part, code_of, counts_part, digits_json, end_part, following, json_no, json_text, json_yes, labelled};
-ghost use Rattle.fb_lines.specs.Json.{member_part, members_text, name_json, name_of, names_part, place_member, reason_part, text_json, value_json, values_member, values_members};
+ghost use Rattle.fb_lines.specs.Json.{AreValues, IsReal, IsValue, IsValuesMember, IsYes, begin_part, code_of, counts_part, digits_json, end_part, following, json_no, json_text, labelled};
+ghost use Rattle.fb_lines.specs.Json.{member_part, members_text, most_digits, most_zeros, name_json, name_of, names_part, place_member, reason_part, text_json, value_json};
+ghost use Rattle.fb_lines.specs.Lines.{AddsText};
 
 use crate::options::AskedPath;
 use crate::tally::count_place;
 use crate::value_text::{put_hex, put_number};
+use byteorder::{ByteOrder, LittleEndian};
 use fb_access::{Answer, field_of, object_name};
 use fb_schema::Schema;
 use fb_verify::{Fault, Reason, Report};
 use itoa::Integer;
+use ryu::{Buffer, Float};
 use std::alloc::{AllocError, Allocator};
 
 /// Adds the line of a yes on message number `number`, with the values of some paths by the texts of these.
@@ -25,8 +28,8 @@ pub fn put_yes<A: Allocator>(
     paths: &[AskedPath],
     answers: &[Answer<'_>],
 ) -> Result<(), AllocError>
-    ensures { OnOk result (text.new.items ≡ text.old.items ++ json_yes (option_map (λ f. f.items) file.now) number report.now
-        (map (λ p. p.text) paths.now) (map shown answers.now)) }
+    ensures { OnOk result (AddsText (IsYes (option_map (λ f. f.items) file.now) number report.now
+        (map (λ p. p.text) paths.now) (map shown answers.now)) text.old.items text.new.items) }
 {
     put_begin(text, file, number)?;
     put_counts(text, report)?;
@@ -40,7 +43,8 @@ fn put_values_member<A: Allocator>(
     paths: &[AskedPath],
     answers: &[Answer<'_>],
 ) -> Result<(), AllocError>
-    ensures { OnOk result (text.new.items ≡ text.old.items ++ following (values_member (map (λ p. p.text) paths.now) (map shown answers.now))) }
+    ensures { OnOk result ((values : Members) × IsValuesMember (map (λ p. p.text) paths.now) (map shown answers.now) values
+        × (text.new.items ≡ text.old.items ++ following values)) }
 {
     if paths.is_empty() {
         return put(text, b"}");
@@ -56,7 +60,8 @@ fn put_values<A: Allocator>(
     paths: &[AskedPath],
     answers: &[Answer<'_>],
 ) -> Result<(), AllocError>
-    ensures { OnOk result (text.new.items ≡ text.old.items ++ members_text false (values_members (map (λ p. p.text) paths.now) (map shown answers.now))) }
+    ensures { OnOk result ((values : Members) × AreValues (map (λ p. p.text) paths.now) (map shown answers.now) values
+        × (text.new.items ≡ text.old.items ++ members_text false values)) }
 {
     for index in 0..paths.len().min(answers.len()) {
         put_member(text, index > 0, paths[index].text(), &answers[index])?;
@@ -65,14 +70,13 @@ fn put_values<A: Allocator>(
 }
 
 /// Adds a value by the text of its path, behind another one or as the first.
-#[tactic(auto, using(std::proofs::Common::append_assoc))]
 fn put_member<A: Allocator>(
     text: &mut Vec<u8, A>,
     behind: bool,
     path: &[u8],
     answer: &Answer<'_>,
 ) -> Result<(), AllocError>
-    ensures { OnOk result (text.new.items ≡ text.old.items ++ member_part behind path.now (value_json (shown answer.now))) }
+    ensures { OnOk result ((value : Json) × IsValue (shown answer.now) value × (text.new.items ≡ text.old.items ++ member_part behind path.now value)) }
 {
     put_comma(text, behind)?;
     put_string(text, path)?;
@@ -209,8 +213,42 @@ fn put_comma<A: Allocator>(text: &mut Vec<u8, A>, behind: bool) -> Result<(), Al
 }
 
 /// Adds a value at the end of a path.
-#[tactic(auto, using(crate::proofs::JsonLemmas::fixed_texts, crate::proofs::JsonLemmas::number_text))]
 pub fn put_value<A: Allocator>(text: &mut Vec<u8, A>, answer: &Answer<'_>) -> Result<(), AllocError>
+    ensures { OnOk result ((value : Json) × IsValue (shown answer.now) value × (text.new.items ≡ text.old.items ++ json_text value)) }
+{
+    let Answer::Float(bytes) = answer else {
+        return put_as_is(text, answer);
+    };
+    match bytes.len() {
+        4 => put_real(text, LittleEndian::read_f32(bytes)),
+        8 => put_real(text, LittleEndian::read_f64(bytes)),
+        _ => put_as_is(text, answer),
+    }
+}
+
+/// Adds a float: a number that reads as it, and a word where it is no number.
+fn put_real<A: Allocator, F: Float>(text: &mut Vec<u8, A>, real: F) -> Result<(), AllocError>
+    requires digits { F.WHOLE_DIGITS ≡ most_digits F.format }
+    requires zeros { F.LEADING_ZEROS ≡ most_zeros F.format }
+    ensures { OnOk result ((value : Json) × IsReal F.format (F.value real) value × (text.new.items ≡ text.old.items ++ json_text value)) }
+{
+    let mut buffer = Buffer::new();
+    let numeral = buffer.format(real);
+    if numeral == "NaN" {
+        return put(text, b"\"NaN\"");
+    }
+    if numeral == "inf" {
+        return put(text, b"\"Infinity\"");
+    }
+    if numeral == "-inf" {
+        return put(text, b"\"-Infinity\"");
+    }
+    put(text, numeral.as_bytes())
+}
+
+/// Adds a value that has one text.
+#[tactic(auto, using(crate::proofs::JsonLemmas::fixed_texts, crate::proofs::JsonLemmas::number_text))]
+fn put_as_is<A: Allocator>(text: &mut Vec<u8, A>, answer: &Answer<'_>) -> Result<(), AllocError>
     ensures { OnOk result (text.new.items ≡ text.old.items ++ json_text (value_json (shown answer.now))) }
 {
     match answer {

@@ -3,9 +3,9 @@
 ghost use Rattle.std.specs.Prelude.{All, IfSome, true, ◌≡◌, ◌+◌, ◌*◌, ◌<◌, ◌≤◌, ◌^◌, ◌++◌, ℕ, List, codes, length};
 ghost use Rattle.std.specs.List.{flat_map};
 ghost use Rattle.hex.specs.Hex.{encode_lower};
-ghost use Rattle.fb_lines.specs.declared.options.Form.TheVariants.{Plain};
+ghost use Rattle.fb_lines.specs.declared.{options.Form.TheVariants.Plain, options.Mode.TheVariants.Lines};
 ghost use Rattle.fb_lines.specs.AnswerText.{lent, quoted, spaced_answer, spelled};
-ghost use Rattle.fb_lines.specs.{Job.verdict_of, Line.short_line, Line.told_of, Line.verdict_line, Texts.to_out};
+ghost use Rattle.fb_lines.specs.{Job.verdict_of, Line.short_line, Line.verdict_line};
 ghost use Rattle.fb_lines.specs.Puts.{IsUnder, PutsBy, queue_of};
 
 use crate::checker::{Found, Wrong};
@@ -22,15 +22,16 @@ const TOO_MANY: usize = 1 << 40;
 
 /// The values that the line of this verdict ends with, where it is a plain one that is told to the writer, and one of
 /// them has more than 65,536 bytes.
-#[tactic(auto, using(crate::proofs::LongLemmas::told_with))]
+#[tactic(auto, using(crate::proofs::LongLemmas::line_with))]
 pub fn long_answers<'v, 'b>(
     form: Form,
     mode: Mode,
     verdict: &'v Result<Found<'b>, Wrong<'_>>,
 ) -> Option<&'v [Answer<'b>]>
     ensures plain { IfSome result (λ _. form ≡ Plain) }
-    ensures told { IfSome result (λ answers. (begin : List ℕ) (number : ℕ) (message : List ℕ) → told_of mode (begin ++ verdict_line number (verdict_of verdict.now)) message (verdict_of verdict.now)
-        ≡ to_out (begin ++ (short_line number (verdict_of verdict.now) ++ (flat_map spaced_answer answers.now ++ codes "\n")))) }
+    ensures lines { IfSome result (λ _. mode ≡ Lines) }
+    ensures line { IfSome result (λ answers. (number : ℕ) → verdict_line number (verdict_of verdict.now)
+        ≡ short_line number (verdict_of verdict.now) ++ (flat_map spaced_answer answers.now ++ codes "\n")) }
     ensures few { IfSome result (λ answers. length answers.now ≤ 16) }
     ensures short { IfSome result (λ answers. All (λ answer. length (lent answer) < 2 ^ 40) answers.now) }
 {

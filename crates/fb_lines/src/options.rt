@@ -95,7 +95,7 @@ pub struct Options {
     pub paths: Vec<AskedPath>,
     /// The limits of each buffer: depth, tables, and counted reads, where these have a budget.
     pub limits: Limits,
-    /// How many counted reads each byte of a buffer allows, beside 4,096 for the whole buffer.
+    /// How many counted reads a buffer may take for each of its bytes, and for 64 more.
     pub reads_per_byte: u32,
     /// The longest message, prefix included, or the longest bare input: 8 to 2,147,483,647 bytes.
     pub max_bytes: u32,

@@ -3,9 +3,9 @@
 ghost use Rattle.std.specs.Prelude.{Err, IfErr, IsTrue, Ok, OnOk, OnErr, ◌≡◌, ◌⊎◌, ◌+◌, ◌<◌, ◌≤◌, ◌^◌, ◌++◌, length, true, false};
 ghost use Rattle.fb_lines.specs.Ends.{GrowsBy, IsBelow, Takes, load_of, outs_of, writer_of};
 ghost use Rattle.fb_lines.specs.{Faults.IsCausedOut, Faults.IsCausedWriting, Faults.IsUnfailedOut, AnswerText.label_text};
-ghost use Rattle.fb_lines.specs.{Line.line_of, Line.told_of, Line.verdict_line, Sums.count_of, Sums.no_tally};
+ghost use Rattle.fb_lines.specs.{Line.IsLine, Line.verdict_line, Sums.count_of, Sums.no_tally, Sums.tally_with};
 ghost use Rattle.fb_lines.specs.Job.{HasRoom, brief_verdict, is_brief, verdict_of};
-ghost use Rattle.fb_lines.specs.Lines.{Adds, AddsThrough, AddsTold, ComesBehind, StopsBehind, StopsIn, WritesFronts};
+ghost use Rattle.fb_lines.specs.Lines.{AddsBy, AddsText, AddsThrough, AddsThroughBy, AddsTold, StopsBehind, StopsIn, WritesFronts};
 ghost use Rattle.fb_lines.specs.Texts.{silent, size, waiting, written_by};
 
 use crate::checker::{Checker, Course, Found, Wrong};
@@ -56,6 +56,7 @@ impl<'a, A: Allocator> Output<&'a A> {
 
 impl<A: Allocator> Output<A> {
     /// Adds what is told of the next message, and counts its verdict. Where memory is refused, nothing is told of it.
+    #[tactic(auto, using(crate::proofs::ToldLemmas::briefly_told, crate::proofs::ToldLemmas::told_so))]
     #[inline(always)]
     pub fn add<B: Allocator>(
         &mut self,
@@ -85,6 +86,7 @@ impl<A: Allocator> Output<A> {
     }
 
     /// Adds what is told of the next message, where there is a plan or more is asked, and counts its verdict.
+    #[tactic(auto, using(crate::proofs::ToldLemmas::briefly_told, crate::proofs::ToldLemmas::told_so))]
     #[inline(never)]
     fn add_otherwise<B: Allocator>(
         &mut self,
@@ -114,12 +116,13 @@ impl<A: Allocator> Output<A> {
     }
 
     /// Adds what the mode tells of the next message with this report, where no more is asked, and counts it.
+    #[tactic(auto, using(crate::proofs::ToldLemmas::line_told, crate::proofs::ToldLemmas::none_told, crate::proofs::ToldLemmas::message_told))]
     #[inline(always)]
     fn add_yes(&mut self, mode: Mode, message: &[u8], report: &Report) -> Result<(), AllocError>
         requires few { count_of self.old.counter < 2 ^ 63 }
         requires short { length message.now < 2 ^ 31 }
-        ensures ok { OnOk result (Adds mode (verdict_line (1 + count_of self.old.counter) (brief_verdict (Ok report.now))) message.now (brief_verdict (Ok report.now))
-            (waiting self.old) self.old.counter (waiting self.new) self.new.counter) }
+        ensures ok { OnOk result (AddsBy mode (λ line. line ≡ verdict_line (1 + count_of self.old.counter) (brief_verdict (Ok report.now))) message.now (brief_verdict (Ok report.now))
+            (waiting self.old) (waiting self.new) × (self.new.counter ≡ tally_with message.now (brief_verdict (Ok report.now)) self.old.counter)) }
         ensures err_text { OnErr result (waiting self.new ≡ waiting self.old) }
         ensures err_counted { OnErr result (self.new.counter ≡ self.old.counter) }
         ensures written { self.new.out.written ≡ self.old.out.written }
@@ -148,8 +151,8 @@ impl<A: Allocator> Output<A> {
         requires brief { IsTrue (is_brief checker.now) }
         requires few { count_of self.old.counter < 2 ^ 63 }
         requires short { length message.now < 2 ^ 31 }
-        ensures ok { OnOk result (Adds checker.now.mode (verdict_line (1 + count_of self.old.counter) (brief_verdict (Err fault))) message.now (brief_verdict (Err fault))
-            (waiting self.old) self.old.counter (waiting self.new) self.new.counter) }
+        ensures ok { OnOk result (AddsBy checker.now.mode (IsLine checker.now (1 + count_of self.old.counter) (brief_verdict (Err fault))) message.now (brief_verdict (Err fault))
+            (waiting self.old) (waiting self.new) × (self.new.counter ≡ tally_with message.now (brief_verdict (Err fault)) self.old.counter)) }
         ensures err_text { OnErr result (waiting self.new ≡ waiting self.old) }
         ensures err_counted { OnErr result (self.new.counter ≡ self.old.counter) }
         ensures written { self.new.out.written ≡ self.old.out.written }
@@ -163,6 +166,7 @@ impl<A: Allocator> Output<A> {
     }
 
     /// Adds what is told of the next message, also where a value or words are asked for, and counts its verdict.
+    #[tactic(auto, using(crate::proofs::ToldLemmas::adds_told))]
     fn add_at_length<B: Allocator>(
         &mut self,
         checker: &Checker<'_, '_, '_>,
@@ -192,6 +196,7 @@ impl<A: Allocator> Output<A> {
     /// Adds what is told of the next message, and counts its verdict. Where its line ends with a long value, the line
     /// is written while it is made, and takes no memory; where that can't be written, the verdict is counted too. Where
     /// memory is refused, nothing is told of the message, nor is it counted.
+    #[tactic(auto, using(crate::proofs::ToldLemmas::through_told, crate::proofs::ToldLemmas::stops_told))]
     pub fn add_through<B: Allocator, K: Sink>(
         &mut self,
         checker: &Checker<'_, '_, '_>,
@@ -242,10 +247,9 @@ impl<A: Allocator> Output<A> {
         requires begin { begin.now ≡ label_text checker.now.label }
         requires writes { K.calls writer.old < 2 ^ 99 + 2 ^ 97 }
         requires written { self.old.out.written < 2 ^ 99 + 2 ^ 97 }
-        ensures ok { OnOk result (ComesBehind (waiting self.old).out (told_of checker.now.mode (line_of checker.now number (verdict_of verdict.now)) message.now (verdict_of verdict.now)).out
-            (waiting self.new).out (K.contents writer.old) (K.contents writer.new) self.old.out.written self.new.out.written) }
-        ensures notes { OnOk result ((waiting self.new).notes ≡ (waiting self.old).notes ++ (told_of checker.now.mode (line_of checker.now number (verdict_of verdict.now)) message.now (verdict_of verdict.now)).notes) }
-        ensures err { IfErr result (λ fault. StopsIn ((waiting self.old).out ++ (told_of checker.now.mode (line_of checker.now number (verdict_of verdict.now)) message.now (verdict_of verdict.now)).out)
+        ensures ok { OnOk result (AddsThroughBy checker.now number message.now (verdict_of verdict.now) (waiting self.old) (waiting self.new)
+            (K.contents writer.old) (K.contents writer.new) self.old.out.written self.new.out.written) }
+        ensures err { IfErr result (λ fault. StopsIn checker.now number message.now (verdict_of verdict.now) (waiting self.old).out
             (K.contents writer.old) (K.contents writer.new) self.old.out.written fault) }
         ensures failed { IfErr result (IsCausedWriting (writer_of K.Sink writer.old) (writer_of K.Sink writer.new)) }
         ensures unfailed { OnOk result (K.failures writer.new ≡ K.failures writer.old) }
@@ -266,7 +270,7 @@ impl<A: Allocator> Output<A> {
     }
 
     /// The same in memory.
-    #[tactic(auto, using(std::proofs::lemmas::Grind::common_steps))]
+    #[tactic(auto, using(std::proofs::lemmas::Grind::common_steps, crate::proofs::ToldLemmas::line_put, crate::proofs::ToldLemmas::bad_line_put, crate::proofs::ToldLemmas::bad_line_noted, crate::proofs::ToldLemmas::none_passed, crate::proofs::ToldLemmas::message_passed))]
     fn tell(
         &mut self,
         checker: &Checker<'_, '_, '_>,
@@ -276,8 +280,8 @@ impl<A: Allocator> Output<A> {
         verdict: &Result<Found<'_>, Wrong<'_>>,
     ) -> Result<(), AllocError>
         requires begin { begin.now ≡ label_text checker.now.label }
-        ensures out { OnOk result ((waiting self.new).out ≡ (waiting self.old).out ++ (told_of checker.now.mode (line_of checker.now number (verdict_of verdict.now)) message.now (verdict_of verdict.now)).out) }
-        ensures notes { OnOk result ((waiting self.new).notes ≡ (waiting self.old).notes ++ (told_of checker.now.mode (line_of checker.now number (verdict_of verdict.now)) message.now (verdict_of verdict.now)).notes) }
+        ensures ok { OnOk result (AddsBy checker.now.mode (IsLine checker.now number (verdict_of verdict.now)) message.now (verdict_of verdict.now)
+            (waiting self.old) (waiting self.new)) }
         ensures err_text { OnErr result (waiting self.new ≡ waiting self.old) }
         ensures counted { self.new.counter ≡ self.old.counter }
         ensures written { self.new.out.written ≡ self.old.out.written }
@@ -305,7 +309,7 @@ impl<A: Allocator> Output<A> {
         verdict: &Result<Found<'_>, Wrong<'_>>,
     ) -> Result<(), AllocError>
         requires begin { begin.now ≡ label_text checker.now.label }
-        ensures ok { OnOk result (self.new.out.bytes.items ≡ self.old.out.bytes.items ++ line_of checker.now number (verdict_of verdict.now)) }
+        ensures ok { OnOk result (AddsText (IsLine checker.now number (verdict_of verdict.now)) self.old.out.bytes.items self.new.out.bytes.items) }
         ensures err_text { OnErr result (self.new.out.bytes.items ≡ self.old.out.bytes.items) }
         ensures notes { self.new.notes ≡ self.old.notes }
         ensures counted { self.new.counter ≡ self.old.counter }
@@ -324,7 +328,7 @@ impl<A: Allocator> Output<A> {
         verdict: &Result<Found<'_>, Wrong<'_>>,
     ) -> Result<(), AllocError>
         requires begin { begin.now ≡ label_text checker.now.label }
-        ensures ok { OnOk result (self.new.notes.bytes.items ≡ self.old.notes.bytes.items ++ line_of checker.now number (verdict_of verdict.now)) }
+        ensures ok { OnOk result (AddsText (IsLine checker.now number (verdict_of verdict.now)) self.old.notes.bytes.items self.new.notes.bytes.items) }
         ensures err_text { OnErr result (self.new.notes.bytes.items ≡ self.old.notes.bytes.items) }
         ensures out { self.new.out ≡ self.old.out }
         ensures counted { self.new.counter ≡ self.old.counter }
@@ -343,7 +347,7 @@ impl<A: Allocator> Output<A> {
         verdict: &Result<Found<'_>, Wrong<'_>>,
     ) -> Result<(), AllocError>
         requires begin { begin.now ≡ label_text checker.now.label }
-        ensures line { OnOk result (self.new.made.items ≡ line_of checker.now number (verdict_of verdict.now)) }
+        ensures line { OnOk result (IsLine checker.now number (verdict_of verdict.now) self.new.made.items) }
         ensures out { self.new.out ≡ self.old.out }
         ensures notes { self.new.notes ≡ self.old.notes }
         ensures counted { self.new.counter ≡ self.old.counter }

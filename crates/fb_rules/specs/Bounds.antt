@@ -31,9 +31,9 @@ most_of (Some most) = most
 abbrev pub budget_of : ℕ → Option ℕ
 budget_of most = if nat_lt most 18446744073709551616 then Some most else None
 
--- how many reads a buffer of so many bytes may take: so many a byte, and 4,096 beside
+-- how many reads a buffer of so many bytes may take: so many for each of them and for 64 more
 abbrev pub reads_of_length : ℕ → ℕ → ℕ
-reads_of_length per_byte len = per_byte * len + 4096
+reads_of_length per_byte len = per_byte * (len + 64)
 
 -- the lesser of a budget, if there is one, and this one
 abbrev pub lesser_budget : Option ℕ → ℕ → ℕ

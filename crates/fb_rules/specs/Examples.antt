@@ -136,6 +136,7 @@ pub record BudgetsByLength : Type 0 where
   pub of_32 : limits_of_length (with_reads 100000000) 64 32 ≡ with_reads 6144
   pub of_2_mebibytes : limits_of_length (with_reads 100000000) 64 2097152 ≡ with_reads 100000000
   pub unbounded : limits_of_length published_limits 64 32 ≡ with_reads 6144
-  pub no_read_a_byte : limits_of_length published_limits 0 32 ≡ with_reads 4096
+  pub two_a_byte : limits_of_length published_limits 2 32 ≡ with_reads 192
+  pub no_read_a_byte : limits_of_length published_limits 0 32 ≡ with_reads 0
   pub too_many_of_32 : AreTooMany (limits_of_length published_limits 64 32).reads 7000
   pub allowed_of_64 : AreAllowed (limits_of_length published_limits 64 64).reads 7000

@@ -109,4 +109,4 @@ ReadsAreBounded = (q : Question) (b : List ℕ) (f : Fault) → Stops q b f → 
 
 -- by the limits of a length so many reads are allowed exactly where the limits allow them, and the length does
 abbrev pub LengthAllows : Type 0
-LengthAllows = (L : Bounds) (per_byte len n : ℕ) → AreAllowed (limits_of_length L per_byte len).reads n ↔ (AreAllowed L.reads n × (n ≤ per_byte * len + 4096))
+LengthAllows = (L : Bounds) (per_byte len n : ℕ) → AreAllowed (limits_of_length L per_byte len).reads n ↔ (AreAllowed L.reads n × (n ≤ per_byte * (len + 64)))

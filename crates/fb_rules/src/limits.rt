@@ -8,8 +8,8 @@ use std::marker::Model;
 /// The greatest depth limit.
 const DEEPEST: u32 = 4096;
 
-/// How many reads a buffer may take beside those that its length allows.
-const FREE_READS: u64 = 4096;
+/// How many bytes count beside a buffer's own, for the reads that its length allows.
+const FREE_BYTES: u64 = 64;
 
 /// More reads than any walk counts. In place of a budget, so that with and without one a walk makes the same test.
 const NO_BUDGET: u128 = u128::MAX;
@@ -99,13 +99,13 @@ impl Limits {
     }
 
     /// These limits for one buffer of so many bytes, which may take no more than `reads_per_byte` counted reads for
-    /// each of them and 4,096 beside. What a builder writes is read about once, and only what is shared is read again,
+    /// each of them and for 64 more. What a builder writes is read about once, and only what is shared is read again,
     /// so a short buffer can't ask for the time of a long one.
     pub fn of_length(self, reads_per_byte: u32, length: u64) -> Self
         requires short { length < 2 ^ 31 }
         ensures { result ≡ limits_of_length self reads_per_byte length }
     {
-        let fair = u64::from(reads_per_byte) * length + FREE_READS;
+        let fair = u64::from(reads_per_byte) * (length + FREE_BYTES);
         Limits {
             most: self.most.min(u128::from(fair)),
             short: self.short.min(fair),

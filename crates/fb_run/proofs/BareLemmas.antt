@@ -48,13 +48,13 @@ module _ (job : Job) (bytes : List ℕ) (before after : Ends) (read : Consumes b
         tally_is = adds.tally_is;
       }
 
-module _ {job : Job} {bytes : List ℕ} {first last : Reader} (a : Outs) (writer : Writer) {tally : Tally} (turns : ℕ) (whole : ReadsWhole job.limit first last bytes) where
+module _ (job : Job) {bytes : List ℕ} {first last : Reader} (a : Outs) (writer : Writer) {tally : Tally} (turns : ℕ) (whole : ReadsWhole job.limit first last bytes) where
   -- what is told of it came to rest
   fails_told : (fault : RunFault) → StopsBehind job 1 bytes silent no_tally tally a.writer.bytes writer.bytes 0 fault → FailsBare job (beside first a) (beside last (record a { writer = writer })) tally fault
-  fails_told run.OutOfMemory (verdict, line, is, keeps, counted) = (bytes, whole.read, (whole.within, ((keeps, Keeps-refl a.notes.bytes), counted)))
-  fails_told (run.WriteFault written) (verdict, line, is, front, counted) =
-      (bytes, whole.read, (whole.within, record { verdict = verdict; line = line; is_line = is; wrote = (front, Keeps-refl a.notes.bytes); tally_is = counted }))
-  fails_told _ (verdict, line, is, never, counted) = absurd never
+  fails_told run.OutOfMemory (verdict, is, keeps, counted) = (bytes, whole.read, (whole.within, ((keeps, Keeps-refl a.notes.bytes), counted)))
+  fails_told (run.WriteFault written) (verdict, is, (line, told, front), counted) =
+      (bytes, whole.read, (whole.within, record { verdict = verdict; line = line; is_line = record { verdict_is = is; text = told }; wrote = (front, Keeps-refl a.notes.bytes); tally_is = counted }))
+  fails_told _ (verdict, is, never, counted) = absurd never
 
   pub runs_stopped : (fault : RunFault) → StopsBehind job 1 bytes silent no_tally tally a.writer.bytes writer.bytes 0 fault → IsCausedWriting a.writer writer fault
       → IsBareRun job (beside first a) (beside last (record a { writer = writer })) tally (Err fault) × EndsBeside (beside first a) (beside last (record a { writer = writer })) turns (Err fault)

@@ -49,14 +49,14 @@ feed_caused a b _ kind unfailed reads left ended = absurd kind
 pub through_stops : (job : Job) (before : Standing) (old new : Framing) (piece message : List ℕ) (used : ℕ) (whole : Bool) (tally' : Tally) (s s' : Option (List ℕ)) (fault : RunFault)
     → before.text ≡ silent → old.limit ≡ job.limit → old.held ≡ before.held → Feeds old new piece used whole → message ≡ new.held → IsMessage new.limit new.held
     → StopsBehind job (1 + (before.tally.yes + before.tally.no)) message before.text before.tally tally' s s' before.written.out fault → HaltsThrough job before piece tally' s s' fault
-through_stops job before old new piece message used whole tally' s s' run.OutOfMemory none limit held feeds at is (verdict, line, told, keeps, counted) =
+through_stops job before old new piece message used whole tally' s s' run.OutOfMemory none limit held feeds at is (verdict, is_verdict, keeps, counted) =
     (halts_memory job before piece silent tally' (sym none) counted, keeps)
-through_stops job before old new piece message used whole tally' s s' (run.WriteFault written) none limit held feeds at is (verdict, line, told, within, counted) =
+through_stops job before old new piece message used whole tally' s s' (run.WriteFault written) none limit held feeds at is (verdict, is_verdict, (line, told, within), counted) =
     let after : Standing = record { text = line; tally = tally'; held = []; written = before.written } in
     let adds : AddsTold job (1 + (before.tally.yes + before.tally.no)) message before.text before.tally line tally' = record {
       verdict = verdict;
       line = line;
-      is_line = told;
+      is_line = record { verdict_is = is_verdict; text = told };
       out_is = ap (λ (t : Texts). t.out ++ line.out) (sym none);
       notes_are = ap (λ (t : Texts). t.notes ++ line.notes) (sym none);
       tally_is = counted;
@@ -65,7 +65,7 @@ through_stops job before old new piece message used whole tally' s s' (run.Write
       gathers_front job before after used piece (onward_line job before after old new piece message used whole limit held feeds at is refl adds),
       subst (λ (t : Texts). WritesFront (t.out ++ line.out) s s' before.written.out written) none within,
     )
-through_stops job before old new piece message used whole tally' s s' _ none limit held feeds at is (verdict, line, told, never, counted) = absurd never
+through_stops job before old new piece message used whole tally' s s' _ none limit held feeds at is (verdict, is_verdict, never, counted) = absurd never
 
 -- the message that was held was passed, with nothing noted
 pub passes_held : {job : Job} {piece : List ℕ} {before : Carry} {stand : Standing} {framer : Framing} {room : Beside} {writer : Writer} {calls : ℕ} (used : ℕ) (rest : List ℕ)

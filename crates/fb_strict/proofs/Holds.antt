@@ -1,5 +1,5 @@
 -- What marks say that the bytes of fields hold.
-use Rattle.std.proofs.Common.{◌≡◌, ℕ, zero, suc, ◌+◌, ◌-◌, ◌<◌, List, [], ◌∷◌, ◌++◌, length, map, get_or, take, if◌then◌else◌, Option, Some, None, Result, Ok, Err, subst, Bool, true, false, refl, sym, ◌∙◌, arith}
+use Rattle.std.proofs.Common.{◌≡◌, ℕ, zero, suc, ◌-◌, ◌<◌, List, [], ◌∷◌, ◌++◌, length, map, get_or, take, if◌then◌else◌, Option, Some, None, Result, Ok, Err, subst, Bool, true, false, refl, sym, ◌∙◌, arith}
 use Rattle.std.specs.Prelude.{◌==◌, slice_index_or, is_some, slice_get, ◌&&◌, IsErrAnd, IfErr, IsTrue, option_map, option_and_then, ◌⊎◌}
 use Rattle.std.proofs.lemmas.Bool.Decides.{nat_tests}
 use Rattle.std.specs.List.{find, cons_option, list_any}

@@ -45,7 +45,7 @@ pub struct Options {
     pub max_depth: u32,
     /// How many tables may be opened in all.
     pub max_tables: u32,
-    /// How many reads each byte of a buffer allows, beside 4,096 for all of it.
+    /// How many reads a buffer may take for each of its bytes, and for 64 more.
     pub reads_per_byte: u32,
     /// The four bytes of the identifier that a buffer must have, where `ident_from` is 1.
     pub ident: [u8; 4],

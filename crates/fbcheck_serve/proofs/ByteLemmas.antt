@@ -10,7 +10,7 @@ use Rattle.fb_strict.specs.Holding.{IsPlanFault, is_lost, name_in, name_of}
 use Rattle.fb_strict.specs.declared.holding.PlanFault.TheVariants.{NoSuchTable as Lost}
 use Rattle.fbcheck_serve.specs.ByteFields.{IsLostField, LacksPlan, Misses, NamesField, has_lost}
 use Rattle.fbcheck_texts.specs.Hints.{bytes_hint, hint_text, with_hint}
-use Rattle.fbcheck_texts.specs.declared.{fault.AskFault.AskFault, fault.AskFault.TheVariants.NoSuchTable, fault.AskFault.TheVariants.OutOfMemory, fault.AskFault.TheVariants.UnmarkedBytes, hint.Unasked.Unasked}
+use Rattle.fbcheck_texts.specs.declared.{fault.AskFault.AskFault, fault.AskFault.TheVariants.NoSuchTable, fault.AskFault.TheVariants.UnmarkedBytes, hint.Unasked.Unasked}
 
 -- Names.
 

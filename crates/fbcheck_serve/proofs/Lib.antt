@@ -5,6 +5,7 @@ mod NoteLemmas
 mod OneAsk
 mod PathLemmas
 mod ServingLemmas
+mod StepLemmas
 mod StrictLemmas
 pub mod ShownInputs
 pub mod ShownStops

@@ -17,7 +17,6 @@ use Rattle.fb_bfbs.specs.declared.load_fault.LoadFault.TheVariants as load
 use Rattle.fb_bfbs.specs.LoadLaws.{Applies, IsSameLoad, ident_bytes}
 use Rattle.fb_bfbs.specs.declared.loading.Loaded.{Loaded}
 use Rattle.fb_lines.specs.Job.{Job, job_of}
-use Rattle.fb_schema.specs.Live.{live_fields}
 use Rattle.fb_strict.specs.{Planned.IsPlan, Planned.Planned}
 use Rattle.fb_strict.proofs.Marks.{one_plan}
 use Rattle.fbcheck_serve.specs.Asked.{ArePaths, AsksBy, IsAsked, IsAskedPlan, demanded, demanded_by, IsFound, IsPath, LacksIdent, IsPathFault, HasPathFault, Own, asked_root, options_of, own_label, path_texts}

@@ -1,9 +1,9 @@
 -- What a schema file's marks let strict checks ask.
-use Rattle.std.proofs.Common.{◌≡◌, IfErr, IfOk, OnOk, ℕ, Bool, List, [], None, Option, Result, Some, map, true, false, refl, sym, subst, ◌∙◌, length}
+use Rattle.std.proofs.Common.{◌≡◌, IfErr, IfOk, OnOk, ℕ, Bool, List, [], None, Option, Result, Some, map, true, false, refl, sym, subst, length}
 use Rattle.std.specs.Prelude.{◌||◌, ◌&&◌, not, IsErrAnd, IsTrue, Err, Ok}
 use Rattle.std.specs.Borrow.{Bor}
 use Rattle.fb_schema.specs.Rows.{Rows}
-use Rattle.fb_bfbs.specs.{ByteFields.HasUnmarked, Marks.AreMarks, Marks.Marked, Marks.marked}
+use Rattle.fb_bfbs.specs.{ByteFields.HasUnmarked, Marks.AreMarks, Marks.marked}
 use Rattle.fb_bfbs.specs.declared.{marks.Marks.Marks}
 use Rattle.fb_strict.specs.{Demanded.demanded as holding, Holding.holdings_if, Planned.IsPlan, Planned.Planned}
 use Rattle.fb_strict.specs.declared.demands.Demands.{Demands}
@@ -12,7 +12,7 @@ use Rattle.fbcheck_serve.specs.ByteFields.{LacksPlan, Misses, has_lost}
 use Rattle.fbcheck_serve.specs.Checking.{IsPlanBy, IsPlanless, LacksPlanBy, MayAsk, NeedsMarks}
 use Rattle.fbcheck_serve.specs.FileMarks.{ArePlanMarks, schema_limits}
 use Rattle.fbcheck_texts.specs.Hints.{hint_text}
-use Rattle.fbcheck_texts.specs.declared.{fault.AskFault.AskFault, fault.AskFault.TheVariants.NoSuchTable, fault.AskFault.TheVariants.OutOfMemory, fault.AskFault.TheVariants.UnmarkedBytes, hint.Unasked.Unasked}
+use Rattle.fbcheck_texts.specs.declared.{fault.AskFault.AskFault, fault.AskFault.TheVariants.NoSuchTable, fault.AskFault.TheVariants.OutOfMemory, hint.Unasked.Unasked}
 use Rattle.fbcheck_words.specs.declared.choices.Settings.{Settings}
 
 -- Whose marks are asked.

@@ -25,7 +25,10 @@ pub record StopTexts : Type 0 where
   pub idents : stop_text (of_read None) (stop.Settings refusal.TwoIdents) ≡ codes "ident and schema-ident exclude each other"
   pub paths : stop_text (of_read None) (stop.Settings refusal.TooManyPaths) ≡ codes "more than 16 paths"
   pub bare : stop_text (of_read None) (stop.Settings refusal.BareDelimited) ≡ codes "bare and delimited exclude each other"
-  pub twice : stop_text (of_read None) (stop.Settings refusal.PathTwiceInJson) ≡ codes "json takes no path twice"
+  pub twice : stop_text (of_read None) (stop.Settings refusal.PathTwice) ≡ codes "the same path twice"
+  pub steps : stop_text (of_read None) (stop.Settings refusal.TooManySteps) ≡ codes "more than 1024 steps in all paths"
+  pub input : stop_text (of_read None) (stop.Settings refusal.SchemaAsInput)
+      ≡ codes "a .bfbs file is given as input: put --schema before it, or --bare to check the file itself"
   pub memory : stop_text (of_read None) (stop.Settings refusal.OutOfMemory) ≡ codes "out of memory"
   pub help : stop_text (of_read None) (stop.CutOff 7) ≡ codes "write failed after 7 bytes"
   pub help_pipe : stop_text (record { read = None; write = Some kind.BrokenPipe }) (stop.CutOff 7) ≡ codes "write failed after 7 bytes: broken pipe"

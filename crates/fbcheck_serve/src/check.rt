@@ -23,9 +23,9 @@ use std::alloc::Global;
 /// Checks the buffers of an input by the schema of a schema file (`.bfbs`), as the settings ask; without a file they
 /// are checked as schema files themselves, by the fixed table.
 ///
-/// The schema file is verified under the published limits and checks, and within 100,000,000 counted reads, and 64 a
-/// byte and 4,096 beside, whatever the settings say; these are for the buffers. The root is the table of the settings'
-/// name, or else that of the schema file, or `reflection.Schema` without one.
+/// The schema file is verified under the published limits and checks, and within 100,000,000 counted reads, and 64
+/// for each byte and for 64 more, whatever the settings say; these are for the buffers. The root is the table of the
+/// settings' name, or else that of the schema file, or `reflection.Schema` without one.
 ///
 /// # Errors
 ///

@@ -1,7 +1,7 @@
 //! What follows from the definitions of what is asked, of files one behind another and of texts alone. These functions
 //! have no body: their contracts are the theorems.
 
-ghost use Rattle.fbcheck_serve.specs.{CheckLaws.AsksOnce, InputTests.Courses, InputTests.Finals, InputTests.Labels, StopTests.StopTexts};
+ghost use Rattle.fbcheck_serve.specs.{CheckLaws.AreStepsAsWritten, CheckLaws.AsksOnce, InputTests.Courses, InputTests.Finals, InputTests.Labels, StopTests.StopTexts};
 ghost use Rattle.fbcheck_texts.specs.TextTests.{AskTexts, HintTexts, LoadTexts, RunTexts};
 
 /// A schema file, or none, and the settings ask at most one thing: that the buffers are checked by one job, or that
@@ -13,6 +13,12 @@ ghost use Rattle.fbcheck_texts.specs.TextTests.{AskTexts, HintTexts, LoadTexts, 
 #[tactic(auto, using(crate::proofs::OneAsk::asks_once))]
 pub fn settings_ask_once()
     ensures { AsksOnce }
+{}
+
+/// A text that names a path has as many steps as the command line counts in it. So all paths that are asked for have at
+/// most 1,024.
+pub fn steps_are_as_written()
+    ensures { AreStepsAsWritten }
 {}
 
 /// What two files come to, by example, which name stands in a line, and which faults end it all.

@@ -9,7 +9,7 @@ use fb_verify::Limits;
 const LONGEST: u64 = 0x7FFF_FFFF;
 
 /// The limits by which a schema file of so many bytes is verified, whatever the settings say: the published ones with
-/// a budget of 100,000,000 reads, and of 64 a byte and 4,096 beside.
+/// a budget of 100,000,000 reads, and of 64 for each byte and for 64 more.
 pub fn schema_limits(length: u64) -> Limits
     ensures { result ≡ schema_limits length }
 {

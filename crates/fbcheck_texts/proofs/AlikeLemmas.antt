@@ -6,7 +6,8 @@ use Rattle.std.specs.Prelude.{Bool, ◌==◌, ◌||◌}
 use Rattle.std.specs.Str.{bytes_eq}
 use Rattle.std.proofs.Math.Seq.{take-length}
 use Rattle.std.proofs.lemmas.List.Sums.{position_or_len_is}
-use Rattle.fbcheck_texts.specs.Alike.{from_step, is_near, is_sign}
+use Rattle.fbcheck_texts.specs.Alike.{from_step, is_near}
+use Rattle.fbcheck_words.specs.Given.{is_sign}
 
 -- one of two texts has no bytes
 near_none : (some other : List ℕ) → min (length some) (length other) ≡ 0 → is_near some other ≡ nat_le (length some + length other) 1

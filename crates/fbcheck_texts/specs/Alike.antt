@@ -1,6 +1,7 @@
 -- Names that are nearly alike, and the names in a path's text.
 use Rattle.std.specs.Prelude.{ℕ, zero, suc, ◌==◌, ◌||◌, ◌&&◌, Bool, if◌then◌else◌, List, [], ◌∷◌, length, map, nat_le}
 use Rattle.std.specs.{Char.to_ascii_lowercase, List.before_first, Str.bytes_eq}
+use Rattle.fbcheck_words.specs.Given.{is_sign}
 
 -- two texts are equal, or one has one byte more, or one byte of them differs
 abbrev pub is_near : List ℕ → List ℕ → Bool
@@ -13,10 +14,6 @@ is_near (b ∷ some) (c ∷ other) =
 -- the same of one that has three bytes at least; or they are equal but for the case of ASCII letters
 abbrev pub is_alike : List ℕ → List ℕ → Bool
 is_alike some other = (nat_le 3 (length some) && is_near some other) || bytes_eq (map to_ascii_lowercase some) (map to_ascii_lowercase other)
-
--- a byte with which a step of a path begins that isn't the first: `.`, `@` or `[`
-abbrev pub is_sign : ℕ → Bool
-is_sign b = b == 46 || b == 64 || b == 91
 
 -- a path's text from the step of this number on, whose sign is left out
 abbrev pub from_step : ℕ → List ℕ → List ℕ

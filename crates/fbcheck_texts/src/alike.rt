@@ -2,7 +2,9 @@
 
 ghost use Rattle.std.specs.Prelude.{◌≡◌, ◌||◌, ◌<◌, drop, length};
 ghost use Rattle.std.specs.Str.{bytes_eq};
-ghost use Rattle.fbcheck_texts.specs.Alike.{from_step, is_alike, is_near, is_sign, step_name};
+ghost use Rattle.fbcheck_texts.specs.Alike.{from_step, is_alike, is_near, step_name};
+
+use fbcheck_words::is_sign;
 
 /// Whether two texts are equal but for the case of ASCII letters; or, where the first has three bytes at least, but for
 /// one byte that is another, or that one of them has more.
@@ -32,13 +34,6 @@ fn differ_once(some: &[u8], other: &[u8]) -> bool
 {
     let (shorter, less) = (&some[1..], &other[1..]);
     shorter == less || shorter == other || some == less
-}
-
-/// Whether a step of a path begins with this byte.
-fn is_sign(byte: u8) -> bool
-    ensures { result ≡ is_sign byte }
-{
-    byte == b'.' || byte == b'@' || byte == b'['
 }
 
 /// A path's text from the step of this number on, whose sign is left out.

@@ -1,5 +1,5 @@
 -- The program's command line.
-use Rattle.std.specs.Prelude.{ℕ, true, [], ◌∷◌, Some, codes, pos}
+use Rattle.std.specs.Prelude.{ℕ, true, [], ◌∷◌, Option, None, Some, codes, pos, slice_get}
 use Rattle.clap.specs.Walk.{Rule, Text}
 use Rattle.clap.specs.Simple.{App, new_app, new_rule, on_top, with_rule}
 use Rattle.clap.specs.declared.builder.action.ArgAction.TheVariants.{Set, SetTrue, Append}
@@ -55,19 +55,24 @@ bytes_rule = number_rule (codes "max-bytes") 8 2147483647 (codes "67108864")
 abbrev pub flag_rule : Text → Rule
 flag_rule name = record (new_rule name) { long = Some name; action = Some SetTrue }
 
--- the same, for which one letter stands too
-abbrev pub letter_rule : Text → ℕ → Rule
-letter_rule name letter = record (flag_rule name) { short = Some letter }
+-- the same option where a letter stands for it too
+abbrev pub lettered : Option ℕ → Rule → Rule
+lettered None rule = rule
+lettered (Some letter) rule = record rule { short = Some letter }
+
+-- the option for which this letter stands
+abbrev pub by_letter : Text → Rule → Rule
+by_letter letter rule = lettered (slice_get letter 0) rule
 
 -- the program by its name, which tells its version
 abbrev pub named : App
 named = on_top (λ s. record s { has_version = true; has_long_version = true }) (new_app (codes "fbcheck"))
 
 abbrev pub sources : App
-sources = with_rule (with_rule named (text_rule (codes "schema"))) (text_rule (codes "root"))
+sources = with_rule (with_rule named (by_letter (codes "s") (text_rule (codes "schema")))) (by_letter (codes "r") (text_rule (codes "root")))
 
 abbrev pub texts : App
-texts = with_rule (with_rule (with_rule sources (text_rule (codes "ident"))) (flag_rule (codes "schema-ident"))) (texts_rule (codes "path"))
+texts = with_rule (with_rule (with_rule sources (text_rule (codes "ident"))) (flag_rule (codes "schema-ident"))) (by_letter (codes "p") (texts_rule (codes "path")))
 
 abbrev pub numbers : App
 numbers = with_rule (with_rule (with_rule (with_rule (with_rule texts depth_rule) tables_rule) reads_rule) by_length_rule) bytes_rule
@@ -79,8 +84,8 @@ abbrev pub demands : App
 demands = with_rule (with_rule (with_rule (with_rule inputs (flag_rule (codes "strict"))) (flag_rule (codes "plain-bytes"))) (flag_rule (codes "known-fields"))) (flag_rule (codes "utf8"))
 
 abbrev pub outputs : App
-outputs = with_rule (with_rule (with_rule (with_rule (with_rule demands (flag_rule (codes "quiet"))) (flag_rule (codes "filter"))) (flag_rule (codes "summary"))) (flag_rule (codes "names")))
-    (flag_rule (codes "json"))
+outputs = with_rule (with_rule (with_rule (with_rule (with_rule demands (by_letter (codes "q") (flag_rule (codes "quiet")))) (flag_rule (codes "filter"))) (flag_rule (codes "summary"))) (flag_rule (codes "names")))
+    (by_letter (codes "j") (flag_rule (codes "json")))
 
 abbrev pub program : App
-program = with_rule (with_rule outputs (letter_rule (codes "with-filename") 72)) (words_rule (codes "files"))
+program = with_rule (with_rule outputs (by_letter (codes "H") (flag_rule (codes "with-filename")))) (words_rule (codes "files"))

@@ -1,11 +1,11 @@
 -- What words ask for.
-use Rattle.std.specs.Prelude.{◌≡◌, ◌↔◌, ◌&&◌, ◌||◌, ℕ, Bool, false, true, IsTrue, IfSome, IsSomeAnd, List, [], ◌∷◌, Option, Some, None, codes, if◌then◌else◌, is_some, length, map, nat_lt, not, option_map, string_bytes}
-use Rattle.std.specs.{List.list_any, Str.bytes_eq}
+use Rattle.std.specs.Prelude.{◌+◌, ◌==◌, count_by, sum_by, ◌≡◌, ◌↔◌, ◌&&◌, ◌||◌, ℕ, Bool, false, IsTrue, IfSome, IsSomeAnd, List, [], ◌∷◌, Option, Some, None, codes, if◌then◌else◌, is_some, length, map, nat_eq, nat_lt, not, option_map, string_bytes}
+use Rattle.std.specs.{List.ends_with, List.list_any, Str.bytes_eq}
 use Rattle.clap.specs.{Walk.Text, Faults.fault_of}
 use Rattle.fbcheck_words.specs.CommandLine.{program}
 use Rattle.fbcheck_words.specs.Values.{IsGiven, IsNumberOf, text_of, texts_of}
-use Rattle.fbcheck_words.specs.declared.{choices.Form.Form, choices.Form.TheVariants.Plain, choices.Form.TheVariants.Json, choices.Settings.Settings, choices.SettingsFault.SettingsFault}
-use Rattle.fbcheck_words.specs.declared.choices.SettingsFault.TheVariants.{PathInFilter, TwoIdents, TooManyPaths, BareDelimited, PlainUnstrict, PathTwiceInJson}
+use Rattle.fbcheck_words.specs.declared.{choices.Form.TheVariants.Json, choices.Settings.Settings, choices.SettingsFault.SettingsFault}
+use Rattle.fbcheck_words.specs.declared.choices.SettingsFault.TheVariants.{PathInFilter, TwoIdents, TooManyPaths, BareDelimited, PlainUnstrict, PathTwice, TooManySteps, SchemaAsInput}
 
 -- the words say these settings
 pub record Say (given : List Text) (settings : Settings) : Type 0 where
@@ -37,11 +37,6 @@ pub record Say (given : List Text) (settings : Settings) : Type 0 where
   pub with_filename : IsTrue settings.with_filename ↔ IsGiven (codes "with-filename") given
   pub files : map string_bytes settings.files.items ≡ texts_of (codes "files") given
 
--- whether lines are asked for as JSON
-abbrev pub is_json : Form → Bool
-is_json Plain = false
-is_json Json = true
-
 -- whether a text stands among these; and whether one of them stands there twice
 abbrev pub is_among : List (List ℕ) → List ℕ → Bool
 is_among texts text = list_any (bytes_eq text) texts
@@ -49,6 +44,21 @@ is_among texts text = list_any (bytes_eq text) texts
 abbrev pub has_twice : List (List ℕ) → Bool
 has_twice [] = false
 has_twice (text ∷ texts) = is_among texts text || has_twice texts
+
+-- whether a file is named as `flatc` names schema files
+abbrev pub is_bfbs : List ℕ → Bool
+is_bfbs name = ends_with nat_eq name (codes ".bfbs")
+
+-- a byte with which a step of a path begins that isn't the first: `.`, `@` or `[`
+abbrev pub is_sign : ℕ → Bool
+is_sign b = b == 46 || b == 64 || b == 91
+
+-- how many steps a path has by its text, the name in front being one; and how many these have in all
+abbrev pub steps_in : List ℕ → ℕ
+steps_in path = 1 + count_by is_sign path
+
+abbrev pub steps_of : List (List ℕ) → ℕ
+steps_of paths = sum_by steps_in paths
 
 -- what is refused of settings that don't agree with one another, the first of these
 abbrev pub contradiction : Settings → Option SettingsFault
@@ -58,7 +68,9 @@ contradiction settings =
     else if nat_lt 16 (length settings.paths.items) then Some TooManyPaths
     else if settings.bare && settings.delimited then Some BareDelimited
     else if settings.plain_bytes && not settings.strict then Some PlainUnstrict
-    else if is_json settings.form && has_twice (map string_bytes settings.paths.items) then Some PathTwiceInJson
+    else if has_twice (map string_bytes settings.paths.items) then Some PathTwice
+    else if nat_lt 1024 (steps_of (map string_bytes settings.paths.items)) then Some TooManySteps
+    else if not (is_some settings.schema) && (not settings.bare && list_any is_bfbs (map string_bytes settings.files.items)) then Some SchemaAsInput
     else None
 
 -- the words give these settings, which agree

@@ -1,7 +1,6 @@
 //! What the command line may ask for.
 
 ghost use Rattle.std.specs.Prelude.{◌≡◌, ◌≤◌, length};
-ghost use Rattle.fbcheck_words.specs.Given.{is_json};
 ghost use Rattle.fbcheck_words.specs.Refusal.{refusal_status, refusal_text};
 ghost use Rattle.fbcheck_words.specs.declared.choices.SettingsFault.TheVariants.{OutOfMemory};
 
@@ -12,6 +11,9 @@ use thiserror::Error;
 /// How many paths may be asked for.
 pub const MOST_PATHS: usize = 16;
 
+/// How many steps these may have in all.
+pub const MOST_STEPS: usize = 1024;
+
 /// How a line tells of a buffer.
 #[derive(Clone, Copy)]
 pub enum Form {
@@ -19,15 +21,6 @@ pub enum Form {
     Plain,
     /// By a JSON object.
     Json,
-}
-
-impl Form {
-    /// Whether it is that of JSON.
-    pub(crate) fn is_json(self) -> bool
-        ensures { result ≡ is_json self }
-    {
-        matches!(self, Form::Json)
-    }
 }
 
 /// What the words of the command line ask for.
@@ -41,13 +34,14 @@ pub struct Settings {
     pub ident: Option<[u8; 4]>,
     /// Whether it must have the schema's own (`--schema-ident`); `ident` is none then.
     pub schema_ident: bool,
-    /// The paths whose values each yes line ends with, in this order, 16 at most (`--path`).
+    /// The paths whose values each yes line ends with, in this order: 16 at most, each another one, with 1,024 steps in
+    /// all at most (`--path`).
     pub paths: Vec<String>,
     /// How many tables may stand one inside another, 0 to 4,096 (`--max-depth`, 64), how many may be visited in one
     /// buffer (`--max-tables`, 1,000,000), and how many counted reads it may take, 0 to 18,446,744,073,709,551,615
     /// (`--max-reads`, 100,000,000).
     pub limits: Limits,
-    /// How many of these reads each byte of a buffer allows, beside 4,096 (`--reads-per-byte`, 64).
+    /// How many of these reads a buffer may take for each of its bytes, and for 64 more (`--reads-per-byte`, 64).
     pub reads_per_byte: u32,
     /// How many bytes a message may have, prefix included, 8 to 2,147,483,647 (`--max-bytes`,
     /// 67,108,864).
@@ -103,8 +97,12 @@ pub enum SettingsFault {
     BareDelimited,
     /// The words are read, and ask for plain bytes without strict checks.
     PlainUnstrict,
-    /// The words are read, and ask for lines of JSON, which name each value by its path, with one path twice.
-    PathTwiceInJson,
+    /// The words are read, and ask for the same path twice.
+    PathTwice,
+    /// The words are read, and ask for paths of more than 1,024 steps in all.
+    TooManySteps,
+    /// The words are read, and name no schema file, and for a stream of messages a file `.bfbs`.
+    SchemaAsInput,
     /// No memory was to be had.
     OutOfMemory,
 }
@@ -124,7 +122,9 @@ impl SettingsFault {
             | SettingsFault::TooManyPaths
             | SettingsFault::BareDelimited
             | SettingsFault::PlainUnstrict
-            | SettingsFault::PathTwiceInJson => 2,
+            | SettingsFault::PathTwice
+            | SettingsFault::TooManySteps
+            | SettingsFault::SchemaAsInput => 2,
             SettingsFault::OutOfMemory => 3,
         }
     }
@@ -142,7 +142,10 @@ impl SettingsFault {
             SettingsFault::TooManyPaths => "more than 16 paths",
             SettingsFault::BareDelimited => "bare and delimited exclude each other",
             SettingsFault::PlainUnstrict => "plain-bytes needs strict",
-            SettingsFault::PathTwiceInJson => "json takes no path twice",
+            SettingsFault::PathTwice => "the same path twice",
+            SettingsFault::TooManySteps => "more than 1024 steps in all paths",
+            SettingsFault::SchemaAsInput =>
+                "a .bfbs file is given as input: put --schema before it, or --bare to check the file itself",
             SettingsFault::OutOfMemory => "out of memory",
         }
     }

@@ -7,4 +7,4 @@ mod command;
 mod words;
 
 pub use choices::{Form, MOST_PATHS, Settings, SettingsFault};
-pub use words::settings;
+pub use words::{is_sign, settings};

@@ -1,11 +1,12 @@
-ghost use Rattle.std.specs.Prelude.{IfOk, IfErr, IfSome, IsSomeAnd, OnErr, ℕ, ◌≢◌, length, option_map, IsTrue, ◌≡◌, ◌↔◌, List, map, string_bytes, Some, codes};
+ghost use Rattle.std.specs.Prelude.{nat_lt, IfOk, IfErr, IfSome, IsSomeAnd, OnErr, ℕ, ◌≢◌, length, option_map, IsTrue, ◌≡◌, ◌↔◌, List, map, string_bytes, Some, codes};
 ghost use Rattle.clap.specs.Words.{Text, first_value, found_of, one_text};
-ghost use Rattle.fbcheck_words.specs.{Ranges.AreInRange, Given.AreGiven, Given.Say, Given.contradiction, Given.has_twice, Given.is_among};
+ghost use Rattle.fbcheck_words.specs.{Ranges.AreInRange, Given.AreGiven, Given.Say, Given.contradiction, Given.has_twice, Given.is_among, Given.is_bfbs, Given.is_sign, Given.steps_in, Given.steps_of};
 ghost use Rattle.fbcheck_words.specs.{Values.HoldsNumber, Values.HoldsWideNumber, Values.IsNumberIn, Refusal.Refuses};
+ghost use Rattle.std.specs.List.{list_any};
 ghost use Rattle.fbcheck_words.specs.Matched.{IsReadOf, all_values};
 ghost use Rattle.fbcheck_words.specs.declared.choices.Form.TheVariants.{Json};
 
-use crate::choices::{Form, MOST_PATHS, Settings, SettingsFault};
+use crate::choices::{Form, MOST_PATHS, MOST_STEPS, Settings, SettingsFault};
 use crate::command::command;
 use clap::ArgMatches;
 use clap::error::ErrorKind;
@@ -19,8 +20,9 @@ use std::alloc::{AllocError, Global};
 /// `Usage` where `clap` refuses them, help included, and `BadIdent` where it reads them and the identifier isn't four
 /// bytes long. Then, where they say what doesn't agree, `PathInFilter` for a filter with a path, then `TwoIdents` for
 /// an identifier beside the schema's own, then `TooManyPaths` for more than 16, then `BareDelimited` for a bare buffer
-/// behind its length, then `PlainUnstrict` for plain bytes without strict checks, and then `PathTwiceInJson` for a path
-/// that lines of JSON would name twice. `OutOfMemory` for want of memory.
+/// behind its length, then `PlainUnstrict` for plain bytes without strict checks, then `PathTwice` for the same path
+/// twice, then `TooManySteps` for more than 1,024 steps of all paths, and then `SchemaAsInput` for a stream in a file
+/// `.bfbs` without a schema file. `OutOfMemory` for want of memory.
 pub fn settings(alloc: Global, words: &[String]) -> Result<Settings, SettingsFault>
     ensures given { IfOk result (AreGiven (map string_bytes words.now)) }
     ensures ranges { IfOk result AreInRange }
@@ -90,8 +92,12 @@ fn contradiction(settings: &Settings) -> Option<SettingsFault>
         Some(SettingsFault::BareDelimited)
     } else if settings.plain_bytes && !settings.strict {
         Some(SettingsFault::PlainUnstrict)
-    } else if settings.form.is_json() && has_twice(settings.paths.as_slice()) {
-        Some(SettingsFault::PathTwiceInJson)
+    } else if has_twice(settings.paths.as_slice()) {
+        Some(SettingsFault::PathTwice)
+    } else if are_long(settings.paths.as_slice()) {
+        Some(SettingsFault::TooManySteps)
+    } else if settings.schema.is_none() && !settings.bare && has_bfbs(settings.files.as_slice()) {
+        Some(SettingsFault::SchemaAsInput)
     } else {
         None
     }
@@ -123,6 +129,57 @@ fn is_among(texts: &[String], text: &str) -> bool
         rest = others;
     }
     false
+}
+
+/// Whether one of these files is named as `flatc` names schema files.
+fn has_bfbs(names: &[String]) -> bool
+    ensures { result ≡ list_any is_bfbs (map string_bytes names.now) }
+{
+    let mut rest = names;
+    while let Some((name, others)) = rest.split_first() {
+        if name.as_bytes().ends_with(b".bfbs") {
+            return true;
+        }
+        rest = others;
+    }
+    false
+}
+
+/// Whether these paths have more steps in all than may be.
+fn are_long(paths: &[String]) -> bool
+    ensures { result ≡ nat_lt 1024 (steps_of (map string_bytes paths.now)) }
+{
+    let mut left = MOST_STEPS;
+    let mut rest = paths;
+    while let Some((path, others)) = rest.split_first() {
+        let steps = steps_in(path.as_bytes());
+        if steps > left {
+            return true;
+        }
+        left -= steps;
+        rest = others;
+    }
+    false
+}
+
+/// How many steps a path has by its text: the name in front is one.
+fn steps_in(path: &[u8]) -> usize
+    ensures { result ≡ steps_in path.now }
+{
+    let mut steps = 1;
+    for byte in path {
+        if is_sign(*byte) {
+            steps += 1;
+        }
+    }
+    steps
+}
+
+/// Whether a step of a path begins with this byte.
+pub fn is_sign(byte: u8) -> bool
+    ensures { result ≡ is_sign byte }
+{
+    byte == b'.' || byte == b'@' || byte == b'['
 }
 
 /// What `clap` reads of the words.

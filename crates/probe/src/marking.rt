@@ -33,7 +33,7 @@ fn list(rt: HostRuntime, marks: &Marks<'_>, whole: bool) -> io::Result<()> {
 const LONGEST: u64 = 0x7FFF_FFFF;
 
 /// Reads the marks of a schema file and tells of them, or why they aren't read. The limits are the published ones with
-/// a budget of 64 reads a byte and 4,096 beside.
+/// a budget of 64 reads for each byte and for 64 more.
 pub fn tell_marks(rt: HostRuntime, bytes: &[u8], whole: bool) -> io::Result<()> {
     let length = bytes.len() as u64;
     let limits = Limits::published().of_length(64, length.min(LONGEST));

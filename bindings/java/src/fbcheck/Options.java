@@ -18,7 +18,7 @@ import java.util.Set;
  * @param maxDepth at most so many tables one inside another: 64, and up to 4,096; each thread keeps room for as many
  * @param maxTables at most so many tables visited: 1,000,000
  * @param maxReads at most so many counted reads: 100,000,000
- * @param readsPerByte at most so many counted reads for each byte, and 4,096 beside: 64
+ * @param readsPerByte at most so many counted reads for each byte and for 64 more: 64
  * @param ident the file identifier that a message must have, of four bytes; null for any
  * @param ownIdent whether it must be the schema's own, or any where it declares none: false
  * @param prefixed whether a message begins with its size (4 bytes), from where positions count: false
@@ -62,7 +62,7 @@ public record Options(String root, int maxDepth, int maxTables, long maxReads, i
                 inlineSize, demands);
     }
 
-    /** Allows at most so many counted reads for each byte, and 4,096 beside. */
+    /** Allows at most so many counted reads for each byte and for 64 more. */
     public Options readsPerByte(int reads) {
         return new Options(root, maxDepth, maxTables, maxReads, reads, ident, ownIdent, prefixed, alignment,
                 inlineSize, demands);

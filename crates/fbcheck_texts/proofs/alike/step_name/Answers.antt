@@ -1,6 +1,6 @@
 use Rattle.std.proofs.Common.{◌∙◌, ap, sym}
 use Rattle.std.specs.List.{before_first}
-use Rattle.fbcheck_texts.specs.Alike.{is_sign}
+use Rattle.fbcheck_words.specs.Given.{is_sign}
 use Rattle.fbcheck_texts.proofs.AlikeLemmas.{to_end, to_sign}
 use Rattle.fbcheck_texts.proofs.alike.step_name.Goals as goal
 

@@ -1,5 +1,5 @@
 use Rattle.std.proofs.Common.{◌≡◌, ◌<◌, ℕ, false, get_or}
-use Rattle.fbcheck_texts.specs.Alike.{is_sign}
+use Rattle.fbcheck_words.specs.Given.{is_sign}
 use Rattle.fbcheck_texts.proofs.alike.step_name.Given as goal
 
 -- no byte so far is a sign
