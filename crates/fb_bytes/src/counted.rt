@@ -104,9 +104,10 @@ impl<I: Write> Sink for Counted<I> {
 
     fn push(&mut self, piece: &[u8]) -> io::Result<usize> {
         let answer = self.inner.write(piece);
-        self.calls += 1;
-        let failed = answer.is_err() || (matches!(answer, Ok(0)) && !piece.is_empty());
-        self.failures += u128::from(failed);
+        self.calls = self.calls.saturating_add(1);
+        if answer.is_err() || (matches!(answer, Ok(0)) && !piece.is_empty()) {
+            self.failures = self.failures.saturating_add(1);
+        }
         answer
     }
 

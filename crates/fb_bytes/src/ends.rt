@@ -2,7 +2,7 @@
 
 ghost use Rattle.std.specs.Prelude.{◌≡◌, ◌+◌, ◌<◌, ◌^◌, ℕ, Bool, List, Option};
 ghost use Rattle.std.specs.{Io.ReadsAtMost, Io.WritesAtMost, Io.KnownBytes.ReadConsumes, Io.KnownBytes.WriteAppends};
-ghost use Rattle.fb_bytes.specs.Ends.{failed, refused, told_end};
+ghost use Rattle.fb_bytes.specs.Ends.{failed, failed_more, one_more, told_end};
 
 use std::io;
 
@@ -42,7 +42,7 @@ pub trait Source {
         ensures { result ≡ ended self.now };
 }
 
-/// A writer that counts its calls.
+/// A writer that counts its calls. A count that would be more than 2^128 - 1 stays there.
 ///
 /// `contents` is all that was written, where that is known (into memory), and `None` where it isn't.
 pub trait Sink {
@@ -56,11 +56,10 @@ pub trait Sink {
     /// [`std::io::Write::write`] does. An error is the writer's own. An error counts as a failure, and so
     /// does taking nothing of a nonempty piece.
     fn push(&mut self, piece: &[u8]) -> io::Result<usize>
-        requires { calls self.old < 2 ^ 100 }
         ensures bound { WritesAtMost result piece.now }
         ensures bytes { WriteAppends (contents self.old) (contents self.new) result piece.now }
-        ensures counted { calls self.new ≡ calls self.old + 1 }
-        ensures failure { failures self.new ≡ failures self.old + refused result piece.now };
+        ensures counted { calls self.new ≡ one_more (calls self.old) }
+        ensures failure { failures self.new ≡ failed_more result piece.now (failures self.old) };
 
     /// How many calls of `push` were made.
     fn calls(&self) -> u128

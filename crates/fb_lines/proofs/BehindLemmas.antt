@@ -4,16 +4,23 @@ use Rattle.std.proofs.{Math.Seq.take-append-add, KnownBytes.Appends-trans}
 use Rattle.std.proofs.lemmas.{Grind.flat_map-append, List.flat_map_more, List.take-append-le, List.take_more}
 use Rattle.std.specs.{List.flat_map, Io.KnownBytes.Appends}
 use Rattle.fb_lines.specs.{Lines.ComesBehind, Lines.WritesFront, Lines.WritesFronts, Ends.Outs, Ends.Writer}
-use Rattle.fb_lines.specs.Texts.{Sizes, Texts, followed, to_out}
+use Rattle.fb_lines.specs.Texts.{IsCounted, Sizes, Texts, followed, to_out}
 use Rattle.fb_lines.specs.declared.fault.RunFault.{RunFault}
 use Rattle.fb_lines.specs.declared.fault.RunFault.TheVariants as run
 
+-- so many, and then so many more
+pub both_counted : (b b' b'' m n k : ℕ) → k ≡ m + n → IsCounted (b + m) b' → IsCounted (b' + n) b'' → IsCounted (b + k) b''
+both_counted b b' b'' m n k is first second few =
+    let one : b' ≡ b + m = first (omega (arith, few, is)) in
+    let other : b'' ≡ b' + n = second (omega (arith, few, is, one)) in
+    omega (arith, one, other, is)
+
 -- nothing waited, and what came was written
-pub behind_written : {w a w' : List ℕ} {s s' : Option (List ℕ)} {b b' : ℕ} → w ≡ [] → w' ≡ [] → Appends s s' a → b' ≡ b + length a → ComesBehind w a w' s s' b b'
+pub behind_written : {w a w' : List ℕ} {s s' : Option (List ℕ)} {b b' : ℕ} → w ≡ [] → w' ≡ [] → Appends s s' a → IsCounted (b + length a) b' → ComesBehind w a w' s s' b b'
 behind_written {a = a} none none' wrote count = record { front = a; whole = ap (λ l. l ++ a) none ∙ sym (append-nil a) ∙ ap (λ l. a ++ l) (sym none'); wrote = wrote; written_is = count }
 
 -- what waited was written
-pub behind_flushed : {w w0 w' : List ℕ} {s s' : Option (List ℕ)} {b b' : ℕ} → w0 ≡ w → w' ≡ [] → Appends s s' w0 → b' ≡ b + length w0 → ComesBehind w [] w' s s' b b'
+pub behind_flushed : {w w0 w' : List ℕ} {s s' : Option (List ℕ)} {b b' : ℕ} → w0 ≡ w → w' ≡ [] → Appends s s' w0 → IsCounted (b + length w0) b' → ComesBehind w [] w' s s' b b'
 behind_flushed {w0 = w0} same none wrote count = record { front = w0; whole = ap (λ l. l ++ []) (sym same) ∙ ap (λ l. w0 ++ l) (sym none); wrote = wrote; written_is = count }
 
 -- two texts
@@ -25,7 +32,7 @@ behind_more {w} {a} {w'} {c} {w''} {s} {s'} {s''} first second = record {
       sym (append_assoc w a c) ∙ ap (λ l. l ++ c) first.whole ∙ append_assoc first.front w' c ∙ ap (λ l. first.front ++ l) second.whole
       ∙ sym (append_assoc first.front second.front w'');
   wrote = Appends-trans s s' s'' first.front second.front first.wrote second.wrote;
-  written_is = omega (arith, first.written_is, second.written_is, length-append first.front second.front);
+  written_is = both_counted _ _ _ _ _ _ (length-append first.front second.front) first.written_is second.written_is;
 }
 
 -- a write came to rest in the second of two texts
@@ -39,7 +46,7 @@ front_behind {w} {a} {w'} c {s} {s'} {s''} first second =
       wrote = subst (Appends s s'')
           (sym (ap (take (length first.front + second.taken)) whole ∙ take-append-add first.front (w' ++ c) second.taken))
           (Appends-trans s s' s'' first.front (take second.taken (w' ++ c)) first.wrote second.wrote);
-      written_is = omega (arith, second.written_is, first.written_is);
+      written_is = both_counted _ _ _ _ _ _ refl first.written_is second.written_is;
     }
 
 -- or in the first
@@ -76,7 +83,7 @@ module _ {A : Type 0} (f : A → List ℕ) (bytes : List A) (i : ℕ) (d : A) (i
 
 -- a write that came to rest behind a front came to rest within the whole
 pub fronts_behind : (front : List ℕ) (text : Texts) (a c : Outs) (between : Writer) (size size' : Sizes) (fault : RunFault) → Appends a.writer.bytes between.bytes front
-    → size'.out ≡ size.out + length front → size'.notes ≡ size.notes → WritesFronts text (record { writer = between; notes = a.notes }) c size' fault
+    → IsCounted (size.out + length front) size'.out → size'.notes ≡ size.notes → WritesFronts text (record { writer = between; notes = a.notes }) c size' fault
     → WritesFronts (followed (to_out front) text) a c size fault
 fronts_behind front text a c between size size' (run.WriteFault written) wrote count same (within, keeps) = (
   front_behind text.out (behind_written {w = []} {w' = []} refl refl wrote count) within,

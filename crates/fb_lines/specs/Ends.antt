@@ -1,10 +1,9 @@
 -- What contracts see of the ends of a run: of its reader, and by the ghosts of their traits of its writer and the notes
 -- beside that.
-use Rattle.std.specs.Prelude.{ℕ, ◌+◌, ◌<◌, ◌≤◌, Bool, List, Option}
+use Rattle.std.specs.Prelude.{ℕ, Bool, List, Option}
 use Rattle.std.specs.Io.KnownBytes.{Appends, Keeps}
 use Rattle.fb_bytes.specs.declared.ends.Sink as sink
-use Rattle.fb_lines.specs.Texts.{Sizes, Texts, written_by}
-use Rattle.fb_lines.specs.declared.output.Output.{Output}
+use Rattle.fb_lines.specs.Texts.{Texts}
 
 -- of a reader: what is left to read, the calls of it, those that failed, and whether it told its end
 pub record Reader : Type 0 where
@@ -51,22 +50,3 @@ writer_of k writer = record { bytes = k.contents writer; failures = k.failures w
 
 abbrev pub outs_of : {K N : Type 0} → sink.Ghosts K → sink.Ghosts N → K → N → Outs
 outs_of k n writer notes = record { writer = writer_of k writer; notes = writer_of n notes }
-
--- the calls made of a writer and notes, and the bytes written to each
-pub record Load : Type 0 where
-  pub writes : ℕ
-  pub tells : ℕ
-  pub written : Sizes
-
-abbrev pub load_of : {K N A : Type 0} → sink.Ghosts K → sink.Ghosts N → K → N → Output A → Load
-load_of k n writer notes output = record { writes = k.calls writer; tells = n.calls notes; written = written_by output }
-
--- each is less than this
-abbrev pub IsBelow : Load → ℕ → Type 0
-IsBelow load most = (load.writes < most) × (load.tells < most) × (load.written.out < most) × (load.written.notes < most)
-
--- each grew by no more than this
-abbrev pub GrowsBy : Load → Load → ℕ → Type 0
-GrowsBy before after more =
-    (after.writes ≤ before.writes + more) × (after.tells ≤ before.tells + more)
-    × (after.written.out ≤ before.written.out + more) × (after.written.notes ≤ before.written.notes + more)

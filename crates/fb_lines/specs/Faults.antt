@@ -1,5 +1,6 @@
 -- What a fault of a part is told as, the causes of faults, and the exit status.
 use Rattle.std.specs.Prelude.{◌≡◌, ℕ, ◌+◌, ◌-◌, ◌==◌, Bool, true, if◌then◌else◌, Result, Ok, Err}
+use Rattle.fb_bytes.specs.Ends.{one_more}
 use Rattle.fb_bytes.specs.declared.stream_fault.StreamFault.{StreamFault}
 use Rattle.fb_bytes.specs.declared.stream_fault.StreamFault.TheVariants as stream
 use Rattle.fb_lines.specs.Ends.{Ends, Outs, Writer}
@@ -31,8 +32,8 @@ IsUnfailed before after = (after.reads ≡ before.reads) × (after.writes ≡ be
 -- call of the reader, the writer or the notes failed, as the fault says, or none did
 abbrev pub IsCaused : Failures → Failures → ℕ → Bool → RunFault → Type 0
 IsCaused before after left ended ReadFault = IsUnfailed (record before { reads = before.reads + 1 }) after
-IsCaused before after left ended (WriteFault written) = IsUnfailed (record before { writes = before.writes + 1 }) after
-IsCaused before after left ended (NoteFault written) = IsUnfailed (record before { notes = before.notes + 1 }) after
+IsCaused before after left ended (WriteFault written) = IsUnfailed (record before { writes = one_more before.writes }) after
+IsCaused before after left ended (NoteFault written) = IsUnfailed (record before { notes = one_more before.notes }) after
 IsCaused before after left ended TooManyTurns = IsUnfailed before after × (left ≡ 0)
 IsCaused before after left ended (Stream (stream.Truncated held)) = IsUnfailed before after × (ended ≡ true)
 IsCaused before after left ended _ = IsUnfailed before after

@@ -2,7 +2,7 @@
 use Rattle.std.specs.Prelude.{◌≡◌, ℕ, ◌+◌, ◌≤◌, List, [], ◌∷◌, ◌++◌, Option, length, take}
 use Rattle.std.specs.Io.KnownBytes.{Appends, Keeps}
 use Rattle.fb_lines.specs.{Job.IsVerdict, Job.Job, Job.Verdict, Job.buffer_in, Ends.Outs, Line.IsLine, Line.IsTold, Line.ToldBy, Sums.no_tally, Sums.tally_with}
-use Rattle.fb_lines.specs.Texts.{Sizes, Texts, followed, silent, to_out}
+use Rattle.fb_lines.specs.Texts.{IsCounted, Sizes, Texts, followed, silent, to_out}
 use Rattle.fb_lines.specs.declared.{options.Mode.Mode, tally.Tally.Tally, fault.RunFault.RunFault}
 use Rattle.fb_lines.specs.declared.fault.RunFault.TheVariants.{OutOfMemory, WriteFault, NoteFault}
 
@@ -43,7 +43,7 @@ pub record WritesFront (text : List ℕ) (sink sink' : Option (List ℕ)) (befor
   pub taken : ℕ
   pub within : taken ≤ length text
   pub wrote : Appends sink sink' (take taken text)
-  pub written_is : written ≡ before + taken
+  pub written_is : IsCounted (before + taken) written
 
 -- this text came behind what waited: a front of both is written, with which so many bytes were in all, and the rest
 -- waits
@@ -51,7 +51,7 @@ pub record ComesBehind (waits text waits' : List ℕ) (sink sink' : Option (List
   pub front : List ℕ
   pub whole : waits ++ text ≡ front ++ waits'
   pub wrote : Appends sink sink' front
-  pub written_is : written ≡ before + length front
+  pub written_is : IsCounted (before + length front) written
 
 -- the same, where a front of both texts for the writer is written
 pub record AddsThroughBy (job : Job) (k : ℕ) (message : List ℕ) (verdict : Verdict) (text text' : Texts)
@@ -68,7 +68,7 @@ pub record AddsThrough (job : Job) (k : ℕ) (message : List ℕ) (text : Texts)
   pub front : List ℕ
   pub adds : AddsTold job k message text tally (followed (to_out front) text') tally'
   pub wrote : Appends sink sink' front
-  pub written_is : written ≡ before + length front
+  pub written_is : IsCounted (before + length front) written
 
 -- what is told by a verdict came to rest behind this text: with nothing written where there was no memory, or within
 -- both where a write failed

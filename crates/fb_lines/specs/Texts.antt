@@ -1,5 +1,5 @@
 -- What is told to two outputs: to the writer, and to the notes beside it.
-use Rattle.std.specs.Prelude.{ℕ, ◌+◌, List, [], ◌++◌, length}
+use Rattle.std.specs.Prelude.{◌≡◌, ℕ, ◌+◌, ◌<◌, ◌^◌, List, [], ◌++◌, length}
 use Rattle.fb_lines.specs.declared.output.Output.{Output}
 
 pub record Texts : Type 0 where
@@ -10,6 +10,10 @@ pub record Texts : Type 0 where
 pub record Sizes : Type 0 where
   pub out : ℕ
   pub notes : ℕ
+
+-- a count of so many is right as long as they are fewer than 2^128
+abbrev pub IsCounted : ℕ → ℕ → Type 0
+IsCounted many count = many < 2 ^ 128 → count ≡ many
 
 -- nothing
 abbrev pub silent : Texts

@@ -1,12 +1,12 @@
 //! A line with values of many bytes: it is written while it is made.
 
-ghost use Rattle.std.specs.Prelude.{All, IfSome, true, ◌≡◌, ◌+◌, ◌*◌, ◌<◌, ◌≤◌, ◌^◌, ◌++◌, ℕ, List, codes, length};
+ghost use Rattle.std.specs.Prelude.{IfSome, ◌≡◌, ◌++◌, ℕ, codes};
 ghost use Rattle.std.specs.List.{flat_map};
 ghost use Rattle.hex.specs.Hex.{encode_lower};
 ghost use Rattle.fb_lines.specs.declared.{options.Form.TheVariants.Plain, options.Mode.TheVariants.Lines};
 ghost use Rattle.fb_lines.specs.AnswerText.{lent, quoted, spaced_answer, spelled};
 ghost use Rattle.fb_lines.specs.{Job.verdict_of, Line.short_line, Line.verdict_line};
-ghost use Rattle.fb_lines.specs.Puts.{IsUnder, PutsBy, queue_of};
+ghost use Rattle.fb_lines.specs.Puts.{PutsBy, queue_of};
 
 use crate::checker::{Found, Wrong};
 use crate::options::{Form, Mode};
@@ -16,9 +16,6 @@ use fb_access::Answer;
 use fb_bytes::Sink;
 use itoa::{Buffer, Integer};
 use std::alloc::Allocator;
-
-/// More bytes than any value has.
-const TOO_MANY: usize = 1 << 40;
 
 /// The values that the line of this verdict ends with, where it is a plain one that is told to the writer, and one of
 /// them has more than 65,536 bytes.
@@ -32,8 +29,6 @@ pub fn long_answers<'v, 'b>(
     ensures lines { IfSome result (λ _. mode ≡ Lines) }
     ensures line { IfSome result (λ answers. (number : ℕ) → verdict_line number (verdict_of verdict.now)
         ≡ short_line number (verdict_of verdict.now) ++ (flat_map spaced_answer answers.now ++ codes "\n")) }
-    ensures few { IfSome result (λ answers. length answers.now ≤ 16) }
-    ensures short { IfSome result (λ answers. All (λ answer. length (lent answer) < 2 ^ 40) answers.now) }
 {
     match (form, mode, verdict) {
         (Form::Plain, Mode::Lines, Ok(found)) => {
@@ -48,20 +43,14 @@ pub fn long_answers<'v, 'b>(
     }
 }
 
-/// Whether one of these values has more than 65,536 bytes. (Where one had 2^40, none would count as long; no message
-/// has as many.)
-fn has_long(answers: &[Answer<'_>]) -> bool
-    ensures { result ≡ true → All (λ answer. length (lent answer) < 2 ^ 40) answers.now }
-{
-    let mut long = false;
+/// Whether one of these values has more than 65,536 bytes.
+fn has_long(answers: &[Answer<'_>]) -> bool {
     for answer in answers {
-        let size = lent(answer).len();
-        if size >= TOO_MANY {
-            return false;
+        if lent(answer).len() > MOST_WAITING {
+            return true;
         }
-        long = long || size > MOST_WAITING;
     }
-    long
+    false
 }
 
 /// The bytes of the buffer that a value lends.
@@ -83,11 +72,7 @@ pub fn put_line<A: Allocator, K: Sink>(
     line: &[u8],
     answers: &[Answer<'_>],
 ) -> Result<(), Unwritten>
-    requires calls { K.calls sink.old < 2 ^ 99 + 2 ^ 97 }
-    requires little { out.old.written < 2 ^ 99 + 2 ^ 97 }
-    requires few { length answers.now ≤ 16 }
-    requires short { All (λ answer. length (lent answer) < 2 ^ 40) answers.now }
-    ensures { PutsBy (begin.now ++ (line.now ++ (flat_map spaced_answer answers.now ++ codes "\n"))) (2 ^ 66) (queue_of K.Sink out.old sink.old) (queue_of K.Sink out.new sink.new) result }
+    ensures { PutsBy (begin.now ++ (line.now ++ (flat_map spaced_answer answers.now ++ codes "\n"))) (queue_of K.Sink out.old sink.old) (queue_of K.Sink out.new sink.new) result }
 {
     out.put(sink, begin)?;
     out.put(sink, line)?;
@@ -101,10 +86,7 @@ fn put_answers<A: Allocator, K: Sink>(
     sink: &mut K,
     answers: &[Answer<'_>],
 ) -> Result<(), Unwritten>
-    requires under { IsUnder (queue_of K.Sink out.old sink.old) (2 ^ 99 + 2 ^ 97 + 2 ^ 67) }
-    requires few { length answers.now ≤ 16 }
-    requires short { All (λ answer. length (lent answer) < 2 ^ 40) answers.now }
-    ensures { PutsBy (flat_map spaced_answer answers.now) (2 ^ 47) (queue_of K.Sink out.old sink.old) (queue_of K.Sink out.new sink.new) result }
+    ensures { PutsBy (flat_map spaced_answer answers.now) (queue_of K.Sink out.old sink.old) (queue_of K.Sink out.new sink.new) result }
 {
     for answer in answers {
         put_answer(out, sink, answer)?;
@@ -118,9 +100,7 @@ fn put_answer<A: Allocator, K: Sink>(
     sink: &mut K,
     answer: &Answer<'_>,
 ) -> Result<(), Unwritten>
-    requires under { IsUnder (queue_of K.Sink out.old sink.old) (2 ^ 99 + 2 ^ 97 + 2 ^ 68) }
-    requires short { length (lent answer.now) < 2 ^ 40 }
-    ensures { PutsBy (spaced_answer answer.now) (2 ^ 43) (queue_of K.Sink out.old sink.old) (queue_of K.Sink out.new sink.new) result }
+    ensures { PutsBy (spaced_answer answer.now) (queue_of K.Sink out.old sink.old) (queue_of K.Sink out.new sink.new) result }
 {
     match answer {
         Answer::Absent => out.put(sink, b" absent"),
@@ -146,9 +126,7 @@ fn put_number<A: Allocator, K: Sink, I: Integer>(
     label: &[u8],
     number: I,
 ) -> Result<(), Unwritten>
-    requires under { IsUnder (queue_of K.Sink out.old sink.old) (2 ^ 99 + 2 ^ 97 + 2 ^ 68) }
-    requires short { length label.now ≤ 16 }
-    ensures { PutsBy (label.now ++ I.text number) 56 (queue_of K.Sink out.old sink.old) (queue_of K.Sink out.new sink.new) result }
+    ensures { PutsBy (label.now ++ I.text number) (queue_of K.Sink out.old sink.old) (queue_of K.Sink out.new sink.new) result }
 {
     let mut digits = Buffer::new();
     out.put(sink, label)?;
@@ -162,10 +140,7 @@ fn put_hex<A: Allocator, K: Sink>(
     label: &[u8],
     bytes: &[u8],
 ) -> Result<(), Unwritten>
-    requires under { IsUnder (queue_of K.Sink out.old sink.old) (2 ^ 99 + 2 ^ 97 + 2 ^ 68) }
-    requires label { length label.now ≤ 16 }
-    requires short { length bytes.now < 2 ^ 40 }
-    ensures { PutsBy (label.now ++ encode_lower bytes.now) (2 ^ 43) (queue_of K.Sink out.old sink.old) (queue_of K.Sink out.new sink.new) result }
+    ensures { PutsBy (label.now ++ encode_lower bytes.now) (queue_of K.Sink out.old sink.old) (queue_of K.Sink out.new sink.new) result }
 {
     out.put(sink, label)?;
     put_bytes(out, sink, bytes, Spelling::Digits)
@@ -177,9 +152,7 @@ fn put_text<A: Allocator, K: Sink>(
     sink: &mut K,
     bytes: &[u8],
 ) -> Result<(), Unwritten>
-    requires under { IsUnder (queue_of K.Sink out.old sink.old) (2 ^ 99 + 2 ^ 97 + 2 ^ 68) }
-    requires short { length bytes.now < 2 ^ 40 }
-    ensures { PutsBy (codes " " ++ quoted bytes.now) (2 ^ 43) (queue_of K.Sink out.old sink.old) (queue_of K.Sink out.new sink.new) result }
+    ensures { PutsBy (codes " " ++ quoted bytes.now) (queue_of K.Sink out.old sink.old) (queue_of K.Sink out.new sink.new) result }
 {
     out.put(sink, b" \"")?;
     put_bytes(out, sink, bytes, Spelling::Quoted)?;
@@ -193,8 +166,7 @@ fn put_bytes<A: Allocator, K: Sink>(
     bytes: &[u8],
     spelling: Spelling,
 ) -> Result<(), Unwritten>
-    requires under { IsUnder (queue_of K.Sink out.old sink.old) (2 ^ 99 + 2 ^ 97 + 2 ^ 69) }
-    ensures { PutsBy (flat_map (spelled spelling) bytes.now) (4 * length bytes.now) (queue_of K.Sink out.old sink.old) (queue_of K.Sink out.new sink.new) result }
+    ensures { PutsBy (flat_map (spelled spelling) bytes.now) (queue_of K.Sink out.old sink.old) (queue_of K.Sink out.new sink.new) result }
 {
     for byte in bytes {
         let (spelled, length) = spell(spelling, *byte);

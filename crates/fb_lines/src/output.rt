@@ -1,12 +1,12 @@
 //! What a run tells: gathered, counted, and written together.
 
-ghost use Rattle.std.specs.Prelude.{Err, IfErr, IsTrue, Ok, OnOk, OnErr, ◌≡◌, ◌⊎◌, ◌+◌, ◌<◌, ◌≤◌, ◌^◌, ◌++◌, length, true, false};
-ghost use Rattle.fb_lines.specs.Ends.{GrowsBy, IsBelow, Takes, load_of, outs_of, writer_of};
+ghost use Rattle.std.specs.Prelude.{Err, IfErr, IsTrue, Ok, OnOk, OnErr, ◌≡◌, ◌+◌, ◌<◌, ◌≤◌, ◌^◌, ◌++◌, length, true, false};
+ghost use Rattle.fb_lines.specs.Ends.{Takes, outs_of, writer_of};
 ghost use Rattle.fb_lines.specs.{Faults.IsCausedOut, Faults.IsCausedWriting, Faults.IsUnfailedOut, AnswerText.label_text};
 ghost use Rattle.fb_lines.specs.{Line.IsLine, Line.verdict_line, Sums.count_of, Sums.no_tally, Sums.tally_with};
 ghost use Rattle.fb_lines.specs.Job.{HasRoom, brief_verdict, is_brief, verdict_of};
 ghost use Rattle.fb_lines.specs.Lines.{AddsBy, AddsText, AddsThrough, AddsThroughBy, AddsTold, StopsBehind, StopsIn, WritesFronts};
-ghost use Rattle.fb_lines.specs.Texts.{silent, size, waiting, written_by};
+ghost use Rattle.fb_lines.specs.Texts.{IsCounted, silent, size, waiting, written_by};
 
 use crate::checker::{Checker, Course, Found, Wrong};
 use crate::counter::Counter;
@@ -207,8 +207,6 @@ impl<A: Allocator> Output<A> {
         requires room { HasRoom checker.now room.old }
         requires few { count_of self.old.counter < 2 ^ 63 }
         requires short { length message.now < 2 ^ 31 }
-        requires writes { K.calls writer.old < 2 ^ 99 + 2 ^ 97 }
-        requires written { self.old.out.written < 2 ^ 99 + 2 ^ 97 }
         ensures ok { OnOk result (AddsThrough checker.now (1 + count_of self.old.counter) message.now
             (waiting self.old) self.old.counter (waiting self.new) self.new.counter
             (K.contents writer.old) (K.contents writer.new) self.old.out.written self.new.out.written) }
@@ -217,8 +215,6 @@ impl<A: Allocator> Output<A> {
             (waiting self.old) self.old.counter self.new.counter (K.contents writer.old) (K.contents writer.new) self.old.out.written fault) }
         ensures failed { IfErr result (IsCausedWriting (writer_of K.Sink writer.old) (writer_of K.Sink writer.new)) }
         ensures unfailed { OnOk result (K.failures writer.new ≡ K.failures writer.old) }
-        ensures little { OnOk result (self.new.out.written ≤ self.old.out.written + 2 ^ 67) }
-        ensures calls { OnOk result (K.calls writer.new ≤ K.calls writer.old + 2 ^ 67) }
         ensures noted { self.new.notes.written ≡ self.old.notes.written }
         ensures room { HasRoom checker.now room.new }
     {
@@ -245,16 +241,12 @@ impl<A: Allocator> Output<A> {
         writer: &mut K,
     ) -> Result<(), RunFault>
         requires begin { begin.now ≡ label_text checker.now.label }
-        requires writes { K.calls writer.old < 2 ^ 99 + 2 ^ 97 }
-        requires written { self.old.out.written < 2 ^ 99 + 2 ^ 97 }
         ensures ok { OnOk result (AddsThroughBy checker.now number message.now (verdict_of verdict.now) (waiting self.old) (waiting self.new)
             (K.contents writer.old) (K.contents writer.new) self.old.out.written self.new.out.written) }
         ensures err { IfErr result (λ fault. StopsIn checker.now number message.now (verdict_of verdict.now) (waiting self.old).out
             (K.contents writer.old) (K.contents writer.new) self.old.out.written fault) }
         ensures failed { IfErr result (IsCausedWriting (writer_of K.Sink writer.old) (writer_of K.Sink writer.new)) }
         ensures unfailed { OnOk result (K.failures writer.new ≡ K.failures writer.old) }
-        ensures little { OnOk result (self.new.out.written ≤ self.old.out.written + 2 ^ 67) }
-        ensures calls { OnOk result (K.calls writer.new ≤ K.calls writer.old + 2 ^ 67) }
         ensures counted { self.new.counter ≡ self.old.counter }
         ensures noted { self.new.notes.written ≡ self.old.notes.written }
     {
@@ -365,32 +357,25 @@ impl<A: Allocator> Output<A> {
         }
     }
 
-    /// Whether so much waits that it is written before the next message is checked. (Where it were 2^40 bytes, they
-    /// would wait on; no line and no message has as many.)
-    #[tactic(auto, using(std::proofs::lemmas::Grind::common_steps))]
+    /// Whether so much waits that it is written before the next message is checked.
     pub fn is_much(&self) -> bool
-        ensures much { result ≡ true → 65536 ≤ size (waiting self.now) × (size (waiting self.now) < 2 ^ 40) }
-        ensures little { result ≡ false → size (waiting self.now) < 65536 ⊎ 2 ^ 40 ≤ size (waiting self.now) }
+        ensures much { result ≡ true → 65536 ≤ size (waiting self.now) }
+        ensures little { result ≡ false → size (waiting self.now) < 65536 }
     {
-        let waits = self.out.bytes.len() + self.notes.bytes.len();
-        (MOST_WAITING..1 << 40).contains(&waits)
+        self.out.bytes.len() + self.notes.bytes.len() >= MOST_WAITING
     }
 
     /// Writes what waits, first for the writer and then for the notes.
     #[tactic(auto, using(std::proofs::lemmas::Grind::common_steps))]
     pub fn flush<K: Sink, N: Sink>(&mut self, writer: &mut K, notes: &mut N) -> Result<(), RunFault>
-        requires load { IsBelow (load_of K.Sink N.Sink writer.old notes.old self.old) (2 ^ 99 + 2 ^ 98) }
         ensures takes { OnOk result (Takes (outs_of K.Sink N.Sink writer.old notes.old) (outs_of K.Sink N.Sink writer.new notes.new) (waiting self.old)) }
         ensures empty { OnOk result (waiting self.new ≡ silent) }
-        ensures written { OnOk result (self.new.out.written ≡ self.old.out.written + length (waiting self.old).out) }
-        ensures noted { OnOk result (self.new.notes.written ≡ self.old.notes.written + length (waiting self.old).notes) }
+        ensures written { OnOk result (IsCounted (self.old.out.written + length (waiting self.old).out) self.new.out.written) }
+        ensures noted { OnOk result (IsCounted (self.old.notes.written + length (waiting self.old).notes) self.new.notes.written) }
         ensures err { IfErr result (WritesFronts (waiting self.old) (outs_of K.Sink N.Sink writer.old notes.old) (outs_of K.Sink N.Sink writer.new notes.new) (written_by self.old)) }
         ensures failed { IfErr result (IsCausedOut (outs_of K.Sink N.Sink writer.old notes.old) (outs_of K.Sink N.Sink writer.new notes.new)) }
         ensures unfailed { OnOk result (IsUnfailedOut (outs_of K.Sink N.Sink writer.old notes.old) (outs_of K.Sink N.Sink writer.new notes.new)) }
         ensures counted { self.new.counter ≡ self.old.counter }
-        ensures load { GrowsBy (load_of K.Sink N.Sink writer.old notes.old self.old) (load_of K.Sink N.Sink writer.new notes.new self.new) (2 ^ 63) }
-        ensures pushes { K.calls writer.new ≤ K.calls writer.old + length (waiting self.old).out }
-        ensures mentions { N.calls notes.new ≤ N.calls notes.old + length (waiting self.old).notes }
     {
         if let Err(Unwritten { written }) = self.out.flush(writer) {
             return Err(RunFault::WriteFault { written });

@@ -1,8 +1,9 @@
 //! Writing to a sink that may take a text in parts, and a sink that keeps nothing.
 
-ghost use Rattle.std.specs.Prelude.{IfOk, OnOk, OnErr, IfErr, ◌≡◌, ◌+◌, ◌<◌, ◌≤◌, ◌^◌, ◌++◌, [], None, length, take};
+ghost use Rattle.std.specs.Prelude.{IfOk, OnOk, OnErr, IfErr, ◌≡◌, ◌+◌, ◌<◌, ◌≤◌, ◌++◌, [], None, length, take};
 ghost use Rattle.std.specs.Io.KnownBytes.{Appends};
-ghost use Rattle.fb_lines.specs.{Lines.WritesFront, Puts.PutsBy, Puts.queue_of};
+ghost use Rattle.fb_bytes.specs.Ends.{one_more};
+ghost use Rattle.fb_lines.specs.{Lines.WritesFront, Puts.PutsBy, Puts.queue_of, Texts.IsCounted};
 
 use fb_bytes::Sink;
 use std::alloc::Allocator;
@@ -11,13 +12,10 @@ use std::io;
 /// Writes the text, and answers how many of its bytes were taken: fewer only where the writer failed or took
 /// nothing.
 pub fn push_all<K: Sink>(sink: &mut K, text: &[u8]) -> usize
-    requires { K.calls sink.old + length text.now < 2 ^ 100 }
     ensures within { result ≤ length text.now }
     ensures bytes { Appends (K.contents sink.old) (K.contents sink.new) (take result text.now) }
-    ensures failed { result < length text.now → K.failures sink.new ≡ K.failures sink.old + 1 }
+    ensures failed { result < length text.now → K.failures sink.new ≡ one_more (K.failures sink.old) }
     ensures unfailed { result ≡ length text.now → K.failures sink.new ≡ K.failures sink.old }
-    ensures calls { K.calls sink.new ≤ K.calls sink.old + length text.now }
-    ensures more { K.calls sink.old ≤ K.calls sink.new }
 {
     let mut rest = text;
     while !rest.is_empty() {
@@ -29,7 +27,7 @@ pub fn push_all<K: Sink>(sink: &mut K, text: &[u8]) -> usize
     text.len() - rest.len()
 }
 
-/// A write failed or took nothing: the sink took so many bytes in all.
+/// A write failed or took nothing: the sink took so many bytes in all, as far as they can be counted.
 #[derive(Clone, Copy)]
 pub struct Unwritten {
     pub written: u128,
@@ -37,17 +35,14 @@ pub struct Unwritten {
 
 /// Writes the text to a sink that took so many bytes before, and answers how many it took in all.
 fn write_all<K: Sink>(sink: &mut K, text: &[u8], before: u128) -> Result<u128, Unwritten>
-    requires calls { K.calls sink.old < 2 ^ 99 + 2 ^ 98 }
-    requires little { before < 2 ^ 100 }
     ensures ok { OnOk result (Appends (K.contents sink.old) (K.contents sink.new) text.now) }
-    ensures written { IfOk result (λ written. written ≡ before + length text.now) }
+    ensures written { IfOk result (λ written. IsCounted (before + length text.now) written) }
     ensures err { IfErr result (λ cause. WritesFront text.now (K.contents sink.old) (K.contents sink.new) before cause.written) }
-    ensures failed { OnErr result (K.failures sink.new ≡ K.failures sink.old + 1) }
+    ensures failed { OnErr result (K.failures sink.new ≡ one_more (K.failures sink.old)) }
     ensures unfailed { OnOk result (K.failures sink.new ≡ K.failures sink.old) }
-    ensures calls { K.calls sink.new ≤ K.calls sink.old + length text.now }
 {
     let taken = push_all(sink, text);
-    let written = before + taken as u128;
+    let written = before.saturating_add(taken as u128);
     if taken < text.len() {
         return Err(Unwritten { written });
     }
@@ -80,18 +75,13 @@ impl<'a, A: Allocator> Pending<&'a A> {
 impl<A: Allocator> Pending<A> {
     /// Writes the bytes that wait.
     pub fn flush<K: Sink>(&mut self, sink: &mut K) -> Result<(), Unwritten>
-        requires calls { K.calls sink.old < 2 ^ 99 + 2 ^ 98 }
-        requires little { self.old.written < 2 ^ 100 }
         ensures ok { OnOk result (Appends (K.contents sink.old) (K.contents sink.new) self.old.bytes.items) }
         ensures empty { OnOk result (self.new.bytes.items ≡ []) }
-        ensures written { OnOk result (self.new.written ≡ self.old.written + length self.old.bytes.items) }
+        ensures written { OnOk result (IsCounted (self.old.written + length self.old.bytes.items) self.new.written) }
         ensures err { IfErr result (λ cause. WritesFront self.old.bytes.items (K.contents sink.old) (K.contents sink.new)
             self.old.written cause.written) }
-        ensures failed { OnErr result (K.failures sink.new ≡ K.failures sink.old + 1) }
+        ensures failed { OnErr result (K.failures sink.new ≡ one_more (K.failures sink.old)) }
         ensures unfailed { OnOk result (K.failures sink.new ≡ K.failures sink.old) }
-        ensures little { self.new.written ≤ self.old.written + 2 ^ 63 }
-        ensures calls { K.calls sink.new ≤ K.calls sink.old + 2 ^ 63 }
-        ensures pushes { K.calls sink.new ≤ K.calls sink.old + length self.old.bytes.items }
     {
         self.written = write_all(sink, self.bytes.as_slice(), self.written)?;
         self.bytes.clear();
@@ -101,9 +91,7 @@ impl<A: Allocator> Pending<A> {
     /// Adds a text behind what waits. Where much waits by then, it is written; where memory is refused, so is the text
     /// itself.
     pub fn put<K: Sink>(&mut self, sink: &mut K, text: &[u8]) -> Result<(), Unwritten>
-        requires calls { K.calls sink.old < 2 ^ 99 + 2 ^ 97 + 2 ^ 96 }
-        requires little { self.old.written < 2 ^ 99 + 2 ^ 98 }
-        ensures { PutsBy text.now (length text.now) (queue_of K.Sink self.old sink.old) (queue_of K.Sink self.new sink.new) result }
+        ensures { PutsBy text.now (queue_of K.Sink self.old sink.old) (queue_of K.Sink self.new sink.new) result }
     {
         let added = self.bytes.extend_from_slice(text);
         if added.is_ok() && self.bytes.len() < MOST_WAITING {
@@ -140,7 +128,7 @@ impl Sink for Nowhere {
     ghost failures = { λ _. 0 };
 
     fn push(&mut self, piece: &[u8]) -> io::Result<usize> {
-        self.calls += 1;
+        self.calls = self.calls.saturating_add(1);
         Ok(piece.len())
     }
 

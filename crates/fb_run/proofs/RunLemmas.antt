@@ -1,18 +1,19 @@
 -- A run over a stream: what was read and written, and then one piece more.
-use Rattle.std.proofs.Common.{◌≡◌, ℕ, ◌+◌, ◌-◌, ◌*◌, ◌^◌, ◌≤◌, Bool, true, false, List, [], ◌++◌, take, drop, refl, sym, ap, subst, ◌∙◌, arith, append-nil, append_assoc, length-append, length-take-le, take-append-drop, Result, Ok, Err, IsErrAnd}
+use Rattle.std.proofs.Common.{◌≡◌, ℕ, ◌+◌, ◌*◌, ◌≤◌, Bool, true, false, List, [], ◌++◌, take, drop, refl, sym, ap, subst, ◌∙◌, arith, append-nil, append_assoc, length, length-append, length-take-le, take-append-drop, Result, Ok, Err, IsErrAnd}
 use Rattle.std.specs.Io.KnownBytes.{Consumes}
 use Rattle.std.proofs.KnownBytes.{Consumes-nil, Appends-kept, Appends-trans, Keeps-refl}
 use mathlib.Core.Logic.{inr}
 use Rattle.fb_lines.specs.{Ends.Ends, Ends.Outs, Ends.Reader, Ends.Takes, Job.Job, Sums.count_of, Sums.no_tally, Lines.WritesFronts}
 use Rattle.fb_lines.specs.Faults.{End, EndsBeside, IsCaused, IsCausedOut, IsUnfailedOut, end_of, failed}
 use Rattle.fb_run.specs.{Leave.IsUnended, Run.answer_by, Run.IsRunBeside, Run.IsRunFrom, Run.Runs}
-use Rattle.fb_lines.specs.Texts.{Sizes, Texts, followed, no_bytes, silent, to_notes}
+use Rattle.fb_lines.specs.Texts.{IsCounted, Sizes, Texts, followed, no_bytes, silent, to_notes}
 use Rattle.fb_run.specs.Stream.{FailsStream, IsReady, Standing, Tells, TellsSome, WhyStream, Writes, at_first}
-use Rattle.fb_run.specs.Pieces.{Carry, Grows}
+use Rattle.fb_run.specs.Pieces.{Carry}
 use Rattle.fb_lines.specs.declared.fault.RunFault.{RunFault}
 use Rattle.fb_lines.specs.declared.fault.RunFault.TheVariants as run
 use Rattle.fb_lines.specs.declared.tally.Tally.{Tally}
 use Rattle.fb_run.specs.declared.run.Ran.{Ran}
+use Rattle.fb_lines.proofs.BehindLemmas.{both_counted}
 use Rattle.fb_run.proofs.{StreamLemmas.rests_memory, StreamLemmas.tells_nothing, TakesLemmas.takes_nothing, TakesLemmas.writes_nothing}
 use Rattle.fb_run.proofs.TextsLemmas.{followed_silent, same_texts}
 
@@ -28,7 +29,6 @@ pub record Sofar (job : Job) (first now : Reader) (before here : Carry) (turns l
   pub fewer : left ≤ turns
   pub calls : now.calls + left ≡ first.calls + turns
   pub few : count_of here.stand.tally + 65537 * left ≤ 65537 * turns
-  pub grows : Grows before here (9 * 2 ^ 64 * (turns - left)) (2 ^ 64 * (turns - left))
   pub asks : IsUnended first now
   pub unfailed : IsUnfailedOut before.outs here.outs
 
@@ -45,7 +45,6 @@ sofar_nothing job reader carry turns ready is = record {
   fewer = omega arith;
   calls = omega arith;
   few = omega (arith, ap (λ (s : Standing). count_of s.tally) is);
-  grows = (omega arith, omega arith, omega arith, omega arith);
   asks = (refl, inr (refl, refl));
   unfailed = (refl, refl);
 }
@@ -63,6 +62,9 @@ told_empty job stand bytes text none tells =
 -- a text with the front of more behind it, and then the rest
 front_of : (text more : List ℕ) (taken : ℕ) → text ++ more ≡ (text ++ take taken more) ++ drop taken more
 front_of text more taken = ap (λ l. text ++ l) (sym (take-append-drop taken more)) ∙ sym (append_assoc text (take taken more) (drop taken more))
+
+from_none : {many count : ℕ} → IsCounted (0 + many) count → IsCounted many count
+from_none right few = omega (arith, right (omega (arith, few)))
 
 -- of what is told of these bytes this was written and noted, and then came a fault that it accounts for
 fails_at : (job : Job) (bytes : List ℕ) (told gone : Texts) (tally : Tally) (first now : Ends) (fault : RunFault) → Consumes first.reader.left now.reader.left bytes → Takes first.outs now.outs gone
@@ -82,7 +84,7 @@ fails_write job bytes gone waits tally first now between written (run.WriteFault
       noted = Appends-kept first.outs.notes.bytes between.notes.bytes now.outs.notes.bytes gone.notes writes.takes.noted keeps;
     } in
     fails_at job bytes (followed gone waits) all tally first now (run.WriteFault count) read takes some (
-      omega (arith, front.written_is, writes.written_is, length-append gone.out (take front.taken waits.out), length-take-le front.taken waits.out front.within),
+      from_none (both_counted 0 _ _ (length gone.out) front.taken _ (length-append gone.out (take front.taken waits.out) ∙ ap (λ k. length gone.out + k) (length-take-le front.taken waits.out front.within)) writes.written_is front.written_is),
       (rest, subst (λ (t : Texts). TellsSome job bytes t tally) whole some),
     )
 fails_write job bytes gone waits tally first now between written (run.NoteFault count) read writes some (more, front) =
@@ -95,7 +97,7 @@ fails_write job bytes gone waits tally first now between written (run.NoteFault 
       noted = Appends-trans first.outs.notes.bytes between.notes.bytes now.outs.notes.bytes gone.notes (take front.taken waits.notes) writes.takes.noted front.wrote;
     } in
     fails_at job bytes (followed gone waits) all tally first now (run.NoteFault count) read takes some (
-      omega (arith, front.written_is, writes.noted_is, length-append gone.notes (take front.taken waits.notes), length-take-le front.taken waits.notes front.within),
+      from_none (both_counted 0 _ _ (length gone.notes) front.taken _ (length-append gone.notes (take front.taken waits.notes) ∙ ap (λ k. length gone.notes + k) (length-take-le front.taken waits.notes front.within)) writes.noted_is front.written_is),
       (rest, subst (λ (t : Texts). TellsSome job bytes t tally) whole some),
     )
 fails_write job bytes gone waits tally first now between written _ read writes some never = absurd never
@@ -124,9 +126,9 @@ ends_answer first now turns tally (Ok done) answer is ends = rw is ends
 ends_answer first now turns tally (Err fault) answer is ends = rw is ends
 
 -- which of both the input is
-pub runs_from : {job : Job} {before after : Ends} {turns tells tells' : ℕ} {tally : Tally} {end : End} {from which : Bool} → from ≡ which
-    → Runs from job before after turns tells tells' tally end → Runs which job before after turns tells tells' tally end
-runs_from {job} {before} {after} {turns} {tells} {tells'} {tally} {end} is runs = subst (λ b. Runs b job before after turns tells tells' tally end) is runs
+pub runs_from : {job : Job} {before after : Ends} {turns : ℕ} {tally : Tally} {end : End} {from which : Bool} → from ≡ which
+    → Runs from job before after turns tally end → Runs which job before after turns tally end
+runs_from {job} {before} {after} {turns} {tally} {end} is runs = subst (λ b. Runs b job before after turns tally end) is runs
 
 -- the exit of a `?`
 pub err_exit : {A E : Type 0} (answer : Result A E) (x : E) (P : Result A E → Type 0) → IsErrAnd answer (λ e. e ≡ x) → P (Err x) → P answer

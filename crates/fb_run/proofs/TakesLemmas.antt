@@ -2,6 +2,7 @@
 use Rattle.std.proofs.{Common.arith, Common.length-append, KnownBytes.Appends-kept, KnownBytes.Appends-nil, KnownBytes.Appends-trans}
 use Rattle.std.specs.Prelude.{[]}
 use Rattle.fb_lines.specs.Ends.{Outs, Takes, Unwritten}
+use Rattle.fb_lines.proofs.BehindLemmas.{both_counted}
 use Rattle.fb_run.specs.Stream.{Writes}
 use Rattle.fb_lines.specs.Texts.{Sizes, Texts, followed, silent}
 
@@ -23,11 +24,11 @@ takes_then a b c one other first second = record {
 
 -- and how many bytes these are
 pub writes_nothing : (o : Outs) (size : Sizes) → Writes silent o o size size
-writes_nothing o size = record { takes = takes_nothing o; written_is = omega arith; noted_is = omega arith }
+writes_nothing o size = record { takes = takes_nothing o; written_is = λ few. omega arith; noted_is = λ few. omega arith }
 
 pub writes_then : (one other : Texts) (a b c : Outs) (size size' size'' : Sizes) → Writes one a b size size' → Writes other b c size' size'' → Writes (followed one other) a c size size''
 writes_then one other a b c size size' size'' first second = record {
   takes = takes_then a b c one other first.takes second.takes;
-  written_is = omega (arith, first.written_is, second.written_is, length-append one.out other.out);
-  noted_is = omega (arith, first.noted_is, second.noted_is, length-append one.notes other.notes);
+  written_is = both_counted _ _ _ _ _ _ (length-append one.out other.out) first.written_is second.written_is;
+  noted_is = both_counted _ _ _ _ _ _ (length-append one.notes other.notes) first.noted_is second.noted_is;
 }

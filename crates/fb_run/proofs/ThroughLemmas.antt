@@ -1,5 +1,5 @@
 -- A piece of which a front was passed, and what is told in it was written.
-use Rattle.std.proofs.Common.{◌≡◌, ℕ, ◌+◌, ◌-◌, ◌*◌, ◌^◌, ◌<◌, ◌≤◌, Bool, false, List, [], ◌++◌, Option, Result, Err, length, take, drop, refl, sym, ap, subst, ◌∙◌, arith, append-nil, append_assoc, length-take-le, take-append-drop}
+use Rattle.std.proofs.Common.{◌≡◌, ℕ, ◌+◌, ◌-◌, ◌<◌, ◌≤◌, Bool, false, List, [], ◌++◌, Option, Result, Err, length, take, drop, refl, sym, ap, subst, ◌∙◌, arith, append-nil, append_assoc, length-take-le, take-append-drop}
 use Rattle.std.specs.Io.KnownBytes.{Consumes, Keeps}
 use Rattle.std.proofs.{KnownBytes.Appends-nil, KnownBytes.Consumes-trans, KnownBytes.Keeps-refl, lemmas.List.length-drop}
 use mathlib.Core.Logic.{inl, inr}
@@ -8,7 +8,7 @@ use Rattle.fb_bytes.specs.declared.stream_fault.StreamFault.TheVariants as strea
 use Rattle.fb_lines.specs.Ends.{Outs, Reader, Takes, Writer, beside}
 use Rattle.fb_lines.specs.{Faults.IsCausedOut, Faults.IsUnfailedOut, Job.Beside, Job.Job, Sums.count_of}
 use Rattle.fb_lines.specs.Lines.{AddsTold, AddsThrough, StopsBehind, WritesFront, WritesFronts}
-use Rattle.fb_lines.specs.Texts.{Sizes, Texts, followed, no_bytes, silent, to_out}
+use Rattle.fb_lines.specs.Texts.{IsCounted, Sizes, Texts, followed, no_bytes, silent, to_out}
 use Rattle.fb_lines.specs.declared.{tally.Tally.Tally, fault.RunFault.RunFault}
 use Rattle.fb_lines.specs.declared.fault.RunFault.TheVariants as run
 use Rattle.fb_lines.proofs.Pieces.{front-more}
@@ -68,9 +68,9 @@ through_stops job before old new piece message used whole tally' s s' (run.Write
 through_stops job before old new piece message used whole tally' s s' _ none limit held feeds at is (verdict, is_verdict, never, counted) = absurd never
 
 -- the message that was held was passed, with nothing noted
-pub passes_held : {job : Job} {piece : List ℕ} {before : Carry} {stand : Standing} {framer : Framing} {room : Beside} {writer : Writer} {calls : ℕ} (used : ℕ) (rest : List ℕ)
-    → rest ≡ drop used piece → PassesHeld job piece used before.stand stand framer room before.outs.writer writer before.writes calls
-    → Passes job piece rest before (record before { stand = stand; framer = framer; room = room; outs = record before.outs { writer = writer }; writes = calls }) (2 ^ 40 * (length piece - length rest))
+pub passes_held : {job : Job} {piece : List ℕ} {before : Carry} {stand : Standing} {framer : Framing} {room : Beside} {writer : Writer} (used : ℕ) (rest : List ℕ)
+    → rest ≡ drop used piece → PassesHeld job piece used before.stand stand framer room before.outs.writer writer
+    → Passes job piece rest before (record before { stand = stand; framer = framer; room = room; outs = record before.outs { writer = writer } })
 passes_held {piece = piece} {before} used rest at held =
     let left : length rest ≡ length piece - used = ap length at ∙ length-drop used piece in
     record {
@@ -78,19 +78,18 @@ passes_held {piece = piece} {before} used rest at held =
       text = to_out held.onward.front;
       whole = sym (ap (λ l. take used piece ++ l) at ∙ take-append-drop used piece);
       onward = held.onward.onward;
-      writes = record { takes = record { wrote = held.onward.wrote; noted = Appends-nil before.outs.notes.bytes }; written_is = held.onward.written_is; noted_is = omega (arith, held.noted) };
+      writes = record { takes = record { wrote = held.onward.wrote; noted = Appends-nil before.outs.notes.bytes }; written_is = held.onward.written_is; noted_is = λ few. omega (arith, held.noted) };
       ready = held.ready;
       few = omega (arith, left, held.few);
       unfailed = (held.unfailed, refl);
-      grows = (omega (arith, held.calls_are), omega arith, omega (arith, held.little), omega (arith, held.noted));
     }
 
 -- or the run came to rest in it
-pub stops_held : {job : Job} {piece : List ℕ} {before : Carry} {stand : Standing} {framer : Framing} {room : Beside} {writer : Writer} {calls : ℕ} {fault : RunFault}
+pub stops_held : {job : Job} {piece : List ℕ} {before : Carry} {stand : Standing} {framer : Framing} {room : Beside} {writer : Writer} {fault : RunFault}
     → StopsHeld job piece before.stand stand before.outs.writer writer fault
-    → StopsPiece job piece before (record before { stand = stand; framer = framer; room = room; outs = record before.outs { writer = writer }; writes = calls }) fault
+    → StopsPiece job piece before (record before { stand = stand; framer = framer; room = room; outs = record before.outs { writer = writer } }) fault
 stops_held {job} {piece} {before} {stand} {writer = writer} {fault = fault} held =
-    record { stops = amid fault held.halts; cause = held.cause before.outs.notes; tells_are = omega arith }
+    record { stops = amid fault held.halts; cause = held.cause before.outs.notes }
   where
     after : Outs
     after = record before.outs { writer = writer }
@@ -111,7 +110,7 @@ stops_held {job} {piece} {before} {stand} {writer = writer} {fault = fault} held
         }
     amid f halts = still f halts
 
-module _ {job : Job} {piece rest : List ℕ} {before mid : Carry} {least : ℕ} (first : Passes job piece rest before mid least) where
+module _ {job : Job} {piece rest : List ℕ} {before mid : Carry} (first : Passes job piece rest before mid) where
   -- what comes of the rest, up to where one looks, comes of the piece up to there
   goes_on : (P : List ℕ → Texts → Type 0) {more all : List ℕ} (text : Texts) → all ≡ first.front ++ more
       → ((bytes : List ℕ) (written : Texts) → Tells job bytes (followed written mid.stand.text) mid.stand.tally mid.stand.held → P (bytes ++ more) (followed written text))
@@ -123,12 +122,11 @@ module _ {job : Job} {piece rest : List ℕ} {before mid : Carry} {least : ℕ} 
       (subst (λ (l : List ℕ). P l (followed (followed written first.text) text)) (append_assoc bytes first.front more ∙ ap (λ l. bytes ++ l) (sym at)) (second (bytes ++ first.front) (followed written first.text) begun))
 
   -- n bytes more were passed, and all that is told of them is written
-  pub passes_more : {stand : Standing} {framer : Framing} {room : Beside} {text : Texts} {tally : Tally} {written : Sizes} {outs : Outs} {writes tells most : ℕ} (n k : ℕ) (rest' : List ℕ) → rest' ≡ drop n rest
-      → Uses job rest n mid.stand stand framer room → Takes mid.outs outs stand.text → text ≡ silent → tally ≡ stand.tally → written.out ≡ stand.written.out + length stand.text.out
-      → written.notes ≡ stand.written.notes + length stand.text.notes → IsUnfailedOut mid.outs outs
-      → (writes ≤ mid.writes + k) × (tells ≤ mid.tells + k) × (written.out ≤ stand.written.out + k) × (written.notes ≤ stand.written.notes + k) → least + k ≤ most
-      → Passes job piece rest' before (record { stand = record { text = text; tally = tally; held = stand.held; written = written }; framer = framer; room = room; outs = outs; writes = writes; tells = tells }) most
-  passes_more {stand} {tally = tally} {written} {outs} n k rest' at uses takes none counted out notes unfailed grows fits =
+  pub passes_more : {stand : Standing} {framer : Framing} {room : Beside} {text : Texts} {tally : Tally} {written : Sizes} {outs : Outs} (n : ℕ) (rest' : List ℕ) → rest' ≡ drop n rest
+      → Uses job rest n mid.stand stand framer room → Takes mid.outs outs stand.text → text ≡ silent → tally ≡ stand.tally → IsCounted (stand.written.out + length stand.text.out) written.out
+      → IsCounted (stand.written.notes + length stand.text.notes) written.notes → IsUnfailedOut mid.outs outs
+      → Passes job piece rest' before (record { stand = record { text = text; tally = tally; held = stand.held; written = written }; framer = framer; room = room; outs = outs })
+  passes_more {stand} {tally = tally} {written} {outs} n rest' at uses takes none counted out notes unfailed =
       let told = followed first.text stand.text in
       let left : length rest' ≡ length rest - n = ap length at ∙ length-drop n rest in
       record {
@@ -139,14 +137,13 @@ module _ {job : Job} {piece rest : List ℕ} {before mid : Carry} {least : ℕ} 
             (sym (ap (λ t. followed told t) none ∙ followed_silent told))
             (goes_on (λ l t. Tells job l t tally stand.held) stand.text refl (subst (λ (k : Tally). Onward job mid.stand (take n rest) (record stand { tally = k })) (sym counted) uses.onward));
         writes = writes_then first.text stand.text before.outs mid.outs outs before.stand.written mid.stand.written _ first.writes
-            (record { takes = takes; written_is = out ∙ ap (λ k. k + length stand.text.out) uses.written; noted_is = notes ∙ ap (λ k. k + length stand.text.notes) uses.noted });
+            (record { takes = takes; written_is = rw uses.written at out; noted_is = rw uses.noted at notes });
         ready = uses.ready;
         few = omega (arith, left, ap count_of counted, uses.within, uses.few, first.few);
         unfailed = (unfailed.0 ∙ first.unfailed.0, unfailed.1 ∙ first.unfailed.1);
-        grows = (omega (arith, grows.0, first.grows.0, fits), omega (arith, grows.1, first.grows.1, fits), omega (arith, grows.2, uses.written, first.grows.2, fits), omega (arith, grows.3, uses.noted, first.grows.3, fits));
       }
 
-  module _ (few : least ≤ 2 ^ 63) (stand : Standing) {after : Carry} {fault : RunFault} (counted : after.stand.tally ≡ stand.tally) (tells : after.tells ≤ mid.tells + 2 ^ 63) where
+  module _ (stand : Standing) {after : Carry} {fault : RunFault} (counted : after.stand.tally ≡ stand.tally) where
     -- the writer or the notes failed where what waited was written
     pub stops_flush : (framer : Framing) (room : Beside) (used : Result ℕ RunFault) → UsesBy job rest mid.stand stand framer room used → WritesFronts stand.text mid.outs after.outs stand.written fault
         → IsCausedOut mid.outs after.outs fault → StopsPiece job piece before after fault
@@ -159,11 +156,10 @@ module _ {job : Job} {piece rest : List ℕ} {before mid : Carry} {least : ℕ} 
             gathers = rw counted (goes_on (λ l t. TellsSome job l t stand.tally) stand.text first.whole some.0);
             between = mid.outs;
             written = stand.written;
-            writes = record { takes = first.writes.takes; written_is = some.1 ∙ first.writes.written_is; noted_is = some.2 ∙ first.writes.noted_is };
+            writes = record { takes = first.writes.takes; written_is = rw some.1 first.writes.written_is; noted_is = rw some.2 first.writes.noted_is };
             within = within;
           };
           cause = λ reads left ended. caused_then reads reads left ended before.outs mid.outs after.outs fault refl first.unfailed caused;
-          tells_are = omega (arith, tells, few, first.grows.1);
         }
 
     -- it was written, and then the run came to rest
@@ -175,7 +171,6 @@ module _ {job : Job} {piece rest : List ℕ} {before mid : Carry} {least : ℕ} 
         takes_then before.outs mid.outs after.outs first.text stand.text first.writes.takes takes,
       );
       cause = feed_caused before.outs after.outs fault stops.kind (unfailed.0 ∙ first.unfailed.0, unfailed.1 ∙ first.unfailed.1);
-      tells_are = omega (arith, tells, few, first.grows.1);
     }
 
 module _ {job : Job} {first now : Reader} {before here : Carry} {turns left : ℕ} (sofar : Sofar job first now before here turns left) (k : ℕ) (piece : List ℕ) (reader : Reader)
@@ -187,11 +182,10 @@ module _ {job : Job} {first now : Reader} {before here : Carry} {turns left : �
   told = told_empty job here.stand sofar.bytes sofar.text sofar.empty sofar.told
 
   -- a piece was read and passed
-  pub sofar_piece : {after : Carry} → length piece ≡ 65536 → k ≤ length piece → reader.ended ≡ false → Passes job (take k piece) [] here after (2 ^ 64) × (after.stand.text ≡ silent)
+  pub sofar_piece : {after : Carry} → length piece ≡ 65536 → k ≤ length piece → reader.ended ≡ false → Passes job (take k piece) [] here after × (after.stand.text ≡ silent)
       → Sofar job first reader before after turns (left - 1)
   sofar_piece {after} long fits unended (passes, none) =
       let onward : Tells job (sofar.bytes ++ passes.front) (followed sofar.text (followed passes.text after.stand.text)) after.stand.tally after.stand.held = passes.onward sofar.bytes sofar.text told in
-      let grown = passes.grows in
       let short = length-take-le k piece fits in
       record {
         bytes = sofar.bytes ++ take k piece;
@@ -205,12 +199,6 @@ module _ {job : Job} {first now : Reader} {before here : Carry} {turns left : �
         fewer = omega (arith, sofar.fewer);
         calls = omega (arith, some, called, sofar.calls);
         few = omega (arith, some, long, fits, short, passes.few, sofar.few);
-        grows = (
-          omega (arith, some, sofar.fewer, grown.0, sofar.grows.0),
-          omega (arith, some, sofar.fewer, grown.1, sofar.grows.1),
-          omega (arith, some, sofar.fewer, grown.2, sofar.grows.2),
-          omega (arith, some, sofar.fewer, grown.3, sofar.grows.3),
-        );
         asks = (same ∙ sofar.asks.0, inl unended);
         unfailed = (passes.unfailed.0 ∙ sofar.unfailed.0, passes.unfailed.1 ∙ sofar.unfailed.1);
       }
@@ -230,11 +218,10 @@ module _ {job : Job} {first now : Reader} {before here : Carry} {turns left : �
   }
 
   -- or the run came to rest in it
-  pub fails_piece : {after : Carry} {fault : RunFault} → turns ≤ 2 ^ 32 → StopsPiece job (take k piece) here after fault
-      → Runs false job (beside first before.outs) (beside reader after.outs) turns before.tells after.tells after.stand.tally (Err fault)
-  fails_piece {after} {fault} few stops = record {
+  pub fails_piece : {after : Carry} {fault : RunFault} → StopsPiece job (take k piece) here after fault
+      → Runs false job (beside first before.outs) (beside reader after.outs) turns after.stand.tally (Err fault)
+  fails_piece {after} {fault} stops = record {
     run = fails after fault stops.stops;
     end_is = caused_then first.failures reader.failures _ _ before.outs here.outs after.outs fault (same ∙ sofar.asks.0) sofar.unfailed stops.cause;
-    pushes = omega (arith, some, few, sofar.fewer, stops.tells_are, sofar.grows.1);
     turns_are = omega (arith, some, called, sofar.calls);
   }

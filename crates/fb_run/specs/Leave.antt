@@ -1,5 +1,5 @@
 -- The ends of a run by the ghosts of their traits, its reader's among them, and the leave to ask that for more.
-use Rattle.std.specs.Prelude.{◌≡◌, ◌<◌, ◌^◌, ◌⊎◌, false, None}
+use Rattle.std.specs.Prelude.{◌≡◌, ◌⊎◌, false, None}
 use Rattle.fb_bytes.specs.declared.ends.Sink as sink
 use Rattle.fb_lines.specs.Ends.{Ends, Reader, beside, outs_of, writer_of}
 use Rattle.fb_run.specs.declared.input.Input as input
@@ -18,10 +18,6 @@ ends_of s k n reader writer notes = beside (reader_of s reader) (outs_of k n wri
 -- the same beside notes of which nothing is known
 abbrev pub noteless : {S K N : Type 0} → input.Ghosts S K N → sink.Ghosts K → S → K → Ends
 noteless s k reader writer = beside (reader_of s reader) (record { writer = writer_of k writer; notes = record { bytes = None; failures = 0 } })
-
--- few enough calls were made of them for one run more
-abbrev pub HasCallsLeft : {S K N : Type 0} → input.Ghosts S K N → sink.Ghosts K → sink.Ghosts N → S → K → N → Type 0
-HasCallsLeft s k n reader writer notes = (s.calls reader < 2 ^ 64) × (k.calls writer < 2 ^ 64) × (n.calls notes < 2 ^ 64)
 
 -- the leave to ask with these ends
 abbrev pub MayAsk : {S K N : Type 0} → input.Ghosts S K N → Ends → Type 0

@@ -1,5 +1,5 @@
 -- What each step of a run over a stream answers.
-use Rattle.std.specs.Prelude.{◌≡◌, ℕ, ◌+◌, ◌<◌, ◌≤◌, ◌^◌, List, [], ◌++◌, Result, Ok, Err, length, take}
+use Rattle.std.specs.Prelude.{◌≡◌, ℕ, ◌+◌, ◌<◌, ◌≤◌, List, [], ◌++◌, Result, Ok, Err, length, take}
 use Rattle.fb_bytes.specs.Framing.{Framing}
 use Rattle.fb_bytes.specs.declared.ends.Sink as sink
 use Rattle.fb_lines.specs.{Ends.Outs, Ends.Writer, Ends.outs_of, Job.Beside, Job.Job}
@@ -33,14 +33,12 @@ UsesBy job piece before after framer room (Err fault) = StopsUsing job piece bef
 
 -- what was held of a message came to its end with so many bytes of a piece, or is held with all of them, and a front of
 -- what is told was written
-pub record PassesHeld (job : Job) (piece : List ℕ) (used : ℕ) (before after : Standing) (framer : Framing) (room : Beside) (writer writer' : Writer) (calls calls' : ℕ) : Type 0 where
+pub record PassesHeld (job : Job) (piece : List ℕ) (used : ℕ) (before after : Standing) (framer : Framing) (room : Beside) (writer writer' : Writer) : Type 0 where
   pub within : used ≤ length piece
   pub onward : OnwardThrough job before (take used piece) after writer.bytes writer'.bytes
   pub ready : IsReady job framer room
   pub few : count_of after.tally ≤ count_of before.tally + 1
   pub unfailed : writer'.failures ≡ writer.failures
-  pub little : after.written.out ≤ before.written.out + 2 ^ 67
-  pub calls_are : calls' ≤ calls + 2 ^ 67
   pub noted : after.written.notes ≡ before.written.notes
 
 -- or the run came to rest in it
@@ -48,18 +46,16 @@ pub record StopsHeld (job : Job) (piece : List ℕ) (before after : Standing) (w
   pub halts : HaltsThrough job before piece after.tally writer.bytes writer'.bytes fault
   pub cause : IsCausedWriting writer writer' fault
 
-abbrev pub HeldBy : Job → List ℕ → Standing → Standing → Framing → Beside → Writer → Writer → ℕ → ℕ → Result ℕ RunFault → Type 0
-HeldBy job piece before after framer room writer writer' calls calls' (Ok used) = PassesHeld job piece used before after framer room writer writer' calls calls'
-HeldBy job piece before after framer room writer writer' calls calls' (Err fault) = StopsHeld job piece before after writer writer' fault
+abbrev pub HeldBy : Job → List ℕ → Standing → Standing → Framing → Beside → Writer → Writer → Result ℕ RunFault → Type 0
+HeldBy job piece before after framer room writer writer' (Ok used) = PassesHeld job piece used before after framer room writer writer'
+HeldBy job piece before after framer room writer writer' (Err fault) = StopsHeld job piece before after writer writer' fault
 
--- where a run stands, with its framer and its room, what the writer and the notes have, and the calls of each
+-- where a run stands, with its framer and its room, and what the writer and the notes have
 pub record Carry : Type 0 where
   pub stand : Standing
   pub framer : Framing
   pub room : Beside
   pub outs : Outs
-  pub writes : ℕ
-  pub tells : ℕ
 
 abbrev pub carry_of : {A K N : Type 0} → sink.Ghosts K → sink.Ghosts N → Carried A → K → N → Carry
 carry_of k n carried writer notes = record {
@@ -67,18 +63,10 @@ carry_of k n carried writer notes = record {
   framer = carried.framer;
   room = carried.room;
   outs = outs_of k n writer notes;
-  writes = k.calls writer;
-  tells = n.calls notes;
 }
 
--- the calls, and the bytes that were written, grew by no more than this: those of the writer, and those of the notes
-abbrev pub Grows : Carry → Carry → ℕ → ℕ → Type 0
-Grows before after most least =
-    (after.writes ≤ before.writes + most) × (after.tells ≤ before.tells + least)
-    × (after.stand.written.out ≤ before.stand.written.out + most) × (after.stand.written.notes ≤ before.stand.written.notes + least)
-
 -- a piece was passed up to this rest, and what is told in it was written and noted, but for what waits
-pub record Passes (job : Job) (piece rest : List ℕ) (before after : Carry) (least : ℕ) : Type 0 where
+pub record Passes (job : Job) (piece rest : List ℕ) (before after : Carry) : Type 0 where
   pub front : List ℕ
   pub text : Texts
   pub whole : piece ≡ front ++ rest
@@ -87,14 +75,12 @@ pub record Passes (job : Job) (piece rest : List ℕ) (before after : Carry) (le
   pub ready : IsReady job after.framer after.room
   pub few : count_of after.stand.tally + length rest ≤ count_of before.stand.tally + length piece + 1
   pub unfailed : IsUnfailedOut before.outs after.outs
-  pub grows : Grows before after (2 ^ 67 + least) least
 
 -- or the run came to rest in it
 pub record StopsPiece (job : Job) (piece : List ℕ) (before after : Carry) (fault : RunFault) : Type 0 where
   pub stops : StopsAmid job before.stand piece after.stand.tally before.outs after.outs fault
   pub cause : IsCausedOut before.outs after.outs fault
-  pub tells_are : after.tells ≤ before.tells + 2 ^ 64
 
 abbrev pub PassesBy : Job → List ℕ → Carry → Carry → Result (Unit {0}) RunFault → Type 0
-PassesBy job piece before after (Ok done) = Passes job piece [] before after (2 ^ 64) × (after.stand.text ≡ silent)
+PassesBy job piece before after (Ok done) = Passes job piece [] before after × (after.stand.text ≡ silent)
 PassesBy job piece before after (Err fault) = StopsPiece job piece before after fault

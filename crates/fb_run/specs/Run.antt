@@ -1,5 +1,5 @@
 -- A run, over a stream or over one bare input.
-use Rattle.std.specs.Prelude.{◌≡◌, ℕ, ◌+◌, ◌≤◌, ◌^◌, Bool, true, false, Result, Ok, Err}
+use Rattle.std.specs.Prelude.{◌≡◌, ℕ, ◌+◌, ◌≤◌, Bool, true, false, Result, Ok, Err}
 use Rattle.fb_lines.specs.{Ends.Ends, Job.Job, Faults.End, Faults.EndsBeside}
 use Rattle.fb_run.specs.{Bare.PassesBare, Bare.FailsBare, Stream.PassesStream, Stream.FailsStream}
 use Rattle.fb_lines.specs.declared.{fault.RunFault.RunFault, tally.Tally.Tally}
@@ -32,9 +32,8 @@ answer_by tally (Err fault) = Err fault
 abbrev pub IsRun : Job → Ends → Ends → Result Tally RunFault → Type 0
 IsRun job before after answer = (tally : Tally) × (end : End) × IsRunBeside job before after tally end × (answer ≡ answer_by tally end)
 
--- what a run so ended came to, in so many reads, and with these calls of the notes before and after
-pub record Runs (from : Bool) (job : Job) (before after : Ends) (turns tells tells' : ℕ) (tally : Tally) (end : End) : Type 0 where
+-- what a run so ended came to, in so many reads
+pub record Runs (from : Bool) (job : Job) (before after : Ends) (turns : ℕ) (tally : Tally) (end : End) : Type 0 where
   pub run : IsRunFrom from job before after tally end
   pub end_is : EndsBeside before after turns end
-  pub pushes : tells' ≤ tells + 2 ^ 96
   pub turns_are : after.reader.calls ≤ before.reader.calls + turns

@@ -6,7 +6,7 @@ use Rattle.fb_bytes.specs.Messages.{declared, IsPartial, IsOversize, Splits}
 use Rattle.fb_bytes.specs.declared.stream_fault.StreamFault.TheVariants as stream
 use Rattle.fb_lines.specs.{Ends.Ends, Ends.Outs, Ends.Takes, Job.Beside, Job.HasRoom, Job.Job, Lines.AreTold, Lines.WritesFront, Lines.WritesFronts}
 use Rattle.fb_lines.specs.Sums.{no_tally}
-use Rattle.fb_lines.specs.Texts.{Sizes, Texts, followed, no_bytes, silent, to_notes, to_out, waiting, written_by}
+use Rattle.fb_lines.specs.Texts.{IsCounted, Sizes, Texts, followed, no_bytes, silent, to_notes, to_out, waiting, written_by}
 use Rattle.fb_lines.specs.declared.{tally.Tally.Tally, fault.RunFault.RunFault}
 use Rattle.fb_run.specs.declared.stream.Carried.{Carried}
 use Rattle.fb_lines.specs.declared.fault.RunFault.TheVariants.{ReadFault, WriteFault, NoteFault, Stream, TooManyTurns, OutOfMemory, BareTooLong}
@@ -29,8 +29,8 @@ WhyStream job bytes messages rest text tally (Stream (stream.Oversize number)) =
 WhyStream job bytes messages rest text tally (Stream (stream.Truncated held)) = IsPartial job.limit rest × (held ≡ length rest) × (0 < held) × AreTold job 1 messages text tally
 WhyStream job bytes messages rest text tally (Stream fault) = ⊥
 WhyStream job bytes messages rest text tally OutOfMemory = TellsSome job bytes text tally
-WhyStream job bytes messages rest text tally (WriteFault written) = (written ≡ length text.out) × ((more : Texts) × TellsSome job bytes (followed text more) tally)
-WhyStream job bytes messages rest text tally (NoteFault written) = (written ≡ length text.notes) × ((more : List ℕ) × TellsSome job bytes (followed text (to_notes more)) tally)
+WhyStream job bytes messages rest text tally (WriteFault written) = IsCounted (length text.out) written × ((more : Texts) × TellsSome job bytes (followed text more) tally)
+WhyStream job bytes messages rest text tally (NoteFault written) = IsCounted (length text.notes) written × ((more : List ℕ) × TellsSome job bytes (followed text (to_notes more)) tally)
 WhyStream job bytes messages rest text tally (BareTooLong most) = ⊥
 
 -- a run over these bytes came to rest so
@@ -100,7 +100,7 @@ pub record OnwardThrough (job : Job) (before : Standing) (piece : List ℕ) (aft
   pub front : List ℕ
   pub onward : Onward job before piece (with_written (to_out front) after)
   pub wrote : Appends sink sink' front
-  pub written_is : after.written.out ≡ before.written.out + length front
+  pub written_is : IsCounted (before.written.out + length front) after.written.out
 
 -- it comes to rest in the piece, where this text waits and this is counted
 abbrev pub Halts : Job → Standing → List ℕ → Texts → Tally → RunFault → Type 0
@@ -130,8 +130,8 @@ IsFeedFault _ = ⊥
 -- this text was written and noted, with which so many bytes were
 pub record Writes (text : Texts) (outs outs' : Outs) (before after : Sizes) : Type 0 where
   pub takes : Takes outs outs' text
-  pub written_is : after.out ≡ before.out + length text.out
-  pub noted_is : after.notes ≡ before.notes + length text.notes
+  pub written_is : IsCounted (before.out + length text.out) after.out
+  pub noted_is : IsCounted (before.notes + length text.notes) after.notes
 
 -- a write came to rest in the piece, where this is counted: a front of what is told was written and noted whole, and
 -- the fault came within what is told behind it

@@ -29,10 +29,8 @@ pub fn pass_bare<A: Allocator, B: Allocator, C: Allocator, S: Input<K, N>, K: Si
     requires room { HasRoom checker.now room.old }
     requires piece { length piece.old.items ≡ PIECE }
     requires reads { S.calls reader.old + turns < 2 ^ 100 }
-    requires writes { K.calls writer.old < 2 ^ 64 }
-    requires tells { N.calls notes.old < 2 ^ 64 }
     requires leave { HasLeave S.Input (ends_of S.Input K.Sink N.Sink reader.old writer.old notes.old) (IsBarePrompt checker.now.limit) }
-    ensures { Runs true checker.now (ends_of S.Input K.Sink N.Sink reader.old writer.old notes.old) (ends_of S.Input K.Sink N.Sink reader.new writer.new notes.new) turns (N.calls notes.old) (N.calls notes.new) output.new.counter result }
+    ensures { Runs true checker.now (ends_of S.Input K.Sink N.Sink reader.old writer.old notes.old) (ends_of S.Input K.Sink N.Sink reader.new writer.new notes.new) turns output.new.counter result }
 {
     let whole = read_whole(alloc, reader, piece, writer, notes, checker.limit(), turns)?;
     output.add_through(checker, room, whole.as_slice(), writer)?;

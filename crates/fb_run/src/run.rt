@@ -5,7 +5,7 @@ ghost use Rattle.fb_rules.specs.Reasons.{reason_count};
 ghost use Rattle.fb_lines.specs.{Faults.EndsBeside, Faults.end_of, Job.Serves, Job.job_of};
 ghost use Rattle.fb_run.specs.{Prompt.IsPrompt, Run.IsRun, Run.IsRunBeside, Run.answer_by};
 ghost use Rattle.fb_lines.specs.Sums.{no_tally};
-ghost use Rattle.fb_run.specs.Leave.{HasCallsLeft, HasLeave, ends_of, noteless};
+ghost use Rattle.fb_run.specs.Leave.{HasLeave, ends_of, noteless};
 
 use crate::input::Input;
 use crate::reading::{MOST_TURNS, read_buffer};
@@ -76,13 +76,12 @@ pub fn run_beside<A: Allocator, S: Input<K, N>, K: Sink, N: Sink>(
 ) -> Ran
     requires serves { Serves schema.now options.now }
     requires turns { turns ≤ MOST_TURNS }
-    requires few { HasCallsLeft S.Input K.Sink N.Sink reader.old writer.old notes.old }
+    requires few { S.calls reader.old < 2 ^ 64 }
     requires leave { HasLeave S.Input (ends_of S.Input K.Sink N.Sink reader.old writer.old notes.old) (IsPrompt (job_of schema.now options.now)) }
 
     ensures run { IsRunBeside (job_of schema.now options.now) (ends_of S.Input K.Sink N.Sink reader.old writer.old notes.old) (ends_of S.Input K.Sink N.Sink reader.new writer.new notes.new) result.tally result.end }
     ensures end { EndsBeside (ends_of S.Input K.Sink N.Sink reader.old writer.old notes.old) (ends_of S.Input K.Sink N.Sink reader.new writer.new notes.new) turns result.end }
     ensures places { length result.tally.reasons ≡ reason_count }
-    ensures pushes { N.calls notes.new ≤ N.calls notes.old + 2 ^ 96 }
     ensures turns { S.calls reader.new ≤ S.calls reader.old + turns }
 {
     let checker = Checker::new(schema, options);
@@ -109,8 +108,7 @@ pub fn run_within<A: Allocator, S: Input<K, Nowhere>, K: Sink>(
 ) -> Result<Tally, RunFault>
     requires serves { Serves schema.now options.now }
     requires turns { turns ≤ MOST_TURNS }
-    requires reads { S.calls reader.old < 2 ^ 64 }
-    requires writes { K.calls writer.old < 2 ^ 64 }
+    requires few { S.calls reader.old < 2 ^ 64 }
     requires leave { HasLeave S.Input (noteless S.Input K.Sink reader.old writer.old) (IsPrompt (job_of schema.now options.now)) }
 
     ensures run { IsRun (job_of schema.now options.now) (noteless S.Input K.Sink reader.old writer.old) (noteless S.Input K.Sink reader.new writer.new) result }
@@ -131,8 +129,7 @@ pub fn run<A: Allocator, S: Input<K, Nowhere>, K: Sink>(
     options: &Options,
 ) -> Result<Tally, RunFault>
     requires serves { Serves schema.now options.now }
-    requires reads { S.calls reader.old < 2 ^ 64 }
-    requires writes { K.calls writer.old < 2 ^ 64 }
+    requires few { S.calls reader.old < 2 ^ 64 }
     requires leave { HasLeave S.Input (noteless S.Input K.Sink reader.old writer.old) (IsPrompt (job_of schema.now options.now)) }
 
     ensures run { IsRun (job_of schema.now options.now) (noteless S.Input K.Sink reader.old writer.old) (noteless S.Input K.Sink reader.new writer.new) result }

@@ -1,10 +1,10 @@
 //! A run over a stream of size-prefixed buffers, or over one bare buffer.
 
 ghost use Rattle.std.specs.Prelude.{IfOk, ◌≡◌, ◌+◌, ◌*◌, ◌<◌, ◌≤◌, ◌^◌, length};
-ghost use Rattle.fb_lines.specs.{Sums.count_of, Texts.silent, Texts.size, Texts.waiting};
+ghost use Rattle.fb_lines.specs.{Sums.count_of, Texts.silent, Texts.waiting};
 ghost use Rattle.fb_run.specs.{Prompt.IsPrompt, Run.Runs};
-ghost use Rattle.fb_lines.specs.Ends.{IsBelow, load_of, writer_of};
-ghost use Rattle.fb_run.specs.Leave.{HasCallsLeft, HasLeave, ends_of};
+ghost use Rattle.fb_lines.specs.Ends.{writer_of};
+ghost use Rattle.fb_run.specs.Leave.{HasLeave, ends_of};
 ghost use Rattle.fb_run.specs.Stream.{IsReady, at_first, standing};
 ghost use Rattle.fb_run.specs.Pieces.{HeldBy, PassesBy, UsesBy, carry_of};
 
@@ -66,10 +66,10 @@ impl<A: Allocator> Carried<A> {
         requires ready { IsReady checker.now self.old.framer self.old.room }
         requires start { standing self.old ≡ at_first }
         requires turns { turns ≤ MOST_TURNS }
-        requires few { HasCallsLeft S.Input K.Sink N.Sink reader.old writer.old notes.old }
+        requires few { S.calls reader.old < 2 ^ 64 }
         requires leave { HasLeave S.Input (ends_of S.Input K.Sink N.Sink reader.old writer.old notes.old) (IsPrompt checker.now) }
 
-        ensures { Runs checker.now.bare checker.now (ends_of S.Input K.Sink N.Sink reader.old writer.old notes.old) (ends_of S.Input K.Sink N.Sink reader.new writer.new notes.new) turns (N.calls notes.old) (N.calls notes.new) self.new.output.counter result }
+        ensures { Runs checker.now.bare checker.now (ends_of S.Input K.Sink N.Sink reader.old writer.old notes.old) (ends_of S.Input K.Sink N.Sink reader.new writer.new notes.new) turns self.new.output.counter result }
     {
         if checker.is_bare() {
             return pass_bare(
@@ -113,7 +113,6 @@ impl<A: Allocator> Carried<A> {
         requires piece { length piece.now ≤ PIECE }
         requires few { count_of self.old.output.counter < 2 ^ 61 }
         requires empty { waiting self.old.output ≡ silent }
-        requires load { IsBelow (load_of K.Sink N.Sink writer.old notes.old self.old.output) (2 ^ 99 + 2 ^ 97) }
         ensures { PassesBy checker.now piece.now (carry_of K.Sink N.Sink self.old writer.old notes.old) (carry_of K.Sink N.Sink self.new writer.new notes.new) result }
     {
         let held = self.pass_held(checker, piece, writer)?;
@@ -141,10 +140,8 @@ impl<A: Allocator> Carried<A> {
         requires ready { IsReady checker.now self.old.framer self.old.room }
         requires few { count_of self.old.output.counter < 2 ^ 62 }
         requires empty { waiting self.old.output ≡ silent }
-        requires writes { K.calls writer.old < 2 ^ 99 + 2 ^ 97 }
-        requires little { self.old.output.out.written < 2 ^ 99 + 2 ^ 97 }
 
-        ensures { HeldBy checker.now piece.now (standing self.old) (standing self.new) self.new.framer self.new.room (writer_of K.Sink writer.old) (writer_of K.Sink writer.new) (K.calls writer.old) (K.calls writer.new) result }
+        ensures { HeldBy checker.now piece.now (standing self.old) (standing self.new) self.new.framer self.new.room (writer_of K.Sink writer.old) (writer_of K.Sink writer.new) result }
     {
         let held = self.framer.held();
         if held == 0 {
@@ -167,8 +164,7 @@ impl<A: Allocator> Carried<A> {
         requires piece { length piece.now ≤ PIECE }
         requires few { count_of self.old.output.counter < 2 ^ 62 }
 
-        ensures uses { UsesBy checker.now piece.now (standing self.old) (standing self.new) self.new.framer self.new.room result }
-        ensures much { IfOk result (λ used. used < length piece.now → size (waiting self.new.output) < 2 ^ 40) }
+        ensures { UsesBy checker.now piece.now (standing self.old) (standing self.new) self.new.framer self.new.room result }
     {
         let mut rest = piece;
         while !rest.is_empty() {

@@ -1,13 +1,11 @@
-use Rattle.std.proofs.Common.{arith}
-use Rattle.fb_lines.proofs.PutsLemmas.{by_exit, by_then, by_within, part_more}
+use Rattle.fb_lines.proofs.PutsLemmas.{by_exit, by_then, part_more}
 use Rattle.fb_lines.proofs.long_line.put_number.Goals as goal
 
 pub returns-in_err-put : goal.returns-in_err-put
-returns-in_err-put g c = by_exit _ _ _ c.from_residual.ensures.1 (part_more _ c.in_err-put.ensures)
+returns-in_err-put g c = by_exit _ _ c.from_residual.ensures.1 (part_more _ c.in_err-put.ensures)
 
 pub returns : goal.returns
 returns g c =
     let text = rw c.format.ensures.text at c.as_bytes.ensures.value in
-    let short = rw c.format.ensures.text at c.format.ensures.short in
     let last = rw text at c.put-2.ensures in
-    by_within _ _ _ _ (omega (arith, c.requires.short, short)) (by_then _ _ _ _ c.in_ok-put.ensures last)
+    by_then _ _ _ c.in_ok-put.ensures last

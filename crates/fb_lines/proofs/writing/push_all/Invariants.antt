@@ -1,4 +1,4 @@
-use Rattle.std.proofs.Common.{◌≡◌, ◌+◌, ◌≤◌, ◌++◌, List, ℕ, length}
+use Rattle.std.proofs.Common.{◌≡◌, ◌++◌, List, ℕ, length}
 use Rattle.std.specs.Io.KnownBytes.{Appends}
 use Rattle.fb_lines.proofs.writing.push_all.Given as goal
 
@@ -6,8 +6,6 @@ abbrev pub invariant-loop-sink : goal.invariant-loop-sink
 invariant-loop-sink g l = record {
   bytes : (front : List ℕ) × (l.text ≡ front ++ l.rest) × Appends (g.K.Sink.contents l.initial.sink) (g.K.Sink.contents l.sink) front;
   failures : g.K.Sink.failures l.sink ≡ g.K.Sink.failures l.initial.sink;
-  calls : g.K.Sink.calls l.sink + length l.rest ≤ g.K.Sink.calls l.initial.sink + length l.text;
-  more : g.K.Sink.calls l.initial.sink ≤ g.K.Sink.calls l.sink;
 }
 
 abbrev pub decreases-loop-sink : goal.decreases-loop-sink

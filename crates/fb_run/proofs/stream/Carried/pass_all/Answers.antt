@@ -37,4 +37,4 @@ returns-in_err-pass_piece g c =
     let read = c.in-Ok.ensures in
     let stops = rw c.as_slice.ensures.value at c.in_err-pass_piece.ensures in
     rw (err_is _ _ c.from_residual-in_err-pass_piece.ensures.1)
-    (runs_from (sym c.if-is_bare.false ∙ c.is_bare.ensures) (fails_piece c.loop-left.invariant.sofar _ _ (reader_of g.S.Input c.pull_piece.new.source) c.loop-left-test.true read.ok read.counted (omega (arith, read.failure)) c.requires.turns stops))
+    (runs_from (sym c.if-is_bare.false ∙ c.is_bare.ensures) (fails_piece c.loop-left.invariant.sofar _ _ (reader_of g.S.Input c.pull_piece.new.source) c.loop-left-test.true read.ok read.counted (omega (arith, read.failure)) stops))

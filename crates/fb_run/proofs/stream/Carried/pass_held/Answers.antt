@@ -13,7 +13,7 @@ pub returns-in_err-taken : goal.returns-in_err-taken
 returns-in_err-taken g c =
     let before = standing c.args.self.now in
     let stops = feed_stops _ before c.args.self.now.framer c.feed.new.self c.args.piece.now c.in_err-taken.field-0.0 c.requires.ready.limit refl (c.in_err-taken.ensures.fault c.requires.ready.fine) in
-    err_exit _ _ (HeldBy _ _ _ _ _ _ _ _ _ _) c.from_residual.ensures.1 (record {
+    err_exit _ _ (HeldBy _ _ _ _ _ _ _ _) c.from_residual.ensures.1 (record {
       halts = through_halts _ before c.args.piece.now _ _ before.text before.tally _ stops.1 c.requires.empty (Keeps-refl _) stops.0;
       cause = λ notes. let outs : Outs = record { writer = writer_of g.K.Sink c.args.writer.now; notes = notes } in feed_caused outs outs _ stops.1 (refl, refl);
     })
@@ -24,19 +24,17 @@ returns-in_default g c =
     let part : IsPartial c.feed.new.self.limit c.feed.new.self.held = search rules in
     record {
       within = feeds.within;
-      onward = record { front = []; onward = onward_held (standing c.args.self.now) no_bytes c.requires.ready.limit refl feeds part; wrote = Appends-nil _; written_is = omega arith };
+      onward = record { front = []; onward = onward_held (standing c.args.self.now) no_bytes c.requires.ready.limit refl feeds part; wrote = Appends-nil _; written_is = λ few. omega arith };
       ready = record { fits = c.requires.ready.fits; fine = feeds.fine.1; limit = feeds.limit ∙ c.requires.ready.limit; short = rw feeds.limit c.requires.ready.short; part = part };
       few = omega arith;
       unfailed = refl;
-      little = omega arith;
-      calls_are = omega arith;
       noted = refl;
     }
 
 pub returns-in_err-add_through : goal.returns-in_err-add_through
 returns-in_err-add_through g c =
     let message = c.in-Some.ensures.whole.0 refl in
-    err_exit _ _ (HeldBy _ _ _ _ _ _ _ _ _ _) c.from_residual-in_err-add_through.ensures.1 (record {
+    err_exit _ _ (HeldBy _ _ _ _ _ _ _ _) c.from_residual-in_err-add_through.ensures.1 (record {
       halts = through_stops _ (standing c.args.self.now) c.args.self.now.framer c.feed.new.self c.args.piece.now c.in-Some.message.now c.in_ok-taken.taken.used c.in_ok-taken.taken.whole _ _ _
           c.in_err-add_through.field-0.0 c.requires.empty c.requires.ready.limit refl c.in_ok-taken.ensures.ok c.in-Some.ensures.bytes message.1 c.in_err-add_through.ensures.err;
       cause = c.in_err-add_through.ensures.failed;
@@ -53,7 +51,5 @@ returns g c =
       ready = search rules;
       few = omega (arith, added.one);
       unfailed = added.unfailed;
-      little = added.little;
-      calls_are = added.calls;
       noted = c.add_through.ensures.noted;
     }

@@ -1,4 +1,4 @@
-use Rattle.std.proofs.Common.{◌<◌, ◌≤◌, ◌^◌, ap, arith, drop, length, length-append, rules, sym}
+use Rattle.std.proofs.Common.{◌≤◌, ap, arith, drop, length, length-append, rules, sym}
 use Rattle.std.proofs.lemmas.List.{length-drop, nil_from_length, take_rest}
 use Rattle.fb_run.specs.Stream.{standing}
 use Rattle.fb_run.specs.Pieces.{PassesBy, carry_of}
@@ -21,30 +21,25 @@ pub fronts-preserved : goal.fronts-preserved
 fronts-preserved g c =
     let before = c.fronts.invariant in
     let n = c.in_ok-rest.field-0 in
-    let uses = c.in_ok-rest.ensures.uses in
     let flushed = c.in_ok-flush.ensures in
-    let more : n < length c.fronts.rest.now = search rules in
-    let much = c.in_ok-rest.ensures.much more in
-    passes_more before n (2 ^ 40) _ (take_rest c.fronts.rest.now n) uses flushed.takes flushed.empty c.flush.ensures.counted flushed.written flushed.noted flushed.unfailed
-    (omega (arith, c.flush.ensures.pushes, much), omega (arith, c.flush.ensures.mentions, much), omega (arith, flushed.written, much), omega (arith, flushed.noted, much))
-    (omega (arith, length-drop n c.fronts.rest.now, more, uses.some (omega (arith, more)), ap length before.whole, length-append before.front c.fronts.rest.now))
+    passes_more before n _ (take_rest c.fronts.rest.now n) c.in_ok-rest.ensures flushed.takes flushed.empty c.flush.ensures.counted flushed.written flushed.noted flushed.unfailed
 
 pub slice_bounds-rest-start-in-fronts : goal.slice_bounds-rest-start-in-fronts
-slice_bounds-rest-start-in-fronts g c = omega (arith, c.in_ok-rest.ensures.uses.within)
+slice_bounds-rest-start-in-fronts g c = omega (arith, c.in_ok-rest.ensures.within)
 
 pub slice_bounds-rest-count-in-fronts : goal.slice_bounds-rest-count-in-fronts
-slice_bounds-rest-count-in-fronts g c = omega (arith, c.in_ok-rest.ensures.uses.within)
+slice_bounds-rest-count-in-fronts g c = omega (arith, c.in_ok-rest.ensures.within)
 
 pub returns-in_err-flush : goal.returns-in_err-flush
 returns-in_err-flush g c =
     err_exit _ _ (PassesBy _ _ _ _) c.from_residual-in_err-flush.ensures.1
-    (stops_flush c.fronts.invariant (omega (arith, c.requires.piece)) (standing c.use_up-used.new.self) c.flush.ensures.counted c.flush.ensures.load.1 _ _ c.use_up-used.result c.use_up-used.ensures.uses
+    (stops_flush c.fronts.invariant (standing c.use_up-used.new.self) c.flush.ensures.counted _ _ c.use_up-used.result c.use_up-used.ensures
     c.in_err-flush.ensures.err c.in_err-flush.ensures.failed)
 
 pub returns-in_err-rest : goal.returns-in_err-rest
 returns-in_err-rest g c =
     err_exit _ _ (PassesBy _ _ _ _) c.from_residual-in_err-rest.ensures.1
-    (stops_used c.fronts.invariant (omega (arith, c.requires.piece)) (standing c.use_up-used.new.self) c.flush.ensures.counted c.flush.ensures.load.1 c.in_err-rest.ensures.uses
+    (stops_used c.fronts.invariant (standing c.use_up-used.new.self) c.flush.ensures.counted c.in_err-rest.ensures
     c.in_ok-flush.ensures.takes c.in_ok-flush.ensures.unfailed)
 
 pub returns-then-is_empty : goal.returns-then-is_empty
@@ -53,7 +48,6 @@ returns-then-is_empty g c =
     let flushed = c.in_ok-flush.ensures in
     let all : length c.fronts.rest.now ≤ n = search rules in
     let none = nil_from_length (drop n c.fronts.rest.now) (omega (arith, all, length-drop n c.fronts.rest.now)) in (
-      passes_more c.fronts.invariant n (2 ^ 63) _ (sym none) c.in_ok-rest.ensures.uses flushed.takes flushed.empty c.flush.ensures.counted flushed.written flushed.noted flushed.unfailed
-          c.flush.ensures.load (omega (arith, c.requires.piece)),
+      passes_more c.fronts.invariant n _ (sym none) c.in_ok-rest.ensures flushed.takes flushed.empty c.flush.ensures.counted flushed.written flushed.noted flushed.unfailed,
       flushed.empty,
     )

@@ -12,16 +12,16 @@ loop-rest-init g c = used_none _ _ (standing c.args.self.now) _ _ c.requires.rea
 pub loop-rest-preserved : goal.loop-rest-preserved
 loop-rest-preserved g c = used_more c.loop-rest.invariant c.in_ok-used.used _ (take_rest c.loop-rest.rest.now c.in_ok-used.used) c.in_ok-used.ensures
 
-pub returns-in_err-used-clause-uses : goal.returns-in_err-used-clause-uses
-returns-in_err-used-clause-uses g c = err_exit _ _ (UsesBy _ _ _ _ _ _) c.from_residual.ensures.1 (used_stops c.loop-rest.invariant c.in_err-used.ensures)
+pub returns-in_err-used : goal.returns-in_err-used
+returns-in_err-used g c = err_exit _ _ (UsesBy _ _ _ _ _ _) c.from_residual.ensures.1 (used_stops c.loop-rest.invariant c.in_err-used.ensures)
 
-pub returns-then-is_much-clause-uses : goal.returns-then-is_much-clause-uses
-returns-then-is_much-clause-uses g c =
+pub returns-then-is_much : goal.returns-then-is_much
+returns-then-is_much g c =
     let before = c.loop-rest.invariant in
     let used = c.in_ok-used.ensures in
     let left = length-drop c.in_ok-used.used c.loop-rest.rest.now in
     let more = used_more before c.in_ok-used.used _ (take_rest c.loop-rest.rest.now c.in_ok-used.used) used in
     used_front more _ (search rules) (λ _. omega (arith, left, before.within, used.within, used.some (search rules)))
 
-pub returns-clause-uses : goal.returns-clause-uses
-returns-clause-uses g c = used_front c.loop-rest.invariant _ (search rules) (λ some. some)
+pub returns : goal.returns
+returns g c = used_front c.loop-rest.invariant _ (search rules) (λ some. some)
