@@ -8,7 +8,7 @@ use Rattle.fb_schema.specs.Rows.{Rows}
 use mathlib.Core.Logic.{inl}
 use Rattle.fb_lines.specs.{Faults.End, Job.Job, Job.job_of}
 use Rattle.std.specs.declared.io.ErrorKind.{ErrorKind}
-use Rattle.fb_lines.specs.declared.{options.Options.Options, fault.RunFault.RunFault, fault.RunFault.TheVariants.OutOfMemory, fault.RunFault.TheVariants.TooManyTurns}
+use Rattle.fb_lines.specs.declared.{options.Options.Options, fault.RunFault.RunFault}
 use Rattle.fb_run.specs.declared.run.Ran.{Ran}
 use Rattle.fbcheck_serve.specs.Inputs.{ComesOf, Folder, HaltsAmong, IsMissed, Passes, PassesAll, RunsOpened, Seen, Stand, Tries, is_standard, label_of, with_label, sum_of_counts, sums, are_named}
 use Rattle.fbcheck_serve.specs.declared.{inputs.Missed.Missed, inputs.Standard.Standard, inputs.Standard.TheVariants.Unread, inputs.Standard.TheVariants.Spent}
@@ -87,9 +87,6 @@ opened_turns from to none le = subst (λ n. to ≤ n + 4294967296) none le
 
 pub unread_spent : (s : Standard) → s ≡ Unread → s ≡ Spent → ⊥
 unread_spent s unread spent = let both : Unread ≡ Spent = sym unread ∙ spent in cc
-
-pub other_ends : (◌≡◌ {A = End} (Err OutOfMemory) (Err TooManyTurns) → ⊥) × (◌≡◌ {A = End} (Ok tt) (Err TooManyTurns) → ⊥)
-other_ends = (λ same. cc, λ same. cc)
 
 -- calls of the reader that standard input is
 pub turns_on : {S : Type 0} (calls : S → ℕ) (old new : Standard) (first before after : S) → (old ≡ Unread → before ≡ first) → (old ≡ Spent → (new ≡ Spent) × (after ≡ before))

@@ -6,6 +6,7 @@ use Rattle.std.proofs.{KnownBytes.Appends-trans, Math.Nat.eq-or-lt_of_le, Math.S
 use Rattle.std.proofs.Common.{Err, refl, codes}
 use Rattle.std.proofs.lemmas.List.{length-append}
 use Rattle.fbcheck_texts.specs.declared.causes.Causes.{Causes}
+use Rattle.fb_bytes.specs.Ends.{one_more}
 use Rattle.fb_lines.specs.Ends.{Writer}
 use Rattle.fbcheck_serve.specs.{Inputs.IsNoted, Serving.Complains, Serving.behind, Serving.stop_text}
 use Rattle.fbcheck_serve.specs.declared.stop.Stop.{Stop}
@@ -13,7 +14,7 @@ use Rattle.fbcheck_serve.specs.declared.stop.Stop.TheVariants as stop
 
 -- the first text stands written, and the second whole or in part
 pub second_noted : (text behind : List ℕ) (n m n' : Option (List ℕ)) (k l k' first second : ℕ) → first ≡ length text → Appends n m (take first text) → l ≡ k
-    → second ≤ length behind → Appends m n' (take second behind) → (second < length behind → k' ≡ l + 1) → (second ≡ length behind → k' ≡ l) → IsNoted (text ++ behind) (record { bytes = n; failures = k }) (record { bytes = n'; failures = k' })
+    → second ≤ length behind → Appends m n' (take second behind) → (second < length behind → k' ≡ one_more l) → (second ≡ length behind → k' ≡ l) → IsNoted (text ++ behind) (record { bytes = n; failures = k }) (record { bytes = n'; failures = k' })
 second_noted text behind n m n' k l k' first second whole wrote same le more failed unfailed =
     let front = rw (whole, take-length text) at wrote in
     let both = Appends-trans n m n' text (take second behind) front more in
@@ -25,9 +26,9 @@ second_noted text behind n m n' k l k' first second whole wrote same le more fai
           taken = length text + second;
           within = rw (length-append text behind) (omega (arith, le));
           wrote = rw (take-append-add text behind second) both;
-          written_is = omega arith;
+          written_is = λ few. omega arith;
         },
-        failed cut ∙ ap (λ (i : ℕ). i + 1) same,
+        failed cut ∙ ap one_more same,
       )
     ]
 

@@ -1,7 +1,7 @@
 -- What the program comes to.
-use Rattle.std.proofs.Common.{codes, ◌+◌, ◌<◌, ◌≡◌, ◌≢◌, ◌==◌, ◌≤◌, ◌^◌, ◌∙◌, arith, ℕ, Bool, true, false, true≢false, List, [], ◌∷◌, Option, Some, None, Result, Ok, Err, ap, length, refl, take, sym, subst}
+use Rattle.std.proofs.Common.{codes, ◌+◌, ◌≡◌, ◌≢◌, ◌==◌, ◌≤◌, ◌∙◌, arith, ℕ, Bool, true, false, true≢false, List, [], ◌∷◌, Option, Some, None, Result, Ok, Err, ap, length, refl, take, sym, subst}
 use Rattle.fb_rules.specs.Reasons.{reason_count}
-use mathlib.Core.Logic.{◌⊎◌, inl, inr}
+use mathlib.Core.Logic.{inl}
 use Rattle.std.specs.{Borrow.Bor, Global.Global, Io.KnownBytes.Appends, Result.OnErr, declared.alloc.AllocError.AllocError, declared.io.ErrorKind.ErrorKind}
 use Rattle.std.specs.Prelude.{if◌then◌else◌, IfOk, IfSome, String, Vec, map, option_map, string_bytes, vec_items}
 use Rattle.std.proofs.{KnownBytes.Keeps-refl, Math.Seq.take-length}
@@ -14,7 +14,7 @@ use Rattle.fbcheck_texts.specs.declared.{fault.FileFault.FileFault, fault.WordsF
 use Rattle.fbcheck_serve.specs.Inputs.{Folder, IsPromptAmong, IsPromptOver, Seen, with_cause}
 use Rattle.fb_lines.specs.{Job.Job, Faults.End, Faults.EndsBeside, JsonSums.summary_in}
 use Rattle.fb_lines.specs.Ends.{Ends, Reader, Writer, beside}
-use Rattle.fbcheck_serve.specs.Serving.{ChecksAsAsked, ComesAsAsked, ComesBy, ComesTo, EndsFiles, EndsRun, EndsSo, HoldsAsGiven, IsFileFault, IsPromptAsGiven, MayReadAsGiven, IsCrowded, PassesAsAsked, Rests, SumsUp, Unserved}
+use Rattle.fbcheck_serve.specs.Serving.{ChecksAsAsked, ComesAsAsked, ComesBy, ComesTo, EndsFiles, EndsRun, EndsSo, HoldsAsGiven, IsFileFault, IsPromptAsGiven, MayReadAsGiven, PassesAsAsked, Rests, SumsUp, Unserved}
 use Rattle.fbcheck_serve.specs.Serving.{files_ending, hinted_stop, lent_bytes, run_ending, summed, words_of}
 use Rattle.fbcheck_serve.proofs.AskedLemmas.{idle}
 use Rattle.fbcheck_serve.specs.declared.inputs.Passed as inputs
@@ -23,8 +23,7 @@ use Rattle.fb_bytes.specs.declared.ends.Sink as sink
 use Rattle.fb_run.specs.{Leave.ends_of, declared.run.Ran.Ran}
 use Rattle.fbcheck_words.specs.declared.choices.SettingsFault.TheVariants as refusal
 use Rattle.fbcheck_words.specs.declared.{choices.Settings.Settings, choices.SettingsFault.SettingsFault}
-use Rattle.fb_lines.specs.declared.{fault.RunFault.RunFault, tally.Tally.Tally}
-use Rattle.fb_lines.specs.declared.fault.RunFault.TheVariants as run
+use Rattle.fb_lines.specs.declared.{tally.Tally.Tally}
 use Rattle.fbcheck_serve.specs.declared.{stop.Ending.Ending, inputs.Course.Course, stop.Ending.TheVariants.Helped}
 use Rattle.fbcheck_serve.specs.declared.{stop.Stop.Stop, stop.Sums.Sums}
 use Rattle.fbcheck_serve.specs.declared.stop.Stop.TheVariants as stop
@@ -34,11 +33,10 @@ module _ (folder : Folder) where
   pub comes_unserved : (given : List Text) (reader : Reader) (writer writer' notes : Writer) (cause : Option ErrorKind) (fault : SettingsFault) (outcome : Result Ending Stop)
       → Refuses given fault → Unserved fault writer writer' outcome
       → ComesBy folder given (with_cause (beside reader (record { writer = writer; notes = notes })) cause) (with_cause (beside reader (record { writer = writer'; notes = notes })) cause) None outcome
-      × ((writes more : ℕ) → IsCrowded writes more outcome)
-  comes_unserved given reader writer writer' notes cause fault (Ok Helped) refuses unserved = (((fault, refuses, Keeps-refl reader.left, unserved, Keeps-refl notes.bytes), refl), λ writes more. tt)
-  comes_unserved given reader writer writer' notes cause fault (Err (stop.Usage text)) refuses unserved = (((fault, refuses, Keeps-refl reader.left, unserved, Keeps-refl notes.bytes), refl), λ writes more. tt)
-  comes_unserved given reader writer writer' notes cause fault (Err (stop.Settings why)) refuses unserved = (((fault, refuses, Keeps-refl reader.left, unserved, Keeps-refl notes.bytes), refl), λ writes more. tt)
-  comes_unserved given reader writer writer' notes cause fault (Err (stop.CutOff written)) refuses unserved = (((fault, refuses, Keeps-refl reader.left, unserved, Keeps-refl notes.bytes), refl), λ writes more. tt)
+  comes_unserved given reader writer writer' notes cause fault (Ok Helped) refuses unserved = ((fault, refuses, Keeps-refl reader.left, unserved, Keeps-refl notes.bytes), refl)
+  comes_unserved given reader writer writer' notes cause fault (Err (stop.Usage text)) refuses unserved = ((fault, refuses, Keeps-refl reader.left, unserved, Keeps-refl notes.bytes), refl)
+  comes_unserved given reader writer writer' notes cause fault (Err (stop.Settings why)) refuses unserved = ((fault, refuses, Keeps-refl reader.left, unserved, Keeps-refl notes.bytes), refl)
+  comes_unserved given reader writer writer' notes cause fault (Err (stop.CutOff written)) refuses unserved = ((fault, refuses, Keeps-refl reader.left, unserved, Keeps-refl notes.bytes), refl)
   comes_unserved given reader writer writer' notes cause fault _ refuses never = absurd never
 
   -- what holds by the settings, and by what a read of the file of the words gave
@@ -139,28 +137,24 @@ sums_noted sums told before after outcome line written some is all wrote same =
     subst (λ (o : Option Sums). SumsUp o before after outcome outcome) (sym some)
     (inl (subst (Appends before.bytes after.bytes) (ap (λ (m : ℕ). take m line) all ∙ take-length line ∙ is) wrote, same, refl))
 
-pub few_noted : (n n' : ℕ) → n' ≤ n + 2 ^ 96 → n < 2 ^ 64 → n' < 2 ^ 98
-few_noted n n' le few = omega arith
-
 -- the words or the schema file couldn't be read, or the words give no settings
-pub early : (before after : Ends) (writes notes : ℕ) (outcome : Result Ending Stop) → EndsSo before after 4294967296 outcome → ((writes more : ℕ) → IsCrowded writes more outcome)
-    → after.reader ≡ before.reader → notes < 2 ^ 64 → Rests before after writes notes None outcome
-early before after writes notes outcome ends crowded same few = record { places = tt; ends = ends; turns = rw same (omega arith); noted = few_noted notes notes (omega arith) few; crowded = λ more le. crowded writes more }
+pub early : (before after : Ends) (outcome : Result Ending Stop) → EndsSo before after 4294967296 outcome → after.reader ≡ before.reader → Rests before after None outcome
+early before after outcome ends same = record { places = tt; ends = ends; turns = rw same (omega arith) }
 
-pub wordless : {A B : Type 0} (folder : Folder) (given : Result (Vec (String A) B) WordsFault) (seen : Seen) (fault : WordsFault) (hint : Result (Vec ℕ Global) AllocError) (writes notes : ℕ) (cause : Stop)
-    → given ≡ Err fault → cause ≡ hinted_stop (stop.Words fault) hint → IfOk hint (λ h. h.items ≡ words_hint fault) → notes < 2 ^ 64
-    → ComesTo folder (words_of given) seen seen None (Err cause) × Rests seen.ends seen.ends writes notes None (Err cause)
-wordless folder given seen fault (Ok hint) writes notes cause is so told few =
-    rw (is, so) ((refl, told, idle seen.ends, refl), early seen.ends seen.ends writes notes _ (refl, refl, refl) (λ writes more. tt) refl few)
-wordless folder given seen fault (Err none) writes notes cause is so told few = rw (is, so) ((idle seen.ends, refl), early seen.ends seen.ends writes notes _ (refl, refl, refl) (λ writes more. tt) refl few)
+pub wordless : {A B : Type 0} (folder : Folder) (given : Result (Vec (String A) B) WordsFault) (seen : Seen) (fault : WordsFault) (hint : Result (Vec ℕ Global) AllocError) (cause : Stop)
+    → given ≡ Err fault → cause ≡ hinted_stop (stop.Words fault) hint → IfOk hint (λ h. h.items ≡ words_hint fault)
+    → ComesTo folder (words_of given) seen seen None (Err cause) × Rests seen.ends seen.ends None (Err cause)
+wordless folder given seen fault (Ok hint) cause is so told =
+    rw (is, so) ((refl, told, idle seen.ends, refl), early seen.ends seen.ends _ (refl, refl, refl) refl)
+wordless folder given seen fault (Err none) cause is so told = rw (is, so) ((idle seen.ends, refl), early seen.ends seen.ends _ (refl, refl, refl) refl)
 
-pub fileless : (folder : Folder) (given : List Text) (seen : Seen) (fault : FileFault) (hint : Result (Vec ℕ Global) AllocError) (name : Option Text) (writes notes : ℕ) (cause : Stop)
-    → fault_of program given ≡ [] → name ≡ text_of (codes "schema") given → cause ≡ hinted_stop (stop.File fault) hint → HasFileFault folder.gives name fault → IfOk hint (λ h. h.items ≡ file_hint fault name) → notes < 2 ^ 64
-    → ComesBy folder given seen seen None (Err cause) × Rests seen.ends seen.ends writes notes None (Err cause)
-fileless folder given seen fault (Ok hint) name writes notes cause read is so has told few =
-    rw so ((read, subst (λ (t : Option Text). IsFileFault folder.gives t fault hint.items) is (has, told), idle seen.ends, refl), early seen.ends seen.ends writes notes _ (refl, refl, refl) (λ writes more. tt) refl few)
-fileless folder given seen fault (Err none) name writes notes cause read is so has told few =
-    rw so (((refusal.OutOfMemory, tt, Keeps-refl seen.ends.reader.left, Keeps-refl seen.ends.outs.writer.bytes, Keeps-refl seen.ends.outs.notes.bytes), refl), early seen.ends seen.ends writes notes _ (refl, refl, refl) (λ writes more. tt) refl few)
+pub fileless : (folder : Folder) (given : List Text) (seen : Seen) (fault : FileFault) (hint : Result (Vec ℕ Global) AllocError) (name : Option Text) (cause : Stop)
+    → fault_of program given ≡ [] → name ≡ text_of (codes "schema") given → cause ≡ hinted_stop (stop.File fault) hint → HasFileFault folder.gives name fault → IfOk hint (λ h. h.items ≡ file_hint fault name)
+    → ComesBy folder given seen seen None (Err cause) × Rests seen.ends seen.ends None (Err cause)
+fileless folder given seen fault (Ok hint) name cause read is so has told =
+    rw so ((read, subst (λ (t : Option Text). IsFileFault folder.gives t fault hint.items) is (has, told), idle seen.ends, refl), early seen.ends seen.ends _ (refl, refl, refl) refl)
+fileless folder given seen fault (Err none) name cause read is so has told =
+    rw so (((refusal.OutOfMemory, tt, Keeps-refl seen.ends.reader.left, Keeps-refl seen.ends.outs.writer.bytes, Keeps-refl seen.ends.outs.notes.bytes), refl), early seen.ends seen.ends _ (refl, refl, refl) refl)
 
 -- the numbers to be told have a place for each kind of fault
 summed_places : (told : Sums) (asked : Bool) → length told.tally.reasons ≡ reason_count → IfSome (if asked then Some told else None) (λ (sums : Sums). length sums.tally.reasons ≡ reason_count)
@@ -173,36 +167,30 @@ pub same_ends : {S K N A : Type 0} (s : input.Ghosts S K N) (k : sink.Ghosts K) 
 same_ends s k n (Ok done) r r' w w' m m' a b c = tt
 same_ends s k n (Err unasked) r r' w w' m m' a b c = rw (a, b, c) refl
 
-module _ (settings : Settings) (before after : Ends) (writes notes : ℕ) (turns : after.reader.calls ≤ before.reader.calls + 4294967296) (noted : notes < 2 ^ 98) where
-  rests_by : (tally : Tally) (outcome : Result Ending Stop) → length tally.reasons ≡ reason_count → EndsSo before after 4294967296 outcome → ((more : ℕ) → notes ≤ more → IsCrowded writes more outcome)
-      → Rests before after writes notes (summed settings tally) outcome
-  rests_by tally outcome are ends crowded = record { places = summed_places _ settings.summary are; ends = ends; turns = turns; noted = noted; crowded = crowded }
+module _ (settings : Settings) (before after : Ends) (turns : after.reader.calls ≤ before.reader.calls + 4294967296) where
+  rests_by : (tally : Tally) (outcome : Result Ending Stop) → length tally.reasons ≡ reason_count → EndsSo before after 4294967296 outcome
+      → Rests before after (summed settings tally) outcome
+  rests_by tally outcome are ends = record { places = summed_places _ settings.summary are; ends = ends; turns = turns }
 
-  unasked_rests : (unasked : Unasked) → after ≡ before → Rests before after writes notes None (Err (stop.Ask unasked))
-  unasked_rests unasked same = record { places = tt; ends = rw same (refl, refl, refl); turns = turns; noted = noted; crowded = λ more le. tt }
+  unasked_rests : (unasked : Unasked) → after ≡ before → Rests before after None (Err (stop.Ask unasked))
+  unasked_rests unasked same = record { places = tt; ends = rw same (refl, refl, refl); turns = turns }
 
   run_rests_so : (manner : Manner) (tally : Tally) (end : End) → length tally.reasons ≡ reason_count → EndsBeside before after 4294967296 end
-      → Rests before after writes notes (summed settings tally) (run_ending manner tally end)
-  run_rests_so manner tally (Ok done) are ends = rests_by tally _ are ends (λ more le. tt)
-  run_rests_so manner tally (Err fault) are ends = rests_by tally _ are ends (λ more le. tt)
+      → Rests before after (summed settings tally) (run_ending manner tally end)
+  run_rests_so manner tally (Ok done) are ends = rests_by tally _ are ends
+  run_rests_so manner tally (Err fault) are ends = rests_by tally _ are ends
 
   pub run_rests : (ran : Result Ran Unasked) (sums : Option Sums) (outcome : Result Ending Stop) → EndsRun settings ran sums outcome → IfOk ran (λ r. length r.tally.reasons ≡ reason_count)
-      → IfOk ran (λ r. EndsBeside before after 4294967296 r.end) → OnErr ran (after ≡ before) → Rests before after writes notes sums outcome
+      → IfOk ran (λ r. EndsBeside before after 4294967296 r.end) → OnErr ran (after ≡ before) → Rests before after sums outcome
   run_rests (Ok ran) sums outcome (told, is) are ends same = rw (told, is) (run_rests_so _ ran.tally ran.end are ends)
   run_rests (Err unasked) sums outcome (told, is) are ends same = rw (told, is) (unasked_rests unasked same)
 
-  -- where files came to rest, more calls of the notes may follow
-  halted_crowded : (fault : RunFault) (more : ℕ) → notes ≤ more → (◌≡◌ {A = End} (Err fault) (Err run.TooManyTurns) → (2 ^ 64 ≤ writes) ⊎ (2 ^ 64 ≤ notes)) → IsCrowded writes more (Err (stop.Halted fault))
-  halted_crowded run.TooManyTurns more le many = elim (many refl) [ inl enough ↦ inl enough | inr enough ↦ inr (omega (arith, enough, le)) ]
-  halted_crowded _ more le many = tt
-
-  files_rests_so : (by : By) (course : Course) (end : End) → length course.tally.reasons ≡ reason_count → (end ≡ Err run.TooManyTurns → (2 ^ 64 ≤ writes) ⊎ (2 ^ 64 ≤ notes))
-      → Rests before after writes notes (summed settings course.tally) (files_ending by course end)
-  files_rests_so by course (Ok done) are many = rests_by course.tally _ are tt (λ more le. tt)
-  files_rests_so by course (Err fault) are many = rests_by course.tally _ are tt (λ more le. halted_crowded fault more le many)
+  files_rests_so : (by : By) (course : Course) (end : End) → length course.tally.reasons ≡ reason_count → Rests before after (summed settings course.tally) (files_ending by course end)
+  files_rests_so by course (Ok done) are = rests_by course.tally _ are tt
+  files_rests_so by course (Err fault) are = rests_by course.tally _ are tt
 
   pub files_rests : (passed : Result inputs.Passed Unasked) (sums : Option Sums) (outcome : Result Ending Stop) → EndsFiles settings passed sums outcome
-      → IfOk passed (λ p. length p.course.tally.reasons ≡ reason_count) → IfOk passed (λ p. p.end ≡ Err run.TooManyTurns → (2 ^ 64 ≤ writes) ⊎ (2 ^ 64 ≤ notes)) → OnErr passed (after ≡ before)
-      → Rests before after writes notes sums outcome
-  files_rests (Ok passed) sums outcome (told, is) are many same = rw (told, is) (files_rests_so _ passed.course passed.end are many)
-  files_rests (Err unasked) sums outcome (told, is) are many same = rw (told, is) (unasked_rests unasked same)
+      → IfOk passed (λ p. length p.course.tally.reasons ≡ reason_count) → OnErr passed (after ≡ before)
+      → Rests before after sums outcome
+  files_rests (Ok passed) sums outcome (told, is) are same = rw (told, is) (files_rests_so _ passed.course passed.end are)
+  files_rests (Err unasked) sums outcome (told, is) are same = rw (told, is) (unasked_rests unasked same)

@@ -4,13 +4,14 @@ use Rattle.std.specs.{List.flat_map, Io.KnownBytes.Appends}
 use Rattle.fb_lines.specs.{AnswerText.byte_text, Faults.End, Faults.EndsBeside, Faults.status_of}
 use Rattle.fb_lines.specs.Ends.{Ends, Outs, Reader, Writer, beside, with_notes}
 use Rattle.fb_run.specs.Leave.{IsUnended, MayAsk, ends_of, reader_of}
+use Rattle.fb_bytes.specs.Ends.{one_more}
 use Rattle.fb_bytes.specs.declared.ends.Sink as sink
 use Rattle.fb_run.specs.declared.input.Input as input
 use Rattle.fb_lines.specs.{Job.Job, Lines.WritesFront, Sums.no_tally}
 use Rattle.fb_run.specs.{Prompt.IsPrompt, Run.IsRunBeside, Run.answer_by}
 use Rattle.fb_lines.specs.declared.{fault.RunFault.RunFault, tally.Tally.Tally}
 use Rattle.fb_run.specs.declared.run.Ran.{Ran}
-use Rattle.fb_lines.specs.declared.fault.RunFault.TheVariants.{WriteFault, NoteFault, TooManyTurns, OutOfMemory}
+use Rattle.fb_lines.specs.declared.fault.RunFault.TheVariants.{WriteFault, NoteFault, OutOfMemory}
 use Rattle.std.specs.declared.io.ErrorKind.{ErrorKind}
 use Rattle.fbcheck_texts.specs.{Hints.reason_text, Texts.of_read, Texts.run_text, Framing.end_hint, Framing.framing_of, Framing.run_hint}
 use Rattle.fbcheck_texts.specs.declared.{framing.By.TheVariants.Named, framing.Framing.Framing}
@@ -152,7 +153,7 @@ fault_line name why behind = codes "fbcheck: " ++ flat_map byte_text name ++ cod
 -- this line was noted; or in a write that failed a front of it, or nothing for want of memory, and that ends it all
 abbrev pub IsNotedOf : List ℕ → Writer → Writer → End → Type 0
 IsNotedOf line before after (Ok done) = Appends before.bytes after.bytes line × (after.failures ≡ before.failures)
-IsNotedOf line before after (Err (NoteFault written)) = WritesFront line before.bytes after.bytes 0 written × (after.failures ≡ before.failures + 1)
+IsNotedOf line before after (Err (NoteFault written)) = WritesFront line before.bytes after.bytes 0 written × (after.failures ≡ one_more before.failures)
 IsNotedOf line before after (Err OutOfMemory) = after ≡ before
 IsNotedOf line before after (Err _) = ⊥
 
@@ -160,7 +161,7 @@ IsNotedOf line before after (Err _) = ⊥
 abbrev pub IsNoted : List ℕ → Writer → Writer → Type 0
 IsNoted text before after =
     (Appends before.bytes after.bytes text × (after.failures ≡ before.failures))
-    ⊎ ((written : ℕ) × WritesFront text before.bytes after.bytes 0 written × (after.failures ≡ before.failures + 1))
+    ⊎ ((written : ℕ) × WritesFront text before.bytes after.bytes 0 written × (after.failures ≡ one_more before.failures))
 
 -- a hint was noted so; or nothing for want of memory, and that ends it all
 abbrev pub IsHintOf : List ℕ → Writer → Writer → End → Type 0
@@ -237,10 +238,9 @@ pub record Passes (folder : Folder) (job : Job) (name : List ℕ) (before after 
   pub others : after.seen ≡ renoted between after.seen.ends.outs.notes
   pub course_is : after.course ≡ course_with name came before.course
 
--- a file isn't begun, for want of memory, or where the writer or the notes have had all the calls that they may
+-- a file isn't begun for want of memory
 abbrev pub IsUnbegun : RunFault → Type 0
 IsUnbegun OutOfMemory = Unit {0}
-IsUnbegun TooManyTurns = Unit {0}
 IsUnbegun _ = ⊥
 
 -- a file was gone through, or wasn't begun

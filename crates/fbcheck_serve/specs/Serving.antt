@@ -1,5 +1,6 @@
 -- What the program does, from its words to its exit status.
-use Rattle.std.specs.Prelude.{◌≡◌, ◌≢◌, ℕ, ◌+◌, ◌<◌, ◌≤◌, ◌^◌, ◌⊎◌, ◌++◌, length, if◌then◌else◌, List, [], Option, Some, None, Result, Ok, Err, Vec, String, IfSome, codes, map, option_map, string_bytes, string_len, vec_items}
+use Rattle.std.specs.Prelude.{◌≡◌, ◌≢◌, ℕ, ◌+◌, ◌<◌, ◌≤◌, ◌⊎◌, ◌++◌, length, if◌then◌else◌, List, [], Option, Some, None, Result, Ok, Err, Vec, String, IfSome, codes, map, option_map, string_bytes, string_len, vec_items}
+use Rattle.fb_bytes.specs.Ends.{one_more}
 use Rattle.fb_rules.specs.Reasons.{reason_count}
 use Rattle.std.specs.{Borrow.Bor, Global.Global, Io.KnownBytes.Appends, Io.KnownBytes.Keeps, declared.alloc.AllocError.AllocError, declared.io.ErrorKind.ErrorKind}
 use Rattle.clap.specs.{Walk.Text, Faults.fault_of}
@@ -22,7 +23,7 @@ use Rattle.fbcheck_serve.specs.declared.inputs.Passed as inputs
 use Rattle.fbcheck_serve.specs.declared.{inputs.Course.Course, stop.Ending.Ending}
 use Rattle.fbcheck_serve.specs.declared.stop.Ending.TheVariants.{Helped, Checked, Passed}
 use Rattle.fbcheck_serve.specs.declared.{stop.Stop.Stop, stop.Sums.Sums}
-use Rattle.fb_lines.specs.declared.{fault.RunFault.TheVariants.TooManyTurns, fault.RunFault.TheVariants.WriteFault, tally.Tally.Tally}
+use Rattle.fb_lines.specs.declared.{fault.RunFault.TheVariants.WriteFault, tally.Tally.Tally}
 use Rattle.fbcheck_texts.specs.declared.causes.Causes.{Causes}
 use Rattle.fbcheck_serve.specs.declared.stop.Stop.TheVariants as stop
 use Rattle.fbcheck_texts.specs.declared.fault.WordsFault.{WordsFault}
@@ -159,18 +160,11 @@ EndsSo before after turns (Err (stop.Halted fault)) = Unit {0}
 EndsSo before after turns (Err (stop.CutOff written)) = EndsBeside before after turns (Err (WriteFault written))
 EndsSo before after turns _ = IsUnfailed (failures_of before) (failures_of after)
 
--- a file isn't begun for too many calls only where the writer or the notes have had 2^64
-abbrev pub IsCrowded : ℕ → ℕ → Result Ending Stop → Type 0
-IsCrowded writes notes (Err (stop.Halted TooManyTurns)) = (2 ^ 64 ≤ writes) ⊎ (2 ^ 64 ≤ notes)
-IsCrowded writes notes outcome = Unit {0}
-
--- the program came to that, the numbers have a place for each reason, and few enough calls were made
-pub record Rests (before after : Ends) (writes notes : ℕ) (sums : Option Sums) (outcome : Result Ending Stop) : Type 0 where
+-- the program came to that, and the numbers have a place for each reason
+pub record Rests (before after : Ends) (sums : Option Sums) (outcome : Result Ending Stop) : Type 0 where
   pub places : IfSome sums (λ (told : Sums). length told.tally.reasons ≡ reason_count)
   pub ends : EndsSo before after 4294967296 outcome
   pub turns : after.reader.calls ≤ before.reader.calls + 4294967296
-  pub noted : notes < 2 ^ 98
-  pub crowded : (more : ℕ) → notes ≤ more → IsCrowded writes more outcome
 
 -- a run that came to its end stops for want of its summary; all else ends as it would without
 abbrev pub unsummed : Result Ending Stop → ℕ → Result Ending Stop
@@ -184,7 +178,7 @@ abbrev pub SumsUp : Option Sums → Writer → Writer → Result Ending Stop →
 SumsUp None before after outcome ending = Keeps before.bytes after.bytes × (after.failures ≡ before.failures) × (ending ≡ outcome)
 SumsUp (Some sums) before after outcome ending =
     (Appends before.bytes after.bytes (summary_in sums.form sums.tally) × (after.failures ≡ before.failures) × (ending ≡ outcome))
-    ⊎ ((written : ℕ) × WritesFront (summary_in sums.form sums.tally) before.bytes after.bytes 0 written × (after.failures ≡ before.failures + 1) × (ending ≡ unsummed outcome written))
+    ⊎ ((written : ℕ) × WritesFront (summary_in sums.form sums.tally) before.bytes after.bytes 0 written × (after.failures ≡ one_more before.failures) × (ending ≡ unsummed outcome written))
 
 -- why the program came to rest, where this is why a read or a write failed, if one did; the text of `clap` stands by
 -- itself
@@ -248,15 +242,13 @@ exit_status (Err cause) = stop_status cause
 
 -- The program did what its words ask with at most so many reads, told behind its notes the numbers that they ask for and
 -- why it came to rest if it did, and ended with the status of that. Behind what it came to the notes were `between`, and
--- behind the numbers `behind`. So many calls were made of the writer and the notes in the end, and this is why
--- a write failed, where one did.
-pub record IsServed (folder : Folder) (given : Result (List Text) WordsFault) (before after : Seen) (unwritten : Option ErrorKind) (turns writes notes status : ℕ) : Type 0 where
+-- behind the numbers `behind`. This is why a write failed, where one did.
+pub record IsServed (folder : Folder) (given : Result (List Text) WordsFault) (before after : Seen) (unwritten : Option ErrorKind) (turns status : ℕ) : Type 0 where
   pub outcome : Result Ending Stop
   pub sums : Option Sums
   pub between : Writer
   pub comes : ComesTo folder given before (renoted after between) sums outcome
   pub ends : EndsSo before.ends (with_notes after.ends between) turns outcome
-  pub crowded : IsCrowded writes notes outcome
   pub ending : Result Ending Stop
   pub behind : Writer
   pub summed : SumsUp sums between behind outcome ending

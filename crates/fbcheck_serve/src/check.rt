@@ -7,7 +7,7 @@ ghost use Rattle.fbcheck_serve.specs.Checking.{EndsChecked, IsChecked, IsChecked
 ghost use Rattle.fbcheck_serve.specs.Inputs.{folder_of, seen_of};
 ghost use Rattle.fb_lines.specs.Faults.{EndsBeside};
 ghost use Rattle.fb_lines.specs.declared.fault.RunFault.TheVariants.{TooManyTurns};
-ghost use Rattle.fb_run.specs.Leave.{HasCallsLeft, HasLeave, ends_of, noteless};
+ghost use Rattle.fb_run.specs.Leave.{HasLeave, ends_of, noteless};
 
 use crate::asked::asked_of;
 use crate::files::Files;
@@ -45,7 +45,7 @@ pub fn check_beside<S: Input<K, N>, K: Sink, N: Sink>(
     notes: &mut N,
 ) -> Result<Ran, Unasked>
     requires ranges { AreInRange settings.now }
-    requires few { HasCallsLeft S.Input K.Sink N.Sink reader.old writer.old notes.old }
+    requires few { S.calls reader.old < 2 ^ 64 }
     requires leave { HasLeave S.Input (ends_of S.Input K.Sink N.Sink reader.old writer.old notes.old) (IsPromptAsAsked schema_bytes settings.now) }
 
     ensures run { IsCheckedBeside schema_bytes.entry settings.now (ends_of S.Input K.Sink N.Sink reader.old writer.old notes.old)
@@ -56,7 +56,6 @@ pub fn check_beside<S: Input<K, N>, K: Sink, N: Sink>(
     ensures unnoted { OnErr result (notes.new ≡ notes.old) }
     ensures end { IfOk result (λ ran. EndsBeside (ends_of S.Input K.Sink N.Sink reader.old writer.old notes.old)
         (ends_of S.Input K.Sink N.Sink reader.new writer.new notes.new) MOST_TURNS ran.end) }
-    ensures pushes { N.calls notes.new ≤ N.calls notes.old + 2 ^ 96 }
     ensures turns { S.calls reader.new ≤ S.calls reader.old + MOST_TURNS }
 {
     let asked = asked_of(alloc, schema_bytes, settings)?;
@@ -82,7 +81,7 @@ pub fn check_files<F: Files<K, N>, S: Input<K, N> + Explains, K: Sink, N: Sink>(
     notes: &mut N,
 ) -> Result<Passed, Unasked>
     requires ranges { AreInRange settings.now }
-    requires few { HasCallsLeft S.Input K.Sink N.Sink reader.old writer.old notes.old }
+    requires few { S.calls reader.old < 2 ^ 64 }
     requires leave { HasLeave S.Input (ends_of S.Input K.Sink N.Sink reader.old writer.old notes.old) (IsPromptAmongAsked (folder_of F.Files F.Opened.Input F.Opened.Explains files.now) schema_bytes settings.now) }
     requires files { MayReadAsked (folder_of F.Files F.Opened.Input F.Opened.Explains files.now) schema_bytes settings.now (ends_of S.Input K.Sink N.Sink reader.old writer.old notes.old) }
 
@@ -92,9 +91,7 @@ pub fn check_files<F: Files<K, N>, S: Input<K, N> + Explains, K: Sink, N: Sink>(
     ensures unread { OnErr result (reader.new ≡ reader.old) }
     ensures unwritten { OnErr result (writer.new ≡ writer.old) }
     ensures unnoted { OnErr result (notes.new ≡ notes.old) }
-    ensures noted { N.calls notes.new < 2 ^ 98 }
     ensures turns { S.calls reader.new ≤ S.calls reader.old + MOST_TURNS }
-    ensures crowded { IfOk result (λ passed. passed.end ≡ Err TooManyTurns → (2 ^ 64 ≤ K.calls writer.new) ⊎ (2 ^ 64 ≤ N.calls notes.new)) }
 {
     let mut asked = asked_of(alloc, schema_bytes, settings)?;
     let lent = &mut asked;
@@ -119,8 +116,7 @@ pub fn check<S: Input<K, Nowhere>, K: Sink>(
     writer: &mut K,
 ) -> Result<Tally, CheckFault>
     requires ranges { AreInRange settings.now }
-    requires reads { S.calls reader.old < 2 ^ 64 }
-    requires writes { K.calls writer.old < 2 ^ 64 }
+    requires few { S.calls reader.old < 2 ^ 64 }
     requires leave { HasLeave S.Input (noteless S.Input K.Sink reader.old writer.old) (IsPromptAsAsked schema_bytes settings.now) }
 
     ensures run { IsChecked schema_bytes.entry settings.now (noteless S.Input K.Sink reader.old writer.old) (noteless S.Input K.Sink reader.new writer.new) result }

@@ -3,10 +3,9 @@
 ghost use Rattle.std.specs.Prelude.{Err, IfOk, true, false, ◌≡◌, ◌≢◌, ◌⊎◌, ◌+◌, ◌<◌, ◌≤◌, ◌^◌, length, map, option_map, string_bytes, vec_items};
 ghost use Rattle.fb_rules.specs.Reasons.{reason_count};
 ghost use Rattle.fb_lines.specs.Ends.{outs_of, writer_of};
-ghost use Rattle.fb_run.specs.Leave.{HasCallsLeft, HasLeave, ends_of};
+ghost use Rattle.fb_run.specs.Leave.{HasLeave, ends_of};
 ghost use Rattle.fb_lines.specs.{Sums.no_tally, Job.Serves, Job.job_of};
 ghost use Rattle.fb_run.specs.Prompt.{IsPrompt};
-ghost use Rattle.fb_lines.specs.declared.fault.RunFault.TheVariants.{TooManyTurns};
 ghost use Rattle.fbcheck_serve.specs.Inputs.{ComesOf, IsBehind, IsBehindEnd, IsBehindRun, IsNotedOf, IsPromptAmong, MayRead, MayReadEach, ServesEach, Tries, at_first, course_with, fault_line, folder_of, is_final, is_standard, label_of, seen_of, stand, standard_after, sum_of, sums, are_named};
 ghost use Rattle.fbcheck_serve.specs.declared.inputs.Standard.TheVariants.{Unread, Spent};
 
@@ -28,9 +27,6 @@ use std::io::ErrorKind;
 
 /// The name of standard input.
 pub const STANDARD: &str = "-";
-
-/// The most calls that a writer or the notes may have had before a run.
-const MOST_CALLS: u128 = 0x1_0000_0000_0000_0000;
 
 /// Whether standard input was among the files.
 #[derive(Clone, Copy)]
@@ -86,7 +82,7 @@ pub struct Passed {
 /// # Ends
 ///
 /// It ends well behind the last file, or for one of these: `WriteFault` and `NoteFault` where a write or a note failed,
-/// `OutOfMemory` where memory was refused, and `TooManyTurns` where the writer or the notes have had 2^64 calls.
+/// and `OutOfMemory` where memory was refused.
 pub fn pass_files<F: Files<K, N>, S: Input<K, N> + Explains, K: Sink, N: Sink>(
     alloc: Global,
     files: &F,
@@ -98,14 +94,14 @@ pub fn pass_files<F: Files<K, N>, S: Input<K, N> + Explains, K: Sink, N: Sink>(
     notes: &mut N,
 ) -> Passed
     requires serves { Serves schema.now options.old }
-    requires few { HasCallsLeft S.Input K.Sink N.Sink reader.old writer.old notes.old }
+    requires few { S.calls reader.old < 2 ^ 64 }
     requires leave { HasLeave S.Input (ends_of S.Input K.Sink N.Sink reader.old writer.old notes.old) (IsPromptAmong (folder_of F.Files F.Opened.Input F.Opened.Explains files.now) (job_of schema.now options.old) (map string_bytes names.now)) }
     requires files { MayReadEach (folder_of F.Files F.Opened.Input F.Opened.Explains files.now) (job_of schema.now options.old) (map string_bytes names.now) (ends_of S.Input K.Sink N.Sink reader.old writer.old notes.old) }
 
     ensures serves { ServesEach (folder_of F.Files F.Opened.Input F.Opened.Explains files.now) (job_of schema.now options.old) (map string_bytes names.now)
         (at_first (seen_of S.Input S.Explains K.Sink N.Sink reader.old writer.old notes.old)) (stand (seen_of S.Input S.Explains K.Sink N.Sink reader.new writer.new notes.new) result.course) result.end }
-    ensures calls { (length result.course.tally.reasons ≡ reason_count) × (N.calls notes.new < 2 ^ 98) × (S.calls reader.new ≤ S.calls reader.old + MOST_TURNS)
-        × (result.end ≡ Err TooManyTurns → (2 ^ 64 ≤ K.calls writer.new) ⊎ (2 ^ 64 ≤ N.calls notes.new)) }
+    ensures places { length result.course.tally.reasons ≡ reason_count }
+    ensures turns { S.calls reader.new ≤ S.calls reader.old + MOST_TURNS }
 {
     let named = are_named(options, names);
     let mut course = Course::new();
@@ -174,7 +170,6 @@ fn pass_file<F: Files<K, N>, S: Input<K, N> + Explains, K: Sink, N: Sink>(
     notes: &mut N,
 ) -> Result<(), RunFault>
     requires serves { Serves schema.now options.now }
-    requires few { N.calls notes.old < 2 ^ 98 }
     requires places { length course.old.tally.reasons ≡ reason_count }
     requires reads { course.old.standard ≡ Unread → S.calls reader.old < 2 ^ 64 }
     requires leave { is_standard name.now ≡ true → course.old.standard ≡ Unread → HasLeave S.Input (ends_of S.Input K.Sink N.Sink reader.old writer.old notes.old) (IsPrompt (job_of schema.now options.now)) }
@@ -182,15 +177,10 @@ fn pass_file<F: Files<K, N>, S: Input<K, N> + Explains, K: Sink, N: Sink>(
 
     ensures tries { Tries (folder_of F.Files F.Opened.Input F.Opened.Explains files.now) (job_of schema.now options.now) name.now
         (stand (seen_of S.Input S.Explains K.Sink N.Sink reader.old writer.old notes.old) course.old) (stand (seen_of S.Input S.Explains K.Sink N.Sink reader.new writer.new notes.new) course.new) result }
-    ensures noted { N.calls notes.new < 2 ^ 98 }
     ensures calls { (S.calls reader.new ≤ S.calls reader.old + MOST_TURNS) × (length course.new.tally.reasons ≡ reason_count)
         × (course.old.standard ≡ Spent → (course.new.standard ≡ Spent) × (reader.new ≡ reader.old))
         × (course.new.standard ≡ Unread → (course.old.standard ≡ Unread) × (reader.new ≡ reader.old)) }
-    ensures crowded { result ≡ Err TooManyTurns → (2 ^ 64 ≤ K.calls writer.new) ⊎ (2 ^ 64 ≤ N.calls notes.new) }
 {
-    if writer.calls() >= MOST_CALLS || notes.calls() >= MOST_CALLS {
-        return Err(RunFault::TooManyTurns);
-    }
     let standard = course.standard;
     let came = run_file(
         alloc, files, name, schema, options, standard, reader, writer, notes,
@@ -213,13 +203,12 @@ fn run_file<F: Files<K, N>, S: Input<K, N> + Explains, K: Sink, N: Sink>(
     notes: &mut N,
 ) -> Came
     requires serves { Serves schema.now options.now }
-    requires few { (K.calls writer.old < 2 ^ 64) × (N.calls notes.old < 2 ^ 64) }
     requires reads { standard ≡ Unread → S.calls reader.old < 2 ^ 64 }
     requires leave { is_standard name.now ≡ true → standard ≡ Unread → HasLeave S.Input (ends_of S.Input K.Sink N.Sink reader.old writer.old notes.old) (IsPrompt (job_of schema.now options.now)) }
     requires files { is_standard name.now ≡ false → MayRead (folder_of F.Files F.Opened.Input F.Opened.Explains files.now) (job_of schema.now options.now) name.now (outs_of K.Sink N.Sink writer.old notes.old) }
 
     ensures comes { ComesOf (folder_of F.Files F.Opened.Input F.Opened.Explains files.now) (job_of schema.now options.now) name.now standard (seen_of S.Input S.Explains K.Sink N.Sink reader.old writer.old notes.old) (seen_of S.Input S.Explains K.Sink N.Sink reader.new writer.new notes.new) result.what result.cause }
-    ensures calls { (N.calls notes.new ≤ N.calls notes.old + 2 ^ 96) × (S.calls reader.new ≤ S.calls reader.old + MOST_TURNS)
+    ensures calls { (S.calls reader.new ≤ S.calls reader.old + MOST_TURNS)
         × IfOk result.what (λ ran. length ran.tally.reasons ≡ reason_count) × (is_standard name.now ≡ false → reader.new ≡ reader.old) × (standard ≡ Spent → reader.new ≡ reader.old) }
 {
     if name == STANDARD {
@@ -352,9 +341,7 @@ fn tell_behind<N: Sink>(
     came: &Came,
     notes: &mut N,
 ) -> Result<(), RunFault>
-    requires { N.calls notes.old < 2 ^ 99 }
-    ensures { IsBehind name.now framing came.now.what came.now.cause (writer_of N.Sink notes.old) (writer_of N.Sink notes.new) result
-        × (result ≢ Err TooManyTurns) × (N.calls notes.new ≤ N.calls notes.old + 2 ^ 64) }
+    ensures { IsBehind name.now framing came.now.what came.now.cause (writer_of N.Sink notes.old) (writer_of N.Sink notes.new) result }
 {
     match &came.what {
         Ok(ran) => tell_run(alloc, name, framing, ran, came.cause, notes),
@@ -378,9 +365,7 @@ fn tell_run<N: Sink>(
     cause: Option<ErrorKind>,
     notes: &mut N,
 ) -> Result<(), RunFault>
-    requires { N.calls notes.old < 2 ^ 99 }
-    ensures { IsBehindRun name.now framing ran.now.tally ran.now.end cause (writer_of N.Sink notes.old) (writer_of N.Sink notes.new) result
-        × (result ≢ Err TooManyTurns) × (N.calls notes.new ≤ N.calls notes.old + 2 ^ 64) }
+    ensures { IsBehindRun name.now framing ran.now.tally ran.now.end cause (writer_of N.Sink notes.old) (writer_of N.Sink notes.new) result }
 {
     let Err(fault) = &ran.end else {
         return tell_end(alloc, name, end_hint(By::Named, framing, &ran.tally), notes);
@@ -400,9 +385,7 @@ fn tell_end<N: Sink>(
     hint: Option<&[u8]>,
     notes: &mut N,
 ) -> Result<(), RunFault>
-    requires { N.calls notes.old < 2 ^ 99 }
-    ensures { IsBehindEnd name.now (option_map (λ h. h.now) hint.entry) (writer_of N.Sink notes.old) (writer_of N.Sink notes.new) result
-        × (result ≢ Err TooManyTurns) × (N.calls notes.new ≤ N.calls notes.old + 2 ^ 64) }
+    ensures { IsBehindEnd name.now (option_map (λ h. h.now) hint.entry) (writer_of N.Sink notes.old) (writer_of N.Sink notes.new) result }
 {
     let Some(hint) = hint else {
         return Ok(());
@@ -430,9 +413,7 @@ fn tell_fault<N: Sink>(
     behind: &[u8],
     notes: &mut N,
 ) -> Result<(), RunFault>
-    requires { N.calls notes.old < 2 ^ 99 }
-    ensures { IsNotedOf (fault_line name.now why.now behind.now) (writer_of N.Sink notes.old) (writer_of N.Sink notes.new) result
-        × (result ≢ Err TooManyTurns) × (N.calls notes.new ≤ N.calls notes.old + 2 ^ 64) }
+    ensures { IsNotedOf (fault_line name.now why.now behind.now) (writer_of N.Sink notes.old) (writer_of N.Sink notes.new) result }
 {
     let line = fault_line(alloc, name, why, behind)?;
     let written = push_all(notes, line.as_slice());

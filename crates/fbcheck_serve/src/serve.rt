@@ -2,7 +2,7 @@
 
 ghost use Rattle.std.specs.Prelude.{IfOk, ◌≡◌, ◌+◌, ◌<◌, ◌≤◌, ◌^◌, ℕ, string_len};
 ghost use Rattle.fb_lines.specs.Ends.{Reader, Writer, beside, writer_of};
-ghost use Rattle.fb_run.specs.Leave.{HasCallsLeft, HasLeave, ends_of};
+ghost use Rattle.fb_run.specs.Leave.{HasLeave, ends_of};
 ghost use Rattle.fbcheck_serve.specs.Inputs.{folder_of, seen_of};
 ghost use Rattle.fbcheck_serve.specs.Checking.{IsPromptOverAsked, MayReadAsked};
 ghost use Rattle.fbcheck_serve.specs.Serving.{ComesAsAsked, ComesTo, EndsFiles, EndsRun, EndsSo, IsPromptAsGiven, IsServed, MayReadAsGiven, Rests, Unserved, summed, words_of};
@@ -34,12 +34,12 @@ pub fn serve<F: Files<K, N>, S: Input<K, N> + Explains, K: Sink + Explains, N: S
     writer: &mut K,
     notes: &mut N,
 ) -> u8
-    requires few { HasCallsLeft S.Input K.Sink N.Sink reader.old writer.old notes.old }
+    requires few { S.calls reader.old < 2 ^ 64 }
     requires leave { HasLeave S.Input (ends_of S.Input K.Sink N.Sink reader.old writer.old notes.old) (IsPromptAsGiven (folder_of F.Files F.Opened.Input F.Opened.Explains files.now) (words_of words)) }
     requires files { MayReadAsGiven (folder_of F.Files F.Opened.Input F.Opened.Explains files.now) (words_of words) (ends_of S.Input K.Sink N.Sink reader.old writer.old notes.old) }
 
     ensures served { IsServed (folder_of F.Files F.Opened.Input F.Opened.Explains files.now) (words_of words) (seen_of S.Input S.Explains K.Sink N.Sink reader.old writer.old notes.old)
-        (seen_of S.Input S.Explains K.Sink N.Sink reader.new writer.new notes.new) (K.Explains.cause writer.new) MOST_TURNS (K.Sink.calls writer.new) (N.calls notes.new) result }
+        (seen_of S.Input S.Explains K.Sink N.Sink reader.new writer.new notes.new) (K.Explains.cause writer.new) MOST_TURNS result }
     ensures turns { S.calls reader.new ≤ S.calls reader.old + MOST_TURNS }
 {
     let mut sums = None;
@@ -63,13 +63,13 @@ fn come_to<F: Files<K, N>, S: Input<K, N> + Explains, K: Sink, N: Sink>(
     notes: &mut N,
     sums: &mut Option<Sums>,
 ) -> Result<Ending, Stop>
-    requires few { HasCallsLeft S.Input K.Sink N.Sink reader.old writer.old notes.old }
+    requires few { S.calls reader.old < 2 ^ 64 }
     requires leave { HasLeave S.Input (ends_of S.Input K.Sink N.Sink reader.old writer.old notes.old) (IsPromptAsGiven (folder_of F.Files F.Opened.Input F.Opened.Explains files.now) (words_of words)) }
     requires files { MayReadAsGiven (folder_of F.Files F.Opened.Input F.Opened.Explains files.now) (words_of words) (ends_of S.Input K.Sink N.Sink reader.old writer.old notes.old) }
 
     ensures { ComesTo (folder_of F.Files F.Opened.Input F.Opened.Explains files.now) (words_of words) (seen_of S.Input S.Explains K.Sink N.Sink reader.old writer.old notes.old)
         (seen_of S.Input S.Explains K.Sink N.Sink reader.new writer.new notes.new) sums.new result
-        × Rests (ends_of S.Input K.Sink N.Sink reader.old writer.old notes.old) (ends_of S.Input K.Sink N.Sink reader.new writer.new notes.new) (K.calls writer.new) (N.calls notes.new) sums.new result }
+        × Rests (ends_of S.Input K.Sink N.Sink reader.old writer.old notes.old) (ends_of S.Input K.Sink N.Sink reader.new writer.new notes.new) sums.new result }
 {
     *sums = None;
     let words = match words {
@@ -107,13 +107,13 @@ fn check_by<F: Files<K, N>, S: Input<K, N> + Explains, K: Sink, N: Sink>(
     sums: &mut Option<Sums>,
 ) -> Result<Ending, Stop>
     requires ranges { AreInRange settings.now }
-    requires few { HasCallsLeft S.Input K.Sink N.Sink reader.old writer.old notes.old }
+    requires few { S.calls reader.old < 2 ^ 64 }
     requires leave { HasLeave S.Input (ends_of S.Input K.Sink N.Sink reader.old writer.old notes.old) (IsPromptOverAsked (folder_of F.Files F.Opened.Input F.Opened.Explains files.now) file settings.now) }
     requires files { MayReadAsked (folder_of F.Files F.Opened.Input F.Opened.Explains files.now) file settings.now (ends_of S.Input K.Sink N.Sink reader.old writer.old notes.old) }
 
     ensures { ComesAsAsked (folder_of F.Files F.Opened.Input F.Opened.Explains files.now) file.entry settings.now (seen_of S.Input S.Explains K.Sink N.Sink reader.old writer.old notes.old)
         (seen_of S.Input S.Explains K.Sink N.Sink reader.new writer.new notes.new) sums.new result
-        × Rests (ends_of S.Input K.Sink N.Sink reader.old writer.old notes.old) (ends_of S.Input K.Sink N.Sink reader.new writer.new notes.new) (K.calls writer.new) (N.calls notes.new) sums.new result }
+        × Rests (ends_of S.Input K.Sink N.Sink reader.old writer.old notes.old) (ends_of S.Input K.Sink N.Sink reader.new writer.new notes.new) sums.new result }
 {
     if settings.files.as_slice().is_empty() {
         let ran = check_beside(alloc, file, settings, reader, writer, notes);
@@ -192,7 +192,6 @@ fn without_settings<K: Sink>(
     fault: SettingsFault,
     writer: &mut K,
 ) -> Result<Ending, Stop>
-    requires { K.calls writer.old < 2 ^ 64 }
     ensures { Unserved fault (writer_of K.Sink writer.old) (writer_of K.Sink writer.new) result
         × ((reader : Reader) (notes : Writer) (turns : ℕ) → EndsSo (beside reader (record { writer = writer_of K.Sink writer.old; notes = notes }))
         (beside reader (record { writer = writer_of K.Sink writer.new; notes = notes })) turns result) }

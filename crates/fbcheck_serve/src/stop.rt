@@ -82,9 +82,7 @@ impl Ending {
 
     /// Notes that, where there is something. What can't be written is left.
     fn tell<N: Sink>(&self, notes: &mut N)
-        requires { N.calls notes.old < 2 ^ 99 }
-        ensures told { IsHinted (ending_hint self.now) (writer_of N.Sink notes.old) (writer_of N.Sink notes.new) }
-        ensures more { N.calls notes.old ≤ N.calls notes.new }
+        ensures { IsHinted (ending_hint self.now) (writer_of N.Sink notes.old) (writer_of N.Sink notes.new) }
     {
         if let Some(hint) = self.hint() {
             note_both(notes, NAME.as_bytes(), hint);
@@ -170,9 +168,7 @@ impl Stop {
     /// Writes the text of `clap`, or else a line that begins with the program's name, where this is why a read of
     /// standard input or a write failed, if one did. What can't be written is left.
     fn tell<N: Sink>(&self, causes: Causes, notes: &mut N)
-        requires { N.calls notes.old < 2 ^ 99 }
-        ensures told { Complains causes (Err self.now) (writer_of N.Sink notes.old) (writer_of N.Sink notes.new) }
-        ensures more { N.calls notes.old ≤ N.calls notes.new }
+        ensures { Complains causes (Err self.now) (writer_of N.Sink notes.old) (writer_of N.Sink notes.new) }
     {
         if let Stop::Usage(text) = self {
             note(notes, text.as_bytes());
@@ -186,19 +182,14 @@ impl Stop {
 
 /// Notes this text. What can't be written is left.
 pub fn note<N: Sink>(notes: &mut N, text: &[u8])
-    requires { N.calls notes.old + length text.now < 2 ^ 100 }
-    ensures noted { IsNoted text.now (writer_of N.Sink notes.old) (writer_of N.Sink notes.new) }
-    ensures calls { N.calls notes.new ≤ N.calls notes.old + length text.now }
-    ensures more { N.calls notes.old ≤ N.calls notes.new }
+    ensures { IsNoted text.now (writer_of N.Sink notes.old) (writer_of N.Sink notes.new) }
 {
     push_all(notes, text);
 }
 
 /// The same of two texts, one behind the other.
 fn note_both<N: Sink>(notes: &mut N, text: &[u8], behind: &[u8])
-    requires { N.calls notes.old + length text.now + length behind.now < 2 ^ 100 }
-    ensures noted { IsNoted (text.now ++ behind.now) (writer_of N.Sink notes.old) (writer_of N.Sink notes.new) }
-    ensures more { N.calls notes.old ≤ N.calls notes.new }
+    ensures { IsNoted (text.now ++ behind.now) (writer_of N.Sink notes.old) (writer_of N.Sink notes.new) }
 {
     if push_all(notes, text) == text.len() {
         push_all(notes, behind);
@@ -211,11 +202,8 @@ pub fn sum_up<N: Sink>(
     sums: &Option<Sums>,
     notes: &mut N,
 ) -> Result<Ending, Stop>
-    requires calls { N.calls notes.old < 2 ^ 98 }
     requires places { IfSome sums.now (λ sums. length sums.tally.reasons ≡ reason_count) }
-    ensures summed { SumsUp sums.now (writer_of N.Sink notes.old) (writer_of N.Sink notes.new) outcome result }
-    ensures calls { N.calls notes.new < 2 ^ 99 }
-    ensures more { N.calls notes.old ≤ N.calls notes.new }
+    ensures { SumsUp sums.now (writer_of N.Sink notes.old) (writer_of N.Sink notes.new) outcome result }
 {
     let Some(told) = sums else {
         return outcome;
@@ -235,9 +223,7 @@ pub fn sum_up<N: Sink>(
 /// Tells on standard error why the program came to rest, if it did, or what there is to be told of its end. This is why
 /// a read of standard input or a write failed, if one did.
 pub fn tell<N: Sink>(outcome: &Result<Ending, Stop>, causes: Causes, notes: &mut N)
-    requires { N.calls notes.old < 2 ^ 99 }
-    ensures told { Complains causes outcome.now (writer_of N.Sink notes.old) (writer_of N.Sink notes.new) }
-    ensures more { N.calls notes.old ≤ N.calls notes.new }
+    ensures { Complains causes outcome.now (writer_of N.Sink notes.old) (writer_of N.Sink notes.new) }
 {
     match outcome {
         Ok(ending) => ending.tell(notes),

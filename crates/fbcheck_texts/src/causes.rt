@@ -2,7 +2,7 @@
 
 ghost use Rattle.std.specs.Prelude.{◌≡◌, ◌+◌, ◌<◌, ◌^◌, IfErr, OnOk, Option, None, Some, false};
 ghost use Rattle.std.specs.{Io.ReadsAtMost, Io.WritesAtMost, Io.KnownBytes.ReadConsumes, Io.KnownBytes.WriteAppends, IoError.error_kind};
-ghost use Rattle.fb_bytes.specs.Ends.{failed, refused, told_end};
+ghost use Rattle.fb_bytes.specs.Ends.{failed, failed_more, one_more, told_end};
 ghost use Rattle.fbcheck_texts.specs.Texts.{of_read};
 ghost use Rattle.std.specs.declared.io.ErrorKind.{ErrorKind};
 
@@ -85,11 +85,10 @@ impl<I: Write> Sink for Explained<I> {
     ghost failures = { λ w. w.counted.failures };
 
     fn push(&mut self, piece: &[u8]) -> io::Result<usize>
-        requires { self.old.counted.calls < 2 ^ 100 }
         ensures bound { WritesAtMost result piece.now }
         ensures bytes { WriteAppends (I.contents self.old.counted.inner) (I.contents self.new.counted.inner) result piece.now }
-        ensures counted { self.new.counted.calls ≡ self.old.counted.calls + 1 }
-        ensures failure { self.new.counted.failures ≡ self.old.counted.failures + refused result piece.now }
+        ensures counted { self.new.counted.calls ≡ one_more self.old.counted.calls }
+        ensures failure { self.new.counted.failures ≡ failed_more result piece.now self.old.counted.failures }
         ensures cause { IfErr result (λ error. self.new.cause ≡ Some (error_kind error)) }
         ensures kept { OnOk result (self.new.cause ≡ self.old.cause) }
     {

@@ -42,13 +42,7 @@ returns-in_err-asked-clause-served g c =
     c.from_residual.ensures.1 (c.in_err-asked.ensures.none, idle seen.ends)
 
 pub returns-clause-places : goal.returns-clause-places
-returns-clause-places g c = c.pass_files.ensures.calls.0
-
-pub returns-clause-noted : goal.returns-clause-noted
-returns-clause-noted g c = c.pass_files.ensures.calls.1
+returns-clause-places g c = c.pass_files.ensures.places
 
 pub returns-clause-turns : goal.returns-clause-turns
-returns-clause-turns g c = c.pass_files.ensures.calls.2
-
-pub returns-clause-crowded : goal.returns-clause-crowded
-returns-clause-crowded g c = c.pass_files.ensures.calls.3
+returns-clause-turns g c = c.pass_files.ensures.turns

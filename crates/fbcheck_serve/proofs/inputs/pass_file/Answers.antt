@@ -1,6 +1,6 @@
-use Rattle.std.proofs.Common.{refl, rules, subst}
+use Rattle.std.proofs.Common.{refl, subst}
 use Rattle.fb_lines.specs.{Ends.writer_of, Job.job_of}
-use Rattle.fbcheck_serve.proofs.InputsLemmas.{no_more, tries_of}
+use Rattle.fbcheck_serve.proofs.InputsLemmas.{tries_of}
 use Rattle.fbcheck_serve.specs.Inputs.{IsBehind, folder_of, seen_of}
 use Rattle.fbcheck_texts.specs.declared.framing.Framing.{Framing}
 use Rattle.fbcheck_serve.proofs.inputs.pass_file.Goals as goal
@@ -13,22 +13,16 @@ returns-clause-tries g c =
       between = seen_of g.S.Input g.S.Explains g.K.Sink g.N.Sink c.run_file-came.new.reader c.run_file-came.new.writer c.run_file-came.new.notes;
       comes = c.run_file-came.ensures.comes;
       told = subst (λ (f : Framing). IsBehind c.args.name.now f c.run_file-came.result.what c.run_file-came.result.cause (writer_of g.N.Sink c.run_file-came.new.notes) (writer_of g.N.Sink c.tell_behind.new.notes) c.tell_behind.result)
-          c.of-framing.ensures c.tell_behind.ensures.0;
+          c.of-framing.ensures c.tell_behind.ensures;
       others = refl;
       course_is = c.with.ensures.course;
     })
 
 pub returns-clause-calls : goal.returns-clause-calls
 returns-clause-calls g c =
-    let (pushes, turns, places, apart, spent) = c.run_file-came.ensures.calls in (
+    let (turns, places, apart, spent) = c.run_file-came.ensures.calls in (
       turns,
       c.with.ensures.places,
       λ was. (c.with.ensures.spent was, spent was),
       λ is. let (isnt, was) = c.with.ensures.unread is in (was, apart isnt),
     )
-
-pub returns-then-calls-ge-MOST_CALLS-clause-calls : goal.returns-then-calls-ge-MOST_CALLS-clause-calls
-returns-then-calls-ge-MOST_CALLS-clause-calls g c = (no_more _ _, c.requires.places, λ is. (is, refl), λ is. (is, refl))
-
-pub returns-then-calls-ge-MOST_CALLS-clause-crowded : goal.returns-then-calls-ge-MOST_CALLS-clause-crowded
-returns-then-calls-ge-MOST_CALLS-clause-crowded g c = search rules

@@ -5,7 +5,7 @@ use Rattle.fb_lines.specs.{Ends.outs_of, Job.Job, Job.job_of}
 use Rattle.fb_run.specs.{Leave.IsUnended, Leave.reader_of, Prompt.IsPrompt}
 use Rattle.fbcheck_serve.specs.Inputs.{MayRead, Tries, folder_of, label_of, seen_of, stand, are_named}
 use Rattle.fbcheck_serve.specs.declared.inputs.Course.{Course}
-use Rattle.fbcheck_serve.proofs.InputsLemmas.{front_all, front_more, halts_among, next_text, other_ends, relabelled, turns_on}
+use Rattle.fbcheck_serve.proofs.InputsLemmas.{front_all, front_more, halts_among, next_text, relabelled, turns_on}
 use Rattle.fbcheck_serve.proofs.inputs.pass_files.Goals as goal
 
 pub loop-name-init : goal.loop-name-init
@@ -16,7 +16,6 @@ loop-name-init g c =
       job = ((job_of c.args.schema.now c.args.options.now).label, refl {a = job_of c.args.schema.now c.args.options.now});
       serves = c.requires.serves;
       places = ap (λ (course : Course). length course.tally.reasons) c.new-course.ensures;
-      noted = search rules;
       unread = λ is. refl;
       turns = search rules;
     }
@@ -78,7 +77,6 @@ loop-name-preserved g c =
       job = (label_of (are_named (job_of c.args.schema.now c.args.options.now).label texts) text, asked);
       serves = record { table = serves.table; fits = serves.fits; few = serves.few; least = serves.least; most = serves.most; planned = serves.planned };
       places = c.pass_file-passed.ensures.calls.1;
-      noted = c.pass_file-passed.ensures.noted;
       unread = λ new. let (then, same) = c.pass_file-passed.ensures.calls.3 new in same ∙ c.loop-name.invariant.unread then;
       turns = turns_on g.S.Input.calls c.loop-name.course.standard c.pass_file-passed.new.course.standard c.args.reader.now c.loop-name.reader c.pass_file-passed.new.reader
           c.loop-name.invariant.unread c.pass_file-passed.ensures.calls.2 c.pass_file-passed.ensures.calls.0 c.loop-name.invariant.turns;
@@ -114,21 +112,10 @@ returns-clause-serves g c =
     front_all (folder_of g.F.Files g.F.Opened.Input g.F.Opened.Explains c.args.files.now) (job_of c.args.schema.now c.args.options.now) _ (map string_bytes c.args.names.now) front _ _ _ are
     (ap (λ l. map string_bytes l) (drop_of_length-le c.args.names.now c.loop-name-test.false)) passes
 
-pub returns-in-Err-clause-calls : goal.returns-in-Err-clause-calls
-returns-in-Err-clause-calls g c = (
-  c.pass_file-passed.ensures.calls.1,
-  c.pass_file-passed.ensures.noted,
-  turns_on g.S.Input.calls c.loop-name.course.standard c.pass_file-passed.new.course.standard c.args.reader.now c.loop-name.reader c.pass_file-passed.new.reader
-      c.loop-name.invariant.unread c.pass_file-passed.ensures.calls.2 c.pass_file-passed.ensures.calls.0 c.loop-name.invariant.turns,
-  c.in-Err.ensures.crowded,
-)
+pub returns-in-Err-clause-places : goal.returns-in-Err-clause-places
+returns-in-Err-clause-places g c = c.pass_file-passed.ensures.calls.1
 
-pub returns-in_default-clause-calls : goal.returns-in_default-clause-calls
-returns-in_default-clause-calls g c =
-    let so = c.loop-name.invariant in
-    (so.places, so.noted, so.turns, λ same. absurd (other_ends.0 same))
-
-pub returns-clause-calls : goal.returns-clause-calls
-returns-clause-calls g c =
-    let so = c.loop-name.invariant in
-    (so.places, so.noted, so.turns, λ same. absurd (other_ends.1 same))
+pub returns-in-Err-clause-turns : goal.returns-in-Err-clause-turns
+returns-in-Err-clause-turns g c =
+    turns_on g.S.Input.calls c.loop-name.course.standard c.pass_file-passed.new.course.standard c.args.reader.now c.loop-name.reader c.pass_file-passed.new.reader
+    c.loop-name.invariant.unread c.pass_file-passed.ensures.calls.2 c.pass_file-passed.ensures.calls.0 c.loop-name.invariant.turns

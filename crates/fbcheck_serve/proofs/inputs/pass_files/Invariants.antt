@@ -1,4 +1,4 @@
-use Rattle.std.proofs.Common.{◌≡◌, ◌++◌, ◌+◌, ◌<◌, ◌≤◌, ◌^◌, List, Option, drop, length, map, string_bytes, ℕ}
+use Rattle.std.proofs.Common.{◌≡◌, ◌++◌, ◌+◌, ◌≤◌, List, Option, drop, length, map, string_bytes, ℕ}
 use Rattle.fb_rules.specs.Reasons.{reason_count}
 use Rattle.fb_lines.specs.Job.{Serves, job_of}
 use Rattle.fbcheck_serve.specs.Inputs.{PassesAll, at_first, folder_of, seen_of, with_label, stand, are_named}
@@ -14,7 +14,6 @@ invariant-loop-name g l = record {
   job : (label : Option (List ℕ)) × (job_of l.schema l.options ≡ with_label label (job_of l.schema l.initial.options));
   serves : Serves l.schema l.options;
   places : length l.course.tally.reasons ≡ reason_count;
-  noted : g.N.Sink.calls l.notes < 2 ^ 98;
   unread : l.course.standard ≡ Unread → l.reader ≡ l.initial.reader;
   turns : g.S.Input.calls l.reader ≤ g.S.Input.calls l.initial.reader + 4294967296;
 }

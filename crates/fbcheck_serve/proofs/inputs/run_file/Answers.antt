@@ -40,18 +40,18 @@ returns-in-Spent-clause-comes g c =
 pub returns-in-Ok-clause-calls : goal.returns-in-Ok-clause-calls
 returns-in-Ok-clause-calls g c =
     let ran = c.run_beside-ran-in-Ok.ensures in
-    (ran.pushes, no_more _ _, rw c.by-in-Ok.ensures.what ran.places, λ isnt. refl, λ was. refl)
+    (no_more _ _, rw c.by-in-Ok.ensures.what ran.places, λ isnt. refl, λ was. refl)
 
 pub returns-in-Err-clause-calls : goal.returns-in-Err-clause-calls
-returns-in-Err-clause-calls g c = (no_more _ _, no_more _ _, rw c.missed-in-Err.ensures tt, λ isnt. refl, λ was. refl)
+returns-in-Err-clause-calls g c = (no_more _ _, rw c.missed-in-Err.ensures tt, λ isnt. refl, λ was. refl)
 
 pub returns-in-Spent-clause-calls : goal.returns-in-Spent-clause-calls
-returns-in-Spent-clause-calls g c = (no_more _ _, no_more _ _, rw c.missed.ensures tt, λ isnt. refl, λ was. refl)
+returns-in-Spent-clause-calls g c = (no_more _ _, rw c.missed.ensures tt, λ isnt. refl, λ was. refl)
 
 pub returns-in-Unread-clause-calls : goal.returns-in-Unread-clause-calls
 returns-in-Unread-clause-calls g c =
     let ran = c.run_beside-ran.ensures in
-    (ran.pushes, ran.turns, rw c.by.ensures.what ran.places, λ isnt. absurd (true≢false (sym (sym c.eq.ensures ∙ c.if-eq.true) ∙ isnt)), λ was. absurd (unread_spent _ c.in-Unread.is was))
+    (ran.turns, rw c.by.ensures.what ran.places, λ isnt. absurd (true≢false (sym (sym c.eq.ensures ∙ c.if-eq.true) ∙ isnt)), λ was. absurd (unread_spent _ c.in-Unread.is was))
 
 pub returns-in-Unread-clause-comes : goal.returns-in-Unread-clause-comes
 returns-in-Unread-clause-comes g c = search rules

@@ -1,5 +1,5 @@
 use Rattle.fb_run.specs.Leave.{ends_of}
-use Rattle.fbcheck_serve.proofs.ServingLemmas.{comes_files, comes_run, files_rests, few_noted, none_named, prompt_alone, prompt_among, run_rests, same_ends, some_named}
+use Rattle.fbcheck_serve.proofs.ServingLemmas.{comes_files, comes_run, files_rests, none_named, prompt_alone, prompt_among, run_rests, same_ends, some_named}
 use Rattle.fbcheck_serve.specs.Inputs.{folder_of}
 use Rattle.fbcheck_serve.proofs.serve.check_by.Goals as goal
 
@@ -10,7 +10,7 @@ returns-then-is_empty g c =
     let ran = c.check_beside-ran.ensures in (
       comes_run (folder_of g.F.Files g.F.Opened.Input g.F.Opened.Explains c.args.files.now) c.args.file c.args.settings.now _ _ _ _ c.check_beside-ran.result
           (none_named c.args.settings.now.files.items c.as_slice.result.now c.is_empty.result c.as_slice.ensures.value c.is_empty.ensures c.if-is_empty.true) ran.run c.run_ending.ensures,
-      run_rests c.args.settings.now old new _ _ ran.turns (few_noted _ _ ran.pushes c.requires.few.2) c.check_beside-ran.result _ _ c.run_ending.ensures ran.places ran.end
+      run_rests c.args.settings.now old new ran.turns c.check_beside-ran.result _ _ c.run_ending.ensures ran.places ran.end
           (same_ends g.S.Input g.K.Sink g.N.Sink c.check_beside-ran.result _ _ _ _ _ _ ran.unread ran.unwritten ran.unnoted),
     )
 
@@ -21,7 +21,7 @@ returns g c =
     let passed = c.check_files-passed.ensures in (
       comes_files (folder_of g.F.Files g.F.Opened.Input g.F.Opened.Explains c.args.files.now) c.args.file c.args.settings.now _ _ _ _ c.check_files-passed.result
           (some_named c.args.settings.now.files.items c.as_slice.result.now c.is_empty.result c.as_slice.ensures.value c.is_empty.ensures c.if-is_empty.false) passed.served c.files_ending.ensures,
-      files_rests c.args.settings.now old new _ _ passed.turns passed.noted c.check_files-passed.result _ _ c.files_ending.ensures passed.places passed.crowded
+      files_rests c.args.settings.now old new passed.turns c.check_files-passed.result _ _ c.files_ending.ensures passed.places
           (same_ends g.S.Input g.K.Sink g.N.Sink c.check_files-passed.result _ _ _ _ _ _ passed.unread passed.unwritten passed.unnoted),
     )
 

@@ -8,24 +8,24 @@ use Rattle.fbcheck_serve.proofs.serve.come_to.Goals as goal
 pub returns-in-Err : goal.returns-in-Err
 returns-in-Err g c =
     wordless (folder_of g.F.Files g.F.Opened.Input g.F.Opened.Explains c.args.files.now) c.args.words (seen_of g.S.Input g.S.Explains g.K.Sink g.N.Sink c.args.reader.now c.args.writer.now c.args.notes.now)
-    c.in-Err.fault c.words_hint-hint.result _ _ c.words.result c.in-Err.is c.words.ensures c.words_hint-hint.ensures c.requires.few.2
+    c.in-Err.fault c.words_hint-hint.result c.words.result c.in-Err.is c.words.ensures c.words_hint-hint.ensures
 
 pub returns-in-Err-settings : goal.returns-in-Err-settings
 returns-in-Err-settings g c =
     let old = ends_of g.S.Input g.K.Sink g.N.Sink c.args.reader.now c.args.writer.now c.args.notes.now in
     let new = ends_of g.S.Input g.K.Sink g.N.Sink c.args.reader.now c.without_settings.new.writer c.args.notes.now in
-    let (comes, crowded) = comes_unserved (folder_of g.F.Files g.F.Opened.Input g.F.Opened.Explains c.args.files.now) (map string_bytes c.as_slice.result.now) old.reader old.outs.writer
+    let comes = comes_unserved (folder_of g.F.Files g.F.Opened.Input g.F.Opened.Explains c.args.files.now) (map string_bytes c.as_slice.result.now) old.reader old.outs.writer
     new.outs.writer old.outs.notes (g.S.Explains.cause c.args.reader.now) c.in-Err-settings.fault c.without_settings.result c.in-Err-settings.ensures.refused c.without_settings.ensures.0 in (
       comes_read _ c.args.words c.in-Ok.words c.as_slice.result.now _ _ _ _ c.in-Ok.is c.as_slice.ensures.value comes,
-      early old new _ _ _ (c.without_settings.ensures.1 old.reader old.outs.notes _) crowded refl c.requires.few.2,
+      early old new _ (c.without_settings.ensures.1 old.reader old.outs.notes _) refl,
     )
 
 pub returns : goal.returns
 returns g c =
     let set = c.in-Ok-settings.ensures in
     let seen = seen_of g.S.Input g.S.Explains g.K.Sink g.N.Sink c.args.reader.now c.args.writer.now c.args.notes.now in
-    let (comes, rests) = fileless (folder_of g.F.Files g.F.Opened.Input g.F.Opened.Explains c.args.files.now) (map string_bytes c.as_slice.result.now) seen c.in-Err-read_schema.fault c.file_hint-hint.result _ _ _ c.file.result
-    set.given.said.read set.given.said.schema c.file.ensures c.in-Err-read_schema.ensures.fault c.file_hint-hint.ensures c.requires.few.2 in
+    let (comes, rests) = fileless (folder_of g.F.Files g.F.Opened.Input g.F.Opened.Explains c.args.files.now) (map string_bytes c.as_slice.result.now) seen c.in-Err-read_schema.fault c.file_hint-hint.result _ c.file.result
+    set.given.said.read set.given.said.schema c.file.ensures c.in-Err-read_schema.ensures.fault c.file_hint-hint.ensures in
     (comes_read _ c.args.words c.in-Ok.words c.as_slice.result.now seen seen None _ c.in-Ok.is c.as_slice.ensures.value comes, rests)
 
 pub returns-in-Ok-read_schema : goal.returns-in-Ok-read_schema

@@ -1,4 +1,4 @@
-use Rattle.std.proofs.Common.{Option, arith, subst}
+use Rattle.std.proofs.Common.{Option, subst}
 use Rattle.std.specs.declared.io.ErrorKind.{ErrorKind}
 use Rattle.fb_lines.specs.Ends.{writer_of}
 use Rattle.fbcheck_serve.specs.Serving.{Complains}
@@ -11,11 +11,10 @@ returns-clause-served g c = record {
   between = writer_of g.N.Sink c.come_to-outcome.new.notes;
   comes = c.come_to-outcome.ensures.0;
   ends = c.come_to-outcome.ensures.1.ends;
-  crowded = c.come_to-outcome.ensures.1.crowded _ (omega arith);
   ending = c.sum_up-ending.result;
   behind = writer_of g.N.Sink c.sum_up-ending.new.notes;
-  summed = c.sum_up-ending.ensures.summed;
+  summed = c.sum_up-ending.ensures;
   told = subst (λ (write : Option ErrorKind). Complains (record { read = g.S.Explains.cause c.come_to-outcome.new.reader; write = write }) c.sum_up-ending.result (writer_of g.N.Sink c.sum_up-ending.new.notes) (writer_of g.N.Sink c.tell.new.notes)) c.cause-2.ensures
-      (subst (λ (read : Option ErrorKind). Complains (record { read = read; write = c.cause-2.result }) c.sum_up-ending.result (writer_of g.N.Sink c.sum_up-ending.new.notes) (writer_of g.N.Sink c.tell.new.notes)) c.cause.ensures c.tell.ensures.told);
+      (subst (λ (read : Option ErrorKind). Complains (record { read = read; write = c.cause-2.result }) c.sum_up-ending.result (writer_of g.N.Sink c.sum_up-ending.new.notes) (writer_of g.N.Sink c.tell.new.notes)) c.cause.ensures c.tell.ensures);
   status_is = c.exit_status.ensures;
 }
