@@ -4,7 +4,9 @@ use Rattle.std.specs.List.{flat_map}
 use Rattle.std.proofs.lemmas.List.{flat_map_more, take_more}
 use Rattle.fb_access.specs.Denotes.{shown}
 use Rattle.fb_access.specs.declared.answer.Answer.{Answer}
-use Rattle.fb_lines.specs.AnswerText.{answers_text, byte_text, spaced_answer}
+use Rattle.hex.specs.Hex.{encode_lower, encode_with}
+use Rattle.fb_lines.specs.AnswerText.{answers_text, byte_text, spaced_answer, spelled}
+use Rattle.fb_lines.specs.declared.value_text.Spelling.TheVariants.{Digits}
 
 -- one byte more
 pub texts_more : (xs : List ℕ) (b : ℕ) → flat_map byte_text (xs ++ b ∷ []) ≡ flat_map byte_text xs ++ byte_text b
@@ -21,3 +23,9 @@ each_added f items i d before inside first second =
 pub answers_each : (answers : List Answer) → flat_map spaced_answer answers ≡ answers_text (map shown answers)
 answers_each [] = refl
 answers_each (answer ∷ answers) = ap (λ l. spaced_answer answer ++ l) (answers_each answers)
+
+-- two digits for each byte
+pub digits_each : (bytes : List ℕ) → flat_map (spelled Digits) bytes ≡ encode_lower bytes
+unfolding encode_with
+digits_each [] = refl
+digits_each (b ∷ bytes) = ap (λ l. encode_lower (b ∷ []) ++ l) (digits_each bytes)

@@ -1,10 +1,14 @@
 -- The text of JSON by its parts.
 use Rattle.std.proofs.Common.{◌≡◌, ℕ, suc, ◌+◌, ◌<◌, ◌≤◌, ◌/◌, ◌%◌, ◌^◌, Bool, true, false, cond, List, [], ◌∷◌, ◌++◌, Option}
 use Rattle.std.proofs.Common.{Some, None, codes, decimal, length, fold, get_or, drop, Fits, w8, refl, sym, ap, ◌∙◌, arith, rules, append_assoc, append-nil, inl, inr, min}
-use Rattle.std.specs.{Prelude.nat_lt, Str.is_utf8, Str.IsUtf8, List.All}
+use Rattle.std.specs.{Prelude.if◌then◌else◌, Prelude.nat_lt, Str.is_utf8, Str.IsUtf8, List.All}
 use Rattle.std.proofs.lemmas.{Bool.cases_lt, Bool.false_from_ne_true, Bool.Decides.nat_tests, List.drop_more, List.drop_all, List.flat_map_more, List.Elements.All-get_or}
 use Rattle.std.proofs.lemmas.{Str.IsUtf8-from_is_utf8, Str.is_utf8-from_IsUtf8, List.Sums.fold-append}
 use Rattle.hex.specs.Hex.{encode_lower, encode_with, lower_digits}
+use Rattle.std.specs.List.{flat_map}
+use Rattle.fb_lines.specs.AnswerText.{spelled}
+use Rattle.fb_lines.specs.declared.value_text.Spelling.TheVariants as spelling
+use Rattle.fb_lines.proofs.AnswerLemmas.{digits_each}
 use Rattle.std.proofs.Math.Facts.{Fits-lt-pow}
 use Rattle.json.specs.{Token.Token, Tree.json_tokens, Tree.items_tokens, Tree.members_tokens}
 use Rattle.json.specs.Json.{Json, null, boolean, number, string, array, object, Items, no_items, item, Members, no_members, member}
@@ -100,6 +104,10 @@ object_text ms = refl
 pub first_member : (key : List ℕ) (j : Json) (ms : Members) → json_text (object (member key j ms)) ≡ 123 ∷ (quoted key ++ (58 ∷ (json_text j ++ following ms)))
 first_member key j ms = object_text (member key j ms) ∙ ap (λ l. 123 ∷ l) (member_then false key j ms)
 
+-- a member's name by what is put
+pub key_spelled : (path : List ℕ) → json_text (string path) ++ codes ":" ≡ codes "\"" ++ (flat_map (spelled spelling.Json) path ++ codes "\":")
+key_spelled path = ap (λ l. l ++ codes ":") (string_text path) ∙ ap (λ l. 34 ∷ l) (append_assoc (escape path) (codes "\"") (codes ":"))
+
 -- what is always told alike
 pub fixed_texts : (json_text null ≡ codes "null") × (json_text (boolean true) ≡ codes "true") × (json_text (boolean false) ≡ codes "false")
     × (json_text (value_json no_element) ≡ codes "{\"absent\":\"no-element\"}") × (json_text (value_json other_member) ≡ codes "{\"absent\":\"other-member\"}")
@@ -141,6 +149,37 @@ labelled_digits key bytes h = labelled_text key (digits_json bytes) ∙ simp (st
 
 pub labelled_number : (key s : List ℕ) → json_text (labelled key (number s)) ≡ codes "{" ++ (json_text (string key) ++ ((codes ":" ++ s) ++ codes "}"))
 labelled_number key s = labelled_text key (number s) ∙ simp (string_text, number_text)
+
+-- the same by what is put
+pub digits_put : (bytes : List ℕ) → ((k : ℕ) → Fits w8 (get_or bytes k 0)) → escape (encode_lower bytes) ≡ flat_map (spelled spelling.Digits) bytes
+digits_put bytes small = digits_stay bytes small ∙ sym (digits_each bytes)
+
+-- an object of one member that is a string, behind what opens both
+member_put : (key s : List ℕ) → json_text (labelled key (string s)) ≡ 123 ∷ (quoted key ++ (58 ∷ 34 ∷ (escape s ++ codes "\"}")))
+member_put key s = labelled_text key (string s) ∙ ap (λ l. 123 ∷ (quoted key ++ (58 ∷ (l ++ codes "}")))) (string_text s) ∙ ap (λ l. 123 ∷ (quoted key ++ (58 ∷ 34 ∷ l))) (append_assoc (escape s) (codes "\"") (codes "}"))
+
+pub float_put : (s : List ℕ) → json_text (labelled (codes "float") (string s)) ≡ codes "{\"float\":\"" ++ (escape s ++ codes "\"}")
+unfolding escape_byte
+float_put s = member_put (codes "float") s
+
+pub struct_put : (s : List ℕ) → json_text (labelled (codes "struct") (string s)) ≡ codes "{\"struct\":\"" ++ (escape s ++ codes "\"}")
+unfolding escape_byte
+struct_put s = member_put (codes "struct") s
+
+pub bytes_put : (s : List ℕ) → json_text (labelled (codes "bytes") (string s)) ≡ codes "{\"bytes\":\"" ++ (escape s ++ codes "\"}")
+unfolding escape_byte
+bytes_put s = member_put (codes "bytes") s
+
+pub string_put : (bytes : List ℕ) → json_text (string bytes) ≡ codes "\"" ++ (flat_map (spelled spelling.Json) bytes ++ codes "\"")
+string_put bytes = string_text bytes
+
+pub vector_put : (s : List ℕ) → json_text (labelled (codes "vector") (number s)) ≡ codes "{\"vector\":" ++ (s ++ codes "}")
+unfolding escape_byte
+vector_put s = labelled_text (codes "vector") (number s) ∙ ap (λ l. codes "{\"vector\":" ++ (l ++ codes "}")) (number_text s)
+
+pub union_put : (s : List ℕ) → json_text (labelled (codes "union") (number s)) ≡ codes "{\"union\":" ++ (s ++ codes "}")
+unfolding escape_byte
+union_put s = labelled_text (codes "union") (number s) ∙ ap (λ l. codes "{\"union\":" ++ (l ++ codes "}")) (number_text s)
 
 -- a text that is UTF-8, and one that isn't
 pub text_is_string : (bytes : List ℕ) → IsUtf8 bytes → text_json bytes ≡ string bytes
@@ -215,6 +254,18 @@ asked_parts (path ∷ paths) shown values some are =
 pub none_asked : (paths : List (List ℕ)) (shown : List Shown) → length paths ≡ 0 → IsValuesMember paths shown no_members
 none_asked [] shown none = refl
 none_asked (path ∷ paths) shown none = absurd (omega arith)
+
+-- a member's name and its value are that member
+pub part_put : (behind : Bool) (path key more : List ℕ) (value : Json) → path ≡ key → more ≡ json_text value
+    → ((if behind then codes "," else []) ++ (json_text (string path) ++ codes ":")) ++ more ≡ member_part behind key value
+part_put behind path key more value same is =
+    rw (same, is) (append_assoc (if behind then codes "," else []) (json_text (string key) ++ codes ":") (json_text value)
+    ∙ ap (λ l. (if behind then codes "," else []) ++ l) (append_assoc (json_text (string key)) (codes ":") (json_text value)))
+
+-- the end of an object and of a line
+pub line_end : (head text inner all : List ℕ) → text ≡ inner → all ≡ head ++ (inner ++ codes "}") → head ++ (text ++ codes "}\n") ≡ all ++ codes "\n"
+line_end head text inner all is whole =
+    rw (is, whole) (sym (append_assoc head (inner ++ codes "}") (codes "\n") ∙ ap (λ l. head ++ l) (append_assoc inner (codes "}") (codes "\n"))))
 
 -- the lines by what is written
 pub yes_line : (file : Option (List ℕ)) (k : ℕ) (report : Report) (values : Members)

@@ -7,7 +7,6 @@ pub mod LineLemmas
 pub mod JsonLemmas
 pub mod JsonReads
 pub mod JsonSumsLemmas
-pub mod LongLemmas
 pub mod Pieces
 pub mod PutsLemmas
 pub mod RealLemmas

@@ -1,47 +1,81 @@
 -- One text put behind another.
-use Rattle.std.proofs.Common.{◌≡◌, ℕ, ◌+◌, ◌<◌, ◌≤◌, List, [], ◌++◌, arith, length, take, get_or, refl, ap, subst, sym, ◌∙◌, append-nil, Result, Ok, Err, IsErrAnd}
-use Rattle.std.proofs.{KnownBytes.Appends-nil, lemmas.List.take_all}
+use Rattle.std.proofs.Common.{◌≡◌, ℕ, ◌+◌, ◌<◌, ◌≤◌, Bool, true, false, List, [], ◌++◌, arith, length, take, get_or, refl, ap, subst, sym, ◌∙◌, append-nil, append_assoc, true≢false}
+use Rattle.std.proofs.{KnownBytes.Appends-nil, lemmas.List.flat_map_more, lemmas.List.take_all, lemmas.List.take_more}
 use Rattle.std.specs.List.{flat_map}
 use Rattle.fb_bytes.specs.Ends.{one_more}
-use Rattle.fb_lines.specs.Puts.{Puts, PutsBy, PutsPart, Queue}
-use Rattle.fb_lines.specs.declared.writing.Unwritten.{Unwritten}
-use Rattle.fb_lines.proofs.BehindLemmas.{behind_more, each_fails, each_more, front_behind, front_more}
+use Rattle.fb_lines.specs.{Ends.Writer, Lines.WritesFront}
+use Rattle.fb_lines.specs.Puts.{Puts, PutsAs, Queue}
+use Rattle.fb_lines.proofs.BehindLemmas.{behind_more, front_behind, front_more}
 
--- both were put
-pub puts_then : {one other : List ℕ} {a b c : Queue} → Puts one a b → Puts other b c → Puts (one ++ other) a c
-puts_then first second = record { behind = behind_more first.behind second.behind; unfailed = second.unfailed ∙ first.unfailed }
+-- both were put, however it came with each
+as_then : (f g h : Bool) (one other : List ℕ) (a b c : Queue) → PutsAs f g one a b → PutsAs g h other b c → PutsAs f h (one ++ other) a c
+as_then false false false one other a b c first second = (behind_more first.0 second.0, second.1 ∙ first.1)
+as_then false false true one other a b c first second = (front_behind other first.0 second.0, second.1 ∙ ap one_more first.1)
+as_then false true true one other a b c first second =
+    let front : WritesFront (a.waits ++ (one ++ other)) a.writer.bytes b.writer.bytes a.written b.written = front_more a.waits one other first.0 in (
+      subst (λ (w : Writer). WritesFront (a.waits ++ (one ++ other)) a.writer.bytes w.bytes a.written c.written) (sym second.1)
+          (subst (λ (n : ℕ). WritesFront (a.waits ++ (one ++ other)) a.writer.bytes b.writer.bytes a.written n) (sym second.0) front),
+      ap (λ (w : Writer). w.failures) second.1 ∙ first.1,
+    )
+as_then true true true one other a b c first second = (second.0 ∙ first.0, second.1 ∙ first.1)
+as_then false true false one other a b c first second = absurd second
+as_then true true false one other a b c first second = absurd second
+as_then true false h one other a b c first second = absurd first
+
+pub puts_then : (one other : List ℕ) (a b c : Queue) → Puts one a b → Puts other b c → Puts (one ++ other) a c
+puts_then one other a b c first second = as_then a.failed b.failed c.failed one other a b c first second
+
+-- three and four, one behind another
+pub three_puts : (one other third : List ℕ) (a b c d : Queue) → Puts one a b → Puts other b c → Puts third c d → Puts (one ++ (other ++ third)) a d
+three_puts one other third a b c d first second last = puts_then one (other ++ third) a b d first (puts_then other third b c d second last)
 
 -- nothing was
+as_none : (f : Bool) (q : Queue) → PutsAs f f [] q q
+as_none false q = (record { front = []; whole = append-nil q.waits; wrote = Appends-nil q.writer.bytes; written_is = λ few. omega arith }, refl)
+as_none true q = (refl, refl)
+
 pub puts_none : (q : Queue) → Puts [] q q
-puts_none q = record { behind = record { front = []; whole = append-nil q.waits; wrote = Appends-nil q.sink; written_is = λ few. omega arith }; unfailed = refl }
+puts_none q = as_none q.failed q
 
--- it came to rest in the first
-pub part_more : {one : List ℕ} (other : List ℕ) {a b : Queue} {n : ℕ} → PutsPart one a b n → PutsPart (one ++ other) a b n
-part_more {one} other {a} part = record { front = front_more a.waits one other part.front; failed = part.failed }
+-- the same text otherwise written
+pub puts_same : (one other : List ℕ) (a b : Queue) → one ≡ other → Puts other a b → Puts one a b
+puts_same one other a b same puts = subst (λ l. Puts l a b) (sym same) puts
 
--- or in the second
-pub part_then : {one other : List ℕ} {a b c : Queue} {n : ℕ} → Puts one a b → PutsPart other b c n → PutsPart (one ++ other) a c n
-part_then {other = other} first part = record { front = front_behind other first.behind part.front; failed = part.failed ∙ ap one_more first.unfailed }
+pub puts_still : (one : List ℕ) (a b : Queue) → Puts (one ++ []) a b → Puts one a b
+puts_still one a b puts = subst (λ l. Puts l a b) (append-nil one) puts
 
--- the second ended so
-pub by_then : {one : List ℕ} (other : List ℕ) {a b : Queue} (c : Queue) (r : Result (Unit {0}) Unwritten) → Puts one a b → PutsBy other b c r → PutsBy (one ++ other) a c r
-by_then other c (Ok done) first second = puts_then first second
-by_then other c (Err cause) first part = part_then first part
+-- it waits
+pub puts_waiting : (one : List ℕ) (a b : Queue) → b ≡ record a { waits = a.waits ++ one } → Puts one a b
+puts_waiting one a b is = subst (Puts one a) (sym is) (as_waiting a.failed)
+  where
+    as_waiting : (f : Bool) → PutsAs f f one a (record a { waits = a.waits ++ one })
+    as_waiting false = (record { front = []; whole = refl; wrote = Appends-nil a.writer.bytes; written_is = λ few. omega arith }, refl)
+    as_waiting true = (refl, refl)
 
--- the exit of a `?`
-pub by_exit : {text : List ℕ} {a b : Queue} (r : Result (Unit {0}) Unwritten) (x : Unwritten) → IsErrAnd r (λ e. e ≡ x) → PutsPart text a b x.written → PutsBy text a b r
-by_exit (Ok done) x is part = absurd is
-by_exit {text} {a} {b} (Err cause) x is part = subst (λ (e : Unwritten). PutsPart text a b e.written) (sym is) part
+-- where no write has failed by now, none had before
+as_before : (f g : Bool) (one : List ℕ) (a b : Queue) → PutsAs f g one a b → g ≡ false → f ≡ false
+as_before false g one a b put now = refl
+as_before true false one a b put now = absurd put
+as_before true true one a b put now = absurd (true≢false now)
 
-module _ {A : Type 0} (f : A → List ℕ) (xs : List A) (i : ℕ) (d : A) (inside : i < length xs) where
-  -- the next of many
-  pub puts_each : {x : List ℕ} {a b c : Queue} → x ≡ f (get_or xs i d) → Puts (flat_map f (take i xs)) a b → Puts x b c → Puts (flat_map f (take (i + 1) xs)) a c
-  puts_each is first second = record { behind = each_more f xs i d inside is first.behind second.behind; unfailed = second.unfailed ∙ first.unfailed }
+pub was_unfailed : (one : List ℕ) (a b : Queue) → Puts one a b → b.failed ≡ false → a.failed ≡ false
+was_unfailed one a b put now = as_before a.failed b.failed one a b put now
 
-  -- a write came to rest in it
-  pub part_each : {x : List ℕ} {a b c : Queue} {n : ℕ} → x ≡ f (get_or xs i d) → Puts (flat_map f (take i xs)) a b → PutsPart x b c n → PutsPart (flat_map f xs) a c n
-  part_each {x} is first part = record { front = each_fails f xs i d inside x is first.behind part.front; failed = part.failed ∙ ap one_more first.unfailed }
+module _ {A : Type 0} (f : A → List ℕ) (xs : List A) (head : List ℕ) (a b : Queue) where
+  -- a head alone
+  pub puts_head : Puts head a b → Puts (head ++ flat_map f (take 0 xs)) a b
+  puts_head put = subst (λ l. Puts l a b) (sym (append-nil head)) put
 
--- where all of them were put, so was the whole
-pub puts_all : {A : Type 0} (f : A → List ℕ) (xs : List A) (i : ℕ) {a b : Queue} → length xs ≤ i → Puts (flat_map f (take i xs)) a b → Puts (flat_map f xs) a b
-puts_all f xs i {a} {b} past put = subst (λ l. Puts (flat_map f l) a b) (take_all i xs past) put
+  -- the next of many behind it
+  pub puts_each : (i : ℕ) (d : A) {x : List ℕ} (c : Queue) → i < length xs → x ≡ f (get_or xs i d) → Puts (head ++ flat_map f (take i xs)) a b → Puts x b c
+      → Puts (head ++ flat_map f (take (i + 1) xs)) a c
+  puts_each i d {x} c inside is first second =
+      let next : flat_map f (take (i + 1) xs) ≡ flat_map f (take i xs) ++ f (get_or xs i d) = ap (flat_map f) (take_more xs i d inside) ∙ sym (flat_map_more f [] (take i xs) (get_or xs i d)) in
+      subst (λ l. Puts l a c) (append_assoc head (flat_map f (take i xs)) x ∙ ap (λ l. head ++ (flat_map f (take i xs) ++ l)) is ∙ ap (λ l. head ++ l) (sym next))
+      (puts_then (head ++ flat_map f (take i xs)) x a b c first second)
+
+  -- all of them, and a tail
+  pub puts_tail : (i : ℕ) (tail : List ℕ) (c : Queue) → length xs ≤ i → Puts (head ++ flat_map f (take i xs)) a b → Puts tail b c → Puts (head ++ (flat_map f xs ++ tail)) a c
+  puts_tail i tail c past first last =
+      subst (λ l. Puts l a c) (append_assoc head (flat_map f (take i xs)) tail ∙ ap (λ l. head ++ (flat_map f l ++ tail)) (take_all i xs past))
+      (puts_then (head ++ flat_map f (take i xs)) tail a b c first last)

@@ -1,14 +1,17 @@
 -- What is told of a message by its verdict.
-use Rattle.std.proofs.Common.{◌≡◌, ◌⊎◌, inl, inr, ℕ, ◌++◌, ◌∙◌, List, Option, Result, Ok, Err, IsTrue, OnOk, ap, append-nil, refl, subst, sym}
-use Rattle.std.specs.declared.alloc.AllocError.{AllocError}
-use Rattle.std.proofs.lemmas.Result.{on_ok_weaker}
-use Rattle.fb_lines.specs.{AnswerText.label_text, Job.IsVerdict, Job.Job, Job.Verdict, Job.Yes, Job.buffer_in, Job.is_brief, Job.verdict_of, Sums.tally_with}
-use Rattle.fb_lines.specs.Line.{IsLine, IsLineIn, ToldBy, short_line, verdict_line}
-use Rattle.fb_lines.specs.Lines.{AddsBy, AddsText, AddsThrough, AddsThroughBy, AddsTold, StopsBehind, StopsIn, tally_stopped}
+use Rattle.std.proofs.Common.{◌≡◌, ◌⊎◌, inl, inr, ℕ, ◌++◌, ◌∙◌, List, [], Result, Ok, Err, IsTrue, ap, append-nil, append_assoc, codes, refl, subst, sym}
+use Rattle.std.specs.Prelude.{map}
+use Rattle.fb_lines.specs.{AnswerText.label_text, Job.IsVerdict, Job.Job, Job.No, Job.Verdict, Job.Yes, Job.buffer_in, Job.is_brief, Sums.tally_with, Wanted.Wanted}
+use Rattle.fb_lines.specs.AnswerText.{answers_text}
+use Rattle.fb_lines.specs.Json.{begin_part, counts_part, following}
+use Rattle.fb_lines.specs.Line.{IsLine, IsLineIn, IsRest, ToldBy, front_in, short_line, verdict_line}
+use Rattle.fb_lines.specs.Puts.{Adds, AddsBy, AddsOr, AreSo, Puts, PutsBoth, PutsSome, Queue, Queues, Tells, Waits}
 use Rattle.fb_lines.specs.Texts.{Texts, silent, to_notes, to_out}
-use Rattle.fb_lines.specs.declared.{checker.Found.Found, checker.Wrong.Wrong, fault.RunFault.RunFault, options.Form.Form, options.Form.TheVariants.Plain, options.Mode.Mode, tally.Tally.Tally}
+use Rattle.fb_lines.specs.declared.{fault.RunFault.RunFault, options.Form.Form, options.Mode.Mode, tally.Tally.Tally}
+use Rattle.fb_lines.specs.declared.fault.RunFault.TheVariants as run
+use Rattle.fb_lines.specs.declared.options.Form.TheVariants as form
 use Rattle.fb_lines.specs.declared.options.Mode.TheVariants.{Lines, BadLines, Filter}
-use Rattle.fb_lines.proofs.PlaceLemmas.{asks_none}
+use Rattle.fb_lines.proofs.{JsonLemmas.yes_line, PlaceLemmas.asks_none, PutsLemmas.puts_none, PutsLemmas.puts_still, PutsLemmas.puts_then, PutsLemmas.puts_waiting}
 
 module _ {P Q : List ℕ → Type 0} (weaker : (line : List ℕ) → P line → Q line) (message : List ℕ) where
   told_weaker : (mode : Mode) (v : Verdict) (told : Texts) → ToldBy mode P message v told → ToldBy mode Q message v told
@@ -24,116 +27,81 @@ brief_line job k v brief line is =
     let none = asks_none job.paths job.names job.label job.form brief in
     subst (λ f. IsLineIn f job k v line) (sym none.3) (is ∙ ap (λ l. label_text l ++ verdict_line k v) (sym none.2))
 
-module _ (job : Job) (k : ℕ) (message : List ℕ) (v : Verdict) (text text' : Texts) (tally tally' : Tally) where
+-- a line of a yes by its two parts, and that of a no
+pub line_of_yes : (f : Form) (job : Job) (k : ℕ) (found : Yes) (front rest : List ℕ) → front ≡ front_in f job k (Ok found) → IsRest f (map (λ (wanted : Wanted). wanted.text) job.paths) found.answers rest
+    → IsLineIn f job k (Ok found) (front ++ rest)
+line_of_yes form.Plain job k found front rest is behind =
+    rw (is, behind) (append_assoc (label_text job.label) (short_line k (Ok found)) (answers_text found.answers ++ codes "\n"))
+line_of_yes form.Json job k found front rest is (values, are, behind) = (
+  values,
+  are,
+  rw (is, behind) (append_assoc (begin_part job.label k) (counts_part found.report) (following values ++ codes "\n") ∙ sym (yes_line job.label k found.report values)),
+)
+
+pub line_of_no : (f : Form) (job : Job) (k : ℕ) (bad : No) (front : List ℕ) → front ≡ front_in f job k (Err bad) → IsLineIn f job k (Err bad) front
+line_of_no form.Plain job k bad front is = is
+line_of_no form.Json job k bad front is = is
+
+module _ (job : Job) (k : ℕ) (message : List ℕ) (v : Verdict) (before after : Queues) (tally tally' : Tally) where
   -- by its verdict a message has this told of it
-  pub adds_told : IsVerdict job (buffer_in job message) v → AddsBy job.mode (IsLine job k v) message v text text' → tally' ≡ tally_with message v tally
-      → AddsTold job k message text tally text' tally'
-  adds_told is adds counted = record {
-    verdict = v;
-    line = adds.told;
-    is_line = record { verdict_is = is; text = adds.is_told };
-    out_is = adds.out_is;
-    notes_are = adds.notes_are;
-    tally_is = counted;
+  pub adds_told : IsVerdict job (buffer_in job message) v → Tells job.mode (IsLine job k v) message v before after → tally' ≡ tally_with message v tally → Adds job k message before after tally tally'
+  adds_told is tells counted = record { verdict = v; told = tells.told; is_told = record { verdict_is = is; text = tells.is_told }; puts = tells.puts; tally_is = counted }
+
+  -- so it has where no more is asked
+  adds_briefly : (mode : Mode) → mode ≡ job.mode → IsTrue (is_brief job) → IsVerdict job (buffer_in job message) v → Tells mode (λ line. line ≡ verdict_line k v) message v before after
+      → tally' ≡ tally_with message v tally → Adds job k message before after tally tally'
+  adds_briefly mode same brief is tells counted =
+      let told = told_weaker (brief_line job k v brief) message mode v tells.told tells.is_told in
+      adds_told is (record { told = tells.told; is_told = subst (λ m. ToldBy m (IsLine job k v) message v tells.told) same told; puts = tells.puts }) counted
+
+  pub yes_added : (mode : Mode) (end : Result (Unit {0}) RunFault) → mode ≡ job.mode → IsTrue (is_brief job) → IsVerdict job (buffer_in job message) v
+      → Tells mode (λ line. line ≡ verdict_line k v) message v before after → tally' ≡ tally_with message v tally → AreSo after end → AddsBy job k message before after tally tally' end
+  yes_added mode (Ok done) same brief is tells counted so = (adds_briefly mode same brief is tells counted, so)
+  yes_added mode (Err (run.WriteFault written)) same brief is tells counted so = (adds_briefly mode same brief is tells counted, so)
+  yes_added mode (Err (run.NoteFault written)) same brief is tells counted so = (adds_briefly mode same brief is tells counted, so)
+  yes_added mode (Err _) same brief is tells counted so = absurd so
+
+  pub no_added : (end : Result (Unit {0}) RunFault) → IsVerdict job (buffer_in job message) v
+      → AddsOr (Tells job.mode (IsLine job k v) message v before after × (tally' ≡ tally_with message v tally)) before after tally tally' end → AddsBy job k message before after tally tally' end
+  no_added (Ok done) is (both, so) = (adds_told is both.0 both.1, so)
+  no_added (Err run.OutOfMemory) is kept = kept
+  no_added (Err _) is (both, so) = (adds_told is both.0 both.1, so)
+
+-- where something holds by then, an end that isn't want of memory has it
+pub added_so : {Added : Type 0} (before after : Queues) (tally tally' : Tally) (end : Result (Unit {0}) RunFault) → Added → AreSo after end → AddsOr Added before after tally tally' end
+added_so before after tally tally' (Ok done) added so = (added, so)
+added_so before after tally tally' (Err (run.WriteFault written)) added so = (added, so)
+added_so before after tally tally' (Err (run.NoteFault written)) added so = (added, so)
+added_so before after tally tally' (Err _) added so = absurd so
+
+module _ (mode : Mode) (P : List ℕ → Type 0) (message : List ℕ) (v : Verdict) where
+  -- what waits, and then what is written of it
+  pub waits_told : (before between after : Queues) (notes : List ℕ) → Waits mode P message v before.out between.out before.notes.waits notes → between.notes ≡ record before.notes { waits = notes }
+      → PutsBoth silent between after → Tells mode P message v before after
+  waits_told before between after notes waits noted both = record {
+    told = waits.told;
+    is_told = waits.is_told;
+    puts = (
+      puts_still waits.told.out before.out after.out (puts_then waits.told.out [] before.out between.out after.out waits.puts both.0),
+      puts_still waits.told.notes before.notes after.notes (puts_then waits.told.notes [] before.notes between.notes after.notes
+          (puts_waiting waits.told.notes before.notes between.notes (noted ∙ ap (λ l. record before.notes { waits = l }) waits.notes_are)) both.1),
+    );
   }
 
-  pub adds_briefly : (mode : Mode) → mode ≡ job.mode → IsTrue (is_brief job) → IsVerdict job (buffer_in job message) v
-      → AddsBy mode (λ line. line ≡ verdict_line k v) message v text text' × (tally' ≡ tally_with message v tally) → AddsTold job k message text tally text' tally'
-  adds_briefly mode same brief is (adds, counted) =
-      let told = told_weaker (brief_line job k v brief) message mode v adds.told adds.is_told in
-      adds_told is (record {
-        told = adds.told;
-        is_told = subst (λ m. ToldBy m (IsLine job k v) message v adds.told) same told;
-        out_is = adds.out_is;
-        notes_are = adds.notes_are;
-      }) counted
+  module _ (before after : Queue) (notes notes' : List ℕ) where
+    -- a line came for the writer, or for the notes, or the message, or nothing
+    pub line_waits : mode ≡ Lines → PutsSome P before after → notes' ≡ notes → Waits mode P message v before after notes notes'
+    line_waits lines (line, is, put) same = record { told = to_out line; is_told = rw lines (line, is, refl); puts = put; notes_are = same ∙ sym (append-nil notes) }
 
-  -- the same of a call that may be refused memory
-  pub told_so : (r : Result (Unit {0}) AllocError) → IsVerdict job (buffer_in job message) v
-      → OnOk r (AddsBy job.mode (IsLine job k v) message v text text' × (tally' ≡ tally_with message v tally)) → OnOk r (AddsTold job k message text tally text' tally')
-  told_so r is adds = on_ok_weaker r (λ both. adds_told is both.0 both.1) adds
+    pub bad_line_waits : (bad : No) → v ≡ Err bad → (mode ≡ Lines) ⊎ (mode ≡ BadLines) → PutsSome P before after → notes' ≡ notes → Waits mode P message v before after notes notes'
+    bad_line_waits bad is (inl lines) some same = line_waits lines some same
+    bad_line_waits bad is (inr bads) (line, holds, put) same = record { told = to_out line; is_told = rw (bads, is) (line, holds, refl); puts = put; notes_are = same ∙ sym (append-nil notes) }
 
-  pub briefly_told : (r : Result (Unit {0}) AllocError) (mode : Mode) → mode ≡ job.mode → IsTrue (is_brief job) → IsVerdict job (buffer_in job message) v
-      → OnOk r (AddsBy mode (λ line. line ≡ verdict_line k v) message v text text' × (tally' ≡ tally_with message v tally)) → OnOk r (AddsTold job k message text tally text' tally')
-  briefly_told r mode same brief is adds = on_ok_weaker r (adds_briefly mode same brief is) adds
+    pub message_waits : (found : Yes) → v ≡ Ok found → mode ≡ Filter → Puts message before after → notes' ≡ notes → Waits mode P message v before after notes notes'
+    message_waits found is filter put same = record { told = to_out message; is_told = rw (filter, is) refl; puts = put; notes_are = same ∙ sym (append-nil notes) }
 
-  -- a front of it was written
-  pub through_told : (s s' : Option (List ℕ)) (before written : ℕ) → IsVerdict job (buffer_in job message) v → AddsThroughBy job k message v text text' s s' before written
-      → tally' ≡ tally_with message v tally → AddsThrough job k message text tally text' tally' s s' before written
-  through_told s s' before written is adds counted = record {
-    front = adds.out_is.front;
-    adds = record {
-      verdict = v;
-      line = adds.told;
-      is_line = record { verdict_is = is; text = adds.is_told };
-      out_is = sym adds.out_is.whole;
-      notes_are = adds.notes_are;
-      tally_is = counted;
-    };
-    wrote = adds.out_is.wrote;
-    written_is = adds.out_is.written_is;
-  }
+    pub none_waits : (found : Yes) → v ≡ Ok found → mode ≡ BadLines → after ≡ before → notes' ≡ notes → Waits mode P message v before after notes notes'
+    none_waits found is bads kept same = record { told = silent; is_told = rw (bads, is) refl; puts = subst (λ q. Puts [] before q) (sym kept) (puts_none before); notes_are = same ∙ sym (append-nil notes) }
 
-  -- or it came to rest
-  pub stops_told : (s s' : Option (List ℕ)) (before : ℕ) (fault : RunFault) → IsVerdict job (buffer_in job message) v → StopsIn job k message v text.out s s' before fault
-      → tally' ≡ tally_stopped message v tally fault → StopsBehind job k message text tally tally' s s' before fault
-  stops_told s s' before fault is stops counted = (v, is, stops, counted)
-
--- a line that is put while it is made
-pub long_told : (job : Job) (k : ℕ) (message : List ℕ) (v : Verdict) (mode : Mode) (form : Form) (begin line rest : List ℕ) → mode ≡ job.mode → form ≡ job.form → mode ≡ Lines → form ≡ Plain
-    → begin ≡ label_text job.label → line ≡ short_line k v → verdict_line k v ≡ short_line k v ++ rest → ToldBy job.mode (IsLine job k v) message v (to_out (begin ++ (line ++ rest)))
-long_told job k message v mode form begin line rest mode_is form_is lines plain begin_is line_is split =
-    let whole = begin ++ (line ++ rest) in
-    let text : whole ≡ label_text job.label ++ verdict_line k v = rw (begin_is, line_is, split) refl in
-    subst (λ m. ToldBy m (IsLine job k v) message v (to_out whole)) (sym lines ∙ mode_is)
-    (whole, subst (λ f. IsLineIn f job k v whole) (sym plain ∙ form_is) text, refl)
-
-module _ (mode : Mode) (P : List ℕ → Type 0) (message : List ℕ) (v : Verdict) (text text' : Texts) where
-  -- a line came for the writer, or for the notes, or the message, or nothing
-  line_out : ((line : List ℕ) → P line → ToldBy mode P message v (to_out line)) → AddsText P text.out text'.out → text'.notes ≡ text.notes → AddsBy mode P message v text text'
-  line_out there (line, is, added) same =
-      record { told = to_out line; is_told = there line is; out_is = added; notes_are = same ∙ sym (append-nil text.notes) }
-
-  line_noted : ((line : List ℕ) → P line → ToldBy mode P message v (to_notes line)) → AddsText P text.notes text'.notes → text'.out ≡ text.out → AddsBy mode P message v text text'
-  line_noted there (line, is, added) same =
-      record { told = to_notes line; is_told = there line is; out_is = same ∙ sym (append-nil text.out); notes_are = added }
-
-  pub none_told : (found : Yes) → mode ≡ BadLines → v ≡ Ok found → text'.out ≡ text.out → text'.notes ≡ text.notes → AddsBy mode P message v text text'
-  none_told found bad is out notes =
-      record { told = silent; is_told = rw (bad, is) refl; out_is = out ∙ sym (append-nil text.out); notes_are = notes ∙ sym (append-nil text.notes) }
-
-  pub message_told : (found : Yes) → mode ≡ Filter → v ≡ Ok found → text'.out ≡ text.out ++ message → text'.notes ≡ text.notes → AddsBy mode P message v text text'
-  message_told found filter is out notes =
-      record { told = to_out message; is_told = rw (filter, is) refl; out_is = out; notes_are = notes ∙ sym (append-nil text.notes) }
-
--- a line that is known came for the writer
-pub line_told : (mode : Mode) (whole line message : List ℕ) (v : Verdict) (text text' : Texts) → mode ≡ Lines → line ≡ whole → text'.out ≡ text.out ++ line → text'.notes ≡ text.notes
-    → AddsBy mode (λ l. l ≡ whole) message v text text'
-line_told mode whole line message v text text' lines is out notes = line_out mode (λ l. l ≡ whole) message v text text' (λ l same. rw lines (l, same, refl)) (line, is, out) notes
-
-module _ (mode : Mode) (P : List ℕ → Type 0) (message : List ℕ) (verdict : Result Found Wrong) (text text' : Texts) where
-  -- the same of calls that may be refused memory
-  pub line_put : (r : Result (Unit {0}) AllocError) → mode ≡ Lines → OnOk r (AddsText P text.out text'.out) → text'.notes ≡ text.notes → OnOk r (AddsBy mode P message (verdict_of verdict) text text')
-  line_put r lines adds same = on_ok_weaker r (λ added. line_out mode P message (verdict_of verdict) text text' (λ line is. rw lines (line, is, refl)) added same) adds
-
-  pub bad_line_put : (wrong : Wrong) (r : Result (Unit {0}) AllocError) → mode ≡ BadLines → verdict ≡ Err wrong → OnOk r (AddsText P text.out text'.out) → text'.notes ≡ text.notes
-      → OnOk r (AddsBy mode P message (verdict_of verdict) text text')
-  bad_line_put wrong r bad is adds same =
-      on_ok_weaker r (λ added. line_out mode P message (verdict_of verdict) text text' (λ line holds. rw (bad, is) (line, holds, refl)) added same) adds
-
-  pub bad_line_told : (wrong : Wrong) (r : Result (Unit {0}) AllocError) (m : Mode) → m ≡ mode → (m ≡ Lines) ⊎ (m ≡ BadLines) → verdict ≡ Err wrong → OnOk r (AddsText P text.out text'.out)
-      → text'.notes ≡ text.notes → OnOk r (AddsBy mode P message (verdict_of verdict) text text')
-  bad_line_told wrong r m same (inl lines) is adds none = line_put r (sym same ∙ lines) adds none
-  bad_line_told wrong r m same (inr bad) is adds none = bad_line_put wrong r (sym same ∙ bad) is adds none
-
-  pub bad_line_noted : (wrong : Wrong) (r : Result (Unit {0}) AllocError) → mode ≡ Filter → verdict ≡ Err wrong → OnOk r (AddsText P text.notes text'.notes) → text'.out ≡ text.out
-      → OnOk r (AddsBy mode P message (verdict_of verdict) text text')
-  bad_line_noted wrong r filter is adds same =
-      on_ok_weaker r (λ added. line_noted mode P message (verdict_of verdict) text text' (λ line holds. rw (filter, is) (line, holds, refl)) added same) adds
-
-  pub none_passed : (found : Found) → mode ≡ BadLines → verdict ≡ Ok found → text'.out ≡ text.out → text'.notes ≡ text.notes → AddsBy mode P message (verdict_of verdict) text text'
-  none_passed found bad is out notes = none_told mode P message (verdict_of verdict) text text' _ bad (ap verdict_of is) out notes
-
-  pub message_passed : (found : Found) (r : Result (Unit {0}) AllocError) → mode ≡ Filter → verdict ≡ Ok found → OnOk r (text'.out ≡ text.out ++ message) → text'.notes ≡ text.notes
-      → OnOk r (AddsBy mode P message (verdict_of verdict) text text')
-  message_passed found r filter is out notes = on_ok_weaker r (λ o. message_told mode P message (verdict_of verdict) text text' _ filter (ap verdict_of is) o notes) out
+    pub note_waits : (bad : No) (line : List ℕ) → v ≡ Err bad → mode ≡ Filter → P line → after ≡ before → notes' ≡ notes ++ line → Waits mode P message v before after notes notes'
+    note_waits bad line is filter holds kept added = record { told = to_notes line; is_told = rw (filter, is) (line, holds, refl); puts = subst (λ q. Puts [] before q) (sym kept) (puts_none before); notes_are = added }

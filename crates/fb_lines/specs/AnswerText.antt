@@ -2,9 +2,9 @@
 use Rattle.std.specs.Prelude.{ℕ, List, [], ◌∷◌, ◌++◌, Option, Some, None, ◌==◌, ◌||◌, nat_lt, true, false, if◌then◌else◌, codes, decimal}
 use Rattle.std.specs.{Fmt.signed_decimal, List.flat_map}
 use Rattle.hex.specs.Hex.{encode_lower}
-use Rattle.fb_lines.specs.declared.{value_text.Spelling.Spelling, value_text.Spelling.TheVariants.Quoted, value_text.Spelling.TheVariants.Digits}
+use Rattle.json.specs.Print.{escape_byte}
+use Rattle.fb_lines.specs.declared.{value_text.Spelling.Spelling, value_text.Spelling.TheVariants.Quoted, value_text.Spelling.TheVariants.Json, value_text.Spelling.TheVariants.Digits}
 use Rattle.fb_access.specs.declared.answer.Answer.{Answer}
-use Rattle.fb_access.specs.declared.answer.Answer.TheVariants.{Text, Struct, Float}
 use Rattle.fb_access.specs.Denotes.{Shown, shown, nothing, no_element, other_member, truth, signed, unsigned, float, text, structure, vector, table, union}
 
 -- a byte of a text: a quote and a backslash stand behind a backslash, and what isn't printable ASCII as two hexadecimal
@@ -18,6 +18,7 @@ byte_text b =
 -- a byte of a value, by how its bytes are written
 abbrev pub spelled : Spelling → ℕ → List ℕ
 spelled Quoted b = byte_text b
+spelled Json b = escape_byte b
 spelled Digits b = encode_lower (b ∷ [])
 
 -- a text between quotes
@@ -56,10 +57,3 @@ answers_text = flat_map spaced
 -- an answer in the buffer behind a space
 abbrev pub spaced_answer : Answer → List ℕ
 spaced_answer answer = spaced (shown answer)
-
--- the bytes that it lends
-abbrev pub lent : Answer → List ℕ
-lent (Text bytes) = bytes.now
-lent (Struct bytes) = bytes.now
-lent (Float bytes) = bytes.now
-lent _ = []

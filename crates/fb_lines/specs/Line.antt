@@ -1,6 +1,9 @@
 -- The lines that tell verdicts.
 use Rattle.std.specs.Prelude.{◌≡◌, ℕ, List, [], ◌++◌, map, Option, Some, None, Ok, Err, codes, decimal}
-use Rattle.fb_lines.specs.{AnswerText.answers_text, AnswerText.label_text, Json.IsYes, Json.json_no, Wanted.Wanted}
+use Rattle.json.specs.Json.{Members}
+use Rattle.fb_access.specs.Denotes.{Shown}
+use Rattle.fb_lines.specs.{AnswerText.answers_text, AnswerText.label_text, Wanted.Wanted}
+use Rattle.fb_lines.specs.Json.{IsValuesMember, IsYes, begin_part, counts_part, following, json_no}
 use Rattle.fb_lines.specs.Job.{Job, Verdict, IsVerdict, buffer_in}
 use Rattle.fb_lines.specs.declared.{options.Form.Form, options.Form.TheVariants.Plain, options.Form.TheVariants.Json, options.Mode.Mode}
 use Rattle.fb_lines.specs.declared.options.Mode.TheVariants.{Lines, BadLines, Filter}
@@ -60,6 +63,18 @@ IsLineIn Json job k verdict line = IsJsonLine job k verdict line
 
 abbrev pub IsLine : Job → ℕ → Verdict → List ℕ → Type 0
 IsLine job = IsLineIn job.form job
+
+-- what the line of a yes has behind its counts
+abbrev pub IsRest : Form → List (List ℕ) → List Shown → List ℕ → Type 0
+IsRest Plain paths shown text = text ≡ answers_text shown ++ codes "\n"
+IsRest Json paths shown text = (values : Members) × IsValuesMember paths shown values × (text ≡ following values ++ codes "\n")
+
+-- what its line has up to there, or all of the line of a no
+abbrev pub front_in : Form → Job → ℕ → Verdict → List ℕ
+front_in Plain job k (Ok found) = label_text job.label ++ short_line k (Ok found)
+front_in Json job k (Ok found) = begin_part job.label k ++ counts_part found.report
+front_in Plain job k (Err bad) = label_text job.label ++ verdict_line k (Err bad)
+front_in Json job k (Err bad) = json_no job.label k job.rows bad.fault bad.place
 
 -- a line that goes there
 abbrev pub TellsLine : (List ℕ → Type 0) → (List ℕ → Texts) → Texts → Type 0

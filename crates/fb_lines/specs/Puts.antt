@@ -1,31 +1,104 @@
--- What was put behind what waits to be written.
-use Rattle.std.specs.Prelude.{◌≡◌, ℕ, List, ◌++◌, Option, Result, Ok, Err}
+-- What was put behind what waits to be written, where nothing more is written once a write has failed.
+use Rattle.std.specs.Prelude.{◌≡◌, ℕ, Bool, true, false, List, [], ◌++◌, Result, Ok, Err}
 use Rattle.fb_bytes.specs.Ends.{one_more}
 use Rattle.fb_bytes.specs.declared.ends.Sink as sink
-use Rattle.fb_lines.specs.Lines.{ComesBehind, WritesFront}
-use Rattle.fb_lines.specs.declared.{writing.Pending.Pending, writing.Unwritten.Unwritten}
+use Rattle.fb_lines.specs.{Ends.Outs, Ends.Writer, Ends.writer_of, Job.Job, Job.Verdict, Line.IsTold, Line.ToldBy}
+use Rattle.fb_lines.specs.{Lines.ComesBehind, Lines.WritesFront, Sums.tally_with, Texts.Texts}
+use Rattle.fb_lines.specs.declared.{fault.RunFault.RunFault, options.Mode.Mode, output.Output.Output, tally.Tally.Tally, writing.Pending.Pending, writing.Written.Written}
+use Rattle.fb_lines.specs.declared.fault.RunFault.TheVariants.{OutOfMemory, WriteFault, NoteFault}
 
--- what waits for a writer, how many bytes were written to it, what it has, and the calls of it that failed
+-- what waits for a writer, how many bytes were written to it, whether a write has failed, and what it has
 pub record Queue : Type 0 where
   pub waits : List ℕ
   pub written : ℕ
-  pub sink : Option (List ℕ)
-  pub failures : ℕ
+  pub failed : Bool
+  pub writer : Writer
+
+abbrev pub behind : List ℕ → Written → Writer → Queue
+behind waits written writer = record { waits = waits; written = written.bytes; failed = written.failed; writer = writer }
 
 abbrev pub queue_of : {A K : Type 0} → sink.Ghosts K → Pending A → K → Queue
-queue_of k out writer = record { waits = out.bytes.items; written = out.written; sink = k.contents writer; failures = k.failures writer }
+queue_of k out writer = behind out.bytes.items out.written (writer_of k writer)
 
--- a text came behind: a front of all is written and the rest waits
-pub record Puts (text : List ℕ) (before after : Queue) : Type 0 where
-  pub behind : ComesBehind before.waits text after.waits before.sink after.sink before.written after.written
-  pub unfailed : after.failures ≡ before.failures
+-- nothing was put there
+abbrev pub unused : Writer → Queue
+unused writer = record { waits = []; written = 0; failed = false; writer = writer }
 
--- a write failed, and came to rest within all of it
-pub record PutsPart (text : List ℕ) (before after : Queue) (written : ℕ) : Type 0 where
-  pub front : WritesFront (before.waits ++ text) before.sink after.sink before.written written
-  pub failed : after.failures ≡ one_more before.failures
+-- a text was put there, by whether a write had failed before, and whether one has by then: it came behind what waited;
+-- or a write failed within both; or one had, and nothing more was written
+abbrev pub PutsAs : Bool → Bool → List ℕ → Queue → Queue → Type 0
+PutsAs false false text before after =
+    ComesBehind before.waits text after.waits before.writer.bytes after.writer.bytes before.written after.written × (after.writer.failures ≡ before.writer.failures)
+PutsAs false true text before after =
+    WritesFront (before.waits ++ text) before.writer.bytes after.writer.bytes before.written after.written × (after.writer.failures ≡ one_more before.writer.failures)
+PutsAs true true text before after = (after.written ≡ before.written) × (after.writer ≡ before.writer)
+PutsAs true false text before after = ⊥
+
+abbrev pub Puts : List ℕ → Queue → Queue → Type 0
+Puts text before after = PutsAs before.failed after.failed text before after
+
+-- a text of which this holds was put there
+abbrev pub PutsSome : (List ℕ → Type 0) → Queue → Queue → Type 0
+PutsSome IsIt before after = (text : List ℕ) × IsIt text × Puts text before after
+
+-- the same for the writer, and for the notes
+pub record Queues : Type 0 where
+  pub out : Queue
+  pub notes : Queue
+
+abbrev pub queues_of : {A K N : Type 0} → sink.Ghosts K → sink.Ghosts N → Output A → K → N → Queues
+queues_of k n output writer notes = record { out = queue_of k output.out writer; notes = queue_of n output.notes notes }
+
+abbrev pub all_unused : Outs → Queues
+all_unused outs = record { out = unused outs.writer; notes = unused outs.notes }
+
+abbrev pub PutsBoth : Texts → Queues → Queues → Type 0
+PutsBoth told before after = Puts told.out before.out after.out × Puts told.notes before.notes after.notes
+
+-- no write has failed
+abbrev pub AreOpen : Queues → Type 0
+AreOpen queues = (queues.out.failed ≡ false) × (queues.notes.failed ≡ false)
+
+-- one has: of the writer, or of the notes behind all that was for the writer
+abbrev pub AreCut : Queues → RunFault → Type 0
+AreCut queues (WriteFault written) = (queues.out.failed ≡ true) × (queues.notes.failed ≡ false) × (written ≡ queues.out.written)
+AreCut queues (NoteFault written) = (queues.notes.failed ≡ true) × (queues.out.failed ≡ false) × (queues.out.waits ≡ []) × (written ≡ queues.notes.written)
+AreCut queues _ = ⊥
+
+-- where a write of the notes has failed, nothing waits for the writer
+abbrev pub AreSound : Queues → Type 0
+AreSound queues = queues.notes.failed ≡ true → (queues.out.failed ≡ false) × (queues.out.waits ≡ [])
 
 -- the one of both that an answer tells
-abbrev pub PutsBy : List ℕ → Queue → Queue → Result (Unit {0}) Unwritten → Type 0
-PutsBy text before after (Ok done) = Puts text before after
-PutsBy text before after (Err cause) = PutsPart text before after cause.written
+abbrev pub AreSo : Queues → Result (Unit {0}) RunFault → Type 0
+AreSo queues (Ok done) = AreOpen queues
+AreSo queues (Err fault) = AreCut queues fault
+
+-- what the mode tells of a message by this verdict was put there, where this holds of its line
+pub record Tells (mode : Mode) (IsItsLine : List ℕ → Type 0) (message : List ℕ) (verdict : Verdict) (before after : Queues) : Type 0 where
+  pub told : Texts
+  pub is_told : ToldBy mode IsItsLine message verdict told
+  pub puts : PutsBoth told before after
+
+-- the same before any note is written
+pub record Waits (mode : Mode) (IsItsLine : List ℕ → Type 0) (message : List ℕ) (verdict : Verdict) (before after : Queue) (notes notes' : List ℕ) : Type 0 where
+  pub told : Texts
+  pub is_told : ToldBy mode IsItsLine message verdict told
+  pub puts : Puts told.out before after
+  pub notes_are : notes' ≡ notes ++ told.notes
+
+-- what is told of message number k was put there, and its verdict was counted
+pub record Adds (job : Job) (k : ℕ) (message : List ℕ) (before after : Queues) (tally tally' : Tally) : Type 0 where
+  pub verdict : Verdict
+  pub told : Texts
+  pub is_told : IsTold job k message verdict told
+  pub puts : PutsBoth told before after
+  pub tally_is : tally' ≡ tally_with message verdict tally
+
+-- what holds where a message was added; without memory nothing is put and nothing counted
+abbrev pub AddsOr : Type 0 → Queues → Queues → Tally → Tally → Result (Unit {0}) RunFault → Type 0
+AddsOr Added before after tally tally' (Err OutOfMemory) = (after ≡ before) × (tally' ≡ tally)
+AddsOr Added before after tally tally' end = Added × AreSo after end
+
+abbrev pub AddsBy : Job → ℕ → List ℕ → Queues → Queues → Tally → Tally → Result (Unit {0}) RunFault → Type 0
+AddsBy job k message before after tally tally' = AddsOr (Adds job k message before after tally tally') before after tally tally'

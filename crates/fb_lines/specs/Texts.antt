@@ -1,6 +1,5 @@
 -- What is told to two outputs: to the writer, and to the notes beside it.
-use Rattle.std.specs.Prelude.{◌≡◌, ℕ, ◌+◌, ◌<◌, ◌^◌, List, [], ◌++◌, length}
-use Rattle.fb_lines.specs.declared.output.Output.{Output}
+use Rattle.std.specs.Prelude.{◌≡◌, ℕ, ◌<◌, ◌^◌, List, [], ◌++◌}
 
 pub record Texts : Type 0 where
   pub out : List ℕ
@@ -33,15 +32,3 @@ followed first second = record { out = first.out ++ second.out; notes = first.no
 -- none on either
 abbrev pub no_bytes : Sizes
 no_bytes = record { out = 0; notes = 0 }
-
--- what waits to be written
-abbrev pub waiting : {A : Type 0} → Output A → Texts
-waiting output = record { out = output.out.bytes.items; notes = output.notes.bytes.items }
-
--- how many bytes these are, on both outputs
-abbrev pub size : Texts → ℕ
-size texts = length texts.out + length texts.notes
-
--- how many were written before
-abbrev pub written_by : {A : Type 0} → Output A → Sizes
-written_by output = record { out = output.out.written; notes = output.notes.written }

@@ -7,7 +7,8 @@ ghost use Rattle.fb_lines.specs.declared.checker.Course.TheVariants.{Brief, Brie
 ghost use Rattle.fb_lines.specs.Job.{AreAnswers, HasRoom, IsChecked, IsVerdict, PathsFit, Serves, Verdict, VerifiesBy, asked_of, brief_verdict, buffer_in, course_by, course_of, is_brief, job_of, limits_for, place_told, skip_of, start_of, verdict_beside, verdict_of};
 ghost use Rattle.fb_strict.specs.AsAsked.{StopsBy, StopsAlongBy};
 ghost use Rattle.fb_schema.specs.Rows.{Rows};
-ghost use Rattle.fb_lines.specs.{Line.IsJsonLine, Lines.AddsText};
+ghost use Rattle.fb_lines.specs.Line.{front_in};
+ghost use Rattle.fb_lines.specs.declared.options.Form.TheVariants.{Json};
 
 use crate::answers::{Answers, MOST_PATHS};
 use crate::json_line::{put_no, put_yes};
@@ -136,25 +137,26 @@ impl<'s, 'n, 'o> Checker<'s, 'n, 'o> {
         self.options.form
     }
 
-    /// Adds the line of this verdict on message number `number` as JSON.
+    /// The paths to the values that are asked for.
+    pub fn paths(&self) -> &[AskedPath]
+        ensures { result.now ≡ self.now.paths }
+    {
+        self.options.paths.as_slice()
+    }
+
+    /// Adds what the line of this verdict on message number `number` has before its values as JSON, which is all of the
+    /// line of a no.
     pub fn put_json<A: Allocator>(
         &self,
         text: &mut Vec<u8, A>,
         number: u64,
         verdict: &Result<Found<'_>, Wrong<'_>>,
     ) -> Result<(), AllocError>
-        ensures { OnOk result (AddsText (IsJsonLine self.now number (verdict_of verdict.now)) text.old.items text.new.items) }
+        ensures { OnOk result (text.new.items ≡ text.old.items ++ front_in Json self.now number (verdict_of verdict.now)) }
     {
-        let Options { label, paths, .. } = self.options;
+        let label = &self.options.label;
         match verdict {
-            Ok(found) => put_yes(
-                text,
-                label,
-                number,
-                &found.report,
-                paths.as_slice(),
-                found.answers.as_slice(),
-            ),
+            Ok(found) => put_yes(text, label, number, &found.report),
             Err(wrong) => put_no(text, label, number, self.schema, &wrong.fault, wrong.place),
         }
     }

@@ -9,13 +9,13 @@ mod fault;
 mod json_line;
 pub mod laws;
 mod line;
-mod long_line;
 mod options;
 mod output;
 mod room;
 pub mod summary;
 mod tally;
 mod value_text;
+mod values;
 mod writing;
 
 pub use answers::MOST_PATHS;

@@ -1,23 +1,22 @@
-//! What a run tells: gathered, counted, and written together.
+//! What a run tells: counted, and put behind what waits to be written.
 
-ghost use Rattle.std.specs.Prelude.{Err, IfErr, IsTrue, Ok, OnOk, OnErr, ◌≡◌, ◌+◌, ◌<◌, ◌≤◌, ◌^◌, ◌++◌, length, true, false};
-ghost use Rattle.fb_lines.specs.Ends.{Takes, outs_of, writer_of};
-ghost use Rattle.fb_lines.specs.{Faults.IsCausedOut, Faults.IsCausedWriting, Faults.IsUnfailedOut, AnswerText.label_text};
-ghost use Rattle.fb_lines.specs.{Line.IsLine, Line.verdict_line, Sums.count_of, Sums.no_tally, Sums.tally_with};
+ghost use Rattle.std.specs.Prelude.{Err, Ok, OnOk, OnErr, IsTrue, ◌≡◌, ◌+◌, ◌<◌, ◌^◌, ◌++◌, [], false, length};
+ghost use Rattle.fb_lines.specs.{AnswerText.label_text, Ends.outs_of, Sums.count_of, Sums.no_tally, Sums.tally_with, Texts.silent};
 ghost use Rattle.fb_lines.specs.Job.{HasRoom, brief_verdict, is_brief, verdict_of};
-ghost use Rattle.fb_lines.specs.Lines.{AddsBy, AddsText, AddsThrough, AddsThroughBy, AddsTold, StopsBehind, StopsIn, WritesFronts};
-ghost use Rattle.fb_lines.specs.Texts.{IsCounted, silent, size, waiting, written_by};
+ghost use Rattle.fb_lines.specs.Line.{IsLine, front_in, verdict_line};
+ghost use Rattle.fb_lines.specs.Lines.{AddsText};
+ghost use Rattle.fb_lines.specs.Puts.{AddsBy, AddsOr, AreOpen, AreSo, AreSound, PutsBoth, PutsSome, Tells, Waits, all_unused, queue_of, queues_of};
 
 use crate::checker::{Checker, Course, Found, Wrong};
 use crate::counter::Counter;
 use crate::fault::RunFault;
 use crate::line::Line;
-use crate::long_line::{long_answers, put_line};
 use crate::options::{Form, Mode};
 use crate::room::Room;
 use crate::tally::Tally;
-use crate::value_text::put_asked;
-use crate::writing::{MOST_WAITING, Pending, Unwritten};
+use crate::value_text::put_words;
+use crate::values::put_values;
+use crate::writing::{MOST_WAITING, Pending};
 use fb_bytes::Sink;
 use fb_verify::{Fault, Report};
 use std::alloc::{AllocError, Allocator};
@@ -26,23 +25,24 @@ use std::alloc::{AllocError, Allocator};
 #[derive(Drop)]
 pub struct Output<A: Allocator> {
     pub counter: Counter,
-    /// Whole lines, or whole messages that are passed on.
+    /// Lines, or whole messages that are passed on.
     pub out: Pending<A>,
     /// Whole lines.
     pub notes: Pending<A>,
     /// A plain line that is being made, but for what it begins with, values, and a place in words.
     line: Line,
-    /// A whole line.
+    /// A line up to its values, where it has some.
     made: Vec<u8, A>,
 }
 
 impl<'a, A: Allocator> Output<&'a A> {
     /// Nothing is told.
     pub fn new(alloc: &'a A) -> Self
-        ensures text { waiting result ≡ silent }
+        ensures out { result.out.bytes.items ≡ [] }
+        ensures notes { result.notes.bytes.items ≡ [] }
+        ensures written { result.out.written ≡ record { bytes = 0; failed = false } }
+        ensures noted { result.notes.written ≡ record { bytes = 0; failed = false } }
         ensures counted { result.counter ≡ no_tally }
-        ensures written { result.out.written ≡ 0 }
-        ensures noted { result.notes.written ≡ 0 }
     {
         Output {
             counter: Counter::new(),
@@ -55,183 +55,148 @@ impl<'a, A: Allocator> Output<&'a A> {
 }
 
 impl<A: Allocator> Output<A> {
-    /// Adds what is told of the next message, and counts its verdict. Where memory is refused, nothing is told of it.
-    #[tactic(auto, using(crate::proofs::ToldLemmas::briefly_told, crate::proofs::ToldLemmas::told_so))]
+    /// Adds what is told of the next message, and counts its verdict. Where much waits by then, it is written; a long
+    /// value is written while its line is made. Where memory is refused, nothing is told of the message, nor is it
+    /// counted; where a write fails, it is counted too.
     #[inline(always)]
-    pub fn add<B: Allocator>(
+    pub fn add<B: Allocator, K: Sink, N: Sink>(
         &mut self,
         checker: &Checker<'_, '_, '_>,
         room: &mut Room<B>,
         message: &[u8],
-    ) -> Result<(), AllocError>
+        writer: &mut K,
+        notes: &mut N,
+    ) -> Result<(), RunFault>
         requires room { HasRoom checker.now room.old }
         requires few { count_of self.old.counter < 2 ^ 63 }
         requires short { length message.now < 2 ^ 31 }
-        ensures ok { OnOk result (AddsTold checker.now (1 + count_of self.old.counter) message.now
-            (waiting self.old) self.old.counter (waiting self.new) self.new.counter) }
+        requires unfailed { AreOpen (queues_of K.Sink N.Sink self.old writer.old notes.old) }
+        ensures told { AddsBy checker.now (1 + count_of self.old.counter) message.now (queues_of K.Sink N.Sink self.old writer.old notes.old)
+            (queues_of K.Sink N.Sink self.new writer.new notes.new) self.old.counter self.new.counter result }
         ensures one { OnOk result (count_of self.new.counter ≡ count_of self.old.counter + 1) }
-        ensures err_text { OnErr result (waiting self.new ≡ waiting self.old) }
-        ensures err_counted { OnErr result (self.new.counter ≡ self.old.counter) }
-        ensures written { self.new.out.written ≡ self.old.out.written }
-        ensures noted { self.new.notes.written ≡ self.old.notes.written }
         ensures room { HasRoom checker.now room.new }
     {
         if let Course::Brief = checker.course() {
             return match checker.report(room, &mut checker.metered(message)) {
-                Ok(report) => self.add_yes(checker.mode(), message, &report),
-                Err(fault) => self.add_no(checker, message, fault),
+                Ok(report) => self.add_yes(checker.mode(), message, &report, writer, notes),
+                Err(fault) => self.add_no(checker, message, fault, writer, notes),
             };
         }
-        self.add_otherwise(checker, room, message)
+        self.add_otherwise(checker, room, message, writer, notes)
     }
 
-    /// Adds what is told of the next message, where there is a plan or more is asked, and counts its verdict.
-    #[tactic(auto, using(crate::proofs::ToldLemmas::briefly_told, crate::proofs::ToldLemmas::told_so))]
+    /// The same where there is a plan or more is asked.
     #[inline(never)]
-    fn add_otherwise<B: Allocator>(
+    fn add_otherwise<B: Allocator, K: Sink, N: Sink>(
         &mut self,
         checker: &Checker<'_, '_, '_>,
         room: &mut Room<B>,
         message: &[u8],
-    ) -> Result<(), AllocError>
+        writer: &mut K,
+        notes: &mut N,
+    ) -> Result<(), RunFault>
         requires room { HasRoom checker.now room.old }
         requires few { count_of self.old.counter < 2 ^ 63 }
         requires short { length message.now < 2 ^ 31 }
-        ensures ok { OnOk result (AddsTold checker.now (1 + count_of self.old.counter) message.now
-            (waiting self.old) self.old.counter (waiting self.new) self.new.counter) }
+        requires unfailed { AreOpen (queues_of K.Sink N.Sink self.old writer.old notes.old) }
+        ensures told { AddsBy checker.now (1 + count_of self.old.counter) message.now (queues_of K.Sink N.Sink self.old writer.old notes.old)
+            (queues_of K.Sink N.Sink self.new writer.new notes.new) self.old.counter self.new.counter result }
         ensures one { OnOk result (count_of self.new.counter ≡ count_of self.old.counter + 1) }
-        ensures err_text { OnErr result (waiting self.new ≡ waiting self.old) }
-        ensures err_counted { OnErr result (self.new.counter ≡ self.old.counter) }
-        ensures written { self.new.out.written ≡ self.old.out.written }
-        ensures noted { self.new.notes.written ≡ self.old.notes.written }
         ensures room { HasRoom checker.now room.new }
     {
         if let Course::BriefStrictly = checker.course() {
             return match checker.report_strictly(room, checker.metered(message)) {
-                Ok(report) => self.add_yes(checker.mode(), message, &report),
-                Err(fault) => self.add_no(checker, message, fault),
+                Ok(report) => self.add_yes(checker.mode(), message, &report, writer, notes),
+                Err(fault) => self.add_no(checker, message, fault, writer, notes),
             };
         }
-        self.add_at_length(checker, room, message)
+        self.add_at_length(checker, room, message, writer, notes)
     }
 
     /// Adds what the mode tells of the next message with this report, where no more is asked, and counts it.
-    #[tactic(auto, using(crate::proofs::ToldLemmas::line_told, crate::proofs::ToldLemmas::none_told, crate::proofs::ToldLemmas::message_told))]
     #[inline(always)]
-    fn add_yes(&mut self, mode: Mode, message: &[u8], report: &Report) -> Result<(), AllocError>
+    fn add_yes<K: Sink, N: Sink>(
+        &mut self,
+        mode: Mode,
+        message: &[u8],
+        report: &Report,
+        writer: &mut K,
+        notes: &mut N,
+    ) -> Result<(), RunFault>
         requires few { count_of self.old.counter < 2 ^ 63 }
         requires short { length message.now < 2 ^ 31 }
-        ensures ok { OnOk result (AddsBy mode (λ line. line ≡ verdict_line (1 + count_of self.old.counter) (brief_verdict (Ok report.now))) message.now (brief_verdict (Ok report.now))
-            (waiting self.old) (waiting self.new) × (self.new.counter ≡ tally_with message.now (brief_verdict (Ok report.now)) self.old.counter)) }
-        ensures err_text { OnErr result (waiting self.new ≡ waiting self.old) }
-        ensures err_counted { OnErr result (self.new.counter ≡ self.old.counter) }
-        ensures written { self.new.out.written ≡ self.old.out.written }
-        ensures noted { self.new.notes.written ≡ self.old.notes.written }
+        requires unfailed { AreOpen (queues_of K.Sink N.Sink self.old writer.old notes.old) }
+        ensures told { Tells mode (λ line. line ≡ verdict_line (1 + count_of self.old.counter) (brief_verdict (Ok report.now))) message.now (brief_verdict (Ok report.now))
+            (queues_of K.Sink N.Sink self.old writer.old notes.old) (queues_of K.Sink N.Sink self.new writer.new notes.new) }
+        ensures so { AreSo (queues_of K.Sink N.Sink self.new writer.new notes.new) result }
+        ensures counted { self.new.counter ≡ tally_with message.now (brief_verdict (Ok report.now)) self.old.counter }
     {
         match mode {
             Mode::Lines => {
                 self.line.set_yes(1 + self.counter.messages(), report);
-                self.out.bytes.extend_from_slice(self.line.bytes())?;
+                self.out.put(writer, self.line.bytes());
             }
             Mode::BadLines => {}
-            Mode::Filter => self.out.bytes.extend_from_slice(message)?,
+            Mode::Filter => self.out.put(writer, message),
         }
         self.counter.count_yes(message, report);
-        Ok(())
+        self.settle(writer, notes)
     }
 
     /// Adds what is told of the next message with this fault, where no more is asked, and counts it.
     #[inline(never)]
-    fn add_no(
+    fn add_no<K: Sink, N: Sink>(
         &mut self,
         checker: &Checker<'_, '_, '_>,
         message: &[u8],
         fault: Fault,
-    ) -> Result<(), AllocError>
+        writer: &mut K,
+        notes: &mut N,
+    ) -> Result<(), RunFault>
         requires brief { IsTrue (is_brief checker.now) }
         requires few { count_of self.old.counter < 2 ^ 63 }
         requires short { length message.now < 2 ^ 31 }
-        ensures ok { OnOk result (AddsBy checker.now.mode (IsLine checker.now (1 + count_of self.old.counter) (brief_verdict (Err fault))) message.now (brief_verdict (Err fault))
-            (waiting self.old) (waiting self.new) × (self.new.counter ≡ tally_with message.now (brief_verdict (Err fault)) self.old.counter)) }
-        ensures err_text { OnErr result (waiting self.new ≡ waiting self.old) }
-        ensures err_counted { OnErr result (self.new.counter ≡ self.old.counter) }
-        ensures written { self.new.out.written ≡ self.old.out.written }
-        ensures noted { self.new.notes.written ≡ self.old.notes.written }
+        requires unfailed { AreOpen (queues_of K.Sink N.Sink self.old writer.old notes.old) }
+        ensures { AddsOr (Tells checker.now.mode (IsLine checker.now (1 + count_of self.old.counter) (brief_verdict (Err fault))) message.now (brief_verdict (Err fault))
+            (queues_of K.Sink N.Sink self.old writer.old notes.old) (queues_of K.Sink N.Sink self.new writer.new notes.new) × (self.new.counter ≡ tally_with message.now (brief_verdict (Err fault)) self.old.counter))
+            (queues_of K.Sink N.Sink self.old writer.old notes.old) (queues_of K.Sink N.Sink self.new writer.new notes.new) self.old.counter self.new.counter result }
     {
         let verdict = Err(Wrong { fault, place: None });
         let number = 1 + self.counter.messages();
-        self.tell(checker, b"", number, message, &verdict)?;
+        self.tell(checker, b"", number, message, &verdict, writer)?;
         self.counter.count(message, &verdict);
-        Ok(())
+        self.settle(writer, notes)
     }
 
     /// Adds what is told of the next message, also where a value or words are asked for, and counts its verdict.
-    #[tactic(auto, using(crate::proofs::ToldLemmas::adds_told))]
-    fn add_at_length<B: Allocator>(
-        &mut self,
-        checker: &Checker<'_, '_, '_>,
-        room: &mut Room<B>,
-        message: &[u8],
-    ) -> Result<(), AllocError>
-        requires room { HasRoom checker.now room.old }
-        requires few { count_of self.old.counter < 2 ^ 63 }
-        requires short { length message.now < 2 ^ 31 }
-        ensures ok { OnOk result (AddsTold checker.now (1 + count_of self.old.counter) message.now
-            (waiting self.old) self.old.counter (waiting self.new) self.new.counter) }
-        ensures one { OnOk result (count_of self.new.counter ≡ count_of self.old.counter + 1) }
-        ensures err_text { OnErr result (waiting self.new ≡ waiting self.old) }
-        ensures err_counted { OnErr result (self.new.counter ≡ self.old.counter) }
-        ensures written { self.new.out.written ≡ self.old.out.written }
-        ensures noted { self.new.notes.written ≡ self.old.notes.written }
-        ensures room { HasRoom checker.now room.new }
-    {
-        let verdict = checker.verdict(room, message)?;
-        let (verdict, begin) = checker.told(room, verdict);
-        let number = 1 + self.counter.messages();
-        self.tell(checker, begin, number, message, &verdict)?;
-        self.counter.count(message, &verdict);
-        Ok(())
-    }
-
-    /// Adds what is told of the next message, and counts its verdict. Where its line ends with a long value, the line
-    /// is written while it is made, and takes no memory; where that can't be written, the verdict is counted too. Where
-    /// memory is refused, nothing is told of the message, nor is it counted.
-    #[tactic(auto, using(crate::proofs::ToldLemmas::through_told, crate::proofs::ToldLemmas::stops_told))]
-    pub fn add_through<B: Allocator, K: Sink>(
+    fn add_at_length<B: Allocator, K: Sink, N: Sink>(
         &mut self,
         checker: &Checker<'_, '_, '_>,
         room: &mut Room<B>,
         message: &[u8],
         writer: &mut K,
+        notes: &mut N,
     ) -> Result<(), RunFault>
         requires room { HasRoom checker.now room.old }
         requires few { count_of self.old.counter < 2 ^ 63 }
         requires short { length message.now < 2 ^ 31 }
-        ensures ok { OnOk result (AddsThrough checker.now (1 + count_of self.old.counter) message.now
-            (waiting self.old) self.old.counter (waiting self.new) self.new.counter
-            (K.contents writer.old) (K.contents writer.new) self.old.out.written self.new.out.written) }
+        requires unfailed { AreOpen (queues_of K.Sink N.Sink self.old writer.old notes.old) }
+        ensures told { AddsBy checker.now (1 + count_of self.old.counter) message.now (queues_of K.Sink N.Sink self.old writer.old notes.old)
+            (queues_of K.Sink N.Sink self.new writer.new notes.new) self.old.counter self.new.counter result }
         ensures one { OnOk result (count_of self.new.counter ≡ count_of self.old.counter + 1) }
-        ensures err { IfErr result (λ fault. StopsBehind checker.now (1 + count_of self.old.counter) message.now
-            (waiting self.old) self.old.counter self.new.counter (K.contents writer.old) (K.contents writer.new) self.old.out.written fault) }
-        ensures failed { IfErr result (IsCausedWriting (writer_of K.Sink writer.old) (writer_of K.Sink writer.new)) }
-        ensures unfailed { OnOk result (K.failures writer.new ≡ K.failures writer.old) }
-        ensures noted { self.new.notes.written ≡ self.old.notes.written }
         ensures room { HasRoom checker.now room.new }
     {
         let verdict = checker.verdict(room, message)?;
         let (verdict, begin) = checker.told(room, verdict);
         let number = 1 + self.counter.messages();
-        let told = self.tell_through(checker, begin, number, message, &verdict, writer);
-        if let Err(RunFault::OutOfMemory) = told {
-            return told;
-        }
+        self.tell(checker, begin, number, message, &verdict, writer)?;
         self.counter.count(message, &verdict);
-        told
+        self.settle(writer, notes)
     }
 
-    /// Adds what is told of message number `number` by this verdict, where plain lines begin so. A plain line with a
-    /// long value is written while it is made.
-    fn tell_through<K: Sink>(
+    /// Puts what is told of message number `number` by this verdict, where plain lines begin so. Of the notes nothing is
+    /// written.
+    fn tell<K: Sink>(
         &mut self,
         checker: &Checker<'_, '_, '_>,
         begin: &[u8],
@@ -239,79 +204,64 @@ impl<A: Allocator> Output<A> {
         message: &[u8],
         verdict: &Result<Found<'_>, Wrong<'_>>,
         writer: &mut K,
-    ) -> Result<(), RunFault>
-        requires begin { begin.now ≡ label_text checker.now.label }
-        ensures ok { OnOk result (AddsThroughBy checker.now number message.now (verdict_of verdict.now) (waiting self.old) (waiting self.new)
-            (K.contents writer.old) (K.contents writer.new) self.old.out.written self.new.out.written) }
-        ensures err { IfErr result (λ fault. StopsIn checker.now number message.now (verdict_of verdict.now) (waiting self.old).out
-            (K.contents writer.old) (K.contents writer.new) self.old.out.written fault) }
-        ensures failed { IfErr result (IsCausedWriting (writer_of K.Sink writer.old) (writer_of K.Sink writer.new)) }
-        ensures unfailed { OnOk result (K.failures writer.new ≡ K.failures writer.old) }
-        ensures counted { self.new.counter ≡ self.old.counter }
-        ensures noted { self.new.notes.written ≡ self.old.notes.written }
-    {
-        let Some(answers) = long_answers(checker.form(), checker.mode(), verdict) else {
-            return Ok(self.tell(checker, begin, number, message, verdict)?);
-        };
-        self.line.set(number, verdict);
-        let line = self.line.bytes();
-        if let Err(Unwritten { written }) = put_line(&mut self.out, writer, begin, line, answers) {
-            return Err(RunFault::WriteFault { written });
-        }
-        Ok(())
-    }
-
-    /// The same in memory.
-    #[tactic(auto, using(std::proofs::lemmas::Grind::common_steps, crate::proofs::ToldLemmas::line_put, crate::proofs::ToldLemmas::bad_line_put, crate::proofs::ToldLemmas::bad_line_noted, crate::proofs::ToldLemmas::none_passed, crate::proofs::ToldLemmas::message_passed))]
-    fn tell(
-        &mut self,
-        checker: &Checker<'_, '_, '_>,
-        begin: &[u8],
-        number: u64,
-        message: &[u8],
-        verdict: &Result<Found<'_>, Wrong<'_>>,
     ) -> Result<(), AllocError>
         requires begin { begin.now ≡ label_text checker.now.label }
-        ensures ok { OnOk result (AddsBy checker.now.mode (IsLine checker.now number (verdict_of verdict.now)) message.now (verdict_of verdict.now)
-            (waiting self.old) (waiting self.new)) }
-        ensures err_text { OnErr result (waiting self.new ≡ waiting self.old) }
-        ensures counted { self.new.counter ≡ self.old.counter }
-        ensures written { self.new.out.written ≡ self.old.out.written }
+        ensures ok { OnOk result (Waits checker.now.mode (IsLine checker.now number (verdict_of verdict.now)) message.now (verdict_of verdict.now)
+            (queue_of K.Sink self.old.out writer.old) (queue_of K.Sink self.new.out writer.new) self.old.notes.bytes.items self.new.notes.bytes.items) }
+        ensures err { OnErr result (queue_of K.Sink self.new.out writer.new ≡ queue_of K.Sink self.old.out writer.old) }
+        ensures err_noted { OnErr result (self.new.notes.bytes.items ≡ self.old.notes.bytes.items) }
         ensures noted { self.new.notes.written ≡ self.old.notes.written }
+        ensures counted { self.new.counter ≡ self.old.counter }
     {
         match verdict {
             Ok(_) => match checker.mode() {
-                Mode::Lines => self.put_line(checker, begin, number, verdict),
+                Mode::Lines => self.put_line(checker, begin, number, verdict, writer),
                 Mode::BadLines => Ok(()),
-                Mode::Filter => self.out.bytes.extend_from_slice(message),
+                Mode::Filter => {
+                    self.out.put(writer, message);
+                    Ok(())
+                }
             },
             Err(_) => match checker.mode() {
-                Mode::Lines | Mode::BadLines => self.put_line(checker, begin, number, verdict),
+                Mode::Lines | Mode::BadLines => {
+                    self.put_line(checker, begin, number, verdict, writer)
+                }
                 Mode::Filter => self.note_line(checker, begin, number, verdict),
             },
         }
     }
 
-    /// Adds the line of this verdict on message number `number` to what waits for the writer. Plain lines begin so.
-    fn put_line(
+    /// Puts the line of this verdict on message number `number` for the writer. Plain lines begin so.
+    fn put_line<K: Sink>(
         &mut self,
         checker: &Checker<'_, '_, '_>,
         begin: &[u8],
         number: u64,
         verdict: &Result<Found<'_>, Wrong<'_>>,
+        writer: &mut K,
     ) -> Result<(), AllocError>
         requires begin { begin.now ≡ label_text checker.now.label }
-        ensures ok { OnOk result (AddsText (IsLine checker.now number (verdict_of verdict.now)) self.old.out.bytes.items self.new.out.bytes.items) }
-        ensures err_text { OnErr result (self.new.out.bytes.items ≡ self.old.out.bytes.items) }
+        ensures ok { OnOk result (PutsSome (IsLine checker.now number (verdict_of verdict.now)) (queue_of K.Sink self.old.out writer.old) (queue_of K.Sink self.new.out writer.new)) }
+        ensures err { OnErr result (queue_of K.Sink self.new.out writer.new ≡ queue_of K.Sink self.old.out writer.old) }
         ensures notes { self.new.notes ≡ self.old.notes }
         ensures counted { self.new.counter ≡ self.old.counter }
-        ensures written { self.new.out.written ≡ self.old.out.written }
     {
-        self.make_line(checker, begin, number, verdict)?;
-        self.out.bytes.extend_from_slice(self.made.as_slice())
+        self.make_front(checker, begin, number, verdict)?;
+        self.out.put(writer, self.made.as_slice());
+        if let Ok(found) = verdict {
+            let answers = found.answers.as_slice();
+            put_values(
+                &mut self.out,
+                writer,
+                checker.form(),
+                checker.paths(),
+                answers,
+            );
+        }
+        Ok(())
     }
 
-    /// The same of what waits for the notes.
+    /// Adds the line of this verdict on a bad message with number `number` to what waits for the notes.
     fn note_line(
         &mut self,
         checker: &Checker<'_, '_, '_>,
@@ -320,18 +270,19 @@ impl<A: Allocator> Output<A> {
         verdict: &Result<Found<'_>, Wrong<'_>>,
     ) -> Result<(), AllocError>
         requires begin { begin.now ≡ label_text checker.now.label }
-        ensures ok { OnOk result (AddsText (IsLine checker.now number (verdict_of verdict.now)) self.old.notes.bytes.items self.new.notes.bytes.items) }
-        ensures err_text { OnErr result (self.new.notes.bytes.items ≡ self.old.notes.bytes.items) }
+        ensures ok { OnOk result (self.new.notes.bytes.items ≡ self.old.notes.bytes.items ++ front_in checker.now.form checker.now number (verdict_of verdict.now)) }
+        ensures err { OnErr result (self.new.notes.bytes.items ≡ self.old.notes.bytes.items) }
         ensures out { self.new.out ≡ self.old.out }
-        ensures counted { self.new.counter ≡ self.old.counter }
         ensures noted { self.new.notes.written ≡ self.old.notes.written }
+        ensures counted { self.new.counter ≡ self.old.counter }
     {
-        self.make_line(checker, begin, number, verdict)?;
+        self.make_front(checker, begin, number, verdict)?;
         self.notes.bytes.extend_from_slice(self.made.as_slice())
     }
 
-    /// Makes the line of this verdict on message number `number`. Plain ones begin so.
-    fn make_line(
+    /// Makes what the line of this verdict on message number `number` has before its values, which is all of the line of
+    /// a no. Plain ones begin so.
+    fn make_front(
         &mut self,
         checker: &Checker<'_, '_, '_>,
         begin: &[u8],
@@ -339,7 +290,7 @@ impl<A: Allocator> Output<A> {
         verdict: &Result<Found<'_>, Wrong<'_>>,
     ) -> Result<(), AllocError>
         requires begin { begin.now ≡ label_text checker.now.label }
-        ensures line { OnOk result (IsLine checker.now number (verdict_of verdict.now) self.new.made.items) }
+        ensures front { OnOk result (self.new.made.items ≡ front_in checker.now.form checker.now number (verdict_of verdict.now)) }
         ensures out { self.new.out ≡ self.old.out }
         ensures notes { self.new.notes ≡ self.old.notes }
         ensures counted { self.new.counter ≡ self.old.counter }
@@ -350,37 +301,48 @@ impl<A: Allocator> Output<A> {
                 self.line.set(number, verdict);
                 self.made.extend_from_slice(begin)?;
                 self.made.extend_from_slice(self.line.bytes())?;
-                put_asked(&mut self.made, verdict)?;
-                self.made.extend_from_slice(b"\n")
+                match verdict {
+                    Ok(_) => Ok(()),
+                    Err(wrong) => put_words(&mut self.made, wrong.place),
+                }
             }
             Form::Json => checker.put_json(&mut self.made, number, verdict),
         }
     }
 
-    /// Whether so much waits that it is written before the next message is checked.
-    pub fn is_much(&self) -> bool
-        ensures much { result ≡ true → 65536 ≤ size (waiting self.now) }
-        ensures little { result ≡ false → size (waiting self.now) < 65536 }
+    /// Writes what waits where a message is told and much waits for the notes: first for the writer. A write that failed
+    /// is answered.
+    #[inline(always)]
+    fn settle<K: Sink, N: Sink>(&mut self, writer: &mut K, notes: &mut N) -> Result<(), RunFault>
+        requires unfailed { self.old.notes.written.failed ≡ false }
+        ensures puts { PutsBoth silent (queues_of K.Sink N.Sink self.old writer.old notes.old) (queues_of K.Sink N.Sink self.new writer.new notes.new) }
+        ensures so { AreSo (queues_of K.Sink N.Sink self.new writer.new notes.new) result }
+        ensures little { OnOk result (length self.new.notes.bytes.items < 65536) }
+        ensures counted { self.new.counter ≡ self.old.counter }
     {
-        self.out.bytes.len() + self.notes.bytes.len() >= MOST_WAITING
+        if self.out.written.failed || self.notes.bytes.len() >= MOST_WAITING {
+            return self.flush(writer, notes);
+        }
+        Ok(())
     }
 
     /// Writes what waits, first for the writer and then for the notes.
-    #[tactic(auto, using(std::proofs::lemmas::Grind::common_steps))]
     pub fn flush<K: Sink, N: Sink>(&mut self, writer: &mut K, notes: &mut N) -> Result<(), RunFault>
-        ensures takes { OnOk result (Takes (outs_of K.Sink N.Sink writer.old notes.old) (outs_of K.Sink N.Sink writer.new notes.new) (waiting self.old)) }
-        ensures empty { OnOk result (waiting self.new ≡ silent) }
-        ensures written { OnOk result (IsCounted (self.old.out.written + length (waiting self.old).out) self.new.out.written) }
-        ensures noted { OnOk result (IsCounted (self.old.notes.written + length (waiting self.old).notes) self.new.notes.written) }
-        ensures err { IfErr result (WritesFronts (waiting self.old) (outs_of K.Sink N.Sink writer.old notes.old) (outs_of K.Sink N.Sink writer.new notes.new) (written_by self.old)) }
-        ensures failed { IfErr result (IsCausedOut (outs_of K.Sink N.Sink writer.old notes.old) (outs_of K.Sink N.Sink writer.new notes.new)) }
-        ensures unfailed { OnOk result (IsUnfailedOut (outs_of K.Sink N.Sink writer.old notes.old) (outs_of K.Sink N.Sink writer.new notes.new)) }
+        requires sound { AreSound (queues_of K.Sink N.Sink self.old writer.old notes.old) }
+        ensures puts { PutsBoth silent (queues_of K.Sink N.Sink self.old writer.old notes.old) (queues_of K.Sink N.Sink self.new writer.new notes.new) }
+        ensures so { AreSo (queues_of K.Sink N.Sink self.new writer.new notes.new) result }
+        ensures written { OnOk result (self.new.out.bytes.items ≡ []) }
+        ensures noted { OnOk result (self.new.notes.bytes.items ≡ []) }
         ensures counted { self.new.counter ≡ self.old.counter }
     {
-        if let Err(Unwritten { written }) = self.out.flush(writer) {
+        self.out.flush(writer);
+        if self.out.written.failed {
+            let written = self.out.written.bytes;
             return Err(RunFault::WriteFault { written });
         }
-        if let Err(Unwritten { written }) = self.notes.flush(notes) {
+        self.notes.flush(notes);
+        if self.notes.written.failed {
+            let written = self.notes.written.bytes;
             return Err(RunFault::NoteFault { written });
         }
         Ok(())

@@ -1,75 +1,27 @@
-//! The text of a value at the end of a path, and of an input's name.
+//! How bytes and numbers are spelled in lines, and the name of an input.
 
-ghost use Rattle.std.specs.Prelude.{OnOk, ◌≡◌, ◌≤◌, ◌++◌, ◌∷◌, [], ℕ, List, length, option_map, take};
-ghost use Rattle.std.specs.{List.flat_map, Borrow.Bor};
+ghost use Rattle.std.specs.Prelude.{OnOk, codes, ℕ, List, ◌≡◌, ◌<◌, ◌≤◌, ◌++◌, ◌∷◌, [], length, option_map, take};
+ghost use Rattle.std.specs.{Borrow.Bor, Char.digit_char, List.flat_map};
 ghost use Rattle.hex.specs.Hex.{encode_lower};
-ghost use Rattle.fb_access.specs.Denotes.{shown};
-ghost use Rattle.fb_lines.specs.{Job.verdict_of, Line.asked_text, Line.words_text};
-ghost use Rattle.fb_lines.specs.AnswerText.{answer_text, byte_text, label_text, quoted, spaced_answer, spelled};
+ghost use Rattle.json.specs.Print.{escape_byte, escape_letter};
+ghost use Rattle.fb_lines.specs.AnswerText.{byte_text, label_text, spelled};
+ghost use Rattle.fb_lines.specs.Line.{words_text};
 
-use crate::checker::{Found, Wrong};
-use fb_access::Answer;
 use itoa::{Buffer, Integer};
 use std::alloc::{AllocError, Allocator};
 
-/// Adds what was asked for: the values of a yes or the place of a no in words, each behind a space.
-#[tactic(auto, using(crate::proofs::AnswerLemmas::answers_each))]
-pub fn put_asked<A: Allocator>(
+/// Adds a place in words behind a space, where there is one, and the end of a line.
+pub fn put_words<A: Allocator>(
     text: &mut Vec<u8, A>,
-    verdict: &Result<Found<'_>, Wrong<'_>>,
+    place: Option<&[u8]>,
 ) -> Result<(), AllocError>
-    ensures { OnOk result (text.new.items ≡ text.old.items ++ asked_text (verdict_of verdict.now)) }
+    ensures { OnOk result (text.new.items ≡ text.old.items ++ (words_text (option_map (λ (words : Bor (List ℕ)). words.now) place.entry) ++ codes "\n")) }
 {
-    match verdict {
-        Ok(found) => put_answers(text, found.answers.as_slice()),
-        Err(wrong) => put_words(text, wrong.place),
-    }
-}
-
-/// Adds a place in words behind a space, where there is one.
-fn put_words<A: Allocator>(text: &mut Vec<u8, A>, place: Option<&[u8]>) -> Result<(), AllocError>
-    ensures { OnOk result (text.new.items ≡ text.old.items ++ words_text (option_map (λ (words : Bor (List ℕ)). words.now) place.entry)) }
-{
-    let Some(words) = place else {
-        return Ok(());
-    };
-    text.extend_from_slice(b" ")?;
-    text.extend_from_slice(words)
-}
-
-/// Adds values, each behind a space.
-fn put_answers<A: Allocator>(
-    text: &mut Vec<u8, A>,
-    answers: &[Answer<'_>],
-) -> Result<(), AllocError>
-    ensures { OnOk result (text.new.items ≡ text.old.items ++ flat_map spaced_answer answers.now) }
-{
-    for answer in answers {
+    if let Some(words) = place {
         text.extend_from_slice(b" ")?;
-        put_answer(text, answer)?;
+        text.extend_from_slice(words)?;
     }
-    Ok(())
-}
-
-/// Adds the text of a value.
-fn put_answer<A: Allocator>(text: &mut Vec<u8, A>, answer: &Answer<'_>) -> Result<(), AllocError>
-    ensures { OnOk result (text.new.items ≡ text.old.items ++ answer_text (shown answer.now)) }
-{
-    match answer {
-        Answer::Absent => text.extend_from_slice(b"absent"),
-        Answer::NoElement => text.extend_from_slice(b"no-element"),
-        Answer::OtherMember => text.extend_from_slice(b"other-member"),
-        Answer::Bool(true) => text.extend_from_slice(b"true"),
-        Answer::Bool(false) => text.extend_from_slice(b"false"),
-        Answer::Int(number) => put_number(text, b"", *number),
-        Answer::UInt(number) => put_number(text, b"", *number),
-        Answer::Float(bytes) => put_hex(text, b"float:", bytes),
-        Answer::Text(bytes) => put_quoted(text, bytes),
-        Answer::Struct(bytes) => put_hex(text, b"struct:", bytes),
-        Answer::Vector(count) => put_number(text, b"vector:", *count),
-        Answer::Table => text.extend_from_slice(b"table"),
-        Answer::Union(number) => put_number(text, b"union:", *number),
-    }
+    text.extend_from_slice(b"\n")
 }
 
 /// Adds a label and a number.
@@ -108,15 +60,6 @@ pub fn put_hex<A: Allocator>(
     Ok(())
 }
 
-/// Adds a text between quotes.
-fn put_quoted<A: Allocator>(text: &mut Vec<u8, A>, bytes: &[u8]) -> Result<(), AllocError>
-    ensures { OnOk result (text.new.items ≡ text.old.items ++ quoted bytes.now) }
-{
-    text.extend_from_slice(b"\"")?;
-    put_bytes(text, bytes)?;
-    text.extend_from_slice(b"\"")
-}
-
 /// Adds what each line begins with, where the input has a name.
 pub fn put_label<A: Allocator>(
     text: &mut Vec<u8, A>,
@@ -146,57 +89,51 @@ pub fn put_bytes<A: Allocator>(text: &mut Vec<u8, A>, bytes: &[u8]) -> Result<()
 fn put_byte<A: Allocator>(text: &mut Vec<u8, A>, byte: u8) -> Result<(), AllocError>
     ensures { OnOk result (text.new.items ≡ text.old.items ++ byte_text byte) }
 {
-    if byte == b'"' || byte == b'\\' {
-        text.extend_from_slice(&[b'\\', byte])
-    } else if byte < b' ' || b'~' < byte {
-        let mut digits = [0u8; 2];
-        let Ok(()) = hex::encode_to_slice([byte].as_slice(), &mut digits) else {
-            unreachable!()
-        };
-        text.extend_from_slice(b"\\x")?;
-        text.extend_from_slice(&digits)
-    } else {
-        text.extend_from_slice(&[byte])
-    }
+    let (spelled, length) = spell(Spelling::Quoted, byte);
+    text.extend_from_slice(&spelled[..length])
 }
 
 /// How each byte of a value is written.
 #[derive(Clone, Copy)]
 pub enum Spelling {
-    /// As in a text between quotes.
+    /// As in a text between quotes of a plain line.
     Quoted,
+    /// As in a string of JSON.
+    Json,
     /// As two hexadecimal digits.
     Digits,
 }
 
-/// One byte as it is written: the first of four bytes, and how many of them those are.
-pub fn spell(spelling: Spelling, byte: u8) -> ([u8; 4], usize)
+/// One byte as it is written: the first of six bytes, and how many of them those are.
+pub fn spell(spelling: Spelling, byte: u8) -> ([u8; 6], usize)
     ensures text { take result.1 result.0 ≡ spelled spelling byte }
-    ensures fits { result.1 ≤ 4 }
+    ensures fits { result.1 ≤ 6 }
 {
     match spelling {
         Spelling::Quoted => quote(byte),
+        Spelling::Json => escape(byte),
         Spelling::Digits => {
-            let mut spelled = [0u8; 4];
+            let mut spelled = [0u8; 6];
             put_digits(&mut spelled[..2], byte);
             (spelled, 2)
         }
     }
 }
 
-/// The same of one byte of a text, as `put_byte` adds it.
-fn quote(byte: u8) -> ([u8; 4], usize)
+/// One byte of a text between quotes: a quote and a backslash stand behind a backslash, and what isn't printable ASCII
+/// as two hexadecimal digits.
+fn quote(byte: u8) -> ([u8; 6], usize)
     ensures text { take result.1 result.0 ≡ byte_text byte }
-    ensures fits { result.1 ≤ 4 }
+    ensures fits { result.1 ≤ 6 }
 {
     if byte == b'"' || byte == b'\\' {
-        ([b'\\', byte, 0, 0], 2)
+        ([b'\\', byte, 0, 0, 0, 0], 2)
     } else if byte < b' ' || b'~' < byte {
-        let mut spelled = [b'\\', b'x', 0, 0];
-        put_digits(&mut spelled[2..], byte);
+        let mut spelled = [b'\\', b'x', 0, 0, 0, 0];
+        put_digits(&mut spelled[2..4], byte);
         (spelled, 4)
     } else {
-        ([byte, 0, 0, 0], 1)
+        ([byte, 0, 0, 0, 0, 0], 1)
     }
 }
 
@@ -208,4 +145,50 @@ fn put_digits(place: &mut [u8], byte: u8)
     let Ok(()) = hex::encode_to_slice([byte].as_slice(), place) else {
         unreachable!()
     };
+}
+
+/// One byte of a string of JSON.
+#[tactic(auto, unfolding(json::specs::Print::escape_byte))]
+fn escape(byte: u8) -> ([u8; 6], usize)
+    ensures text { take result.1 result.0 ≡ escape_byte byte }
+    ensures fits { result.1 ≤ 6 }
+{
+    let letter = letter(byte);
+    if letter > 0 {
+        return ([b'\\', letter, 0, 0, 0, 0], 2);
+    }
+    if byte < b' ' {
+        return (
+            [b'\\', b'u', b'0', b'0', digit(byte / 16), digit(byte % 16)],
+            6,
+        );
+    }
+    ([byte, 0, 0, 0, 0, 0], 1)
+}
+
+/// The letter that stands behind a backslash for a byte, or 0 where there is none.
+fn letter(byte: u8) -> u8
+    ensures { result ≡ escape_letter byte }
+{
+    match byte {
+        b'"' | b'\\' => byte,
+        8 => b'b',
+        12 => b'f',
+        b'\n' => b'n',
+        b'\r' => b'r',
+        b'\t' => b't',
+        _ => 0,
+    }
+}
+
+/// A hexadecimal digit.
+fn digit(value: u8) -> u8
+    requires { value < 16 }
+    ensures { result ≡ digit_char value }
+{
+    if value < 10 {
+        b'0' + value
+    } else {
+        b'a' - 10 + value
+    }
 }

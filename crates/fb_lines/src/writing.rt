@@ -1,9 +1,9 @@
 //! Writing to a sink that may take a text in parts, and a sink that keeps nothing.
 
-ghost use Rattle.std.specs.Prelude.{IfOk, OnOk, OnErr, IfErr, ◌≡◌, ◌+◌, ◌<◌, ◌≤◌, ◌++◌, [], None, length, take};
+ghost use Rattle.std.specs.Prelude.{◌≡◌, ◌<◌, ◌≤◌, [], None, false, length, take};
 ghost use Rattle.std.specs.Io.KnownBytes.{Appends};
 ghost use Rattle.fb_bytes.specs.Ends.{one_more};
-ghost use Rattle.fb_lines.specs.{Lines.WritesFront, Puts.PutsBy, Puts.queue_of, Texts.IsCounted};
+ghost use Rattle.fb_lines.specs.{Ends.writer_of, Puts.Puts, Puts.PutsAs, Puts.behind, Puts.queue_of};
 
 use fb_bytes::Sink;
 use std::alloc::Allocator;
@@ -27,81 +27,78 @@ pub fn push_all<K: Sink>(sink: &mut K, text: &[u8]) -> usize
     text.len() - rest.len()
 }
 
-/// A write failed or took nothing: the sink took so many bytes in all, as far as they can be counted.
+/// How many bytes a sink took, as far as they can be counted, and whether a write to it failed or took nothing.
 #[derive(Clone, Copy)]
-pub struct Unwritten {
-    pub written: u128,
+pub struct Written {
+    pub bytes: u128,
+    pub failed: bool,
 }
 
-/// Writes the text to a sink that took so many bytes before, and answers how many it took in all.
-fn write_all<K: Sink>(sink: &mut K, text: &[u8], before: u128) -> Result<u128, Unwritten>
-    ensures ok { OnOk result (Appends (K.contents sink.old) (K.contents sink.new) text.now) }
-    ensures written { IfOk result (λ written. IsCounted (before + length text.now) written) }
-    ensures err { IfErr result (λ cause. WritesFront text.now (K.contents sink.old) (K.contents sink.new) before cause.written) }
-    ensures failed { OnErr result (K.failures sink.new ≡ one_more (K.failures sink.old)) }
-    ensures unfailed { OnOk result (K.failures sink.new ≡ K.failures sink.old) }
+/// Writes the text to a sink that has these bytes before, unless a write to it has failed.
+fn write_all<K: Sink>(sink: &mut K, text: &[u8], before: Written) -> Written
+    ensures puts { PutsAs before.failed result.failed text.now (behind [] before (writer_of K.Sink sink.old)) (behind [] result (writer_of K.Sink sink.new)) }
 {
-    let taken = push_all(sink, text);
-    let written = before.saturating_add(taken as u128);
-    if taken < text.len() {
-        return Err(Unwritten { written });
+    if before.failed {
+        return before;
     }
-    Ok(written)
+    let taken = push_all(sink, text);
+    Written {
+        bytes: before.bytes.saturating_add(taken as u128),
+        failed: taken < text.len(),
+    }
 }
 
 /// Where as many bytes wait, they are written.
 pub const MOST_WAITING: usize = 65_536;
 
-/// Bytes that wait to be written to one sink, and how many it took before.
+/// Bytes that wait to be written to one sink, and what was written to it before. Once a write has failed, nothing more
+/// is written.
 #[derive(Drop)]
 pub struct Pending<A: Allocator> {
     pub bytes: Vec<u8, A>,
-    pub written: u128,
+    pub written: Written,
 }
 
 impl<'a, A: Allocator> Pending<&'a A> {
     /// Nothing waits, and nothing was written.
     pub fn new(alloc: &'a A) -> Self
         ensures bytes { result.bytes.items ≡ [] }
-        ensures written { result.written ≡ 0 }
+        ensures written { result.written ≡ record { bytes = 0; failed = false } }
     {
         Pending {
             bytes: Vec::new(alloc),
-            written: 0,
+            written: Written {
+                bytes: 0,
+                failed: false,
+            },
         }
     }
 }
 
 impl<A: Allocator> Pending<A> {
     /// Writes the bytes that wait.
-    pub fn flush<K: Sink>(&mut self, sink: &mut K) -> Result<(), Unwritten>
-        ensures ok { OnOk result (Appends (K.contents sink.old) (K.contents sink.new) self.old.bytes.items) }
-        ensures empty { OnOk result (self.new.bytes.items ≡ []) }
-        ensures written { OnOk result (IsCounted (self.old.written + length self.old.bytes.items) self.new.written) }
-        ensures err { IfErr result (λ cause. WritesFront self.old.bytes.items (K.contents sink.old) (K.contents sink.new)
-            self.old.written cause.written) }
-        ensures failed { OnErr result (K.failures sink.new ≡ one_more (K.failures sink.old)) }
-        ensures unfailed { OnOk result (K.failures sink.new ≡ K.failures sink.old) }
+    pub fn flush<K: Sink>(&mut self, sink: &mut K)
+        ensures puts { Puts [] (queue_of K.Sink self.old sink.old) (queue_of K.Sink self.new sink.new) }
+        ensures empty { self.new.bytes.items ≡ [] }
     {
-        self.written = write_all(sink, self.bytes.as_slice(), self.written)?;
+        self.written = write_all(sink, self.bytes.as_slice(), self.written);
         self.bytes.clear();
-        Ok(())
     }
 
-    /// Adds a text behind what waits. Where much waits by then, it is written; where memory is refused, so is the text
+    /// Puts a text behind what waits. Where much waits by then, it is written; where memory is refused, so is the text
     /// itself.
-    pub fn put<K: Sink>(&mut self, sink: &mut K, text: &[u8]) -> Result<(), Unwritten>
-        ensures { PutsBy text.now (queue_of K.Sink self.old sink.old) (queue_of K.Sink self.new sink.new) result }
+    pub fn put<K: Sink>(&mut self, sink: &mut K, text: &[u8])
+        ensures puts { Puts text.now (queue_of K.Sink self.old sink.old) (queue_of K.Sink self.new sink.new) }
+        ensures little { length self.new.bytes.items < 65536 }
     {
         let added = self.bytes.extend_from_slice(text);
         if added.is_ok() && self.bytes.len() < MOST_WAITING {
-            return Ok(());
+            return;
         }
-        self.flush(sink)?;
+        self.flush(sink);
         if added.is_err() {
-            self.written = write_all(sink, text, self.written)?;
+            self.written = write_all(sink, text, self.written);
         }
-        Ok(())
     }
 }
 

@@ -1,21 +1,39 @@
-use Rattle.std.proofs.Common.{◌∙◌, ap, rules, sym}
+use Rattle.std.proofs.Common.{◌≡◌, ◌⊎◌, ◌∙◌, ap, refl, rules, subst, sym}
+use Rattle.fb_lines.specs.declared.options.Mode.{Mode}
+use Rattle.fb_lines.specs.declared.options.Mode.TheVariants.{Lines, BadLines}
+use Rattle.std.proofs.lemmas.Result.{on_ok_weaker}
+use Rattle.fb_lines.specs.{Job.verdict_of, Puts.queue_of}
 use Rattle.fb_lines.specs.declared.writing.Pending.{Pending}
-use Rattle.fb_lines.proofs.ToldLemmas.{bad_line_noted, bad_line_told}
+use Rattle.fb_lines.proofs.ToldLemmas.{bad_line_waits, line_of_no, line_waits, message_waits, none_waits, note_waits}
 use Rattle.fb_lines.proofs.output.Output.tell.Goals as goal
 
+pub returns-in-Lines-clause-ok : goal.returns-in-Lines-clause-ok
+returns-in-Lines-clause-ok g c =
+    on_ok_weaker c.put_line.result
+    (λ put. line_waits _ _ c.args.message.now (verdict_of c.args.verdict.now) _ _ _ _ (sym c.mode.ensures ∙ c.in-Lines.is) put (ap (λ (p : Pending g.row.A.Denot). p.bytes.items) c.put_line.ensures.notes)) c.put_line.ensures.ok
+
+pub returns-in-BadLines-clause-ok : goal.returns-in-BadLines-clause-ok
+returns-in-BadLines-clause-ok g c =
+    none_waits _ _ c.args.message.now (verdict_of c.args.verdict.now) _ _ _ _ _ (ap verdict_of c.in-Ok.is) (sym c.mode.ensures ∙ c.in-BadLines.is) refl refl
+
+pub returns-in-Filter-clause-ok : goal.returns-in-Filter-clause-ok
+returns-in-Filter-clause-ok g c =
+    message_waits _ _ c.args.message.now (verdict_of c.args.verdict.now) _ _ _ _ _ (ap verdict_of c.in-Ok.is) (sym c.mode.ensures ∙ c.in-Filter.is) c.put.ensures.puts refl
+
 pub returns-in-Lines-mode : goal.returns-in-Lines-mode
-returns-in-Lines-mode g c =
-    let put = c.put_line-in-Lines-mode in
-    let noted = ap (λ (p : Pending g.row.A.Denot). p.bytes.items) put.ensures.notes in
-    record {
-      ok = bad_line_told _ _ _ _ _ _ c.in-Err.field-0 put.result _ c.mode-in-Err.ensures c.in-Lines-mode.is c.in-Err.is put.ensures.ok noted;
-      err_text = search rules;
-      counted = put.ensures.counted;
-      written = put.ensures.written;
-      noted = ap (λ (p : Pending g.row.A.Denot). p.written) put.ensures.notes;
-    }
+returns-in-Lines-mode g c = record {
+  ok = on_ok_weaker c.put_line-in-Lines-mode.result
+      (λ put. bad_line_waits _ _ c.args.message.now (verdict_of c.args.verdict.now) _ _ _ _ _ (ap verdict_of c.in-Err.is) (subst (λ (m : Mode). (m ≡ Lines) ⊎ (m ≡ BadLines)) c.mode-in-Err.ensures c.in-Lines-mode.is) put
+      (ap (λ (p : Pending g.row.A.Denot). p.bytes.items) c.put_line-in-Lines-mode.ensures.notes)) c.put_line-in-Lines-mode.ensures.ok;
+  err = c.put_line-in-Lines-mode.ensures.err;
+  err_noted = search rules;
+  noted = ap (λ (p : Pending g.row.A.Denot). p.written) c.put_line-in-Lines-mode.ensures.notes;
+  counted = c.put_line-in-Lines-mode.ensures.counted;
+}
 
 pub returns-in-Filter-mode-clause-ok : goal.returns-in-Filter-mode-clause-ok
 returns-in-Filter-mode-clause-ok g c =
-    bad_line_noted _ _ _ _ _ _ c.in-Err.field-0 c.note_line.result (sym c.mode-in-Err.ensures ∙ c.in-Filter-mode.is) c.in-Err.is c.note_line.ensures.ok
-    (ap (λ (p : Pending g.row.A.Denot). p.bytes.items) c.note_line.ensures.out)
+    on_ok_weaker c.note_line.result
+    (λ added. note_waits _ _ c.args.message.now (verdict_of c.args.verdict.now) _ _ _ _ _ _ (ap verdict_of c.in-Err.is) (sym c.mode-in-Err.ensures ∙ c.in-Filter-mode.is)
+    (rw c.in-Err.is (line_of_no c.args.checker.now.form c.args.checker.now c.args.number _ _ refl))
+    (ap (λ (p : Pending g.row.A.Denot). queue_of g.K.Sink p c.args.writer.now) c.note_line.ensures.out) added) c.note_line.ensures.ok

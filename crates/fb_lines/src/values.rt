@@ -1,0 +1,220 @@
+//! The values at the ends of paths, written while they are made: a long one takes no memory.
+
+ghost use Rattle.std.specs.Prelude.{◌≡◌, ◌++◌, List, [], ℕ, codes, if◌then◌else◌, false, map};
+ghost use Rattle.std.specs.List.{flat_map};
+ghost use Rattle.hex.specs.Hex.{encode_lower};
+ghost use Rattle.json.specs.{Json.Json, Json.Members, Json.string, Print.escape};
+ghost use Rattle.fb_access.specs.Denotes.{shown};
+ghost use Rattle.fb_lines.specs.AnswerText.{spaced_answer, spelled};
+ghost use Rattle.fb_lines.specs.Json.{AreValues, IsFloat, IsReal, IsValue, IsValuesMember, following, json_text, members_text, most_digits, most_zeros, text_json, value_json};
+ghost use Rattle.fb_lines.specs.{Line.IsRest, Puts.Puts, Puts.PutsSome, Puts.queue_of};
+
+use crate::options::{AskedPath, Form};
+use crate::value_text::{Spelling, spell};
+use crate::writing::Pending;
+use byteorder::{ByteOrder, LittleEndian};
+use fb_access::Answer;
+use fb_bytes::Sink;
+use itoa::{Buffer, Integer};
+use ryu::Float;
+use std::alloc::Allocator;
+
+/// Puts what the line of a yes has behind its counts: the values at the ends of some paths, and its end.
+pub fn put_values<A: Allocator, K: Sink>(
+    out: &mut Pending<A>,
+    sink: &mut K,
+    form: Form,
+    paths: &[AskedPath],
+    answers: &[Answer<'_>],
+)
+    ensures { PutsSome (IsRest form (map (λ p. p.text) paths.now) (map shown answers.now)) (queue_of K.Sink out.old sink.old) (queue_of K.Sink out.new sink.new) }
+{
+    match form {
+        Form::Plain => put_plain(out, sink, answers),
+        Form::Json => put_json(out, sink, paths, answers),
+    }
+}
+
+/// Puts values, each behind a space, and a newline.
+fn put_plain<A: Allocator, K: Sink>(out: &mut Pending<A>, sink: &mut K, answers: &[Answer<'_>])
+    ensures { Puts (flat_map spaced_answer answers.now ++ codes "\n") (queue_of K.Sink out.old sink.old) (queue_of K.Sink out.new sink.new) }
+{
+    for answer in answers {
+        put_spaced(out, sink, answer);
+    }
+    out.put(sink, b"\n");
+}
+
+/// Puts a value behind a space.
+fn put_spaced<A: Allocator, K: Sink>(out: &mut Pending<A>, sink: &mut K, answer: &Answer<'_>)
+    ensures { Puts (spaced_answer answer.now) (queue_of K.Sink out.old sink.old) (queue_of K.Sink out.new sink.new) }
+{
+    match answer {
+        Answer::Absent => out.put(sink, b" absent"),
+        Answer::NoElement => out.put(sink, b" no-element"),
+        Answer::OtherMember => out.put(sink, b" other-member"),
+        Answer::Bool(true) => out.put(sink, b" true"),
+        Answer::Bool(false) => out.put(sink, b" false"),
+        Answer::Int(number) => put_number(out, sink, b" ", *number, b""),
+        Answer::UInt(number) => put_number(out, sink, b" ", *number, b""),
+        Answer::Float(bytes) => put_bytes(out, sink, b" float:", bytes, Spelling::Digits, b""),
+        Answer::Text(bytes) => put_bytes(out, sink, b" \"", bytes, Spelling::Quoted, b"\""),
+        Answer::Struct(bytes) => put_bytes(out, sink, b" struct:", bytes, Spelling::Digits, b""),
+        Answer::Vector(count) => put_number(out, sink, b" vector:", *count, b""),
+        Answer::Table => out.put(sink, b" table"),
+        Answer::Union(number) => put_number(out, sink, b" union:", *number, b""),
+    }
+}
+
+/// Puts a member with the values of some paths by the texts of these, where there are any, and the end of a line's
+/// object.
+fn put_json<A: Allocator, K: Sink>(
+    out: &mut Pending<A>,
+    sink: &mut K,
+    paths: &[AskedPath],
+    answers: &[Answer<'_>],
+)
+    ensures { PutsSome (λ text. (values : Members) × IsValuesMember (map (λ p. p.text) paths.now) (map shown answers.now) values × (text ≡ following values ++ codes "\n")) (queue_of K.Sink out.old sink.old) (queue_of K.Sink out.new sink.new) }
+{
+    if paths.is_empty() {
+        out.put(sink, b"}\n");
+        return;
+    }
+    out.put(sink, b",\"values\":{");
+    put_members(out, sink, paths, answers);
+    out.put(sink, b"}\n");
+}
+
+/// Puts the values of some paths up to the brace that closes their object.
+fn put_members<A: Allocator, K: Sink>(
+    out: &mut Pending<A>,
+    sink: &mut K,
+    paths: &[AskedPath],
+    answers: &[Answer<'_>],
+)
+    ensures { PutsSome (λ text. (values : Members) × AreValues (map (λ p. p.text) paths.now) (map shown answers.now) values × (text ≡ members_text false values)) (queue_of K.Sink out.old sink.old) (queue_of K.Sink out.new sink.new) }
+{
+    for index in 0..paths.len().min(answers.len()) {
+        put_key(out, sink, index > 0, paths[index].text());
+        put_value(out, sink, &answers[index]);
+    }
+    out.put(sink, b"}");
+}
+
+/// Puts the text of a path as a member's name, behind another one or as the first.
+fn put_key<A: Allocator, K: Sink>(out: &mut Pending<A>, sink: &mut K, behind: bool, path: &[u8])
+    ensures { Puts ((if behind then codes "," else []) ++ (json_text (string path.now) ++ codes ":")) (queue_of K.Sink out.old sink.old) (queue_of K.Sink out.new sink.new) }
+{
+    if behind {
+        put_bytes(out, sink, b",\"", path, Spelling::Json, b"\":");
+    } else {
+        put_bytes(out, sink, b"\"", path, Spelling::Json, b"\":");
+    }
+}
+
+/// Puts a value as JSON.
+fn put_value<A: Allocator, K: Sink>(out: &mut Pending<A>, sink: &mut K, answer: &Answer<'_>)
+    ensures { PutsSome (λ text. (value : Json) × IsValue (shown answer.now) value × (text ≡ json_text value)) (queue_of K.Sink out.old sink.old) (queue_of K.Sink out.new sink.new) }
+{
+    let Answer::Float(bytes) = answer else {
+        put_as_is(out, sink, answer);
+        return;
+    };
+    match bytes.len() {
+        4 => put_real(out, sink, LittleEndian::read_f32(bytes)),
+        8 => put_real(out, sink, LittleEndian::read_f64(bytes)),
+        _ => put_as_is(out, sink, answer),
+    }
+}
+
+/// Puts a float: a number that reads as it, and a word where it is no number.
+fn put_real<A: Allocator, K: Sink, F: Float>(out: &mut Pending<A>, sink: &mut K, real: F)
+    requires digits { F.WHOLE_DIGITS ≡ most_digits F.format }
+    requires zeros { F.LEADING_ZEROS ≡ most_zeros F.format }
+    ensures { PutsSome (λ text. (value : Json) × IsReal F.format (F.value real) value × (text ≡ json_text value)) (queue_of K.Sink out.old sink.old) (queue_of K.Sink out.new sink.new) }
+{
+    let mut buffer = ryu::Buffer::new();
+    let numeral = buffer.format(real);
+    if numeral == "NaN" {
+        out.put(sink, b"\"NaN\"");
+    } else if numeral == "inf" {
+        out.put(sink, b"\"Infinity\"");
+    } else if numeral == "-inf" {
+        out.put(sink, b"\"-Infinity\"");
+    } else {
+        out.put(sink, numeral.as_bytes());
+    }
+}
+
+/// Puts a value that has one text as JSON.
+fn put_as_is<A: Allocator, K: Sink>(out: &mut Pending<A>, sink: &mut K, answer: &Answer<'_>)
+    ensures { Puts (json_text (value_json (shown answer.now))) (queue_of K.Sink out.old sink.old) (queue_of K.Sink out.new sink.new) }
+{
+    match answer {
+        Answer::Absent => out.put(sink, b"null"),
+        Answer::NoElement => out.put(sink, b"{\"absent\":\"no-element\"}"),
+        Answer::OtherMember => out.put(sink, b"{\"absent\":\"other-member\"}"),
+        Answer::Bool(true) => out.put(sink, b"true"),
+        Answer::Bool(false) => out.put(sink, b"false"),
+        Answer::Int(number) => put_number(out, sink, b"", *number, b""),
+        Answer::UInt(number) => put_number(out, sink, b"", *number, b""),
+        Answer::Float(bytes) => put_digits(out, sink, b"{\"float\":\"", bytes),
+        Answer::Text(bytes) => put_text(out, sink, bytes),
+        Answer::Struct(bytes) => put_digits(out, sink, b"{\"struct\":\"", bytes),
+        Answer::Vector(count) => put_number(out, sink, b"{\"vector\":", *count, b"}"),
+        Answer::Table => out.put(sink, b"{\"table\":true}"),
+        Answer::Union(number) => put_number(out, sink, b"{\"union\":", *number, b"}"),
+    }
+}
+
+/// Puts a text as JSON: a string where it is UTF-8, and its bytes where it isn't.
+fn put_text<A: Allocator, K: Sink>(out: &mut Pending<A>, sink: &mut K, bytes: &[u8])
+    ensures { Puts (json_text (text_json bytes.now)) (queue_of K.Sink out.old sink.old) (queue_of K.Sink out.new sink.new) }
+{
+    match std::str::from_utf8(bytes) {
+        Ok(_) => put_bytes(out, sink, b"\"", bytes, Spelling::Json, b"\""),
+        Err(_) => put_digits(out, sink, b"{\"bytes\":\"", bytes),
+    }
+}
+
+/// Puts bytes as hexadecimal digits behind what opens an object and a string, and the ends of both.
+fn put_digits<A: Allocator, K: Sink>(out: &mut Pending<A>, sink: &mut K, head: &[u8], bytes: &[u8])
+    ensures { Puts (head.now ++ (escape (encode_lower bytes.now) ++ codes "\"}")) (queue_of K.Sink out.old sink.old) (queue_of K.Sink out.new sink.new) }
+{
+    put_bytes(out, sink, head, bytes, Spelling::Digits, b"\"}");
+}
+
+/// Puts a number between two texts.
+fn put_number<A: Allocator, K: Sink, I: Integer>(
+    out: &mut Pending<A>,
+    sink: &mut K,
+    head: &[u8],
+    number: I,
+    tail: &[u8],
+)
+    ensures { Puts (head.now ++ (I.text number ++ tail.now)) (queue_of K.Sink out.old sink.old) (queue_of K.Sink out.new sink.new) }
+{
+    let mut digits = Buffer::new();
+    out.put(sink, head);
+    out.put(sink, digits.format(number).as_bytes());
+    out.put(sink, tail);
+}
+
+/// Puts the bytes of a value between two texts.
+fn put_bytes<A: Allocator, K: Sink>(
+    out: &mut Pending<A>,
+    sink: &mut K,
+    head: &[u8],
+    bytes: &[u8],
+    spelling: Spelling,
+    tail: &[u8],
+)
+    ensures { Puts (head.now ++ (flat_map (spelled spelling) bytes.now ++ tail.now)) (queue_of K.Sink out.old sink.old) (queue_of K.Sink out.new sink.new) }
+{
+    out.put(sink, head);
+    for byte in bytes {
+        let (spelled, length) = spell(spelling, *byte);
+        out.put(sink, &spelled[..length]);
+    }
+    out.put(sink, tail);
+}
