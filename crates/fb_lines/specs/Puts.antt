@@ -21,6 +21,9 @@ abbrev pub queue_of : {A K : Type 0} → sink.Ghosts K → Pending A → K → Q
 queue_of k out writer = behind out.bytes.items out.written (writer_of k writer)
 
 -- nothing was put there
+abbrev pub IsBlank : {A : Type 0} → Pending A → Type 0
+IsBlank out = (out.bytes.items ≡ []) × (out.written ≡ record { bytes = 0; failed = false })
+
 abbrev pub unused : Writer → Queue
 unused writer = record { waits = []; written = 0; failed = false; writer = writer }
 
@@ -48,6 +51,9 @@ pub record Queues : Type 0 where
 
 abbrev pub queues_of : {A K N : Type 0} → sink.Ghosts K → sink.Ghosts N → Output A → K → N → Queues
 queues_of k n output writer notes = record { out = queue_of k output.out writer; notes = queue_of n output.notes notes }
+
+abbrev pub IsUnused : {A : Type 0} → Output A → Type 0
+IsUnused output = IsBlank output.out × IsBlank output.notes
 
 abbrev pub all_unused : Outs → Queues
 all_unused outs = record { out = unused outs.writer; notes = unused outs.notes }

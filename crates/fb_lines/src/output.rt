@@ -5,7 +5,7 @@ ghost use Rattle.fb_lines.specs.{AnswerText.label_text, Ends.outs_of, Sums.count
 ghost use Rattle.fb_lines.specs.Job.{HasRoom, brief_verdict, is_brief, verdict_of};
 ghost use Rattle.fb_lines.specs.Line.{IsLine, front_in, verdict_line};
 ghost use Rattle.fb_lines.specs.Lines.{AddsText};
-ghost use Rattle.fb_lines.specs.Puts.{AddsBy, AddsOr, AreOpen, AreSo, AreSound, PutsBoth, PutsSome, Tells, Waits, all_unused, queue_of, queues_of};
+ghost use Rattle.fb_lines.specs.Puts.{AddsBy, AddsOr, AreOpen, AreSo, AreSound, IsUnused, PutsBoth, PutsSome, Tells, Waits, all_unused, queue_of, queues_of};
 
 use crate::checker::{Checker, Course, Found, Wrong};
 use crate::counter::Counter;
@@ -38,10 +38,7 @@ pub struct Output<A: Allocator> {
 impl<'a, A: Allocator> Output<&'a A> {
     /// Nothing is told.
     pub fn new(alloc: &'a A) -> Self
-        ensures out { result.out.bytes.items ≡ [] }
-        ensures notes { result.notes.bytes.items ≡ [] }
-        ensures written { result.out.written ≡ record { bytes = 0; failed = false } }
-        ensures noted { result.notes.written ≡ record { bytes = 0; failed = false } }
+        ensures unused { IsUnused result }
         ensures counted { result.counter ≡ no_tally }
     {
         Output {

@@ -1,75 +1,119 @@
 -- What is told of a bare input, of which a front was written.
-use Rattle.std.proofs.Common.{◌≡◌, ◌∙◌, ℕ, ◌≤◌, List, Ok, Err, IfErr, OnOk, length, refl, subst}
-use Rattle.std.specs.Io.KnownBytes.{Appends, Consumes}
-use Rattle.std.proofs.KnownBytes.{Appends-trans, Keeps-refl}
-use Rattle.fb_lines.specs.Ends.{Ends, Outs, Reader, Takes, Writer, beside}
-use Rattle.fb_lines.specs.{Job.Job, Sums.no_tally}
-use Rattle.fb_lines.specs.Faults.{End, EndsBeside, IsCausedOut, IsCausedWriting, IsUnfailedOut}
-use Rattle.fb_run.specs.{Bare.FailsBare, Bare.PassesBare, Bare.WritesPart, Run.IsBareRun, Whole.ReadsWhole}
-use Rattle.fb_lines.specs.Texts.{Sizes, Texts, no_bytes, silent}
-use Rattle.fb_lines.proofs.BehindLemmas.{fronts_behind}
-use Rattle.fb_lines.specs.Lines.{AddsTold, AddsThrough, StopsBehind, WritesFronts}
-use Rattle.fb_lines.specs.declared.{tally.Tally.Tally, fault.RunFault.RunFault}
+use Rattle.std.proofs.Common.{◌≡◌, ◌∙◌, ℕ, ◌+◌, ◌-◌, List, [], Option, Some, None, Ok, Err, OnOk, ap, arith, length, length-append, refl, subst, sym}
+use mathlib.Core.Logic.{◌⊎◌, inl, inr}
+use Rattle.std.specs.Io.KnownBytes.{Appends, Keeps}
+use Rattle.std.proofs.KnownBytes.{Keeps-refl}
+use Rattle.std.proofs.lemmas.List.{append-nil, nil_from_length}
+use Rattle.fb_bytes.specs.declared.ends.Sink as sink
+use Rattle.fb_lines.specs.declared.output.Output.{Output}
+use Rattle.fb_lines.specs.Ends.{Outs, Reader, beside, outs_of}
+use Rattle.fb_lines.specs.{Job.Job, Job.Verdict, Line.IsLine, Line.ToldBy, Sums.count_of, Sums.no_tally}
+use Rattle.fb_lines.specs.Faults.{End, EndsBeside}
+use Rattle.fb_lines.specs.Lines.{WritesFront, WritesFronts}
+use Rattle.fb_lines.specs.Puts.{Adds, AddsBy, AreCut, AreSo, IsUnused, PutsBoth, Queues, all_unused, queues_of}
+use Rattle.fb_lines.specs.Texts.{Texts, no_bytes, silent}
+use Rattle.fb_lines.specs.declared.{tally.Tally.Tally, fault.RunFault.RunFault, options.Mode.Mode}
+use Rattle.fb_lines.specs.declared.options.Mode.TheVariants.{Lines, BadLines, Filter}
 use Rattle.fb_lines.specs.declared.fault.RunFault.TheVariants as run
-use Rattle.fb_run.proofs.{RunLemmas.caused_then, TextsLemmas.same_texts}
+use Rattle.fb_run.specs.{Bare.WritesPart, Pieces.AreEmpty, Run.IsBareRun, Whole.ReadsWhole}
+use Rattle.fb_run.proofs.{RunLemmas.caused_at, StreamLemmas.still, TakesLemmas.cut_caused, TakesLemmas.none_failed, TakesLemmas.outs_in}
+use Rattle.fb_run.proofs.TakesLemmas.{put_behind, put_front, takes_all, written_all}
 
-writes_part : (job : Job) (bytes : List ℕ) (before after : Outs) (text : Texts) (tally : Tally) (fault : RunFault) → AddsTold job 1 bytes silent no_tally text tally
-    → WritesFronts text before after no_bytes fault → WritesPart job bytes before after tally fault
-writes_part job bytes before after text tally fault adds front =
-    let whole : text ≡ adds.line = same_texts _ _ _ _ adds.out_is adds.notes_are in
-    record { verdict = adds.verdict; line = adds.line; is_line = adds.is_line; wrote = rw whole at front; tally_is = adds.tally_is }
+-- of an output that is unused nothing was put
+pub unused_queues : {A K N : Type 0} (k : sink.Ghosts K) (n : sink.Ghosts N) (output : Output A) (writer : K) (notes : N) → IsUnused output → queues_of k n output writer notes ≡ all_unused (outs_of k n writer notes)
+unused_queues k n output writer notes ((none, out), (no_notes, noted)) = rw (none, out, no_notes, noted) refl
 
-module _ (job : Job) (bytes : List ℕ) (before after : Ends) (read : Consumes before.reader.left after.reader.left bytes) (within : length bytes ≤ job.limit) where
-  -- the run came to rest in a write
-  fails_part : (text : Texts) (tally : Tally) (fault : RunFault) → AddsTold job 1 bytes silent no_tally text tally
-      → WritesFronts text before.outs after.outs no_bytes fault → FailsBare job before after tally fault
-  fails_part text tally (run.WriteFault written) adds front = (bytes, read, (within, writes_part job bytes before.outs after.outs text tally _ adds front))
-  fails_part text tally (run.NoteFault written) adds front = (bytes, read, (within, writes_part job bytes before.outs after.outs text tally _ adds front))
-  fails_part text tally _ adds never = absurd never
+-- behind nothing else
+pub begun : (job : Job) (bytes : List ℕ) (first : Outs) (before now : Queues) (tally tally' : Tally) (end : End) → before ≡ all_unused first → tally ≡ no_tally
+    → AddsBy job (1 + count_of tally) bytes before now tally tally' end → AddsBy job 1 bytes (all_unused first) now no_tally tally' end
+begun job bytes first before now tally tally' end unused counted adds =
+    subst (λ (q : Queues). AddsBy job 1 bytes q now no_tally tally' end) unused (subst (λ (t : Tally). AddsBy job (1 + count_of t) bytes before now t tally' end) counted adds)
 
-  -- what is told of it came through, and what waited then was written
-  passes_through : (text : Texts) (tally : Tally) (between : Writer) (written : ℕ)
-      → AddsThrough job 1 bytes silent no_tally text tally before.outs.writer.bytes between.bytes 0 written
-      → Takes (record { writer = between; notes = before.outs.notes }) after.outs text → PassesBare job before after tally
-  passes_through text tally between written through more =
-      let adds = through.adds in
-      record {
-        bytes = bytes;
-        read = read;
-        within = within;
-        verdict = adds.verdict;
-        line = adds.line;
-        is_line = adds.is_line;
-        takes = record {
-          wrote = subst (Appends before.outs.writer.bytes after.outs.writer.bytes) adds.out_is
-              (Appends-trans before.outs.writer.bytes between.bytes after.outs.writer.bytes through.front text.out through.wrote more.wrote);
-          noted = subst (Appends before.outs.notes.bytes after.outs.notes.bytes) adds.notes_are more.noted;
-        };
-        tally_is = adds.tally_is;
-      }
+-- what holds where it went well
+pub on_ok : {P : Type 0} (end : End) → OnOk end P → end ≡ Ok tt → P
+on_ok (Ok done) holds is = holds
+on_ok (Err fault) holds is = absurd cc
 
-module _ (job : Job) {bytes : List ℕ} {first last : Reader} (a : Outs) (writer : Writer) {tally : Tally} (turns : ℕ) (whole : ReadsWhole job.limit first last bytes) where
-  -- what is told of it came to rest
-  fails_told : (fault : RunFault) → StopsBehind job 1 bytes silent no_tally tally a.writer.bytes writer.bytes 0 fault → FailsBare job (beside first a) (beside last (record a { writer = writer })) tally fault
-  fails_told run.OutOfMemory (verdict, is, keeps, counted) = (bytes, whole.read, (whole.within, ((keeps, Keeps-refl a.notes.bytes), counted)))
-  fails_told (run.WriteFault written) (verdict, is, (line, told, front), counted) =
-      (bytes, whole.read, (whole.within, record { verdict = verdict; line = line; is_line = record { verdict_is = is; text = told }; wrote = (front, Keeps-refl a.notes.bytes); tally_is = counted }))
-  fails_told _ (verdict, is, never, counted) = absurd never
+-- what is told of one message goes to the writer alone, or to the notes
+alone : (mode : Mode) (P : List ℕ → Type 0) (message : List ℕ) (v : Verdict) (told : Texts) → ToldBy mode P message v told → (told.out ≡ []) ⊎ (told.notes ≡ [])
+alone Lines P message v told (line, is, there) = inr (rw there refl)
+alone BadLines P message (Ok found) told nothing = inr (rw nothing refl)
+alone BadLines P message (Err bad) told (line, is, there) = inr (rw there refl)
+alone Filter P message (Ok found) told passed = inr (rw passed refl)
+alone Filter P message (Err bad) told (line, is, there) = inl (rw there refl)
 
-  pub runs_stopped : (fault : RunFault) → StopsBehind job 1 bytes silent no_tally tally a.writer.bytes writer.bytes 0 fault → IsCausedWriting a.writer writer fault
-      → IsBareRun job (beside first a) (beside last (record a { writer = writer })) tally (Err fault) × EndsBeside (beside first a) (beside last (record a { writer = writer })) turns (Err fault)
-  runs_stopped fault stops cause = (fails_told fault stops, caused_then first.failures last.failures _ _ a a (record a { writer = writer }) fault whole.unfailed (refl, refl) (cause a.notes))
+-- where nothing came, nothing changed
+keeps_nil : (a b : Option (List ℕ)) → Appends a b [] → Keeps a b
+keeps_nil None b grown = tt
+keeps_nil (Some xs) None grown = grown
+keeps_nil (Some xs) (Some ys) grown = grown ∙ append-nil xs
 
-  -- it was told, and what waited was written
-  pub runs_told : {text : Texts} {written : Sizes} (z : Outs) (end : End) → AddsThrough job 1 bytes silent no_tally text tally a.writer.bytes writer.bytes 0 written.out → written.notes ≡ 0
-      → writer.failures ≡ a.writer.failures
-      → OnOk end (Takes (record a { writer = writer }) z text) → IfErr end (WritesFronts text (record a { writer = writer }) z written)
-      → OnOk end (IsUnfailedOut (record a { writer = writer }) z) → IfErr end (IsCausedOut (record a { writer = writer }) z)
-      → IsBareRun job (beside first a) (beside last z) tally end × EndsBeside (beside first a) (beside last z) turns end
-  runs_told {text} {written} z (Ok done) through noted same takes stops unfailed cause =
-      (passes_through job bytes (beside first a) (beside last z) whole.read whole.within text tally writer written.out through takes, ((whole.unfailed, unfailed.0 ∙ same, unfailed.1), whole.ended))
-  runs_told {text} {written} z (Err fault) through noted same takes stops unfailed cause = (
-    fails_part job bytes (beside first a) (beside last z) whole.read whole.within _ tally fault through.adds
-        (fronts_behind through.front text a z writer no_bytes written fault through.wrote through.written_is noted stops),
-    caused_then first.failures last.failures _ _ a (record a { writer = writer }) z fault whole.unfailed (same, refl) cause,
+module _ (job : Job) (bytes : List ℕ) (first : Outs) (now : Queues) (tally : Tally) (adds : Adds job 1 bytes (all_unused first) now no_tally tally) where
+  -- a write came to rest
+  fronts : (fault : RunFault) → AreCut now fault → WritesFronts adds.told first (outs_in now) no_bytes fault
+  fronts (run.WriteFault written) (cut, fine, is) =
+      let front = (put_front adds.told.out first.writer now.out cut adds.puts.0).0 in
+      let behind = (put_behind adds.told.notes first.notes now.notes fine adds.puts.1).0 in
+      let none : adds.told.notes ≡ [] = elim (alone job.mode (IsLine job 1 adds.verdict) bytes adds.verdict adds.told adds.is_told.text) [
+        | inl nothing ↦ absurd (omega (arith, front.within, ap length nothing))
+        | inr nothing ↦ nothing
+      ] in
+      let blank : behind.front ≡ [] = nil_from_length behind.front (omega (arith, ap length (sym behind.whole ∙ none), length-append behind.front now.notes.waits)) in (
+        subst (λ (n : ℕ). WritesFront adds.told.out first.writer.bytes now.out.writer.bytes 0 n) (sym is) front,
+        keeps_nil first.notes.bytes now.notes.writer.bytes (subst (Appends first.notes.bytes now.notes.writer.bytes) blank behind.wrote),
+      )
+  fronts (run.NoteFault written) (cut, fine, none, is) = (
+    written_all adds.told.out first.writer now.out fine none adds.puts.0,
+    subst (λ (n : ℕ). WritesFront adds.told.notes first.notes.bytes now.notes.writer.bytes 0 n) (sym is) (put_front adds.told.notes first.notes now.notes cut adds.puts.1).0,
   )
+  fronts _ never = absurd never
+
+  part : (fault : RunFault) → AreCut now fault → WritesPart job bytes first (outs_in now) tally fault
+  part fault cut = record { verdict = adds.verdict; line = adds.told; is_line = adds.is_told; wrote = fronts fault cut; tally_is = adds.tally_is }
+
+module _ (job : Job) {bytes : List ℕ} {begun last : Reader} (first : Outs) (tally : Tally) (turns : ℕ) (whole : ReadsWhole job.limit begun last bytes) where
+  abbrev IsRun : Queues → End → Type 0
+  IsRun now end = IsBareRun job (beside begun first) (beside last (outs_in now)) tally end × EndsBeside (beside begun first) (beside last (outs_in now)) turns end
+
+  -- a write failed
+  cut_run : (now : Queues) (fault : RunFault) → Adds job 1 bytes (all_unused first) now no_tally tally → AreCut now fault → IsRun now (Err fault)
+  cut_run now (run.WriteFault written) adds cut = (
+    (bytes, whole.read, (whole.within, part job bytes first now tally adds (run.WriteFault written) cut)),
+    caused_at begun.failures last.failures (begun.calls + turns - last.calls) last.ended first (outs_in now) (run.WriteFault written) whole.unfailed (cut_caused adds.told first now adds.puts (run.WriteFault written) cut),
+  )
+  cut_run now (run.NoteFault written) adds cut = (
+    (bytes, whole.read, (whole.within, part job bytes first now tally adds (run.NoteFault written) cut)),
+    caused_at begun.failures last.failures (begun.calls + turns - last.calls) last.ended first (outs_in now) (run.NoteFault written) whole.unfailed (cut_caused adds.told first now adds.puts (run.NoteFault written) cut),
+  )
+  cut_run now _ adds never = absurd never
+
+  -- it was not told to its end
+  pub bare_stops : (now : Queues) (fault : RunFault) → AddsBy job 1 bytes (all_unused first) now no_tally tally (Err fault) → IsRun now (Err fault)
+  bare_stops now run.OutOfMemory (same, counted) =
+      rw same ((bytes, whole.read, (whole.within, ((Keeps-refl first.writer.bytes, Keeps-refl first.notes.bytes), counted))), (whole.unfailed, refl, refl))
+  bare_stops now (run.WriteFault written) (adds, cut) = cut_run now (run.WriteFault written) adds cut
+  bare_stops now (run.NoteFault written) (adds, cut) = cut_run now (run.NoteFault written) adds cut
+  bare_stops now _ (adds, never) = absurd never
+
+  -- what waited was written
+  pub bare_ends : (mid now : Queues) (end : End) → AddsBy job 1 bytes (all_unused first) mid no_tally tally (Ok tt) → PutsBoth silent mid now → AreSo now end → (end ≡ Ok tt → AreEmpty now) → IsRun now end
+  bare_ends mid now end (adds, fine) none so empty =
+      let all : Adds job 1 bytes (all_unused first) now no_tally tally = record { verdict = adds.verdict; told = adds.told; is_told = adds.is_told; puts = still job first adds.told mid now adds.puts none; tally_is = adds.tally_is } in
+      by end all so empty
+    where
+      by : (e : End) → Adds job 1 bytes (all_unused first) now no_tally tally → AreSo now e → (e ≡ Ok tt → AreEmpty now) → IsRun now e
+      by (Ok done) all fine empty =
+          let unfailed = none_failed all.told first now all.puts fine in (
+            record {
+              bytes = bytes;
+              read = whole.read;
+              within = whole.within;
+              verdict = all.verdict;
+              line = all.told;
+              is_line = all.is_told;
+              takes = takes_all all.told first now all.puts fine (empty refl);
+              tally_is = all.tally_is;
+            },
+            ((whole.unfailed, unfailed.0, unfailed.1), whole.ended),
+          )
+      by (Err fault) all cut empty = cut_run now fault all cut

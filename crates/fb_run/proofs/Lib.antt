@@ -5,4 +5,3 @@ pub mod RunLemmas
 pub mod StreamLemmas
 pub mod TakesLemmas
 pub mod TextsLemmas
-pub mod ThroughLemmas

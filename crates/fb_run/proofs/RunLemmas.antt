@@ -1,117 +1,223 @@
 -- A run over a stream: what was read and written, and then one piece more.
-use Rattle.std.proofs.Common.{◌≡◌, ℕ, ◌+◌, ◌*◌, ◌≤◌, Bool, true, false, List, [], ◌++◌, take, drop, refl, sym, ap, subst, ◌∙◌, arith, append-nil, append_assoc, length, length-append, length-take-le, take-append-drop, Result, Ok, Err, IsErrAnd}
+use Rattle.std.proofs.Common.{◌≡◌, ℕ, ◌+◌, ◌-◌, ◌*◌, ◌<◌, ◌≤◌, Bool, true, false, List, [], ◌++◌, length, take, drop, refl, sym, ap, subst, ◌∙◌, arith, append-nil, length-take-le, take-append-drop, Result, Ok, Err, IsErrAnd}
 use Rattle.std.specs.Io.KnownBytes.{Consumes}
-use Rattle.std.proofs.KnownBytes.{Consumes-nil, Appends-kept, Appends-trans, Keeps-refl}
-use mathlib.Core.Logic.{inr}
-use Rattle.fb_lines.specs.{Ends.Ends, Ends.Outs, Ends.Reader, Ends.Takes, Job.Job, Sums.count_of, Sums.no_tally, Lines.WritesFronts}
+use Rattle.std.proofs.KnownBytes.{Consumes-nil, Consumes-trans, Keeps-refl}
+use mathlib.Core.Logic.{inl, inr}
+use Rattle.fb_bytes.specs.Messages.{IsPartial}
+use Rattle.fb_bytes.specs.declared.stream_fault.StreamFault.TheVariants as stream
+use Rattle.fb_lines.specs.{Ends.Ends, Ends.Outs, Ends.Reader, Ends.Takes, Ends.beside, Job.Job, Lines.AreTold, Sums.count_of, Sums.no_tally}
 use Rattle.fb_lines.specs.Faults.{End, EndsBeside, IsCaused, IsCausedOut, IsUnfailedOut, end_of, failed}
-use Rattle.fb_run.specs.{Leave.IsUnended, Run.answer_by, Run.IsRunBeside, Run.IsRunFrom, Run.Runs}
-use Rattle.fb_lines.specs.Texts.{IsCounted, Sizes, Texts, followed, no_bytes, silent, to_notes}
-use Rattle.fb_run.specs.Stream.{FailsStream, IsReady, Standing, Tells, TellsSome, WhyStream, Writes, at_first}
-use Rattle.fb_run.specs.Pieces.{Carry}
-use Rattle.fb_lines.specs.declared.fault.RunFault.{RunFault}
+use Rattle.fb_lines.specs.Puts.{AreOpen, Queues, all_unused}
+use Rattle.fb_lines.specs.Texts.{Texts, followed, silent, to_notes}
+use Rattle.fb_lines.specs.declared.{fault.RunFault.RunFault, tally.Tally.Tally}
 use Rattle.fb_lines.specs.declared.fault.RunFault.TheVariants as run
-use Rattle.fb_lines.specs.declared.tally.Tally.{Tally}
+use Rattle.fb_run.specs.{Leave.IsUnended, Prompt.IsPrompt, Prompt.IsPromptFrom, Prompt.IsStreamPrompt, Run.answer_by, Run.IsRunBeside, Run.IsRunFrom, Run.Runs}
+use Rattle.fb_run.specs.Stream.{FailsStream}
+use Rattle.fb_run.specs.Pieces.{AreEmpty, AreSettled, Carry, GoesOn, Halts, IsReady, Stands, WritesBy}
 use Rattle.fb_run.specs.declared.run.Ran.{Ran}
-use Rattle.fb_lines.proofs.BehindLemmas.{both_counted}
-use Rattle.fb_run.proofs.{StreamLemmas.rests_memory, StreamLemmas.tells_nothing, TakesLemmas.takes_nothing, TakesLemmas.writes_nothing}
-use Rattle.fb_run.proofs.TextsLemmas.{followed_silent, same_texts}
+use Rattle.fb_lines.proofs.Splitting.{empty_partial, splits_rest}
+use Rattle.fb_run.proofs.StreamLemmas.{stands_first}
+use Rattle.fb_run.proofs.TakesLemmas.{cut_caused, none_failed, outs_in, put_behind, put_front, takes_all, takes_none, written_all}
+use Rattle.fb_run.proofs.TextsLemmas.{same_texts}
 
--- what was read from the reader, written to the writer and noted so far, where nothing waits
-pub record Sofar (job : Job) (first now : Reader) (before here : Carry) (turns left : ℕ) : Type 0 where
+-- what was read from the reader so far, of which all that is told is written
+pub record Sofar (job : Job) (first now : Reader) (before : Outs) (here : Carry) (turns left : ℕ) : Type 0 where
   pub bytes : List ℕ
-  pub text : Texts
   pub read : Consumes first.left now.left bytes
-  pub writes : Writes text before.outs here.outs no_bytes here.stand.written
-  pub told : Tells job bytes text here.stand.tally here.stand.held
+  pub stands : Stands job before bytes here
   pub ready : IsReady job here.framer here.room
-  pub empty : here.stand.text ≡ silent
+  pub unfailed : AreOpen here.queues
+  pub empty : AreEmpty here.queues
   pub fewer : left ≤ turns
   pub calls : now.calls + left ≡ first.calls + turns
-  pub few : count_of here.stand.tally + 65537 * left ≤ 65537 * turns
+  pub few : count_of here.tally + 65536 * left ≤ 65536 * turns
   pub asks : IsUnended first now
-  pub unfailed : IsUnfailedOut before.outs here.outs
 
 -- nothing was told
-pub sofar_nothing : (job : Job) (reader : Reader) (carry : Carry) (turns : ℕ) → IsReady job carry.framer carry.room → carry.stand ≡ at_first → Sofar job reader reader carry carry turns turns
-sofar_nothing job reader carry turns ready is = record {
+pub sofar_nothing : (job : Job) (reader : Reader) (outs : Outs) (here : Carry) (turns : ℕ) → IsReady job here.framer here.room → here.queues ≡ all_unused outs → here.tally ≡ no_tally → here.framer.held ≡ []
+    → Sofar job reader reader outs here turns turns
+sofar_nothing job reader outs here turns ready unused counted none = record {
   bytes = [];
-  text = silent;
   read = Consumes-nil reader.left;
-  writes = subst (λ (s : Standing). Writes silent carry.outs carry.outs no_bytes s.written) (sym is) (writes_nothing carry.outs no_bytes);
-  told = subst (λ (s : Standing). Tells job [] silent s.tally s.held) (sym is) (tells_nothing job);
+  stands = stands_first job outs here unused counted none;
   ready = ready;
-  empty = ap (λ (s : Standing). s.text) is;
+  unfailed = rw unused (refl, refl);
+  empty = rw unused (refl, refl);
   fewer = omega arith;
   calls = omega arith;
-  few = omega (arith, ap (λ (s : Standing). count_of s.tally) is);
+  few = omega (arith, ap count_of counted);
   asks = (refl, inr (refl, refl));
-  unfailed = (refl, refl);
 }
 
--- nothing was read or written, and then there was no memory
-fails_empty : (job : Job) (ends : Ends) → FailsStream job ends ends no_tally run.OutOfMemory
-fails_empty job ends = record { bytes = []; text = silent; read = Consumes-nil ends.reader.left; takes = takes_nothing ends.outs; rests = rests_memory job no_tally [] [] [] silent (tells_nothing job) }
+-- a write failed behind a front of what is told of these bytes, or the run came to rest with all of that written
+halts_fails : (job : Job) (first reader : Reader) (before : Outs) (bytes : List ℕ) (tally : Tally) (queues : Queues) (fault : RunFault) → Consumes first.left reader.left bytes
+    → Halts job before bytes tally queues fault → AreSettled queues fault → FailsStream job (beside first before) (beside reader (outs_in queues)) tally fault
+halts_fails job first reader before bytes tally queues (run.WriteFault written) read (some, (cut, fine, is)) settled =
+    let front = (put_front some.text.out before.writer queues.out cut some.puts.0).0 in
+    let notes = (put_behind some.text.notes before.notes queues.notes fine some.puts.1).0 in
+    let gone : Texts = record { out = take front.taken some.text.out; notes = notes.front } in
+    let more : Texts = record { out = drop front.taken some.text.out; notes = queues.notes.waits } in
+    let whole : some.text ≡ followed gone more = same_texts _ _ _ _ (sym (take-append-drop front.taken some.text.out)) notes.whole in
+    let long : length gone.out ≡ front.taken = length-take-le front.taken some.text.out (omega (arith, front.within)) in
+    record {
+      bytes = bytes;
+      text = gone;
+      read = read;
+      takes = record { wrote = front.wrote; noted = notes.wrote };
+      rests = (
+        some.done ++ some.left,
+        some.rest,
+        some.splits,
+        (
+          λ few. omega (arith, is, long, front.written_is (omega (arith, few, long))),
+          (
+            more,
+            (
+              some.done ++ some.left,
+              some.rest,
+              some.done,
+              some.left,
+              some.splits,
+              refl,
+              subst (λ (t : Texts). AreTold job 1 some.done t tally) whole some.told,
+            ),
+          ),
+        ),
+      );
+    }
+halts_fails job first reader before bytes tally queues (run.NoteFault written) read (some, (cut, fine, none, is)) settled =
+    let front = (put_front some.text.notes before.notes queues.notes cut some.puts.1).0 in
+    let gone : Texts = record { out = some.text.out; notes = take front.taken some.text.notes } in
+    let more = drop front.taken some.text.notes in
+    let whole : some.text ≡ followed gone (to_notes more) = same_texts _ _ _ _ (sym (append-nil some.text.out)) (sym (take-append-drop front.taken some.text.notes)) in
+    let long : length gone.notes ≡ front.taken = length-take-le front.taken some.text.notes (omega (arith, front.within)) in
+    record {
+      bytes = bytes;
+      text = gone;
+      read = read;
+      takes = record { wrote = written_all some.text.out before.writer queues.out fine none some.puts.0; noted = front.wrote };
+      rests = (
+        some.done ++ some.left,
+        some.rest,
+        some.splits,
+        (
+          λ few. omega (arith, is, long, front.written_is (omega (arith, few, long))),
+          (
+            more,
+            (
+              some.done ++ some.left,
+              some.rest,
+              some.done,
+              some.left,
+              some.splits,
+              refl,
+              subst (λ (t : Texts). AreTold job 1 some.done t tally) whole some.told,
+            ),
+          ),
+        ),
+      );
+    }
+halts_fails job first reader before bytes tally queues run.OutOfMemory read (some, fine) empty = record {
+  bytes = bytes;
+  text = some.text;
+  read = read;
+  takes = takes_all some.text before queues some.puts fine empty;
+  rests = (some.done ++ some.left, some.rest, some.splits, (some.done ++ some.left, some.rest, some.done, some.left, some.splits, refl, some.told));
+}
+halts_fails job first reader before bytes tally queues (run.Stream (stream.Oversize number)) read (some, (fine, none, over, is)) empty = record {
+  bytes = bytes;
+  text = some.text;
+  read = read;
+  takes = takes_all some.text before queues some.puts fine empty;
+  rests = (some.done, some.rest, rw (none, append-nil some.done) at some.splits, (over, is, some.told));
+}
+halts_fails job first reader before bytes tally queues _ read (some, never) settled = absurd never
 
--- with nothing that waits, what was told is all that was written
-pub told_empty : (job : Job) (stand : Standing) (bytes : List ℕ) (text : Texts) → stand.text ≡ silent → Tells job bytes text stand.tally stand.held
-    → Tells job bytes (followed text stand.text) stand.tally stand.held
-told_empty job stand bytes text none tells =
-    subst (λ (t : Texts). Tells job bytes t stand.tally stand.held) (sym (ap (λ t. followed text t) none ∙ followed_silent text)) tells
+halts_caused : (job : Job) (before : Outs) (bytes : List ℕ) (tally : Tally) (queues : Queues) (fault : RunFault) → Halts job before bytes tally queues fault → IsCausedOut before (outs_in queues) fault
+halts_caused job before bytes tally queues (run.WriteFault written) (some, cut) reads left ended = cut_caused some.text before queues some.puts (run.WriteFault written) cut reads left ended
+halts_caused job before bytes tally queues (run.NoteFault written) (some, cut) reads left ended = cut_caused some.text before queues some.puts (run.NoteFault written) cut reads left ended
+halts_caused job before bytes tally queues run.OutOfMemory (some, fine) reads left ended =
+    let none = none_failed some.text before queues some.puts fine in (refl, none.0, none.1)
+halts_caused job before bytes tally queues (run.Stream (stream.Oversize number)) (some, (fine, none, over, is)) reads left ended =
+    let kept = none_failed some.text before queues some.puts fine in (refl, kept.0, kept.1)
+halts_caused job before bytes tally queues _ (some, never) reads left ended = absurd never
 
--- a text with the front of more behind it, and then the rest
-front_of : (text more : List ℕ) (taken : ℕ) → text ++ more ≡ (text ++ take taken more) ++ drop taken more
-front_of text more taken = ap (λ l. text ++ l) (sym (take-append-drop taken more)) ∙ sym (append_assoc text (take taken more) (drop taken more))
+-- the cause of a fault of the writer and the notes is that of the run, where no read failed
+pub caused_at : (reads reads' left : ℕ) (ended : Bool) (a b : Outs) (fault : RunFault) → reads' ≡ reads → IsCausedOut a b fault → IsCaused (failed reads a) (failed reads' b) left ended fault
+caused_at reads reads' left ended a b fault same caused = rw same (caused reads left ended)
 
-from_none : {many count : ℕ} → IsCounted (0 + many) count → IsCounted many count
-from_none right few = omega (arith, right (omega (arith, few)))
+module _ {job : Job} {first now : Reader} {before : Outs} {here : Carry} {turns left : ℕ} (sofar : Sofar job first now before here turns left) where
+  none : IsUnfailedOut before (outs_in here.queues)
+  none = none_failed sofar.stands.text before here.queues sofar.stands.puts sofar.unfailed
 
--- of what is told of these bytes this was written and noted, and then came a fault that it accounts for
-fails_at : (job : Job) (bytes : List ℕ) (told gone : Texts) (tally : Tally) (first now : Ends) (fault : RunFault) → Consumes first.reader.left now.reader.left bytes → Takes first.outs now.outs gone
-    → (some : TellsSome job bytes told tally) → WhyStream job bytes some.0 some.1 gone tally fault → FailsStream job first now tally fault
-fails_at job bytes told gone tally first now fault read takes some why = record { bytes = bytes; text = gone; read = read; takes = takes; rests = (some.0, some.1, some.4, why) }
+  takes : Takes before (outs_in here.queues) sofar.stands.text
+  takes = takes_all sofar.stands.text before here.queues sofar.stands.puts sofar.unfailed sofar.empty
 
--- of what is told of these bytes a front was written and noted whole, and the writer or the notes failed behind it
-pub fails_write : (job : Job) (bytes : List ℕ) (gone waits : Texts) (tally : Tally) (first now : Ends) (between : Outs) (written : Sizes) (fault : RunFault)
-    → Consumes first.reader.left now.reader.left bytes → Writes gone first.outs between no_bytes written
-    → TellsSome job bytes (followed gone waits) tally → WritesFronts waits between now.outs written fault → FailsStream job first now tally fault
-fails_write job bytes gone waits tally first now between written (run.WriteFault count) read writes some (front, keeps) =
-    let rest : Texts = record { out = drop front.taken waits.out; notes = waits.notes } in
-    let all : Texts = record { out = gone.out ++ take front.taken waits.out; notes = gone.notes } in
-    let whole : followed gone waits ≡ followed all rest = same_texts _ _ _ _ (front_of gone.out waits.out front.taken) refl in
-    let takes : Takes first.outs now.outs all = record {
-      wrote = Appends-trans first.outs.writer.bytes between.writer.bytes now.outs.writer.bytes gone.out (take front.taken waits.out) writes.takes.wrote front.wrote;
-      noted = Appends-kept first.outs.notes.bytes between.notes.bytes now.outs.notes.bytes gone.notes writes.takes.noted keeps;
-    } in
-    fails_at job bytes (followed gone waits) all tally first now (run.WriteFault count) read takes some (
-      from_none (both_counted 0 _ _ (length gone.out) front.taken _ (length-append gone.out (take front.taken waits.out) ∙ ap (λ k. length gone.out + k) (length-take-le front.taken waits.out front.within)) writes.written_is front.written_is),
-      (rest, subst (λ (t : Texts). TellsSome job bytes t tally) whole some),
-    )
-fails_write job bytes gone waits tally first now between written (run.NoteFault count) read writes some (more, front) =
-    let rest = drop front.taken waits.notes in
-    let all : Texts = record { out = gone.out ++ waits.out; notes = gone.notes ++ take front.taken waits.notes } in
-    let whole : followed gone waits ≡ followed all (to_notes rest) =
-    same_texts _ _ _ _ (sym (append-nil (gone.out ++ waits.out))) (front_of gone.notes waits.notes front.taken) in
-    let takes : Takes first.outs now.outs all = record {
-      wrote = Appends-trans first.outs.writer.bytes between.writer.bytes now.outs.writer.bytes gone.out waits.out writes.takes.wrote more;
-      noted = Appends-trans first.outs.notes.bytes between.notes.bytes now.outs.notes.bytes gone.notes (take front.taken waits.notes) writes.takes.noted front.wrote;
-    } in
-    fails_at job bytes (followed gone waits) all tally first now (run.NoteFault count) read takes some (
-      from_none (both_counted 0 _ _ (length gone.notes) front.taken _ (length-append gone.notes (take front.taken waits.notes) ∙ ap (λ k. length gone.notes + k) (length-take-le front.taken waits.notes front.within)) writes.noted_is front.written_is),
-      (rest, subst (λ (t : Texts). TellsSome job bytes t tally) whole some),
-    )
-fails_write job bytes gone waits tally first now between written _ read writes some never = absurd never
+  part : IsPartial job.limit here.framer.held
+  part = subst (λ (n : ℕ). IsPartial n here.framer.held) sofar.ready.limit sofar.ready.part
 
--- where no call failed before, the cause of a fault of the writer and the notes is that of the run
-pub caused_then : (reads reads' left : ℕ) (ended : Bool) (a b c : Outs) (fault : RunFault) → reads' ≡ reads → IsUnfailedOut a b
-    → IsCausedOut b c fault → IsCaused (failed reads a) (failed reads' c) left ended fault
-caused_then reads reads' left ended a b c fault sr (sw, sn) caused = rw (sr, ← sw, ← sn) (caused reads left ended)
+  -- all that was read is told
+  pub sofar_prompt : IsStreamPrompt job (beside first before) (beside now (outs_in here.queues))
+  sofar_prompt = record {
+    bytes = sofar.bytes;
+    messages = sofar.stands.messages;
+    rest = here.framer.held;
+    text = sofar.stands.text;
+    read = sofar.read;
+    splits = sofar.stands.splits;
+    partial = part;
+    told = (here.tally, sofar.stands.told);
+    takes = takes;
+  }
+
+  -- a piece was read and passed
+  module _ (k : ℕ) (piece : List ℕ) (reader : Reader) (some : 0 < left) (read : Consumes now.left reader.left (take k piece)) (called : reader.calls ≡ now.calls + 1) (same : reader.failures ≡ now.failures) where
+    reads : Consumes first.left reader.left (sofar.bytes ++ take k piece)
+    reads = Consumes-trans first.left now.left reader.left sofar.bytes (take k piece) sofar.read read
+
+    pub sofar_piece : {after : Carry} → length piece ≡ 65536 → k ≤ length piece → reader.ended ≡ false → GoesOn job (take k piece) here after × AreEmpty after.queues
+        → Sofar job first reader before after turns (left - 1)
+    sofar_piece {after} long fits unended (goes, empty) =
+        let short = length-take-le k piece fits in
+        record {
+          bytes = sofar.bytes ++ take k piece;
+          read = reads;
+          stands = goes.onward before sofar.bytes sofar.stands;
+          ready = goes.ready;
+          unfailed = goes.unfailed;
+          empty = empty;
+          fewer = omega (arith, sofar.fewer);
+          calls = omega (arith, some, called, sofar.calls);
+          few = omega (arith, some, long, fits, short, goes.few, sofar.few);
+          asks = (same ∙ sofar.asks.0, inl unended);
+        }
+
+    -- or the run came to rest in it
+    pub fails_piece : (after : Carry) (fault : RunFault) → WritesBy job (take k piece) here after (Err fault)
+        → Runs false job (beside first before) (beside reader (outs_in after.queues)) turns after.tally (Err fault)
+    fails_piece after fault (stops, settled) =
+        let halts = stops before sofar.bytes sofar.stands in
+        record {
+          run = halts_fails job first reader before (sofar.bytes ++ take k piece) after.tally after.queues fault reads halts settled;
+          end_is = caused_at first.failures reader.failures _ _ before (outs_in after.queues) fault (same ∙ sofar.asks.0) (halts_caused job before (sofar.bytes ++ take k piece) after.tally after.queues fault halts);
+          turns_are = omega (arith, some, called, sofar.calls);
+        }
+
+-- over a stream that is all a run is asked for
+pub prompt_from : {job : Job} {before now : Ends} → job.bare ≡ false → IsStreamPrompt job before now → IsPrompt job before now
+prompt_from {job} {before} {now} is prompt = subst (λ b. IsPromptFrom b job before now) (sym is) prompt
 
 -- without memory nothing is read or written, whatever the input is
 none_from : (from : Bool) (job : Job) (ends : Ends) → IsRunFrom from job ends ends no_tally (Err run.OutOfMemory)
 none_from true job ends =
     ([], Consumes-nil ends.reader.left, (omega arith, ((Keeps-refl ends.outs.writer.bytes, Keeps-refl ends.outs.notes.bytes), refl)))
-none_from false job ends = fails_empty job ends
+none_from false job ends = record {
+  bytes = [];
+  text = silent;
+  read = Consumes-nil ends.reader.left;
+  takes = takes_none ends.outs ends.outs (Keeps-refl ends.outs.writer.bytes, Keeps-refl ends.outs.notes.bytes);
+  rests = ([], [], splits_rest job.limit [] (inl (empty_partial job.limit)), ([], [], [], [], splits_rest job.limit [] (inl (empty_partial job.limit)), refl, (refl, refl)));
+}
 
 pub runs_none : (job : Job) (ends : Ends) (ran : Ran) → ran ≡ record { tally = no_tally; end = Err run.OutOfMemory } → IsRunBeside job ends ends ran.tally ran.end
 runs_none job ends ran is = subst (λ (t : Ran). IsRunBeside job ends ends t.tally t.end) (sym is) (none_from job.bare job ends)

@@ -1,180 +1,240 @@
 -- What was read and told, and then more of the stream.
-use Rattle.std.proofs.Common.{◌≡◌, ℕ, ◌+◌, ◌-◌, Bool, List, [], ◌∷◌, ◌++◌, length, take, drop, refl, sym, ap, subst, ◌∙◌, arith, Result, Ok, Err, ◌<◌, ◌≤◌, append-nil, append_assoc, length-append, take-append-drop}
+use Rattle.std.proofs.Common.{◌≡◌, ℕ, ◌+◌, Bool, true≢false, List, [], ◌∷◌, ◌++◌, take, drop, refl, sym, ap, subst, ◌∙◌, arith, Result, Ok, Err, append-nil, append_assoc, length-append}
 use mathlib.Core.Logic.{inl, inr}
-use Rattle.std.proofs.{Math.Seq.take-append_seam, lemmas.List.length-drop}
-use Rattle.fb_bytes.specs.Messages.{declared, IsMessage, IsOversize, IsPartial, Splits}
+use Rattle.fb_bytes.specs.Messages.{IsMessage, IsOversize, IsPartial, Splits}
 use Rattle.fb_bytes.specs.Framing.{Framing, Feeds, FeedFails}
 use Rattle.fb_bytes.specs.declared.stream_fault.StreamFault.{StreamFault}
 use Rattle.fb_bytes.specs.declared.stream_fault.StreamFault.TheVariants as stream
 use Rattle.fb_bytes.proofs.MessageLemmas.{readings_some}
-use Rattle.fb_lines.specs.{Job.Beside, Job.HasRoom, Job.Job, Lines.AreTold, Lines.AddsTold, Texts.Sizes, Texts.Texts, Texts.followed, Texts.silent, Sums.count_of, Sums.no_tally, Faults.feed_fault}
-use Rattle.fb_run.specs.Stream.{Gathers, Halts, IsFeedFault, IsReady, Onward, Rests, Standing, Tells, TellsSome}
-use Rattle.fb_run.specs.Pieces.{StopsUsing, Uses, UsesBy}
+use Rattle.fb_lines.specs.{Ends.Outs, Faults.feed_fault, Job.Beside, Job.HasRoom, Job.Job, Texts.Texts, Texts.followed, Texts.silent, Sums.no_tally}
+use Rattle.fb_lines.specs.Puts.{Adds, AddsBy, AreCut, AreOpen, AreSound, PutsBoth, Queues, all_unused, unused}
+use Rattle.fb_run.specs.Pieces.{AreEmpty, AreSettled, Carry, Gathers, GoesOn, Halts, IsReady, Passes, PassesAllBy, Stands, Stops, WritesBy}
 use Rattle.fb_lines.specs.declared.{tally.Tally.Tally, fault.RunFault.RunFault}
 use Rattle.fb_lines.specs.declared.fault.RunFault.TheVariants as run
 use Rattle.fb_lines.proofs.{Pieces.front-more, Splitting.empty_partial, Splitting.splits_one, Splitting.splits_rest, Splitting.splits_then}
-use Rattle.fb_run.proofs.{LinesLemmas.lines_more, TextsLemmas.followed_assoc, TextsLemmas.same_texts}
+use Rattle.fb_lines.proofs.PutsLemmas.{puts_none, puts_still, puts_then, was_unfailed}
+use Rattle.fb_run.proofs.LinesLemmas.{lines_more}
 
-pub tells_nothing : (job : Job) → Tells job [] silent no_tally []
-tells_nothing job = ([], splits_rest job.limit [] (inl (empty_partial job.limit)), (refl, refl))
+module _ (job : Job) (first : Outs) where
+  -- nothing was read
+  pub stands_first : (now : Carry) → now.queues ≡ all_unused first → now.tally ≡ no_tally → now.framer.held ≡ [] → Stands job first [] now
+  stands_first now unused counted none = record {
+    messages = [];
+    text = silent;
+    splits = rw none (splits_rest job.limit [] (inl (empty_partial job.limit)));
+    told = rw counted (refl, refl);
+    puts = subst (PutsBoth silent (all_unused first)) (sym unused) (puts_none (all_unused first).out, puts_none (all_unused first).notes);
+  }
 
--- a message was whole and got its line
-pub tells_line : (job : Job) (tally tally' : Tally) (bytes more held message : List ℕ) (text text' : Texts) → message ≡ held ++ more → IsMessage job.limit message
-    → AddsTold job (1 + (tally.yes + tally.no)) message text tally text' tally' → (written : Texts)
-    → Tells job bytes (followed written text) tally held → Tells job (bytes ++ more) (followed written text') tally' []
-tells_line job tally tally' bytes more held message text text' at is adds written (xs, splits, lines) =
-    let one : Splits job.limit (held ++ more) (message ∷ []) [] = rw (← at) (splits_one job.limit message is) in
-    let whole : text' ≡ followed text adds.line = same_texts _ _ _ _ adds.out_is adds.notes_are in
-    let grown : followed (followed written text) adds.line ≡ followed written text' = followed_assoc written text adds.line ∙ ap (λ l. followed written l) (sym whole) in (
-      xs ++ message ∷ [],
-      splits_then job.limit bytes more held [] xs (message ∷ []) splits one,
-      subst (λ (l : Texts). AreTold job 1 (xs ++ message ∷ []) l tally') grown
-          (lines_more job xs message (followed written text) adds.line tally tally' adds.verdict adds.tally_is lines adds.is_line),
-    )
+  -- a message was whole, and what is told of it was put
+  pub message_stands : (bytes more message : List ℕ) (before after : Carry) → message ≡ before.framer.held ++ more → IsMessage job.limit message → after.framer.held ≡ []
+      → Adds job (1 + (before.tally.yes + before.tally.no)) message before.queues after.queues before.tally after.tally → Stands job first bytes before → Stands job first (bytes ++ more) after
+  message_stands bytes more message before after at is gone adds stands =
+      let one : Splits job.limit (before.framer.held ++ more) (message ∷ []) [] = rw (← at) (splits_one job.limit message is) in
+      record {
+        messages = stands.messages ++ message ∷ [];
+        text = followed stands.text adds.told;
+        splits = rw gone (splits_then job.limit bytes more before.framer.held [] stands.messages (message ∷ []) stands.splits one);
+        told = lines_more job stands.messages message stands.text adds.told before.tally after.tally adds.verdict adds.tally_is stands.told adds.is_told;
+        puts = (
+          puts_then stands.text.out adds.told.out (unused first.writer) before.queues.out after.queues.out stands.puts.0 adds.puts.0,
+          puts_then stands.text.notes adds.told.notes (unused first.notes) before.queues.notes after.queues.notes stands.puts.1 adds.puts.1,
+        );
+      }
 
--- what was told is that of the first messages, whatever comes
-pub tells_some : (job : Job) (tally : Tally) (bytes more held : List ℕ) (text : Texts) → Tells job bytes text tally held → TellsSome job (bytes ++ more) text tally
-tells_some job tally bytes more held text (xs, splits, lines) =
-    let further = readings_some job.limit (held ++ more) in
-    (xs ++ further.0, further.1, xs, further.0, splits_then job.limit bytes more held further.1 xs further.0 splits further.2, refl, lines)
+  -- or more of a part is held
+  pub held_stands : (bytes piece : List ℕ) (used : ℕ) (whole : Bool) (before : Carry) (framer : Framing) → before.framer.limit ≡ job.limit → Feeds before.framer framer piece used whole
+      → IsPartial framer.limit framer.held → Stands job first bytes before → Stands job first (bytes ++ take used piece) (record before { framer = framer })
+  held_stands bytes piece used whole before framer limit feeds part stands =
+      let one : Splits job.limit (before.framer.held ++ take used piece) [] framer.held =
+      subst (λ (l : List ℕ). Splits job.limit l [] framer.held) feeds.held
+      (splits_rest job.limit framer.held (inl (subst (λ (n : ℕ). IsPartial n framer.held) (feeds.limit ∙ limit) part))) in
+      record {
+        messages = stands.messages;
+        text = stands.text;
+        splits = rw (append-nil stands.messages) at (splits_then job.limit bytes (take used piece) before.framer.held framer.held stands.messages [] stands.splits one);
+        told = stands.told;
+        puts = stands.puts;
+      }
 
--- no memory was left
-pub rests_memory : (job : Job) (tally : Tally) (bytes more held : List ℕ) (text : Texts) → Tells job bytes text tally held → Rests job (bytes ++ more) text tally run.OutOfMemory
-rests_memory job tally bytes more held text tells =
-    let some = tells_some job tally bytes more held text tells in
-    (some.0, some.1, some.4, some)
+  -- what was told is that of the first messages, whatever comes
+  gathers_more : (bytes more : List ℕ) (now : Carry) → Stands job first bytes now → Gathers job first (bytes ++ more) now.tally now.queues
+  gathers_more bytes more now stands =
+      let further = readings_some job.limit (now.framer.held ++ more) in
+      record {
+        done = stands.messages;
+        left = further.0;
+        rest = further.1;
+        text = stands.text;
+        splits = splits_then job.limit bytes more now.framer.held further.1 stands.messages further.0 stands.splits further.2;
+        told = stands.told;
+        puts = stands.puts;
+      }
 
--- the framer failed at a piece
-pub feed_stops : (job : Job) (before : Standing) (old new : Framing) (piece : List ℕ) (fault : StreamFault) → old.limit ≡ job.limit → old.held ≡ before.held
-    → FeedFails old new piece fault → Halts job before piece before.text before.tally (feed_fault fault) × IsFeedFault (feed_fault fault)
-feed_stops job before old new piece (stream.Oversize number) limit held refused =
-    let over : IsOversize job.limit (before.held ++ piece) = rw (limit, held) at refused.oversize in (
-      λ bytes written tells.
-          let (xs, splits, lines) = tells in
-          let whole : Splits job.limit (bytes ++ piece) xs (before.held ++ piece) =
-          rw (append-nil xs) at (splits_then job.limit bytes piece before.held (before.held ++ piece) xs [] splits (splits_rest job.limit (before.held ++ piece) (inr over))) in
-          (xs, before.held ++ piece, whole, (over, refused.number ∙ ap (λ l. declared (l ++ piece)) held, lines)),
-      tt,
-    )
-feed_stops job before old new piece stream.OutOfMemory limit held starved =
-    (λ bytes written tells. rests_memory job before.tally bytes piece before.held (followed written before.text) tells, tt)
-feed_stops job before old new piece _ limit held never = absurd never
+  -- the framer failed at a piece
+  pub feed_halts : (bytes piece : List ℕ) (before : Carry) (framer : Framing) (fault : StreamFault) → before.framer.limit ≡ job.limit → AreOpen before.queues → FeedFails before.framer framer piece fault
+      → Stands job first bytes before → Halts job first (bytes ++ piece) before.tally before.queues (feed_fault fault)
+  feed_halts bytes piece before framer (stream.Oversize number) limit fine refused stands =
+      let held = before.framer.held in
+      let over : IsOversize job.limit (held ++ piece) = rw limit at refused.oversize in (
+        record {
+          done = stands.messages;
+          left = [];
+          rest = held ++ piece;
+          text = stands.text;
+          splits = splits_then job.limit bytes piece held (held ++ piece) stands.messages [] stands.splits (splits_rest job.limit (held ++ piece) (inr over));
+          told = stands.told;
+          puts = stands.puts;
+        },
+        (fine, refl, over, refused.number),
+      )
+  feed_halts bytes piece before framer stream.OutOfMemory limit fine starved stands = (gathers_more bytes piece before stands, fine)
+  feed_halts bytes piece before framer _ limit fine never stands = absurd never
 
--- there was no memory for a line
-pub halts_memory : (job : Job) (before : Standing) (piece : List ℕ) (text : Texts) (tally : Tally) → text ≡ before.text → tally ≡ before.tally → Halts job before piece text tally run.OutOfMemory
-halts_memory job before piece text tally same counted bytes written tells =
-    rw (same, counted) (rests_memory job before.tally bytes piece before.held (followed written before.text) tells)
+  -- a message was whole at the front of a piece, and a write failed or there was no memory
+  pub add_halts : (bytes front tail piece message : List ℕ) (before : Carry) (queues : Queues) (tally : Tally) (fault : RunFault) → piece ≡ front ++ tail → message ≡ before.framer.held ++ front
+      → IsMessage job.limit message → AreOpen before.queues
+      → AddsBy job (1 + (before.tally.yes + before.tally.no)) message before.queues queues before.tally tally (Err fault) → Stands job first bytes before → Halts job first (bytes ++ piece) tally queues fault
+  add_halts bytes front tail piece message before queues tally fault whole at is fine adds stands = by fault adds
+    where
+      come : Adds job (1 + (before.tally.yes + before.tally.no)) message before.queues queues before.tally tally → Gathers job first (bytes ++ piece) tally queues
+      come one =
+          let after : Carry = record before { tally = tally; framer = record before.framer { held = [] }; queues = queues } in
+          subst (λ (l : List ℕ). Gathers job first l tally queues) (append_assoc bytes front tail ∙ ap (λ l. bytes ++ l) (sym whole))
+          (gathers_more (bytes ++ front) tail after (message_stands bytes front message before after at is refl one stands))
 
--- bytes came by which a message was whole, and it got its line
-pub onward_message : (job : Job) (before after : Standing) (piece message : List ℕ) → message ≡ before.held ++ piece → IsMessage job.limit message → after.held ≡ []
-    → AddsTold job (1 + (before.tally.yes + before.tally.no)) message before.text before.tally after.text after.tally → Onward job before piece after
-onward_message job before after piece message at is gone adds bytes written tells =
-    rw gone (tells_line job before.tally after.tally bytes piece before.held message before.text after.text at is adds written tells)
+      by : (f : RunFault) → AddsBy job (1 + (before.tally.yes + before.tally.no)) message before.queues queues before.tally tally (Err f) → Halts job first (bytes ++ piece) tally queues f
+      by run.OutOfMemory (same, counted) = rw (same, counted) (gathers_more bytes piece before stands, fine)
+      by (run.WriteFault written) (one, cut) = (come one, cut)
+      by (run.NoteFault written) (one, cut) = (come one, cut)
+      by _ (one, never) = absurd never
 
--- the framer came to hold it
-pub onward_line : (job : Job) (before after : Standing) (old new : Framing) (piece message : List ℕ) (used : ℕ) (whole : Bool) → old.limit ≡ job.limit → old.held ≡ before.held
-    → Feeds old new piece used whole → message ≡ new.held → IsMessage new.limit new.held → after.held ≡ []
-    → AddsTold job (1 + (before.tally.yes + before.tally.no)) message before.text before.tally after.text after.tally → Onward job before (take used piece) after
-onward_line job before after old new piece message used whole limit held feeds at is gone adds =
-    let is' : IsMessage job.limit message = subst (λ (n : ℕ). IsMessage n message) (feeds.limit ∙ limit) (subst (IsMessage new.limit) (sym at) is) in
-    onward_message job before after (take used piece) message (at ∙ feeds.held ∙ ap (λ l. l ++ take used piece) held) is' gone adds
+  -- nothing more was put
+  pub still : (text : Texts) (a b : Queues) → PutsBoth text (all_unused first) a → PutsBoth silent a b → PutsBoth text (all_unused first) b
+  still text a b puts none = (
+    puts_still text.out (unused first.writer) b.out (puts_then text.out [] (unused first.writer) a.out b.out puts.0 none.0),
+    puts_still text.notes (unused first.notes) b.notes (puts_then text.notes [] (unused first.notes) a.notes b.notes puts.1 none.1),
+  )
 
--- or it came to hold more of a part
-pub onward_held : {job : Job} (before : Standing) (sizes : Sizes) {old new : Framing} {piece : List ℕ} {used : ℕ} {whole : Bool} → old.limit ≡ job.limit → old.held ≡ before.held
-    → Feeds old new piece used whole → IsPartial new.limit new.held → Onward job before (take used piece) (record before { held = new.held; written = sizes })
-onward_held {job} before sizes {new = new} {piece} {used} limit held feeds part bytes written (xs, splits, lines) =
-    let one : Splits job.limit (before.held ++ take used piece) [] new.held =
-    subst (λ (l : List ℕ). Splits job.limit l [] new.held) (feeds.held ∙ ap (λ l. l ++ take used piece) held)
-    (splits_rest job.limit new.held (inl (subst (λ (n : ℕ). IsPartial n new.held) (feeds.limit ∙ limit) part))) in
-    (xs, rw (append-nil xs) at (splits_then job.limit bytes (take used piece) before.held new.held xs [] splits one), lines)
+  pub stands_still : (bytes : List ℕ) (now : Carry) (queues : Queues) → PutsBoth silent now.queues queues → Stands job first bytes now → Stands job first bytes (record now { queues = queues })
+  stands_still bytes now queues none stands = record {
+    messages = stands.messages;
+    text = stands.text;
+    splits = stands.splits;
+    told = stands.told;
+    puts = still stands.text now.queues queues stands.puts none;
+  }
 
--- no byte was passed
-pub onward_none : (job : Job) (stand : Standing) → Onward job stand [] stand
-onward_none job stand bytes written tells = rw (append-nil bytes) tells
+  gathers_still : (bytes : List ℕ) (tally : Tally) (a b : Queues) → PutsBoth silent a b → Gathers job first bytes tally a → Gathers job first bytes tally b
+  gathers_still bytes tally a b none gathers = record {
+    done = gathers.done;
+    left = gathers.left;
+    rest = gathers.rest;
+    text = gathers.text;
+    splits = gathers.splits;
+    told = gathers.told;
+    puts = still gathers.text a b gathers.puts none;
+  }
+
+  -- however a piece was passed, what is told of the first messages was put
+  passed_gathers : (bytes piece : List ℕ) (before mid : Carry) (end : Result (Unit {0}) RunFault) → PassesAllBy job piece before mid end → Stands job first bytes before
+      → Gathers job first (bytes ++ piece) mid.tally mid.queues
+  passed_gathers bytes piece before mid (Ok done) goes stands =
+      subst (λ (l : List ℕ). Gathers job first l mid.tally mid.queues) (append-nil (bytes ++ piece)) (gathers_more (bytes ++ piece) [] mid (goes.onward first bytes stands))
+  passed_gathers bytes piece before mid (Err fault) (stops, sound) stands = (stops first bytes stands).0
+
+  -- a write of what waited behind it failed
+  pub flush_halts : (bytes piece : List ℕ) (before mid : Carry) (queues : Queues) (end : Result (Unit {0}) RunFault) (fault : RunFault) → PassesAllBy job piece before mid end
+      → PutsBoth silent mid.queues queues → AreCut queues fault → Stands job first bytes before → Halts job first (bytes ++ piece) mid.tally queues fault
+  flush_halts bytes piece before mid queues end fault passed none cut stands =
+      by fault cut (gathers_still (bytes ++ piece) mid.tally mid.queues queues none (passed_gathers bytes piece before mid end passed stands))
+    where
+      by : (f : RunFault) → AreCut queues f → Gathers job first (bytes ++ piece) mid.tally queues → Halts job first (bytes ++ piece) mid.tally queues f
+      by (run.WriteFault written) is gathers = (gathers, is)
+      by (run.NoteFault written) is gathers = (gathers, is)
+      by _ never gathers = absurd never
+
+  -- or it came to rest before, and what waited was written
+  flushed_halts : (bytes : List ℕ) (tally : Tally) (a b : Queues) (fault : RunFault) → PutsBoth silent a b → AreOpen b → Halts job first bytes tally a fault → Halts job first bytes tally b fault
+  unfolding gathers_still
+  flushed_halts bytes tally a b (run.Stream (stream.Oversize number)) none fine (gathers, why) = (gathers_still bytes tally a b none gathers, (fine, why.1, why.2, why.3))
+  flushed_halts bytes tally a b run.OutOfMemory none fine (gathers, why) = (gathers_still bytes tally a b none gathers, fine)
+  flushed_halts bytes tally a b (run.WriteFault written) none fine (gathers, why) = absurd (true≢false (sym why.0 ∙ was_unfailed [] a.out b.out none.0 fine.0))
+  flushed_halts bytes tally a b (run.NoteFault written) none fine (gathers, why) = absurd (true≢false (sym why.0 ∙ was_unfailed [] a.notes b.notes none.1 fine.1))
+  flushed_halts bytes tally a b _ none fine (gathers, never) = absurd never
+
+-- where no write has failed, none of the notes has
+pub open_sound : (queues : Queues) → AreOpen queues → AreSound queues
+open_sound queues fine cut = absurd (true≢false (sym cut ∙ fine.1))
+
+pub passed_sound : (job : Job) (piece : List ℕ) (before mid : Carry) (end : Result (Unit {0}) RunFault) → PassesAllBy job piece before mid end → AreSound mid.queues
+passed_sound job piece before mid (Ok done) goes = open_sound mid.queues goes.unfailed
+passed_sound job piece before mid (Err fault) (stops, sound) = sound
+
+pub added_sound : (job : Job) (k : ℕ) (message : List ℕ) (before after : Queues) (tally tally' : Tally) (fault : RunFault) → AreOpen before → AddsBy job k message before after tally tally' (Err fault) → AreSound after
+added_sound job k message before after tally tally' run.OutOfMemory fine (same, counted) is = rw same (open_sound before fine (rw same at is))
+added_sound job k message before after tally tally' (run.WriteFault written) fine (one, cut) is = absurd (true≢false (sym is ∙ cut.1))
+added_sound job k message before after tally tally' (run.NoteFault written) fine (one, cut) is = (cut.1, cut.2)
+added_sound job k message before after tally tally' _ fine (one, never) is = absurd never
+
+settled_empty : (queues : Queues) (fault : RunFault) → AreEmpty queues → AreSettled queues fault
+settled_empty queues (run.WriteFault written) empty = tt
+settled_empty queues (run.NoteFault written) empty = tt
+settled_empty queues run.ReadFault empty = empty
+settled_empty queues run.TooManyTurns empty = empty
+settled_empty queues run.OutOfMemory empty = empty
+settled_empty queues (run.Stream fault) empty = empty
+settled_empty queues (run.BareTooLong limit) empty = empty
+
+pub settled_cut : (queues : Queues) (fault : RunFault) → AreCut queues fault → AreSettled queues fault
+settled_cut queues (run.WriteFault written) cut = tt
+settled_cut queues (run.NoteFault written) cut = tt
+settled_cut queues _ never = absurd never
+
+-- a piece was passed, and what waited behind it was written
+pub flushed : (job : Job) (piece : List ℕ) (before mid : Carry) (queues : Queues) (end : Result (Unit {0}) RunFault) → PassesAllBy job piece before mid end → PutsBoth silent mid.queues queues
+    → AreOpen queues → AreEmpty queues → WritesBy job piece before (record mid { queues = queues }) end
+flushed job piece before mid queues (Ok done) goes none fine empty = (
+  record {
+    onward = λ first bytes stands. stands_still job first (bytes ++ piece) mid queues none (goes.onward first bytes stands);
+    ready = goes.ready;
+    unfailed = fine;
+    few = goes.few;
+  },
+  empty,
+)
+flushed job piece before mid queues (Err fault) (stops, sound) none fine empty =
+    (λ first bytes stands. flushed_halts job first (bytes ++ piece) mid.tally mid.queues queues fault none fine (stops first bytes stands), settled_empty queues fault empty)
 
 -- the room was used, and is as large
 pub still_ready : {job : Job} {framer : Framing} {room room' : Beside} → IsReady job framer room → HasRoom job room' → IsReady job framer room'
 still_ready ready fits = record { fits = fits; fine = ready.fine; limit = ready.limit; short = ready.short; part = ready.part }
 
--- a piece of which the front was used up, and the rest is still to come
-pub record HasUsed (job : Job) (piece rest : List ℕ) (before after : Standing) (framer : Framing) (room : Beside) : Type 0 where
-  pub front : List ℕ
-  pub whole : piece ≡ front ++ rest
-  pub within : length rest ≤ length piece
-  pub onward : Onward job before front after
-  pub ready : IsReady job framer room
-  pub few : count_of after.tally + length rest ≤ count_of before.tally + length piece
-  pub written : after.written.out ≡ before.written.out
-  pub noted : after.written.notes ≡ before.written.notes
+-- no byte was passed
+pub goes_none : (job : Job) (now : Carry) → IsReady job now.framer now.room → AreOpen now.queues → GoesOn job [] now now
+goes_none job now ready fine = record { onward = λ first bytes stands. rw (append-nil bytes) stands; ready = ready; unfailed = fine; few = omega arith }
 
--- at first nothing was
-pub used_none : (job : Job) (piece : List ℕ) (stand : Standing) (framer : Framing) (room : Beside) → IsReady job framer room → HasUsed job piece piece stand stand framer room
-used_none job piece stand framer room ready =
-    record { front = []; whole = refl; within = omega arith; onward = onward_none job stand; ready = ready; few = omega arith; written = refl; noted = refl }
-
-module _ {job : Job} {piece rest : List ℕ} {before mid : Standing} {framer : Framing} {room : Beside} (first : HasUsed job piece rest before mid framer room) where
+module _ {job : Job} {piece front rest : List ℕ} {before mid : Carry} (whole : piece ≡ front ++ rest) (goes : GoesOn job front before mid) where
   -- n bytes more
-  pub used_more : {after : Standing} {framer' : Framing} {room' : Beside} (n : ℕ) (rest' : List ℕ) → rest' ≡ drop n rest → Uses job rest n mid after framer' room'
-      → HasUsed job piece rest' before after framer' room'
-  used_more n rest' is second =
-      let left : length rest' ≡ length rest - n = ap length is ∙ length-drop n rest in
-      record {
-        front = first.front ++ take n rest;
-        whole = front-more piece first.front rest rest' n first.whole is;
-        within = omega (arith, left, first.within);
-        onward = λ bytes written tells.
-            rw (← append_assoc bytes first.front (take n rest)) (second.onward (bytes ++ first.front) written (first.onward bytes written tells));
-        ready = second.ready;
-        few = omega (arith, left, second.within, second.few, first.few);
-        written = second.written ∙ first.written;
-        noted = second.noted ∙ first.noted;
-      }
+  pub goes_more : (n : ℕ) (rest' : List ℕ) (after : Carry) → rest' ≡ drop n rest → Passes job rest n mid after → (more : List ℕ) × (piece ≡ more ++ rest') × GoesOn job more before after
+  goes_more n rest' after is passes = (
+    front ++ take n rest,
+    front-more piece front rest rest' n whole is,
+    record {
+      onward = λ first bytes stands.
+          rw (← append_assoc bytes front (take n rest)) (passes.goes_on.onward first (bytes ++ front) (goes.onward first bytes stands));
+      ready = passes.goes_on.ready;
+      unfailed = passes.goes_on.unfailed;
+      few = omega (arith, passes.goes_on.few, goes.few, length-append front (take n rest));
+    },
+  )
 
-  -- that front is as long as the rest leaves of the piece
-  pub used_front : (n : ℕ) → n ≡ length piece - length rest → (0 < length piece → 0 < n) → Uses job piece n before mid framer room
-  used_front n is some =
-      let long : length piece ≡ length first.front + length rest = ap length first.whole ∙ length-append first.front rest in
-      let same : n ≡ length first.front = omega (arith, long) in
-      record {
-        within = omega (arith, is);
-        some = some;
-        onward = subst (λ (l : List ℕ). Onward job before l mid)
-            (sym (ap (λ k. take k piece) same ∙ ap (take (length first.front)) first.whole ∙ take-append_seam first.front rest)) first.onward;
-        ready = first.ready;
-        few = omega (arith, same, long, first.few);
-        written = first.written;
-        noted = first.noted;
-      }
+  -- all of them
+  pub goes_all : rest ≡ [] → GoesOn job piece before mid
+  goes_all none = subst (λ (l : List ℕ). GoesOn job l before mid) (sym (whole ∙ ap (λ l. front ++ l) none ∙ append-nil front)) goes
 
   -- and then the run came to rest
-  pub used_stops : {after : Standing} {fault : RunFault} → StopsUsing job rest mid after fault → StopsUsing job piece before after fault
-  used_stops {after} {fault} second = record {
-    halts = λ bytes written tells.
-        subst (λ (l : List ℕ). Rests job l (followed written after.text) after.tally fault)
-        (append_assoc bytes first.front rest ∙ ap (λ l. bytes ++ l) (sym first.whole)) (second.halts (bytes ++ first.front) written (first.onward bytes written tells));
-    kind = second.kind;
-    written = second.written ∙ first.written;
-    noted = second.noted ∙ first.noted;
-  }
-
--- what was told in the front of a piece is that of the first messages, whatever the rest is
-pub gathers_front : (job : Job) (before after : Standing) (n : ℕ) (piece : List ℕ) → Onward job before (take n piece) after → Gathers job before piece after.text after.tally
-gathers_front job before after n piece onward bytes written tells =
-    subst (λ (l : List ℕ). TellsSome job l (followed written after.text) after.tally) (append_assoc bytes (take n piece) (drop n piece) ∙ ap (λ l. bytes ++ l) (take-append-drop n piece))
-    (tells_some job after.tally (bytes ++ take n piece) (drop n piece) after.held (followed written after.text) (onward bytes written tells))
-
-some_of : (job : Job) (bytes : List ℕ) (text : Texts) (tally : Tally) (fault : RunFault) → IsFeedFault fault → Rests job bytes text tally fault
-    → TellsSome job bytes text tally
-some_of job bytes text tally (run.Stream (stream.Oversize number)) kind (xs, rest, splits, (over, is, lines)) = (xs, rest, xs, [], splits, sym (append-nil xs), lines)
-some_of job bytes text tally run.OutOfMemory kind (xs, rest, splits, some) = some
-some_of job bytes text tally _ kind rests = absurd kind
-
--- so does one of which bytes were used up, or in which the run came to rest
-pub gathers_used : (job : Job) (before after : Standing) (piece : List ℕ) (framer : Framing) (room : Beside) (used : Result ℕ RunFault) → UsesBy job piece before after framer room used
-    → Gathers job before piece after.text after.tally × (after.written.out ≡ before.written.out) × (after.written.notes ≡ before.written.notes)
-gathers_used job before after piece framer room (Ok n) uses = (gathers_front job before after n piece uses.onward, uses.written, uses.noted)
-gathers_used job before after piece framer room (Err fault) stops = (
-  λ bytes written tells. some_of job (bytes ++ piece) (followed written after.text) after.tally fault stops.kind (stops.halts bytes written tells),
-  stops.written,
-  stops.noted,
-)
+  pub stops_more : (after : Carry) (fault : RunFault) → Stops job mid rest after fault → Stops job before piece after fault
+  stops_more after fault stops first bytes stands =
+      subst (λ (l : List ℕ). Halts job first l after.tally after.queues fault) (append_assoc bytes front rest ∙ ap (λ l. bytes ++ l) (sym whole))
+      (stops first (bytes ++ front) (goes.onward first bytes stands))

@@ -1,13 +1,19 @@
--- What a writer and notes take, one text after another.
-use Rattle.std.proofs.{Common.arith, Common.length-append, KnownBytes.Appends-kept, KnownBytes.Appends-nil, KnownBytes.Appends-trans}
-use Rattle.std.specs.Prelude.{[]}
-use Rattle.fb_lines.specs.Ends.{Outs, Takes, Unwritten}
-use Rattle.fb_lines.proofs.BehindLemmas.{both_counted}
-use Rattle.fb_run.specs.Stream.{Writes}
-use Rattle.fb_lines.specs.Texts.{Sizes, Texts, followed, silent}
+-- What was put for a writer and notes, and what they have of it.
+use Rattle.std.proofs.Common.{◌≡◌, ◌∙◌, ℕ, true, false, List, [], ◌++◌, ap, refl, subst, sym, append-nil}
+use Rattle.std.proofs.{KnownBytes.Appends-kept, KnownBytes.Appends-nil}
+use Rattle.std.specs.Io.KnownBytes.{Appends}
+use Rattle.fb_bytes.specs.Ends.{one_more}
+use Rattle.fb_lines.specs.{Ends.Outs, Ends.Takes, Ends.Unwritten, Ends.Writer, Faults.IsCausedOut, Faults.IsUnfailedOut}
+use Rattle.fb_lines.specs.Lines.{ComesBehind, WritesFront}
+use Rattle.fb_lines.specs.Puts.{AreCut, AreOpen, Puts, PutsAs, PutsBoth, Queue, Queues, all_unused, unused}
+use Rattle.fb_lines.specs.Texts.{Texts, silent}
+use Rattle.fb_lines.specs.declared.fault.RunFault.{RunFault}
+use Rattle.fb_lines.specs.declared.fault.RunFault.TheVariants as run
+use Rattle.fb_run.specs.Pieces.{AreEmpty}
 
-pub takes_nothing : (o : Outs) → Takes o o silent
-takes_nothing o = record { wrote = Appends-nil o.writer.bytes; noted = Appends-nil o.notes.bytes }
+-- the writer and the notes of both
+abbrev pub outs_in : Queues → Outs
+outs_in queues = record { writer = queues.out.writer; notes = queues.notes.writer }
 
 pub takes_none : (a b : Outs) → Unwritten a b → Takes a b silent
 takes_none a b (sink, notes) = record {
@@ -15,20 +21,35 @@ takes_none a b (sink, notes) = record {
   noted = Appends-kept a.notes.bytes a.notes.bytes b.notes.bytes [] (Appends-nil a.notes.bytes) notes;
 }
 
--- one text and then the other
-pub takes_then : (a b c : Outs) (one other : Texts) → Takes a b one → Takes b c other → Takes a c (followed one other)
-takes_then a b c one other first second = record {
-  wrote = Appends-trans a.writer.bytes b.writer.bytes c.writer.bytes one.out other.out first.wrote second.wrote;
-  noted = Appends-trans a.notes.bytes b.notes.bytes c.notes.bytes one.notes other.notes first.noted second.noted;
-}
+-- what was put where no write failed, and where one did
+pub put_behind : (text : List ℕ) (writer : Writer) (now : Queue) → now.failed ≡ false → Puts text (unused writer) now
+    → ComesBehind [] text now.waits writer.bytes now.writer.bytes 0 now.written × (now.writer.failures ≡ writer.failures)
+put_behind text writer now fine puts = subst (λ f. PutsAs false f text (unused writer) now) fine puts
 
--- and how many bytes these are
-pub writes_nothing : (o : Outs) (size : Sizes) → Writes silent o o size size
-writes_nothing o size = record { takes = takes_nothing o; written_is = λ few. omega arith; noted_is = λ few. omega arith }
+pub put_front : (text : List ℕ) (writer : Writer) (now : Queue) → now.failed ≡ true → Puts text (unused writer) now
+    → WritesFront text writer.bytes now.writer.bytes 0 now.written × (now.writer.failures ≡ one_more writer.failures)
+put_front text writer now cut puts = subst (λ f. PutsAs false f text (unused writer) now) cut puts
 
-pub writes_then : (one other : Texts) (a b c : Outs) (size size' size'' : Sizes) → Writes one a b size size' → Writes other b c size' size'' → Writes (followed one other) a c size size''
-writes_then one other a b c size size' size'' first second = record {
-  takes = takes_then a b c one other first.takes second.takes;
-  written_is = both_counted _ _ _ _ _ _ (length-append one.out other.out) first.written_is second.written_is;
-  noted_is = both_counted _ _ _ _ _ _ (length-append one.notes other.notes) first.noted_is second.noted_is;
-}
+-- where nothing waits, all of it is written
+pub written_all : (text : List ℕ) (writer : Writer) (now : Queue) → now.failed ≡ false → now.waits ≡ [] → Puts text (unused writer) now → Appends writer.bytes now.writer.bytes text
+written_all text writer now fine none puts =
+    let behind = (put_behind text writer now fine puts).0 in
+    subst (Appends writer.bytes now.writer.bytes) (sym (behind.whole ∙ ap (λ l. behind.front ++ l) none ∙ append-nil behind.front)) behind.wrote
+
+module _ (text : Texts) (first : Outs) (now : Queues) (puts : PutsBoth text (all_unused first) now) where
+  pub takes_all : AreOpen now → AreEmpty now → Takes first (outs_in now) text
+  takes_all fine empty = record {
+    wrote = written_all text.out first.writer now.out fine.0 empty.0 puts.0;
+    noted = written_all text.notes first.notes now.notes fine.1 empty.1 puts.1;
+  }
+
+  pub none_failed : AreOpen now → IsUnfailedOut first (outs_in now)
+  none_failed fine = ((put_behind text.out first.writer now.out fine.0 puts.0).1, (put_behind text.notes first.notes now.notes fine.1 puts.1).1)
+
+  -- a write of the writer failed, or of the notes
+  pub cut_caused : (fault : RunFault) → AreCut now fault → IsCausedOut first (outs_in now) fault
+  cut_caused (run.WriteFault written) (cut, fine, is) reads left ended =
+      (refl, (put_front text.out first.writer now.out cut puts.0).1, (put_behind text.notes first.notes now.notes fine puts.1).1)
+  cut_caused (run.NoteFault written) (cut, fine, none, is) reads left ended =
+      (refl, (put_behind text.out first.writer now.out fine puts.0).1, (put_front text.notes first.notes now.notes cut puts.1).1)
+  cut_caused _ never reads left ended = absurd never

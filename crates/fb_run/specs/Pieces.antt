@@ -1,86 +1,108 @@
 -- What each step of a run over a stream answers.
-use Rattle.std.specs.Prelude.{◌≡◌, ℕ, ◌+◌, ◌<◌, ◌≤◌, List, [], ◌++◌, Result, Ok, Err, length, take}
-use Rattle.fb_bytes.specs.Framing.{Framing}
+use Rattle.std.specs.Prelude.{◌≡◌, ℕ, ◌+◌, ◌<◌, ◌≤◌, ◌^◌, false, List, [], ◌++◌, Result, Ok, Err, length, take}
+use Rattle.fb_bytes.specs.{Framing.Framing, Messages.declared, Messages.IsOversize, Messages.IsPartial, Messages.Splits}
 use Rattle.fb_bytes.specs.declared.ends.Sink as sink
-use Rattle.fb_lines.specs.{Ends.Outs, Ends.Writer, Ends.outs_of, Job.Beside, Job.Job}
-use Rattle.fb_lines.specs.Faults.{IsCausedOut, IsCausedWriting, IsUnfailedOut}
-use Rattle.fb_lines.specs.Sums.{count_of}
-use Rattle.fb_lines.specs.Texts.{Texts, silent}
-use Rattle.fb_lines.specs.declared.fault.RunFault.{RunFault}
+use Rattle.fb_bytes.specs.declared.stream_fault.StreamFault.TheVariants as stream
+use Rattle.fb_lines.specs.{Ends.Outs, Job.Beside, Job.HasRoom, Job.Job, Lines.AreTold, Sums.count_of, Sums.no_tally, Texts.Texts}
+use Rattle.fb_lines.specs.Puts.{AreCut, AreOpen, AreSound, IsUnused, PutsBoth, Queues, all_unused, queues_of}
+use Rattle.fb_lines.specs.declared.{fault.RunFault.RunFault, tally.Tally.Tally}
+use Rattle.fb_lines.specs.declared.fault.RunFault.TheVariants.{WriteFault, NoteFault, Stream, OutOfMemory}
 use Rattle.fb_run.specs.declared.stream.Carried.{Carried}
-use Rattle.fb_run.specs.Stream.{Standing, standing, Onward, OnwardThrough, Halts, HaltsThrough, IsFeedFault, IsReady, StopsAmid, Writes, with_written}
 
--- so many bytes from the front of a piece were used up, and what is told in them waits
-pub record Uses (job : Job) (piece : List ℕ) (used : ℕ) (before after : Standing) (framer : Framing) (room : Beside) : Type 0 where
-  pub within : used ≤ length piece
-  pub some : 0 < length piece → 0 < used
-  pub onward : Onward job before (take used piece) after
-  pub ready : IsReady job framer room
-  pub few : count_of after.tally ≤ count_of before.tally + used
-  pub written : after.written.out ≡ before.written.out
-  pub noted : after.written.notes ≡ before.written.notes
-
--- or the run came to rest in it
-pub record StopsUsing (job : Job) (piece : List ℕ) (before after : Standing) (fault : RunFault) : Type 0 where
-  pub halts : Halts job before piece after.text after.tally fault
-  pub kind : IsFeedFault fault
-  pub written : after.written.out ≡ before.written.out
-  pub noted : after.written.notes ≡ before.written.notes
-
-abbrev pub UsesBy : Job → List ℕ → Standing → Standing → Framing → Beside → Result ℕ RunFault → Type 0
-UsesBy job piece before after framer room (Ok used) = Uses job piece used before after framer room
-UsesBy job piece before after framer room (Err fault) = StopsUsing job piece before after fault
-
--- what was held of a message came to its end with so many bytes of a piece, or is held with all of them, and a front of
--- what is told was written
-pub record PassesHeld (job : Job) (piece : List ℕ) (used : ℕ) (before after : Standing) (framer : Framing) (room : Beside) (writer writer' : Writer) : Type 0 where
-  pub within : used ≤ length piece
-  pub onward : OnwardThrough job before (take used piece) after writer.bytes writer'.bytes
-  pub ready : IsReady job framer room
-  pub few : count_of after.tally ≤ count_of before.tally + 1
-  pub unfailed : writer'.failures ≡ writer.failures
-  pub noted : after.written.notes ≡ before.written.notes
-
--- or the run came to rest in it
-pub record StopsHeld (job : Job) (piece : List ℕ) (before after : Standing) (writer writer' : Writer) (fault : RunFault) : Type 0 where
-  pub halts : HaltsThrough job before piece after.tally writer.bytes writer'.bytes fault
-  pub cause : IsCausedWriting writer writer' fault
-
-abbrev pub HeldBy : Job → List ℕ → Standing → Standing → Framing → Beside → Writer → Writer → Result ℕ RunFault → Type 0
-HeldBy job piece before after framer room writer writer' (Ok used) = PassesHeld job piece used before after framer room writer writer'
-HeldBy job piece before after framer room writer writer' (Err fault) = StopsHeld job piece before after writer writer' fault
-
--- where a run stands, with its framer and its room, and what the writer and the notes have
+-- what a run carries: what was counted, its framer and its room, and what was put for the writer and the notes
 pub record Carry : Type 0 where
-  pub stand : Standing
+  pub tally : Tally
   pub framer : Framing
   pub room : Beside
-  pub outs : Outs
+  pub queues : Queues
 
 abbrev pub carry_of : {A K N : Type 0} → sink.Ghosts K → sink.Ghosts N → Carried A → K → N → Carry
 carry_of k n carried writer notes = record {
-  stand = standing carried;
+  tally = carried.output.counter;
   framer = carried.framer;
   room = carried.room;
-  outs = outs_of k n writer notes;
+  queues = queues_of k n carried.output writer notes;
 }
 
--- a piece was passed up to this rest, and what is told in it was written and noted, but for what waits
-pub record Passes (job : Job) (piece rest : List ℕ) (before after : Carry) : Type 0 where
-  pub front : List ℕ
+-- nothing was told, and nothing is held
+abbrev pub IsFirst : {A : Type 0} → Carried A → Type 0
+IsFirst carried = IsUnused carried.output × (carried.output.counter ≡ no_tally) × (carried.framer.held ≡ [])
+
+-- the framer is fit to go on with a job, and there is room for it
+pub record IsReady (job : Job) (framer : Framing) (room : Beside) : Type 0 where
+  pub fits : HasRoom job room
+  pub fine : framer.failed ≡ false
+  pub limit : framer.limit ≡ job.limit
+  pub short : framer.limit < 2 ^ 31
+  pub part : IsPartial framer.limit framer.held
+
+-- these bytes are whole messages and what is held, and what is told of those was put behind these ends
+pub record Stands (job : Job) (first : Outs) (bytes : List ℕ) (now : Carry) : Type 0 where
+  pub messages : List (List ℕ)
   pub text : Texts
-  pub whole : piece ≡ front ++ rest
-  pub onward : Onward job before.stand front (with_written text after.stand)
-  pub writes : Writes text before.outs after.outs before.stand.written after.stand.written
+  pub splits : Splits job.limit bytes messages now.framer.held
+  pub told : AreTold job 1 messages text now.tally
+  pub puts : PutsBoth text (all_unused first) now.queues
+
+-- what is told of the first messages of these bytes was put behind these ends
+pub record Gathers (job : Job) (first : Outs) (bytes : List ℕ) (tally : Tally) (queues : Queues) : Type 0 where
+  pub done : List (List ℕ)
+  pub left : List (List ℕ)
+  pub rest : List ℕ
+  pub text : Texts
+  pub splits : Splits job.limit bytes (done ++ left) rest
+  pub told : AreTold job 1 done text tally
+  pub puts : PutsBoth text (all_unused first) queues
+
+-- why a run came to rest in them
+abbrev pub Why : Job → List (List ℕ) → List ℕ → Queues → RunFault → Type 0
+Why job left rest queues (Stream (stream.Oversize number)) = AreOpen queues × (left ≡ []) × IsOversize job.limit rest × (number ≡ declared rest)
+Why job left rest queues OutOfMemory = AreOpen queues
+Why job left rest queues fault = AreCut queues fault
+
+abbrev pub Halts : Job → Outs → List ℕ → Tally → Queues → RunFault → Type 0
+Halts job first bytes tally queues fault = (gathers : Gathers job first bytes tally queues) × Why job gathers.left gathers.rest queues fault
+
+-- whatever was read before, with this piece more it stands so, or comes to rest
+abbrev pub Onward : Job → Carry → List ℕ → Carry → Type 0
+Onward job before piece after = (first : Outs) (bytes : List ℕ) → Stands job first bytes before → Stands job first (bytes ++ piece) after
+
+abbrev pub Stops : Job → Carry → List ℕ → Carry → RunFault → Type 0
+Stops job before piece after fault = (first : Outs) (bytes : List ℕ) → Stands job first bytes before → Halts job first (bytes ++ piece) after.tally after.queues fault
+
+-- bytes were passed, and the run can go on
+pub record GoesOn (job : Job) (bytes : List ℕ) (before after : Carry) : Type 0 where
+  pub onward : Onward job before bytes after
   pub ready : IsReady job after.framer after.room
-  pub few : count_of after.stand.tally + length rest ≤ count_of before.stand.tally + length piece + 1
-  pub unfailed : IsUnfailedOut before.outs after.outs
+  pub unfailed : AreOpen after.queues
+  pub few : count_of after.tally ≤ count_of before.tally + length bytes
 
--- or the run came to rest in it
-pub record StopsPiece (job : Job) (piece : List ℕ) (before after : Carry) (fault : RunFault) : Type 0 where
-  pub stops : StopsAmid job before.stand piece after.stand.tally before.outs after.outs fault
-  pub cause : IsCausedOut before.outs after.outs fault
+-- so many bytes from the front of a piece were passed
+pub record Passes (job : Job) (piece : List ℕ) (used : ℕ) (before after : Carry) : Type 0 where
+  pub within : used ≤ length piece
+  pub some : 0 < used
+  pub goes_on : GoesOn job (take used piece) before after
 
-abbrev pub PassesBy : Job → List ℕ → Carry → Carry → Result (Unit {0}) RunFault → Type 0
-PassesBy job piece before after (Ok done) = Passes job piece [] before after × (after.stand.text ≡ silent)
-PassesBy job piece before after (Err fault) = StopsPiece job piece before after fault
+abbrev pub PassesBy : Job → List ℕ → Carry → Carry → Result ℕ RunFault → Type 0
+PassesBy job piece before after (Ok used) = Passes job piece used before after
+PassesBy job piece before after (Err fault) = Stops job before piece after fault × AreSound after.queues
+
+-- all of it was
+abbrev pub PassesAllBy : Job → List ℕ → Carry → Carry → Result (Unit {0}) RunFault → Type 0
+PassesAllBy job piece before after (Ok done) = GoesOn job piece before after
+PassesAllBy job piece before after (Err fault) = Stops job before piece after fault × AreSound after.queues
+
+-- nothing waits
+abbrev pub AreEmpty : Queues → Type 0
+AreEmpty queues = (queues.out.waits ≡ []) × (queues.notes.waits ≡ [])
+
+-- where a write failed, it is told what was written; else all that was put is written
+abbrev pub AreSettled : Queues → RunFault → Type 0
+AreSettled queues (WriteFault written) = Unit {0}
+AreSettled queues (NoteFault written) = Unit {0}
+AreSettled queues fault = AreEmpty queues
+
+-- all of it was, and what is told in it is written
+abbrev pub WritesBy : Job → List ℕ → Carry → Carry → Result (Unit {0}) RunFault → Type 0
+WritesBy job piece before after (Ok done) = GoesOn job piece before after × AreEmpty after.queues
+WritesBy job piece before after (Err fault) = Stops job before piece after fault × AreSettled after.queues fault

@@ -1,8 +1,7 @@
 //! A run over one bare input.
 
 ghost use Rattle.std.specs.Prelude.{◌≡◌, ◌+◌, ◌<◌, ◌^◌, length, true};
-ghost use Rattle.fb_lines.specs.{Job.HasRoom, Sums.no_tally};
-ghost use Rattle.fb_lines.specs.Texts.{no_bytes, silent, waiting, written_by};
+ghost use Rattle.fb_lines.specs.{Job.HasRoom, Puts.IsUnused, Sums.no_tally};
 ghost use Rattle.fb_run.specs.{Leave.HasLeave, Leave.ends_of, Prompt.IsBarePrompt, Run.Runs};
 
 use crate::input::Input;
@@ -23,9 +22,8 @@ pub fn pass_bare<A: Allocator, B: Allocator, C: Allocator, S: Input<K, N>, K: Si
     checker: &Checker<'_, '_, '_>,
     turns: u64,
 ) -> Result<(), RunFault>
-    requires empty { waiting output.old ≡ silent }
+    requires unused { IsUnused output.old }
     requires counted { output.old.counter ≡ no_tally }
-    requires written { written_by output.old ≡ no_bytes }
     requires room { HasRoom checker.now room.old }
     requires piece { length piece.old.items ≡ PIECE }
     requires reads { S.calls reader.old + turns < 2 ^ 100 }
@@ -33,6 +31,6 @@ pub fn pass_bare<A: Allocator, B: Allocator, C: Allocator, S: Input<K, N>, K: Si
     ensures { Runs true checker.now (ends_of S.Input K.Sink N.Sink reader.old writer.old notes.old) (ends_of S.Input K.Sink N.Sink reader.new writer.new notes.new) turns output.new.counter result }
 {
     let whole = read_whole(alloc, reader, piece, writer, notes, checker.limit(), turns)?;
-    output.add_through(checker, room, whole.as_slice(), writer)?;
+    output.add(checker, room, whole.as_slice(), writer, notes)?;
     output.flush(writer, notes)
 }

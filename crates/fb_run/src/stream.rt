@@ -1,12 +1,9 @@
 //! A run over a stream of size-prefixed buffers, or over one bare buffer.
 
-ghost use Rattle.std.specs.Prelude.{IfOk, ◌≡◌, ◌+◌, ◌*◌, ◌<◌, ◌≤◌, ◌^◌, length};
-ghost use Rattle.fb_lines.specs.{Sums.count_of, Texts.silent, Texts.waiting};
-ghost use Rattle.fb_run.specs.{Prompt.IsPrompt, Run.Runs};
-ghost use Rattle.fb_lines.specs.Ends.{writer_of};
-ghost use Rattle.fb_run.specs.Leave.{HasLeave, ends_of};
-ghost use Rattle.fb_run.specs.Stream.{IsReady, at_first, standing};
-ghost use Rattle.fb_run.specs.Pieces.{HeldBy, PassesBy, UsesBy, carry_of};
+ghost use Rattle.std.specs.Prelude.{IfOk, ◌≡◌, ◌+◌, ◌<◌, ◌≤◌, ◌^◌, length};
+ghost use Rattle.fb_lines.specs.{Puts.AreOpen, Puts.queues_of, Sums.count_of};
+ghost use Rattle.fb_run.specs.{Leave.HasLeave, Leave.ends_of, Prompt.IsPrompt, Run.Runs};
+ghost use Rattle.fb_run.specs.Pieces.{IsFirst, IsReady, PassesAllBy, PassesBy, WritesBy, carry_of};
 
 use crate::bare::pass_bare;
 use crate::front::front_message;
@@ -28,7 +25,7 @@ impl<'a, A: Allocator> Carried<&'a A> {
     /// What is carried at first: nothing is told, and nothing is held.
     pub fn new(alloc: &'a A, checker: &Checker<'_, '_, '_>) -> Result<Self, AllocError>
         ensures ready { IfOk result (λ carried. IsReady checker.now carried.framer carried.room) }
-        ensures empty { IfOk result (λ carried. standing carried ≡ at_first) }
+        ensures first { IfOk result IsFirst }
     {
         let room = checker.room(alloc)?;
         let Ok(framer) = Framer::new(alloc, checker.limit()) else {
@@ -64,7 +61,7 @@ impl<A: Allocator> Carried<A> {
     ) -> Result<(), RunFault>
         requires room { length piece.old.items ≡ PIECE }
         requires ready { IsReady checker.now self.old.framer self.old.room }
-        requires start { standing self.old ≡ at_first }
+        requires first { IsFirst self.old }
         requires turns { turns ≤ MOST_TURNS }
         requires few { S.calls reader.old < 2 ^ 64 }
         requires leave { HasLeave S.Input (ends_of S.Input K.Sink N.Sink reader.old writer.old notes.old) (IsPrompt checker.now) }
@@ -100,8 +97,7 @@ impl<A: Allocator> Carried<A> {
         Err(RunFault::TooManyTurns)
     }
 
-    /// Passes a whole piece, and writes what is told of the messages that end in it: where much waits, before the next
-    /// one is checked.
+    /// Passes a whole piece, and writes what is told of the messages that end in it.
     fn pass_piece<K: Sink, N: Sink>(
         &mut self,
         checker: &Checker<'_, '_, '_>,
@@ -110,87 +106,60 @@ impl<A: Allocator> Carried<A> {
         notes: &mut N,
     ) -> Result<(), RunFault>
         requires ready { IsReady checker.now self.old.framer self.old.room }
+        requires unfailed { AreOpen (queues_of K.Sink N.Sink self.old.output writer.old notes.old) }
         requires piece { length piece.now ≤ PIECE }
-        requires few { count_of self.old.output.counter < 2 ^ 61 }
-        requires empty { waiting self.old.output ≡ silent }
-        ensures { PassesBy checker.now piece.now (carry_of K.Sink N.Sink self.old writer.old notes.old) (carry_of K.Sink N.Sink self.new writer.new notes.new) result }
+        requires few { count_of self.old.output.counter < 2 ^ 62 }
+        ensures { WritesBy checker.now piece.now (carry_of K.Sink N.Sink self.old writer.old notes.old) (carry_of K.Sink N.Sink self.new writer.new notes.new) result }
     {
-        let held = self.pass_held(checker, piece, writer)?;
-        let mut rest = &piece[held..];
-        'fronts: loop {
-            let used = self.use_up(checker, rest);
-            self.output.flush(writer, notes)?;
-            rest = &rest[used?..];
-            if rest.is_empty() {
-                return Ok(());
-            }
-        }
+        let passed = self.pass_messages(checker, piece, writer, notes);
+        self.output.flush(writer, notes)?;
+        passed
     }
 
-    /// Goes on with the message that is held in part, if one is: feeds the framer bytes from the front of a piece, up
-    /// to the end of that message, and adds what is told of it. Answers how many bytes that were. A long value is
-    /// written at once; nothing is to wait by then.
-    #[tactic(auto, using(std::proofs::lemmas::Grind::common_steps))]
-    fn pass_held<K: Sink>(
+    /// Passes a whole piece, and adds what is told of the messages that end in it.
+    fn pass_messages<K: Sink, N: Sink>(
         &mut self,
         checker: &Checker<'_, '_, '_>,
         piece: &[u8],
         writer: &mut K,
-    ) -> Result<usize, RunFault>
+        notes: &mut N,
+    ) -> Result<(), RunFault>
         requires ready { IsReady checker.now self.old.framer self.old.room }
-        requires few { count_of self.old.output.counter < 2 ^ 62 }
-        requires empty { waiting self.old.output ≡ silent }
-
-        ensures { HeldBy checker.now piece.now (standing self.old) (standing self.new) self.new.framer self.new.room (writer_of K.Sink writer.old) (writer_of K.Sink writer.new) result }
-    {
-        let held = self.framer.held();
-        if held == 0 {
-            return Ok(0);
-        }
-        let taken = self.framer.feed(piece)?;
-        let Some(message) = self.framer.message() else {
-            return Ok(taken.used);
-        };
-        self.output
-            .add_through(checker, &mut self.room, message, writer)?;
-        self.framer.next();
-        Ok(taken.used)
-    }
-
-    /// Passes messages from the front of a piece until all is passed or much waits, and adds what is told of them.
-    /// Answers how many bytes those were.
-    fn use_up(&mut self, checker: &Checker<'_, '_, '_>, piece: &[u8]) -> Result<usize, RunFault>
-        requires ready { IsReady checker.now self.old.framer self.old.room }
+        requires unfailed { AreOpen (queues_of K.Sink N.Sink self.old.output writer.old notes.old) }
         requires piece { length piece.now ≤ PIECE }
         requires few { count_of self.old.output.counter < 2 ^ 62 }
-
-        ensures { UsesBy checker.now piece.now (standing self.old) (standing self.new) self.new.framer self.new.room result }
+        ensures { PassesAllBy checker.now piece.now (carry_of K.Sink N.Sink self.old writer.old notes.old) (carry_of K.Sink N.Sink self.new writer.new notes.new) result }
     {
         let mut rest = piece;
         while !rest.is_empty() {
-            let used = self.pass_some(checker, rest)?;
+            let used = self.pass_some(checker, rest, writer, notes)?;
             rest = &rest[used..];
-            if self.output.is_much() {
-                return Ok(piece.len() - rest.len());
-            }
         }
-        Ok(piece.len())
+        Ok(())
     }
 
     /// Passes bytes from the front of the rest of a piece, up to the end of a message, and adds what is told of it.
     /// Answers how many bytes that were. A message that stands whole there is checked where it stands; of others the
     /// framer holds what came.
     #[tactic(auto, using(std::proofs::lemmas::Grind::common_steps))]
-    fn pass_some(&mut self, checker: &Checker<'_, '_, '_>, rest: &[u8]) -> Result<usize, RunFault>
+    fn pass_some<K: Sink, N: Sink>(
+        &mut self,
+        checker: &Checker<'_, '_, '_>,
+        rest: &[u8],
+        writer: &mut K,
+        notes: &mut N,
+    ) -> Result<usize, RunFault>
         requires rest { 0 < length rest.now }
         requires ready { IsReady checker.now self.old.framer self.old.room }
+        requires unfailed { AreOpen (queues_of K.Sink N.Sink self.old.output writer.old notes.old) }
         requires few { count_of self.old.output.counter < 2 ^ 63 }
 
-        ensures { UsesBy checker.now rest.now (standing self.old) (standing self.new) self.new.framer self.new.room result }
+        ensures { PassesBy checker.now rest.now (carry_of K.Sink N.Sink self.old writer.old notes.old) (carry_of K.Sink N.Sink self.new writer.new notes.new) result }
     {
         if self.framer.held() == 0 {
             if let Some(message) = front_message(rest, checker.limit()) {
-                self.output.add(checker, &mut self.room, message)?;
+                self.output
+                    .add(checker, &mut self.room, message, writer, notes)?;
                 return Ok(message.len());
             }
         }
@@ -198,7 +167,8 @@ impl<A: Allocator> Carried<A> {
         let Some(message) = self.framer.message() else {
             return Ok(taken.used);
         };
-        self.output.add(checker, &mut self.room, message)?;
+        self.output
+            .add(checker, &mut self.room, message, writer, notes)?;
         self.framer.next();
         Ok(taken.used)
     }

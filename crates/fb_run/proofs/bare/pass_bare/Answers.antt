@@ -1,6 +1,6 @@
-use Rattle.std.proofs.Common.{ap, sym, ◌∙◌}
-use Rattle.fb_lines.specs.{Ends.outs_of, Ends.writer_of, Texts.Sizes, Texts.Texts}
-use Rattle.fb_run.proofs.{BareLemmas.runs_stopped, BareLemmas.runs_told, RunLemmas.err_is}
+use Rattle.std.proofs.Common.{Err, Ok, sym}
+use Rattle.fb_lines.specs.{Ends.outs_of, Puts.queues_of}
+use Rattle.fb_run.proofs.{BareLemmas.bare_ends, BareLemmas.bare_stops, BareLemmas.begun, BareLemmas.on_ok, BareLemmas.unused_queues, RunLemmas.err_is}
 use Rattle.fb_run.proofs.bare.pass_bare.Goals as goal
 
 pub returns-in_err-whole : goal.returns-in_err-whole
@@ -12,20 +12,20 @@ returns-in_err-whole g c =
       turns_are = c.read_whole.ensures.turns;
     })
 
-pub returns-in_err-add_through : goal.returns-in_err-add_through
-returns-in_err-add_through g c =
+pub returns-in_err-add : goal.returns-in_err-add
+returns-in_err-add g c =
     let whole = rw (c.limit.ensures.value, sym c.as_slice.ensures.value) at c.in_ok-whole.ensures.reads in
-    let ends = runs_stopped c.args.checker.now (outs_of g.K.Sink g.N.Sink c.args.writer.now c.args.notes.now) (writer_of g.K.Sink c.add_through.new.writer) c.args.turns whole c.in_err-add_through.field-0.0
-    (rw (ap (λ (t : Texts). t.out) c.requires.empty, c.requires.counted, ap (λ (s : Sizes). s.out) c.requires.written) at c.in_err-add_through.ensures.err) c.in_err-add_through.ensures.failed in
-    rw (err_is _ _ c.from_residual-in_err-add_through.ensures.1) (record { run = ends.0; end_is = ends.1; turns_are = c.read_whole.ensures.turns })
+    let unused = unused_queues g.K.Sink g.N.Sink c.args.output.now c.args.writer.now c.args.notes.now c.requires.unused in
+    let ends = bare_stops c.args.checker.now (outs_of g.K.Sink g.N.Sink c.args.writer.now c.args.notes.now) c.add.new.self.counter c.args.turns whole
+    (queues_of g.K.Sink g.N.Sink c.add.new.self c.add.new.writer c.add.new.notes) c.in_err-add.field-0.0 (begun c.args.checker.now c.as_slice.result.now (outs_of g.K.Sink g.N.Sink c.args.writer.now c.args.notes.now) _ (queues_of g.K.Sink g.N.Sink c.add.new.self c.add.new.writer c.add.new.notes) c.args.output.now.counter c.add.new.self.counter (Err c.in_err-add.field-0.0) unused c.requires.counted c.in_err-add.ensures.told) in
+    rw (err_is _ _ c.from_residual-in_err-add.ensures.1) (record { run = ends.0; end_is = ends.1; turns_are = c.read_whole.ensures.turns })
 
 pub returns : goal.returns
 returns g c =
     let whole = rw (c.limit.ensures.value, sym c.as_slice.ensures.value) at c.in_ok-whole.ensures.reads in
-    let through = rw (c.requires.empty, c.requires.counted, ap (λ (s : Sizes). s.out) c.requires.written) at c.in_ok-add_through.ensures.ok in
-    let noted = c.add_through.ensures.noted ∙ ap (λ (s : Sizes). s.notes) c.requires.written in
-    let flushed = c.flush.ensures in
-    let ends = runs_told c.args.checker.now (outs_of g.K.Sink g.N.Sink c.args.writer.now c.args.notes.now) (writer_of g.K.Sink c.add_through.new.writer) c.args.turns whole
-    (outs_of g.K.Sink g.N.Sink c.flush.new.writer c.flush.new.notes) c.flush.result through noted c.in_ok-add_through.ensures.unfailed
-    flushed.takes flushed.err flushed.unfailed flushed.failed in
-    rw flushed.counted (record { run = ends.0; end_is = ends.1; turns_are = c.read_whole.ensures.turns })
+    let unused = unused_queues g.K.Sink g.N.Sink c.args.output.now c.args.writer.now c.args.notes.now c.requires.unused in
+    let ends = bare_ends c.args.checker.now (outs_of g.K.Sink g.N.Sink c.args.writer.now c.args.notes.now) c.add.new.self.counter c.args.turns whole
+    (queues_of g.K.Sink g.N.Sink c.add.new.self c.add.new.writer c.add.new.notes) (queues_of g.K.Sink g.N.Sink c.flush.new.self c.flush.new.writer c.flush.new.notes) c.flush.result
+    (begun c.args.checker.now c.as_slice.result.now (outs_of g.K.Sink g.N.Sink c.args.writer.now c.args.notes.now) _ (queues_of g.K.Sink g.N.Sink c.add.new.self c.add.new.writer c.add.new.notes) c.args.output.now.counter c.add.new.self.counter (Ok tt) unused c.requires.counted c.in_ok-add.ensures.told) c.flush.ensures.puts c.flush.ensures.so
+    (λ is. (on_ok c.flush.result c.flush.ensures.written is, on_ok c.flush.result c.flush.ensures.noted is)) in
+    rw c.flush.ensures.counted (record { run = ends.0; end_is = ends.1; turns_are = c.read_whole.ensures.turns })

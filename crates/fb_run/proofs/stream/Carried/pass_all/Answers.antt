@@ -1,7 +1,8 @@
 use Rattle.std.proofs.Common.{arith, rules, sym, ◌∙◌}
+use Rattle.fb_lines.specs.Ends.{outs_of}
 use Rattle.fb_run.specs.{Leave.ends_of, Leave.reader_of, Pieces.carry_of}
-use Rattle.fb_run.proofs.{ThroughLemmas.fails_piece, ThroughLemmas.sofar_piece}
-use Rattle.fb_run.proofs.RunLemmas.{err_is, runs_from, sofar_nothing}
+use Rattle.fb_run.proofs.BareLemmas.{unused_queues}
+use Rattle.fb_run.proofs.RunLemmas.{err_is, fails_piece, runs_from, sofar_nothing, sofar_piece, prompt_from, sofar_prompt}
 use Rattle.fb_run.proofs.stream.Carried.pass_all.Goals as goal
 
 pub pass_bare-requires-clause-leave : goal.pass_bare-requires-clause-leave
@@ -11,16 +12,19 @@ pub returns-then-is_bare : goal.returns-then-is_bare
 returns-then-is_bare g c = runs_from (sym c.if-is_bare.true ∙ c.is_bare.ensures) c.pass_bare.ensures
 
 pub loop-left-init : goal.loop-left-init
-loop-left-init g c = record {
-  room = c.requires.room;
-  sofar = sofar_nothing c.args.checker.now (reader_of g.S.Input c.args.reader.now) (carry_of g.K.Sink g.N.Sink c.args.self.now c.args.writer.now c.args.notes.now) c.args.turns c.requires.ready c.requires.start;
-}
+loop-left-init g c =
+    let unused = unused_queues g.K.Sink g.N.Sink c.args.self.now.output c.args.writer.now c.args.notes.now c.requires.first.0 in
+    record {
+      room = c.requires.room;
+      sofar = sofar_nothing c.args.checker.now (reader_of g.S.Input c.args.reader.now) (outs_of g.K.Sink g.N.Sink c.args.writer.now c.args.notes.now)
+          (carry_of g.K.Sink g.N.Sink c.args.self.now c.args.writer.now c.args.notes.now) c.args.turns c.requires.ready unused c.requires.first.1 c.requires.first.2;
+    }
 
 pub pull_piece-requires-clause-leave : goal.pull_piece-requires-clause-leave
 pull_piece-requires-clause-leave g c =
     let sofar = c.loop-left.invariant.sofar in
     let now = ends_of g.S.Input g.K.Sink g.N.Sink c.loop-left.reader c.loop-left.writer c.loop-left.notes in
-    c.requires.leave now (rw (← c.is_bare.ensures, c.if-is_bare.false) (search rules)) sofar.asks
+    c.requires.leave now (prompt_from (sym c.is_bare.ensures ∙ c.if-is_bare.false) (sofar_prompt sofar)) sofar.asks
 
 pub loop-left-preserved : goal.loop-left-preserved
 loop-left-preserved g c =
@@ -37,4 +41,5 @@ returns-in_err-pass_piece g c =
     let read = c.in-Ok.ensures in
     let stops = rw c.as_slice.ensures.value at c.in_err-pass_piece.ensures in
     rw (err_is _ _ c.from_residual-in_err-pass_piece.ensures.1)
-    (runs_from (sym c.if-is_bare.false ∙ c.is_bare.ensures) (fails_piece c.loop-left.invariant.sofar _ _ (reader_of g.S.Input c.pull_piece.new.source) c.loop-left-test.true read.ok read.counted (omega (arith, read.failure)) stops))
+    (runs_from (sym c.if-is_bare.false ∙ c.is_bare.ensures) (fails_piece c.loop-left.invariant.sofar _ _ (reader_of g.S.Input c.pull_piece.new.source) c.loop-left-test.true read.ok read.counted (omega (arith, read.failure))
+    (carry_of g.K.Sink g.N.Sink c.pass_piece.new.self c.pass_piece.new.writer c.pass_piece.new.notes) _ stops))

@@ -1,4 +1,5 @@
 use Rattle.std.proofs.Common.{length, ◌≡◌}
+use Rattle.fb_lines.specs.Ends.{outs_of}
 use Rattle.fb_run.specs.{Leave.reader_of, Pieces.carry_of}
 use Rattle.fb_run.proofs.RunLemmas.{Sofar}
 use Rattle.fb_run.proofs.stream.Carried.pass_all.Given as goal
@@ -6,7 +7,7 @@ use Rattle.fb_run.proofs.stream.Carried.pass_all.Given as goal
 abbrev pub invariant-loop-left : goal.invariant-loop-left
 invariant-loop-left g l = record {
   room : length l.piece.items ≡ 65536;
-  sofar : Sofar l.checker (reader_of g.S.Input l.initial.reader) (reader_of g.S.Input l.reader) (carry_of g.K.Sink g.N.Sink l.initial.self l.initial.writer l.initial.notes)
+  sofar : Sofar l.checker (reader_of g.S.Input l.initial.reader) (reader_of g.S.Input l.reader) (outs_of g.K.Sink g.N.Sink l.initial.writer l.initial.notes)
       (carry_of g.K.Sink g.N.Sink l.self l.writer l.notes) l.initial.left l.left;
 }
 
