@@ -1,6 +1,6 @@
 //! Files as inputs, one behind another.
 
-ghost use Rattle.std.specs.Prelude.{Err, IfOk, true, false, ◌≡◌, ◌≢◌, ◌⊎◌, ◌+◌, ◌<◌, ◌≤◌, ◌^◌, length, map, option_map, string_bytes, vec_items};
+ghost use Rattle.std.specs.Prelude.{Err, IfOk, IfSome, true, false, ◌≡◌, ◌≢◌, ◌⊎◌, ◌+◌, ◌<◌, ◌≤◌, ◌^◌, length, map, option_map, string_bytes, vec_items};
 ghost use Rattle.fb_rules.specs.Reasons.{reason_count};
 ghost use Rattle.fb_lines.specs.Ends.{outs_of, writer_of};
 ghost use Rattle.fb_run.specs.Leave.{HasCallsLeft, HasLeave, ends_of};
@@ -9,6 +9,7 @@ ghost use Rattle.fb_run.specs.Prompt.{IsPrompt};
 ghost use Rattle.fb_lines.specs.declared.fault.RunFault.TheVariants.{TooManyTurns};
 ghost use Rattle.fbcheck_serve.specs.Inputs.{ComesOf, IsBehind, IsBehindEnd, IsBehindRun, IsNotedOf, IsPromptAmong, MayRead, MayReadEach, ServesEach, Tries, at_first, course_with, fault_line, folder_of, is_final, is_standard, label_of, seen_of, stand, standard_after, sum_of, sums, are_named};
 ghost use Rattle.fbcheck_serve.specs.declared.inputs.Standard.TheVariants.{Unread, Spent};
+ghost use Rattle.fbcheck_texts.specs.Hints.{IsHint};
 
 use crate::files::Files;
 use crate::stop::note;
@@ -18,10 +19,9 @@ use fb_run::{
 };
 use fb_schema::Schema;
 use fb_verify::REASONS;
-use fbcheck_texts::causes::{Causes, Explains};
+use fbcheck_texts::causes::{Causes, Explains, reason};
 use fbcheck_texts::fault::FileFault;
 use fbcheck_texts::framing::{By, Framing, end_hint, run_hint};
-use fbcheck_texts::hint::reason;
 use fbcheck_texts::texts::run_text;
 use std::alloc::{AllocError, Global};
 use std::io::ErrorKind;
@@ -353,7 +353,7 @@ fn tell_behind<N: Sink>(
     notes: &mut N,
 ) -> Result<(), RunFault>
     requires { N.calls notes.old < 2 ^ 99 }
-    ensures { IsBehind name.now framing came.now.what came.now.cause (writer_of N.Sink notes.old) (writer_of N.Sink notes.new) result
+    ensures { IsBehind name.now came.now.what came.now.cause (writer_of N.Sink notes.old) (writer_of N.Sink notes.new) result
         × (result ≢ Err TooManyTurns) × (N.calls notes.new ≤ N.calls notes.old + 2 ^ 64) }
 {
     match &came.what {
@@ -379,7 +379,7 @@ fn tell_run<N: Sink>(
     notes: &mut N,
 ) -> Result<(), RunFault>
     requires { N.calls notes.old < 2 ^ 99 }
-    ensures { IsBehindRun name.now framing ran.now.tally ran.now.end cause (writer_of N.Sink notes.old) (writer_of N.Sink notes.new) result
+    ensures { IsBehindRun name.now ran.now.end cause (writer_of N.Sink notes.old) (writer_of N.Sink notes.new) result
         × (result ≢ Err TooManyTurns) × (N.calls notes.new ≤ N.calls notes.old + 2 ^ 64) }
 {
     let Err(fault) = &ran.end else {
@@ -400,8 +400,9 @@ fn tell_end<N: Sink>(
     hint: Option<&[u8]>,
     notes: &mut N,
 ) -> Result<(), RunFault>
-    requires { N.calls notes.old < 2 ^ 99 }
-    ensures { IsBehindEnd name.now (option_map (λ h. h.now) hint.entry) (writer_of N.Sink notes.old) (writer_of N.Sink notes.new) result
+    requires few { N.calls notes.old < 2 ^ 99 }
+    requires line { IfSome hint (λ h. IsHint h.now) }
+    ensures { IsBehindEnd name.now (writer_of N.Sink notes.old) (writer_of N.Sink notes.new) result
         × (result ≢ Err TooManyTurns) × (N.calls notes.new ≤ N.calls notes.old + 2 ^ 64) }
 {
     let Some(hint) = hint else {
