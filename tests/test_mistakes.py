@@ -13,7 +13,7 @@ import zipfile
 from tests.support.buffers import POST
 from tests.support.builder import Plain, buffer, prefixed
 from tests.support.cases import Case
-from tests.support.program import NO_SCHEMA, TOP, Ran, astray, failed, file_of, lines, overlong, oversize, run
+from tests.support.program import TOP, Ran, astray, failed, file_of, lines, overlong, oversize, run
 from tests.support.tools import there
 
 EXAMPLES = TOP / "examples"
@@ -122,24 +122,6 @@ class Mistakes(Case):
             self.holds(f"{line}: what is said of it", hint in ran.err.decode(), ran.err)
 
     def test_what_is_told_behind_them(self):
-        refused = "fbcheck: schema: L1 V5 WrongIdentifier at=4 object=9 field=- reads=1"
-        rootless = "fbcheck: no root table post.Spot; tables: post.Delivery post.Letter post.Parcel post.Person"
-        bare = file_of("bare.bin", FIRST[4:])
-        text = "this looks like a schema's text (.fbs): flatc --binary --schema makes the .bfbs"
-        for words, want in [
-            (["--schema", EXAMPLES / "deliveries.fbs"], f"{refused} in {EXAMPLES}/deliveries.fbs; {text}"),
-            (["--schema", EXAMPLES / "deliveries.jsonl"],
-             f"{refused} in {EXAMPLES}/deliveries.jsonl; this looks like JSON, and no binary schema, which flatc --binary --schema makes"),
-            (["--schema", EXAMPLES / "deliveries.bin"], f"{refused} in {EXAMPLES}/deliveries.bin; {NO_SCHEMA}"),
-            (["--schema", bare], f"{refused} in {bare}; its file identifier is POST, where a .bfbs has BFBS"),
-            ([*BY_POST, "--root", "post.Spot"], rootless),
-            ([*BY_POST, "--path", "too.name"], "fbcheck: path: P2 NoSuchField step=0; did you mean to?; fields: id to from "
-             "first_type first items_type items route stamps notes .."),
-            ([*BY_POST, "--path", "items[0]@parcel"], "fbcheck: path: P5 NoSuchMember step=2; this union's members: "
-             "Parcel Letter Place Note"),
-        ]:
-            ran = run(*words, given=POST)
-            self.same(str(words), (ran.status, ran.out, ran.err.decode()), (2, b"", f"{want}\n"))
         bare = "stream: S1 Oversize declared=1684611707"
         like_json = f"{bare}; the input looks like JSON, of which flatc --binary makes buffers (--size-prefixed: messages)"
         for name, words, stream, want in [

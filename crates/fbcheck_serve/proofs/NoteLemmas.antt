@@ -8,7 +8,7 @@ use Rattle.std.proofs.lemmas.List.{length-append}
 use Rattle.fbcheck_texts.specs.declared.causes.Causes.{Causes}
 use Rattle.fb_bytes.specs.Ends.{one_more}
 use Rattle.fb_lines.specs.Ends.{Writer}
-use Rattle.fbcheck_serve.specs.{Inputs.IsNoted, Serving.Complains, Serving.behind, Serving.stop_text}
+use Rattle.fbcheck_serve.specs.{Inputs.IsNoted, Serving.Complains, Serving.IsBehindStop, Serving.stop_text}
 use Rattle.fbcheck_serve.specs.declared.stop.Stop.{Stop}
 use Rattle.fbcheck_serve.specs.declared.stop.Stop.TheVariants as stop
 
@@ -33,13 +33,12 @@ second_noted text behind n m n' k l k' first second whole wrote same le more fai
     ]
 
 -- what isn't the text of `clap` is told by a line of its own
-own_line : (cause : Causes) (fault : Stop) (before after : Writer) → ((text : String Global) → fault ≡ stop.Usage text → ⊥)
-    → IsNoted ((codes "fbcheck: " ++ stop_text cause fault) ++ behind fault) before after → Complains cause (Err fault) before after
-own_line cause (stop.Usage text) before after other noted = absurd (other text refl)
-own_line cause fault before after other noted = noted
+own_line : (causes : Causes) (fault : Stop) (before after : Writer) → ((text : String Global) → fault ≡ stop.Usage text → ⊥)
+    → (hint : List ℕ) → IsBehindStop fault hint → IsNoted ((codes "fbcheck: " ++ stop_text causes fault) ++ hint) before after → Complains causes (Err fault) before after
+own_line causes (stop.Usage text) before after other hint is noted = absurd (other text refl)
+own_line causes fault before after other hint is noted = (hint, is, noted)
 
-pub line_told : (cause : Causes) (fault : Stop) (before after : Writer) (line more : List ℕ) → ((text : String Global) → fault ≡ stop.Usage text → ⊥)
-    → line ≡ codes "fbcheck: " ++ stop_text cause fault → more ≡ behind fault → IsNoted (line ++ more) before after → Complains cause (Err fault) before after
-line_told cause fault before after line more other is same noted =
-    own_line cause fault before after other
-    (subst (λ (l : List ℕ). IsNoted (l ++ behind fault) before after) is (subst (λ (b : List ℕ). IsNoted (line ++ b) before after) same noted))
+pub line_told : (causes : Causes) (fault : Stop) (before after : Writer) (line hint : List ℕ) → ((text : String Global) → fault ≡ stop.Usage text → ⊥)
+    → line ≡ codes "fbcheck: " ++ stop_text causes fault → IsBehindStop fault hint → IsNoted (line ++ hint) before after → Complains causes (Err fault) before after
+line_told causes fault before after line hint other is one noted =
+    own_line causes fault before after other hint one (subst (λ (l : List ℕ). IsNoted (l ++ hint) before after) is noted)

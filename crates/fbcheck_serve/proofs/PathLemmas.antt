@@ -1,35 +1,33 @@
 -- Texts that name paths, one after another.
-use Rattle.std.proofs.Common.{◌≡◌, ℕ, ◌+◌, ◌<◌, suc, List, [], ◌∷◌, ◌++◌, length, take, drop, drop-cons, get_or, map, Option, Result, Ok, Err, refl, sym, ap, ◌∙◌, take-append-drop}
+use Rattle.std.proofs.Common.{◌≡◌, ℕ, ◌+◌, ◌<◌, suc, List, [], ◌∷◌, ◌++◌, length, take, drop, drop-cons, get_or, map, Result, Ok, Err, refl, sym, ap, ◌∙◌, take-append-drop}
 use mathlib.Core.Logic.{inl, inr}
-use Rattle.std.specs.Prelude.{IfOk, Vec, String, string_bytes}
+use Rattle.std.specs.Prelude.{String, string_bytes}
 use Rattle.std.specs.declared.alloc.AllocError.{AllocError}
 use Rattle.std.specs.Global.{Global}
 use Rattle.std.proofs.lemmas.List.{map-append, take_more}
-use Rattle.fb_access.specs.Resolving.{IsFault, IsMisfitAt}
+use Rattle.fb_access.specs.Resolving.{IsFault}
 use Rattle.fb_access.specs.declared.path_fault.PathFault.{PathFault}
-use Rattle.fb_schema.specs.declared.kinds.Kind.{Kind}
 use Rattle.fb_schema.specs.Rows.{Rows}
 use Rattle.fb_lines.specs.Wanted.{Wanted}
 use Rattle.fb_lines.proofs.FoundLemmas.{both_more}
 use Rattle.fbcheck_serve.specs.Asked.{ArePaths, IsPath, IsPathFault, PathFails}
-use Rattle.fbcheck_serve.specs.{Checking.IsPathless, Inputs.are_several, Inputs.label_of}
-use Rattle.fbcheck_texts.specs.Hints.{hint_text, path_hint, with_hint}
+use Rattle.fbcheck_serve.specs.Checking.{IsPathless}
+use Rattle.fbcheck_texts.specs.Hints.{fault_with}
 use Rattle.fbcheck_texts.specs.declared.{fault.AskFault.AskFault, fault.AskFault.TheVariants.OutOfMemory, fault.AskFault.TheVariants.Path}
-use Rattle.fbcheck_texts.specs.declared.hint.Unasked.{Unasked}
 
 module _ (rows : Rows) (root : ℕ) where
   -- the next text fails, behind those that name paths
-  pub fails_at : (before : List (List ℕ)) (paths : List Wanted) (text : List ℕ) (after : List (List ℕ)) (fault : PathFault)
+  fails_at : (before : List (List ℕ)) (paths : List Wanted) (text : List ℕ) (after : List (List ℕ)) (fault : PathFault)
       → ArePaths rows root before paths → IsFault rows root text fault → IsPathFault rows root (before ++ text ∷ after) fault
   fails_at [] paths text after fault h is = inl is
   fails_at (t ∷ before) [] text after fault h is = absurd h
   fails_at (t ∷ before) (p ∷ paths) text after fault h is = inr (p.steps, h.0.1, fails_at before paths text after fault h.1 is)
 
   -- with a hint, or for want of memory without one
-  pub hinted : (texts : List (List ℕ)) (fault : AskFault) (hint : Result (Vec ℕ Global) AllocError) (unasked : Unasked) → unasked ≡ with_hint fault hint
-      → IfOk hint (λ h. IsPathless rows root texts fault h.items) → IsPathless rows root texts unasked.fault (hint_text unasked.hint)
-  hinted texts fault (Ok hint) unasked is told = rw is told
-  hinted texts fault (Err none) unasked is told = rw is refl
+  pub pathless : {A : Type 0} (texts : List (List ℕ)) (fault told : AskFault) (hint : Result A AllocError) → told ≡ fault_with fault hint → IsPathless rows root texts fault
+      → IsPathless rows root texts told
+  pathless texts fault told (Ok hint) is lacks = rw is lacks
+  pathless texts fault told (Err none) is lacks = rw is tt
 
   module _ (texts : List (String Global)) (i : ℕ) (text : String Global) (inside : i < length texts) (is : text ≡ get_or texts i text) where
     all_texts : map string_bytes texts ≡ map string_bytes (take i texts) ++ string_bytes text ∷ map string_bytes (drop (suc i) texts)
@@ -37,23 +35,12 @@ module _ (rows : Rows) (root : ℕ) where
         ap (map string_bytes) (sym (take-append-drop i texts)) ∙ map-append string_bytes (take i texts) (drop i texts)
         ∙ rw (drop-cons texts i text inside, ← is) refl
 
-    -- it fails, and this is told behind that
-    pub path_told : (paths : List Wanted) (fault : AskFault) (at : Option Kind) (hint : List ℕ) → ArePaths rows root (map string_bytes (take i texts)) paths → PathFails rows root (string_bytes text) fault
-        → IsMisfitAt rows root (string_bytes text) at → hint ≡ path_hint rows (label_of (are_several (map string_bytes texts)) (string_bytes text)) (string_bytes text) fault at → IsPathless rows root (map string_bytes texts) fault hint
-    path_told paths (Path fault) at hint h fails stands told = record {
-      front = map string_bytes (take i texts);
-      text = string_bytes text;
-      rest = map string_bytes (drop (suc i) texts);
-      texts_are = all_texts;
-      paths = paths;
-      paths_are = h;
-      fault_is = fails;
-      at = at;
-      at_is = stands;
-      hint_is = told;
-    }
-    path_told paths OutOfMemory at hint h fails stands told = told
-    path_told paths _ at hint h fails stands told = absurd fails
+    -- it fails
+    pub path_told : (paths : List Wanted) (fault : AskFault) → ArePaths rows root (map string_bytes (take i texts)) paths → PathFails rows root (string_bytes text) fault
+        → IsPathless rows root (map string_bytes texts) fault
+    path_told paths (Path fault) h fails = rw all_texts (fails_at (map string_bytes (take i texts)) paths (string_bytes text) (map string_bytes (drop (suc i) texts)) fault h fails)
+    path_told paths OutOfMemory h fails = tt
+    path_told paths _ h fails = absurd fails
 
     -- or names the next path
     pub paths_more : (paths paths' : List Wanted) (path : Wanted) → ArePaths rows root (map string_bytes (take i texts)) paths → IsPath rows root (string_bytes text) path

@@ -2,19 +2,19 @@
 use Rattle.std.proofs.Common.{codes, ◌+◌, ◌≡◌, ◌≢◌, ◌==◌, ◌≤◌, ◌∙◌, arith, ℕ, Bool, true, false, true≢false, List, [], ◌∷◌, Option, Some, None, Result, Ok, Err, ap, length, refl, take, sym, subst}
 use Rattle.fb_rules.specs.Reasons.{reason_count}
 use mathlib.Core.Logic.{inl}
-use Rattle.std.specs.{Borrow.Bor, Global.Global, Io.KnownBytes.Appends, Result.OnErr, declared.alloc.AllocError.AllocError, declared.io.ErrorKind.ErrorKind}
+use Rattle.std.specs.{Borrow.Bor, Io.KnownBytes.Appends, Result.OnErr, declared.alloc.AllocError.AllocError, declared.io.ErrorKind.ErrorKind}
 use Rattle.std.specs.Prelude.{if◌then◌else◌, IfOk, IfSome, String, Vec, map, option_map, string_bytes, vec_items}
 use Rattle.std.proofs.{KnownBytes.Keeps-refl, Math.Seq.take-length}
 use Rattle.std.proofs.lemmas.{Bool.eq-eqb, Bool.eqb-true, List.length-map, List.nil_from_length}
 use Rattle.clap.specs.{Faults.fault_of, Walk.Text}
 use Rattle.fbcheck_words.specs.{CommandLine.program, Given.AreGiven, Refusal.Refuses, Values.text_of}
 use Rattle.fbcheck_serve.specs.Checking.{IsPromptAmongAsked, IsPromptAsAsked, IsPromptOverAsked, IsCheckedBeside, IsServedEach, MayReadAsked, names_in}
-use Rattle.fbcheck_texts.specs.{Faults.IsFile, Faults.HasFileFault, Hints.file_hint, Hints.words_hint}
+use Rattle.fbcheck_texts.specs.Faults.{IsFile, HasFileFault}
 use Rattle.fbcheck_texts.specs.declared.{fault.FileFault.FileFault, fault.WordsFault.WordsFault, framing.By.By, framing.Manner.Manner, hint.Unasked.Unasked}
 use Rattle.fbcheck_serve.specs.Inputs.{Folder, IsPromptAmong, IsPromptOver, Seen, with_cause}
 use Rattle.fb_lines.specs.{Job.Job, Faults.End, Faults.EndsBeside, JsonSums.summary_in}
 use Rattle.fb_lines.specs.Ends.{Ends, Reader, Writer, beside}
-use Rattle.fbcheck_serve.specs.Serving.{ChecksAsAsked, ComesAsAsked, ComesBy, ComesTo, EndsFiles, EndsRun, EndsSo, HoldsAsGiven, IsFileFault, IsPromptAsGiven, MayReadAsGiven, PassesAsAsked, Rests, SumsUp, Unserved}
+use Rattle.fbcheck_serve.specs.Serving.{ChecksAsAsked, ComesAsAsked, ComesBy, ComesTo, EndsFiles, EndsRun, EndsSo, HoldsAsGiven, IsPromptAsGiven, MayReadAsGiven, PassesAsAsked, Rests, SumsUp, Unserved}
 use Rattle.fbcheck_serve.specs.Serving.{files_ending, hinted_stop, lent_bytes, run_ending, summed, words_of}
 use Rattle.fbcheck_serve.proofs.AskedLemmas.{idle}
 use Rattle.fbcheck_serve.specs.declared.inputs.Passed as inputs
@@ -63,24 +63,24 @@ module _ (folder : Folder) where
 
   module _ (file : Option (Bor (List ℕ))) (settings : Settings) (before after : Seen) (sums : Option Sums) (outcome : Result Ending Stop) where
     -- the program ends by the end of the run, or of the files
-    comes_ended : (manner : Manner) (tally : Tally) (end : End) → outcome ≡ run_ending manner tally end → ChecksAsAsked file settings before.ends after.ends sums tally manner end
+    comes_ended : (manner : Manner) (tally : Tally) (end : End) → outcome ≡ run_ending manner tally end → ChecksAsAsked file settings before.ends after.ends sums tally end
         → ComesAsAsked folder file settings before after sums outcome
     comes_ended manner tally (Ok done) is checks = rw is checks
     comes_ended manner tally (Err fault) is checks = rw is checks
 
     pub comes_run : (ran : Result Ran Unasked) → names_in settings ≡ [] → IsCheckedBeside file settings before.ends after.ends ran → EndsRun settings ran sums outcome
         → ComesAsAsked folder file settings before after sums outcome
-    comes_run (Ok ran) none checked (told, is) = comes_ended _ ran.tally ran.end is (none, checked, refl, told)
+    comes_run (Ok ran) none checked (told, manner, is) = comes_ended manner ran.tally ran.end is (none, checked, told)
     comes_run (Err unasked) none checked (told, is) = rw is (checked.0, checked.1, told)
 
-    comes_passed : (by : By) (course : Course) (end : End) → outcome ≡ files_ending by course end → PassesAsAsked folder file settings before after sums course by end
+    comes_passed : (by : By) (course : Course) (end : End) → outcome ≡ files_ending by course end → PassesAsAsked folder file settings before after sums course end
         → ComesAsAsked folder file settings before after sums outcome
     comes_passed by course (Ok done) is passes = rw is passes
-    comes_passed by course (Err fault) is passes = rw is (course, by, passes)
+    comes_passed by course (Err fault) is passes = rw is (course, passes)
 
     pub comes_files : (passed : Result inputs.Passed Unasked) → names_in settings ≢ [] → IsServedEach folder file settings before after passed → EndsFiles settings passed sums outcome
         → ComesAsAsked folder file settings before after sums outcome
-    comes_files (Ok passed) some served (told, is) = comes_passed _ passed.course passed.end is (some, served, refl, told)
+    comes_files (Ok passed) some served (told, by, is) = comes_passed by passed.course passed.end is (some, served, told)
     comes_files (Err unasked) some served (told, is) = rw is (served.0, served.1, told)
 
   -- all that was read is told, where no file is named, and among files
@@ -141,19 +141,19 @@ sums_noted sums told before after outcome line written some is all wrote same =
 pub early : (before after : Ends) (outcome : Result Ending Stop) → EndsSo before after 4294967296 outcome → after.reader ≡ before.reader → Rests before after None outcome
 early before after outcome ends same = record { places = tt; ends = ends; turns = rw same (omega arith) }
 
-pub wordless : {A B : Type 0} (folder : Folder) (given : Result (Vec (String A) B) WordsFault) (seen : Seen) (fault : WordsFault) (hint : Result (Vec ℕ Global) AllocError) (cause : Stop)
-    → given ≡ Err fault → cause ≡ hinted_stop (stop.Words fault) hint → IfOk hint (λ h. h.items ≡ words_hint fault)
+pub wordless : {A B : Type 0} (folder : Folder) (given : Result (Vec (String A) B) WordsFault) (seen : Seen) (fault : WordsFault) (hint : Result (List ℕ) AllocError) (cause : Stop)
+    → given ≡ Err fault → cause ≡ hinted_stop (stop.Words fault) hint
     → ComesTo folder (words_of given) seen seen None (Err cause) × Rests seen.ends seen.ends None (Err cause)
-wordless folder given seen fault (Ok hint) cause is so told =
-    rw (is, so) ((refl, told, idle seen.ends, refl), early seen.ends seen.ends _ (refl, refl, refl) refl)
-wordless folder given seen fault (Err none) cause is so told = rw (is, so) ((idle seen.ends, refl), early seen.ends seen.ends _ (refl, refl, refl) refl)
+wordless folder given seen fault (Ok hint) cause is so =
+    rw (is, so) ((refl, idle seen.ends, refl), early seen.ends seen.ends _ (refl, refl, refl) refl)
+wordless folder given seen fault (Err none) cause is so = rw (is, so) ((idle seen.ends, refl), early seen.ends seen.ends _ (refl, refl, refl) refl)
 
-pub fileless : (folder : Folder) (given : List Text) (seen : Seen) (fault : FileFault) (hint : Result (Vec ℕ Global) AllocError) (name : Option Text) (cause : Stop)
-    → fault_of program given ≡ [] → name ≡ text_of (codes "schema") given → cause ≡ hinted_stop (stop.File fault) hint → HasFileFault folder.gives name fault → IfOk hint (λ h. h.items ≡ file_hint fault name)
+pub fileless : (folder : Folder) (given : List Text) (seen : Seen) (fault : FileFault) (hint : Result (List ℕ) AllocError) (name : Option Text) (cause : Stop)
+    → fault_of program given ≡ [] → name ≡ text_of (codes "schema") given → cause ≡ hinted_stop (stop.File fault) hint → HasFileFault folder.gives name fault
     → ComesBy folder given seen seen None (Err cause) × Rests seen.ends seen.ends None (Err cause)
-fileless folder given seen fault (Ok hint) name cause read is so has told =
-    rw so ((read, subst (λ (t : Option Text). IsFileFault folder.gives t fault hint.items) is (has, told), idle seen.ends, refl), early seen.ends seen.ends _ (refl, refl, refl) refl)
-fileless folder given seen fault (Err none) name cause read is so has told =
+fileless folder given seen fault (Ok hint) name cause read is so has =
+    rw so ((read, subst (λ (t : Option Text). HasFileFault folder.gives t fault) is has, idle seen.ends, refl), early seen.ends seen.ends _ (refl, refl, refl) refl)
+fileless folder given seen fault (Err none) name cause read is so has =
     rw so (((refusal.OutOfMemory, tt, Keeps-refl seen.ends.reader.left, Keeps-refl seen.ends.outs.writer.bytes, Keeps-refl seen.ends.outs.notes.bytes), refl), early seen.ends seen.ends _ (refl, refl, refl) refl)
 
 -- the numbers to be told have a place for each kind of fault
@@ -182,7 +182,7 @@ module _ (settings : Settings) (before after : Ends) (turns : after.reader.calls
 
   pub run_rests : (ran : Result Ran Unasked) (sums : Option Sums) (outcome : Result Ending Stop) → EndsRun settings ran sums outcome → IfOk ran (λ r. length r.tally.reasons ≡ reason_count)
       → IfOk ran (λ r. EndsBeside before after 4294967296 r.end) → OnErr ran (after ≡ before) → Rests before after sums outcome
-  run_rests (Ok ran) sums outcome (told, is) are ends same = rw (told, is) (run_rests_so _ ran.tally ran.end are ends)
+  run_rests (Ok ran) sums outcome (told, manner, is) are ends same = rw (told, is) (run_rests_so manner ran.tally ran.end are ends)
   run_rests (Err unasked) sums outcome (told, is) are ends same = rw (told, is) (unasked_rests unasked same)
 
   files_rests_so : (by : By) (course : Course) (end : End) → length course.tally.reasons ≡ reason_count → Rests before after (summed settings course.tally) (files_ending by course end)
@@ -192,5 +192,5 @@ module _ (settings : Settings) (before after : Ends) (turns : after.reader.calls
   pub files_rests : (passed : Result inputs.Passed Unasked) (sums : Option Sums) (outcome : Result Ending Stop) → EndsFiles settings passed sums outcome
       → IfOk passed (λ p. length p.course.tally.reasons ≡ reason_count) → OnErr passed (after ≡ before)
       → Rests before after sums outcome
-  files_rests (Ok passed) sums outcome (told, is) are same = rw (told, is) (files_rests_so _ passed.course passed.end are)
+  files_rests (Ok passed) sums outcome (told, by, is) are same = rw (told, is) (files_rests_so by passed.course passed.end are)
   files_rests (Err unasked) sums outcome (told, is) are same = rw (told, is) (unasked_rests unasked same)

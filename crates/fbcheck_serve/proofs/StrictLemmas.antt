@@ -11,8 +11,7 @@ use Rattle.fbcheck_serve.specs.Asked.{IsAskedPlan, demanded, demanded_by, is_dem
 use Rattle.fbcheck_serve.specs.ByteFields.{LacksPlan, Misses, has_lost}
 use Rattle.fbcheck_serve.specs.Checking.{IsPlanBy, IsPlanless, LacksPlanBy, MayAsk, NeedsMarks}
 use Rattle.fbcheck_serve.specs.FileMarks.{ArePlanMarks, schema_limits}
-use Rattle.fbcheck_texts.specs.Hints.{hint_text}
-use Rattle.fbcheck_texts.specs.declared.{fault.AskFault.AskFault, fault.AskFault.TheVariants.NoSuchTable, fault.AskFault.TheVariants.OutOfMemory, hint.Unasked.Unasked}
+use Rattle.fbcheck_texts.specs.declared.{fault.AskFault.AskFault, fault.AskFault.TheVariants.NoSuchTable, fault.AskFault.TheVariants.OutOfMemory, fault.AskFault.TheVariants.UnmarkedBytes, hint.Unasked.Unasked}
 use Rattle.fbcheck_words.specs.declared.choices.Settings.{Settings}
 
 -- Whose marks are asked.
@@ -86,34 +85,36 @@ may_without file rows settings is = subst (λ f. MayAsk f rows settings) (sym is
 -- Where there is none.
 
 -- what `?` answers
-pub err_told : {A : Type 0} (r : Result A Unasked) (x : Unasked) (P : Unasked → Type 0) → IsErrAnd r (λ e. e ≡ x) → P x → IfErr r P
+pub err_told : {A : Type 0} (r : Result A Unasked) (x : Unasked) (P : AskFault → Type 0) → IsErrAnd r (λ e. e ≡ x) → P x.fault → IfErr r (λ u. P u.fault)
 err_told (Ok a) x P h p = tt
-err_told (Err e) x P h p = subst P (sym h) p
+err_told (Err e) x P h p = subst (λ (u : Unasked). P u.fault) (sym h) p
 
-pub planless_by : (file : Option (Bor (List ℕ))) (bytes : Bor (List ℕ)) (rows : Rows) (settings : Settings) → file ≡ Some bytes → NeedsMarks (Some bytes) settings → (fault : AskFault) (hint : List ℕ)
-    → LacksPlanBy bytes.now rows fault hint → IsPlanless file rows settings fault hint
-planless_by file bytes rows settings is needs fault hint lacks = subst (λ f. IsPlanless f rows settings fault hint) (sym is) (go fault lacks)
+pub planless_by : (file : Option (Bor (List ℕ))) (bytes : Bor (List ℕ)) (rows : Rows) (settings : Settings) → file ≡ Some bytes → NeedsMarks (Some bytes) settings → (fault : AskFault)
+    → LacksPlanBy bytes.now rows fault → IsPlanless file rows settings fault
+planless_by file bytes rows settings is needs fault lacks = subst (λ f. IsPlanless f rows settings fault) (sym is) (go fault lacks)
   where
-    go : (g : AskFault) → LacksPlanBy bytes.now rows g hint → IsPlanless (Some bytes) rows settings g hint
-    go OutOfMemory lacks = lacks
-    go _ (read, are, misses) = (needs, map marked read.fields.items, read.builtins, (read, are, refl, refl), misses)
+    go : (g : AskFault) → LacksPlanBy bytes.now rows g → IsPlanless (Some bytes) rows settings g
+    go OutOfMemory lacks = tt
+    go UnmarkedBytes (read, are, has) = (needs, map marked read.fields.items, read.builtins, (read, are, refl, refl), has)
+    go NoSuchTable (read, are, has) = (needs, map marked read.fields.items, read.builtins, (read, are, refl, refl), has)
+    go _ (read, are, never) = absurd never
 
 module _ (bytes : List ℕ) (rows : Rows) (read : Marks) (are : AreMarks bytes (schema_limits (length bytes)) read) where
   -- a field of bytes without a mark
-  pub unmarked_by : (fault : AskFault) (hint : List ℕ) → Misses rows (map marked read.fields.items) read.builtins fault hint → LacksPlanBy bytes rows fault hint
-  unmarked_by OutOfMemory hint misses = misses
-  unmarked_by _ hint misses = (read, are, misses)
+  pub unmarked_by : (fault : AskFault) → Misses rows (map marked read.fields.items) read.builtins fault → LacksPlanBy bytes rows fault
+  unmarked_by OutOfMemory misses = tt
+  unmarked_by _ misses = (read, are, misses)
 
   module _ (all : HasUnmarked rows (map marked read.fields.items) read.builtins → ⊥) where
     -- a mark without a table
-    lost_by : (fault : AskFault) (hint : List ℕ) → LacksPlan rows (map marked read.fields.items) fault hint → LacksPlanBy bytes rows fault hint
-    lost_by OutOfMemory hint lacks = lacks
-    lost_by NoSuchTable hint lacks = (read, are, (record { all = all; lost = lacks.0 }, lacks.1, lacks.2, lacks.3, lacks.4))
-    lost_by _ hint lacks = absurd lacks
+    lost_by : (fault : AskFault) → LacksPlan rows (map marked read.fields.items) fault → LacksPlanBy bytes rows fault
+    lost_by OutOfMemory lacks = tt
+    lost_by NoSuchTable lacks = (read, are, record { all = all; lost = lacks })
+    lost_by _ lacks = absurd lacks
 
-    pub planned_not : (r : Result Planned Unasked) → IfErr r (λ u. LacksPlan rows (map marked read.fields.items) u.fault (hint_text u.hint)) → IfErr r (λ u. LacksPlanBy bytes rows u.fault (hint_text u.hint))
+    pub planned_not : (r : Result Planned Unasked) → IfErr r (λ u. LacksPlan rows (map marked read.fields.items) u.fault) → IfErr r (λ u. LacksPlanBy bytes rows u.fault)
     planned_not (Ok plan) lacks = tt
-    planned_not (Err u) lacks = lost_by u.fault (hint_text u.hint) lacks
+    planned_not (Err u) lacks = lost_by u.fault lacks
 
     -- and neither
     pub planned_so : (settings : Settings) (r : Result Planned Unasked) → (demanded settings).nested ≡ true → IfOk r (IsPlan rows (demanded_by rows settings (map marked read.fields.items)))

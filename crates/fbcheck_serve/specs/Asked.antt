@@ -9,7 +9,7 @@ use Rattle.fb_bfbs.specs.LoadLaws.{own_ident}
 use Rattle.fb_strict.specs.declared.demands.Demands.{Demands}
 use Rattle.fb_bfbs.specs.Marks.{Marked}
 use Rattle.fb_strict.specs.{Demanded.Demanded, Demanded.demanded as holding, Holding.holdings_if, Planned.IsPlan, Planned.Planned}
-use Rattle.fb_lines.specs.{Job.Job, Job.job_of, Job.start_of, Wanted.Wanted}
+use Rattle.fb_lines.specs.{Job.Job, Job.job_of, Wanted.Wanted}
 use Rattle.fbcheck_words.specs.declared.choices.Form as asked
 use Rattle.fbcheck_words.specs.declared.choices.Form.TheVariants as words
 use Rattle.fbcheck_words.specs.declared.choices.Settings.{Settings}
@@ -17,8 +17,7 @@ use Rattle.fb_lines.specs.declared.{options.Form.Form, options.Form.TheVariants.
 use Rattle.fb_lines.specs.declared.options.Mode.TheVariants.{Lines, BadLines, Filter}
 use Rattle.fb_lines.specs.declared.{options.Places.Places, options.Places.TheVariants.Numbers, options.Places.TheVariants.Words, options.Prefix.Prefix}
 use Rattle.fb_lines.specs.declared.{options.Prefix.TheVariants.Part, options.Prefix.TheVariants.Apart, options.Options.Options}
-use Rattle.fbcheck_texts.specs.Framing.{by_of, framing_of}
-use Rattle.fbcheck_texts.specs.declared.{framing.Framing.Framing, framing.Manner.Manner, fault.AskFault.AskFault}
+use Rattle.fbcheck_texts.specs.declared.fault.AskFault.{AskFault}
 use Rattle.fbcheck_serve.specs.{FileMarks.ArePlanMarks, Inputs.label_of, Inputs.with_label}
 use Rattle.fbcheck_texts.specs.declared.fault.AskFault.TheVariants.{Path, NoRoot, NoIdent, UnmarkedBytes, NoSuchTable, OutOfMemory}
 
@@ -84,14 +83,6 @@ places_of false words.Plain = Numbers
 abbrev pub prefix_of : Bool → Prefix
 prefix_of true = Apart
 prefix_of false = Part
-
--- how messages stand in an input
-abbrev pub framing_in : Settings → Framing
-framing_in settings = framing_of settings.bare (start_of settings.bare (prefix_of settings.delimited))
-
--- and by what they are checked
-abbrev pub manner_in : Settings → Manner
-manner_in settings = record { framing = framing_in settings; by = by_of settings.schema }
 
 -- what the settings ask of each buffer, from this root, with these paths, this identifier and this plan
 abbrev pub options_of : Settings → ℕ → Vec Wanted Global → Ident → Option Planned → Options

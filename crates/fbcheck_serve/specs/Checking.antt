@@ -1,10 +1,7 @@
 -- A run by the schema of a file, or without one by the fixed table of schema files.
-use Rattle.std.specs.Prelude.{◌≡◌, ℕ, IsTrue, false, List, ◌∷◌, ◌++◌, Option, Some, None, Result, Ok, Err, length, codes, map, option_map, string_bytes}
+use Rattle.std.specs.Prelude.{◌≡◌, ℕ, IsTrue, false, List, Option, Some, None, Result, Ok, Err, length, codes, map, string_bytes}
 use Rattle.std.specs.{Borrow.Bor, Io.KnownBytes.Keeps}
-use Rattle.fb_schema.specs.declared.kinds.Kind.{Kind}
 use Rattle.fb_schema.specs.Rows.{Rows}
-use Rattle.fb_access.specs.Resolving.{IsFault, IsMisfitAt}
-use Rattle.fb_access.specs.declared.path_fault.PathFault.{PathFault}
 use Rattle.fb_bfbs.specs.{Fixed.fixed, Loads.IsLoaded, Loads.IsLoadFault, Loads.schema_number}
 use Rattle.fb_bfbs.specs.declared.{loading.Loaded.Loaded, load_fault.LoadFault.LoadFault}
 use Rattle.fb_bfbs.specs.declared.load_fault.LoadFault.TheVariants as load
@@ -13,14 +10,13 @@ use Rattle.fb_bfbs.specs.{ByteFields.HasUnmarked, Marks.AreMarks, Marks.Marked, 
 use Rattle.fb_bfbs.specs.declared.{marks.Builtins.Builtins, marks.Marks.Marks}
 use Rattle.fb_strict.specs.Planned.{IsPlan, Planned}
 use Rattle.fbcheck_serve.specs.{ByteFields.AreTold, ByteFields.LacksTable, ByteFields.Misses, FileMarks.IsMarkedFile, FileMarks.schema_limits}
-use Rattle.fbcheck_serve.specs.Asked.{ArePaths, AsksBy, Own, asked_root, demanded_by, path_texts}
-use Rattle.fbcheck_texts.specs.Hints.{hint_text, path_hint, root_hint, schema_hint}
-use Rattle.fbcheck_serve.specs.Inputs.{Folder, IsPromptAmong, IsPromptOver, MayReadEach, Seen, ServesEach, are_several, at_first, label_of, stand}
-use Rattle.fb_lines.specs.{Ends.Ends, Ends.Unwritten, Job.Job, Wanted.Wanted}
+use Rattle.fbcheck_serve.specs.Asked.{AsksBy, IsPathFault, Own, demanded_by}
+use Rattle.fbcheck_serve.specs.Inputs.{Folder, IsPromptAmong, IsPromptOver, MayReadEach, Seen, ServesEach, at_first, stand}
+use Rattle.fb_lines.specs.{Ends.Ends, Ends.Unwritten, Job.Job}
 use Rattle.fb_run.specs.{Prompt.IsPrompt, Run.IsRunBeside}
 use Rattle.fbcheck_words.specs.declared.choices.Settings.{Settings}
 use Rattle.fbcheck_texts.specs.declared.{fault.AskFault.AskFault, hint.Unasked.Unasked, fault.CheckFault.CheckFault}
-use Rattle.fbcheck_texts.specs.declared.fault.AskFault.TheVariants.{Load, NoRoot, Path, UnmarkedBytes, NoSuchTable, OutOfMemory}
+use Rattle.fbcheck_texts.specs.declared.fault.AskFault.TheVariants.{Load, Path, UnmarkedBytes, NoSuchTable, OutOfMemory}
 use Rattle.fbcheck_serve.specs.declared.{inputs.Course.Course, inputs.Passed.Passed}
 use Rattle.fbcheck_texts.specs.declared.fault.CheckFault.TheVariants as check
 use Rattle.fb_lines.specs.Faults.{End, EndsBeside, IsUnfailed, failures_of}
@@ -86,61 +82,30 @@ abbrev pub LacksJob : Option (Bor (List ℕ)) → Settings → AskFault → Type
 LacksJob file settings OutOfMemory = Unit {0}
 LacksJob file settings fault = Asks file settings (Err fault)
 
--- the first of these texts that names no path from the root has this fault, and this is told behind it: which it is,
--- where they are several, and what there is where its step doesn't fit
-pub record TellsPath (rows : Rows) (root : ℕ) (texts : List (List ℕ)) (fault : PathFault) (hint : List ℕ) : Type 0 where
-  pub front : List (List ℕ)
-  pub text : List ℕ
-  pub rest : List (List ℕ)
-  pub texts_are : texts ≡ front ++ (text ∷ rest)
-  pub paths : List Wanted
-  pub paths_are : ArePaths rows root front paths
-  pub fault_is : IsFault rows root text fault
-  pub at : Option Kind
-  pub at_is : IsMisfitAt rows root text at
-  pub hint_is : hint ≡ path_hint rows (label_of (are_several texts) text) text (Path fault) at
+-- why texts give no paths, where memory may be refused
+abbrev pub IsPathless : Rows → ℕ → List (List ℕ) → AskFault → Type 0
+IsPathless rows root texts (Path fault) = IsPathFault rows root texts fault
+IsPathless rows root texts OutOfMemory = Unit {0}
+IsPathless rows root texts _ = ⊥
 
--- why texts give no paths, and what is told behind that
-abbrev pub IsPathless : Rows → ℕ → List (List ℕ) → AskFault → List ℕ → Type 0
-IsPathless rows root texts (Path fault) hint = TellsPath rows root texts fault hint
-IsPathless rows root texts OutOfMemory hint = hint ≡ codes "\n"
-IsPathless rows root texts _ hint = ⊥
+-- why a file's marks keep strict checks from being made, where memory may be refused
+abbrev pub IsPlanless : Option (Bor (List ℕ)) → Rows → Settings → AskFault → Type 0
+IsPlanless file rows settings UnmarkedBytes = HasUnmarkedBytes file rows settings
+IsPlanless file rows settings NoSuchTable = HasLostMark file rows settings
+IsPlanless file rows settings OutOfMemory = Unit {0}
+IsPlanless file rows settings _ = ⊥
 
--- why a file's marks keep strict checks from being made, with what is told behind that, where memory may be refused
-abbrev pub IsPlanless : Option (Bor (List ℕ)) → Rows → Settings → AskFault → List ℕ → Type 0
-IsPlanless file rows settings OutOfMemory hint = hint ≡ codes "\n"
-IsPlanless file rows settings fault hint = NeedsMarks file settings × (marks : List Marked) × (builtins : Builtins) × IsMarkedFile file marks builtins × Misses rows marks builtins fault hint
-
--- a plan is made by the marks of a schema file, which say what each field of bytes holds; or why none is, with what is
--- told behind that, where memory may be refused
+-- a plan is made by the marks of a schema file, which say what each field of bytes holds; or why none is, where memory
+-- may be refused
 pub record IsPlanBy (bytes : List ℕ) (rows : Rows) (settings : Settings) (plan : Planned) : Type 0 where
   pub read : Marks
   pub are : AreMarks bytes (schema_limits (length bytes)) read
   pub told : AreTold rows (map marked read.fields.items) read.builtins
   pub plan_is : IsPlan rows (demanded_by rows settings (map marked read.fields.items)) plan
 
-abbrev pub LacksPlanBy : List ℕ → Rows → AskFault → List ℕ → Type 0
-LacksPlanBy bytes rows OutOfMemory hint = hint ≡ codes "\n"
-LacksPlanBy bytes rows fault hint = (read : Marks) × AreMarks bytes (schema_limits (length bytes)) read × Misses rows (map marked read.fields.items) read.builtins fault hint
-
--- a field of bytes is told, with what can be done
-abbrev pub TellsBytes : Option (Bor (List ℕ)) → Settings → AskFault → List ℕ → Type 0
-TellsBytes file settings fault text =
-    (rows : Rows) × (own : Own) × IsSchema file rows own × (marks : List Marked) × (builtins : Builtins) × IsMarkedFile file marks builtins × Misses rows marks builtins fault text
-
--- this is told behind a fault of what a schema file, or none, and the settings ask
-abbrev pub IsHint : Option (Bor (List ℕ)) → Settings → AskFault → List ℕ → Type 0
-IsHint file settings (Load fault) text = text ≡ schema_hint (option_map string_bytes settings.schema) file
-IsHint file settings NoRoot text = (rows : Rows) × (own : Own) × IsSchema file rows own × (text ≡ root_hint rows (option_map string_bytes settings.root) (option_map string_bytes settings.schema))
-IsHint file settings (Path fault) text = (rows : Rows) × (own : Own) × (root : ℕ) × IsSchema file rows own × (asked_root rows own settings ≡ Some root) × TellsPath rows root (path_texts settings) fault text
-IsHint file settings UnmarkedBytes text = TellsBytes file settings UnmarkedBytes text
-IsHint file settings NoSuchTable text = TellsBytes file settings NoSuchTable text
-IsHint file settings _ text = text ≡ codes "\n"
-
--- there is nothing to check by, for this fault, and this is told behind it
-pub record IsUntold (file : Option (Bor (List ℕ))) (settings : Settings) (unasked : Unasked) : Type 0 where
-  pub lacks : LacksJob file settings unasked.fault
-  pub hint : IsHint file settings unasked.fault (hint_text unasked.hint)
+abbrev pub LacksPlanBy : List ℕ → Rows → AskFault → Type 0
+LacksPlanBy bytes rows OutOfMemory = Unit {0}
+LacksPlanBy bytes rows fault = (read : Marks) × AreMarks bytes (schema_limits (length bytes)) read × Misses rows (map marked read.fields.items) read.builtins fault
 
 -- nothing was read, written or noted
 abbrev pub IsIdle : Ends → Ends → Type 0
@@ -153,7 +118,7 @@ RunsAsAsked file settings before after tally end = (job : Job) × Asks file sett
 -- the same where it may be that no run began, since nothing was asked for or memory was refused before
 abbrev pub IsCheckedBeside : Option (Bor (List ℕ)) → Settings → Ends → Ends → Result Ran Unasked → Type 0
 IsCheckedBeside file settings before after (Ok ran) = RunsAsAsked file settings before after ran.tally ran.end
-IsCheckedBeside file settings before after (Err unasked) = IsUntold file settings unasked × IsIdle before after
+IsCheckedBeside file settings before after (Err unasked) = LacksJob file settings unasked.fault × IsIdle before after
 
 -- the same of an answer alone
 abbrev pub IsChecked : Option (Bor (List ℕ)) → Settings → Ends → Ends → Result Tally CheckFault → Type 0
@@ -173,7 +138,7 @@ ServesAsAsked folder file settings before after course end =
 -- the same where it may be that none was begun
 abbrev pub IsServedEach : Folder → Option (Bor (List ℕ)) → Settings → Seen → Seen → Result Passed Unasked → Type 0
 IsServedEach folder file settings before after (Ok passed) = ServesAsAsked folder file settings before after passed.course passed.end
-IsServedEach folder file settings before after (Err unasked) = IsUntold file settings unasked × IsIdle before.ends after.ends
+IsServedEach folder file settings before after (Err unasked) = LacksJob file settings unasked.fault × IsIdle before.ends after.ends
 
 -- there was nothing to check by
 abbrev pub IsUnasked : CheckFault → Type 0

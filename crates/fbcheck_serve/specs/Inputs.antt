@@ -13,8 +13,7 @@ use Rattle.fb_lines.specs.declared.{fault.RunFault.RunFault, tally.Tally.Tally}
 use Rattle.fb_run.specs.declared.run.Ran.{Ran}
 use Rattle.fb_lines.specs.declared.fault.RunFault.TheVariants.{WriteFault, NoteFault, OutOfMemory}
 use Rattle.std.specs.declared.io.ErrorKind.{ErrorKind}
-use Rattle.fbcheck_texts.specs.{Hints.reason_text, Texts.of_read, Texts.run_text, Framing.end_hint, Framing.framing_of, Framing.run_hint}
-use Rattle.fbcheck_texts.specs.declared.{framing.By.TheVariants.Named, framing.Framing.Framing}
+use Rattle.fbcheck_texts.specs.{Causes.reason_text, Hints.IsHint, Hints.IsRunHint, Texts.of_read, Texts.run_text}
 use Rattle.fbcheck_serve.specs.declared.files.Files as files
 use Rattle.fbcheck_texts.specs.declared.causes.Explains as explains
 use Rattle.fbcheck_texts.specs.declared.fault.FileFault.{FileFault}
@@ -176,27 +175,27 @@ is_final (NoteFault written) = true
 is_final OutOfMemory = true
 is_final fault = false
 
--- behind a fault of a run, of which this is the cause: nothing, where that ends it all; else its text is noted
-abbrev pub IsBehindFault : Bool → List ℕ → Framing → Tally → RunFault → Option ErrorKind → Writer → Writer → End → Type 0
-IsBehindFault true name framing tally fault cause before after end = (end ≡ Err fault) × (after ≡ before)
-IsBehindFault false name framing tally fault cause before after end = IsNotedOf (fault_line name (run_text (of_read cause) fault) (run_hint framing fault tally)) before after end
+-- behind a fault of a run, of which this is the cause: nothing, where that ends it all; else its text is noted, maybe
+-- with a hint
+abbrev pub IsBehindFault : Bool → List ℕ → RunFault → Option ErrorKind → Writer → Writer → End → Type 0
+IsBehindFault true name fault cause before after end = (end ≡ Err fault) × (after ≡ before)
+IsBehindFault false name fault cause before after end = (hint : List ℕ) × IsRunHint fault hint × IsNotedOf (fault_line name (run_text (of_read cause) fault) hint) before after end
 
--- behind a run that came to its end: what is told of it, where there is something
-abbrev pub IsBehindEnd : List ℕ → Option (List ℕ) → Writer → Writer → End → Type 0
-IsBehindEnd name None before after end = (end ≡ Ok tt) × (after ≡ before)
-IsBehindEnd name (Some hint) before after end = IsHintOf (fault_line name hint []) before after end
+-- behind a run that came to its end: nothing, or a hint
+abbrev pub IsBehindEnd : List ℕ → Writer → Writer → End → Type 0
+IsBehindEnd name before after end = (end ≡ Ok tt) × (after ≡ before) ⊎ ((hint : List ℕ) × IsHint hint × IsHintOf (fault_line name hint []) before after end)
 
 -- behind a run
-abbrev pub IsBehindRun : List ℕ → Framing → Tally → End → Option ErrorKind → Writer → Writer → End → Type 0
-IsBehindRun name framing tally (Ok done) cause before after end = IsBehindEnd name (end_hint Named framing tally) before after end
-IsBehindRun name framing tally (Err fault) cause before after end = IsBehindFault (is_final fault) name framing tally fault cause before after end
+abbrev pub IsBehindRun : List ℕ → End → Option ErrorKind → Writer → Writer → End → Type 0
+IsBehindRun name (Ok done) cause before after end = IsBehindEnd name before after end
+IsBehindRun name (Err fault) cause before after end = IsBehindFault (is_final fault) name fault cause before after end
 
 -- the same where there may have been no run
-abbrev pub IsBehind : List ℕ → Framing → Result Ran Missed → Option ErrorKind → Writer → Writer → End → Type 0
-IsBehind name framing (Ok ran) cause before after end = IsBehindRun name framing ran.tally ran.end cause before after end
-IsBehind name framing (Err (missed.File file.OutOfMemory)) cause before after end = (end ≡ Err OutOfMemory) × (after ≡ before)
-IsBehind name framing (Err (missed.File (file.Unreadable why))) cause before after end = IsNotedOf (fault_line name (reason_text why) (codes "\n")) before after end
-IsBehind name framing (Err missed.Again) cause before after end = IsNotedOf (fault_line name (codes "standard input was read before") (codes "\n")) before after end
+abbrev pub IsBehind : List ℕ → Result Ran Missed → Option ErrorKind → Writer → Writer → End → Type 0
+IsBehind name (Ok ran) cause before after end = IsBehindRun name ran.end cause before after end
+IsBehind name (Err (missed.File file.OutOfMemory)) cause before after end = (end ≡ Err OutOfMemory) × (after ≡ before)
+IsBehind name (Err (missed.File (file.Unreadable why))) cause before after end = IsNotedOf (fault_line name (reason_text why) (codes "\n")) before after end
+IsBehind name (Err missed.Again) cause before after end = IsNotedOf (fault_line name (codes "standard input was read before") (codes "\n")) before after end
 
 -- standard input once this file was gone through
 abbrev pub standard_after : Bool → Standard → Standard
@@ -234,7 +233,7 @@ pub record Passes (folder : Folder) (job : Job) (name : List ℕ) (before after 
   pub cause : Option ErrorKind
   pub between : Seen
   pub comes : ComesOf folder job name before.course.standard before.seen between came cause
-  pub told : IsBehind name (framing_of job.bare job.start) came cause between.ends.outs.notes after.seen.ends.outs.notes end
+  pub told : IsBehind name came cause between.ends.outs.notes after.seen.ends.outs.notes end
   pub others : after.seen ≡ renoted between after.seen.ends.outs.notes
   pub course_is : after.course ≡ course_with name came before.course
 

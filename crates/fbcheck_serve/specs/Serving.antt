@@ -2,13 +2,12 @@
 use Rattle.std.specs.Prelude.{◌≡◌, ◌≢◌, ℕ, ◌+◌, ◌<◌, ◌≤◌, ◌⊎◌, ◌++◌, length, if◌then◌else◌, List, [], Option, Some, None, Result, Ok, Err, Vec, String, IfSome, codes, map, option_map, string_bytes, string_len, vec_items}
 use Rattle.fb_bytes.specs.Ends.{one_more}
 use Rattle.fb_rules.specs.Reasons.{reason_count}
-use Rattle.std.specs.{Borrow.Bor, Global.Global, Io.KnownBytes.Appends, Io.KnownBytes.Keeps, declared.alloc.AllocError.AllocError, declared.io.ErrorKind.ErrorKind}
+use Rattle.std.specs.{Borrow.Bor, Io.KnownBytes.Appends, Io.KnownBytes.Keeps, declared.alloc.AllocError.AllocError, declared.io.ErrorKind.ErrorKind}
 use Rattle.clap.specs.{Walk.Text, Faults.fault_of}
-use Rattle.fbcheck_serve.specs.Asked.{form_of, manner_in}
-use Rattle.fbcheck_serve.specs.Checking.{IsIdle, IsPromptOverAsked, IsUntold, MayReadAsked, RunsAsAsked, ServesAsAsked, names_in}
-use Rattle.fbcheck_texts.specs.{Hints.file_hint, Hints.hint_text, Hints.words_hint, Faults.HasFileFault, Faults.IsFile, Faults.ask_status}
+use Rattle.fbcheck_serve.specs.Asked.{form_of}
+use Rattle.fbcheck_serve.specs.Checking.{IsIdle, IsPromptOverAsked, LacksJob, MayReadAsked, RunsAsAsked, ServesAsAsked, names_in}
+use Rattle.fbcheck_texts.specs.{Hints.IsHint, Hints.IsRunHint, Faults.HasFileFault, Faults.IsFile, Faults.ask_status}
 use Rattle.fbcheck_texts.specs.Texts.{ask_text, file_text, run_text, unsummed_text, words_text}
-use Rattle.fbcheck_texts.specs.Framing.{by_hint, by_of, end_hint, run_hint}
 use Rattle.fbcheck_texts.specs.declared.{framing.By.By, framing.Manner.Manner, hint.Unasked.Unasked}
 use Rattle.fbcheck_serve.specs.Inputs.{Folder, IsNoted, Seen, renoted}
 use Rattle.fbcheck_words.specs.{CommandLine.program, Refusal.Refuses, Refusal.refusal_status, Refusal.refusal_text, Given.AreGiven, Values.text_of}
@@ -16,7 +15,6 @@ use Rattle.fb_lines.specs.{Ends.Ends, Ends.Writer, Ends.with_notes, Lines.Writes
 use Rattle.fb_lines.specs.Faults.{End, EndsBeside, IsUnfailed, failures_of, status_of}
 use Rattle.fbcheck_words.specs.declared.{choices.Settings.Settings, choices.SettingsFault.SettingsFault}
 use Rattle.fbcheck_words.specs.declared.choices.SettingsFault.TheVariants as refusal
-use Rattle.fbcheck_texts.specs.declared.fault.FileFault.{FileFault}
 use Rattle.fbcheck_texts.specs.declared.fault.FileFault.TheVariants as file_fault
 use Rattle.fb_run.specs.declared.run.Ran.{Ran}
 use Rattle.fbcheck_serve.specs.declared.inputs.Passed as inputs
@@ -34,10 +32,6 @@ abbrev pub words_of : {A B : Type 0} → Result (Vec (String A) B) WordsFault �
 words_of (Ok given) = Ok (map string_bytes (vec_items given))
 words_of (Err fault) = Err fault
 
--- a file is named, and a read of it had this fault; this is told behind it
-abbrev pub IsFileFault : (Text → Result (List ℕ) FileFault → Type 0) → Option Text → FileFault → List ℕ → Type 0
-IsFileFault gives name fault hint = HasFileFault gives name fault × (hint ≡ file_hint fault name)
-
 -- the bytes that are lent, where there are any
 abbrev pub lent_bytes : Option (Bor (List ℕ)) → Option (List ℕ)
 lent_bytes file = option_map (λ (b : Bor (List ℕ)). b.now) file
@@ -54,25 +48,23 @@ pub record HoldsAsGiven (folder : Folder) (given : List Text) (Holds : Option (B
 abbrev pub summed : Settings → Tally → Option Sums
 summed settings tally = if settings.summary then Some (record { form = form_of settings.form; tally = tally }) else None
 
--- the buffers of standard input were checked as the settings ask, which name no files, in this manner, this was counted,
--- and these numbers are to be told
-abbrev pub ChecksAsAsked : Option (Bor (List ℕ)) → Settings → Ends → Ends → Option Sums → Tally → Manner → End → Type 0
-ChecksAsAsked file settings before after sums tally manner end =
-    (names_in settings ≡ []) × RunsAsAsked file settings before after tally end × (manner ≡ manner_in settings) × (sums ≡ summed settings tally)
+-- the buffers of standard input were checked as the settings ask, which name no files, this was counted, and these
+-- numbers are to be told
+abbrev pub ChecksAsAsked : Option (Bor (List ℕ)) → Settings → Ends → Ends → Option Sums → Tally → End → Type 0
+ChecksAsAsked file settings before after sums tally end = (names_in settings ≡ []) × RunsAsAsked file settings before after tally end × (sums ≡ summed settings tally)
 
--- files were gone through as the settings ask, they came to this, by what they were checked, and these numbers are to be told
-abbrev pub PassesAsAsked : Folder → Option (Bor (List ℕ)) → Settings → Seen → Seen → Option Sums → Course → By → End → Type 0
-PassesAsAsked folder file settings before after sums course by end =
-    (names_in settings ≢ []) × ServesAsAsked folder file settings before after course end × (by ≡ by_of settings.schema) × (sums ≡ summed settings course.tally)
+-- files were gone through as the settings ask, they came to this, and these numbers are to be told
+abbrev pub PassesAsAsked : Folder → Option (Bor (List ℕ)) → Settings → Seen → Seen → Option Sums → Course → End → Type 0
+PassesAsAsked folder file settings before after sums course end =
+    (names_in settings ≢ []) × ServesAsAsked folder file settings before after course end × (sums ≡ summed settings course.tally)
 
 -- what the program came to by these settings and this schema file
 abbrev pub ComesAsAsked : Folder → Option (Bor (List ℕ)) → Settings → Seen → Seen → Option Sums → Result Ending Stop → Type 0
-ComesAsAsked folder file settings before after sums (Ok (Checked tally manner)) = ChecksAsAsked file settings before.ends after.ends sums tally manner (Ok tt)
-ComesAsAsked folder file settings before after sums (Err (stop.Run fault tally manner)) = ChecksAsAsked file settings before.ends after.ends sums tally manner (Err fault)
-ComesAsAsked folder file settings before after sums (Ok (Passed course by)) = PassesAsAsked folder file settings before after sums course by (Ok tt)
-ComesAsAsked folder file settings before after sums (Err (stop.Halted fault)) =
-    (course : Course) × (by : By) × PassesAsAsked folder file settings before after sums course by (Err fault)
-ComesAsAsked folder file settings before after sums (Err (stop.Ask unasked)) = IsUntold file settings unasked × IsIdle before.ends after.ends × (sums ≡ None)
+ComesAsAsked folder file settings before after sums (Ok (Checked tally manner)) = ChecksAsAsked file settings before.ends after.ends sums tally (Ok tt)
+ComesAsAsked folder file settings before after sums (Err (stop.Run fault tally manner)) = ChecksAsAsked file settings before.ends after.ends sums tally (Err fault)
+ComesAsAsked folder file settings before after sums (Ok (Passed course by)) = PassesAsAsked folder file settings before after sums course (Ok tt)
+ComesAsAsked folder file settings before after sums (Err (stop.Halted fault)) = (course : Course) × PassesAsAsked folder file settings before after sums course (Err fault)
+ComesAsAsked folder file settings before after sums (Err (stop.Ask unasked)) = LacksJob file settings unasked.fault × IsIdle before.ends after.ends × (sums ≡ None)
 ComesAsAsked folder file settings before after sums _ = ⊥
 
 -- how the program ends by the end of a run, and of files
@@ -86,15 +78,15 @@ files_ending by course (Err fault) = Err (stop.Halted fault)
 
 -- the same of a run or files that may not have begun, with the numbers that are to be told
 abbrev pub EndsRun : Settings → Result Ran Unasked → Option Sums → Result Ending Stop → Type 0
-EndsRun settings (Ok ran) sums outcome = (sums ≡ summed settings ran.tally) × (outcome ≡ run_ending (manner_in settings) ran.tally ran.end)
+EndsRun settings (Ok ran) sums outcome = (sums ≡ summed settings ran.tally) × (manner : Manner) × (outcome ≡ run_ending manner ran.tally ran.end)
 EndsRun settings (Err unasked) sums outcome = (sums ≡ None) × (outcome ≡ Err (stop.Ask unasked))
 
 abbrev pub EndsFiles : Settings → Result inputs.Passed Unasked → Option Sums → Result Ending Stop → Type 0
-EndsFiles settings (Ok passed) sums outcome = (sums ≡ summed settings passed.course.tally) × (outcome ≡ files_ending (by_of settings.schema) passed.course passed.end)
+EndsFiles settings (Ok passed) sums outcome = (sums ≡ summed settings passed.course.tally) × (by : By) × (outcome ≡ files_ending by passed.course passed.end)
 EndsFiles settings (Err unasked) sums outcome = (sums ≡ None) × (outcome ≡ Err (stop.Ask unasked))
 
 -- the words or the schema file can't be read, and this is told behind that, or there was no memory for it
-abbrev pub hinted_stop : (Vec ℕ Global → Stop) → Result (Vec ℕ Global) AllocError → Stop
+abbrev pub hinted_stop : (List ℕ → Stop) → Result (List ℕ) AllocError → Stop
 hinted_stop unread (Ok hint) = unread hint
 hinted_stop unread (Err none) = stop.Settings refusal.OutOfMemory
 
@@ -136,7 +128,7 @@ IsUnserved given before after outcome =
 -- what the program came to by these words, what it read, wrote and noted by then, and the numbers that are to be told
 abbrev pub ComesBy : Folder → List Text → Seen → Seen → Option Sums → Result Ending Stop → Type 0
 ComesBy folder given before after sums (Err (stop.File fault hint)) =
-    (fault_of program given ≡ []) × IsFileFault folder.gives (text_of (codes "schema") given) fault hint.items × IsIdle before.ends after.ends × (sums ≡ None)
+    (fault_of program given ≡ []) × HasFileFault folder.gives (text_of (codes "schema") given) fault × IsIdle before.ends after.ends × (sums ≡ None)
 ComesBy folder given before after sums (Ok Helped) = IsUnserved given before.ends after.ends (Ok Helped) × (sums ≡ None)
 ComesBy folder given before after sums (Err (stop.Usage text)) = IsUnserved given before.ends after.ends (Err (stop.Usage text)) × (sums ≡ None)
 ComesBy folder given before after sums (Err (stop.Settings fault)) = IsUnserved given before.ends after.ends (Err (stop.Settings fault)) × (sums ≡ None)
@@ -146,7 +138,7 @@ ComesBy folder given before after sums outcome = HoldsAsGiven folder given (λ f
 -- the same where it may be that the words could not be read
 abbrev pub ComesTo : Folder → Result (List Text) WordsFault → Seen → Seen → Option Sums → Result Ending Stop → Type 0
 ComesTo folder (Ok given) before after sums outcome = ComesBy folder given before after sums outcome
-ComesTo folder (Err fault) before after sums (Err (stop.Words told hint)) = (told ≡ fault) × (hint.items ≡ words_hint fault) × IsIdle before.ends after.ends × (sums ≡ None)
+ComesTo folder (Err fault) before after sums (Err (stop.Words told hint)) = (told ≡ fault) × IsIdle before.ends after.ends × (sums ≡ None)
 ComesTo folder (Err fault) before after sums (Err (stop.Settings refusal.OutOfMemory)) = IsIdle before.ends after.ends × (sums ≡ None)
 ComesTo folder (Err fault) before after sums _ = ⊥
 
@@ -193,31 +185,26 @@ stop_text causes (stop.Ask unasked) = ask_text unasked.fault
 stop_text causes (stop.Run fault tally manner) = run_text causes fault
 stop_text causes (stop.Halted fault) = run_text causes fault
 
--- what stands behind the text of a stop, to the end of its line
-abbrev pub behind : Stop → List ℕ
-behind (stop.Words fault hint) = hint.items
-behind (stop.File fault hint) = hint.items
-behind (stop.Ask unasked) = hint_text unasked.hint
-behind (stop.Run fault tally manner) = run_hint manner.framing fault tally
-behind _ = codes "\n"
+-- what stands behind the text of a stop, to the end of the line: maybe a hint, or nothing
+abbrev pub IsBehindStop : Stop → List ℕ → Type 0
+IsBehindStop (stop.Words fault told) text = IsHint text
+IsBehindStop (stop.File fault told) text = IsHint text
+IsBehindStop (stop.Ask unasked) text = IsHint text
+IsBehindStop (stop.Run fault tally manner) text = IsRunHint fault text
+IsBehindStop _ text = text ≡ codes "\n"
 
--- a text is noted behind the program's name, where there is one
-abbrev pub IsHinted : Option (List ℕ) → Writer → Writer → Type 0
-IsHinted None before after = Keeps before.bytes after.bytes × (after.failures ≡ before.failures)
-IsHinted (Some text) before after = IsNoted (codes "fbcheck: " ++ text) before after
+-- behind help nothing is noted; behind another good end nothing, or a hint behind the program's name
+abbrev pub IsBehindEnding : Ending → Writer → Writer → Type 0
+IsBehindEnding Helped before after = Keeps before.bytes after.bytes × (after.failures ≡ before.failures)
+IsBehindEnding ending before after =
+    Keeps before.bytes after.bytes × (after.failures ≡ before.failures) ⊎ ((hint : List ℕ) × IsHint hint × IsNoted (codes "fbcheck: " ++ hint) before after)
 
--- what is told of a good end
-abbrev pub ending_hint : Ending → Option (List ℕ)
-ending_hint Helped = None
-ending_hint (Checked tally manner) = end_hint manner.by manner.framing tally
-ending_hint (Passed course by) = by_hint by course.tally
-
--- that is told of it; of a stop the text of `clap`, or else a line of its own behind the program's name, where this is
+-- so it is; a stop is told by the text of `clap`, or else by a line of its own behind the program's name, where this is
 -- why a read of standard input or a write failed, if one did
 abbrev pub Complains : Causes → Result Ending Stop → Writer → Writer → Type 0
-Complains causes (Ok ending) before after = IsHinted (ending_hint ending) before after
+Complains causes (Ok ending) before after = IsBehindEnding ending before after
 Complains causes (Err (stop.Usage text)) before after = IsNoted (string_bytes text) before after
-Complains causes (Err fault) before after = IsNoted ((codes "fbcheck: " ++ stop_text causes fault) ++ behind fault) before after
+Complains causes (Err fault) before after = (hint : List ℕ) × IsBehindStop fault hint × IsNoted ((codes "fbcheck: " ++ stop_text causes fault) ++ hint) before after
 
 -- the exit status of a stop
 abbrev pub stop_status : Stop → ℕ

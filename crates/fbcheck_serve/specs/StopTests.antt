@@ -5,7 +5,7 @@ use Rattle.std.specs.declared.io.ErrorKind.TheVariants as kind
 use Rattle.fb_lines.specs.Sums.{no_tally}
 use Rattle.fb_lines.specs.declared.fault.RunFault.TheVariants as run
 use Rattle.fbcheck_words.specs.declared.choices.SettingsFault.TheVariants as refusal
-use Rattle.fbcheck_texts.specs.{Hints.word_hint, Texts.file_text, Texts.of_read, Texts.words_text}
+use Rattle.fbcheck_texts.specs.{Texts.file_text, Texts.of_read, Texts.words_text}
 use Rattle.fbcheck_texts.specs.declared.fault.FileFault.TheVariants as file
 use Rattle.fbcheck_texts.specs.declared.fault.WordsFault.TheVariants as words
 use Rattle.fbcheck_texts.specs.declared.{framing.By.TheVariants.Named, framing.Framing.TheVariants.Prefixed}
@@ -16,7 +16,6 @@ use Rattle.fbcheck_serve.specs.declared.stop.Stop.TheVariants as stop
 pub record StopTexts : Type 0 where
   pub word : (bytes : Vec ℕ Global) → words_text (words.NotText (record { number = 2; bytes = bytes })) ≡ codes "a word is not UTF-8: number 2"
   pub own_name : (bytes : Vec ℕ Global) → words_text (words.NotText (record { number = 0; bytes = bytes })) ≡ codes "the program's own name is not UTF-8"
-  pub word_hint : word_hint (codes "--a\"") ≡ codes ", --a\\\"; nothing was checked: words must be UTF-8, and a file of any name can be standard input\n"
   pub words_memory : words_text words.OutOfMemory ≡ codes "out of memory"
   pub unreadable : file_text (file.Unreadable kind.NotFound) ≡ codes "cannot read schema"
   pub file_memory : file_text file.OutOfMemory ≡ codes "out of memory"

@@ -1,12 +1,10 @@
 //! What a schema file, or none, and the settings of the command line ask of a run.
 
-ghost use Rattle.std.specs.Prelude.{ℕ, Option, IfOk, IfErr, IfSome, IsTrue, Ok, ◌≡◌, ◌≤◌, length, map, option_map, string_bytes};
+ghost use Rattle.std.specs.Prelude.{ℕ, Option, IfOk, IfErr, IfSome, IsTrue, Ok, ◌≡◌, length, map, option_map, string_bytes};
 ghost use Rattle.fb_schema.specs.Rows.{is_table};
 ghost use Rattle.fb_bfbs.specs.LoadLaws.{ident_bytes};
-ghost use Rattle.fbcheck_texts.specs.{Framing.by_of, Hints.hint_text};
-ghost use Rattle.fbcheck_serve.specs.Asked.{ArePaths, IsPath, PathFails, asked_ident, form_of, framing_in, ident_of, manner_in, mode_of, options_of, places_of, prefix_of, root_of};
-ghost use Rattle.fbcheck_serve.specs.Inputs.{label_of};
-ghost use Rattle.fbcheck_serve.specs.Checking.{Asks, IsPathless, IsSchema, IsUntold, LacksSchema, own_of};
+ghost use Rattle.fbcheck_serve.specs.Asked.{ArePaths, IsPath, PathFails, asked_ident, form_of, ident_of, mode_of, options_of, places_of, prefix_of, root_of};
+ghost use Rattle.fbcheck_serve.specs.Checking.{Asks, IsPathless, IsSchema, LacksJob, LacksSchema, own_of};
 ghost use Rattle.fbcheck_words.specs.Ranges.{AreInRange};
 ghost use Rattle.fbcheck_words.specs.declared.choices.Settings.{Settings};
 ghost use Rattle.fb_lines.specs.Job.{PathsFit, Serves, job_of};
@@ -89,7 +87,7 @@ fn find_paths(
     ensures paths { IfOk result (λ paths. ArePaths schema.now root (map string_bytes texts.now) paths.items) }
     ensures fits { IfOk result (λ paths. PathsFit schema.now root paths.items) }
     ensures count { IfOk result (λ paths. length paths.items ≡ length texts.now) }
-    ensures none { IfErr result (λ unasked. IsPathless schema.now root (map string_bytes texts.now) unasked.fault (hint_text unasked.hint)) }
+    ensures none { IfErr result (λ unasked. IsPathless schema.now root (map string_bytes texts.now) unasked.fault) }
 {
     let several = texts.len() > 1;
     let mut paths = Vec::new(alloc);
@@ -97,8 +95,8 @@ fn find_paths(
         let path = match find_path(alloc, schema, root, text) {
             Ok(path) => path,
             Err(fault) => {
-                let told = told_path(several, text);
                 let bytes = text.as_bytes();
+                let told = if several { Some(bytes) } else { None };
                 let at = misfit_at(schema, root, bytes);
                 let hint = path_hint(alloc, schema, told, bytes, fault, at);
                 return Err(Unasked::new(fault, hint));
@@ -109,13 +107,6 @@ fn find_paths(
         };
     }
     Ok(paths)
-}
-
-/// The text of a path, where several are asked for.
-fn told_path(several: bool, text: &String) -> Option<&[u8]>
-    ensures { option_map (λ t. t.now) result ≡ label_of several (string_bytes text.now) }
-{
-    if several { Some(text.as_bytes()) } else { None }
 }
 
 /// The identifier that is asked for.
@@ -184,16 +175,12 @@ fn prefix(settings: &Settings) -> Prefix
 }
 
 /// How messages stand in an input.
-fn framing(settings: &Settings) -> Framing
-    ensures { result ≡ framing_in settings.now }
-{
+fn framing(settings: &Settings) -> Framing {
     Framing::of(settings.bare, prefix(settings))
 }
 
 /// By what buffers are checked.
-pub fn by(settings: &Settings) -> By
-    ensures { result ≡ by_of settings.now.schema }
-{
+pub fn by(settings: &Settings) -> By {
     match &settings.schema {
         Some(_) => By::Named,
         None => By::Fixed,
@@ -201,9 +188,7 @@ pub fn by(settings: &Settings) -> By
 }
 
 /// In which manner an input is checked.
-pub fn manner(settings: &Settings) -> Manner
-    ensures { result ≡ manner_in settings.now }
-{
+pub fn manner(settings: &Settings) -> Manner {
     Manner {
         framing: framing(settings),
         by: by(settings),
@@ -244,7 +229,7 @@ fn options(
 #[inline(never)]
 fn schemaless(alloc: Global, fault: AskFault, file: Option<&[u8]>, settings: &Settings) -> Unasked
     requires { LacksSchema file fault }
-    ensures { IsUntold file.entry settings.now result }
+    ensures { LacksJob file.entry settings.now result.fault }
 {
     match fault {
         AskFault::Load(_) => Unasked::new(fault, schema_hint(alloc, &settings.schema, file)),
@@ -278,7 +263,7 @@ pub fn asked_of<'b>(
     requires { AreInRange settings.now }
     ensures job { IfOk result (λ asked. Asks schema_bytes.entry settings.now (Ok (job_of asked.schema asked.options))) }
     ensures serves { IfOk result (λ asked. Serves asked.schema asked.options) }
-    ensures none { IfErr result (IsUntold schema_bytes.entry settings.now) }
+    ensures none { IfErr result (λ unasked. LacksJob schema_bytes.entry settings.now unasked.fault) }
 {
     let Loaded {
         schema,

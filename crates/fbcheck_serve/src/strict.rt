@@ -9,7 +9,6 @@ ghost use Rattle.fbcheck_serve.specs.Asked.{IsAskedPlan, Own, demanded, is_deman
 ghost use Rattle.fbcheck_serve.specs.ByteFields.{LacksPlan, has_lost};
 ghost use Rattle.fbcheck_serve.specs.Checking.{IsPlanBy, IsPlanless, IsSchema, LacksPlanBy, MayAsk};
 ghost use Rattle.fbcheck_serve.specs.FileMarks.{schema_limits};
-ghost use Rattle.fbcheck_texts.specs.Hints.{hint_text};
 ghost use Rattle.fbcheck_texts.specs.declared.fault.AskFault.TheVariants.{OutOfMemory};
 
 use crate::byte_fields::{lost, test_marks};
@@ -26,7 +25,7 @@ use std::alloc::Global;
 fn marks_of<'b>(alloc: Global, bytes: &'b [u8]) -> Result<Marks<'b>, Unasked>
     requires { (loaded : Loaded) × IsLoaded bytes.now (schema_limits (length bytes.now)) loaded }
     ensures yes { IfOk result (AreMarks bytes.now (schema_limits (length bytes.now))) }
-    ensures no { IfErr result (λ u. u ≡ record { fault = OutOfMemory; hint = None }) }
+    ensures no { IfErr result (λ u. u.fault ≡ OutOfMemory) }
 {
     match load_marks(alloc, bytes, schema_limits(bytes.len() as u64)) {
         Ok(marks) => Ok(marks),
@@ -65,7 +64,7 @@ fn planned(
 ) -> Result<Plan, Unasked>
     ensures plan { IfOk result (IsPlan schema.now (holding demands (holdings_if demands schema.now (map marked marks.now)))) }
     ensures found { OnOk result (demands.nested ≡ true → has_lost schema.now (map marked marks.now) ≡ false) }
-    ensures no { IfErr result (λ u. LacksPlan schema.now (map marked marks.now) u.fault (hint_text u.hint)) }
+    ensures no { IfErr result (λ u. LacksPlan schema.now (map marked marks.now) u.fault) }
 {
     match Plan::new(alloc, schema, marks, demands) {
         Ok(plan) => Ok(plan),
@@ -84,7 +83,7 @@ fn planned_by(
     requires loaded { (loaded : Loaded) × IsLoaded bytes.now (schema_limits (length bytes.now)) loaded }
     requires nested { (demanded settings.now).nested ≡ true }
     ensures plan { IfOk result (IsPlanBy bytes.now schema.now settings.now) }
-    ensures no { IfErr result (λ u. LacksPlanBy bytes.now schema.now u.fault (hint_text u.hint)) }
+    ensures no { IfErr result (λ u. LacksPlanBy bytes.now schema.now u.fault) }
 {
     let marks = marks_of(alloc, bytes)?;
     test_marks(alloc, schema, &marks)?;
@@ -108,7 +107,7 @@ pub fn plan_of(
     requires { (own : Own) × IsSchema file schema.now own }
     ensures plan { IfOk result (IsAskedPlan file.entry schema.now settings.now) }
     ensures may { OnOk result (MayAsk file.entry schema.now settings.now) }
-    ensures no { IfErr result (λ u. IsPlanless file.entry schema.now settings.now u.fault (hint_text u.hint)) }
+    ensures no { IfErr result (λ u. IsPlanless file.entry schema.now settings.now u.fault) }
 {
     if !is_demanding(settings) {
         return Ok(None);

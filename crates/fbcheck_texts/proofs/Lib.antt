@@ -1,5 +1,3 @@
-mod AlikeLemmas
-mod FramingLemmas
 mod HintLemmas
 mod TextLemmas
 pub mod ShownTexts

@@ -1,7 +1,6 @@
 -- What public contracts say, in reading order.
 pub mod Faults
-pub mod Alike
+pub mod Causes
 pub mod Hints
-pub mod Framing
 pub mod Texts
 pub mod TextTests

@@ -1,17 +1,13 @@
 -- The texts of faults by example: each fault that there is.
-use Rattle.std.specs.Prelude.{◌≡◌, ℕ, ◌-◌, [], ◌∷◌, ◌++◌, Some, None, codes}
+use Rattle.std.specs.Prelude.{◌≡◌, Some, None, codes}
 use Rattle.std.specs.declared.io.ErrorKind.TheVariants as kind
 use Rattle.fb_access.specs.declared.path_fault.PathFault.TheVariants as path
 use Rattle.fb_bfbs.specs.declared.load_fault.LoadFault.TheVariants as load
 use Rattle.fb_bytes.specs.declared.stream_fault.StreamFault.TheVariants as stream
 use Rattle.fb_schema.specs.declared.{fault.Code.TheVariants.BadSlot, fault.SchemaFault.SchemaFault}
 use Rattle.fb_rules.specs.declared.{fault.Fault.Fault, fault.Reason.TheVariants.TooDeep, fault.Reason.TheVariants.WrongIdentifier}
-use Rattle.fb_lines.specs.{FaultText.fault_text, FaultText.stream_text, Sums.no_tally}
+use Rattle.fb_lines.specs.{FaultText.fault_text, FaultText.stream_text}
 use Rattle.fb_lines.specs.declared.fault.RunFault.TheVariants as run
-use Rattle.fbcheck_texts.specs.{Hints.bytes_hint, Hints.front_hint, Framing.by_hint, Framing.end_hint, Framing.run_hint}
-use Rattle.fbcheck_texts.specs.declared.framing.By.TheVariants.{Fixed, Named}
-use Rattle.fbcheck_texts.specs.declared.framing.Framing.TheVariants.{Bare, Delimited, Prefixed}
-use Rattle.fb_lines.specs.declared.tally.Tally.{Tally}
 use Rattle.fbcheck_texts.specs.Texts.{ask_text, load_text, of_read, path_text, run_text}
 use Rattle.fbcheck_texts.specs.declared.fault.AskFault.TheVariants as ask
 
@@ -66,43 +62,3 @@ pub record AskTexts : Type 0 where
   pub unmarked : ask_text ask.UnmarkedBytes ≡ codes "strict can't tell which bytes are nested buffers or flexbuffers"
   pub lost : ask_text ask.NoSuchTable ≡ codes "strict can't find the table of a nested buffer"
   pub memory : ask_text ask.OutOfMemory ≡ codes "out of memory"
-
--- what stands behind a run's fault, and what is told of a run's end
-abbrev pub ones : ℕ → ℕ → ℕ → Tally
-ones good aligned bad = record no_tally { yes = good; no = bad; reasons = 0 ∷ aligned ∷ (bad - aligned) ∷ 0 ∷ [] }
-
-pub record HintTexts : Type 0 where
-  pub lost : bytes_hint ask.NoSuchTable (codes "t.M") (codes "inner") ≡ codes ": t.M.inner; --plain-bytes takes such fields as bytes\n"
-  pub unmarked : bytes_hint ask.UnmarkedBytes (codes "M") (codes "data") ≡ codes ": M.data; flatc --bfbs-builtins writes it to the .bfbs, --plain-bytes takes such fields as bytes\n"
-  pub stray : run_hint Prefixed (run.Stream stream.Failed) (ones 0 2 3) ≡ codes "; no good message came before: --bare is for a buffer without a prefix, --delimited for prefixes outside the buffers\n"
-  pub delimited : run_hint Delimited (run.Stream stream.Failed) (ones 0 2 3) ≡ codes "; no good message came before: --bare is for a buffer without a prefix\n"
-  pub some_good : run_hint Prefixed (run.Stream stream.Failed) (ones 1 2 3) ≡ codes "\n"
-  pub other : run_hint Prefixed run.ReadFault no_tally ≡ codes "\n"
-  pub long : run_hint Prefixed (run.Stream (stream.Oversize 70000000)) (ones 1 2 3) ≡ codes "; --max-bytes allows longer messages\n"
-  pub long_behind_bad : run_hint Delimited (run.Stream (stream.Oversize 70000000)) (ones 0 0 1) ≡ codes "; no good message came before: --bare is for a buffer without a prefix, --max-bytes for longer messages\n"
-  pub text_behind_bad : run_hint Delimited (run.Stream (stream.Oversize 1684611707)) (ones 0 0 1) ≡ codes "; no good message came before: --bare is for a buffer without a prefix\n"
-  pub text_behind_good : run_hint Prefixed (run.Stream (stream.Oversize 1684611707)) (ones 1 0 1) ≡ codes "\n"
-  pub too_long_for_all : run_hint Prefixed (run.Stream (stream.Oversize 2147483644)) (ones 1 0 1) ≡ codes "\n"
-  pub long_first : run_hint Prefixed (run.Stream (stream.Oversize 70000000)) no_tally ≡ codes "; no good message came before: --bare is for a buffer without a prefix, "
-      ++ codes "--delimited for prefixes outside the buffers, --max-bytes for longer messages\n"
-  pub long_json : run_hint Prefixed (run.Stream (stream.Oversize 1684611707)) no_tally ≡ codes "; the input looks like JSON, of which flatc --binary makes buffers (--size-prefixed: messages)\n"
-  pub long_text : run_hint Delimited (run.Stream (stream.Oversize 1818386804)) no_tally ≡ codes "; the input looks like text\n"
-  pub long_gzip : run_hint Prefixed (run.Stream (stream.Oversize 134777631)) no_tally ≡ codes "; the input looks like gzip\n"
-  pub long_turned : run_hint Delimited (run.Stream (stream.Oversize 3087007744)) no_tally ≡ codes "; the length may be big-endian; no good message came before: --bare is for a buffer without a prefix\n"
-  pub long_even : run_hint Delimited (run.Stream (stream.Oversize 67109120)) no_tally ≡ codes "; no good message came before: --bare is for a buffer without a prefix, --max-bytes for longer messages\n"
-  pub long_bare : run_hint Bare (run.BareTooLong 67108864) no_tally ≡ codes "; --max-bytes allows longer ones\n"
-  pub longest_bare : run_hint Bare (run.BareTooLong 2147483647) no_tally ≡ codes "\n"
-  pub unschemed : end_hint Fixed Bare (ones 0 0 2) ≡ Some (codes "no message was good: without --schema the tables are those of schema files\n")
-  pub unschemed_shifted : end_hint Fixed Prefixed (ones 0 0 2) ≡ Some (codes "each message is misaligned: --delimited is for prefixes outside the buffers; without --schema the tables are those of schema files\n")
-  pub unschemed_good : by_hint Fixed (ones 1 0 2) ≡ None
-  pub unschemed_none : by_hint Fixed no_tally ≡ None
-  pub shifted : end_hint Named Prefixed (ones 0 0 2) ≡ Some (codes "each message is misaligned: --delimited is for prefixes outside the buffers\n")
-  pub apart : end_hint Named Delimited (ones 0 0 2) ≡ Some (codes "each message is misaligned: without --delimited prefixes are part of the buffers\n")
-  pub bare : end_hint Named Bare (ones 0 0 1) ≡ None
-  pub none_good : end_hint Named Prefixed (ones 0 1 2) ≡ None
-  pub one_good : end_hint Named Prefixed (ones 1 0 2) ≡ None
-  pub no_message : end_hint Named Prefixed no_tally ≡ None
-  pub fbs : front_hint (codes "\n // M\ntable M {") ≡ codes "; this looks like a schema's text (.fbs): flatc --binary --schema makes the .bfbs"
-  pub word : front_hint (codes "root_type Monster") ≡ codes "; this looks like a schema's text (.fbs): flatc --binary --schema makes the .bfbs"
-  pub text : front_hint (codes "<html><head><ti") ≡ codes "; this is text, and no binary schema, which flatc --binary --schema makes"
-  pub json : front_hint (codes " [1]") ≡ codes "; this looks like JSON, and no binary schema, which flatc --binary --schema makes"

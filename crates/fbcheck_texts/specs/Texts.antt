@@ -13,7 +13,7 @@ use Rattle.fb_rules.specs.declared.fault.Fault.{Fault}
 use Rattle.fb_lines.specs.{FaultText.fault_text, Line.field_text, Line.numbers_text}
 use Rattle.fb_lines.specs.declared.fault.RunFault.{RunFault}
 use Rattle.fb_lines.specs.declared.fault.RunFault.TheVariants as run
-use Rattle.fbcheck_texts.specs.Hints.{known_reason}
+use Rattle.fbcheck_texts.specs.Causes.{known_reason}
 use Rattle.fbcheck_texts.specs.declared.fault.AskFault.{AskFault}
 use Rattle.fbcheck_texts.specs.declared.fault.AskFault.TheVariants as ask
 use Rattle.fbcheck_texts.specs.declared.fault.FileFault.{FileFault}

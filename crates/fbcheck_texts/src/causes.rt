@@ -1,14 +1,77 @@
-//! Readers and writers that keep why a call failed.
+//! Why a call failed, in words; and readers and writers that keep it.
 
-ghost use Rattle.std.specs.Prelude.{◌≡◌, ◌+◌, ◌<◌, ◌^◌, IfErr, OnOk, Option, None, Some, false};
+ghost use Rattle.std.specs.Prelude.{◌≡◌, ◌+◌, ◌<◌, ◌≤◌, ◌^◌, IfErr, IfSome, OnOk, Option, None, Some, false, length, option_map};
 ghost use Rattle.std.specs.{Io.ReadsAtMost, Io.WritesAtMost, Io.KnownBytes.ReadConsumes, Io.KnownBytes.WriteAppends, IoError.error_kind};
 ghost use Rattle.fb_bytes.specs.Ends.{failed, failed_more, one_more, told_end};
+ghost use Rattle.fbcheck_texts.specs.Causes.{known_reason, reason_text};
 ghost use Rattle.fbcheck_texts.specs.Texts.{of_read};
 ghost use Rattle.std.specs.declared.io.ErrorKind.{ErrorKind};
 
 use fb_bytes::{Counted, Sink, Source};
 use std::io;
 use std::io::{ErrorKind, Read, Write};
+
+/// Why the system refuses an open or a read, by the words that are told.
+pub fn known_reason(cause: ErrorKind) -> Option<&'static str>
+    ensures text { option_map (λ t. t.now) result ≡ known_reason cause }
+    ensures short { IfSome result (λ t. length t.now ≤ 60) }
+{
+    let text = match cause {
+        ErrorKind::NotFound => "no such file",
+        ErrorKind::PermissionDenied => "permission denied",
+        ErrorKind::IsADirectory => "is a directory",
+        ErrorKind::NotADirectory => "not a directory",
+        ErrorKind::InvalidFilename => "invalid file name",
+        ErrorKind::FilesystemLoop => "too many links",
+        ErrorKind::WouldBlock => "operation would block",
+        ErrorKind::Interrupted => "operation interrupted",
+        ErrorKind::InvalidInput => "invalid input parameter",
+        ErrorKind::Unsupported => "unsupported",
+        ErrorKind::ResourceBusy => "resource busy",
+        ErrorKind::OutOfMemory => "out of memory",
+        ErrorKind::StaleNetworkFileHandle => "stale network file handle",
+        ErrorKind::TimedOut => "timed out",
+        ErrorKind::NotConnected => "not connected",
+        ErrorKind::ConnectionReset => "connection reset",
+        ErrorKind::ConnectionRefused => "connection refused",
+        ErrorKind::ConnectionAborted => "connection aborted",
+        ErrorKind::HostUnreachable => "host unreachable",
+        ErrorKind::NetworkUnreachable => "network unreachable",
+        ErrorKind::NetworkDown => "network down",
+        ErrorKind::AddrInUse => "address in use",
+        ErrorKind::AddrNotAvailable => "address not available",
+        ErrorKind::BrokenPipe => "broken pipe",
+        ErrorKind::AlreadyExists => "entity already exists",
+        ErrorKind::DirectoryNotEmpty => "directory not empty",
+        ErrorKind::ReadOnlyFilesystem => "read-only filesystem or storage medium",
+        ErrorKind::InvalidData => "invalid data",
+        ErrorKind::WriteZero => "write zero",
+        ErrorKind::StorageFull => "no storage space",
+        ErrorKind::NotSeekable => "seek on unseekable file",
+        ErrorKind::QuotaExceeded => "quota exceeded",
+        ErrorKind::FileTooLarge => "file too large",
+        ErrorKind::ExecutableFileBusy => "executable file busy",
+        ErrorKind::Deadlock => "deadlock",
+        ErrorKind::CrossesDevices => "cross-device link or rename",
+        ErrorKind::TooManyLinks => "too many links",
+        ErrorKind::ArgumentListTooLong => "argument list too long",
+        ErrorKind::UnexpectedEof => "unexpected end of file",
+        ErrorKind::InProgress => "in progress",
+        ErrorKind::Other => "other error",
+        ErrorKind::Uncategorized => return None,
+    };
+    Some(text)
+}
+
+/// Why the system gives no file.
+pub fn reason(cause: ErrorKind) -> &'static str
+    ensures { result.now ≡ reason_text cause }
+{
+    match known_reason(cause) {
+        Some(text) => text,
+        None => "an open or a read failed",
+    }
+}
 
 /// Why the last read of an input failed, and the last write of the output, where one did.
 #[derive(Clone, Copy)]

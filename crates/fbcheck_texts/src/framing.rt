@@ -1,8 +1,7 @@
 //! How messages stand in an input, and what is told where that seems to be otherwise than was asked.
 
-ghost use Rattle.std.specs.Prelude.{◌≡◌, ◌≤◌, length, option_map, slice_get};
-ghost use Rattle.fb_lines.specs.Job.{start_of};
-ghost use Rattle.fbcheck_texts.specs.Framing.{all_misaligned, are_all, by_hint, end_hint, framing_of, is_length, long_stray, misread, over_hint, over_stray, run_hint, shifted, stray, text_look, turned_stray};
+ghost use Rattle.std.specs.Prelude.{IfSome};
+ghost use Rattle.fbcheck_texts.specs.Hints.{IsHint, IsRunHint};
 
 use crate::hint::{are_plain, opens, past_blanks};
 use fb_bytes::StreamFault;
@@ -45,9 +44,7 @@ pub struct Manner {
 
 impl Framing {
     /// That of a bare input, or of a stream with such prefixes.
-    pub fn of(bare: bool, prefix: Prefix) -> Framing
-        ensures { result ≡ framing_of bare (start_of bare prefix) }
-    {
+    pub fn of(bare: bool, prefix: Prefix) -> Framing {
         match prefix {
             _ if bare => Framing::Bare,
             Prefix::Apart => Framing::Delimited,
@@ -57,7 +54,7 @@ impl Framing {
 
     /// Which options other input needs, to the end of a fault's line.
     fn stray(self) -> &'static [u8]
-        ensures { result.now ≡ stray self }
+        ensures { IsHint result.now }
     {
         match self {
             Framing::Bare => b"\n",
@@ -70,7 +67,7 @@ impl Framing {
 
     /// The same where a message was too long that some limit allows.
     fn long_stray(self) -> &'static [u8]
-        ensures { result.now ≡ long_stray self }
+        ensures { IsHint result.now }
     {
         match self {
             Framing::Bare => b"\n",
@@ -83,7 +80,7 @@ impl Framing {
 
     /// The same where it may be too long by the order of its length's bytes.
     fn turned_stray(self) -> &'static [u8]
-        ensures { result.now ≡ turned_stray self }
+        ensures { IsHint result.now }
     {
         match self {
             Framing::Bare => b"\n",
@@ -96,7 +93,7 @@ impl Framing {
 
     /// That of the two which fits this length.
     fn over_stray(self, declared: u32) -> &'static [u8]
-        ensures { result.now ≡ over_stray self declared }
+        ensures { IsHint result.now }
     {
         if is_length(declared) {
             self.long_stray()
@@ -106,12 +103,12 @@ impl Framing {
     }
 
     /// What an input is by its first four bytes, where they are no length.
-    fn misread(self, front: &[u8]) -> Option<&'static [u8]>
-        requires { 2 ≤ length front.now }
-        ensures { option_map (λ t. t.now) result ≡ misread self front.now }
+    fn misread(self, declared: u32) -> Option<&'static [u8]>
+        ensures { IfSome result (λ t. IsHint t.now) }
     {
-        if are_plain(front) {
-            Some(text_look(past_blanks(front)))
+        let front = declared.to_le_bytes();
+        if are_plain(&front) {
+            Some(text_look(past_blanks(&front)))
         } else if front[0] == 31 && front[1] == 139 {
             Some(b"; the input looks like gzip\n")
         } else if front[0] == 0 && front[1] == 0 {
@@ -123,7 +120,7 @@ impl Framing {
 
     /// What may be wrong with prefixes where each message is misaligned, or else with the schema.
     fn shifted(self, by: By) -> Option<&'static [u8]>
-        ensures { option_map (λ t. t.now) result ≡ shifted by self }
+        ensures { IfSome result (λ t. IsHint t.now) }
     {
         match (self, by) {
             (Framing::Bare, _) => None,
@@ -145,7 +142,7 @@ impl Framing {
 
 /// What text is, of which no message was read.
 fn text_look(text: &[u8]) -> &'static [u8]
-    ensures { result.now ≡ text_look text.now }
+    ensures { IsHint result.now }
 {
     if opens(text) {
         b"; the input looks like JSON, of which flatc --binary makes buffers (--size-prefixed: messages)\n"
@@ -155,15 +152,13 @@ fn text_look(text: &[u8]) -> &'static [u8]
 }
 
 /// Whether some limit allows messages of this length, and it isn't four characters.
-fn is_length(declared: u32) -> bool
-    ensures { result ≡ is_length declared }
-{
+fn is_length(declared: u32) -> bool {
     declared <= MOST_BYTES - 4 && !are_plain(&declared.to_le_bytes())
 }
 
 /// What is told behind a length that is too great, in a run that came to this.
 fn over_hint(framing: Framing, declared: u32, tally: &Tally) -> &'static [u8]
-    ensures { result.now ≡ over_hint framing declared tally.now }
+    ensures { IsHint result.now }
 {
     if tally.yes > 0 {
         return if is_length(declared) {
@@ -175,7 +170,7 @@ fn over_hint(framing: Framing, declared: u32, tally: &Tally) -> &'static [u8]
     if tally.no > 0 {
         return framing.over_stray(declared);
     }
-    match framing.misread(&declared.to_le_bytes()) {
+    match framing.misread(declared) {
         Some(text) => text,
         None => framing.over_stray(declared),
     }
@@ -184,7 +179,7 @@ fn over_hint(framing: Framing, declared: u32, tally: &Tally) -> &'static [u8]
 /// What is told behind the fault of a run that came to this: of too long a message what allows longer ones, and of a
 /// stream of which no message was good which options other input needs, or what it is.
 pub fn run_hint(framing: Framing, fault: &RunFault, tally: &Tally) -> &'static [u8]
-    ensures { result.now ≡ run_hint framing fault.now tally.now }
+    ensures { IsRunHint fault.now result.now }
 {
     match fault {
         RunFault::Stream(StreamFault::Oversize { declared }) => over_hint(
@@ -193,30 +188,23 @@ pub fn run_hint(framing: Framing, fault: &RunFault, tally: &Tally) -> &'static [
         RunFault::Stream(_) if tally.yes == 0 => framing.stray(),
         RunFault::BareTooLong { limit } if *limit != MOST_BYTES =>
             b"; --max-bytes allows longer ones\n",
-        _ => b"\n",
+        RunFault::Stream(_) | RunFault::BareTooLong { .. } => b"\n",
+        RunFault::ReadFault | RunFault::WriteFault { .. } | RunFault::NoteFault { .. } => b"\n",
+        RunFault::TooManyTurns | RunFault::OutOfMemory => b"\n",
     }
 }
 
 /// Whether there are messages, and each is misaligned.
-fn all_misaligned(tally: &Tally) -> bool
-    ensures { result ≡ all_misaligned tally.now }
-{
-    tally.yes == 0 && tally.no > 0 && are_all(tally.reasons.get(MISALIGNED), tally.no)
-}
-
-/// Whether this count is that of all.
-fn are_all(count: Option<&u64>, all: u64) -> bool
-    ensures { result ≡ are_all (option_map (λ n. n.now) count.entry) all }
-{
-    match count {
-        Some(count) => *count == all,
+fn all_misaligned(tally: &Tally) -> bool {
+    match tally.reasons.get(MISALIGNED) {
+        Some(count) => tally.yes == 0 && tally.no > 0 && *count == tally.no,
         None => false,
     }
 }
 
 /// What is told of messages of which none is good, where no schema file was named.
 pub fn by_hint(by: By, tally: &Tally) -> Option<&'static [u8]>
-    ensures { option_map (λ t. t.now) result ≡ by_hint by tally.now }
+    ensures { IfSome result (λ t. IsHint t.now) }
 {
     match by {
         By::Fixed if tally.yes == 0 && tally.no > 0 => Some(
@@ -229,7 +217,7 @@ pub fn by_hint(by: By, tally: &Tally) -> Option<&'static [u8]>
 /// What is told of a run that came to its end and to this: where it has messages and each is misaligned, what may be
 /// wrong with prefixes; where none is good, what may be wrong with the schema.
 pub fn end_hint(by: By, framing: Framing, tally: &Tally) -> Option<&'static [u8]>
-    ensures { option_map (λ t. t.now) result ≡ end_hint by framing tally.now }
+    ensures { IfSome result (λ t. IsHint t.now) }
 {
     if !all_misaligned(tally) {
         return by_hint(by, tally);

@@ -5,9 +5,8 @@ ghost use Rattle.fb_lines.specs.{FaultText.fault_text, Line.field_text};
 ghost use Rattle.fb_lines.specs.declared.fault.RunFault.TheVariants.{WriteFault};
 ghost use Rattle.fbcheck_texts.specs.Texts.{ask_text, cause_text, file_text, ill_text, load_text, path_text, rows_text, run_text, step_text, unsummed_text, word_text, words_text};
 
-use crate::causes::Causes;
+use crate::causes::{Causes, known_reason};
 use crate::fault::{AskFault, FileFault, WordsFault};
-use crate::hint::known_reason;
 use fb_access::PathFault;
 use fb_bfbs::{LoadFault, code_text};
 use fb_run::{Line, RunFault};

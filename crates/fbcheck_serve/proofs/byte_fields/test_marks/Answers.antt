@@ -16,6 +16,5 @@ unasked-requires c =
 
 pub returns-in-Ok-Some-clause-no : goal.returns-in-Ok-Some-clause-no
 returns-in-Ok-Some-clause-no c =
-    let found = c.in-Ok-Some.found in
-    unmarked_told c.args.schema.now (map marked c.args.marks.now.fields.items) c.args.marks.now.builtins found.table (live_of_view found.field) c.unasked.result
-    (rw c.in-Ok-Some.field-0-is at c.in-Ok-Some.ensures) c.unasked.ensures
+    unmarked_told c.args.schema.now (map marked c.args.marks.now.fields.items) c.args.marks.now.builtins c.unasked.result.fault
+    (_, _, rw c.in-Ok-Some.field-0-is at c.in-Ok-Some.ensures) c.unasked.ensures

@@ -1,4 +1,4 @@
-use Rattle.fbcheck_texts.proofs.ShownTexts.{ask_texts_shown, hint_texts_shown, load_texts_shown, run_texts_shown}
+use Rattle.fbcheck_texts.proofs.ShownTexts.{ask_texts_shown, load_texts_shown, run_texts_shown}
 use Rattle.fbcheck_serve.proofs.ShownStops.{stop_texts_shown}
 use Rattle.fbcheck_serve.proofs.check_laws.fault_texts.Goals as goal
 
@@ -10,9 +10,6 @@ returns-clause-load c = load_texts_shown
 
 pub returns-clause-ask : goal.returns-clause-ask
 returns-clause-ask c = ask_texts_shown
-
-pub returns-clause-hint : goal.returns-clause-hint
-returns-clause-hint c = hint_texts_shown
 
 pub returns-clause-stop : goal.returns-clause-stop
 returns-clause-stop c = stop_texts_shown

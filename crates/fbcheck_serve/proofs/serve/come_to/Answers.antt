@@ -8,7 +8,7 @@ use Rattle.fbcheck_serve.proofs.serve.come_to.Goals as goal
 pub returns-in-Err : goal.returns-in-Err
 returns-in-Err g c =
     wordless (folder_of g.F.Files g.F.Opened.Input g.F.Opened.Explains c.args.files.now) c.args.words (seen_of g.S.Input g.S.Explains g.K.Sink g.N.Sink c.args.reader.now c.args.writer.now c.args.notes.now)
-    c.in-Err.fault c.words_hint-hint.result c.words.result c.in-Err.is c.words.ensures c.words_hint-hint.ensures
+    c.in-Err.fault c.words_hint-hint.result c.words.result c.in-Err.is c.words.ensures
 
 pub returns-in-Err-settings : goal.returns-in-Err-settings
 returns-in-Err-settings g c =
@@ -25,7 +25,7 @@ returns g c =
     let set = c.in-Ok-settings.ensures in
     let seen = seen_of g.S.Input g.S.Explains g.K.Sink g.N.Sink c.args.reader.now c.args.writer.now c.args.notes.now in
     let (comes, rests) = fileless (folder_of g.F.Files g.F.Opened.Input g.F.Opened.Explains c.args.files.now) (map string_bytes c.as_slice.result.now) seen c.in-Err-read_schema.fault c.file_hint-hint.result _ c.file.result
-    set.given.said.read set.given.said.schema c.file.ensures c.in-Err-read_schema.ensures.fault c.file_hint-hint.ensures in
+    set.given.said.read set.given.said.schema c.file.ensures c.in-Err-read_schema.ensures.fault in
     (comes_read _ c.args.words c.in-Ok.words c.as_slice.result.now seen seen None _ c.in-Ok.is c.as_slice.ensures.value comes, rests)
 
 pub returns-in-Ok-read_schema : goal.returns-in-Ok-read_schema

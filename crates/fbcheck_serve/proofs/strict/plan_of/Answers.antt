@@ -3,8 +3,6 @@ use Rattle.fb_strict.specs.declared.demands.Demands.{Demands}
 use Rattle.fbcheck_serve.specs.Asked.{demanded}
 use Rattle.fbcheck_serve.specs.Checking.{IsPlanless}
 use Rattle.fbcheck_serve.proofs.StrictLemmas.{by_file, err_told, may_undemanded, may_unless_nested, may_without, needed, no_file, not_nested, planless_by, without}
-use Rattle.fbcheck_texts.specs.Hints.{hint_text}
-use Rattle.fbcheck_texts.specs.declared.hint.Unasked.{Unasked}
 use Rattle.fbcheck_serve.proofs.strict.plan_of.Goals.{in-Some+in_ok-plan-in-Some, in_default+in_ok-plan-in_default, in_default-via-in-Some+else-demands, in_default-via-in_default}
 use Rattle.fbcheck_serve.proofs.strict.plan_of.Goals as goal
 
@@ -13,9 +11,9 @@ returns-then-not-is_demanding-clause-may c = may_undemanded c.args.file c.args.s
 
 pub returns-in_err-plan-in-Some-clause-no : goal.returns-in_err-plan-in-Some-clause-no
 returns-in_err-plan-in-Some-clause-no c =
-    err_told c.from_residual.result c.in_err-plan-in-Some.field-0.0 (λ (u : Unasked). IsPlanless c.args.file c.args.schema.now c.args.settings.now u.fault (hint_text u.hint)) c.from_residual.ensures.1
+    err_told c.from_residual.result c.in_err-plan-in-Some.field-0.0 (IsPlanless c.args.file c.args.schema.now c.args.settings.now) c.from_residual.ensures.1
     (planless_by c.args.file c.in-Some.bytes c.args.schema.now c.args.settings.now c.in-Some.is
-    (needed c.in-Some.bytes c.args.settings.now (sym (ap (λ (d : Demands). d.nested) c.demanded-demands.ensures) ∙ c.if-demands.true)) _ _ c.in_err-plan-in-Some.ensures.no)
+    (needed c.in-Some.bytes c.args.settings.now (sym (ap (λ (d : Demands). d.nested) c.demanded-demands.ensures) ∙ c.if-demands.true)) _ c.in_err-plan-in-Some.ensures.no)
 
 pub returns-clause-plan : goal.returns-clause-plan
 returns-clause-plan c =
