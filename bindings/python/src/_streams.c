@@ -163,7 +163,7 @@ typedef struct {
 /* Room for so many bytes more behind those that are there; null where memory is refused. */
 static char *more(Growing *to, size_t size)
 {
-    if (size > to->room - to->used) {
+    if (to->bytes == NULL || size > to->room - to->used) {
         size_t room = to->used + size > 2 * to->room ? to->used + size + 64 : 2 * to->room;
         char *bytes = size < PY_SSIZE_T_MAX - to->used - 64 ? realloc(to->bytes, room) : NULL;
         if (bytes == NULL)
@@ -205,6 +205,8 @@ static int fits(const Form *form, const fbcheck_value *value)
     uint64_t half = (uint64_t)1 << (8 * form->size - 1);
     if (form->kind == FBCHECK_FLOAT)
         return value->size == form->size;
+    if (form->kind == FBCHECK_VECTOR)
+        return value->at == 0; /* a vector without bytes of its own */
     if (form->kind == FBCHECK_INT)
         return form->size == 8 || (uint64_t)value->integer + half < 2 * half;
     return form->size == 8 || value->number < 2 * half;
@@ -231,7 +233,7 @@ static uint32_t add_number(Making *to, const uint8_t *message, const fbcheck_val
 static uint32_t add_bytes(Making *to, const uint8_t *message, const fbcheck_value *value, int is_there)
 {
     int64_t end;
-    if (is_there && value->size % to->width != 0)
+    if (is_there && (value->at == 0 || (to->width != 1 && value->size != value->number * to->width)))
         return FBCHECK_MISFIT;
     if (is_there && !add(&to->data, message + value->at, (size_t)value->size))
         return FBCHECK_NO_MEMORY;

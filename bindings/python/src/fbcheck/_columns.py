@@ -67,8 +67,8 @@ class Slices(Sequence[_Slice]):
     """Texts, structs or vectors of the messages of a stream, each a slice of `data`.
 
     data     all their bytes, or numbers, as a memoryview without gaps
-    offsets  a memoryview of "q" with one number more than there are values: data[offsets[i]:offsets[i + 1]] is the i-th,
-             which is empty where it is missing
+    offsets  a memoryview of "q": where each value begins, and the end; the i-th is data[offsets[i]:offsets[i + 1]], and
+             empty where it is missing
     valid    a memoryview of Bools: which values are there; None where all are
 
     As a sequence it has a str for each text, bytes for each struct and each vector of unsigned bytes, Bools or structs,

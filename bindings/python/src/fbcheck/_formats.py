@@ -69,9 +69,9 @@ def _field(fields: list[_Row], name: bytes) -> _Row:
 
 
 def _letters(base: int, element: int, is_struct: bool) -> str:
-    """The letters for such a value: of the numbers of a vector ("B" for those that are read as bytes, and where there is
-    none), and of a column: of numbers theirs; "s" for texts, "r" for structs, "v" for vectors with such numbers, "n" for
-    the counts of others; "-" for none.
+    """Two letters for such a value: that of the numbers of a vector ("B" for what is read as bytes, or isn't one), and
+    that of a column: a number's own, "s" for texts, "r" for structs, "v" for vectors with such numbers, "n" for the
+    counts of others, "-" for none.
     """
     if base in (_VECTOR, _ARRAY):
         letter = "B" if element == _OBJECT and is_struct else _LETTERS.get(element)
