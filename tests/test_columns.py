@@ -193,7 +193,7 @@ class Columns(LibraryCase):
 
     def alone(self, script, *words, python=sys.executable):
         """What a process of its own writes that runs this script with the package."""
-        return ran(python, "-B", "-c", script, *words, PYTHONPATH=str(package(python)), seconds=300)
+        return ran(python, "-B", "-c", script, *words, PYTHONPATH=str(self.folder), seconds=300)
 
     def test_beside_read(self):
         """The values that read() has of each good message, and the verdicts of messages(), of 10,000 messages."""
@@ -549,7 +549,7 @@ class Columns(LibraryCase):
         has = [python for python in (sys.executable, "/usr/bin/python3") if os.path.exists(python)
                and subprocess.run([python, "-c", asked], capture_output=True).returncode == 0]
         if not has:
-            self.skipTest("numpy isn't there")
+            self.skipTest("numpy isn't there (Debian's package python3-numpy)")
         told = self.alone(IN_NUMPY, ORDERS, TOP / "examples/deliveries.bin", python=has[0])
         self.same("what it has", told, (0, OF_NUMPY, ""))
 

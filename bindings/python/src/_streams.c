@@ -622,7 +622,7 @@ static PyObject *column_data(PyObject *self, void *nothing)
 }
 
 static PyGetSetDef column_properties[] = {
-    { "data", column_data, NULL, "the numbers as a memoryview; without a value that is missing 0, False or nan", NULL },
+    { "data", column_data, NULL, "the numbers as a memoryview: 0, False or nan where a value is missing", NULL },
     { NULL, NULL, NULL, NULL, NULL },
 };
 
