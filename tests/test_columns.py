@@ -1,6 +1,7 @@
 """Columns of a stream, and values with its messages, in Python: what read() tells of each message, by one check."""
 
 import array
+import asyncio
 import concurrent.futures
 import copy
 import io
@@ -18,7 +19,7 @@ import timeit
 
 from tests.support import buffers, schemas
 from tests.support.buffers import ORC, POST, named
-from tests.support.builder import Plain, buffer, messages_of, prefixed
+from tests.support.builder import Plain, buffer, prefixed
 from tests.support.every_kind import FILE, LITTLE, WHOLE, variants
 from tests.support.library import LibraryCase, ran
 from tests.support.program import TOP, file_of
@@ -247,6 +248,20 @@ class Columns(LibraryCase):
         names, = by_m.columns([named(3_000_000), named(9_000_000)] * 2, ["name"])
         self.same("messages of megabytes", [len(name) for name in names], [2999967, 8999967] * 2)
 
+    def test_messages_that_come_later(self):
+        """Values with the messages of a stream that is asynchronous."""
+        checker = self.by(ORDERS)
+
+        async def pieces():
+            for at in range(0, len(POST), 7):
+                await asyncio.sleep(0)
+                yield POST[at:at + 7]
+
+        async def told():
+            return [one async for one in checker.messages(pieces(), paths=OF_ORDERS)]
+
+        self.same("the same", asyncio.run(told()), [*checker.messages(POST, paths=OF_ORDERS)])
+
     def test_numbers(self):
         """Each type of numbers at its bounds, and where it is missing, in a column of that type."""
         rows = [field(name, kind, 4 + 2 * at) for at, (name, kind, _) in enumerate(NUMBERS)]
@@ -369,7 +384,8 @@ class Columns(LibraryCase):
             self.same(f"deep ones, {times}", ([*columns[0]], [*columns.skipped], places),
                       ([7] * 3, [2, 4, 6], [deep.check(prefixed(buffers.levels(4096)[:-4])).place] * 3))
 
-    def test_faults(self):
+    def test_faults_of_streams(self):
+        """What was read before a fault comes with it."""
         of, checker, whole = self.module, self.by("M"), prefixed(ORC)
         for size in (1, 7, 1000):
             pieces = lambda data: [data[at:at + size] for at in range(0, len(data), size)]
@@ -386,6 +402,15 @@ class Columns(LibraryCase):
         self.same("messages() has no columns", self.fails(
             "its fault", of.Truncated, "", lambda: [*checker.messages(whole[:9])]).columns, None)
         self.same("room for one", [*checker.columns(whole, ("hp",), max_bytes=len(whole))[0]], [300])
+
+        def broken():
+            yield whole
+            raise KeyError("broken")
+
+        self.fails("a stream that fails", KeyError, "broken", lambda: checker.columns(broken(), ("hp",)))
+
+    def test_what_is_refused(self):
+        of, checker, whole = self.module, self.by("M"), prefixed(ORC)
         columns = lambda *words, **named: lambda: checker.columns(*words, **named)
         with open(TOP / "examples/deliveries.bin", encoding="utf-8") as text:
             self.fails("a file of a text", TypeError, 'open its file with "rb"', columns(text, ("hp",)))
@@ -410,12 +435,6 @@ class Columns(LibraryCase):
             yield whole
 
         self.fails("one that is asynchronous", TypeError, "asynchronous", columns(later(), ("hp",)))
-
-        def broken():
-            yield whole
-            raise KeyError("broken")
-
-        self.fails("a stream that fails", KeyError, "broken", columns(broken(), ("hp",)))
 
     def test_paths_of_others(self):
         """A path of another schema raises where it doesn't fit, or its values aren't such as its column has."""

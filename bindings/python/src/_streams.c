@@ -120,11 +120,11 @@ typedef struct {
 } Form;
 
 static const Form forms[] = {
-    { '?', '?', FBCHECK_BOOL, 1 }, { 'b', 'b', FBCHECK_INT, 1 },   { 'h', 'h', FBCHECK_INT, 2 },
-    { 'i', 'i', FBCHECK_INT, 4 },  { 'q', 'q', FBCHECK_INT, 8 },   { 'B', 'B', FBCHECK_UINT, 1 },
-    { 'H', 'H', FBCHECK_UINT, 2 }, { 'I', 'I', FBCHECK_UINT, 4 },  { 'Q', 'Q', FBCHECK_UINT, 8 },
-    { 'f', 'f', FBCHECK_FLOAT, 4 }, { 'd', 'd', FBCHECK_FLOAT, 8 }, { 'n', 'I', FBCHECK_VECTOR, 4 },
-    { 's', 'q', FBCHECK_TEXT, 8 }, { 'r', 'q', FBCHECK_STRUCT, 8 }, { 'v', 'q', FBCHECK_VECTOR, 8 },
+    { '?', '?', FBCHECK_BOOL, 1 },  { 'b', 'b', FBCHECK_INT, 1 },    { 'h', 'h', FBCHECK_INT, 2 },
+    { 'i', 'i', FBCHECK_INT, 4 },   { 'q', 'q', FBCHECK_INT, 8 },    { 'B', 'B', FBCHECK_UINT, 1 },
+    { 'H', 'H', FBCHECK_UINT, 2 },  { 'I', 'I', FBCHECK_UINT, 4 },   { 'Q', 'Q', FBCHECK_UINT, 8 },
+    { 'f', 'f', FBCHECK_FLOAT, 4 }, { 'd', 'd', FBCHECK_FLOAT, 8 },  { 'n', 'I', FBCHECK_VECTOR, 4 },
+    { 's', 'q', FBCHECK_TEXT, 8 },  { 'r', 'q', FBCHECK_STRUCT, 8 }, { 'v', 'q', FBCHECK_VECTOR, 8 },
 };
 
 /* A column in the making. */
