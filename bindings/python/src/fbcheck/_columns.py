@@ -2,6 +2,7 @@
 
 from __future__ import annotations
 
+import itertools
 from collections.abc import Iterator, Sequence
 from typing import TYPE_CHECKING, Any, TypeAlias
 
@@ -85,12 +86,19 @@ class Slices(Sequence[_Slice]):
 
     def __getitem__(self, index: Any) -> Any:
         places = range(len(self))[index]
-        return [self._at(at) for at in places] if isinstance(places, range) else self._at(places)
+        if isinstance(places, range):
+            return [self[at] for at in places]
+        is_there = self.valid is None or self.valid[places]
+        return self._shown(self.offsets[places], self.offsets[places + 1]) if is_there else None
 
-    def _at(self, at: int) -> _Slice:
-        if self.valid is not None and not self.valid[at]:
-            return None
-        part = self.data[self.offsets[at]:self.offsets[at + 1]]
+    def __iter__(self) -> Iterator[_Slice]:
+        shown = itertools.starmap(self._shown, itertools.pairwise(self.offsets.tolist()))
+        if self.valid is None:
+            return shown
+        return (value if there else None for value, there in zip(shown, self.valid))
+
+    def _shown(self, begin: int, end: int) -> _Slice:
+        part = self.data[begin:end]
         if self._kind == "s":
             return str(part, "utf-8", "surrogateescape")
         return bytes(part) if part.format == "B" else part
