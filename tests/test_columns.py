@@ -463,13 +463,13 @@ class Columns(LibraryCase):
     def test_once(self):
         """A message is gone through once, with all that is read of it."""
         node = [field("a", an_object(0), 4), field("b", an_object(0), 6), field("v", INT, 8, 7)]
-        chain = prefixed(buffers.doubling(12))
-        checker = self.by(schema([table("N", *node)], root="N"), reads_per_byte=74)
+        chain = prefixed(buffers.doubling(14))
+        checker = self.by(schema([table("N", *node)], root="N"), reads_per_byte=2000)
         paths = ("v", "a.v", "a.b.v")
         self.same("values", [*map(list, checker.columns(chain, paths))], [[7]] * 3)
         calls = [lambda: checker.check(chain), lambda: checker.columns(chain, paths),
                  lambda: [*checker.messages(chain, paths=paths)]]
-        turns = [[timeit.timeit(call, number=10) for call in calls] for _ in range(200)]
+        turns = [[timeit.timeit(call, number=2) for call in calls] for _ in range(200)]
         check, *others = map(min, zip(*turns))
         self.holds("it costs as much as a check", max(others) < 1.5 * check, (check, others))
 
