@@ -18,7 +18,7 @@ import time
 import timeit
 
 from tests.support import buffers, schemas
-from tests.support.buffers import ORC, POST, named
+from tests.support.buffers import ORC, PLAIN, POST, named
 from tests.support.builder import Plain, buffer, prefixed
 from tests.support.every_kind import FILE, LITTLE, WHOLE, variants
 from tests.support.library import LibraryCase, ran
@@ -50,26 +50,29 @@ OF_ORDERS = ["id", "to.name", "to.age", "to.home", "to.home.x", "items", "items_
 LEAKS = """
 import pickle, resource, sys
 import fbcheck
-file, message = (bytes.fromhex(word) for word in sys.argv[1:])
+file, message, nameless = (bytes.fromhex(word) for word in sys.argv[1:])
 schema, bad = fbcheck.Schema(file, prefixed=True), (9).to_bytes(4, "little") + bytes(9)
+some, many = message + nameless, (message + nameless) * 500
 def pieces():
-    yield message * 3
+    yield many
     raise KeyError
 def each(number):
-    columns = schema.columns((message + bad) * 20, ("name", "hp", schema.path("hp")), bad="skip")
-    memoryview(columns[1]), list(columns[0]), columns[0].data, columns[1].data, columns[0][1], pickle.dumps(columns)
-    for stream in (message * 9 + bad, message + message[:-1], message + bytes([255] * 4), pieces(), ["text"], [5]):
-        try:
-            schema.columns(stream, ("name", "hp"))
-        except (fbcheck.Error, TypeError, KeyError):
-            pass
-    list(schema.messages(message + bad, paths=("name", "hp")))
+    columns = schema.columns((many + bad) * 2, ("name", "hp", schema.path("hp")), bad="skip")
+    memoryview(columns[1]), columns[0].data, columns[1].data, columns[0][1], pickle.loads(pickle.dumps(columns))
+    list(schema.columns(some, ("name",))[0])
+    for stream in (many + bad, many + some[:-1], many + bytes([255] * 4), pieces(), [many, "text"], [bad * 500, 5]):
+        for left_out in ("raise", "skip"):
+            try:
+                schema.columns(stream, ("name", "hp"), bad=left_out)
+            except (fbcheck.Error, TypeError, KeyError):
+                pass
+    list(schema.messages(some + bad, paths=("name", "hp")))
 def peak(times):
     for number in range(times):
         each(number)
     return resource.getrusage(resource.RUSAGE_SELF).ru_maxrss
 first = peak(200)
-print(peak(10_000) - first)
+print(peak(3000) - first)
 """
 
 # What is told where memory is refused, wherever that is.
@@ -306,6 +309,7 @@ class Columns(LibraryCase):
         self.same("bytes", [*rows], texts)
         ends = [sum(len(text or b"") for text in texts[:at]) for at in range(len(texts) + 1)]
         for name, column in [("texts", strings), ("bytes", rows)]:
+            self.same(f"{name}: one by one", [column[at] for at in range(len(texts))], [*column])
             self.same(f"{name}: the layout", (column.offsets.tolist(), bytes(column.data), column.valid.tolist()),
                       (ends, b"".join(filter(None, texts)), [text is not None for text in texts]))
             self.same(f"{name}: the views", [(view.format, view.readonly) for view in (
@@ -557,9 +561,9 @@ class Columns(LibraryCase):
 
     def test_memory(self):
         words = schemas.M.hex(), prefixed(ORC).hex()
-        status, out, err = self.alone(LEAKS, *words)
-        few = (status, err) == (0, "") and int(out) < 2000
-        self.holds("10,000 calls of each kind leak nothing", few, (status, out, err))
+        status, out, err = self.alone(LEAKS, *words, prefixed(PLAIN).hex())
+        few = (status, err) == (0, "") and int(out) < 1500
+        self.holds("3,000 calls of each kind leak nothing", few, (status, out, err))
         self.same("where memory is refused, that is told", self.alone(STARVED, *words), (0, "400000 refused\n", ""))
 
     def test_in_numpy(self):
