@@ -7,6 +7,9 @@
 //     if (const auto found = schema.read(buffer, paths))
 //         std::cout << found[0].text().value_or("") << found[1].real().value_or(0);
 //
+//     if (const auto good = schema.keep(buffer)) // a copy, of which values are read one by one
+//         std::cout << good->get("to.name").text().value_or("");
+//
 // A bad buffer doesn't throw. These do, and say why in words: SchemaError (not a usable schema file), PathError (not a
 // path), StreamError (a stream that can't go on), and Misuse (unusable options or arguments: no root table, another
 // version, max_depth beyond the scratch, demands without which the Schema was made, a schema that was moved from).
@@ -263,13 +266,17 @@ class Scratch {
     std::unique_ptr<fbcheck_scratch, Free> room_;
 };
 
+class Good;
+
 // A schema, made from the bytes of a schema file, which it copies. Movable, not copyable. Its checks have the demands
 // of the options that it is made with, and refuse more of them (Misuse).
 class Schema {
   public:
+    Schema(Schema &&) noexcept = default;
+    Schema &operator=(Schema &&) noexcept = default;
     explicit Schema(Bytes file, const Options &options = {}) : demands_(options.demands) {
         fbcheck_verdict told;
-        schema_.reset(fbcheck_schema_new(file.data(), file.size(), &options, &told));
+        schema_.reset(fbcheck_schema_new(file.data(), file.size(), &options, &told), Free());
         if (schema_ == nullptr && told.status == FBCHECK_NO_MEMORY) throw std::bad_alloc();
         if (schema_ == nullptr) throw SchemaError(told, unplanned(file, options, told));
     }
@@ -339,10 +346,15 @@ class Schema {
         return reading;
     }
 
-    // The handle for the calls of fbcheck.h; this Schema keeps it, and frees it.
+    // Copies a buffer, and keeps the copy if it is ok, to read values of it one by one; nullopt if it is bad.
+    std::optional<Good> keep(Bytes buffer, const Options &options = {}) const;
+
+    // The handle for the calls of fbcheck.h; it is freed with this Schema and with what it keeps.
     const fbcheck_schema *get() const noexcept { return schema_.get(); }
 
   private:
+    friend class Good;
+    Schema(const Schema &) = default;
     // The field that keeps demands from being asked, as "Table.field", if that is why there is no schema.
     static std::string unplanned(Bytes file, Options options, const fbcheck_verdict &told) {
         if (told.status != FBCHECK_UNMARKED_BYTES && told.status != FBCHECK_NO_SUCH_TABLE) return {};
@@ -370,9 +382,45 @@ class Schema {
         return options;
     }
 
-    std::unique_ptr<fbcheck_schema, Free> schema_;
+    std::shared_ptr<fbcheck_schema> schema_;
     std::uint32_t demands_;
 };
+
+// An ok buffer, of which Schema::keep makes a copy. It shares the Schema's handle: what becomes of the Schema and of the
+// buffer doesn't matter. Any number of threads may use one const Good.
+class Good {
+  public:
+    // The value at a path, or at a path's text (which takes memory, and throws PathError). Its bytes lie in this Good,
+    // which must outlive it. The library keeps nothing of a check, so each call checks the copy again; Schema::read
+    // reads several values by one check.
+    Value get(const Path &path) const & {
+        return schema_.read(bytes_, std::array<Path, 1>{{path}}, options_, room(options_).get())[0];
+    }
+    Value get(std::string_view text) const & { return get(schema_.path(text, options_)); }
+    template <class At> Value get(const At &) const && = delete;
+
+    // The copy.
+    Bytes bytes() const & noexcept { return bytes_; }
+
+  private:
+    friend class Schema;
+    Good(const Schema &schema, Bytes buffer, const Options &options)
+        : schema_(schema), options_(options), bytes_(buffer.begin(), buffer.end()) {}
+    // What a check needs beyond FBCHECK_DEEP, or nothing.
+    static std::unique_ptr<Scratch> room(const Options &options) {
+        return options.max_depth > FBCHECK_DEEP ? std::make_unique<Scratch>(options.max_depth) : nullptr;
+    }
+
+    Schema schema_;
+    Options options_;
+    std::vector<std::uint8_t> bytes_;
+};
+
+inline std::optional<Good> Schema::keep(Bytes buffer, const Options &options) const {
+    std::optional<Good> kept = Good(*this, buffer, options);
+    if (!good(kept->bytes_, options, Good::room(options).get())) kept.reset();
+    return kept;
+}
 
 // Whether the size before each message of a stream is part of the buffer (Prefixed: FinishSizePrefixed; set
 // Options::prefixed), or precedes a bare buffer (Delimited: Finish).

@@ -795,5 +795,5 @@ class Python(LibraryCase):
         self.same("what a no looks like", str(checker.check(messages_of(POST)[4])), bad)
         for name in self.module.__all__:
             self.holds(f"{name} is documented", getattr(self.module, name).__doc__)
-        for name in ("check", "verify", "read", "messages", "path", "replace"):
+        for name in ("check", "verify", "read", "messages", "columns", "path", "replace"):
             self.holds(f"{name} is documented", getattr(checker, name).__doc__)

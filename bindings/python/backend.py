@@ -27,7 +27,8 @@ import zipfile
 
 HERE = pathlib.Path(__file__).resolve().parent
 TOP = HERE.parents[1]
-PARTS = ("__init__.py", "_codes.py", "_fbcheck.pyi", "_formats.py", "py.typed")
+PARTS = ("__init__.py", "_codes.py", "_columns.py", "_fbcheck.pyi", "_formats.py", "py.typed")
+SOURCES = ("_fbcheck.c", "_streams.c")
 EXTENSION = "_fbcheck.abi3.so"
 WARNINGS = ("-Wall", "-Wextra")
 
@@ -67,7 +68,7 @@ def build_extension(folder):
     include, linked = library()
     subprocess.run(
         [*compiler, "-std=c99", "-O2", "-fPIC", "-shared", *WARNINGS, "-I", headers, "-I", include,
-         HERE / "src/_fbcheck.c", *linked, "-Wl,--exclude-libs,ALL", "-Wl,-s", "-o", folder / EXTENSION], check=True)
+         *(HERE / "src" / source for source in SOURCES), *linked, "-Wl,--exclude-libs,ALL", "-Wl,-s", "-o", folder / EXTENSION], check=True)
 
 
 def put(folder):
@@ -161,7 +162,8 @@ def build_wheel(wheel_directory, config_settings=None, metadata_directory=None):
 def build_sdist(sdist_directory, config_settings=None):
     """Makes the tarball of the sources, and tells its name."""
     name = "fbcheck-" + project()["version"]
-    sources = ["README.md", "backend.py", "pyproject.toml", "src/_fbcheck.c", *(f"src/fbcheck/{part}" for part in PARTS)]
+    sources = ["README.md", "backend.py", "pyproject.toml", "src/_fbcheck.h", *(f"src/{source}" for source in SOURCES),
+               *(f"src/fbcheck/{part}" for part in PARTS)]
     tarred(pathlib.Path(sdist_directory) / f"{name}.tar.gz", name,
            {"PKG-INFO": metadata(), **{source: (HERE / source).read_bytes() for source in sources}})
     return f"{name}.tar.gz"

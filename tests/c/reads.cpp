@@ -62,9 +62,46 @@ static void try_before(const fbcheck::Schema &schema, const std::string &text) {
     demand(std::string(wrong.what()).find("from this root: paths[1]") != std::string::npos, "it isn't told in words");
     options.max_depth = FBCHECK_DEEP + 1;
     demand(misuse([&] { schema.check({nullptr, 0}, options); }).status == FBCHECK_OUT_OF_RANGE, "a wrong depth passes");
+    demand(!schema.keep({nullptr, 0}, options), "no bytes are kept");
+    options.max_depth = FBCHECK_DEEPEST + 1;
+    demand(misuse([&] { schema.keep({nullptr, 0}, options); }).status == FBCHECK_OUT_OF_RANGE, "a wrong depth is kept");
 }
 
-static void tell(const fbcheck::Schema &schema, const std::string &text, fbcheck::Bytes message, bool prefixed) {
+static bool same(const fbcheck::Value &first, const fbcheck::Value &second) {
+    const auto bytes = [](const fbcheck::Value &value) {
+        return std::string_view(reinterpret_cast<const char *>(value.bytes().data()), value.bytes().size());
+    };
+    return std::memcmp(&first.told(), &second.told(), sizeof(fbcheck_value)) == 0 && bytes(first) == bytes(second);
+}
+
+// A good message that is kept has the values that read() has, whatever becomes of the message and the Schema.
+static void try_kept(const std::string &file, const std::string &text, fbcheck::Bytes message,
+                     fbcheck::Options options, const fbcheck::Reading<2> &found) {
+    std::string bytes(message.begin(), message.end());
+    auto schema = std::make_unique<fbcheck::Schema>(file);
+    const auto path = schema->path(text);
+    auto kept = schema->keep(bytes, options);
+    options.max_depth = 1000;
+    const auto deep = schema->keep(bytes, options);
+    demand(bool(kept) == bool(found) && bool(deep) == bool(found), "keep() differs");
+    if (!found) return;
+    std::fill(bytes.begin(), bytes.end(), '\xff');
+    const auto moved = std::move(*schema);
+    demand(same(kept->get(path), found[1]), "the Schema was moved from");
+    schema.reset();
+    const auto copy = *kept;
+    const auto value = kept->get(text), whole = kept->get(fbcheck::Path{});
+    const auto taken = std::move(*kept);
+    demand(same(value, found[1]) && whole.kind() == FBCHECK_TABLE, "a text, and a Good that was moved");
+    demand(same(taken.get(path), found[1]) && same(copy.get(path), found[1]), "where it was moved or copied to");
+    demand(same(deep->get(path), found[1]), "with room for more tables");
+    demand(misuse([&] { kept->get(path); }).status == FBCHECK_NULL, "what was moved from has values");
+    demand(misuse([&] { copy.get(fbcheck::Path{1, 0, {{1, 9999}}}); }).status == FBCHECK_MISFIT, "a wrong path is read");
+    demand(copy.bytes().size() == message.size() && copy.bytes().data() != message.data(), "it isn't a copy");
+}
+
+static void tell(const fbcheck::Schema &schema, const std::string &file, const std::string &text,
+                 fbcheck::Bytes message, bool prefixed) {
     static fbcheck::Scratch scratch(FBCHECK_DEEP);
     static int count = 0;
     const std::array paths{fbcheck::Path{}, schema.path(text)};
@@ -78,16 +115,18 @@ static void tell(const fbcheck::Schema &schema, const std::string &text, fbcheck
     demand(!found || bool(found[1]) == (found[1].kind() > FBCHECK_OTHER_MEMBER), "its truth");
     demand(!found || !found[1].text() || !found[1].integer(), "it is of two kinds");
     demand(bool(found) == schema.good(message, options), "good() differs");
+    try_kept(file, text, message, options, found);
     demand(reinterpret_cast<std::uintptr_t>(message.data()) % 8 == 0, "it isn't aligned");
 }
 
 int main(int number, char **words) try {
-    const fbcheck::Schema schema(all_of(std::ifstream(words[1], std::ios::binary)));
+    const auto file = all_of(std::ifstream(words[1], std::ios::binary));
+    const fbcheck::Schema schema(file);
     try_before(schema, words[2]);
     const bool bare = number > 5 && words[5] == std::string("delimited");
     int left = number > 6 ? std::stoi(words[6]) : 0;
     fbcheck::Framer framer(std::stoul(words[4]), bare ? fbcheck::Framing::Delimited : fbcheck::Framing::Prefixed);
-    const auto each = [&](fbcheck::Bytes message) { tell(schema, words[2], message, !bare); };
+    const auto each = [&](fbcheck::Bytes message) { tell(schema, file, words[2], message, !bare); };
     const auto each_of_some = [&](fbcheck::Bytes message) { return each(message), --left > 0; };
     const bool some = left > 0;
     std::string piece(std::stoul(words[3]), 0);

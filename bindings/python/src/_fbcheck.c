@@ -2,26 +2,12 @@
  * What the package fbcheck does for each message: the calls of fbcheck.h on whatever has the buffer protocol. All else
  * is Python.
  *
- * It is written against the limited API of Python 3.11, and keeps no pointer into a message once a call returns.
- * What can be written is checked as a copy: no lock of the interpreter keeps another process from writing it, nor a
- * thread that reads a socket or a file into it.
+ * It keeps no pointer into a message once a call returns. What can be written is checked as a copy: no lock of the
+ * interpreter keeps another process from writing it, nor a thread that reads a socket or a file into it.
  */
-#define Py_LIMITED_API 0x030b0000
-#define PY_SSIZE_T_CLEAN
-#include <Python.h>
-#include <structmember.h>
-
-#include <stddef.h>
-#include <stdlib.h>
-#include <string.h>
-
-#include <fbcheck.h>
+#include "_fbcheck.h"
 
 #define HANDLE "fbcheck.schema"
-
-/* Where a message is longer, or may cost more reads a byte than by default, other threads run while it is checked. */
-#define SHORT_MESSAGE 2048
-#define FEW_READS 64
 
 /* How long a name is without memory of its own, and how many paths are. */
 #define SHORT_NAME 128
@@ -39,32 +25,8 @@ typedef struct {
     PyObject *field;
 } Verdict;
 
-/* A schema with its options; `handle` owns what `schema` leads to, and other options may share it. `kept` has what the
-   package makes of what is told. */
-typedef struct {
-    PyObject_HEAD
-    PyObject *handle;
-    const fbcheck_schema *schema;
-    fbcheck_options options;
-    fbcheck_scratch *idle; /* room for tables that no call has at the moment, or null */
-    PyObject *told[2];     /* the verdicts that were told last, or null */
-    PyObject *paths;       /* by each text or path that was read at, the bytes of _resolve() with a letter behind */
-    PyObject *kept;
-    PyObject *verdict, *bad_buffer, *fault; /* the class of verdicts, the exception with one, and that of a status */
-    PyObject *table, *a_union, *vector;     /* what stands for a table, and the classes of unions and vectors, */
-    PyObject *type, *count;                 /* with the names of what these two have */
-} Schema;
-
-/* The messages of a stream, of which the next one stands in `room`. */
-typedef struct {
-    PyObject_HEAD
-    fbcheck_framer framer;
-    uint8_t *room;
-    Py_ssize_t size;
-} Framer;
-
 /* Gives back an object whose parts were given up. */
-static void freed(PyObject *self)
+void freed(PyObject *self)
 {
     PyTypeObject *type = Py_TYPE(self);
     ((freefunc)PyType_GetSlot(type, Py_tp_free))(self);
@@ -197,7 +159,7 @@ static PyObject *table(PyObject *module, PyObject *words)
 }
 
 /* Raises what tells that a call wasn't done. */
-static PyObject *refused(Schema *self, uint32_t status)
+PyObject *refused(Schema *self, uint32_t status)
 {
     PyObject *fault = PyObject_CallFunction(self->fault, "I", status);
     if (fault != NULL) {
@@ -279,21 +241,35 @@ typedef struct {
     PyThreadState *others; /* null while this thread keeps the lock of the interpreter */
 } Check;
 
+/* Takes room for tables, which is null where a call needs none; -1 where memory is refused. */
+int take_scratch(Schema *self, fbcheck_scratch **scratch)
+{
+    *scratch = self->idle;
+    self->idle = NULL;
+    if (*scratch != NULL || self->options.max_depth <= FBCHECK_DEEP)
+        return 0;
+    *scratch = fbcheck_scratch_new(self->options.max_depth);
+    return *scratch != NULL ? 0 : -1;
+}
+
+/* Gives back what take_scratch() took. */
+void give_scratch(Schema *self, fbcheck_scratch *scratch)
+{
+    if (self->idle == NULL)
+        self->idle = scratch;
+    else
+        fbcheck_scratch_free(scratch);
+}
+
 /* Takes room for tables, and for a copy; -1 where memory is refused. */
 static int take_room(Schema *self, Check *check)
 {
     int copied = !check->view.readonly && check->view.len <= LONGEST_MESSAGE;
     check->copy = copied ? malloc((size_t)check->view.len + 1) : NULL;
-    if (copied && check->copy == NULL)
-        return -1;
-    check->scratch = self->idle;
-    self->idle = NULL;
-    if (check->scratch != NULL || self->options.max_depth <= FBCHECK_DEEP)
+    if ((!copied || check->copy != NULL) && take_scratch(self, &check->scratch) == 0)
         return 0;
-    check->scratch = fbcheck_scratch_new(self->options.max_depth);
-    if (check->scratch == NULL)
-        free(check->copy);
-    return check->scratch != NULL ? 0 : -1;
+    free(check->copy);
+    return -1;
 }
 
 /* Takes the bytes of a message, and room for tables. */
@@ -307,7 +283,7 @@ static int begin(Schema *self, PyObject *message, Check *check)
         return -1;
     }
     check->others = NULL;
-    if (check->view.len > SHORT_MESSAGE || self->options.reads_per_byte > FEW_READS)
+    if (is_long(self, (size_t)check->view.len))
         check->others = PyEval_SaveThread();
     check->bytes = check->view.buf;
     if (check->copy != NULL)
@@ -327,10 +303,7 @@ static void resume(Check *check)
 static void end(Schema *self, Check *check)
 {
     resume(check);
-    if (self->idle == NULL)
-        self->idle = check->scratch;
-    else
-        fbcheck_scratch_free(check->scratch);
+    give_scratch(self, check->scratch);
     free(check->copy);
     PyBuffer_Release(&check->view);
 }
@@ -407,7 +380,7 @@ static Verdict *another(Schema *self, const fbcheck_verdict *told)
 }
 
 /* The verdict that was told, of a bad message with this place. */
-static PyObject *judged(Schema *self, const fbcheck_verdict *told, const char *place, size_t length)
+PyObject *judged(Schema *self, const fbcheck_verdict *told, const char *place, size_t length)
 {
     Verdict *verdict = another(self, told);
     if (verdict != NULL && told->status == FBCHECK_BAD) {
@@ -548,12 +521,13 @@ static PyObject *value_of(Schema *self, PyObject *message, const char *bytes, co
     }
 }
 
-/* What is read of a message: of each path its steps, the letter of a vector's numbers, and the value. */
+/* What is read of a message: of each path its steps, its letters, and the value. */
 typedef struct {
     size_t count;
     fbcheck_path *paths;
     fbcheck_value *values;
-    char *letters;
+    Letters *letters;
+    PyObject *told; /* the tuple of paths of who wants a tuple of values, with the verdict, or null */
 } Read;
 
 /* The values that were read: one, or a tuple of several. */
@@ -561,19 +535,19 @@ static PyObject *values_of(Schema *self, PyObject *message, const char *bytes, c
 {
     size_t at;
     PyObject *told;
-    if (read->count == 1)
-        return value_of(self, message, bytes, read->values, read->letters[0]);
+    if (read->count == 1 && read->told == NULL)
+        return value_of(self, message, bytes, read->values, read->letters->element);
     told = PyTuple_New((Py_ssize_t)read->count);
     for (at = 0; told != NULL && at < read->count; at++) {
-        PyObject *one = value_of(self, message, bytes, read->values + at, read->letters[at]);
+        PyObject *one = value_of(self, message, bytes, read->values + at, read->letters[at].element);
         if (one == NULL || PyTuple_SetItem(told, (Py_ssize_t)at, one) != 0)
             Py_CLEAR(told);
     }
     return told;
 }
 
-/* Copies the steps of a text or path, and its letter. The first time the package resolves it, and keeps that. */
-static int copy_steps(Schema *self, PyObject *path, fbcheck_path *steps, char *letter)
+/* Copies the steps of a text or path, and its letters. The first time the package resolves it, and keeps that. */
+int copy_steps(Schema *self, PyObject *path, fbcheck_path *steps, Letters *letters)
 {
     PyObject *kept = PyDict_GetItemWithError(self->paths, path);
     Py_ssize_t size;
@@ -587,9 +561,9 @@ static int copy_steps(Schema *self, PyObject *path, fbcheck_path *steps, char *l
     if (kept == NULL)
         return -1;
     answer = PyBytes_AsStringAndSize(kept, &bytes, &size);
-    if (answer == 0 && (size_t)size == sizeof *steps + 1) {
+    if (answer == 0 && (size_t)size == sizeof *steps + sizeof *letters) {
         memcpy(steps, bytes, sizeof *steps);
-        *letter = bytes[sizeof *steps];
+        memcpy(letters, bytes + sizeof *steps, sizeof *letters);
     } else if (answer == 0) {
         PyErr_SetString(PyExc_ValueError, "not the bytes of a path");
         answer = -1;
@@ -598,49 +572,67 @@ static int copy_steps(Schema *self, PyObject *path, fbcheck_path *steps, char *l
     return answer;
 }
 
-/* Checks a message, and reads at these texts and paths. */
+/* Checks a message once, and reads at these texts and paths, unless they are told. */
 static PyObject *read_at(Schema *self, PyObject *message, PyObject *const *paths, Read *read)
 {
+    PyObject *path;
     Check check;
     size_t at;
     uint32_t status;
+    fbcheck_verdict told;
     PyObject *values;
-    for (at = 0; at < read->count; at++)
-        if (copy_steps(self, paths[at], read->paths + at, read->letters + at) != 0)
+    for (at = 0; at < read->count; at++) {
+        path = read->told != NULL ? PyTuple_GetItem(read->told, (Py_ssize_t)at) : paths[at];
+        if (copy_steps(self, path, read->paths + at, read->letters + at) != 0)
             return NULL;
+    }
     if (begin(self, message, &check) != 0)
         return NULL;
     status = fbcheck_read(self->schema, check.scratch, &self->options, check.bytes, (size_t)check.view.len, read->paths,
-                          read->values, read->count, NULL);
+                          read->values, read->count, &told);
     if (status == FBCHECK_BAD)
-        return raised(self, located(self, &check));
+        return read->told != NULL ? Py_BuildValue("N()", located(self, &check)) : raised(self, located(self, &check));
     resume(&check);
     values = status == FBCHECK_OK ? values_of(self, message, (const char *)check.bytes, read) : refused(self, status);
     end(self, &check);
-    return values;
+    return read->told != NULL && values != NULL ? Py_BuildValue("NN", judged(self, &told, NULL, 0), values) : values;
+}
+
+/* Reads with the room that so many paths need. */
+static PyObject *reading(Schema *self, PyObject *message, PyObject *const *paths, size_t count, PyObject *told)
+{
+    fbcheck_path few[FEW_PATHS];
+    fbcheck_value values[FEW_PATHS];
+    Letters letters[FEW_PATHS];
+    Read read = { count, few, values, letters, told };
+    PyObject *found;
+    if (read.count <= FEW_PATHS)
+        return read_at(self, message, paths, &read);
+    read.paths = malloc(read.count * (sizeof *read.paths + sizeof *read.values + sizeof *read.letters));
+    if (read.paths == NULL)
+        return PyErr_NoMemory();
+    read.values = (fbcheck_value *)(read.paths + read.count);
+    read.letters = (Letters *)(read.values + read.count);
+    found = read_at(self, message, paths, &read);
+    free(read.paths);
+    return found;
 }
 
 static PyObject *schema_read(Schema *self, PyObject *const *words, Py_ssize_t count)
 {
-    fbcheck_path few[FEW_PATHS];
-    fbcheck_value values[FEW_PATHS];
-    char letters[FEW_PATHS];
-    Read read = { (size_t)count - 1, few, values, letters };
-    PyObject *told;
-    if (count < 2) {
-        PyErr_SetString(PyExc_TypeError, "read() takes a message, and a path or several");
+    if (count >= 2)
+        return reading(self, words[0], words + 1, (size_t)count - 1, NULL);
+    PyErr_SetString(PyExc_TypeError, "read() takes a message, and a path or several");
+    return NULL;
+}
+
+/* _found(message, paths): the verdict, and a tuple of the values at a tuple of paths, which is empty of a bad message. */
+static PyObject *schema_found(Schema *self, PyObject *words)
+{
+    PyObject *message, *paths;
+    if (!PyArg_ParseTuple(words, "OO!", &message, &PyTuple_Type, &paths))
         return NULL;
-    }
-    if (read.count <= FEW_PATHS)
-        return read_at(self, words[0], words + 1, &read);
-    read.paths = malloc(read.count * (sizeof *read.paths + sizeof *read.values + 1));
-    if (read.paths == NULL)
-        return PyErr_NoMemory();
-    read.values = (fbcheck_value *)(read.paths + read.count);
-    read.letters = (char *)(read.values + read.count);
-    told = read_at(self, words[0], words + 1, &read);
-    free(read.paths);
-    return told;
+    return reading(self, message, NULL, (size_t)PyTuple_Size(paths), paths);
 }
 
 static PyMethodDef schema_methods[] = {
@@ -658,6 +650,8 @@ static PyMethodDef schema_methods[] = {
       "message, which live as long as they are held, and show what is written there later.\n\n"
       "Raises BadBuffer, whose place takes a second check, and PathError." },
     { "_resolve", (PyCFunction)schema_resolve, METH_O, NULL },
+    { "_found", (PyCFunction)schema_found, METH_VARARGS, NULL },
+    { "_columns", (PyCFunction)schema_columns, METH_VARARGS, NULL },
     { NULL, NULL, 0, NULL },
 };
 
@@ -678,95 +672,19 @@ static PyType_Spec schema_spec = {
     "fbcheck._fbcheck.Schema", sizeof(Schema), 0, Py_TPFLAGS_DEFAULT | Py_TPFLAGS_BASETYPE, schema_slots,
 };
 
-/* ---- streams ---- */
-
-static PyObject *framer_new(PyTypeObject *type, PyObject *words, PyObject *named)
-{
-    Py_ssize_t size;
-    Framer *self;
-    (void)named;
-    if (!PyArg_ParseTuple(words, "n", &size))
-        return NULL;
-    self = (Framer *)PyType_GenericAlloc(type, 0);
-    if (self == NULL)
-        return NULL;
-    self->size = size;
-    self->room = malloc((size_t)size);
-    if (self->room == NULL) {
-        Py_DECREF(self);
-        return PyErr_NoMemory();
-    }
-    return (PyObject *)self;
-}
-
-static void framer_free(PyObject *self)
-{
-    free(((Framer *)self)->room);
-    freed(self);
-}
-
-/* feed(piece, at): the status, how many bytes were taken from this place of the piece on, and what there is: the next
-   message, or of one that is too long how many bytes its prefix declares. */
-static PyObject *framer_feed(Framer *self, PyObject *words)
-{
-    Py_buffer piece;
-    Py_ssize_t at;
-    size_t used = 0;
-    uint32_t status;
-    PyObject *message;
-    if (!PyArg_ParseTuple(words, "y*n", &piece, &at))
-        return NULL;
-    if (at < 0 || at > piece.len)
-        at = piece.len;
-    status = fbcheck_framer_feed(&self->framer, self->room, (size_t)self->size, (const uint8_t *)piece.buf + at,
-                                 (size_t)(piece.len - at), &used);
-    PyBuffer_Release(&piece);
-    if (status != FBCHECK_OK)
-        return Py_BuildValue("InI", status, (Py_ssize_t)used, self->framer.declared);
-    message = PyBytes_FromStringAndSize((const char *)self->room, (Py_ssize_t)self->framer.held);
-    if (message == NULL)
-        return NULL;
-    fbcheck_framer_next(&self->framer, self->room, (size_t)self->size);
-    return Py_BuildValue("InN", status, (Py_ssize_t)used, message);
-}
-
-/* held(): how many bytes of a message that goes on are held. */
-static PyObject *framer_held(Framer *self, PyObject *nothing)
-{
-    (void)nothing;
-    return PyLong_FromSize_t(self->framer.held);
-}
-
-static PyMethodDef framer_methods[] = {
-    { "feed", (PyCFunction)framer_feed, METH_VARARGS, NULL },
-    { "held", (PyCFunction)framer_held, METH_NOARGS, NULL },
-    { NULL, NULL, 0, NULL },
-};
-
-static PyType_Slot framer_slots[] = {
-    { Py_tp_new, framer_new },
-    { Py_tp_dealloc, framer_free },
-    { Py_tp_methods, framer_methods },
-    { 0, NULL },
-};
-
-static PyType_Spec framer_spec = {
-    "fbcheck._fbcheck.Framer", sizeof(Framer), 0, Py_TPFLAGS_DEFAULT, framer_slots,
-};
-
 /* ---- the module ---- */
 
 static int module_exec(PyObject *module)
 {
-    PyType_Spec *const specs[] = { &verdict_spec, &schema_spec, &framer_spec };
-    static const char *const names[] = { "Verdict", "Schema", "Framer" };
+    PyType_Spec *const specs[] = { &verdict_spec, &schema_spec, &framer_spec, &column_spec };
+    static const char *const names[] = { "Verdict", "Schema", "Framer", "Column" };
     size_t at;
     if (fbcheck_version() != FBCHECK_VERSION) {
         PyErr_Format(PyExc_ImportError, "libfbcheck has version %u, and the header %u", (unsigned)fbcheck_version(),
                      (unsigned)FBCHECK_VERSION);
         return -1;
     }
-    for (at = 0; at < 3; at++) {
+    for (at = 0; at < sizeof specs / sizeof *specs; at++) {
         PyObject *type = PyType_FromSpec(specs[at]);
         int answer = type != NULL ? PyModule_AddObjectRef(module, names[at], type) : -1;
         Py_XDECREF(type);

@@ -39,6 +39,29 @@ with open("my.bin", "rb") as stream:
         verdict.place
 for message, verdict in schema.messages([b"", bytearray()]):
     message.hex()
+for message, verdict, values in schema.messages(b"", paths=("name", schema.path("hp"))):
+    name, hp = values
+for message, verdict in schema.messages(b"", paths=["name"]):  # error
+    message.hex()
+schema.messages(b"", paths=5)  # error
+
+columns = schema.columns([b""], ["name", schema.path("hp")], bad="skip", max_bytes=9)
+for column in columns:
+    match column:
+        case fbcheck.Column():
+            column.format.upper()
+            column.data.tolist()
+            column + 1  # error
+        case fbcheck.Slices():
+            column.offsets[0] + 1
+            column.data.nbytes
+    if column.valid is not None:
+        column.valid.tolist()
+    column.valid.tolist()  # error
+columns.skipped.data.tolist()
+columns.verdicts[0].place
+schema.columns(b"", ["name"], bad="drop")  # error
+schema.columns("my.bin", ["name"])  # error
 with open("my.bin") as text:
     schema.messages(text)  # error
 
@@ -47,5 +70,8 @@ async def later(reader: asyncio.StreamReader) -> None:
     async for message, verdict in schema.messages(reader):
         message.hex()
         verdict.field
+    async for message, verdict, values in schema.messages(reader, paths=("name",)):
+        (name,) = values
     for message, verdict in schema.messages(reader):  # error
         message.hex()
+    schema.columns(reader, ("name",))  # error

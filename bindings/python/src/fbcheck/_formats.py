@@ -1,4 +1,4 @@
-"""What a memoryview calls the numbers of a vector, by the path that leads to it.
+"""What a memoryview calls the numbers of a vector, and what a column of values has, by the path that leads to them.
 
 The bytes of a schema file are read here that the library has loaded, so that all its offsets lead to what they should;
 and paths that it has resolved. The numbers of fields are those of FlatBuffers' reflection.fbs.
@@ -13,11 +13,12 @@ from typing import Final
 from fbcheck import _codes
 
 # The base types of reflection.fbs, and the letters of numbers among them.
+_TEXT: Final = 13
 _VECTOR: Final = 14
 _OBJECT: Final = 15
 _UNION: Final = 16
 _ARRAY: Final = 17
-_LETTERS: Final = {3: "b", 4: "B", 5: "h", 6: "H", 7: "i", 8: "I", 9: "q", 10: "Q", 11: "f", 12: "d"}
+_LETTERS: Final = {1: "B", 2: "?", 3: "b", 4: "B", 5: "h", 6: "H", 7: "i", 8: "I", 9: "q", 10: "Q", 11: "f", 12: "d"}
 
 
 class _Row:
@@ -67,8 +68,19 @@ def _field(fields: list[_Row], name: bytes) -> _Row:
     return next(field for field in fields if field.text(0) == name and not field.number(6, "B"))
 
 
-def format_of(file: bytes, root: str | None, path: str, steps: bytes) -> str:
-    """The letter for the elements of the vector or array of numbers that a path leads to, or "" where it leads to none.
+def _letters(base: int, element: int, is_struct: bool) -> str:
+    """Two letters for such a value: that of the numbers of a vector ("B" for what is read as bytes, or isn't one), and
+    that of a column: a number's own, "s" for texts, "r" for structs, "v" for vectors with such numbers, "n" for the
+    counts of others, "-" for none.
+    """
+    if base in (_VECTOR, _ARRAY):
+        letter = "B" if element == _OBJECT and is_struct else _LETTERS.get(element)
+        return "Bn" if letter is None else letter.replace("?", "B") + "v"
+    return "B" + ("r" if base == _OBJECT and is_struct else "s" if base == _TEXT else _LETTERS.get(base, "-"))
+
+
+def letters_of(file: bytes, root: str | None, path: str, steps: bytes) -> str:
+    """The letters for what a path leads to.
 
     `steps` are the library's: what they have that `path` hasn't is the value of each union's member.
     """
@@ -88,6 +100,7 @@ def format_of(file: bytes, root: str | None, path: str, steps: bytes) -> str:
         else:
             row = _field(objects[index].rows(1), word.encode()).row(1)
         if row is None:
-            return ""
+            return "B-"
         base, element, index = row.number(0, "b"), row.number(1, "b"), row.number(2, "i", -1)
-    return _LETTERS.get(element, "") if base in (_VECTOR, _ARRAY) else ""
+    is_struct = _OBJECT in (base, element) and bool(objects[index].number(2, "B"))
+    return _letters(base, element, is_struct)

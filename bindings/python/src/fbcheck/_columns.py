@@ -1,0 +1,132 @@
+"""What columns() reads of a stream: numbers, and values that are slices of bytes or numbers."""
+
+from __future__ import annotations
+
+import itertools
+from collections.abc import Iterator, Sequence
+from typing import TYPE_CHECKING, Any, TypeAlias
+
+from fbcheck import _fbcheck
+
+if TYPE_CHECKING:
+    from fbcheck import Verdict
+
+_Number: TypeAlias = "bool | int | float | None"
+_Slice: TypeAlias = "str | bytes | memoryview | None"
+
+
+def _bools(valid: bytes | None) -> memoryview | None:
+    """What tells which values are there."""
+    return None if valid is None else memoryview(valid).cast("?")
+
+
+def _missing(valid: memoryview | None) -> int:
+    """How many values are missing."""
+    return 0 if valid is None else bytes(valid).count(0)
+
+
+def _column(format: str, numbers: bytes, valid: bytes | None) -> Column:
+    return Column(format, numbers, _bools(valid))
+
+
+class Column(_fbcheck.Column, Sequence[_Number]):
+    """Numbers or Bools of the messages of a stream, in memory that whatever has the buffer protocol takes as it is:
+    numpy.asarray(column), memoryview(column). It is read-only.
+
+    data    the numbers as a memoryview: 0, False or nan where a value is missing
+    format  what a memoryview calls these: "q", "d", "?"
+    valid   a memoryview of Bools: which values are there; None where all are
+
+    As a sequence it has None for a value that is missing.
+    """
+
+    __slots__ = ()
+
+    def __getitem__(self, index: Any) -> Any:
+        if isinstance(index, slice):
+            return [self[at] for at in range(len(self))[index]]
+        return self.data[index] if self.valid is None or self.valid[index] else None
+
+    def __iter__(self) -> Iterator[_Number]:
+        numbers = self.data.tolist()
+        if self.valid is None:
+            return iter(numbers)
+        return (number if there else None for number, there in zip(numbers, self.valid))
+
+    def __reduce__(self) -> tuple[Any, ...]:
+        return _column, (self.format, bytes(self.data), None if self.valid is None else bytes(self.valid))
+
+    def __repr__(self) -> str:
+        return f"<{type(self).__name__} of {len(self)} {self.format!r}, {_missing(self.valid)} missing>"
+
+
+def _slices(kind: str, format: str, data: bytes, offsets: bytes, valid: bytes | None) -> Slices:
+    return Slices(kind, memoryview(data).cast(format), memoryview(offsets).cast("q"), _bools(valid))
+
+
+class Slices(Sequence[_Slice]):
+    """Texts, structs or vectors of the messages of a stream, each a slice of `data`.
+
+    data     all their bytes, or numbers, as a memoryview without gaps
+    offsets  a memoryview of "q": where each value begins, and the end; the i-th is data[offsets[i]:offsets[i + 1]], and
+             empty where it is missing
+    valid    a memoryview of Bools: which values are there; None where all are
+
+    As a sequence it has a str for each text, bytes for each struct and each vector of unsigned bytes, Bools or structs,
+    a memoryview for each vector of other numbers, and None for a value that is missing.
+    """
+
+    __slots__ = ("_kind", "data", "offsets", "valid")
+
+    def __init__(self, kind: str, data: memoryview, offsets: memoryview, valid: memoryview | None, /) -> None:
+        self._kind, self.data, self.offsets, self.valid = kind, data, offsets, valid
+
+    def __len__(self) -> int:
+        return len(self.offsets) - 1
+
+    def __getitem__(self, index: Any) -> Any:
+        places = range(len(self))[index]
+        if isinstance(places, range):
+            return [self[at] for at in places]
+        is_there = self.valid is None or self.valid[places]
+        return self._shown(self.offsets[places], self.offsets[places + 1]) if is_there else None
+
+    def __iter__(self) -> Iterator[_Slice]:
+        shown = itertools.starmap(self._shown, itertools.pairwise(self.offsets.tolist()))
+        if self.valid is None:
+            return shown
+        return (value if there else None for value, there in zip(shown, self.valid))
+
+    def _shown(self, begin: int, end: int) -> _Slice:
+        part = self.data[begin:end]
+        if self._kind == "s":
+            return str(part, "utf-8", "surrogateescape")
+        return bytes(part) if part.format == "B" else part
+
+    def __reduce__(self) -> tuple[Any, ...]:
+        valid = None if self.valid is None else bytes(self.valid)
+        return _slices, (self._kind, self.data.format, bytes(self.data), bytes(self.offsets), valid)
+
+    def __repr__(self) -> str:
+        return f"<{type(self).__name__} of {len(self)}, {_missing(self.valid)} missing>"
+
+
+class Columns(tuple["Column | Slices", ...]):
+    """The columns of a stream, one for each path, in their order: each has a value of each good message.
+
+    skipped   a Column with the numbers of the bad messages that were left out, as the first message is 1
+    verdicts  the verdicts on the first thousand of these
+    """
+
+    skipped: Column
+    verdicts: tuple[Verdict, ...]
+
+
+def columns_of(
+    parts: tuple[Column | tuple[str, memoryview, memoryview, memoryview | None], ...], skipped: Column,
+    verdicts: tuple[Verdict, ...],
+) -> Columns:
+    """The columns of what the extension made."""
+    made = Columns(part if isinstance(part, Column) else Slices(*part) for part in parts)
+    made.skipped, made.verdicts = skipped, verdicts
+    return made
