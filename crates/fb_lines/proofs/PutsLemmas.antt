@@ -1,11 +1,11 @@
 -- One text put behind another.
-use Rattle.std.proofs.Common.{◌≡◌, ℕ, ◌+◌, ◌<◌, ◌≤◌, Bool, true, false, List, [], ◌++◌, arith, length, take, get_or, refl, ap, subst, sym, ◌∙◌, append-nil, append_assoc, true≢false}
+use Rattle.std.proofs.Common.{◌≡◌, ℕ, ◌+◌, ◌<◌, ◌≤◌, Bool, true, false, List, [], ◌++◌, arith, length, drop, take, get_or, refl, ap, subst, sym, ◌∙◌, append-nil, append_assoc, true≢false}
 use Rattle.std.proofs.{KnownBytes.Appends-nil, lemmas.List.flat_map_more, lemmas.List.take_all, lemmas.List.take_more}
 use Rattle.std.specs.List.{flat_map}
 use Rattle.fb_bytes.specs.Ends.{one_more}
 use Rattle.fb_lines.specs.{Ends.Writer, Lines.WritesFront}
 use Rattle.fb_lines.specs.Puts.{Puts, PutsAs, Queue}
-use Rattle.fb_lines.proofs.BehindLemmas.{behind_more, front_behind, front_more}
+use Rattle.fb_lines.proofs.{AnswerLemmas.front_spelled, BehindLemmas.behind_more, BehindLemmas.front_behind, BehindLemmas.front_more, Pieces.front-more}
 
 -- both were put, however it came with each
 as_then : (f g h : Bool) (one other : List ℕ) (a b c : Queue) → PutsAs f g one a b → PutsAs g h other b c → PutsAs f h (one ++ other) a c
@@ -25,9 +25,12 @@ as_then true false h one other a b c first second = absurd first
 pub puts_then : (one other : List ℕ) (a b c : Queue) → Puts one a b → Puts other b c → Puts (one ++ other) a c
 puts_then one other a b c first second = as_then a.failed b.failed c.failed one other a b c first second
 
--- three and four, one behind another
+-- three, one behind another, and one behind two
 pub three_puts : (one other third : List ℕ) (a b c d : Queue) → Puts one a b → Puts other b c → Puts third c d → Puts (one ++ (other ++ third)) a d
 three_puts one other third a b c d first second last = puts_then one (other ++ third) a b d first (puts_then other third b c d second last)
+
+pub two_then : (one other third : List ℕ) (a b c : Queue) → Puts (one ++ other) a b → Puts third b c → Puts (one ++ (other ++ third)) a c
+two_then one other third a b c first last = subst (λ l. Puts l a c) (append_assoc one other third) (puts_then (one ++ other) third a b c first last)
 
 -- nothing was
 as_none : (f : Bool) (q : Queue) → PutsAs f f [] q q
@@ -60,6 +63,16 @@ as_before true true one a b put now = absurd (true≢false now)
 
 pub was_unfailed : (one : List ℕ) (a b : Queue) → Puts one a b → b.failed ≡ false → a.failed ≡ false
 was_unfailed one a b put now = as_before a.failed b.failed one a b put now
+
+-- some bytes more, each as it is written
+pub spelled_more : (f : ℕ → List ℕ) (head bytes front rest : List ℕ) (n : ℕ) (more rest' : List ℕ) (a b c : Queue) → rest' ≡ drop n rest → more ≡ flat_map f (take n rest) → bytes ≡ front ++ rest
+    → Puts (head ++ flat_map f front) a b → Puts more b c → (next : List ℕ) × (bytes ≡ next ++ rest') × Puts (head ++ flat_map f next) a c
+spelled_more f head bytes front rest n more rest' a b c at is whole first second = (
+  front ++ take n rest,
+  front-more bytes front rest rest' n whole at,
+  subst (λ l. Puts l a c) (append_assoc head (flat_map f front) more ∙ ap (λ l. head ++ l) (sym (front_spelled f front rest n more is)))
+      (puts_then (head ++ flat_map f front) more a b c first second),
+)
 
 module _ {A : Type 0} (f : A → List ℕ) (xs : List A) (head : List ℕ) (a b : Queue) where
   -- a head alone

@@ -1,12 +1,12 @@
 //! Lines of JSON.
 
 ghost use Rattle.std.specs.Prelude.{OnOk, ◌≡◌, ◌++◌, option_map};
-ghost use Rattle.json.specs.{Json.string, Print.escape, Print.escape_byte};
+ghost use Rattle.json.specs.Json.{string};
 ghost use Rattle.fb_lines.specs.Json.{begin_part, code_of, counts_part, digits_json, end_part, following, json_no, json_text, labelled, name_json, name_of};
 ghost use Rattle.fb_lines.specs.Json.{names_part, place_member, reason_part, text_json};
 
 use crate::tally::count_place;
-use crate::value_text::{Spelling, put_hex, put_number, spell};
+use crate::value_text::{Spelling, put_hex, put_number, put_spelled};
 use fb_access::{field_of, object_name};
 use fb_schema::Schema;
 use fb_verify::{Fault, Reason, Report};
@@ -176,27 +176,8 @@ fn put_string<A: Allocator>(text: &mut Vec<u8, A>, bytes: &[u8]) -> Result<(), A
     ensures { OnOk result (text.new.items ≡ text.old.items ++ json_text (string bytes.now)) }
 {
     put(text, b"\"")?;
-    put_escaped(text, bytes)?;
+    put_spelled(text, bytes, Spelling::Json)?;
     put(text, b"\"")
-}
-
-/// Adds the bytes of a string.
-#[tactic(auto, using(crate::proofs::JsonLemmas::escape_more, std::proofs::lemmas::List::take_more))]
-fn put_escaped<A: Allocator>(text: &mut Vec<u8, A>, bytes: &[u8]) -> Result<(), AllocError>
-    ensures { OnOk result (text.new.items ≡ text.old.items ++ escape bytes.now) }
-{
-    for byte in bytes {
-        put_byte(text, *byte)?;
-    }
-    Ok(())
-}
-
-/// Adds one byte of a string.
-fn put_byte<A: Allocator>(text: &mut Vec<u8, A>, byte: u8) -> Result<(), AllocError>
-    ensures { OnOk result (text.new.items ≡ text.old.items ++ escape_byte byte) }
-{
-    let (escape, length) = spell(Spelling::Json, byte);
-    put(text, &escape[..length])
 }
 
 /// Adds these bytes.

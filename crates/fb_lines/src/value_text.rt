@@ -1,6 +1,6 @@
 //! How bytes and numbers are spelled in lines, and the name of an input.
 
-ghost use Rattle.std.specs.Prelude.{OnOk, codes, ℕ, List, ◌≡◌, ◌<◌, ◌≤◌, ◌++◌, ◌∷◌, [], length, option_map, take};
+ghost use Rattle.std.specs.Prelude.{OnOk, true, codes, ℕ, List, ◌≡◌, ◌<◌, ◌≤◌, ◌++◌, ◌∷◌, [], length, option_map, take};
 ghost use Rattle.std.specs.{Borrow.Bor, Char.digit_char, List.flat_map};
 ghost use Rattle.hex.specs.Hex.{encode_lower};
 ghost use Rattle.json.specs.Print.{escape_byte, escape_letter};
@@ -75,22 +75,33 @@ pub fn put_label<A: Allocator>(
 }
 
 /// Adds the bytes of a text, escaped where they aren't printable.
-#[tactic(auto, using(crate::proofs::AnswerLemmas::texts_more, std::proofs::lemmas::List::take_more))]
 pub fn put_bytes<A: Allocator>(text: &mut Vec<u8, A>, bytes: &[u8]) -> Result<(), AllocError>
     ensures { OnOk result (text.new.items ≡ text.old.items ++ flat_map byte_text bytes.now) }
 {
-    for byte in bytes {
-        put_byte(text, *byte)?;
-    }
-    Ok(())
+    put_spelled(text, bytes, Spelling::Quoted)
 }
 
-/// Adds one byte of a text.
-fn put_byte<A: Allocator>(text: &mut Vec<u8, A>, byte: u8) -> Result<(), AllocError>
-    ensures { OnOk result (text.new.items ≡ text.old.items ++ byte_text byte) }
+/// Adds bytes, each as it is written.
+pub fn put_spelled<A: Allocator>(
+    text: &mut Vec<u8, A>,
+    bytes: &[u8],
+    spelling: Spelling,
+) -> Result<(), AllocError>
+    ensures { OnOk result (text.new.items ≡ text.old.items ++ flat_map (spelled spelling) bytes.now) }
 {
-    let (spelled, length) = spell(Spelling::Quoted, byte);
-    text.extend_from_slice(&spelled[..length])
+    let mut rest = bytes;
+    while !rest.is_empty() {
+        let plain = plain_front(spelling, rest);
+        if plain > 0 {
+            text.extend_from_slice(&rest[..plain])?;
+            rest = &rest[plain..];
+        } else {
+            let (spelled, length) = spell(spelling, rest[0]);
+            text.extend_from_slice(&spelled[..length])?;
+            rest = &rest[1..];
+        }
+    }
+    Ok(())
 }
 
 /// How each byte of a value is written.
@@ -102,6 +113,30 @@ pub enum Spelling {
     Json,
     /// As two hexadecimal digits.
     Digits,
+}
+
+/// How many bytes at the front are written as they are.
+pub fn plain_front(spelling: Spelling, bytes: &[u8]) -> usize
+    ensures within { result ≤ length bytes.now }
+    ensures plain { flat_map (spelled spelling) (take result bytes.now) ≡ take result bytes.now }
+{
+    let mut count = 0;
+    while count < bytes.len() && is_plain(spelling, bytes[count]) {
+        count += 1;
+    }
+    count
+}
+
+/// Whether a byte is known to be written as it is.
+#[tactic(auto, unfolding(json::specs::Print::escape_byte))]
+fn is_plain(spelling: Spelling, byte: u8) -> bool
+    ensures { result ≡ true → spelled spelling byte ≡ byte ∷ [] }
+{
+    match spelling {
+        Spelling::Quoted => (b' '..=b'~').contains(&byte) && byte != b'"' && byte != b'\\',
+        Spelling::Json => byte >= b' ' && letter(byte) == 0,
+        Spelling::Digits => false,
+    }
 }
 
 /// One byte as it is written: the first of six bytes, and how many of them those are.

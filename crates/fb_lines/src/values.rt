@@ -10,7 +10,7 @@ ghost use Rattle.fb_lines.specs.Json.{AreValues, IsFloat, IsReal, IsValue, IsVal
 ghost use Rattle.fb_lines.specs.{Line.IsRest, Puts.Puts, Puts.PutsSome, Puts.queue_of};
 
 use crate::options::{AskedPath, Form};
-use crate::value_text::{Spelling, spell};
+use crate::value_text::{Spelling, plain_front, spell};
 use crate::writing::Pending;
 use byteorder::{ByteOrder, LittleEndian};
 use fb_access::Answer;
@@ -55,14 +55,14 @@ fn put_spaced<A: Allocator, K: Sink>(out: &mut Pending<A>, sink: &mut K, answer:
         Answer::OtherMember => out.put(sink, b" other-member"),
         Answer::Bool(true) => out.put(sink, b" true"),
         Answer::Bool(false) => out.put(sink, b" false"),
-        Answer::Int(number) => put_number(out, sink, b" ", *number, b""),
-        Answer::UInt(number) => put_number(out, sink, b" ", *number, b""),
-        Answer::Float(bytes) => put_bytes(out, sink, b" float:", bytes, Spelling::Digits, b""),
-        Answer::Text(bytes) => put_bytes(out, sink, b" \"", bytes, Spelling::Quoted, b"\""),
-        Answer::Struct(bytes) => put_bytes(out, sink, b" struct:", bytes, Spelling::Digits, b""),
-        Answer::Vector(count) => put_number(out, sink, b" vector:", *count, b""),
+        Answer::Int(number) => put_number(out, sink, b" ", *number),
+        Answer::UInt(number) => put_number(out, sink, b" ", *number),
+        Answer::Float(bytes) => put_bytes(out, sink, b" float:", bytes, Spelling::Digits),
+        Answer::Text(bytes) => put_between(out, sink, b" \"", bytes, Spelling::Quoted, b"\""),
+        Answer::Struct(bytes) => put_bytes(out, sink, b" struct:", bytes, Spelling::Digits),
+        Answer::Vector(count) => put_number(out, sink, b" vector:", *count),
         Answer::Table => out.put(sink, b" table"),
-        Answer::Union(number) => put_number(out, sink, b" union:", *number, b""),
+        Answer::Union(number) => put_number(out, sink, b" union:", *number),
     }
 }
 
@@ -106,9 +106,9 @@ fn put_key<A: Allocator, K: Sink>(out: &mut Pending<A>, sink: &mut K, behind: bo
     ensures { Puts ((if behind then codes "," else []) ++ (json_text (string path.now) ++ codes ":")) (queue_of K.Sink out.old sink.old) (queue_of K.Sink out.new sink.new) }
 {
     if behind {
-        put_bytes(out, sink, b",\"", path, Spelling::Json, b"\":");
+        put_between(out, sink, b",\"", path, Spelling::Json, b"\":");
     } else {
-        put_bytes(out, sink, b"\"", path, Spelling::Json, b"\":");
+        put_between(out, sink, b"\"", path, Spelling::Json, b"\":");
     }
 }
 
@@ -156,14 +156,14 @@ fn put_as_is<A: Allocator, K: Sink>(out: &mut Pending<A>, sink: &mut K, answer: 
         Answer::OtherMember => out.put(sink, b"{\"absent\":\"other-member\"}"),
         Answer::Bool(true) => out.put(sink, b"true"),
         Answer::Bool(false) => out.put(sink, b"false"),
-        Answer::Int(number) => put_number(out, sink, b"", *number, b""),
-        Answer::UInt(number) => put_number(out, sink, b"", *number, b""),
+        Answer::Int(number) => put_number(out, sink, b"", *number),
+        Answer::UInt(number) => put_number(out, sink, b"", *number),
         Answer::Float(bytes) => put_digits(out, sink, b"{\"float\":\"", bytes),
         Answer::Text(bytes) => put_text(out, sink, bytes),
         Answer::Struct(bytes) => put_digits(out, sink, b"{\"struct\":\"", bytes),
-        Answer::Vector(count) => put_number(out, sink, b"{\"vector\":", *count, b"}"),
+        Answer::Vector(count) => put_labelled(out, sink, b"{\"vector\":", *count),
         Answer::Table => out.put(sink, b"{\"table\":true}"),
-        Answer::Union(number) => put_number(out, sink, b"{\"union\":", *number, b"}"),
+        Answer::Union(number) => put_labelled(out, sink, b"{\"union\":", *number),
     }
 }
 
@@ -172,7 +172,7 @@ fn put_text<A: Allocator, K: Sink>(out: &mut Pending<A>, sink: &mut K, bytes: &[
     ensures { Puts (json_text (text_json bytes.now)) (queue_of K.Sink out.old sink.old) (queue_of K.Sink out.new sink.new) }
 {
     match std::str::from_utf8(bytes) {
-        Ok(_) => put_bytes(out, sink, b"\"", bytes, Spelling::Json, b"\""),
+        Ok(_) => put_between(out, sink, b"\"", bytes, Spelling::Json, b"\""),
         Err(_) => put_digits(out, sink, b"{\"bytes\":\"", bytes),
     }
 }
@@ -181,27 +181,38 @@ fn put_text<A: Allocator, K: Sink>(out: &mut Pending<A>, sink: &mut K, bytes: &[
 fn put_digits<A: Allocator, K: Sink>(out: &mut Pending<A>, sink: &mut K, head: &[u8], bytes: &[u8])
     ensures { Puts (head.now ++ (escape (encode_lower bytes.now) ++ codes "\"}")) (queue_of K.Sink out.old sink.old) (queue_of K.Sink out.new sink.new) }
 {
-    put_bytes(out, sink, head, bytes, Spelling::Digits, b"\"}");
+    put_between(out, sink, head, bytes, Spelling::Digits, b"\"}");
 }
 
-/// Puts a number between two texts.
+/// Puts a number behind what opens an object, and its end.
+fn put_labelled<A: Allocator, K: Sink, I: Integer>(
+    out: &mut Pending<A>,
+    sink: &mut K,
+    head: &[u8],
+    number: I,
+)
+    ensures { Puts (head.now ++ (I.text number ++ codes "}")) (queue_of K.Sink out.old sink.old) (queue_of K.Sink out.new sink.new) }
+{
+    put_number(out, sink, head, number);
+    out.put(sink, b"}");
+}
+
+/// Puts a number behind a text.
 fn put_number<A: Allocator, K: Sink, I: Integer>(
     out: &mut Pending<A>,
     sink: &mut K,
     head: &[u8],
     number: I,
-    tail: &[u8],
 )
-    ensures { Puts (head.now ++ (I.text number ++ tail.now)) (queue_of K.Sink out.old sink.old) (queue_of K.Sink out.new sink.new) }
+    ensures { Puts (head.now ++ I.text number) (queue_of K.Sink out.old sink.old) (queue_of K.Sink out.new sink.new) }
 {
     let mut digits = Buffer::new();
     out.put(sink, head);
     out.put(sink, digits.format(number).as_bytes());
-    out.put(sink, tail);
 }
 
 /// Puts the bytes of a value between two texts.
-fn put_bytes<A: Allocator, K: Sink>(
+fn put_between<A: Allocator, K: Sink>(
     out: &mut Pending<A>,
     sink: &mut K,
     head: &[u8],
@@ -211,10 +222,31 @@ fn put_bytes<A: Allocator, K: Sink>(
 )
     ensures { Puts (head.now ++ (flat_map (spelled spelling) bytes.now ++ tail.now)) (queue_of K.Sink out.old sink.old) (queue_of K.Sink out.new sink.new) }
 {
-    out.put(sink, head);
-    for byte in bytes {
-        let (spelled, length) = spell(spelling, *byte);
-        out.put(sink, &spelled[..length]);
-    }
+    put_bytes(out, sink, head, bytes, spelling);
     out.put(sink, tail);
+}
+
+/// Puts the bytes of a value behind a text.
+fn put_bytes<A: Allocator, K: Sink>(
+    out: &mut Pending<A>,
+    sink: &mut K,
+    head: &[u8],
+    bytes: &[u8],
+    spelling: Spelling,
+)
+    ensures { Puts (head.now ++ flat_map (spelled spelling) bytes.now) (queue_of K.Sink out.old sink.old) (queue_of K.Sink out.new sink.new) }
+{
+    out.put(sink, head);
+    let mut rest = bytes;
+    while !rest.is_empty() {
+        let plain = plain_front(spelling, rest);
+        if plain > 0 {
+            out.put(sink, &rest[..plain]);
+            rest = &rest[plain..];
+        } else {
+            let (spelled, length) = spell(spelling, rest[0]);
+            out.put(sink, &spelled[..length]);
+            rest = &rest[1..];
+        }
+    }
 }

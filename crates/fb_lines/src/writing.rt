@@ -1,12 +1,12 @@
 //! Writing to a sink that may take a text in parts, and a sink that keeps nothing.
 
-ghost use Rattle.std.specs.Prelude.{◌≡◌, ◌<◌, ◌≤◌, [], None, false, length, take};
+ghost use Rattle.std.specs.Prelude.{OnErr, OnOk, ◌≡◌, ◌<◌, ◌≤◌, [], None, false, length, take};
 ghost use Rattle.std.specs.Io.KnownBytes.{Appends};
 ghost use Rattle.fb_bytes.specs.Ends.{one_more};
 ghost use Rattle.fb_lines.specs.{Ends.writer_of, Puts.Puts, Puts.PutsAs, Puts.behind, Puts.queue_of};
 
 use fb_bytes::Sink;
-use std::alloc::Allocator;
+use std::alloc::{AllocError, Allocator};
 use std::io;
 
 /// Writes the text, and answers how many of its bytes were taken: fewer only where the writer failed or took
@@ -87,6 +87,7 @@ impl<A: Allocator> Pending<A> {
 
     /// Puts a text behind what waits. Where much waits by then, it is written; where memory is refused, so is the text
     /// itself.
+    #[inline(always)]
     pub fn put<K: Sink>(&mut self, sink: &mut K, text: &[u8])
         ensures puts { Puts text.now (queue_of K.Sink self.old sink.old) (queue_of K.Sink self.new sink.new) }
         ensures little { length self.new.bytes.items < 65536 }
@@ -95,6 +96,16 @@ impl<A: Allocator> Pending<A> {
         if added.is_ok() && self.bytes.len() < MOST_WAITING {
             return;
         }
+        self.write_through(sink, text, added);
+    }
+
+    /// Writes what waits, and behind it this text where there was no memory to add it.
+    #[inline(never)]
+    fn write_through<K: Sink>(&mut self, sink: &mut K, text: &[u8], added: Result<(), AllocError>)
+        ensures ok { OnOk added (Puts [] (queue_of K.Sink self.old sink.old) (queue_of K.Sink self.new sink.new)) }
+        ensures err { OnErr added (Puts text.now (queue_of K.Sink self.old sink.old) (queue_of K.Sink self.new sink.new)) }
+        ensures empty { self.new.bytes.items ≡ [] }
+    {
         self.flush(sink);
         if added.is_err() {
             self.written = write_all(sink, text, self.written);

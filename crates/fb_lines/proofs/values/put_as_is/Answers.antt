@@ -1,4 +1,4 @@
-use Rattle.std.proofs.Common.{◌∙◌, append-nil, rules, sym}
+use Rattle.std.proofs.Common.{rules}
 use Rattle.fb_lines.specs.Puts.{queue_of}
 use Rattle.fb_lines.proofs.JsonLemmas.{fixed_texts, float_put, number_text, struct_put, union_put, vector_put}
 use Rattle.fb_lines.proofs.PutsLemmas.{puts_same}
@@ -26,7 +26,7 @@ pub returns-in-Int : goal.returns-in-Int
 returns-in-Int g c = search (rules, number_text)
 
 pub returns-in-UInt : goal.returns-in-UInt
-returns-in-UInt g c = rw c.in-UInt.is (puts_same _ _ (queue_of g.K.Sink c.args.out.now c.args.sink.now) (queue_of g.K.Sink c.put_number-in-UInt.new.out c.put_number-in-UInt.new.sink) (number_text _ ∙ sym (append-nil _)) c.put_number-in-UInt.ensures)
+returns-in-UInt g c = rw c.in-UInt.is (puts_same _ _ (queue_of g.K.Sink c.args.out.now c.args.sink.now) (queue_of g.K.Sink c.put_number-in-UInt.new.out c.put_number-in-UInt.new.sink) (number_text _) c.put_number-in-UInt.ensures)
 
 pub returns-in-Float : goal.returns-in-Float
 returns-in-Float g c = rw c.in-Float.is (puts_same _ _ (queue_of g.K.Sink c.args.out.now c.args.sink.now) (queue_of g.K.Sink c.put_digits.new.out c.put_digits.new.sink) (float_put _) c.put_digits.ensures)
@@ -35,7 +35,7 @@ pub returns-in-Struct : goal.returns-in-Struct
 returns-in-Struct g c = rw c.in-Struct.is (puts_same _ _ (queue_of g.K.Sink c.args.out.now c.args.sink.now) (queue_of g.K.Sink c.put_digits-in-Struct.new.out c.put_digits-in-Struct.new.sink) (struct_put _) c.put_digits-in-Struct.ensures)
 
 pub returns-in-Vector : goal.returns-in-Vector
-returns-in-Vector g c = rw c.in-Vector.is (puts_same _ _ (queue_of g.K.Sink c.args.out.now c.args.sink.now) (queue_of g.K.Sink c.put_number-in-Vector.new.out c.put_number-in-Vector.new.sink) (vector_put _) c.put_number-in-Vector.ensures)
+returns-in-Vector g c = rw c.in-Vector.is (puts_same _ _ (queue_of g.K.Sink c.args.out.now c.args.sink.now) (queue_of g.K.Sink c.put_labelled.new.out c.put_labelled.new.sink) (vector_put _) c.put_labelled.ensures)
 
 pub returns-in-Union : goal.returns-in-Union
-returns-in-Union g c = rw c.in-Union.is (puts_same _ _ (queue_of g.K.Sink c.args.out.now c.args.sink.now) (queue_of g.K.Sink c.put_number-in-Union.new.out c.put_number-in-Union.new.sink) (union_put _) c.put_number-in-Union.ensures)
+returns-in-Union g c = rw c.in-Union.is (puts_same _ _ (queue_of g.K.Sink c.args.out.now c.args.sink.now) (queue_of g.K.Sink c.put_labelled-in-Union.new.out c.put_labelled-in-Union.new.sink) (union_put _) c.put_labelled-in-Union.ensures)

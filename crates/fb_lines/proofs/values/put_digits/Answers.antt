@@ -5,4 +5,4 @@ use Rattle.fb_lines.proofs.values.put_digits.Goals as goal
 
 pub returns : goal.returns
 returns g c =
-    subst (λ (l : List ℕ). Puts (c.args.head.now ++ (l ++ codes "\"}")) (queue_of g.K.Sink c.args.out.now c.args.sink.now) (queue_of g.K.Sink c.put_bytes.new.out c.put_bytes.new.sink)) (sym (digits_put c.args.bytes.now c.type_inv.bytes)) c.put_bytes.ensures
+    subst (λ (l : List ℕ). Puts (c.args.head.now ++ (l ++ codes "\"}")) (queue_of g.K.Sink c.args.out.now c.args.sink.now) (queue_of g.K.Sink c.put_between.new.out c.put_between.new.sink)) (sym (digits_put c.args.bytes.now c.type_inv.bytes)) c.put_between.ensures

@@ -5,7 +5,7 @@ use Rattle.fb_lines.proofs.values.put_text.Goals as goal
 
 pub returns-in-Ok : goal.returns-in-Ok
 returns-in-Ok g c =
-    puts_same _ _ (queue_of g.K.Sink c.args.out.now c.args.sink.now) (queue_of g.K.Sink c.put_bytes.new.out c.put_bytes.new.sink) (ap json_text (text_is_string c.args.bytes.now (search rules)) ∙ string_put c.args.bytes.now) c.put_bytes.ensures
+    puts_same _ _ (queue_of g.K.Sink c.args.out.now c.args.sink.now) (queue_of g.K.Sink c.put_between.new.out c.put_between.new.sink) (ap json_text (text_is_string c.args.bytes.now (search rules)) ∙ string_put c.args.bytes.now) c.put_between.ensures
 
 pub returns-in-Err : goal.returns-in-Err
 returns-in-Err g c =
