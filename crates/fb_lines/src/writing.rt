@@ -85,13 +85,16 @@ impl<A: Allocator> Pending<A> {
         self.bytes.clear();
     }
 
-    /// Puts a text behind what waits. Where much waits by then, it is written; where memory is refused, so is the text
-    /// itself.
+    /// Puts a text behind what waits. Where much waits by then, it is written; a text that is much by itself is written
+    /// as it is, and so is one for which memory is refused.
     #[inline(always)]
     pub fn put<K: Sink>(&mut self, sink: &mut K, text: &[u8])
         ensures puts { Puts text.now (queue_of K.Sink self.old sink.old) (queue_of K.Sink self.new sink.new) }
         ensures little { length self.new.bytes.items < 65536 }
     {
+        if text.len() >= MOST_WAITING {
+            return self.write_through(sink, text, Err(AllocError));
+        }
         let added = self.bytes.extend_from_slice(text);
         if added.is_ok() && self.bytes.len() < MOST_WAITING {
             return;
@@ -99,7 +102,7 @@ impl<A: Allocator> Pending<A> {
         self.write_through(sink, text, added);
     }
 
-    /// Writes what waits, and behind it this text where there was no memory to add it.
+    /// Writes what waits, and behind it this text where it wasn't added.
     #[inline(never)]
     fn write_through<K: Sink>(&mut self, sink: &mut K, text: &[u8], added: Result<(), AllocError>)
         ensures ok { OnOk added (Puts [] (queue_of K.Sink self.old sink.old) (queue_of K.Sink self.new sink.new)) }
