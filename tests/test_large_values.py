@@ -1,7 +1,7 @@
 """Values of tens of megabytes at the end of a path: their lines, and how much memory they take.
 
-A value of more than 65,536 bytes is written while its line is made. So a run takes no more memory than the message and
-a few buffers, whatever the value's text is.
+Values are written while their line is made, as JSON too. So a run takes no more memory than the message and a few
+buffers, whatever the value's text is.
 """
 
 import itertools
@@ -16,7 +16,7 @@ from tests.support.program import FOLDER, PROGRAM, file_of, lines, run
 from tests.support.schemas import INT, TEXT, a_struct, an_object, field, schema, table, vector
 
 # How much more memory than the message a run may take.
-MORE = 16 << 20
+MORE = 4 << 20
 
 # Each byte once, among letters, and not as many as fit into any buffer evenly.
 PATTERN = bytes(range(256)) + b"all the letters of a plain text " * 60 + b"\\\""
@@ -60,6 +60,12 @@ def parts_of_big():
     return itertools.chain([b'"'], itertools.repeat(part, whole), [quoted(PATTERN[:rest])[1:].encode()])
 
 
+def digits_of_big():
+    """The bytes of that value as hexadecimal digits, in parts."""
+    whole, rest = divmod(SIZE, len(PATTERN))
+    return itertools.chain(itertools.repeat(PATTERN.hex().encode(), whole), [PATTERN[:rest].hex().encode()])
+
+
 def holds(path, *parts):
     """Whether these parts are what a file holds."""
     with open(path, "rb") as file:
@@ -95,6 +101,14 @@ class LargeValues(Case):
             self.same(f"status of a large text {name}", status, 0)
             self.holds(f"a large text {name}", holds(made, [f"{head} ".encode()], parts_of_big(), [b"\n"]))
             self.holds(f"memory of a large text {name}", memory <= length + MORE, (memory, length))
+            status, memory, made = measured(*BY_TEXT, "--json", "--path", "s", *words, given=big)
+            self.same(f"status as JSON {name}", status, 0)
+            head = f'{{"message":1,"ok":true,"tables":1,"depth":1,"reads":{reads},"values":{{"s":{{"bytes":"'
+            self.holds(f"as JSON {name}", holds(made, [head.encode()], digits_of_big(), [b'"}}}\n']))
+            self.holds(f"memory as JSON {name}", memory <= length + MORE, (memory, length))
+            status, memory, made = measured(*BY_TEXT, "--filter", *words, given=big)
+            self.same(f"through a filter {name}", (status, made.stat().st_size), (0, length))
+            self.holds(f"memory of a filter {name}", memory <= length + MORE, (memory, length))
 
     def test_among_others(self):
         """Lines before and behind it keep their order, whatever the pieces are; none is told twice."""
@@ -138,12 +152,14 @@ class LargeValues(Case):
         """The output takes so many bytes and no more, within the line of a large text and around it."""
         texts = [b"first", (PATTERN * 200)[:200_000], b"last"]
         stream = b"".join(prefixed(buffer({0: text})) for text in texts)
-        want = lines_of(texts)
-        for room in (0, 1, 36, 37, 38, 66, 67, 65_536, 65_600, 100_000, 131_072, len(want) - 40, len(want) - 1):
-            for most in 65_536, 1000:
-                ran = narrowed(*BY_TEXT, "--path", "s", given=stream, room=room, write=most)
-                self.same(f"room for {room} bytes, {most} at a write", (ran.status, ran.out == want[:room], ran.err),
-                          (3, True, f"fbcheck: write failed after {room} bytes\n".encode()))
+        as_json = run(*BY_TEXT, "--path", "s", "--json", given=stream).out
+        for form, want in ((), lines_of(texts)), (("--json",), as_json):
+            for room in (0, 1, 36, 37, 38, 66, 67, 65_536, 65_600, 100_000, 131_072, len(want) - 40, len(want) - 1):
+                for most in 65_536, 1000:
+                    ran = narrowed(*BY_TEXT, "--path", "s", *form, given=stream, room=room, write=most)
+                    name = f"room for {room} bytes, {most} at a write {form}"
+                    self.same(name, (ran.status, ran.out == want[:room], ran.err),
+                              (3, True, f"fbcheck: write failed after {room} bytes\n".encode()))
 
     def test_memory_that_is_refused(self):
         """Whole lines are written, all or the first ones; a line that was begun is ended."""
