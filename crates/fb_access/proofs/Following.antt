@@ -103,27 +103,21 @@ module _ (S : Rows) (root : ℕ) (text rest : List ℕ) (steps : List Step) (kin
   leads_on legal served there x f = (leads S legal served kind first_left.0 x there (part_is (Ok x) f)).there
 
   -- and if it doesn't
-  pub stands_at : (n : ℕ) → n ≡ length steps → (m : Misfit) → ((p : Part) → IsPieceOf p piece → Err m ≡ fitting S kind p) → (misfit : Misfits S root text m n) × (misfit.last ≡ kind)
-  stands_at n same m f = (
-    record {
-      name = w.name;
-      parts = w.parts;
-      reading = w.reading;
-      before = w.done;
-      part = first_left.0;
-      after = first_left.1;
-      all = all_is;
-      number = same ∙ as_many S (Table root) kind w.done steps w.follows;
-      steps = steps;
-      last = kind;
-      follows = w.follows;
-      unfit = part_is (Err m) f;
-    },
-    refl,
-  )
-
   pub is_fault : (n : ℕ) → n ≡ length steps → (m : Misfit) → ((p : Part) → IsPieceOf p piece → Err m ≡ fitting S kind p) → IsFault S root text (fault_of m n)
-  is_fault n same m f = misfit_fault S root text m n (stands_at n same m f).0
+  is_fault n same m f = misfit_fault S root text m n (record {
+    name = w.name;
+    parts = w.parts;
+    reading = w.reading;
+    before = w.done;
+    part = first_left.0;
+    after = first_left.1;
+    all = all_is;
+    number = same ∙ as_many S (Table root) kind w.done steps w.follows;
+    steps = steps;
+    last = kind;
+    follows = w.follows;
+    unfit = part_is (Err m) f;
+  })
 
 -- no parts are left of no text
 nothing_left : (text : List ℕ) (ps : List Part) → text ≡ [] → AreLeft text ps → ps ≡ []

@@ -79,7 +79,3 @@ module _ (S : Rows) (root : ℕ) (text : List ℕ) where
     both (inl x) (inr y) = absurd (x.wrong.wrong y.path)
     both (inr x) (inl y) = absurd (y.wrong.wrong x.path)
     both (inr x) (inr y) = sym x.is ∙ ap (λ ps. comes_to S 0 ps (Table root)) (same_parts text x.path.name y.path.name x.path.parts y.path.parts x.path.reading y.path.reading) ∙ y.is
-
-  -- where each step is followed, none misfits
-  pub steps_or_step : (steps : List Step) (n : ℕ) (m : Misfit) → Resolves S root text steps → Misfits S root text m n → ⊥
-  steps_or_step steps n m r w = let same = one_answer (Ok steps) (Err (fault_of m n)) r (misfit_fault S root text m n w) in cc

@@ -4,7 +4,7 @@ ghost use Rattle.std.specs.Prelude.{◌≡◌, IfOk, IfErr, IfSome, IsTrue};
 ghost use Rattle.fb_schema.specs.declared.kinds.Kind.{Kind};
 ghost use Rattle.fb_schema.specs.Rows.{is_table};
 ghost use Rattle.fb_access.specs.{Grammar.IsPath, Fitting.StepsFit, Kept.IsThere};
-ghost use Rattle.fb_access.specs.Resolving.{IsMisfitAt, Resolves, Refuses, fault_of};
+ghost use Rattle.fb_access.specs.Resolving.{Resolves, Refuses, fault_of};
 
 use crate::misfit::{Misfit, fit};
 use crate::path_fault::PathFault;
@@ -119,8 +119,7 @@ fn follow<A: Allocator>(
 /// text is no path, or each step fits. So whoever tells of the fault can tell what there is. It takes no memory.
 pub fn misfit_at(schema: &Schema<'_>, root: u32, text: &[u8]) -> Option<Kind>
     requires { IsTrue (is_table schema.now root) }
-    ensures kind { IsMisfitAt schema.now root text.now result }
-    ensures there { IfSome result (IsThere schema.now) }
+    ensures { IfSome result (IsThere schema.now) }
 {
     let Ok(()) = check_text(text) else {
         return None;
