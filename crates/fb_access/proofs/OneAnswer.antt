@@ -6,8 +6,8 @@ use Rattle.fb_access.specs.declared.{step.Step.Step, misfit.Misfit.Misfit, misfi
 use Rattle.fb_access.specs.declared.misfit.Misfit.TheVariants.{NoSuchField, NotIndexable, NotAUnion, NoSuchMember, NotATable}
 use Rattle.fb_access.specs.declared.path_fault.PathFault.TheVariants.{BadText, NoSuchField as NoSuchFieldAt, NotIndexable as NotIndexableAt, NotAUnion as NotAUnionAt, NoSuchMember as NoSuchMemberAt, NotATable as NotATableAt, OutOfMemory}
 use Rattle.fb_access.specs.Grammar.{Part, field, IsPath, IsReading, IsWrongAt}
-use Rattle.fb_access.specs.Resolving.{fitting, fault_of, Follows, Resolves, Misfits, IsAnswer}
-use Rattle.fb_access.proofs.{OneReading.one_reading, Following.misfit_fault}
+use Rattle.fb_access.specs.Resolving.{fitting, fault_of, Follows, Misfits, IsAnswer}
+use Rattle.fb_access.proofs.{OneReading.one_reading}
 
 -- a step before others
 abbrev behind : Step → Result (List Step) PathFault → Result (List Step) PathFault

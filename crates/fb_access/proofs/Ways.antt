@@ -6,7 +6,7 @@ use Rattle.std.proofs.lemmas.Str.Parse.{IsDigitsTest, FoldsDigits, IsNumeralMode
 use Rattle.fb_schema.specs.declared.kinds.Kind.TheVariants.{Table}
 use Rattle.fb_schema.specs.Rows.{Rows}
 use Rattle.fb_rules.specs.declared.link.Link.{Link}
-use Rattle.fb_access.proofs.ScanAccepts.{AreDigits}
+use Rattle.fb_access.proofs.Words.{AreDigits}
 use Rattle.fb_access.specs.Grammar.{goes_on, is_digit, number_from, number_of, Part, field, IsName, IsNumber, IsPart, spelling}
 use Rattle.fb_access.specs.Resolving.{Follows}
 use Rattle.fb_access.specs.Location.{name_text, named, link_member, element_text, link_text, path_text}

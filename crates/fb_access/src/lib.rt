@@ -15,7 +15,6 @@ pub mod path_laws;
 mod pieces;
 mod place;
 pub mod place_laws;
-mod scan;
 mod spot;
 pub mod step;
 pub mod step_laws;
