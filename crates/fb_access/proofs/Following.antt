@@ -1,9 +1,9 @@
 -- How far a path has been followed.
 use Rattle.std.proofs.Common.{◌≡◌, ℕ, suc, ◌<◌, ◌≤◌, List, [], ◌∷◌, ◌++◌, length, Ok, Err, refl, sym, ap, subst, arith, append_assoc, append-nil, Bor}
 use Rattle.fb_schema.specs.{Demands.IsLegal, Rows.Rows, Served.IsServed, declared.kinds.Kind.Kind, declared.kinds.Kind.TheVariants.Table}
-use Rattle.fb_access.specs.declared.{step.Step.Step, misfit.Misfit.Misfit, misfit.Fitted.Fitted, pieces.Piece.Piece, pieces.Next.Next, pieces.Next.TheVariants.Part as APart, pieces.Next.TheVariants.End, pieces.Next.TheVariants.Wrong}
+use Rattle.fb_access.specs.declared.{step.Step.Step, misfit.Misfit.Misfit, misfit.Fitted.Fitted, pieces.Piece.Piece, pieces.Next.Next, pieces.Next.TheVariants.Part as APart, pieces.Next.TheVariants.Wrong}
 use Rattle.fb_access.specs.{Cutting.IsPieceOf, Cutting.IsCut, Cutting.IsNext, Cutting.IsStuck, Cutting.Spells, Cutting.written, Fitting.StepsFit, Kept.IsThere}
-use Rattle.fb_access.specs.Grammar.{Part, field, element, member}
+use Rattle.fb_access.specs.Grammar.{Part, field}
 use Rattle.fb_access.specs.Resolving.{fitting, fault_of, Follows, Resolves, Misfits, IsFault}
 use Rattle.std.proofs.lemmas.List.{length-append}
 use Rattle.fb_access.proofs.{Fits.leads, Stuck.part_spells, Stuck.part_stuck, Stuck.spells_path}
@@ -44,13 +44,10 @@ left_of (APart piece rest) = suc (length rest.now)
 left_of _ = 0
 
 pub longer : (p : Part) (rest : List ℕ) → length rest < length (written p rest)
-longer (field n) rest = simp length-append (omega arith)
-longer (element ds) rest = simp length-append (omega arith)
-longer (member n) rest = simp length-append (omega arith)
+longer p rest = grind (arith, length-append)
 
 pub shorter : (text : List ℕ) (next : Next) → IsNext text next → left_of next ≤ length text
-shorter text (APart piece rest) h = let l = longer h.part rest.now in omega (arith, ap length h.begins.whole)
-shorter text next h = omega arith
+shorter text next h = grind (arith, longer)
 
 -- a step that misfits is a fault
 pub misfit_fault : (S : Rows) (root : ℕ) (text : List ℕ) (m : Misfit) (n : ℕ) → Misfits S root text m n → IsFault S root text (fault_of m n)
@@ -71,9 +68,7 @@ leads_on S kind left rest piece x legal served there c fits = (leads S legal ser
 
 -- neither a part nor anything else is left
 pub ended : (left : List ℕ) (next : Next) → IsNext left next → ((piece : Piece) (rest : Bor (List ℕ)) → next ≡ APart piece rest → ⊥) → ((bad : Bor (List ℕ)) → next ≡ Wrong bad → ⊥) → left ≡ []
-ended left (APart piece rest) h part wrong = absurd (part piece rest refl)
-ended left (Wrong bad) h part wrong = absurd (wrong bad refl)
-ended left End h part wrong = h
+ended left next h part wrong = grind arith
 
 module _ (S : Rows) (root : ℕ) (text left : List ℕ) (steps : List Step) (kind : Kind) (w : IsWalked S root text left steps kind) where
   -- What is cut off.

@@ -101,9 +101,7 @@ value_found members v p m found e =
 
 -- and what is found by its value has a kind
 kind_found : (rows : Rows) (members : List Member) (v : ℕ) (y : Member) → ((q : ℕ) → first_code (members_asked rows members q) ≡ None) → find (λ m. is_member_value m.value && int_eq m.value (pos v)) members ≡ Some y → HasKind rows (kind_of rows y.ty)
-kind_found rows members v y clear found =
-    let t = found_there (λ m. is_member_value m.value && int_eq m.value (pos v)) members y found in
-    asked_at rows members t.0 y t.1 (clear t.0) ((and_parts (is_member_value y.value) (int_eq y.value (pos v)) t.2).0)
+kind_found rows members v y clear found = grind (arith, and_parts, asked_at, found_there, pos)
 
 looked_up : (rows : Rows) (e v : ℕ) (y : Member) (kind : Kind) → find (λ m. int_eq m.value (pos v)) (members_of rows e) ≡ Some y → kind_of rows y.ty ≡ Some kind → member_of rows e v ≡ Some kind
 unfolding member_of
@@ -123,6 +121,4 @@ in_row rows e v name legal row at union named =
     (k.is, looked_up rows e v s.0 k.is g k.has, k.kept, k.fits)
 
 pub member_there : (rows : Rows) (e v : ℕ) (name : List ℕ) → IsLegal rows → IsTrue (is_union rows e) → member_named rows e name ≡ Some v → (kind : Kind) × (member_of rows e v ≡ Some kind) × IsKept rows kind × IsOfMember kind
-member_there rows e v name legal h named =
-    let u = union_row (slice_get rows.enums e) h in
-    in_row rows e v name legal u.0 u.1 u.2 named
+member_there rows e v name legal h named = grind (arith, in_row, slice_get, union_row)

@@ -6,9 +6,7 @@ use Rattle.fb_access.specs.Cutting.{written, Ends}
 use Rattle.fb_access.proofs.Words.{one_word, name_word, number_word, ends_here}
 
 pub spelling_is : (p : Part) (ps : List Part) → spelling (p ∷ ps) ≡ written p (spelling ps)
-spelling_is (field n) ps = refl
-spelling_is (element ds) ps = refl
-spelling_is (member n) ps = refl
+spelling_is p ps = grind arith
 
 pub some_written : (p : Part) (t : List ℕ) → written p t ≡ [] → ⊥
 some_written p t e = grind arith

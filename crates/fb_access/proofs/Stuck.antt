@@ -58,15 +58,12 @@ pub stuck_here : (text left ds : List ℕ) (o : Option ℕ) (c : ℕ) (cs : List
 stuck_here text left ds o c cs so whole e dead opened = rw (whole, e) (no_index ds (c ∷ cs) o so (dead, opened))
 
 pub stuck_at_end : (text left ds : List ℕ) (o : Option ℕ) → AreSoFar ds o → text ≡ ds ++ left → length left ≡ 0 → IsStuck (91 ∷ text) left
-stuck_at_end text [] ds o so whole e = rw whole (no_index ds [] o so tt)
-stuck_at_end text (c ∷ cs) ds o so whole e = cc
+stuck_at_end text left ds o so whole e = grind (arith, no_index)
 
 -- Behind a part.
 
 pub written_on : (p : Part) (a b : List ℕ) → written p a ++ b ≡ written p (a ++ b)
-written_on (field n) a b = ap (λ t. 46 ∷ t) (append_assoc n a b)
-written_on (element ds) a b = ap (λ t. 91 ∷ t) (append_assoc ds (93 ∷ a) b)
-written_on (member n) a b = ap (λ t. 64 ∷ t) (append_assoc n a b)
+written_on p a b = grind (arith, append_assoc)
 
 stops_like : (good bad t : List ℕ) → Stops (good ++ bad) → BeginsLike bad t → Stops (good ++ t)
 stops_like [] [] t h like = rw like tt
@@ -75,8 +72,7 @@ stops_like [] (c ∷ bad) (d ∷ t) h like = subst (λ x. goes_on x ≡ false) l
 stops_like (c ∷ good) bad t h like = h
 
 ends_like : (p : Part) (good bad t : List ℕ) → Ends p (good ++ bad) → BeginsLike bad t → Ends p (good ++ t)
-ends_like (element ds) good bad t h like = tt
-ends_like p good bad t h like = stops_like good bad t h like
+ends_like p good bad t h like = grind (arith, stops_like)
 
 pub part_spells : (p : Part) (ps : List Part) (text rest : List ℕ) → BeginsWith p text rest → Spells rest ps → Spells text (p ∷ ps)
 part_spells p ps text rest b h = record { are_parts = (b.is_part, h.are_parts); spelled = b.whole ∙ ap (written p) h.spelled ∙ sym (spelling_is p ps) }
@@ -122,8 +118,7 @@ spells_path t (field n ∷ ps) h = let e = h.spelled in (record { name = n; part
 spells_path t (p ∷ ps) h = let e = h.spelled in absurd (grind arith)
 
 like_itself : (t : List ℕ) → BeginsLike t t
-like_itself [] = refl
-like_itself (c ∷ t) = refl
+like_itself t = grind arith
 
 -- the place of the byte that no path goes on with
 module _ (text good bad : List ℕ) (whole : text ≡ good ++ bad) (stuck : (t : List ℕ) (ps : List Part) → BeginsLike bad t → Spells (46 ∷ good ++ t) ps → ⊥) where

@@ -95,9 +95,7 @@ module _ (S : Rows) (link : Link) (h : IsNamed S link) where
   parts_are = ap (λ n. field_parts n ++ element_parts link.element ++ member_parts (link_member S link)) h.found
 
   text_is : link_text S link ≡ h.name ++ spelling behind
-  text_is = ap (λ n. named [] n ++ element_text link.element ++ named (codes "@") (link_member S link)) h.found
-      ∙ append_assoc (name_text h.name) (element_text link.element) (named (codes "@") (link_member S link))
-      ∙ (λ i. kept_name h.name h.is_name i ++ sym behind_spelled i)
+  text_is = grind (arith, append_assoc, behind_spelled, codes, kept_name)
 
 -- all parts of links, and how they are spelled
 all_are : (S : Rows) (links : List Link) → AreNamed S links → AllByRecursion IsPart (parts_of S links)

@@ -3,7 +3,7 @@ use Rattle.std.proofs.Common.{◌≡◌, ℕ, ◌+◌, ◌-◌, ◌*◌, ◌≤�
 use Rattle.std.specs.List.{AllByRecursion}
 use Rattle.std.proofs.lemmas.{Bool.or_right, Bool.Decides.nat_tests, List.take-append-drop}
 use Rattle.std.proofs.Math.Seq.{drop-cons}
-use Rattle.fb_access.specs.Grammar.{is_digit, begins_name, goes_on, number_from, IsName, IsNumber, Part, field, element, spelling}
+use Rattle.fb_access.specs.Grammar.{is_digit, begins_name, goes_on, number_from, IsName, IsNumber, Part, field, spelling}
 use Rattle.fb_access.specs.Cutting.{GoOn, Stops, IsWord, Ends, BeginsLike, next_digit}
 
 abbrev pub AreDigits : List ℕ → Type 0
@@ -30,8 +30,7 @@ parts_stop (field n ∷ ps) = refl
 parts_stop (p ∷ ps) = refl
 
 pub ends_here : (p : Part) (ps : List Part) → Ends p (spelling ps)
-ends_here (element ds) ps = tt
-ends_here p ps = parts_stop ps
+ends_here p ps = grind (arith, parts_stop)
 
 -- one word begins a text, and one rest follows it
 pub one_word : (v w s t : List ℕ) → GoOn v → Stops s → GoOn w → Stops t → v ++ s ≡ w ++ t → (v ≡ w) × (s ≡ t)
@@ -64,8 +63,7 @@ digits_more (d ∷ ds) c h g = (h.0, digits_more ds c h.1 g)
 
 pub one_digit_more : (ds : List ℕ) (o : Option ℕ) (c v : ℕ) → AreSoFar ds o → next_digit o c ≡ Some v → AreSoFar (ds ++ c ∷ []) (Some v)
 unfolding next_digit
-one_digit_more ds None c v h e = grind (arith, nat_tests)
-one_digit_more ds (Some n) c v h e = grind (arith, nat_tests, digits_more, number_on)
+one_digit_more ds o c v h e = grind (arith, digits_more, nat_tests, number_on)
 
 -- digits before a byte that is none, where others are that a bracket closes
 digits_before : (ds es us vs : List ℕ) (c : ℕ) → AreDigits ds → AreDigits es → ds ++ c ∷ us ≡ es ++ 93 ∷ vs → ((c ≡ 93) × (es ≡ ds)) ⊎ ((xs : List ℕ) × (es ≡ ds ++ c ∷ xs))
@@ -81,8 +79,7 @@ digits_end (d ∷ ds) [] vs h e = grind arith
 digits_end (d ∷ ds) (x ∷ es) vs h e = digits_end ds es vs h.1 cc
 
 so_far_digits : (ds : List ℕ) (o : Option ℕ) → AreSoFar ds o → AreDigits ds
-so_far_digits ds None h = rw h tt
-so_far_digits ds (Some v) h = number_digits ds h.0
+so_far_digits ds o h = grind (arith, number_digits)
 
 none_yet : (ds es : List ℕ) (o : Option ℕ) → AreSoFar ds o → o ≡ None → es ≡ ds → IsNumber es → ⊥
 none_yet ds es o h e same n = grind arith
