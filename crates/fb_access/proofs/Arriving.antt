@@ -6,7 +6,7 @@ use Rattle.fb_schema.specs.declared.kinds.Kind.{Kind, TheVariants.Text, TheVaria
 use Rattle.fb_schema.specs.{Demands.IsLegal, Live.Live, Live.live_fields, Members.member_of, Members.member_name, Rows.Rows, Rows.is_union, Served.KindHolds, Served.IsServed}
 use Rattle.fb_rules.specs.declared.{checks.Checks.Checks, start.Start.Start, start.Ident.Ident, fault.Fault.Fault, link.Link.Link}
 use Rattle.fb_rules.specs.{Bounds.Bounds, Question.question, Places.target, Places.field_place, Tree.kids_length, Tree.elements_length, WellFormed.base}
-use Rattle.fb_rules.specs.Fields.{type_place, union_type, types_begin, IsVectorField, IsPresent, IsPresentOrAbsent, IsField, Lead, to_table, to_string, to_nothing, lead_of, Entry, entry, entries_of, entries_at, entries}
+use Rattle.fb_rules.specs.Fields.{type_place, union_type, types_begin, IsVectorField, IsPresent, IsPresentOrAbsent, IsField, Lead, to_table, to_string, lead_of, Entry, entry, entries_of, entries_at, entries}
 use Rattle.fb_rules.specs.Way.{Way, way_to_start, way_to_root, way_to_field, way_to_element, way_to_table}
 use Rattle.fb_rules.specs.Stops.{in_start, in_head, in_field, in_element, Trail, at_head, at_field, FieldTrail, at_own, at_element, ElementTrail, at_lead, through, IsTrail, IsFieldTrail, IsElementTrail}
 use Rattle.fb_rules.specs.Links.{element_of, type_of, field_link, element_link, object_led_to, links_of, links_in_field, links_in_element}
@@ -77,8 +77,7 @@ module _ (b : List ℕ) (S : Rows) where
     unfolding next_spot
     union_goes e y p there = named (member_name S e y) refl where
       nameless : (kind : Option Kind) → member_of S e y ≡ kind → member_name S e y ≡ None → GoesTo (Union e) (AtUnion e y p) [] p (lead_of S kind)
-      nameless None h none = goes_here (Union e) (AtUnion e y p) p to_nothing (e, y, refl) (λ k i. absurd cc)
-      nameless (Some kind) h none = absurd (has_name S e y kind h none)
+      nameless kind h none = grind (arith, goes_here, has_name)
 
       named : (name : Option (List ℕ)) → member_name S e y ≡ name → GoesTo (Union e) (AtUnion e y p) (member_parts name) p (lead_of S (member_of S e y))
       named None h = nameless (member_of S e y) refl h

@@ -66,8 +66,7 @@ record HasKind (rows : Rows) (kind : Option Kind) : Type 0 where
 kind_of_shape : (rows : Rows) (index : ℤ) (s : Option Shape) → is_for_member s ≡ true → (is_object s && is_none (entry_at rows.objects index)) ≡ false → HasKind rows (shape_kind rows index s)
 kind_of_shape rows (pos n) (Some (One OfObject)) h e = go (slice_get rows.objects n) e where
   go : (o : Option Object) → is_none o ≡ false → HasKind rows (object_kind (pos n) Struct Table o)
-  go None e = absurd (false≢true (sym e))
-  go (Some o) e = record { is = if o.is_struct then Struct n else Table n; kept = object_kept rows n o.is_struct; fits = object_fits n o.is_struct; has = refl }
+  go object e = grind (arith, object_fits, object_kept)
 kind_of_shape rows (negsuc n) (Some (One OfObject)) h e = absurd (false≢true (sym e))
 kind_of_shape rows index (Some (One OfText)) h e = record { is = Text; kept = λ h. tt; fits = tt; has = refl }
 kind_of_shape rows index s h e = absurd (false≢true h)

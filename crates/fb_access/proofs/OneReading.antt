@@ -18,7 +18,7 @@ one_part (element n) (element m) s t a b c d e = let w = one_word n m (93 ∷ s)
 one_part (member n) (member m) s t a b c d e = let w = one_word n m s t (name_word n a) b (name_word m c) d cc in (ap member w.0, w.1)
 one_part p q s t a b c d e = absurd (grind arith)
 
-one_spelling : (ps qs : List Part) → AllByRecursion IsPart ps → AllByRecursion IsPart qs → spelling ps ≡ spelling qs → ps ≡ qs
+pub one_spelling : (ps qs : List Part) → AllByRecursion IsPart ps → AllByRecursion IsPart qs → spelling ps ≡ spelling qs → ps ≡ qs
 one_spelling [] [] a b e = refl
 one_spelling [] (q ∷ qs) a b e = absurd (some_written q (spelling qs) (sym (e ∙ spelling_is q qs)))
 one_spelling (p ∷ ps) [] a b e = absurd (some_written p (spelling ps) (sym (spelling_is p ps) ∙ e))

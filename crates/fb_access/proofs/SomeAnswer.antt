@@ -32,13 +32,13 @@ abbrev Numbered : List ℕ → List ℕ → Type 0
 Numbered stuck t = ((bad : List ℕ) × IsStuck stuck bad) ⊎ ((n : ℕ) × (rest : List ℕ) × IsNumbered t n rest)
 
 number_there : (left ds : List ℕ) (o : Option ℕ) → AreSoFar ds o → Numbered (91 ∷ ds ++ left) (ds ++ left)
-number_there [] ds o so = inl ([], no_index ds [] o so tt)
+number_there [] ds o so = inl ([], no_index _ ds [] o so refl tt)
 number_there (c ∷ cs) ds o so = go o so (next_digit o c) refl (cases_Bool (c == 93)) (λ v d. subst (λ t. Numbered (91 ∷ t) t) (append_assoc ds (c ∷ []) cs) (number_there cs (ds ++ c ∷ []) (Some v) (one_digit_more ds o c v so d))) where
   go : (o : Option ℕ) → AreSoFar ds o → (n : Option ℕ) → next_digit o c ≡ n → ((c == 93) ≡ true) ⊎ ((c == 93) ≡ false) → ((v : ℕ) → next_digit o c ≡ Some v → Numbered (91 ∷ ds ++ c ∷ cs) (ds ++ c ∷ cs)) → Numbered (91 ∷ ds ++ c ∷ cs) (ds ++ c ∷ cs)
   go (Some v) so n d (inl e) later = inr (v, cs, record { digits = ds; is_number = so.0; value = sym so.1; whole = ap (λ x. ds ++ x ∷ cs) (eqb-true c 93 e) })
   go o so (Some v) d e later = later v d
-  go None so None d e later = inl (c ∷ cs, no_index ds (c ∷ cs) None so (d, λ e. refl))
-  go (Some v) so None d (inr e) later = inl (c ∷ cs, no_index ds (c ∷ cs) (Some v) so (d, λ f. absurd (eqb-false c 93 e f)))
+  go None so None d e later = inl (c ∷ cs, no_index _ ds (c ∷ cs) None so refl (d, λ e. refl))
+  go (Some v) so None d (inr e) later = inl (c ∷ cs, no_index _ ds (c ∷ cs) (Some v) so refl (d, λ f. absurd (eqb-false c 93 e f)))
 
 -- It begins with a part, or it is stuck, if anything is left.
 abbrev Begun : List ℕ → Type 0

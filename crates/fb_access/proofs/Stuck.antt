@@ -4,7 +4,7 @@ use Rattle.std.proofs.lemmas.List.{length-append}
 use Rattle.std.proofs.Math.Seq.{take-append_seam, take-append-add}
 use Rattle.fb_access.specs.Grammar.{goes_on, IsName, IsNumber, Part, field, element, member, spelling, IsPath, BeginsPath, IsWrongAt}
 use Rattle.fb_access.specs.declared.pieces.Piece.TheVariants.{Field, Element, Member}
-use Rattle.fb_access.specs.Cutting.{IsNamed, IsNumbered, IsCut, HasNoName, next_digit, IsRead, Stops, written, Ends, BeginsWith, Spells, BeginsLike, IsStuck}
+use Rattle.fb_access.specs.Cutting.{IsNamed, IsNumbered, IsCut, HasNoName, IsRead, Stops, written, Ends, BeginsWith, Spells, BeginsLike, IsStuck}
 use Rattle.fb_access.proofs.Words.{ends_here, AreSoFar, IsDead, no_number}
 use Rattle.fb_access.proofs.OneReading.{one_part, some_written, spelling_is}
 
@@ -39,8 +39,8 @@ no_member bad nothing = record { good = 64 ∷ []; whole = refl; more = 97 ∷ [
   none t (p ∷ ps) like h = let e = h.spelled in grind arith
 
 -- a bracket before digits that no number goes on with
-pub no_index : (ds bad : List ℕ) (o : Option ℕ) → AreSoFar ds o → IsDead o bad → IsStuck (91 ∷ ds ++ bad) bad
-no_index ds bad o so dead = record { good = 91 ∷ ds; whole = refl; more = (some o so).0; parts = element (some o so).1 ∷ []; goes_on = record { are_parts = ((some o so).2, tt); spelled = ap (λ t. 91 ∷ t) (some o so).3 }; stuck = none } where
+pub no_index : (text ds bad : List ℕ) (o : Option ℕ) → AreSoFar ds o → text ≡ ds ++ bad → IsDead o bad → IsStuck (91 ∷ text) bad
+no_index text ds bad o so whole dead = record { good = 91 ∷ ds; whole = ap (λ t. 91 ∷ t) whole; more = (some o so).0; parts = element (some o so).1 ∷ []; goes_on = record { are_parts = ((some o so).2, tt); spelled = ap (λ t. 91 ∷ t) (some o so).3 }; stuck = none } where
   some : (o : Option ℕ) → AreSoFar ds o → (more : List ℕ) × (es : List ℕ) × IsNumber es × (ds ++ more ≡ es ++ 93 ∷ [])
   some None h = (48 ∷ 93 ∷ [], 48 ∷ [], inl (refl, refl), rw h refl)
   some (Some v) h = (93 ∷ [], ds, h.0, refl)
@@ -49,16 +49,6 @@ no_index ds bad o so dead = record { good = 91 ∷ ds; whole = refl; more = (som
   none t [] like h = let e = h.spelled in absurd cc
   none t (element es ∷ ps) like h = let e = h.spelled in no_number ds es bad t (spelling ps) o so dead like h.are_parts.0 cc
   none t (p ∷ ps) like h = let e = h.spelled in grind arith
-
-pub no_first_digit : (o : Option ℕ) (c : ℕ) → o ≡ None → c ≡ 93 → next_digit o c ≡ None
-unfolding next_digit
-no_first_digit o c e f = rw (e, f) refl
-
-pub stuck_here : (text left ds : List ℕ) (o : Option ℕ) (c : ℕ) (cs : List ℕ) → AreSoFar ds o → text ≡ ds ++ left → left ≡ c ∷ cs → next_digit o c ≡ None → (c ≡ 93 → o ≡ None) → IsStuck (91 ∷ text) left
-stuck_here text left ds o c cs so whole e dead opened = rw (whole, e) (no_index ds (c ∷ cs) o so (dead, opened))
-
-pub stuck_at_end : (text left ds : List ℕ) (o : Option ℕ) → AreSoFar ds o → text ≡ ds ++ left → length left ≡ 0 → IsStuck (91 ∷ text) left
-stuck_at_end text left ds o so whole e = grind (arith, no_index)
 
 -- Behind a part.
 

@@ -107,6 +107,13 @@ abbrev pub IsDead : Option ℕ → List ℕ → Type 0
 IsDead o [] = Unit {0}
 IsDead o (c ∷ cs) = (next_digit o c ≡ None) × (c ≡ 93 → o ≡ None)
 
+pub dead_at_end : (o : Option ℕ) (bad : List ℕ) → length bad ≡ 0 → IsDead o bad
+dead_at_end o bad e = grind arith
+
+pub dead_at_bracket : (o : Option ℕ) (c : ℕ) (bad cs : List ℕ) → bad ≡ c ∷ cs → c ≡ 93 → o ≡ None → IsDead o bad
+unfolding next_digit
+dead_at_bracket o c bad cs e f none = grind arith
+
 pub no_number : (ds es bad t vs : List ℕ) (o : Option ℕ) → AreSoFar ds o → IsDead o bad → BeginsLike bad t → IsNumber es → ds ++ t ≡ es ++ 93 ∷ vs → ⊥
 no_number ds es [] t vs o h dead like n e = digits_end ds es vs (so_far_digits ds o h) (sym (append-nil ds) ∙ subst (λ u. ds ++ u ≡ es ++ 93 ∷ vs) like e)
 no_number ds es (c ∷ cs) [] vs o h dead like n e = like

@@ -26,12 +26,6 @@ pub enum Next<'t> {
     Wrong(&'t [u8]),
 }
 
-fn is_digit(byte: u8) -> bool
-    ensures { result ≡ is_digit byte }
-{
-    byte.is_ascii_digit()
-}
-
 fn begins_name(byte: u8) -> bool
     ensures { result ≡ begins_name byte }
 {
@@ -41,7 +35,7 @@ fn begins_name(byte: u8) -> bool
 fn goes_on(byte: u8) -> bool
     ensures { result ≡ goes_on byte }
 {
-    begins_name(byte) || is_digit(byte)
+    begins_name(byte) || byte.is_ascii_digit()
 }
 
 /// The letters, digits and `_` that a text begins with, and what is after them.
@@ -73,7 +67,7 @@ fn cut_name<'t>(text: &'t [u8]) -> Option<(&'t [u8], &'t [u8])>
 fn next_digit(number: Option<u32>, byte: u8) -> Option<u32>
     ensures { result ≡ next_digit number byte }
 {
-    if !is_digit(byte) {
+    if !byte.is_ascii_digit() {
         return None;
     }
     let digit = byte - 48;
