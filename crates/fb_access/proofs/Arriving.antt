@@ -2,11 +2,11 @@
 use Rattle.std.proofs.Common.{◌≡◌, ℕ, ◌+◌, ◌*◌, ◌<◌, ◌^◌, ◌==◌, if◌then◌else◌, List, [], ◌∷◌, ◌++◌, length, slice_get, decimal, option_map, option_and_then, IsTrue, Option, Some, None, Ok, append-nil, refl, sym, ◌∙◌, ap, subst, arith, codes, inl, inr}
 use Rattle.std.proofs.lemmas.{Bool.cond-true, Bool.Decides.Decides-eqb}
 use Rattle.fb_bytes.specs.Word.{word}
-use Rattle.fb_schema.specs.declared.kinds.Kind.{Kind, TheVariants.Text, TheVariants.Struct, TheVariants.Table, TheVariants.Union, TheVariants.Scalars, TheVariants.Texts, TheVariants.Tables, TheVariants.Unions}
+use Rattle.fb_schema.specs.declared.kinds.Kind.{Kind, TheVariants.Text, TheVariants.Table, TheVariants.Union, TheVariants.Texts, TheVariants.Tables, TheVariants.Unions}
 use Rattle.fb_schema.specs.{Demands.IsLegal, Live.Live, Live.live_fields, Members.member_of, Members.member_name, Rows.Rows, Rows.is_union, Served.KindHolds, Served.IsServed}
 use Rattle.fb_rules.specs.declared.{checks.Checks.Checks, start.Start.Start, start.Ident.Ident, fault.Fault.Fault, link.Link.Link}
 use Rattle.fb_rules.specs.{Bounds.Bounds, Question.question, Places.target, Places.field_place, Tree.kids_length, Tree.elements_length, WellFormed.base}
-use Rattle.fb_rules.specs.Fields.{type_place, union_type, types_begin, IsVectorField, IsPresent, IsPresentOrAbsent, IsField, Lead, to_table, to_string, to_nothing, lead_of, Entry, entry, entries_of, entries_at, entries}
+use Rattle.fb_rules.specs.Fields.{type_place, union_type, types_begin, IsVectorField, IsPresent, IsPresentOrAbsent, IsField, Lead, to_table, to_string, lead_of, Entry, entry, entries_of, entries_at, entries}
 use Rattle.fb_rules.specs.Way.{Way, way_to_start, way_to_root, way_to_field, way_to_element, way_to_table}
 use Rattle.fb_rules.specs.Stops.{in_start, in_head, in_field, in_element, Trail, at_head, at_field, FieldTrail, at_own, at_element, ElementTrail, at_lead, through, IsTrail, IsFieldTrail, IsElementTrail}
 use Rattle.fb_rules.specs.Links.{element_of, type_of, field_link, element_link, object_led_to, links_of, links_in_field, links_in_element}
@@ -14,7 +14,7 @@ use Rattle.fb_access.specs.declared.{step.Step.Step, step.Step.TheVariants.Field
 use Rattle.fb_access.specs.declared.spot.Spot.TheVariants.{AtTable, AtText, AtUnion, AtOtherMember}
 use Rattle.fb_access.specs.{Denotes.next_spot, Denotes.Leads, Denotes.Reaches, Fitting.element_kind, Location.member_of_kind, Location.mark_of, Location.mark_behind}
 use Rattle.fb_access.specs.Grammar.{Part, field, element, member, number_of}
-use Rattle.fb_access.specs.LocationLaws.{field_parts, element_parts, member_parts, link_parts, parts_of, AreDotted, IsBehind, Arrives, LinksArrive}
+use Rattle.fb_access.specs.LocationLaws.{element_parts, member_parts, link_parts, parts_of, AreDotted, IsBehind, Arrives, LinksArrive}
 use Rattle.fb_access.specs.Resolving.{to_field, to_element, to_kind, to_member, fitting, Follows}
 use Rattle.fb_access.specs.Spots.{if_element, present_spot, spot_at, field_spot, spot_of_element, member_spot}
 use Rattle.fb_access.proofs.{MemberKinds.member_there, MemberKinds.IsOfMember, NumberedFields.found_by_number, UniqueNames.found_by_name, UniqueNames.named_again, UniqueNames.has_name, Walks.reaches_on, Ways.read_back, Leading.row_at, Leading.union_row_at, Leading.row_get, Following.follows_on}
@@ -66,10 +66,7 @@ module _ (b : List ℕ) (S : Rows) where
   -- a member
   member_here : (p : ℕ) (kind : Kind) → IsOfMember kind → GoesTo kind (member_spot b p kind) [] p (lead_of S (Some kind))
   unfolding member_spot
-  member_here p Text is = text_here p
-  member_here p (Table k) is = table_here k p
-  member_here p (Struct k) is = goes_here (Struct k) (member_spot b p (Struct k)) p (lead_of S (Some (Struct k))) (k, refl, refl, refl) (λ j e. absurd cc)
-  member_here p kind is = absurd is
+  member_here p kind is = grind (arith, goes_here, table_here, text_here)
 
   same_type : (y : ℕ) {X : Type 0} (q r : X) → (if y == y then q else r) ≡ q
   same_type y q r = cond-true (y == y) q r ((Decides-eqb y y).1 refl)
@@ -80,8 +77,7 @@ module _ (b : List ℕ) (S : Rows) where
     unfolding next_spot
     union_goes e y p there = named (member_name S e y) refl where
       nameless : (kind : Option Kind) → member_of S e y ≡ kind → member_name S e y ≡ None → GoesTo (Union e) (AtUnion e y p) [] p (lead_of S kind)
-      nameless None h none = goes_here (Union e) (AtUnion e y p) p to_nothing (e, y, refl) (λ k i. absurd cc)
-      nameless (Some kind) h none = absurd (has_name S e y kind h none)
+      nameless kind h none = grind (arith, goes_here, has_name)
 
       named : (name : Option (List ℕ)) → member_name S e y ≡ name → GoesTo (Union e) (AtUnion e y p) (member_parts name) p (lead_of S (member_of S e y))
       named None h = nameless (member_of S e y) refl h
@@ -125,15 +121,13 @@ module _ (b : List ℕ) (S : Rows) where
 
       -- past a field, where it stands somewhere
       field_goes : (place : Option ℕ) (x : Entry) → IsPresentOrAbsent c b S t g place → KindHolds S g g.kind → slice_get (entries_at b S t g place) j ≡ Some x → GoesBy g.kind (spot_at b t g place) (parts_behind g.kind) x
-      field_goes None x h holds e = absurd cc
-      field_goes (Some p) x h holds e = entry_goes p g.kind x holds h e
+      field_goes place x h holds e = grind (arith, entry_goes)
 
     module _ (served : IsServed S) (k t i : ℕ) (g : Live) (at : slice_get (live_fields S k) i ≡ Some g) where
       -- the field of a link, and what it has behind it
       field_first : (j value : Option ℕ) → link_parts S (record { object = k; field = g.number; element = j; member = value })
           ≡ field g.name ∷ (element_parts j ++ member_parts (option_and_then (λ v. member_of_kind S v g.kind) value))
-      field_first j value =
-          ap (λ n. field_parts (option_map (λ (f : Live). f.name) n) ++ element_parts j ++ member_parts (option_and_then (λ (f : Live). option_and_then (λ v. member_of_kind S v f.kind) value) n)) (found_by_number S served k i g at)
+      field_first j value = grind (arith, found_by_number, option_and_then, option_map)
 
       field_fits : fitting S (Table k) (field g.name) ≡ Ok (fitted (Field g.number) g.kind)
       field_fits = ap to_field (found_by_name S legal k served i g at)
@@ -151,22 +145,17 @@ module _ (b : List ℕ) (S : Rows) where
 
   -- A dot stands behind a link through an offset word, since bytes have none.
   dot_of : (t p i : ℕ) (j : Option ℕ) (g : Live) (kind : Kind) (x : Entry) → slice_get (entries_of b S t g p kind) i ≡ Some x → mark_of j (Some kind) ≡ codes "."
-  dot_of t p i j g (Scalars s) x h = absurd cc
-  dot_of t p i None g kind x h = refl
-  dot_of t p i (Some n) g kind x h = refl
+  dot_of t p i j g kind x h = grind arith
 
   dot_at : (t i : ℕ) (j : Option ℕ) (g : Live) (place : Option ℕ) (x : Entry) → slice_get (entries_at b S t g place) i ≡ Some x → mark_of j (Some g.kind) ≡ codes "."
-  dot_at t i j g None x h = absurd cc
-  dot_at t i j g (Some p) x h = dot_of t p i j g g.kind x h
+  dot_at t i j g place x h = grind (arith, dot_of)
 
   link_dotted : (served : IsServed S) (k t i j : ℕ) (g : Live) (x : Entry) → slice_get (live_fields S k) i ≡ Some g → slice_get (entries b S t g) j ≡ Some x → mark_behind S (element_link b k t g j) ≡ codes "."
   unfolding entries
-  link_dotted served k t i j g x at next =
-      ap (λ f. mark_of (element_of j g.kind) (option_map (λ (f : Live). f.kind) f)) (found_by_number S served k i g at) ∙ dot_at t j (element_of j g.kind) g (field_place b t g.slot) x next
+  link_dotted served k t i j g x at next = grind (arith, dot_at, found_by_number, option_map)
 
   dotted_on : (link : Link) (links : List Link) → mark_behind S link ≡ codes "." → AreDotted S links → AreDotted S (link ∷ links)
-  dotted_on link [] h d = tt
-  dotted_on link (next ∷ links) h d = (h, d)
+  dotted_on link links h d = grind arith
 
   -- Along a trail.
   module _ (legal : IsLegal S) (served : IsServed S) (short : length b < 2 ^ 31) (root : ℕ) (start : Start) (ident : Ident) (c : Checks) (L : Bounds) (f : Fault) where

@@ -1,9 +1,7 @@
 -- The extent of a vector or array is that of its elements.
-use Rattle.std.proofs.Common.{◌≡◌, ℕ, ◌+◌, ◌*◌, ◌<◌, ℤ, List, ap, arith, Some}
-use Rattle.fb_bytes.specs.Word.{word}
-use Rattle.fb_schema.specs.{Kinds.scalar_size, Kinds.struct_size, declared.kinds.Scalar.Scalar}
+use Rattle.std.proofs.Common.{◌≡◌, ℕ, ◌<◌, ℤ, List, arith, Some}
+use Rattle.fb_schema.specs.{declared.kinds.Scalar.Scalar}
 use Rattle.fb_access.specs.declared.spot.Spot.{Spot}
-use Rattle.fb_access.specs.declared.spot.Spot.TheVariants.{AtInline, AtStruct, AtScalars, AtStructs, AtScalarArray, AtStructArray, AtTexts, AtTables, AtUnions, AtDefault}
 use Rattle.fb_access.specs.{Denotes.next_spot, Denotes.number, Denotes.inline_value, Denotes.default_value, Denotes.value, Denotes.vector, Extents.extent, Spots.if_element, Spots.spot_of_element}
 use Rattle.fb_access.specs.StepLaws.{position_of, ElementsFillExtents}
 use Rattle.fb_access.proofs.StepLaws.{element_there}
@@ -30,13 +28,4 @@ default_counts_none s d n h = number_counts_none s _ n h
 
 pub elements_fill_extents : ElementsFillExtents
 unfolding value extent next_spot spot_of_element
-elements_fill_extents b S (AtScalars s c) n v = (ap (λ m. m * scalar_size s) (same_count v), λ j r lt l. there (word b c 4) n j (AtInline s (c + 4 + scalar_size s * j)) r v lt l)
-elements_fill_extents b S (AtStructs k c) n v = (ap (λ m. m * struct_size S k) (same_count v), λ j r lt l. there (word b c 4) n j (AtStruct k (c + 4 + struct_size S k * j)) r v lt l)
-elements_fill_extents b S (AtScalarArray s m p) n v = (ap (λ m. m * scalar_size s) (same_count v), λ j r lt l. there m n j (AtInline s (p + scalar_size s * j)) r v lt l)
-elements_fill_extents b S (AtStructArray k m p) n v = (ap (λ m. m * struct_size S k) (same_count v), λ j r lt l. there m n j (AtStruct k (p + struct_size S k * j)) r v lt l)
-elements_fill_extents b S (AtTexts c) n v = tt
-elements_fill_extents b S (AtTables k c) n v = tt
-elements_fill_extents b S (AtUnions e q c) n v = tt
-elements_fill_extents b S (AtInline s p) n v = absurd (inline_counts_none b s p n v)
-elements_fill_extents b S (AtDefault s d) n v = absurd (default_counts_none s d n v)
-elements_fill_extents b S q n v = absurd cc
+elements_fill_extents b S q n v = grind (arith, default_counts_none, inline_counts_none, same_count, there)

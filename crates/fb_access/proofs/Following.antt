@@ -1,12 +1,12 @@
 -- How far a path has been followed.
-use Rattle.std.proofs.Common.{◌≡◌, ℕ, suc, ◌<◌, List, [], ◌∷◌, ◌++◌, length, Result, Ok, Err, refl, sym, ◌∙◌, ap, subst, arith, inl, inr, append_assoc, append-nil}
+use Rattle.std.proofs.Common.{◌≡◌, ℕ, suc, ◌<◌, ◌≤◌, List, [], ◌∷◌, ◌++◌, length, Ok, Err, refl, sym, ap, subst, arith, append_assoc, append-nil, Bor}
 use Rattle.fb_schema.specs.{Demands.IsLegal, Rows.Rows, Served.IsServed, declared.kinds.Kind.Kind, declared.kinds.Kind.TheVariants.Table}
-use Rattle.fb_access.specs.declared.{step.Step.Step, misfit.Misfit.Misfit, misfit.Fitted.Fitted, pieces.Piece.Piece}
-use Rattle.fb_access.specs.{Cutting.IsPieceOf, Cutting.AreLeft, Cutting.IsCut, Fitting.StepsFit, Kept.IsThere}
-use Rattle.fb_access.specs.Grammar.{Part, field, element, member, IsName, IsPart, IsPath, IsReading, spelling}
+use Rattle.fb_access.specs.declared.{step.Step.Step, misfit.Misfit.Misfit, misfit.Fitted.Fitted, pieces.Piece.Piece, pieces.Next.Next, pieces.Next.TheVariants.Part as APart, pieces.Next.TheVariants.Wrong}
+use Rattle.fb_access.specs.{Cutting.IsPieceOf, Cutting.IsCut, Cutting.IsNext, Cutting.IsStuck, Cutting.Spells, Cutting.written, Fitting.StepsFit, Kept.IsThere}
+use Rattle.fb_access.specs.Grammar.{Part, field}
 use Rattle.fb_access.specs.Resolving.{fitting, fault_of, Follows, Resolves, Misfits, IsFault}
 use Rattle.std.proofs.lemmas.List.{length-append}
-use Rattle.fb_access.proofs.{Cuts.some_part, Fits.leads}
+use Rattle.fb_access.proofs.{Fits.leads, Stuck.part_spells, Stuck.part_stuck, Stuck.spells_path}
 
 -- One way behind another, and one more step.
 pub follows_on : (S : Rows) (kind mid last : Kind) (ps qs : List Part) (ss rs : List Step) → Follows S kind ps ss mid → Follows S mid qs rs last → Follows S kind (ps ++ qs) (ss ++ rs) last
@@ -28,116 +28,70 @@ steps_fit S legal served kind last (p ∷ ps) steps t h =
     let l = leads S legal served kind p h.0 t h.1 in
     rw h.3 (h.0.kind, l.next, steps_fit S legal served h.0.kind last ps h.2 l.there h.4)
 
--- the parts before the rest of the text were followed
-pub record IsWalked (S : Rows) (root : ℕ) (text rest : List ℕ) (steps : List Step) (kind : Kind) : Type 0 where
-  pub name : List ℕ
-  pub parts : List Part
-  pub reading : IsReading text name parts
+-- the parts before what is left of the text were followed
+pub record IsWalked (S : Rows) (root : ℕ) (text left : List ℕ) (steps : List Step) (kind : Kind) : Type 0 where
   pub done : List Part
-  pub left : List Part
-  pub all : field name ∷ parts ≡ done ++ left
   pub follows : Follows S (Table root) done steps kind
-  pub are_left : AreLeft rest left
+  pub spells : (ps : List Part) → Spells left ps → Spells (46 ∷ text) (done ++ ps)
+  pub stuck : (bad : List ℕ) → IsStuck left bad → IsStuck (46 ∷ text) bad
 
-pub begins : (S : Rows) (root : ℕ) (text : List ℕ) → IsPath text → IsWalked S root text text [] (Table root)
-begins S root text p = record {
-  name = p.name;
-  parts = p.parts;
-  reading = p.reading;
-  done = [];
-  left = field p.name ∷ p.parts;
-  all = refl;
-  follows = (refl, refl);
-  are_left = record { are_parts = (p.reading.is_name, p.reading.are_parts); spelled = inr (ap (λ t. 46 ∷ t) p.reading.spelled) };
-}
+pub begins : (S : Rows) (root : ℕ) (text : List ℕ) → IsWalked S root text (46 ∷ text) [] (Table root)
+begins S root text = record { done = []; follows = (refl, refl); spells = λ ps h. h; stuck = λ bad h. h }
 
--- a text of which parts are left is longer than those after the first
-name_long : (n : List ℕ) → IsName n → 0 < length n
-name_long n h = grind arith
+-- how much of a text is left behind what it begins with
+abbrev pub left_of : Next → ℕ
+left_of (APart piece rest) = suc (length rest.now)
+left_of _ = 0
 
-part_long : (p : Part) (ps : List Part) → IsPart p → suc (length (spelling ps)) < length (spelling (p ∷ ps))
-part_long (field n) ps h = let some = name_long n h in simp length-append (omega arith)
-part_long (element ds) ps h = simp length-append (omega arith)
-part_long (member n) ps h = let some = name_long n h in simp length-append (omega arith)
+pub longer : (p : Part) (rest : List ℕ) → length rest < length (written p rest)
+longer p rest = grind (arith, length-append)
 
-longer : (text : List ℕ) (p : Part) (ps : List Part) → AreLeft text (p ∷ ps) → length (spelling ps) < length text
-longer text p ps h =
-    let long = part_long p ps h.are_parts.0 in
-    elim h.spelled [ inl e ↦ let same = ap length e in omega arith | inr e ↦ let same = ap length e in omega arith ]
+pub shorter : (text : List ℕ) (next : Next) → IsNext text next → left_of next ≤ length text
+shorter text next h = grind (arith, longer)
 
 -- a step that misfits is a fault
 pub misfit_fault : (S : Rows) (root : ℕ) (text : List ℕ) (m : Misfit) (n : ℕ) → Misfits S root text m n → IsFault S root text (fault_of m n)
 misfit_fault S root text m n h = grind arith
 
--- What is cut off, where bytes are left.
-module _ (S : Rows) (root : ℕ) (text rest : List ℕ) (steps : List Step) (kind : Kind) (piece : Piece) (after : List ℕ) (w : IsWalked S root text rest steps kind) (some : rest ≡ [] → ⊥) (c : IsCut rest piece after) where
-  first_left : (p : Part) × (ps : List Part) × (w.left ≡ p ∷ ps) × AreLeft rest (p ∷ ps)
-  first_left = some_part rest w.left some w.are_left
+pub misfits : (S : Rows) (root : ℕ) (text : List ℕ) (steps : List Step) (kind : Kind) (before after : List Part) (p : Part) (m : Misfit) → Spells (46 ∷ text) (before ++ p ∷ after) → Follows S (Table root) before steps kind → fitting S kind p ≡ Err m → Misfits S root text m (length before)
+misfits S root text steps kind before after p m spells follows unfit =
+    let (path, all) = spells_path text (before ++ p ∷ after) spells in
+    record { name = path.name; parts = path.parts; reading = path.reading; before = before; part = p; after = after; all = all; number = refl; steps = steps; last = kind; follows = follows; unfit = unfit }
 
-  all_is : field w.name ∷ w.parts ≡ w.done ++ first_left.0 ∷ first_left.1
-  all_is = w.all ∙ ap (λ ps. w.done ++ ps) first_left.2
+pub resolves : (S : Rows) (root : ℕ) (text : List ℕ) (steps : List Step) (kind : Kind) (ps : List Part) → Spells (46 ∷ text) ps → Follows S (Table root) ps steps kind → Resolves S root text steps
+resolves S root text steps kind ps spells follows =
+    let (path, all) = spells_path text ps spells in
+    record { name = path.name; parts = path.parts; last = kind; reading = path.reading; follows = subst (λ qs. Follows S (Table root) qs steps kind) (sym all) follows }
 
-  after_is : after ≡ spelling first_left.1
-  after_is = c.after first_left.0 first_left.1 first_left.3
+pub leads_on : (S : Rows) (kind : Kind) (left rest : List ℕ) (piece : Piece) (x : Fitted) → IsLegal S → IsServed S → IsThere S kind → IsCut left piece rest → ((p : Part) → IsPieceOf p piece → Ok x ≡ fitting S kind p) → IsThere S x.kind
+leads_on S kind left rest piece x legal served there c fits = (leads S legal served kind c.part x there (sym (fits c.part c.says))).there
 
-  part_is : (r : Result Fitted Misfit) → ((p : Part) → IsPieceOf p piece → r ≡ fitting S kind p) → fitting S kind first_left.0 ≡ r
-  part_is r f = sym (f first_left.0 (c.first first_left.0 first_left.1 first_left.3))
+-- neither a part nor anything else is left
+pub ended : (left : List ℕ) (next : Next) → IsNext left next → ((piece : Piece) (rest : Bor (List ℕ)) → next ≡ APart piece rest → ⊥) → ((bad : Bor (List ℕ)) → next ≡ Wrong bad → ⊥) → left ≡ []
+ended left next h part wrong = grind arith
 
-  pub shorter : length after < length rest
-  shorter = rw after_is (longer rest first_left.0 first_left.1 first_left.3)
+module _ (S : Rows) (root : ℕ) (text left : List ℕ) (steps : List Step) (kind : Kind) (w : IsWalked S root text left steps kind) where
+  -- What is cut off.
+  module _ (piece : Piece) (rest : List ℕ) (c : IsCut left piece rest) where
+    -- it fits
+    pub goes_on : (x : Fitted) → ((p : Part) → IsPieceOf p piece → Ok x ≡ fitting S kind p) → IsWalked S root text rest (steps ++ x.step ∷ []) x.kind
+    goes_on x fits = record {
+      done = w.done ++ c.part ∷ [];
+      follows = follows_more S (Table root) kind w.done steps c.part x w.follows (sym (fits c.part c.says));
+      spells = λ ps h. subst (Spells (46 ∷ text)) (sym (append_assoc w.done (c.part ∷ []) ps)) (w.spells (c.part ∷ ps) (part_spells c.part ps left rest c.begins h));
+      stuck = λ bad h. w.stuck bad (part_stuck c.part left rest bad c.begins h);
+    }
 
-  -- the part that was cut off fits
-  pub goes_on : (x : Fitted) → ((p : Part) → IsPieceOf p piece → Ok x ≡ fitting S kind p) → IsWalked S root text after (steps ++ x.step ∷ []) x.kind
-  goes_on x f = record {
-    name = w.name;
-    parts = w.parts;
-    reading = w.reading;
-    done = w.done ++ first_left.0 ∷ [];
-    left = first_left.1;
-    all = all_is ∙ sym (append_assoc w.done (first_left.0 ∷ []) first_left.1);
-    follows = follows_more S (Table root) kind w.done steps first_left.0 x w.follows (part_is (Ok x) f);
-    are_left = record { are_parts = first_left.3.are_parts.1; spelled = inl after_is };
-  }
+    -- it doesn't, and parts follow, or none do
+    pub is_fault : (n : ℕ) → n ≡ length steps → (m : Misfit) → ((p : Part) → IsPieceOf p piece → Err m ≡ fitting S kind p) → (ps : List Part) → Spells rest ps → IsFault S root text (fault_of m n)
+    is_fault n same m unfit ps h = rw (same, as_many S (Table root) kind w.done steps w.follows) (misfit_fault S root text m (length w.done) (misfits S root text steps kind w.done ps c.part m (w.spells (c.part ∷ ps) (part_spells c.part ps left rest c.begins h)) w.follows (sym (unfit c.part c.says))))
 
-  pub leads_on : IsLegal S → IsServed S → IsThere S kind → (x : Fitted) → ((p : Part) → IsPieceOf p piece → Ok x ≡ fitting S kind p) → IsThere S x.kind
-  leads_on legal served there x f = (leads S legal served kind first_left.0 x there (part_is (Ok x) f)).there
+    pub still_stuck : (bad : List ℕ) → IsStuck rest bad → IsStuck (46 ∷ text) bad
+    still_stuck bad h = w.stuck bad (part_stuck c.part left rest bad c.begins h)
 
-  -- and if it doesn't
-  pub stands_at : (n : ℕ) → n ≡ length steps → (m : Misfit) → ((p : Part) → IsPieceOf p piece → Err m ≡ fitting S kind p) → (misfit : Misfits S root text m n) × (misfit.last ≡ kind)
-  stands_at n same m f = (
-    record {
-      name = w.name;
-      parts = w.parts;
-      reading = w.reading;
-      before = w.done;
-      part = first_left.0;
-      after = first_left.1;
-      all = all_is;
-      number = same ∙ as_many S (Table root) kind w.done steps w.follows;
-      steps = steps;
-      last = kind;
-      follows = w.follows;
-      unfit = part_is (Err m) f;
-    },
-    refl,
-  )
-
-  pub is_fault : (n : ℕ) → n ≡ length steps → (m : Misfit) → ((p : Part) → IsPieceOf p piece → Err m ≡ fitting S kind p) → IsFault S root text (fault_of m n)
-  is_fault n same m f = misfit_fault S root text m n (stands_at n same m f).0
-
--- no parts are left of no text
-nothing_left : (text : List ℕ) (ps : List Part) → text ≡ [] → AreLeft text ps → ps ≡ []
-nothing_left text [] e h = refl
-nothing_left text (p ∷ ps) e h = let l = longer text p ps h in absurd (let z = ap length e in omega arith)
-
-pub resolves : (S : Rows) (root : ℕ) (text rest : List ℕ) (steps : List Step) (kind : Kind) → IsWalked S root text rest steps kind → rest ≡ [] → Resolves S root text steps
-resolves S root text rest steps kind w e = record {
-  name = w.name;
-  parts = w.parts;
-  last = kind;
-  reading = w.reading;
-  follows = subst (λ ps. Follows S (Table root) ps steps kind) (sym (w.all ∙ ap (λ ps. w.done ++ ps) (nothing_left rest w.left e w.are_left) ∙ append-nil w.done)) w.follows;
-}
+  -- nothing is left
+  pub all_followed : left ≡ [] → Resolves S root text steps
+  all_followed e = resolves S root text steps kind (w.done ++ []) (w.spells [] (record { are_parts = tt; spelled = e })) (subst (λ ps. Follows S (Table root) ps steps kind) (sym (append-nil w.done)) w.follows)
 
 pub resolved_fits : (S : Rows) (root : ℕ) (text : List ℕ) (steps : List Step) → IsLegal S → IsServed S → IsThere S (Table root) → Resolves S root text steps → StepsFit S (Table root) steps
 resolved_fits S root text steps legal served there r = steps_fit S legal served (Table root) r.last (field r.name ∷ r.parts) steps there r.follows

@@ -8,12 +8,8 @@ pub mod Walks
 pub mod Callers
 pub mod Shapes
 pub mod Counted
-pub mod ScanAccepts
-pub mod ScanReads
-pub mod ScanPlaces
 pub mod Words
-pub mod Cuts
-pub mod CutPieces
+pub mod Stuck
 pub mod Found
 pub mod MemberKinds
 pub mod NumberedFields

@@ -66,8 +66,7 @@ record HasKind (rows : Rows) (kind : Option Kind) : Type 0 where
 kind_of_shape : (rows : Rows) (index : ℤ) (s : Option Shape) → is_for_member s ≡ true → (is_object s && is_none (entry_at rows.objects index)) ≡ false → HasKind rows (shape_kind rows index s)
 kind_of_shape rows (pos n) (Some (One OfObject)) h e = go (slice_get rows.objects n) e where
   go : (o : Option Object) → is_none o ≡ false → HasKind rows (object_kind (pos n) Struct Table o)
-  go None e = absurd (false≢true (sym e))
-  go (Some o) e = record { is = if o.is_struct then Struct n else Table n; kept = object_kept rows n o.is_struct; fits = object_fits n o.is_struct; has = refl }
+  go object e = grind (arith, object_fits, object_kept)
 kind_of_shape rows (negsuc n) (Some (One OfObject)) h e = absurd (false≢true (sym e))
 kind_of_shape rows index (Some (One OfText)) h e = record { is = Text; kept = λ h. tt; fits = tt; has = refl }
 kind_of_shape rows index s h e = absurd (false≢true h)
@@ -101,9 +100,7 @@ value_found members v p m found e =
 
 -- and what is found by its value has a kind
 kind_found : (rows : Rows) (members : List Member) (v : ℕ) (y : Member) → ((q : ℕ) → first_code (members_asked rows members q) ≡ None) → find (λ m. is_member_value m.value && int_eq m.value (pos v)) members ≡ Some y → HasKind rows (kind_of rows y.ty)
-kind_found rows members v y clear found =
-    let t = found_there (λ m. is_member_value m.value && int_eq m.value (pos v)) members y found in
-    asked_at rows members t.0 y t.1 (clear t.0) ((and_parts (is_member_value y.value) (int_eq y.value (pos v)) t.2).0)
+kind_found rows members v y clear found = grind (arith, and_parts, asked_at, found_there, pos)
 
 looked_up : (rows : Rows) (e v : ℕ) (y : Member) (kind : Kind) → find (λ m. int_eq m.value (pos v)) (members_of rows e) ≡ Some y → kind_of rows y.ty ≡ Some kind → member_of rows e v ≡ Some kind
 unfolding member_of
@@ -123,6 +120,4 @@ in_row rows e v name legal row at union named =
     (k.is, looked_up rows e v s.0 k.is g k.has, k.kept, k.fits)
 
 pub member_there : (rows : Rows) (e v : ℕ) (name : List ℕ) → IsLegal rows → IsTrue (is_union rows e) → member_named rows e name ≡ Some v → (kind : Kind) × (member_of rows e v ≡ Some kind) × IsKept rows kind × IsOfMember kind
-member_there rows e v name legal h named =
-    let u = union_row (slice_get rows.enums e) h in
-    in_row rows e v name legal u.0 u.1 u.2 named
+member_there rows e v name legal h named = grind (arith, in_row, slice_get, union_row)

@@ -5,9 +5,10 @@ use Rattle.fb_schema.specs.Rows.{Rows}
 use Rattle.fb_access.specs.declared.{step.Step.Step, misfit.Misfit.Misfit, misfit.Fitted.Fitted, path_fault.PathFault.PathFault}
 use Rattle.fb_access.specs.declared.misfit.Misfit.TheVariants.{NoSuchField, NotIndexable, NotAUnion, NoSuchMember, NotATable}
 use Rattle.fb_access.specs.declared.path_fault.PathFault.TheVariants.{BadText, NoSuchField as NoSuchFieldAt, NotIndexable as NotIndexableAt, NotAUnion as NotAUnionAt, NoSuchMember as NoSuchMemberAt, NotATable as NotATableAt, OutOfMemory}
-use Rattle.fb_access.specs.Grammar.{Part, field, IsPath, IsReading, IsWrongAt}
-use Rattle.fb_access.specs.Resolving.{fitting, fault_of, Follows, Resolves, Misfits, IsAnswer}
-use Rattle.fb_access.proofs.{OneReading.one_reading, Following.misfit_fault}
+use Rattle.fb_access.specs.Grammar.{Part, field, IsWrongAt}
+use Rattle.fb_access.specs.Resolving.{fitting, fault_of, Follows, Misfits, IsAnswer}
+use Rattle.fb_access.specs.Cutting.{Spells}
+use Rattle.fb_access.proofs.{OneReading.one_spelling, Stuck.path_spells, Stuck.spells_path}
 
 -- a step before others
 abbrev behind : Step → Result (List Step) PathFault → Result (List Step) PathFault
@@ -41,10 +42,6 @@ module _ (S : Rows) where
 one_place : (text : List ℕ) (a b : ℕ) → IsWrongAt text a → IsWrongAt text b → a ≡ b
 one_place text a b h g = grind arith
 
--- the parts of two readings
-same_parts : (text name other : List ℕ) (parts others : List Part) → IsReading text name parts → IsReading text other others → field name ∷ parts ≡ field other ∷ others
-same_parts text name other parts others a b = let s = one_reading text name other parts others a b in ap (λ n. field n ∷ parts) s.0 ∙ ap (λ ps. field other ∷ ps) s.1
-
 module _ (S : Rows) (root : ℕ) (text : List ℕ) where
   -- an answer to a text that is no path, and to one whose parts come to something
   record IsWrong (a : Result (List Step) PathFault) : Type 0 where
@@ -53,17 +50,19 @@ module _ (S : Rows) (root : ℕ) (text : List ℕ) where
     wrong : IsWrongAt text at
 
   record IsOfPath (a : Result (List Step) PathFault) : Type 0 where
-    path : IsPath text
-    is : comes_to S 0 (field path.name ∷ path.parts) (Table root) ≡ a
+    parts : List Part
+    spells : Spells (46 ∷ text) parts
+    is : comes_to S 0 parts (Table root) ≡ a
 
   of_misfit : (m : Misfit) (n : ℕ) → Misfits S root text m n → IsOfPath (Err (fault_of m n))
   of_misfit m n w = record {
-    path = record { name = w.name; parts = w.parts; reading = w.reading };
+    parts = field w.name ∷ w.parts;
+    spells = path_spells text (record { name = w.name; parts = w.parts; reading = w.reading });
     is = rw (w.all, w.number) (stuck S 0 (Table root) w.last w.before w.after w.part w.steps m w.follows w.unfit ∙ ap (λ k. Err (fault_of m k)) (omega arith));
   }
 
   sorted : (a : Result (List Step) PathFault) → IsAnswer S root text a → IsWrong a ⊎ IsOfPath a
-  sorted (Ok steps) h = inr (record { path = record { name = h.name; parts = h.parts; reading = h.reading }; is = whole S 0 (Table root) h.last (field h.name ∷ h.parts) steps h.follows })
+  sorted (Ok steps) h = inr (record { parts = field h.name ∷ h.parts; spells = path_spells text (record { name = h.name; parts = h.parts; reading = h.reading }); is = whole S 0 (Table root) h.last (field h.name ∷ h.parts) steps h.follows })
   sorted (Err (BadText at)) h = inl (record { at = at; is = refl; wrong = h })
   sorted (Err (NoSuchFieldAt n)) h = inr (of_misfit NoSuchField n h)
   sorted (Err (NotIndexableAt n)) h = inr (of_misfit NotIndexable n h)
@@ -76,10 +75,6 @@ module _ (S : Rows) (root : ℕ) (text : List ℕ) where
   one_answer a b h g = both (sorted a h) (sorted b g) where
     both : IsWrong a ⊎ IsOfPath a → IsWrong b ⊎ IsOfPath b → a ≡ b
     both (inl x) (inl y) = x.is ∙ ap (λ at. Err (BadText at)) (one_place text x.at y.at x.wrong y.wrong) ∙ sym y.is
-    both (inl x) (inr y) = absurd (x.wrong.wrong y.path)
-    both (inr x) (inl y) = absurd (y.wrong.wrong x.path)
-    both (inr x) (inr y) = sym x.is ∙ ap (λ ps. comes_to S 0 ps (Table root)) (same_parts text x.path.name y.path.name x.path.parts y.path.parts x.path.reading y.path.reading) ∙ y.is
-
-  -- where each step is followed, none misfits
-  pub steps_or_step : (steps : List Step) (n : ℕ) (m : Misfit) → Resolves S root text steps → Misfits S root text m n → ⊥
-  steps_or_step steps n m r w = let same = one_answer (Ok steps) (Err (fault_of m n)) r (misfit_fault S root text m n w) in cc
+    both (inl x) (inr y) = absurd (x.wrong.wrong (spells_path text y.parts y.spells).0)
+    both (inr x) (inl y) = absurd (y.wrong.wrong (spells_path text x.parts x.spells).0)
+    both (inr x) (inr y) = sym x.is ∙ ap (λ ps. comes_to S 0 ps (Table root)) (one_spelling x.parts y.parts x.spells.are_parts y.spells.are_parts (sym x.spells.spelled ∙ y.spells.spelled)) ∙ y.is

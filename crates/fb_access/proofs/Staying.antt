@@ -4,13 +4,13 @@ use Rattle.std.proofs.lemmas.{Bool.Decides.nat_tests}
 use Rattle.std.specs.Prelude.{IfSome, option_map}
 use Rattle.fb_bytes.specs.Word.{word}
 use Rattle.fb_schema.specs.declared.{kinds.Kind.Kind, views.PartView.PartView}
-use Rattle.fb_schema.specs.declared.kinds.Kind.TheVariants.{Scalar, Text, Struct, Table, Scalars, Structs}
+use Rattle.fb_schema.specs.declared.kinds.Kind.TheVariants.{Text, Struct, Table}
 use Rattle.fb_schema.specs.{Rows.Rows, Kinds.scalar_size, Kinds.struct_size, Kinds.struct_align, Live.Live, Members.member_of, Parts.PartFits, Parts.part_at, Served.MemberHolds, Served.IsServed}
-use Rattle.fb_rules.specs.{Places.target, Tree.Element as Found, Tree.leaf, Tree.table, Unfolds.ElementUnfolds, WellFormed.base, declared.checks.Checks.Checks}
+use Rattle.fb_rules.specs.{Tree.Element as Found, Tree.leaf, Tree.table, Unfolds.ElementUnfolds, declared.checks.Checks.Checks}
 use Rattle.fb_rules.specs.Fields.{Lead, to_table, to_struct, to_string, to_nothing, lead_of}
 use Rattle.fb_access.specs.declared.{step.Step.Step, step.Step.TheVariants.Field, step.Step.TheVariants.Element, step.Step.TheVariants.Member, spot.Spot.Spot}
 use Rattle.fb_access.specs.declared.spot.Spot.TheVariants.{AtTable, AtScalars, AtStructs, AtScalarArray, AtStructArray, AtTexts, AtTables, AtUnions, AtUnion, AtAbsent, AtNoElement, AtOtherMember}
-use Rattle.fb_access.specs.{Fitting.numbered, Denotes.next_spot, Denotes.Reaches, Denotes.root_spot, Inside.OffsetLies, Inside.LiesInside, Inside.ValuesLieInside}
+use Rattle.fb_access.specs.{Fitting.numbered, Denotes.next_spot, Denotes.Reaches, Inside.OffsetLies, Inside.LiesInside, Inside.ValuesLieInside}
 use Rattle.fb_access.specs.Spots.{field_spot, part_spot, spot_of_part, spot_of_field, if_element, spot_of_element, member_spot, spot_of_member}
 use Rattle.fb_access.specs.Held.{IsReadable, IsTableAt, IsStructAt, IsLed, IsUnionAt, IsSpot}
 use Rattle.fb_access.proofs.{FieldSpots.field_spot_holds, FieldSpots.field_readable, Leading.led_to_table, Leading.led_to_string, Leading.led_to_struct, TableFields.table_has_vtable, StepLaws.some_same, Walks.root_placed}
@@ -35,11 +35,7 @@ module _ (b : List ℕ) (S : Rows) where
   -- a field of a struct
   pub part_stays : (k p : ℕ) (part : PartView) (kind : Kind) → IsStructAt b S k p → PartFits S (struct_size S k) part kind → IsSpot b S (spot_of_part (p + part.place) part.count kind)
   unfolding IsSpot spot_of_part
-  part_stays k p part (Scalar s) h f = omega (arith, h.within, f)
-  part_stays k p part (Struct j) h f = record { object = f.0; within = omega (arith, h.within, f.1) }
-  part_stays k p part (Scalars s) h f = omega (arith, h.within, f)
-  part_stays k p part (Structs j) h f = record { object = f.0; within = omega (arith, h.within, f.1) }
-  part_stays k p part kind h f = absurd f
+  part_stays k p part kind h f = grind arith
 
   pub part_begins : (bytes : ℕ) (part : PartView) (kind : Kind) → PartFits S bytes part kind → part.place ≤ bytes
   part_begins bytes part kind f = grind arith
@@ -120,6 +116,4 @@ module _ (b : List ℕ) (S : Rows) where
   lies q served h = grind (arith, offset_lies)
 
 pub values_lie_inside : ValuesLieInside
-values_lie_inside v served h =
-    let root = root_placed v v.root (target v.bytes (base v.start)) h refl refl in
-    (h.well_formed.starts.offset.within, λ steps q r. lies v.bytes v.schema q served (steps_stay v.bytes v.schema (root_spot v.bytes v.start v.root) steps q served root.spot r))
+values_lie_inside v served h = grind (arith, lies, root_placed, steps_stay)

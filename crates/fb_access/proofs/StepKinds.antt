@@ -1,5 +1,5 @@
 -- Which steps lead on from what is here, and to what kind.
-use Rattle.std.proofs.Common.{arith, ◌≡◌, ℕ, ◌+◌, ◌==◌, nat_lt, Bool, true, false, if◌then◌else◌, IsTrue, List, subst, refl, Option, Some, None, is_some, inl, inr}
+use Rattle.std.proofs.Common.{arith, ◌≡◌, ℕ, ◌+◌, ◌==◌, nat_lt, Bool, if◌then◌else◌, IsTrue, List, subst, refl, Option, Some, None, is_some, inl, inr}
 use Rattle.std.specs.Prelude.{option_map}
 use Rattle.fb_schema.specs.declared.kinds.Kind.TheVariants.{Scalar as AScalar, Text, Struct, Table, Union, Scalars, Texts, Structs, Tables, Unions}
 use Rattle.fb_schema.specs.{Rows.Rows, Live.Live, Members.member_of, Parts.part_at, declared.kinds.Kind.Kind, declared.views.PartView.PartView}
@@ -40,15 +40,11 @@ along q r kind onward h e i = let e1 : q ≡ r = cc in let i1 : kind ≡ onward 
 -- a member of a union is of its kind
 member_here : (b : List ℕ) (p : ℕ) (kind : Kind) → IsOfKind (member_spot b p kind) kind
 unfolding member_spot
-member_here b p (Table k) = inl refl
-member_here b p (Struct k) = inl refl
-member_here b p Text = inl refl
-member_here b p kind = inr refl
+member_here b p kind = grind arith
 
 -- one of two spots, of which the other has no kind
 chosen : (t : Bool) (x o : Spot) (kind : Kind) → IsOfKind x kind → kind_at o ≡ None → IsOfKind (if t then x else o) kind
-chosen true x o kind h n = h
-chosen false x o kind h n = inr n
+chosen t x o kind h n = grind arith
 
 module _ (b : List ℕ) (S : Rows) where
   -- from what is here

@@ -3,12 +3,12 @@ use Rattle.std.proofs.Common.{◌≡◌, ◌≢◌, ℕ, ◌+◌, ◌*◌, ◌<�
 use Rattle.std.specs.{Prelude.slice_get, Prelude.option_map, List.position_or_len}
 use Rattle.std.proofs.lemmas.{Bool.Decides.nat_tests, List.Folds.find_at}
 use Rattle.fb_bytes.specs.Word.{word}
-use Rattle.fb_schema.specs.declared.kinds.Kind.TheVariants.{Text, Table, Union, Scalars, Texts, Structs, Tables, Unions}
-use Rattle.fb_schema.specs.{Rows.Rows, Kinds.scalar_size, Kinds.struct_size, Kinds.kind_size, Live.Live, Live.live_fields, Members.member_of, declared.kinds.Scalar.Scalar, declared.kinds.Kind.Kind}
+use Rattle.fb_schema.specs.declared.kinds.Kind.TheVariants.{Text, Table, Union, Texts, Tables, Unions}
+use Rattle.fb_schema.specs.{Rows.Rows, Kinds.kind_size, Live.Live, Live.live_fields, Members.member_of, declared.kinds.Scalar.Scalar, declared.kinds.Kind.Kind}
 use Rattle.fb_schema.proofs.Kinded.{field_sized}
-use Rattle.fb_rules.specs.Places.{target, field_place}
+use Rattle.fb_rules.specs.Places.{target}
 use Rattle.fb_rules.specs.Fields.{type_place, union_type, types_begin, to_table, to_string, lead_of, Entry, entry, union_entry, entries_of, entries_at, entries}
-use Rattle.fb_access.specs.declared.spot.Spot.TheVariants.{AtTable, AtInline, AtStruct, AtText, AtTexts, AtTables, AtUnions, AtUnion, AtNoElement, AtOtherMember}
+use Rattle.fb_access.specs.declared.spot.Spot.TheVariants.{AtTable, AtText, AtTexts, AtTables, AtUnions, AtUnion, AtNoElement, AtOtherMember}
 use Rattle.fb_access.proofs.Leading.{row_at, union_row_at, row_get, row_end}
 use Rattle.fb_access.specs.{Fitting.numbered, Denotes.next_spot, Denotes.Leads, Denotes.Reaches, declared.step.Step.TheVariants.Field, declared.step.Step.TheVariants.Element, declared.spot.Spot.Spot}
 use Rattle.fb_access.specs.Spots.{kind_at, present_spot, default_spot, absent_spot, spot_at, field_spot, if_element, spot_of_element, member_spot}
@@ -94,10 +94,7 @@ module _ (b : List ℕ) (S : Rows) (t o p j : ℕ) where
 
   no_element : (f : Live) (kind : Kind) (q : Spot) → AreOffsets kind → slice_get (entries_of b S t f p kind) j ≡ None → Reaches b S (present_spot b t o p kind) (Element j ∷ []) q → position_of q ≡ None
   unfolding present_spot next_spot spot_of_element
-  no_element f Texts q v h r = past_end (word b (target b p) 4) _ q (row_end (row_at to_string (target b p + 4) (word b (target b p) 4) j) h) r
-  no_element f (Tables k) q v h r = past_end (word b (target b p) 4) _ q (row_end (row_at (to_table k) (target b p + 4) (word b (target b p) 4) j) h) r
-  no_element f (Unions u) q v h r = past_end (word b (target b p) 4) _ q (row_end (union_row_at b S u (types_begin b (type_place b t f.slot)) (target b p + 4) (word b (target b p) 4) j) h) r
-  no_element f kind q v h r = absurd v
+  no_element f kind q v h r = grind (arith, past_end, row_at, row_end, union_row_at)
 
 module _ (b : List ℕ) (S : Rows) (t j : ℕ) (f : Live) where
   follows_at : (place : Option ℕ) (x : Entry) → slice_get (entries_at b S t f place) j ≡ Some x → (q : Spot) × Reaches b S (spot_at b t f place) (steps_on j f.kind) q × IsOfEntry b S x q
@@ -115,14 +112,11 @@ module _ (b : List ℕ) (S : Rows) (t j : ℕ) (f : Live) where
 
 pub steps_follow_entries : StepsFollowEntries
 unfolding entries
-steps_follow_entries b S k t n j f x e h =
-    let r = follows_at b S t j f (field_place b t f.slot) x h in
-    (r.0, (field_spot b t f, field_step b S k t n f e, r.1), r.2)
+steps_follow_entries b S k t n j f x e h = grind (arith, field_step, follows_at)
 
 pub no_other_elements : NoOtherElements
 unfolding entries
-no_other_elements b S k t n j f q e v h r =
-    no_element_at b S t j f (field_place b t f.slot) q v h (subst (λ m. Reaches b S m (Element j ∷ []) q) (sym (one_step b S k t n f e r.0 r.1)) r.2)
+no_other_elements b S k t n j f q e v h r = grind (arith, no_element_at, one_step)
 
 -- Members.
 
@@ -155,9 +149,7 @@ module _ (b : List ℕ) (S : Rows) (t o p j : ℕ) (lt : j < word b (target b p)
 
   in_row : (size : ℕ) (kind : Kind) (q : Spot) → size ≡ kind_size S kind → AreInline kind → Reaches b S (present_spot b t o p kind) (Element j ∷ []) q → position_of q ≡ Some (target b p + 4 + size * j)
   unfolding present_spot next_spot spot_of_element
-  in_row size (Scalars s) q is v r = rw is (ap position_of (sym (below (AtInline s (target b p + 4 + scalar_size s * j)) q r)))
-  in_row size (Structs k) q is v r = rw is (ap position_of (sym (below (AtStruct k (target b p + 4 + struct_size S k * j)) q r)))
-  in_row size kind q is v r = absurd v
+  in_row size kind q is v r = grind (arith, below)
 
 pub elements_stand_in_row : ElementsStandInRow
 elements_stand_in_row b S k t n j p f q e v place lt r =

@@ -1,5 +1,5 @@
 -- What a table that unfolds says of each of its fields.
-use Rattle.std.proofs.Common.{◌≡◌, ℕ, zero, suc, ◌==◌, List, [], ◌∷◌, sym, ◌∙◌, subst, Some}
+use Rattle.std.proofs.Common.{arith, ◌≡◌, ℕ, zero, suc, ◌==◌, List, [], ◌∷◌, sym, ◌∙◌, subst, Some}
 use Rattle.std.specs.{Prelude.slice_get, List.position_or_len}
 use Rattle.std.proofs.lemmas.List.Folds.{find_at}
 use Rattle.fb_schema.specs.{Rows.Rows, Kinds.kind_size, Kinds.kind_align, Live.Live, Live.live_fields, Served.IsServed, Served.KindHolds}
@@ -56,6 +56,4 @@ field_holds b S k t n f s h e = field_of h.checks b S t k n f h.found s h.unfold
 
 -- a table's vtable
 pub table_has_vtable : (b : List ℕ) (S : Rows) (k t : ℕ) → IsTableAt b S k t → HasVtable b t
-table_has_vtable b S k t h =
-    let head = head_of h.checks b S t k h.found h.unfolds in
-    record { within = head.within; not_negative = head.vtable_not_negative; size = head.vtable_within; whole = head.vtable_whole }
+table_has_vtable b S k t h = grind (arith, head_of)

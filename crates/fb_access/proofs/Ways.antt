@@ -6,7 +6,7 @@ use Rattle.std.proofs.lemmas.Str.Parse.{IsDigitsTest, FoldsDigits, IsNumeralMode
 use Rattle.fb_schema.specs.declared.kinds.Kind.TheVariants.{Table}
 use Rattle.fb_schema.specs.Rows.{Rows}
 use Rattle.fb_rules.specs.declared.link.Link.{Link}
-use Rattle.fb_access.proofs.ScanAccepts.{AreDigits}
+use Rattle.fb_access.proofs.Words.{AreDigits}
 use Rattle.fb_access.specs.Grammar.{goes_on, is_digit, number_from, number_of, Part, field, IsName, IsNumber, IsPart, spelling}
 use Rattle.fb_access.specs.Resolving.{Follows}
 use Rattle.fb_access.specs.Location.{name_text, named, link_member, element_text, link_text, path_text}
@@ -95,9 +95,7 @@ module _ (S : Rows) (link : Link) (h : IsNamed S link) where
   parts_are = ap (λ n. field_parts n ++ element_parts link.element ++ member_parts (link_member S link)) h.found
 
   text_is : link_text S link ≡ h.name ++ spelling behind
-  text_is = ap (λ n. named [] n ++ element_text link.element ++ named (codes "@") (link_member S link)) h.found
-      ∙ append_assoc (name_text h.name) (element_text link.element) (named (codes "@") (link_member S link))
-      ∙ (λ i. kept_name h.name h.is_name i ++ sym behind_spelled i)
+  text_is = grind (arith, append_assoc, behind_spelled, codes, kept_name)
 
 -- all parts of links, and how they are spelled
 all_are : (S : Rows) (links : List Link) → AreNamed S links → AllByRecursion IsPart (parts_of S links)

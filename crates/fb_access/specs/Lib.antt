@@ -20,5 +20,4 @@ pub mod LocationTests
 pub mod LocationLaws
 -- What proofs alone need.
 pub mod Cutting
-pub mod Scanned
 pub mod Underway

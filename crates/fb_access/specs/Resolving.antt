@@ -92,11 +92,6 @@ pub record Misfits (S : Rows) (root : ℕ) (text : List ℕ) (misfit : Misfit) (
   pub follows : Follows S (Table root) before steps last
   pub unfit : fitting S last part ≡ Err misfit
 
--- the first step that doesn't fit stands at this kind, where there is such a step
-abbrev pub IsMisfitAt : Rows → ℕ → List ℕ → Option Kind → Type 0
-IsMisfitAt S root text (Some kind) = (misfit : Misfit) × (step : ℕ) × (m : Misfits S root text misfit step) × (m.last ≡ kind)
-IsMisfitAt S root text None = (misfit : Misfit) (step : ℕ) → Misfits S root text misfit step → ⊥
-
 -- the fault of the step of this number
 abbrev pub fault_of : Misfit → ℕ → PathFault
 fault_of NoSuchField step = NoSuchFieldAt step

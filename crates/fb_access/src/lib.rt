@@ -15,7 +15,6 @@ pub mod path_laws;
 mod pieces;
 mod place;
 pub mod place_laws;
-mod scan;
 mod spot;
 pub mod step;
 pub mod step_laws;
@@ -26,6 +25,7 @@ pub use extent::Extent;
 pub use location::{
     LocationText, field_of, location_of, object_name, place_of, put_location, write_location,
 };
+pub use misfit::element_kind;
 pub use path::{Path, misfit_at};
 pub use path_fault::PathFault;
 pub use place::{Place, at_root, get};

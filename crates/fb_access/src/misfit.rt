@@ -64,7 +64,8 @@ fn part_step(schema: &Schema<'_>, object: u32, name: &[u8]) -> Result<Fitted, Mi
     }
 }
 
-fn element_kind(kind: Kind) -> Option<Kind>
+/// The kind of the elements of a vector or array, none of what is neither.
+pub fn element_kind(kind: Kind) -> Option<Kind>
     ensures { result ≡ element_kind kind }
 {
     match kind {

@@ -1,15 +1,14 @@
 // Paths: steps from a root table, written by names.
 
-ghost use Rattle.std.specs.Prelude.{◌≡◌, IfOk, IfErr, IfSome, IsTrue};
+ghost use Rattle.std.specs.Prelude.{◌≡◌, ◌∷◌, ℕ, IfOk, IfErr, IfSome, IsTrue};
 ghost use Rattle.fb_schema.specs.declared.kinds.Kind.{Kind};
-ghost use Rattle.fb_schema.specs.Rows.{is_table};
-ghost use Rattle.fb_access.specs.{Grammar.IsPath, Fitting.StepsFit, Kept.IsThere};
-ghost use Rattle.fb_access.specs.Resolving.{IsMisfitAt, Resolves, Refuses, fault_of};
+ghost use Rattle.fb_schema.specs.Rows.{Rows, is_table};
+ghost use Rattle.fb_access.specs.{Cutting.IsStuck, Fitting.StepsFit, Kept.IsThere};
+ghost use Rattle.fb_access.specs.Resolving.{IsFault, Resolves, Refuses, fault_of};
 
 use crate::misfit::{Misfit, fit};
 use crate::path_fault::PathFault;
-use crate::pieces::cut_part;
-use crate::scan::check_text;
+use crate::pieces::{Next, first_part, next_part, wrong_from};
 use crate::step::Step;
 use fb_schema::{Kind, Schema};
 use std::alloc::{Allocator, Global};
@@ -53,13 +52,8 @@ impl<A: Allocator> Path<A> {
         ensures fit { IfOk result (λ p. StepsFit schema.now (Kind.Table root) p) }
         ensures refused { IfErr result (λ f. Refuses schema.now root text.now f) }
     {
-        match check_text(text) {
-            Ok(()) => {
-                let steps = follow(alloc, schema, root, text)?;
-                Ok(Path { steps })
-            }
-            Err(at) => Err(PathFault::BadText { at }),
-        }
+        let steps = follow(alloc, schema, root, text)?;
+        Ok(Path { steps })
     }
 
     /// The steps, from the root on.
@@ -83,15 +77,25 @@ fn fault_at(misfit: Misfit, step: u64) -> PathFault
     }
 }
 
-/// The steps that the parts of a path are from the root.
+/// The fault of a text that is no path from these last bytes of it on.
+#[tactic(auto, using(crate::proofs::Stuck::stuck_wrong, crate::proofs::Stuck::no_longer))]
+fn bad_text(text: &[u8], bad: &[u8]) -> PathFault
+    requires { IsStuck (46 ∷ text.now) bad.now }
+    ensures { (rows : Rows) (root : ℕ) → IsFault rows root text.now result }
+{
+    PathFault::BadText {
+        at: (text.len() - bad.len()) as u64,
+    }
+}
+
+/// The steps that the parts of a path's text are from the root.
 fn follow<A: Allocator>(
     alloc: A,
     schema: &Schema<'_>,
     root: u32,
     text: &[u8],
 ) -> Result<Vec<Step, A>, PathFault>
-    requires root { IsTrue (is_table schema.now root) }
-    requires path { IsPath text.now }
+    requires { IsTrue (is_table schema.now root) }
     ensures steps { IfOk result (λ p. Resolves schema.now root text.now p.items) }
     ensures fit { IfOk result (λ p. StepsFit schema.now (Kind.Table root) p.items) }
     ensures refused { IfErr result (λ f. Refuses schema.now root text.now f) }
@@ -99,41 +103,48 @@ fn follow<A: Allocator>(
     schema.lawful();
     let mut steps = Vec::new(alloc);
     let mut kind = Kind::Table(root);
-    let mut rest = text;
-    while let Some(part) = cut_part(rest) {
-        match fit(schema, kind, part.piece) {
+    let mut next = first_part(text);
+    while let Next::Part(piece, rest) = next {
+        match fit(schema, kind, piece) {
             Ok(fitted) => {
                 let Ok(()) = steps.push(fitted.step) else {
                     return Err(PathFault::OutOfMemory);
                 };
                 kind = fitted.kind;
             }
-            Err(misfit) => return Err(fault_at(misfit, steps.len() as u64)),
+            Err(misfit) => {
+                return Err(match wrong_from(rest) {
+                    Some(bad) => bad_text(text, bad),
+                    None => fault_at(misfit, steps.len() as u64),
+                });
+            }
         }
-        rest = part.rest;
+        next = next_part(rest);
     }
-    Ok(steps)
+    match next {
+        Next::Wrong(bad) => Err(bad_text(text, bad)),
+        _ => Ok(steps),
+    }
 }
 
 /// The kind at which the first step of a path's text stands that doesn't fit, from the table `root` on; none where the
 /// text is no path, or each step fits. So whoever tells of the fault can tell what there is. It takes no memory.
 pub fn misfit_at(schema: &Schema<'_>, root: u32, text: &[u8]) -> Option<Kind>
     requires { IsTrue (is_table schema.now root) }
-    ensures kind { IsMisfitAt schema.now root text.now result }
-    ensures there { IfSome result (IsThere schema.now) }
+    ensures { IfSome result (IsThere schema.now) }
 {
-    let Ok(()) = check_text(text) else {
-        return None;
-    };
     schema.lawful();
     let mut kind = Kind::Table(root);
-    let mut rest = text;
-    while let Some(part) = cut_part(rest) {
-        let Ok(fitted) = fit(schema, kind, part.piece) else {
-            return Some(kind);
+    let mut next = first_part(text);
+    while let Next::Part(piece, rest) = next {
+        let Ok(fitted) = fit(schema, kind, piece) else {
+            return match wrong_from(rest) {
+                Some(_) => None,
+                None => Some(kind),
+            };
         };
         kind = fitted.kind;
-        rest = part.rest;
+        next = next_part(rest);
     }
     None
 }

@@ -1,10 +1,8 @@
-// The parts of a text that is a path.
+// The parts of a path's text, one after another.
 
-ghost use Rattle.std.specs.Prelude.{◌≡◌, ◌↔◌, ◌≤◌, [], length, take, drop, IsTrue, IsNone, IfSome};
-ghost use Rattle.std.specs.List.{AllByRecursion};
-ghost use Rattle.fb_access.specs.{Grammar.is_digit, Grammar.number_of, Cutting.word_length, Cutting.IsCuttable, Cutting.IsCut};
-
-use crate::scan::goes_on;
+ghost use Rattle.std.specs.Prelude.{◌≡◌, ◌∷◌, IfOk, IfErr, IfSome, IfNone};
+ghost use Rattle.fb_access.specs.Grammar.{is_digit, begins_name, goes_on};
+ghost use Rattle.fb_access.specs.Cutting.{next_digit, IsWord, IsNamed, HasNoName, IsNumbered, IsStuck, IsNext, IsRead};
 
 /// A part of a path's text.
 #[derive(Clone, Copy)]
@@ -17,85 +15,146 @@ pub enum Piece<'t> {
     Member(&'t [u8]),
 }
 
-/// The first part of a text, and the text after it.
+/// What a text begins with.
 #[derive(Clone, Copy)]
-pub struct Cut<'t> {
-    pub piece: Piece<'t>,
-    pub rest: &'t [u8],
+pub enum Next<'t> {
+    /// A part, and the text after it.
+    Part(Piece<'t>, &'t [u8]),
+    /// Nothing: no text is left.
+    End,
+    /// No part. A path can go on up to here, and with no byte of this.
+    Wrong(&'t [u8]),
 }
 
-/// How many letters, digits and `_` the text begins with.
-#[tactic(auto, using(crate::proofs::Words::length_goes_on, crate::proofs::Words::length_ends, crate::proofs::Words::length_at_end))]
-fn word_length(text: &[u8]) -> usize
-    ensures value { result ≡ word_length text.now }
-    ensures within { result ≤ length text.now }
+fn begins_name(byte: u8) -> bool
+    ensures { result ≡ begins_name byte }
 {
-    for (at, byte) in text.iter().enumerate() {
-        if !goes_on(*byte) {
-            return at;
-        }
-    }
-    text.len()
+    byte.is_ascii_alphabetic() || byte == b'_'
 }
 
-/// The number that digits write.
-fn number_of(digits: &[u8]) -> u32
-    requires digits { AllByRecursion (λ x. IsTrue (is_digit x)) digits.now }
-    requires small { number_of digits.now ≤ 4294967295 }
-    ensures { result ≡ number_of digits.now }
+fn goes_on(byte: u8) -> bool
+    ensures { result ≡ goes_on byte }
 {
-    let mut number = 0;
-    for digit in digits {
-        number = 10 * number + u32::from(*digit - b'0');
-    }
-    number
+    begins_name(byte) || byte.is_ascii_digit()
 }
 
 /// The letters, digits and `_` that a text begins with, and what is after them.
+#[tactic(auto, using(crate::proofs::Words::word_ends))]
 fn split_word<'t>(text: &'t [u8]) -> (&'t [u8], &'t [u8])
-    ensures word { result.0.now ≡ take (word_length text.now) text.now }
-    ensures rest { result.1.now ≡ drop (word_length text.now) text.now }
+    ensures { IsWord text.now result.0.now result.1.now }
 {
-    text.split_at(word_length(text))
+    for (at, byte) in text.iter().enumerate() {
+        if !goes_on(*byte) {
+            return text.split_at(at);
+        }
+    }
+    text.split_at(text.len())
 }
 
-/// The first part of what is left of a path's text, none where nothing is left. A path's first name, and it alone,
-/// stands without a dot.
-pub fn cut_part<'t>(text: &'t [u8]) -> Option<Cut<'t>>
-    requires { IsCuttable text.now }
-    ensures none { IsNone result ↔ (text.now ≡ []) }
-    ensures some { IfSome result (λ cut. IsCut text.now cut.piece cut.rest.now) }
+/// The name that a text begins with, and what is after it.
+fn cut_name<'t>(text: &'t [u8]) -> Option<(&'t [u8], &'t [u8])>
+    ensures some { IfSome result (λ cut. IsNamed text.now cut.0.now cut.1.now) }
+    ensures none { IfNone result (HasNoName text.now) }
 {
-    let (mark, after) = text.split_first()?;
+    match text.first() {
+        Some(byte) if begins_name(*byte) => Some(split_word(text)),
+        _ => None,
+    }
+}
+
+/// The number so far and one more digit; none where no number goes on so.
+#[tactic(auto, unfolding(crate::specs::Cutting::next_digit))]
+fn next_digit(number: Option<u32>, byte: u8) -> Option<u32>
+    ensures { result ≡ next_digit number byte }
+{
+    if !byte.is_ascii_digit() {
+        return None;
+    }
+    let digit = byte - 48;
+    match number {
+        None => Some(u32::from(digit)),
+        Some(0) => None,
+        Some(value) => {
+            let next = 10 * u64::from(value) + u64::from(digit);
+            if next <= 4294967295 {
+                Some(next as u32)
+            } else {
+                None
+            }
+        }
+    }
+}
+
+/// The number that a text begins with, and what is after the bracket that closes it.
+///
+/// # Errors
+///
+/// From the byte on with which no number goes on.
+fn cut_number<'t>(text: &'t [u8]) -> Result<(u32, &'t [u8]), &'t [u8]>
+    ensures number { IfOk result (λ cut. IsNumbered text.now cut.0 cut.1.now) }
+    ensures stuck { IfErr result (λ bad. IsStuck (91 ∷ text.now) bad.now) }
+{
+    let mut number = None;
+    let mut left = text;
+    while let Some((byte, rest)) = left.split_first() {
+        if *byte == b']' {
+            return match number {
+                Some(value) => Ok((value, rest)),
+                None => Err(left),
+            };
+        }
+        let Some(next) = next_digit(number, *byte) else {
+            return Err(left);
+        };
+        number = Some(next);
+        left = rest;
+    }
+    Err(left)
+}
+
+/// The first part of a path's text: a field's name, without a dot.
+#[tactic(auto, using(crate::proofs::Stuck::no_field, crate::proofs::Stuck::field_cut))]
+pub fn first_part<'t>(text: &'t [u8]) -> Next<'t>
+    ensures { IsNext (46 ∷ text.now) result }
+{
+    match cut_name(text) {
+        Some((name, rest)) => Next::Part(Piece::Field(name), rest),
+        None => Next::Wrong(text),
+    }
+}
+
+/// The next part, of what is left of a path's text behind a part.
+#[tactic(auto, using(crate::proofs::Stuck::no_mark, crate::proofs::Stuck::no_member, crate::proofs::Stuck::member_cut, crate::proofs::Stuck::element_cut))]
+pub fn next_part<'t>(text: &'t [u8]) -> Next<'t>
+    ensures { IsNext text.now result }
+{
+    let Some((mark, after)) = text.split_first() else {
+        return Next::End;
+    };
     match *mark {
-        b'[' => {
-            let (digits, rest) = split_word(after);
-            let number = number_of(digits);
-            Some(Cut {
-                piece: Piece::Element(number),
-                rest: &rest[1..],
-            })
-        }
-        b'@' => {
-            let (name, rest) = split_word(after);
-            Some(Cut {
-                piece: Piece::Member(name),
-                rest,
-            })
-        }
-        b'.' => {
-            let (name, rest) = split_word(after);
-            Some(Cut {
-                piece: Piece::Field(name),
-                rest,
-            })
-        }
-        _ => {
-            let (name, rest) = split_word(text);
-            Some(Cut {
-                piece: Piece::Field(name),
-                rest,
-            })
-        }
+        b'.' => first_part(after),
+        b'@' => match cut_name(after) {
+            Some((name, rest)) => Next::Part(Piece::Member(name), rest),
+            None => Next::Wrong(after),
+        },
+        b'[' => match cut_number(after) {
+            Ok((number, rest)) => Next::Part(Piece::Element(number), rest),
+            Err(bad) => Next::Wrong(bad),
+        },
+        _ => Next::Wrong(text),
+    }
+}
+
+/// From which byte on a text is no row of parts; none where parts follow one another to its end.
+pub fn wrong_from<'t>(text: &'t [u8]) -> Option<&'t [u8]>
+    ensures { IsRead text.now result }
+{
+    let mut next = next_part(text);
+    while let Next::Part(_, rest) = next {
+        next = next_part(rest);
+    }
+    match next {
+        Next::Wrong(bad) => Some(bad),
+        _ => None,
     }
 }

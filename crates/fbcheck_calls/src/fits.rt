@@ -1,13 +1,13 @@
 //! Whether paths fit a schema, which no buffer has a part in.
 
 ghost use Rattle.std.specs.Prelude.{◌≡◌, ◌↔◌, IsTrue, MatchOption, option_map};
-ghost use Rattle.fb_access.specs.Fitting.{element_kind, next_kind, numbered};
+ghost use Rattle.fb_access.specs.Fitting.{next_kind, numbered};
 ghost use Rattle.fb_schema.specs.declared.kinds.Kind.TheVariants.{Table};
 ghost use Rattle.fb_schema.specs.{Live.live_of_view, Members.member_of};
 ghost use Rattle.fbcheck_calls.specs.Steps.{AllFit, FitFrom, FitsFrom, IsFirstMisfit};
 
 use crate::steps::{PlainPath, PlainStep};
-use fb_access::Step;
+use fb_access::{Step, element_kind};
 use fb_schema::{FieldView, Kind, Schema};
 
 /// The live field of a table with this number, none where it is no table.
@@ -27,20 +27,6 @@ pub fn live_field<'s, 'n>(
         }
     }
     None
-}
-
-/// The kind of a vector's elements.
-fn element_kind(kind: Kind) -> Option<Kind>
-    ensures { result ≡ element_kind kind }
-{
-    match kind {
-        Kind::Scalars(scalar) => Some(Kind::Scalar(scalar)),
-        Kind::Texts => Some(Kind::Text),
-        Kind::Structs(object) => Some(Kind::Struct(object)),
-        Kind::Tables(table) => Some(Kind::Table(table)),
-        Kind::Unions(union) => Some(Kind::Union(union)),
-        Kind::Scalar(_) | Kind::Text | Kind::Struct(_) | Kind::Table(_) | Kind::Union(_) => None,
-    }
 }
 
 /// The kind of a union's member with this value.

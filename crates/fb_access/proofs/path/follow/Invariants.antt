@@ -1,15 +1,15 @@
-use Rattle.std.proofs.Common.{length}
-use Rattle.fb_access.specs.Kept.{IsThere}
-use Rattle.fb_access.proofs.Following.{IsWalked}
+use Rattle.std.proofs.Common.{List, ℕ}
+use Rattle.fb_access.specs.{Cutting.IsNext, Kept.IsThere}
+use Rattle.fb_access.proofs.Following.{IsWalked, left_of}
 use Rattle.fb_access.proofs.path.follow.Given as goal
 
--- the parts before the rest are these steps
-abbrev pub invariant-loop-part : goal.invariant-loop-part
-invariant-loop-part g l = record {
+-- the parts before what is left are these steps
+abbrev pub invariant-loop-next : goal.invariant-loop-next
+invariant-loop-next g l = record {
   there : IsThere l.schema l.kind;
-  walked : IsWalked l.schema l.root l.text l.rest l.steps.items l.kind;
+  left : (left : List ℕ) × IsNext left l.next × IsWalked l.schema l.root l.text left l.steps.items l.kind;
 }
 
--- each part shortens the rest
-abbrev pub decreases-loop-part : goal.decreases-loop-part
-decreases-loop-part g l = length l.rest
+-- each part shortens what is left
+abbrev pub decreases-loop-next : goal.decreases-loop-next
+decreases-loop-next g l = left_of l.next

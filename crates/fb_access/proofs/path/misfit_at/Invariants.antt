@@ -1,16 +1,15 @@
-use Rattle.std.proofs.Common.{List, length}
-use Rattle.fb_access.specs.Kept.{IsThere}
-use Rattle.fb_access.specs.declared.step.Step.{Step}
-use Rattle.fb_access.proofs.Following.{IsWalked}
+use Rattle.std.proofs.Common.{List, ℕ}
+use Rattle.fb_access.specs.{Cutting.IsNext, Kept.IsThere}
+use Rattle.fb_access.proofs.Following.{left_of}
 use Rattle.fb_access.proofs.path.misfit_at.Given as goal
 
--- the parts before the rest are some steps
-abbrev pub invariant-loop-part : goal.invariant-loop-part
-invariant-loop-part l = record {
+-- what stands here is there
+abbrev pub invariant-loop-next : goal.invariant-loop-next
+invariant-loop-next l = record {
   there : IsThere l.schema l.kind;
-  walked : (steps : List Step) × IsWalked l.schema l.root l.text l.rest steps l.kind;
+  left : (left : List ℕ) × IsNext left l.next;
 }
 
--- each part shortens the rest
-abbrev pub decreases-loop-part : goal.decreases-loop-part
-decreases-loop-part l = length l.rest
+-- each part shortens what is left
+abbrev pub decreases-loop-next : goal.decreases-loop-next
+decreases-loop-next l = left_of l.next
