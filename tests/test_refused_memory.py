@@ -86,9 +86,10 @@ RUNS = [
     Plan("strict checks, over a stream", [*LOADED, *PATH, "--strict"], POST, 1),
     Plan("no schema, over a schema file", ["--bare"], SCHEMA.read_bytes(), 0),
     # Want of memory ends it all: no file behind is begun, and none is named beside it.
-    Plan("two files, one behind another", [*LOADED, *PATH, *NAMED], b"", 1),
-    Plan("two bare files", [*LOADED, "--bare", "--no-alignment", *[file_of("bare.bin", BARE)] * 2], b"", 0),
-    Plan("standard input behind a file", [*LOADED, *PATH, NAMED[0], "-"], POST, 1),
+    Plan("two files, one behind another", [*LOADED, *PATH, *NAMED], b"", 1, waits=8),
+    Plan("two bare files", [*LOADED, "--bare", "--no-alignment", *[file_of("bare.bin", BARE)] * 2], b"", 0,
+         waits=4),
+    Plan("standard input behind a file", [*LOADED, *PATH, NAMED[0], "-"], POST, 1, waits=4),
 ]
 
 # Words that are answered before any input is read. Where memory is refused nothing is written to standard output: help

@@ -138,7 +138,7 @@ class Summary(Case):
         short = len(named_lines(parts[:1]))
         for room, count in [
             (0, 1), (short - 1, 1), (short, 2), (short + 1, 2), (short + 40, 2), (65_536, 2), (100_000, 2),
-            (180_000, 2), (len(told) - 40, 3), (len(told) - 1, 3),
+            (180_000, 2), (len(told) - 40, 2), (len(told) - 1, 3),
         ]:
             for write in 65_536, 999:
                 self.same(f"room for {room} bytes, {write} at a write",

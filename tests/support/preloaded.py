@@ -112,9 +112,11 @@ def sweep(words, given, extent, most=WHOLE):
 class Plan:
     """A run of the program: its words and its input, and the status by which it ends where nothing is refused.
 
-    `guesses` is how many of its requests may be refused alone without a change. Where a list is collected, the
-    toolchain's library first asks for room for as many items as there may be; where that is refused, it asks for what
-    it needs. Every run collects its words so. `most` is how many bytes of the input one read gives.
+    `guesses` is how many of its requests before the first read may be refused alone without a change. Where a list is
+    collected, the toolchain's library first asks for room for as many items as there may be; where that is refused, it
+    asks for what it needs. Every run collects its words so. What is to wait for an output is written as it is where
+    there is no room: so any request behind the first read of standard input may be refused without a change, and for
+    files before that as many as `waits`. `most` is how many bytes of the input one read gives.
     """
 
     name: str
@@ -122,6 +124,7 @@ class Plan:
     given: bytes
     status: int
     guesses: int = 1
+    waits: int = 0
     most: int = WHOLE
 
     def faults(self, extent, may_be_written):
@@ -139,13 +142,13 @@ class Plan:
             fronts.add(ran.out)
             if ran.refused == 0:
                 faults.append(f"request {first} was not met")
-            elif (ran.status, ran.out, ran.err) == (whole.status, whole.out, whole.err) and ran.asked > whole.asked:
-                unchanged.append(first)
+            elif (ran.status, ran.out, ran.err) == (whole.status, whole.out, whole.err):
+                unchanged += [first] if first <= before_reads else []
             elif (ran.status, ran.err) != (3, b"fbcheck: out of memory\n") or not may_be_written(ran.out, whole.out):
                 faults.append(f"request {first}: {ran.status}, {ran.out!r}, {ran.err!r}")
             elif first <= before_reads and ran.reads:
                 faults.append(f"request {first} is refused, and the input is read")
-        if len(unchanged) > (self.guesses if extent == ALONE else 0):
+        if len(unchanged) > self.waits + (self.guesses if extent == ALONE else 0):
             faults.append(f"refused without a change: {unchanged}")
         parts = fronts - {b"", whole.out}
         if may_be_written is is_front and whole.out.count(b"\n") > 1 and not parts:
