@@ -32,12 +32,11 @@ WITH_GDAL = unittest.skipUnless(there("ogr2ogr"), "ogr2ogr isn't there")
 BY_HEADER = ["--schema", SCHEMA, "--root", HEADER]
 BY_FEATURE = ["--schema", SCHEMA]
 STRICTEST = ["--strict", "--known-fields", "--utf8"]
-# Where a geometry's first number may stand: in its own points, in those of its first part, or of that one's.
-FIRST = ["geometry.xy[0]", "geometry.parts[0].xy[0]", "geometry.parts[0].parts[0].xy[0]"]
-PATHS = [
-    *FIRST, "geometry.type", "geometry.ends", "geometry.parts", "geometry.xy", "geometry.xy[1]", "geometry.z",
-    "geometry.z[0]", "geometry.m", "geometry.m[0]", *(f"properties[{number}]" for number in (0, 2, 3, 4)),
-]
+PATHS = ["geometry.type", "geometry.ends", "geometry.parts", "geometry.xy", "geometry.z", "geometry.m",
+         *(f"properties[{number}]" for number in (0, 2, 3, 4))]
+# Where a geometry's first point may stand: in its own points, in those of its first part, or of that one's.
+FIRST = [f"geometry{where}.{name}" for where in ("", ".parts[0]", ".parts[0].parts[0]")
+         for name in ("xy[0]", "xy[1]", "z[0]", "m[0]")]
 # Vectors whose elements need more to be aligned than their count does, which C++ doesn't ask.
 WIDE = {"envelope", "xy", "z", "m", "t", "tm"}
 # The example's parts.
@@ -60,37 +59,34 @@ def vector(count):
 
 
 def wanted(layer, row):
-    """What a feature has at these paths, by what GDAL reads."""
+    """What a feature has at these paths, by what GDAL reads, with its first point."""
     text, number = row["WKT"], int(row["id"])
     kind = next(kind for kind in KINDS if kind and kind.upper() == text.split(" ")[0])
-    first = points(text)[0]
+    first = dict(zip("XY" + layer.dims, points(text)[0]))
     count = 0 if kind in OF_PARTS else len(points(text))
-    found = {
-        "first": first[0],
+    return {
         "geometry.type": KINDS.index(kind),
         "geometry.ends": vector(lines(text) if kind in OF_LINES else 0),
         "geometry.parts": vector(parts(text) if kind in OF_PARTS else 0),
         "geometry.xy": vector(2 * count),
-        "geometry.xy[1]": first[1] if count else None,
+        "geometry.z": vector(count if "Z" in layer.dims else 0),
+        "geometry.m": vector(count if "M" in layer.dims else 0),
         "properties[0]": 0,
         **{f"properties[{2 + place}]": byte for place, byte in enumerate(number.to_bytes(3, "little"))},
+        "first": [first.get(name) for name in "XYZM"],
     }
-    for name, letter in [("geometry.z", "Z"), ("geometry.m", "M")]:
-        has = count and letter in layer.dims
-        found[name] = vector(has and count)
-        found[f"{name}[0]"] = first[2 + layer.dims.index(letter)] if has else None
-    return found
 
 
-def joined(layer, got):
-    """The values with a geometry's first number under one name, wherever it stands, and with what needn't be written:
-    the type that the header has, and the end of a single line."""
-    firsts = [got.pop(path) for path in FIRST]
-    found = {"first": next((first for first in firsts if first is not None), None), **got}
-    found["geometry.type"] = found["geometry.type"] or KINDS.index(layer.kind)
-    if KINDS[found["geometry.type"]] in OF_LINES:
-        found["geometry.ends"] = found["geometry.ends"] or vector(1)
-    return found
+def found(layer, stream):
+    """The same of each feature of a stream, as fbcheck reads it, with what needn't be written: the type that the header
+    has, and the end of a single line."""
+    words = [*BY_FEATURE, *STRICTEST]
+    for got, first in zip(values(words, PATHS, stream), values(words, FIRST, stream), strict=True):
+        got["geometry.type"] = got["geometry.type"] or KINDS.index(layer.kind)
+        if KINDS[got["geometry.type"]] in OF_LINES:
+            got["geometry.ends"] = got["geometry.ends"] or vector(1)
+        points = [[first[path] for path in FIRST[place : place + 4]] for place in (0, 4, 8)]
+        yield {**got, "first": next((point for point in points if point[0] is not None), None)}
 
 
 @WITH_GDAL
@@ -123,7 +119,7 @@ class Files(Case):
                 ran = run(*BY_FEATURE, "--quiet", "--summary", given=file.features)
                 text = f"summary: messages={layer.count} yes={layer.count} no=0 ".encode()
                 self.same(f"{file.path.name}: plainly", (ran.status, ran.out, ran.err[:len(text)]), (0, b"", text))
-                got = [joined(layer, row) for row in values([*BY_FEATURE, *STRICTEST], PATHS, file.features)]
+                got = list(found(layer, file.features))
                 if not file.is_indexed:
                     by_number = lambda row: [row[f"properties[{place}]"] for place in (4, 3, 2)]
                     got, want = sorted(got, key=by_number), sorted(want, key=by_number)
