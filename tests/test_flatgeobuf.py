@@ -283,8 +283,12 @@ class Page(Case):
 
     @unittest.skipUnless(there("flatc"), "flatc isn't there")
     def test_schema_file(self):
-        """The schema file is what flatc makes of the schema."""
+        """The schema file is what flatc makes of the schema, with built-in attributes."""
         folder = FOLDER / "made again"
-        building.run("flatc", "--binary", "--schema", "--bfbs-builtins", "--bfbs-filenames", EXAMPLE, "-o", folder,
-                     EXAMPLE / "flatgeobuf.fbs")
+        words = ["flatc", "--binary", "--schema", "--bfbs-filenames", EXAMPLE, "-o", folder]
+        building.run(*words, "--bfbs-builtins", EXAMPLE / "flatgeobuf.fbs")
         self.same("it's the same", (folder / SCHEMA.name).read_bytes(), SCHEMA.read_bytes())
+        building.run(*words, EXAMPLE / "flatgeobuf.fbs")
+        ran = run("--schema", folder / SCHEMA.name, "--strict")
+        text = b"strict can't tell which bytes are nested buffers or flexbuffers: FlatGeobuf.Feature.properties;"
+        self.holds("without built-in attributes --strict can't tell", ran.status == 2 and text in ran.err, ran)
