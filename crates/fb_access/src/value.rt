@@ -87,7 +87,7 @@ fn low_bytes(number: u64, scalar: Scalar) -> u64
 }
 
 /// An absent scalar with this default.
-#[tactic(auto, using(crate::proofs::Counted::number_fits), unfolding(crate::specs::Denotes::default_value))]
+#[tactic(auto, unfolding(crate::specs::Denotes::default_value))]
 fn default_at<'b>(default: i64, scalar: Scalar) -> Answer<'b>
     ensures shown { shown result ≡ default_value scalar default }
     ensures fits { FitsScalar scalar result }
