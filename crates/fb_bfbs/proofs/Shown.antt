@@ -11,7 +11,7 @@ use Rattle.fb_access.specs.Denotes.{Shown, Leads, next_spot, truth, signed, unsi
 use Rattle.fb_access.specs.Here.{Shows}
 use Rattle.fb_access.proofs.StepLaws.{some_same}
 use Rattle.fb_bfbs.specs.{Fixed.fixed, Says.Says, Says.after, Says.AreRows, Says.IsDouble, Says.HasDouble, Loads.told, Examples.RealFile, Examples.DetailedFile}
-use Rattle.fb_bfbs.specs.Describes.{IsTypeRow, IsDefault, IsFieldRow, IsObjectRow, IsMemberRow, IsEnumRow, Describes}
+use Rattle.fb_bfbs.specs.Describes.{IsTypeRow, IsDefault, is_float, IsFieldRow, IsObjectRow, IsMemberRow, IsEnumRow, Describes}
 use Rattle.fb_bfbs.specs.Samples.{plain, hp_field, name_field, monster_object, plain_rows, reals, float_field, double_field, real_object, real_rows, detailed, old_field, far_field, struct_object, no_member, one_member, a_union, an_enum, detailed_rows}
 use Rattle.fb_bfbs.proofs.Composed.{Carries, type_within, field_within, object_within, member_within, enum_within, rows_within}
 
@@ -54,7 +54,7 @@ type_row b t ty (base, element, index, length) = record { base = said b _ 0 _ ba
 
 -- a table Field of a file, by the values of its fields and by its Type at t
 field_row : (b : List ℕ) (p t : ℕ) (f : Field) → Leads b fixed (AtTable 4 p) (ToField 1) (AtTable 0 t) → IsTypeRow (From b (AtTable 0 t)) f.ty
-    → (told_by b (AtTable 4 p) 0 ≡ Some (text f.name)) × (told_by b (AtTable 4 p) 3 ≡ Some (unsigned f.slot)) × IsDefault (From b (AtTable 4 p)) (f.ty).base f.default
+    → (told_by b (AtTable 4 p) 0 ≡ Some (text f.name)) × (told_by b (AtTable 4 p) 3 ≡ Some (unsigned f.slot)) × IsDefault (From b (AtTable 4 p)) (is_float (f.ty).base) f.default
     → (told_by b (AtTable 4 p) 6 ≡ Some (truth f.deprecated)) × (told_by b (AtTable 4 p) 7 ≡ Some (truth f.required)) × (told_by b (AtTable 4 p) 11 ≡ Some (truth f.optional)) × (told_by b (AtTable 4 p) 13 ≡ Some (truth f.offset64))
     → IsFieldRow (From b (AtTable 4 p)) f
 field_row b p t f to ty (name, slot, default) (deprecated, required, optional, offset64) = record {

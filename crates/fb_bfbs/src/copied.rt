@@ -5,7 +5,7 @@ ghost use Rattle.std.specs.Prelude.{vec_len};
 ghost use Rattle.fb_schema.specs.Rows.{field_of, object_of, member_of_row, enum_of};
 ghost use Rattle.fb_access.specs.declared.step.Step.TheVariants.{Field as ToField};
 ghost use Rattle.fb_bfbs.specs.{Says.after, Seen.seen, Seen.IsAt};
-ghost use Rattle.fb_bfbs.specs.Describes.{IsTypeRow, IsTypeOrNone, IsFieldRow, IsObjectRow, IsMemberRow, IsEnumRow, IsDefault};
+ghost use Rattle.fb_bfbs.specs.Describes.{IsTypeRow, IsTypeOrNone, IsFieldRow, IsObjectRow, IsMemberRow, IsEnumRow, IsDefault, is_float};
 
 use crate::lists::{FromTable, rows_in};
 use crate::values::{bool_in, double_in, int_in, table_or_none, text_in, ushort_in};
@@ -46,11 +46,12 @@ fn union_type(place: &Place) -> TypeRow
 /// The default of a field of this base type: of a Float or Double the bits of its real one, of others its integer.
 fn default_in(place: &Place, base: i8) -> i64
     requires { IsAt place.now (Kind.Table 4) }
-    ensures { IsDefault (seen place.now) base result }
+    ensures { IsDefault (seen place.now) (is_float base) result }
 {
-    match base {
-        FLOAT | DOUBLE => double_in(place, 5).cast_signed(),
-        _ => int_in(place, 4),
+    if base == FLOAT || base == DOUBLE {
+        double_in(place, 5).cast_signed()
+    } else {
+        int_in(place, 4)
     }
 }
 
@@ -63,8 +64,8 @@ impl<'b> FromTable<'b> for FieldRow<'b> {
     ghost listed = { λ row. 0 };
 
     fn from_table(_alloc: Global, place: &Place<'_, 'b, '_, '_>) -> Result<Self, AllocError> {
-        let of_type = place.go(Step::Field(1));
-        let ty = type_row(&of_type);
+        let type_place = place.go(Step::Field(1));
+        let ty = type_row(&type_place);
         Ok(FieldRow {
             name: text_in(place, 0),
             ty,
