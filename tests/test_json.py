@@ -16,7 +16,7 @@ from tests.support.builder import Plain, buffer, prefixed
 from tests.support.cases import Case
 from tests.support.every_kind import FILE, LITTLE, OBJECTS, UNION, WHOLE, variants
 from tests.support.json_lines import Float, names_of, read, said
-from tests.support.naive import Schema
+from tests.support.naive import Reader, Schema
 from tests.support.program import FOLDER, PROGRAM, TOP, Ran, file_of, lines, run
 from tests.test_beside_naive import PATHS
 
@@ -74,12 +74,15 @@ class Json(Case):
         """Buffers of every kind, cut off and changed: a reader of JSON gets what the plain lines say."""
         for which, root in [("all fields", WHOLE), ("few fields", LITTLE)]:
             data = buffer(root, b"KIND", prefix=True)[4:]
-            stream = b"".join(map(prefixed, variants(data, [1, 252])))
+            messages = [*map(prefixed, variants(data, [1, 252]))]
+            stream = b"".join(messages)
             for path in [None, *PATHS]:
                 words = [] if path is None else ["--path", path]
                 plain = run(*BY_ALL, "--names", *words, given=stream)
                 told = run(*BY_ALL, "--json", *words, given=stream)
-                wants = [said(line, NAMES, words[1:]) for line in plain.out.splitlines()]
+                values = lambda line, message: [Reader(ALL, 0, message).value(path)] if path and b" ok " in line else ()
+                wants = [said(line, NAMES, words[1:], values(line, message))
+                         for line, message in zip(plain.out.splitlines(), messages)]
                 got = [read(line) for line in told.out.split(b"\n")[:-1]]
                 differing = [pair for pair in zip(got, wants) if pair[0] != pair[1]]
                 self.same(f"{which}, {path}: lines that differ", differing[:3], [])

@@ -5,6 +5,8 @@ import math
 import re
 import struct
 
+from tests.support.naive import Default
+
 WORDS = re.compile(rb'"(?:[^"\\]|\\.)*"|\S+')
 ESCAPE = re.compile(rb'\\(?:x([0-9a-f]{2})|(.))')
 
@@ -98,12 +100,14 @@ def counts_of(words):
     return {name: int(number) for name, number in (word.decode().split("=") for word in words)}
 
 
-def said(line, names, paths=()):
+def said(line, names, paths=(), values=()):
     """What the line of JSON says where this is the plain one, with the place in words: names has the name of each object
-    and those of its fields by their numbers."""
+    and those of its fields by their numbers, and values, if given, the naive reader's texts of the values, by which the
+    defaults of floats are known."""
     number, verdict, *words = words_of(line)
     if verdict == b"ok":
-        values = {path: value_of(word) for path, word in zip(paths, words[3:])}
+        known = {path: Float(text.data) for path, text in zip(paths, values) if isinstance(text, Default)}
+        values = {path: value_of(word) for path, word in zip(paths, words[3:])} | known
         told = {"message": int(number), "ok": True, **counts_of(words[:3])}
         return {**told, "values": values} if paths else told
     code, reason, at, place, field, reads, _, way, _ = (word.decode() for word in words)
