@@ -142,8 +142,8 @@ class Recipes(Case):
     PAGE = (TOP / "examples/jq.md").read_text()
 
     def picked(self, kind, numbers, form, recipe):
-        """Which of these numbers, each a field of a message, jq passes on by a recipe of the page."""
-        by = file_of("by.bfbs", schemas.schema([schemas.table("T", schemas.field("hp", kind, 4))], root="T"))
+        """Which of these numbers, each an optional field of a message, jq passes on by a recipe of the page."""
+        by = file_of("by.bfbs", schemas.schema([schemas.table("T", schemas.field("hp", kind, 4, optional=True))], root="T"))
         stream = b"".join(prefixed(buffer({} if number is None else {0: (form, number)})) for number in numbers)
         told = run("--schema", by, "--json", "--path", "hp", "--no-alignment", given=stream + prefixed(b"bad")).out
         ran = subprocess.run(["jq", "-c", recipe], input=told, capture_output=True, timeout=60)
@@ -194,7 +194,7 @@ class Recipes(Case):
 
     def test_csv(self):
         """The program for CSV, as it is printed: a row for each good message, whose columns all stand."""
-        rows = ['"1","Ada",2.5,3', '"18446744073709551615","Eve",,', '"3","Fay",,', '"4","Gus",-0.5,', '"5","Hal",,']
+        rows = ['"1","Ada",2.5,3', '"18446744073709551615","Eve",0,', '"3","Fay",0,', '"4","Gus",-0.5,', '"5","Hal",0,']
         self.same("of the examples", self.csv(), (1, rows, ""))
         shown = re.findall(r"^# (\".*)$", self.PAGE.split("@csv'\n")[1].split("```")[0], re.M)
         self.same("the rows that are printed below it are the first", shown, rows[:len(shown)])

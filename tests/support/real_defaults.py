@@ -16,7 +16,9 @@ FIELDS = [
     ("large", FLOAT, 1e300, '"Infinity"', INFINITY), ("wide_large", DOUBLE, 1e300, "1e300", 1e300),
     ("odd", FLOAT, 16777217.0, "16777216.0", 16777216.0), ("wide_odd", DOUBLE, 16777217.0, "16777217.0", 16777217.0),
 ]
-INNER = [field("f", FLOAT, 4, real=2.5), field("d", DOUBLE, 6, real=-0.1), field("maybe", FLOAT, 8, real=2.5, optional=True)]
+INNER = [
+    field("f", FLOAT, 4, real=2.5), field("d", DOUBLE, 6, real=-0.1), field("maybe", FLOAT, 8, real=2.5, optional=True),
+]
 COUNT = len(FIELDS)
 ROWS = [
     table("Real", *(field(name, kind, 4 + 2 * at, real=real) for at, (name, kind, real, _, _) in enumerate(FIELDS)),
@@ -27,7 +29,8 @@ ROWS = [
 ]
 FILE = schema(ROWS, root="Real")
 # Of its tables `inner` and the first of the list have none of their floats, and the second has d.
-MESSAGE = buffer({COUNT: {}, COUNT + 2: [{}, {1: ("d", 3.25)}]})
+ROOT = {COUNT: {}, COUNT + 2: [{}, {1: ("d", 3.25)}]}
+MESSAGE = buffer(ROOT)
 # The path, what the plain line has, what the line of JSON has, and the number in calls, None where nothing is.
 VALUES = [
     *((name, "absent", told, number) for name, _, _, told, number in FIELDS),
