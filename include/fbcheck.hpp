@@ -220,18 +220,19 @@ class Value {
                         kind() == FBCHECK_UNION;
         return is ? std::optional(told_.number) : std::nullopt;
     }
-    // A Float or Double. Nullopt for an absent one, even if it has a default.
+    // A Float or Double, or the default of an absent one.
     std::optional<double> real() const noexcept {
+        if (kind() == FBCHECK_DEFAULT_FLOAT) return as<double>(&told_.number);
         if (kind() != FBCHECK_FLOAT) return std::nullopt;
-        return bytes_.size() == sizeof(float) ? double(as<float>()) : as<double>();
+        return bytes_.size() == sizeof(float) ? double(as<float>(bytes_.data())) : as<double>(bytes_.data());
     }
     // The bytes of a text, a Float, a Double, a struct, or a vector of scalars or structs; none for other values.
     Bytes bytes() const noexcept { return bytes_; }
 
   private:
-    template <class Number> Number as() const noexcept {
+    template <class Number> static Number as(const void *bytes) noexcept {
         Number number;
-        std::memcpy(&number, bytes_.data(), sizeof number);
+        std::memcpy(&number, bytes, sizeof number);
         return number;
     }
     fbcheck_value told_{};

@@ -88,10 +88,11 @@ class BesideNaive(Case):
         self.as_json(name, schema_and_root[0], spans_in(given), ran, placed, told=told)
         return wants
 
-    def as_json(self, name, schema, spans, ran, wants, paths=(), told=()):
-        """Each line of JSON says to a reader of JSON what the walk says of its buffer."""
-        names = names_of(schema)
-        wanted = [said(f"{number} {want}".encode(), spans, names, paths) for number, want in enumerate(wants, 1)]
+    def as_json(self, name, schema, spans, ran, wants, paths=(), told=(), values=None):
+        """Each line of JSON says to a reader of JSON what the walk says of its buffer, and the reader of its values."""
+        names, values = names_of(schema), values or [()] * len(wants)
+        wanted = [said(f"{number} {want}".encode(), spans, names, paths, values[number - 1])
+                  for number, want in enumerate(wants, 1)]
         got = [read(line) for line in ran.out.split(b"\n")[:-1]]
         differing = [pair for pair in zip(got, wanted) if pair[0] != pair[1]]
         self.same(f"{name}: lines of JSON that differ, with what is expected", differing[:3], [])
@@ -165,7 +166,7 @@ class BesideNaive(Case):
             self.same(f"{path} of each", (len(got), differing[:2]), (len(given), []))
             ran = run(*by, "--json", "--path", path, given=b"".join(map(prefixed, given)))
             told = [f"{verdict} {want}" for verdict, want in zip(verdicts, wants)]
-            self.as_json(f"{path} of each", ALL, spans_in(given), ran, told, [path])
+            self.as_json(f"{path} of each", ALL, spans_in(given), ran, told, [path], values=[[want] for want in wants])
 
     def test_values_by_many_paths(self):
         """Of some of them, the values at as many paths as may be, in the order in which these are asked for."""

@@ -14,13 +14,14 @@ A driver reads commands, one a line, and writes what each answers, and behind it
 """
 
 import os
+import pathlib
 import re
 import shutil
 import struct
 import subprocess
 import unittest
 
-from tests.support import schemas
+from tests.support import real_defaults, schemas
 from tests.support.buffers import (
     ASKEW, HALVES, MEMBER, MEMBERS, NO_TEXT, NOTHING, ORC, PLACED, PLAIN, POST, THIRD_SLOT, TWINS, WILD, doubling,
     levels, lower_type, named,
@@ -30,7 +31,7 @@ from tests.support.every_kind import FILE, LITTLE, OPTIONS, PLACE, WHOLE, varian
 from tests.support.generated import Kept
 from tests.support.header import Reason
 from tests.support.library import OUT, LibraryCase, ran
-from tests.support.naive import NAMES
+from tests.support.naive import NAMES, Default, Reader
 from tests.support.program import FOLDER, TOP, file_of, run
 from tests.support.schemas import INT, TEXT, U_BYTE, a_union, an_object, field, schema, table, union
 from tests.support.strict_messages import MESSAGES
@@ -60,12 +61,26 @@ def options_of(options):
     return " ".join(f"{name}={value}" for name, value in told.items())
 
 
-def value_of(line):
+def default_of(file, root, data, path):
+    """The default of a float by the naive reader, where the float is absent."""
+    rows = Kept("", pathlib.Path(file))
+    number = rows.schema.names.index(root) if root else rows.root
+    text = Reader(rows.schema, number, data, prefix=False).value(path)
+    return f"float:{wide(text.data).hex()}" if isinstance(text, Default) else None
+
+
+def wide(data):
+    """The bytes of the double that is the float of these bytes."""
+    return struct.pack("<d", *struct.unpack("<f" if len(data) == 4 else "<d", data))
+
+
+def value_of(line, default=None):
     """A value of a line of the program as a driver writes it, where a vector has no bytes."""
+    if default is not None:
+        return default
     text = line.partition("reads=")[2].partition(" ")[2]
     if text.startswith("float:"):
-        data = bytes.fromhex(text[6:])
-        return f"float:{struct.pack('<d', *struct.unpack('<f' if len(data) == 4 else '<d', data)).hex()}"
+        return f"float:{wide(bytes.fromhex(text[6:])).hex()}"
     return f"text:{text[1:-1].encode().hex()}" if text.startswith('"') else text
 
 
@@ -274,14 +289,25 @@ class Binding:
                          f"read {file_of(f'value{number}', data)} {path}"]
         for (name, data, path), got in zip(rows, self.told(*commands)[1::2]):
             name, _, root = name.partition(" ")
-            words = ["--schema", FILES.get(name, ALL), *(["--root", root] if root else []), "--path", path]
-            want = value_of(run("--bare", *words, given=data).out.decode().strip())
+            file = FILES.get(name, ALL)
+            words = ["--schema", file, *(["--root", root] if root else []), "--path", path]
+            line = run("--bare", *words, given=data).out.decode().strip()
+            want = value_of(line, default_of(file, root, data, path))
             self.same(f"{path} of {name}", re.sub(r"(vector:\d+):.*", r"\1", got), want)
         whole = file_of("whole", buffer(WHOLE))
         commands = [f"load {ALL}", f"read {whole} bytes longs", f"read {whole} places texts", f"read {whole} name name"]
         want = [f"vector:3:{b'abc'.hex()} vector:2:{struct.pack('<2q', 1, 2).hex()}",
                 f"vector:2:{PLACE.hex() * 2} vector:3:", f"text:{b'name'.hex()} text:{b'name'.hex()}"]
         self.same("several at once", self.told(*commands)[1:], want)
+
+    def test_real_defaults(self):
+        """Absent floats have their defaults, and an absent optional one, or one of an absent table, has none."""
+        file, data = file_of("reals.bfbs", real_defaults.FILE), file_of("reals.bin", real_defaults.MESSAGE)
+        rows = real_defaults.VALUES
+        commands = [f"load {file}", *(f"read {data} {row[0]}" for row in rows)]
+        for (path, plain, _, number), got in zip(rows, self.told(*commands)[1:]):
+            want = plain if number is None else f"float:{struct.pack('<d', number).hex()}"
+            self.same(path, got, want)
 
     def test_errors(self):
         """The texts of the program for schema files, paths and messages, with what was asked for."""

@@ -17,7 +17,7 @@ import threading
 import time
 import timeit
 
-from tests.support import buffers, schemas
+from tests.support import buffers, real_defaults, schemas
 from tests.support.buffers import ORC, PLAIN, POST, named
 from tests.support.builder import Plain, buffer, prefixed
 from tests.support.every_kind import FILE, LITTLE, WHOLE, variants
@@ -121,13 +121,13 @@ IN_NUMPY = """
 import sys
 import fbcheck, numpy
 schema = fbcheck.Schema(sys.argv[1], prefixed=True)
-columns = schema.columns(open(sys.argv[2], "rb"), ("id", "price", "to.age", "to.name", "stamps"), bad="skip")
-ids, prices, ages, names, stamps = columns
-for column in (ids, prices, ages, columns.skipped):
+columns = schema.columns(open(sys.argv[2], "rb"), ("id", "price", "floor", "to.age", "to.name", "stamps"), bad="skip")
+ids, prices, floors, ages, names, stamps = columns
+for column in (ids, prices, floors, ages, columns.skipped):
     made, again = numpy.asarray(column), numpy.asarray(column)
     print(made.dtype, made.tolist(), numpy.shares_memory(made, again), made.flags.writeable)
-valid = numpy.asarray(prices.valid)
-print(valid.dtype, valid.tolist(), numpy.asarray(prices)[valid].tolist(), numpy.packbits(valid, bitorder="little"))
+valid = numpy.asarray(floors.valid)
+print(valid.dtype, valid.tolist(), numpy.asarray(floors)[valid].tolist(), numpy.packbits(valid, bitorder="little"))
 numbers, offsets = numpy.asarray(stamps.data), numpy.asarray(stamps.offsets)
 print(numbers.dtype, numbers.tolist(), offsets.dtype, offsets.tolist())
 print(numpy.asarray(names).tolist(), numpy.asarray(names.data).dtype, ages.valid)
@@ -136,10 +136,11 @@ del schema, columns, ids
 print(first.tolist())
 """
 OF_NUMPY = """uint64 [1, 18446744073709551615, 3, 4, 5] True False
-float32 [2.5, nan, nan, -0.5, nan] True False
+float32 [2.5, 0.0, 0.0, -0.5, 0.0] True False
+int32 [0, 0, 0, 12, 0] True False
 int16 [36, -1, -1, 71, -1] True False
 uint64 [5] True False
-bool [True, False, False, True, False] [2.5, -0.5] [9]
+bool [True, False, False, True, False] [0, 12] [9]
 int16 [100, -5, 32767] int64 [0, 3, 3, 3, 3, 3]
 ['Ada', 'Eve', 'Fay', 'Gus', 'Hal'] uint8 None
 [1, 18446744073709551615, 3, 4, 5]
@@ -265,6 +266,15 @@ class Columns(LibraryCase):
 
         self.same("the same", asyncio.run(told()), [*checker.messages(POST, paths=OF_ORDERS)])
 
+    def test_real_defaults(self):
+        """Absent floats have their defaults, which aren't missing even where they are nan."""
+        rows = [row for row in real_defaults.VALUES if "." not in row[0]]
+        columns = self.by(real_defaults.FILE).columns(message(real_defaults.ROOT), [row[0] for row in rows])
+        for (path, _, _, number), column in zip(rows, columns):
+            letter = "d" if path.startswith("wide") or path == "maybe" else "f"
+            self.same(path, (column.format, [*map(repr, column)], column.valid and column.valid.tolist()),
+                      (letter, [repr(number)], [False] if number is None else None))
+
     def test_numbers(self):
         """Each type of numbers at its bounds, and where it is missing, in a column of that type."""
         rows = [field(name, kind, 4 + 2 * at) for at, (name, kind, _) in enumerate(NUMBERS)]
@@ -276,13 +286,13 @@ class Columns(LibraryCase):
                 letter, (0, 2**size - 1) if letter.isupper() else (-(2 ** (size - 1)), 2 ** (size - 1) - 1))
             given = [message({at: (letter, value), 18 + at: (letter, value)}) for value in bounds]
             whole, missing = checker.columns([*given, message({}), given[0]], (name, f"no_{name}"))
-            absent = None if letter in "fd" else False if letter == "?" else 0
+            absent = {"?": False, "f": 0.0, "d": 0.0}.get(letter, 0)
             self.same(f"{name}", [*map(repr, whole)], [*map(repr, [*bounds, absent, bounds[0]])])
             self.same(f"no_{name}", [*map(repr, missing)], [*map(repr, [*bounds, None, bounds[0]])])
             self.same(f"{name}: its format", (whole.format, missing.format), (letter, letter))
             valid = [True] * len(bounds) + [False, True]
             self.same(f"{name}: what is there", missing.valid.tolist(), valid)
-            self.same(f"{name}: all are", whole.valid and whole.valid.tolist(), valid if letter in "fd" else None)
+            self.same(f"{name}: all are", whole.valid, None)
             hole = missing.data[len(bounds)]
             is_hole = math.isnan(hole) if letter in "fd" else hole == 0
             self.holds(f"{name}: what stands for one that isn't", is_hole, hole)
@@ -334,22 +344,22 @@ class Columns(LibraryCase):
 
     def test_as_sequences(self):
         checker = self.by(ORDERS)
-        columns = checker.columns(POST, ("price", "to.name", "id"), bad="skip")
-        prices, names, ids = columns
-        self.same("from the end", (prices[-2], names[-1], ids[-5]), (-0.5, "Hal", 1))
-        self.same("slices", (prices[::2], names[1:3], ids[9:]), ([2.5, None, None], ["Eve", "Fay"], []))
-        told = names.index("Gus"), names.count("x"), "Ada" in names, 3 in ids, [*reversed(prices)]
-        self.same("as others have it", told, (3, 0, True, True, [None, -0.5, None, None, 2.5]))
+        columns = checker.columns(POST, ("floor", "to.name", "id"), bad="skip")
+        floors, names, ids = columns
+        self.same("from the end", (floors[-2], names[-1], ids[-5]), (12, "Hal", 1))
+        self.same("slices", (floors[::2], names[1:3], ids[9:]), ([0, None, None], ["Eve", "Fay"], []))
+        told = names.index("Gus"), names.count("x"), "Ada" in names, 3 in ids, [*reversed(floors)]
+        self.same("as others have it", told, (3, 0, True, True, [None, 12, None, None, 0]))
         for column in columns:
             for at in (5, -6, 2**70):
                 self.fails(f"{column}[{at}]", IndexError, "", lambda: column[at])
-        self.same("as texts", [*map(repr, columns)], ["<Column of 5 'f', 3 missing>", "<Slices of 5, 0 missing>",
+        self.same("as texts", [*map(repr, columns)], ["<Column of 5 'i', 3 missing>", "<Slices of 5, 0 missing>",
                                                       "<Column of 5 'Q', 0 missing>"])
         for name, again in [("pickled", pickle.loads(pickle.dumps(columns))), ("copied", copy.deepcopy(columns))]:
             self.same(f"{name}, the same", ([*map(list, again)], [*again.skipped], again.verdicts, type(again)),
                       ([*map(list, columns)], [5], columns.verdicts, type(columns)))
             self.same(f"{name}: what it has", (again[0].valid.tolist(), again[1].offsets.tolist(), again[2].format),
-                      (prices.valid.tolist(), names.offsets.tolist(), "Q"))
+                      (floors.valid.tolist(), names.offsets.tolist(), "Q"))
         made = lambda *words: self.module.Column(*words)
         self.same("one that is made", [*made("i", struct.pack("<2i", 5, -1), None)], [5, -1])
         for words, kind in [(("i", b"12345", None), ValueError), (("s", b"", None), ValueError),

@@ -16,7 +16,7 @@ from tests.support.builder import Plain, buffer, prefixed
 from tests.support.cases import Case
 from tests.support.every_kind import FILE, LITTLE, OBJECTS, UNION, WHOLE, variants
 from tests.support.json_lines import Float, names_of, read, said, spans_of
-from tests.support.naive import Schema
+from tests.support.naive import Reader, Schema
 from tests.support.program import FOLDER, PROGRAM, TOP, Ran, file_of, lines, run
 from tests.test_beside_naive import PATHS
 
@@ -76,13 +76,16 @@ class Json(Case):
         """Buffers of every kind, cut off and changed: a reader of JSON gets what the plain lines say."""
         for which, root in [("all fields", WHOLE), ("few fields", LITTLE)]:
             data = buffer(root, b"KIND", prefix=True)[4:]
-            stream = b"".join(map(prefixed, variants(data, [1, 252])))
+            messages = [*map(prefixed, variants(data, [1, 252]))]
+            stream = b"".join(messages)
             for path in [None, *PATHS]:
                 words = [] if path is None else ["--path", path]
                 plain = run(*BY_ALL, "--names", *words, given=stream)
                 told = run(*BY_ALL, "--json", *words, given=stream)
                 spans = spans_of(stream)
-                wants = [said(line, spans, NAMES, words[1:]) for line in plain.out.splitlines()]
+                values = lambda line, message: [Reader(ALL, 0, message).value(path)] if path and b" ok " in line else ()
+                wants = [said(line, spans, NAMES, words[1:], values(line, message))
+                         for line, message in zip(plain.out.splitlines(), messages)]
                 got = [read(line) for line in told.out.split(b"\n")[:-1]]
                 differing = [pair for pair in zip(got, wants) if pair[0] != pair[1]]
                 self.same(f"{which}, {path}: lines that differ", differing[:3], [])
@@ -142,8 +145,8 @@ class Recipes(Case):
     PAGE = (TOP / "examples/jq.md").read_text()
 
     def picked(self, kind, numbers, form, recipe):
-        """Which of these numbers, each a field of a message, jq passes on by a recipe of the page."""
-        by = file_of("by.bfbs", schemas.schema([schemas.table("T", schemas.field("hp", kind, 4))], root="T"))
+        """Which of these numbers, each an optional field of a message, jq passes on by a recipe of the page."""
+        by = file_of("by.bfbs", schemas.schema([schemas.table("T", schemas.field("hp", kind, 4, optional=True))], root="T"))
         stream = b"".join(prefixed(buffer({} if number is None else {0: (form, number)})) for number in numbers)
         told = run("--schema", by, "--json", "--path", "hp", "--no-alignment", given=stream + prefixed(b"bad")).out
         ran = subprocess.run(["jq", "-c", recipe], input=told, capture_output=True, timeout=60)
@@ -194,7 +197,7 @@ class Recipes(Case):
 
     def test_csv(self):
         """The program for CSV, as it is printed: a row for each good message, whose columns all stand."""
-        rows = ['"1","Ada",2.5,3', '"18446744073709551615","Eve",,', '"3","Fay",,', '"4","Gus",-0.5,', '"5","Hal",,']
+        rows = ['"1","Ada",2.5,3', '"18446744073709551615","Eve",0,', '"3","Fay",0,', '"4","Gus",-0.5,', '"5","Hal",0,']
         self.same("of the examples", self.csv(), (1, rows, ""))
         shown = re.findall(r"^# (\".*)$", self.PAGE.split("@csv'\n")[1].split("```")[0], re.M)
         self.same("the rows that are printed below it are the first", shown, rows[:len(shown)])

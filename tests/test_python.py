@@ -20,7 +20,7 @@ import threading
 import time
 import timeit
 
-from tests.support import buffers, schemas
+from tests.support import buffers, real_defaults, schemas
 from tests.support.buffers import (
     ASKEW, HALVES, MEMBER, MEMBERS, NO_TEXT, ORC, PLACED, PLAIN, POST, SEVEN, THIRD_SLOT, TWINS, WILD, lower_type,
     named,
@@ -385,6 +385,12 @@ class Python(LibraryCase):
             leaf = {0: leaf}
         path = ".".join(["next"] * 30)
         self.same("at the 31st step", checker.read(buffer(leaf), f"{path}.v").format, "q")
+
+    def test_real_defaults(self):
+        """Absent floats have their defaults."""
+        rows = real_defaults.VALUES
+        got = self.module.Schema(real_defaults.FILE).read(real_defaults.MESSAGE, *[path for path, _, _, _ in rows])
+        self.same("each", [*zip([row[0] for row in rows], map(repr, got))], [(row[0], repr(row[3])) for row in rows])
 
     def test_numbers(self):
         """Each type at its bounds, alone and in vectors, which are slices of the message."""

@@ -7,6 +7,7 @@ limits and checks, but for what these words say: `root=Name`, `prefixed`, `want=
 """
 
 import re
+import struct
 
 from tests.support import buffers, edges, schemas, widths
 from tests.support.case_text import bytes_of, rows_of
@@ -15,7 +16,7 @@ from tests.support.judge import first_broken
 from tests.support.library import LibraryCase, module
 from tests.support.naive import Reader, Schema, Walk
 from tests.support.program import file_of, run
-from tests.support.told import line, text_of
+from tests.support.told import in_calls, line, text_of
 
 # - `LONGS`: a vector of one long, whose element stands at 28, which is no multiple of 8
 # - `PICKED`, `BOXED`: a union of a table, of a struct; `UNKNOWN`: of the type 9, which no member has
@@ -280,7 +281,7 @@ VALUES = [
     """),
     (FLOATS, "", """
         f | HALF  | Float([0, 0, 192, 63])
-        f | EMPTY | Absent
+        f | EMPTY | DefaultFloat(0.0)
     """),
     (DEFAULTS, "", """
         even   | EMPTY | Bool(false)
@@ -387,6 +388,8 @@ def shown(kind, value):
     name = kind.name.replace("_", " ").title().replace(" ", "").replace("Uint", "UInt")
     if name == "Text":
         return f'Text("{value.decode()}")'
+    if name == "DefaultFloat":
+        return f"{name}({struct.unpack('<d', struct.pack('<Q', value))[0]})"
     if name in ("Bool", "Int", "UInt", "Float", "Struct", "Vector", "Union"):
         value = str(value == 1).lower() if name == "Bool" else list(value) if isinstance(value, bytes) else value
         return f"{name}({value})"
@@ -465,7 +468,7 @@ class WorkedCases(LibraryCase):
                 told = asked.verifier.read(data, asked.verifier.resolve(path), asked.options())
                 self.same(f"{path} of {text}", shown(*told), want)
                 reader = Reader(asked.schema, asked.root, data, asked.prefixed)
-                self.same(f"{path} of {text} by the naive reader", reader.value(path), text_of(*told))
+                self.same(f"{path} of {text} by the naive reader", in_calls(reader.value(path)), text_of(*told))
 
     def test_paths_that_do_not_fit(self):
         python = module()

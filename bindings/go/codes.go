@@ -31,7 +31,7 @@ type Kind uint32
 
 // What stands at the end of a path, and which part of a Value has it.
 const (
-	Absent      Kind = 0  // nothing: a table on the way is absent, or the field is, and isn't a Bool or a whole number with a default
+	Absent      Kind = 0  // nothing: a table on the way is absent, or the field is, and has no default
 	NoElement   Kind = 1  // nothing: the index is past the vector's end
 	OtherMember Kind = 2  // nothing: the union has another type
 	Bool        Kind = 3  // Uint: 0 or 1

@@ -194,6 +194,8 @@ func valueOf(told *C.fbcheck_value, message []byte) Value {
 	value := Value{Kind: Kind(told.kind), Uint: uint64(told.number), Int: int64(told.integer)}
 	bytes := message[told.at : told.at+told.size : told.at+told.size]
 	switch {
+	case told.kind == C.FBCHECK_DEFAULT_FLOAT:
+		return Value{Kind: Float, Float: math.Float64frombits(uint64(told.number))}
 	case value.Kind != Float:
 		value.Bytes = bytes
 	case len(bytes) == 4:

@@ -19,7 +19,7 @@ const NUMBERS = {
   BAD_TEXT: 1, NO_SUCH_FIELD: 2, NOT_INDEXABLE: 3, NOT_A_UNION: 4, NO_SUCH_MEMBER: 5, NOT_A_TABLE: 6,
   // enum fbcheck_kind
   ABSENT: 0, NO_ELEMENT: 1, OTHER_MEMBER: 2, BOOL: 3, INT: 4, UINT: 5, FLOAT: 6, TEXT: 7, STRUCT: 8, VECTOR: 9,
-  TABLE: 10, UNION: 11,
+  TABLE: 10, UNION: 11, DEFAULT_FLOAT: 12,
   // enum fbcheck_ident
   IDENT_ANY: 0, IDENT_THIS: 1, IDENT_OWN: 2,
   // enum fbcheck_step_kind
@@ -37,7 +37,7 @@ const CODES = ['', 'NoSuchObject', 'NoSuchEnum', 'Unsupported', 'BadSlot', 'NoTy
   'NameTwice'];
 const PATH_FAULTS = ['', 'BadText', 'NoSuchField', 'NotIndexable', 'NotAUnion', 'NoSuchMember', 'NotATable'];
 const KINDS = ['absent', 'no-element', 'other-member', 'bool', 'int', 'uint', 'float', 'text', 'struct', 'vector',
-  'table', 'union'];
+  'table', 'union', 'float'];
 
 // Structs: where each field stands, with how many bytes; and how many bytes there are.
 const OPTIONS = { version: [0, 4], root: [4, 4], maxReads: [8, 8], maxDepth: [16, 4], maxTables: [20, 4],

@@ -8,7 +8,7 @@ const {
 const native = require('./fbcheck.node');
 
 const {
-  BAD, BAD_TEXT, DEEPEST, MORE, NONE, NO_ROOT, NO_SUCH_TABLE, NO_TABLE, OK, OVERSIZE, TOO_LONG, UNMARKED_BYTES,
+  BAD, BAD_TEXT, DEEPEST, DEFAULT_FLOAT, MORE, NONE, NO_ROOT, NO_SUCH_TABLE, NO_TABLE, OK, OVERSIZE, TOO_LONG, UNMARKED_BYTES,
 } = numbers;
 
 // What a call tells beside its answer, by the places that the enum in fbcheck.c gives.
@@ -236,6 +236,7 @@ class Value {
       case 'text': return Buffer.from(buffer, byteOffset, length).toString();
       case 'struct': return this.bytes;
       case 'float': {
+        if (words[KIND] === DEFAULT_FLOAT) return new Float64Array(words.slice(NUMBER, NUMBER + 2).buffer)[0];
         const view = new DataView(buffer, byteOffset);
         return length === 4 ? view.getFloat32(0, true) : view.getFloat64(0, true);
       }

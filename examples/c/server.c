@@ -97,7 +97,7 @@ static void tell_text(const uint8_t *bytes, uint64_t size)
 static void tell_value(const fbcheck_value *value, const uint8_t *message)
 {
     static const char *const labels[] = { "absent", "no-element", "other-member", "", "", "", "float:", "", "struct:",
-                                          "vector:", "table", "union:" };
+                                          "vector:", "table", "union:", "absent" };
     const uint8_t *bytes = message + value->at;
     printf(" %s", labels[value->kind]);
     switch ((enum fbcheck_kind)value->kind) {
@@ -126,6 +126,7 @@ static void tell_value(const fbcheck_value *value, const uint8_t *message)
     case FBCHECK_NO_ELEMENT:
     case FBCHECK_OTHER_MEMBER:
     case FBCHECK_TABLE:
+    case FBCHECK_DEFAULT_FLOAT: /* as the program's lines tell it */
         break;
     }
 }

@@ -27,7 +27,8 @@ static std::string words_of(const fbcheck::Value &value) {
         case FBCHECK_BOOL: return *value.number() ? "true" : "false";
         case FBCHECK_INT: return std::to_string(*value.integer());
         case FBCHECK_UINT: return std::to_string(*value.number());
-        case FBCHECK_FLOAT: return "real:" + std::to_string(*value.real());
+        case FBCHECK_FLOAT:
+        case FBCHECK_DEFAULT_FLOAT: return "real:" + std::to_string(*value.real());
         case FBCHECK_TEXT: return "\"" + std::string(*value.text()) + "\"";
         case FBCHECK_STRUCT: return "struct:" + hexadecimal();
         case FBCHECK_VECTOR: return "vector:" + std::to_string(*value.number());

@@ -7,7 +7,7 @@ from tests.support import schemas
 from tests.support.naive import Reader, Schema, Walk
 from tests.support.paths import names_in, text_of, told, ways
 from tests.support.swept import SCHEMAS
-from tests.support.told import line, texts_of
+from tests.support.told import in_calls, line, texts_of
 from tests.support.tree import Builder
 
 PAST_BUDGET = 7
@@ -75,7 +75,7 @@ class Beside:
         """Pairs of the values at the ends of all paths in a good buffer: what the library tells, and what it should.
         There are none where all values are the same."""
         told = texts_of(self.verifier.read_each(data, self.paths, options))
-        wanted = Reader(self.schema, self.root, data, self.prefixed).values(self.ways)
+        wanted = [in_calls(text) for text in Reader(self.schema, self.root, data, self.prefixed).values(self.ways)]
         return [] if told == wanted else itertools.zip_longest(told, wanted)
 
     def of_place(self, data, options, verdict, walk):

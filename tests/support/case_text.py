@@ -31,8 +31,9 @@ def field_of(text):
     head, kind, *words = text.split()
     name, slot = head.split("@")
     default = [int(word.removeprefix("default=")) for word in words if word.startswith("default=")]
+    real = [float(word.removeprefix("real=")) for word in words if word.startswith("real=")]
     flags = {FLAGS[word]: True for word in words if word in FLAGS}
-    return schemas.field(name, typed(kind), int(slot), *default, **flags)
+    return schemas.field(name, typed(kind), int(slot), *(default or [0]), *real, **flags)
 
 
 def member_of(text):

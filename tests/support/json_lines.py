@@ -5,6 +5,8 @@ import math
 import re
 import struct
 
+from tests.support.naive import Default
+
 WORDS = re.compile(rb'"(?:[^"\\]|\\.)*"|\S+')
 ESCAPE = re.compile(rb'\\(?:x([0-9a-f]{2})|(.))')
 
@@ -108,14 +110,16 @@ def spans_of(stream):
     return spans
 
 
-def said(line, spans, names, paths=()):
+def said(line, spans, names, paths=(), values=()):
     """What the line of JSON says where this is the plain one, with the place in words: spans has where each message
-    begins and its length, and names the name of each object and those of its fields by their numbers."""
+    begins and its length, names the name of each object and those of its fields by their numbers, and values, if given,
+    the naive reader's texts of the values, by which the defaults of floats are known."""
     number, verdict, *words = words_of(line)
     begin, size = spans[int(number) - 1]
     stands = {"message": int(number), "begin": begin, "bytes": size}
     if verdict == b"ok":
-        values = {path: value_of(word) for path, word in zip(paths, words[3:])}
+        known = {path: Float(text.data) for path, text in zip(paths, values) if isinstance(text, Default)}
+        values = {path: value_of(word) for path, word in zip(paths, words[3:])} | known
         told = {**stands, "ok": True, **counts_of(words[:3])}
         return {**told, "values": values} if paths else told
     code, reason, at, place, field, reads, _, way, _ = (word.decode() for word in words)

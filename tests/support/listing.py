@@ -2,6 +2,8 @@
 JSON as flatc writes it.
 """
 
+import struct
+
 from tests.support import schemas
 from tests.support.naive import number_at
 
@@ -10,7 +12,7 @@ SCALARS = dict(enumerate([
     ("UType", 1), ("Bool", 1), ("Byte", 1), ("UByte", 1), ("Short", 2), ("UShort", 2),
     ("Int", 4), ("UInt", 4), ("Long", 8), ("ULong", 8), ("Float", 4), ("Double", 8),
 ], 1))
-TEXT, VECTOR, OBJECT, UNION = 13, 14, 15, 16
+FLOAT, DOUBLE, TEXT, VECTOR, OBJECT, UNION = 11, 12, 13, 14, 15, 16
 
 
 class Listing:
@@ -58,7 +60,7 @@ class Listing:
             companion = f"Some({below})"
         line = (
             f"field {field.get('id', 0)} slot={field['offset']} name={spelled(field['name'])} kind={kind}"
-            f" default={field.get('default_integer', 0)} required={written(field, 'required')}"
+            f" default={default_of(field)} required={written(field, 'required')}"
             f" optional={written(field, 'optional')} size={size} align={align} companion={companion}"
         )
         return [line, *(self.members(field["type"]["index"]) if companion != "None" else [])]
@@ -86,6 +88,13 @@ class Listing:
             yield from self.object(number)
 
 
+def default_of(field):
+    """The default that a look-up answers: of a Float or Double the bits of its real one."""
+    if field["type"].get("base_type") in (FLOAT, DOUBLE):
+        return struct.unpack("<q", struct.pack("<d", field.get("default_real", 0)))[0]
+    return field.get("default_integer", 0)
+
+
 def written(table, name):
     return "true" if table.get(name) else "false"
 
@@ -103,7 +112,7 @@ def described_type(row):
 
 def described_field(row):
     """A field, whose number is that of its slot, whatever the row has as its id."""
-    words = {3: "offset", 4: "default_integer", 6: "deprecated", 7: "required", 11: "optional"}
+    words = {3: "offset", 4: "default_integer", 5: "default_real", 6: "deprecated", 7: "required", 11: "optional"}
     told = {words[at]: number_at(row, at) for at in words}
     return {"name": row[0], "type": described_type(row[1]), "id": (told["offset"] - 4) // 2, **told}
 

@@ -5,6 +5,7 @@ Its schemas are the rows that schemas.py makes schema files of.
 
 import functools
 import itertools
+import math
 import re
 import struct
 
@@ -12,7 +13,7 @@ SIZES = [0, 1, 1, 1, 1, 2, 2, 4, 4, 8, 8, 4, 8]
 LETTERS = " BBbBhHiIqQfd"
 # How the numbers that these letters stand for are unpacked, and the four bytes of an identifier.
 UNPACK = {letter: struct.Struct(f"<{letter}").unpack_from for letter in [*"BbHhIiQqfd", "4s"]}
-BOOL, FLOAT = 2, 11
+BOOL, FLOAT, DOUBLE = 2, 11, 12
 TEXT, VECTOR, OBJECT, UNION, ARRAY = 13, 14, 15, 16, 17
 # How the bytes of a text are written that don't stand for themselves.
 MARKS = {byte: f"\\x{byte:02x}" for byte in range(256) if not 0x20 <= byte <= 0x7E} | {0x22: '\\"', 0x5C: "\\\\"}
@@ -42,7 +43,7 @@ class Field:
         self.name, self.slot, self.required = row[0], number_at(row, 3), number_at(row, 7)
         self.number = (self.slot - 4) // 2
         self.base, self.element, self.index = number_at(kind, 0), number_at(kind, 1), number_at(kind, 2)
-        self.default, self.optional = number_at(row, 4), number_at(row, 11)
+        self.default, self.real, self.optional = number_at(row, 4), number_at(row, 5), number_at(row, 11)
         self.length = number_at(kind, 3)
 
 
@@ -371,7 +372,7 @@ class Reader:
             return field, at + field.slot, None
         here = self.slot(at, field.slot)
         if here is None:
-            return "absent" if field.optional or field.base >= FLOAT else default_text(field.base, field.default)
+            return "absent" if field.optional or field.base > DOUBLE else default_text(field)
         if field.base == UNION:
             types = self.slot(at, field.slot - 2)
             return field, here, self.read("B", types) if types else 0
@@ -414,8 +415,26 @@ class Reader:
         return f"struct:{self.data[at : at + sizes[0]].hex()}" if sizes else "table"
 
 
+class Default(str):
+    """The default of a float, by its bytes. A plain line tells it as absent."""
+
+    def __new__(cls, data):
+        made = super().__new__(cls, "absent")
+        made.data = data
+        return made
+
+
+def default_text(field):
+    if field.base < FLOAT:
+        return whole_text(field.base, field.default)
+    try:
+        return Default(struct.pack(f"<{LETTERS[field.base]}", field.real))
+    except OverflowError:
+        return Default(struct.pack("<f", math.copysign(math.inf, field.real)))
+
+
 @functools.cache
-def default_text(base, default):
+def whole_text(base, default):
     return number_text(base, struct.pack("<q", default)[: SIZES[base]])
 
 

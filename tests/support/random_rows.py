@@ -1,9 +1,10 @@
 """Rows of schemas at random: mostly legal, with now and then what a schema may not have."""
 
 import random
+import struct
 
 from tests.support import schemas
-from tests.support.naive import OBJECT, TEXT, UNION, VECTOR
+from tests.support.naive import DOUBLE, FLOAT, OBJECT, TEXT, UNION, VECTOR
 from tests.support.schemas import NONE, U_BYTE, U_TYPE, a_struct, array, field, table, vector
 
 NAMES = [*"abcdefghij", "", "k"]
@@ -108,7 +109,8 @@ class Maker:
         slot = dice.choice([4, 2, 0, 5, 65534, 65535]) if self.errs() else slot
         default = dice.getrandbits(64) >> dice.randrange(64)
         default -= 2**64 if default >= 2**63 else 0
-        return field(self.name(place), kind, slot, default, deprecated=deprecated or self.errs(),
+        real = struct.unpack(">d", struct.pack("<q", default))[0] if kind[0] in (FLOAT, DOUBLE) else None
+        return field(self.name(place), kind, slot, default, real, deprecated=deprecated or self.errs(),
                      required=dice.once_in(8), optional=dice.once_in(6), offset64=self.errs())
 
     def added(self, fields, slot):

@@ -37,9 +37,10 @@ def type_row(kind):
     return {0: ("b", base), 1: ("b", element), 2: ("i", index), 3: ("H", length)}
 
 
-def field(name, kind, slot, default=0, **flags):
-    """A field's row; a flag is deprecated, required, optional or offset64."""
+def field(name, kind, slot, default=0, real=None, **flags):
+    """A field's row, perhaps with a real default; a flag is deprecated, required, optional or offset64."""
     row = {0: name, 1: type_row(kind), 2: ("H", max(slot - 4, 0) // 2), 3: ("H", slot), 4: ("q", default)}
+    row |= {} if real is None else {5: ("d", real)}
     numbers = {"deprecated": 6, "required": 7, "optional": 11, "offset64": 13}
     return {**row, **{numbers[flag]: ("B", int(value)) for flag, value in flags.items()}}
 

@@ -1,6 +1,8 @@
 """What the library tells, in the words of the program's lines."""
 
-from tests.support.naive import NAMES, quoted
+import struct
+
+from tests.support.naive import NAMES, Default, quoted
 
 REASONS = {number: f"V{number} {NAMES[f'V{number}']}" for number in range(1, len(NAMES) + 1)}
 
@@ -10,6 +12,7 @@ WRITTEN = [
     lambda value: "true" if value == 1 else "false", str, str,
     lambda value: f"float:{value.hex()}", quoted, lambda value: f"struct:{value.hex()}",
     lambda value: f"vector:{value}", lambda _: "table", lambda value: f"union:{value}",
+    lambda value: default_of(struct.unpack("<d", struct.pack("<Q", value))[0]),
 ]
 
 
@@ -19,6 +22,18 @@ def line(verdict):
         return f"ok tables={verdict.tables} depth={verdict.depth} reads={verdict.reads}"
     _, reason, owner, field, _, _, at, reads = verdict
     return f"bad {REASONS[reason]} at={at} object={owner} field={'-' if field is None else field} reads={reads}"
+
+
+def default_of(number):
+    """How the default of a float is written."""
+    return f"default:{number!r}"
+
+
+def in_calls(text):
+    """What calls tell where this is the naive reader's text of a value: they tell defaults of floats."""
+    if not isinstance(text, Default):
+        return text
+    return default_of(struct.unpack("<f" if len(text.data) == 4 else "<d", text.data)[0])
 
 
 def text_of(kind, value):

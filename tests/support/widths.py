@@ -90,8 +90,30 @@ DEFAULTS = """
     long default=-1         | Int(-0x1)
     ulong default=-1        | UInt(0xffffffffffffffff)
     ulong default=-2        | UInt(0xfffffffffffffffe)
-    float default=1         | Absent
-    double default=1        | Absent
+    float                   | DefaultFloat(0.0)
+    float default=1         | DefaultFloat(0.0)
+    float real=1.5          | DefaultFloat(1.5)
+    float real=0.1          | DefaultFloat(0.10000000149011612)
+    float real=-0.0         | DefaultFloat(-0.0)
+    float real=1e300        | DefaultFloat(inf)
+    float real=-1e-300      | DefaultFloat(-0.0)
+    float real=1e-45        | DefaultFloat(1.401298464324817e-45)
+    float real=16777217     | DefaultFloat(16777216.0)
+    float real=16777219     | DefaultFloat(16777220.0)
+    float real=nan          | DefaultFloat(nan)
+    float real=inf          | DefaultFloat(inf)
+    float real=-inf         | DefaultFloat(-inf)
+    float real=1.5 optional | Absent
+    double                  | DefaultFloat(0.0)
+    double default=1        | DefaultFloat(0.0)
+    double real=1.5         | DefaultFloat(1.5)
+    double real=0.1         | DefaultFloat(0.1)
+    double real=-0.0        | DefaultFloat(-0.0)
+    double real=5e-324      | DefaultFloat(5e-324)
+    double real=16777217    | DefaultFloat(16777217.0)
+    double real=nan         | DefaultFloat(nan)
+    double real=-inf        | DefaultFloat(-inf)
+    double real=0 optional  | Absent
 """
 
 

@@ -510,6 +510,8 @@ static PyObject *value_of(Schema *self, PyObject *message, const char *bytes, co
         return PyLong_FromUnsignedLongLong(value->number);
     case FBCHECK_FLOAT:
         return float_of(bytes + value->at, value->size);
+    case FBCHECK_DEFAULT_FLOAT:
+        return float_of((const char *)&value->number, sizeof value->number);
     case FBCHECK_TEXT:
         return PyUnicode_DecodeUTF8(bytes + value->at, (Py_ssize_t)value->size, "surrogateescape");
     case FBCHECK_TABLE:

@@ -199,10 +199,18 @@ static int add_valid(Making *to, int is_there)
     return 1;
 }
 
+/* Whether a value is of the form's kind, as a float is by its default. */
+static int is_of(const Form *form, const fbcheck_value *value)
+{
+    return value->kind == form->kind || (value->kind == FBCHECK_DEFAULT_FLOAT && form->kind == FBCHECK_FLOAT);
+}
+
 /* Whether a number is one of the form, as all are that the schema's own paths lead to. */
 static int fits(const Form *form, const fbcheck_value *value)
 {
     uint64_t half = (uint64_t)1 << (8 * form->size - 1);
+    if (value->kind == FBCHECK_DEFAULT_FLOAT)
+        return 1;
     if (form->kind == FBCHECK_FLOAT)
         return value->size == form->size;
     if (form->kind == FBCHECK_VECTOR)
@@ -212,18 +220,30 @@ static int fits(const Form *form, const fbcheck_value *value)
     return form->size == 8 || value->number < 2 * half;
 }
 
+/* Writes a float that isn't in the message: its default, or nan for one that is missing. */
+static int add_float(Making *to, const fbcheck_value *value, int is_there)
+{
+    double whole = NAN;
+    float single;
+    if (is_there)
+        memcpy(&whole, &value->number, sizeof whole);
+    single = (float)whole;
+    return to->form->size == sizeof single ? add(&to->numbers, &single, sizeof single)
+                                           : add(&to->numbers, &whole, sizeof whole);
+}
+
 /* Writes a number of a message, or what stands for one that is missing. */
 static uint32_t add_number(Making *to, const uint8_t *message, const fbcheck_value *value, int is_there)
 {
-    static const float single = NAN;
-    static const double whole = NAN;
     static const uint64_t zero = 0;
     const Form *form = to->form;
     const void *bytes = &zero;
     if (is_there && !fits(form, value))
         return FBCHECK_MISFIT;
+    if (form->kind == FBCHECK_FLOAT && value->kind != FBCHECK_FLOAT)
+        return add_float(to, value, is_there) ? FBCHECK_OK : FBCHECK_NO_MEMORY;
     if (form->kind == FBCHECK_FLOAT)
-        bytes = is_there ? (const void *)(message + value->at) : form->size == 4 ? (const void *)&single : &whole;
+        bytes = message + value->at;
     else if (is_there)
         bytes = form->kind == FBCHECK_INT ? (const void *)&value->integer : &value->number;
     return add(&to->numbers, bytes, form->size) ? FBCHECK_OK : FBCHECK_NO_MEMORY;
@@ -250,7 +270,7 @@ static uint32_t add_values(Gathering *on)
         Making *to = on->columns + at;
         int is_there = value->kind > FBCHECK_OTHER_MEMBER;
         uint32_t status;
-        if (is_there && value->kind != to->form->kind)
+        if (is_there && !is_of(to->form, value))
             return FBCHECK_MISFIT;
         status = (to->width != 0 ? add_bytes : add_number)(to, on->room, value, is_there);
         if (status != FBCHECK_OK)

@@ -91,6 +91,7 @@ pub const STRUCT: u32 = 8;
 pub const VECTOR: u32 = 9;
 pub const TABLE: u32 = 10;
 pub const UNION: u32 = 11;
+pub const DEFAULT_FLOAT: u32 = 12;
 
 // enum fbcheck_ident
 pub const IDENT_ANY: u32 = 0;

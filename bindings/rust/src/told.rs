@@ -122,7 +122,7 @@ pub enum Value<'m> {
     Int(i64),
     /// A UType, UByte, UShort, UInt or ULong.
     UInt(u64),
-    /// A Float or Double.
+    /// A Float or Double, or the default of an absent one.
     Float(f64),
     /// The bytes of a string, which need not be UTF-8.
     Text(&'m [u8]),
@@ -147,6 +147,7 @@ impl<'m> Value<'m> {
             calls::INT => Value::Int(value.integer),
             calls::UINT => Value::UInt(value.number),
             calls::FLOAT => Value::Float(float(bytes)),
+            calls::DEFAULT_FLOAT => Value::Float(f64::from_bits(value.number)),
             calls::TEXT => Value::Text(bytes),
             calls::STRUCT => Value::Struct(bytes),
             calls::VECTOR => Value::Vector(value.number, bytes),

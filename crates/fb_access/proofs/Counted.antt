@@ -1,13 +1,14 @@
 -- Vectors have no more elements than there is room for, what has bytes of its own lies in the buffer, and numbers fit
 -- their scalars.
-use Rattle.std.proofs.Common.{◌≡◌, ℕ, ◌+◌, ◌*◌, ◌≤◌, ◌<◌, ◌^◌, List, length, arith, Option, IfSome}
+use Rattle.std.proofs.Common.{◌≡◌, ℕ, ℤ, ◌+◌, ◌*◌, ◌≤◌, ◌<◌, ◌^◌, ◌%◌, List, length, arith, w64, Option, IfSome}
+use Rattle.std.specs.Int.{cast_unsigned}
 use Rattle.std.proofs.Math.Facts.{sfits_to_z}
-use Rattle.fb_schema.specs.declared.kinds.Scalar.{Scalar}
+use Rattle.fb_schema.specs.declared.kinds.Scalar.{Scalar, TheVariants.Float, TheVariants.Double}
 use Rattle.fb_schema.specs.Kinds.{scalar_size}
 use Rattle.fb_schema.specs.declared.kinds.Kind.TheVariants.{Tables}
 use Rattle.fb_schema.specs.Rows.{Rows}
 use Rattle.fb_access.specs.declared.{spot.Spot.Spot, extent.Extent.Extent, answer.Answer.Answer}
-use Rattle.fb_access.specs.{Extents.extent, Denotes.vector, Denotes.value, Denotes.number, Denotes.shown, Held.IsSpot, Here.IsHere, Here.FitsScalar}
+use Rattle.fb_access.specs.{Extents.extent, Denotes.vector, Denotes.value, Denotes.number, Denotes.default_value, Denotes.shown, Held.IsSpot, Here.IsHere, Here.FitsScalar}
 
 pub tables_fit : (b : List ℕ) (S : Rows) (p : Spot) (k n : ℕ) → IsSpot b S p → IsHere p (Tables k) → vector n ≡ value b S p → 4 * n ≤ length b
 unfolding IsSpot value
@@ -20,3 +21,12 @@ extent_within b S p o spot e = grind arith
 pub number_fits : (s : Scalar) (n : ℕ) (a : Answer) → n < 256 ^ scalar_size s → shown a ≡ number s n → FitsScalar s a
 unfolding number
 number_fits s n a less e = grind (arith, sfits_to_z)
+
+-- the default of a scalar that is no float is its number
+pub whole_default : (s : Scalar) (d : ℤ) → (s ≡ Float → ⊥) → (s ≡ Double → ⊥) → default_value s d ≡ number s (cast_unsigned w64 d % 256 ^ scalar_size s)
+unfolding default_value
+whole_default s d not_float not_double = grind arith
+
+-- and its lowest bytes fit it
+pub low_fits : (s : Scalar) (n low : ℕ) → low ≡ n % 256 ^ scalar_size s → low < 256 ^ scalar_size s
+low_fits s n low e = grind arith

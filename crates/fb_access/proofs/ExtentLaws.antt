@@ -24,7 +24,7 @@ inline_counts_none b s p n h = grind (arith, number_counts_none)
 
 default_counts_none : (s : Scalar) (d : ℤ) (n : ℕ) → default_value s d ≡ vector n → ⊥
 unfolding default_value
-default_counts_none s d n h = number_counts_none s _ n h
+default_counts_none s d n h = grind (arith, number_counts_none)
 
 pub elements_fill_extents : ElementsFillExtents
 unfolding value extent next_spot spot_of_element

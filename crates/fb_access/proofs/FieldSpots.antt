@@ -9,7 +9,7 @@ use Rattle.fb_schema.specs.Served.{IsAlignment, IsServed, KindHolds}
 use Rattle.fb_rules.specs.{Places.target, Places.field_place, Tree.Elements, Unfolds.ElementsUnfold, OffsetRows.TypesFit, OffsetRows.IsTyped, declared.checks.Checks.Checks}
 use Rattle.fb_rules.specs.Fields.{IsPresent, IsPresentOrAbsent, IsField, entries, entries_of, entries_at, union_entry, union_type, type_count, types_begin, type_place, to_table, to_string, lead_of}
 use Rattle.fb_access.specs.Fitting.{numbered}
-use Rattle.fb_access.specs.Spots.{default_spot, absent_spot, present_spot, spot_at, field_spot}
+use Rattle.fb_access.specs.Spots.{absent_spot, present_spot, spot_at, field_spot}
 use Rattle.fb_access.specs.Held.{IsTableAt, IsLed, IsSpot, IsReadable}
 use Rattle.fb_access.proofs.Leading.{row_led, union_row_led, one_led, led_to_table, led_to_string, led_to_nothing}
 use Rattle.fb_access.proofs.TableFields.{HoldsField, field_holds}
@@ -59,13 +59,9 @@ module _ (c : Checks) (b : List ℕ) (S : Rows) (t : ℕ) (f : Live) (p : ℕ) w
   present_readable ys kind h u k typed = h.offset.within
 
 module _ (b : List ℕ) (S : Rows) where
-  default_holds : (d : ℤ) (s : Scalar) → IsSpot b S (default_spot d s)
-  unfolding IsSpot default_spot
-  default_holds d s = grind arith
-
   absent_holds : (optional : Bool) (d : ℤ) (kind : Kind) → IsSpot b S (absent_spot optional d kind)
   unfolding IsSpot absent_spot
-  absent_holds optional d kind = grind (arith, default_holds)
+  absent_holds optional d kind = grind arith
 
   module _ (c : Checks) (t : ℕ) (f : Live) where
     spot_holds : (place : Option ℕ) (ys : Elements) → IsPresentOrAbsent c b S t f place → ElementsUnfold ys c b S (entries_at b S t f place) → KindHolds S f f.kind → f.size ≡ kind_size S f.kind → f.align ≡ kind_align S f.kind → IsTyped b t f.slot f.kind → IsSpot b S (spot_at b t f place)

@@ -1,7 +1,7 @@
 -- For who reads by a schema that they know: which answer comes where a kind is here.
 use Rattle.std.proofs.Common.{arith, ◌≡◌, ℕ, ℤ, Bool, List, Some, Bor}
 use Rattle.fb_schema.specs.declared.{kinds.Scalar.Scalar, kinds.Kind.Kind, kinds.Kind.TheVariants.Scalar as AScalar, kinds.Kind.TheVariants.Text as AText, kinds.Kind.TheVariants.Table as ATable}
-use Rattle.fb_schema.specs.declared.kinds.Scalar.TheVariants.{UType, Bool as AsBool, UByte, UShort, UInt as AsUInt, ULong}
+use Rattle.fb_schema.specs.declared.kinds.Scalar.TheVariants.{UType, Bool as AsBool, UByte, UShort, UInt as AsUInt, ULong, Double}
 use Rattle.fb_schema.specs.Rows.{Rows}
 use Rattle.fb_access.specs.declared.answer.Answer.TheVariants as answer
 use Rattle.fb_access.specs.{Fitting.element_kind, Here.IsHere, Here.MayBeHere, Here.IsSigned, declared.spot.Spot.Spot, declared.answer.Answer.Answer}
@@ -45,6 +45,11 @@ module _ (b : List ℕ) (S : Rows) (p : Spot) (a : Answer) (e : shown a ≡ valu
   pub answers_unsigned : (s : Scalar) → IsUnsigned s → IsHere p (AScalar s) → ((x : ℕ) → a ≡ answer.UInt x → ⊥) → ⊥
   unfolding value number inline_value default_value
   answers_unsigned s i h other = grind arith
+
+  -- a Double is shown by its bytes, or by the bits of its default
+  pub answers_double : IsHere p (AScalar Double) → ((x : Bor (List ℕ)) → a ≡ answer.Float x → ⊥) → ((n : ℕ) → a ≡ answer.DefaultDouble n → ⊥) → ⊥
+  unfolding value number inline_value default_value
+  answers_double h bytes bits = grind arith
 
 -- a field that may be here shows nothing, or is here
 module _ (b : List ℕ) (S : Rows) (p : Spot) (kind : Kind) where

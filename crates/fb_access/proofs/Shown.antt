@@ -1,18 +1,20 @@
 -- The examples, by computing.
 use Rattle.std.proofs.Common.{◌≡◌, ℕ, refl, rules, List, [], ◌∷◌, Option, Some, None, option_map, option_and_then}
+use lib.Ieee.{of_bits, round, to_bits}
+use Rattle.std.specs.Float.{round_to_format}
 use Rattle.fb_rules.specs.declared.start.Start.TheVariants.{Bare}
 use Rattle.fb_bytes.specs.Word.{word}
 use Rattle.fb_schema.specs.{Live.live_fields, Kinds.shape_of, Kinds.kind_of, Kinds.base_types, Members.member_of, Parts.part_at}
 use Rattle.fb_rules.specs.Places.{has_vtable, vtable, field_place}
-use Rattle.fb_access.specs.Spots.{present_spot, default_spot, absent_spot, spot_of_part, spot_of_element, member_spot}
+use Rattle.fb_access.specs.Spots.{present_spot, absent_spot, spot_of_part, spot_of_element, member_spot}
 use Rattle.fb_access.specs.Denotes.{next_spot, Reaches, Shown, root_spot, number, inline_value, default_value, value}
 use Rattle.fb_access.specs.declared.{step.Step.Step, spot.Spot.Spot}
 use Rattle.fb_access.specs.Samples.{rows, bytes}
-use Rattle.fb_access.specs.Examples.{Holds, FieldValues, ElementValues, PartValues, MemberValues, ScalarValues, DefaultValues, StayingValues, LackingFields, PrefixedValues, InsideValues}
+use Rattle.fb_access.specs.Examples.{Holds, FieldValues, ElementValues, PartValues, MemberValues, ScalarValues, DefaultValues, NearestSingles, StayingValues, LackingFields, PrefixedValues, InsideValues}
 
 -- all that is computed
 computing : ℕ
-unfolding word live_fields shape_of kind_of base_types member_of part_at has_vtable vtable field_place present_spot default_spot absent_spot spot_of_part spot_of_element member_spot next_spot number inline_value default_value value
+unfolding word live_fields shape_of kind_of base_types member_of part_at has_vtable vtable field_place present_spot absent_spot spot_of_part spot_of_element member_spot next_spot number inline_value default_value value to_bits of_bits round round_to_format
 computing = 0
 
 -- the spot to which steps lead
@@ -56,6 +58,10 @@ scalar_values = search (rules, holds)
 pub default_values : DefaultValues
 unfolding computing
 default_values = search (rules, holds)
+
+pub nearest_singles : NearestSingles
+unfolding computing
+nearest_singles = search rules
 
 pub staying_values : StayingValues
 unfolding computing

@@ -6,7 +6,7 @@ use Rattle.fb_schema.specs.{Rows.Rows, Live.Live, Members.member_of, Parts.part_
 use Rattle.fb_access.specs.declared.{step.Step.Step, step.Step.TheVariants.Field, step.Step.TheVariants.Element, step.Step.TheVariants.Member, spot.Spot.Spot}
 use Rattle.fb_access.specs.declared.spot.Spot.TheVariants.{AtTable, AtStruct, AtScalars, AtStructs, AtScalarArray, AtStructArray, AtTexts, AtTables, AtUnions, AtUnion, AtAbsent, AtNoElement, AtOtherMember}
 use Rattle.fb_access.specs.{Fitting.numbered, Fitting.next_kind, Denotes.next_spot, Denotes.Leads, Denotes.allows, Here.IsHere, Here.MayBeHere, Here.IsOfKind, Here.KindsGoOn}
-use Rattle.fb_access.specs.Spots.{kind_at, present_spot, default_spot, absent_spot, field_spot, part_spot, spot_of_field, spot_of_part, if_element, spot_of_element, member_spot, spot_of_member}
+use Rattle.fb_access.specs.Spots.{kind_at, present_spot, absent_spot, field_spot, part_spot, spot_of_field, spot_of_part, if_element, spot_of_element, member_spot, spot_of_member}
 
 -- a step leads on exactly where it is allowed
 pub leads_where_allowed : (b : List ℕ) (S : Rows) (p : Spot) (s : Step) → is_some (next_spot b S p s) ≡ allows S p s
@@ -23,7 +23,7 @@ module _ (b : List ℕ) (t o : ℕ) where
 
 -- a field is of its kind, or absent
 pub field_kind : (b : List ℕ) (t : ℕ) (f : Live) → MayBeHere (field_spot b t f) f.kind
-unfolding present_spot default_spot absent_spot
+unfolding present_spot absent_spot
 field_kind b t f = grind arith
 
 -- a field of a struct is of its kind

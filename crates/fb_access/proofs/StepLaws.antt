@@ -11,7 +11,7 @@ use Rattle.fb_rules.specs.Fields.{type_place, union_type, types_begin, to_table,
 use Rattle.fb_access.specs.declared.spot.Spot.TheVariants.{AtTable, AtText, AtTexts, AtTables, AtUnions, AtUnion, AtNoElement, AtOtherMember}
 use Rattle.fb_access.proofs.Leading.{row_at, union_row_at, row_get, row_end}
 use Rattle.fb_access.specs.{Fitting.numbered, Denotes.next_spot, Denotes.Leads, Denotes.Reaches, declared.step.Step.TheVariants.Field, declared.step.Step.TheVariants.Element, declared.spot.Spot.Spot}
-use Rattle.fb_access.specs.Spots.{kind_at, present_spot, default_spot, absent_spot, spot_at, field_spot, if_element, spot_of_element, member_spot}
+use Rattle.fb_access.specs.Spots.{kind_at, present_spot, absent_spot, spot_at, field_spot, if_element, spot_of_element, member_spot}
 use Rattle.fb_access.specs.StepLaws.{position_of, value_place, IsFieldOf, FieldsStandInPlace, IsLedTo, IsOfEntry, steps_on, StepsFollowEntries, AreOffsets, NoOtherElements, MembersFollowLeads, AreInline, ElementsStandInRow}
 
 pub some_same : {A : Type 0} {x y : A} → Some x ≡ Some y → x ≡ y
@@ -32,13 +32,9 @@ present_in_place : (b : List ℕ) (t o p : ℕ) (kind : Kind) → (kind_at (pres
 unfolding present_spot
 present_in_place b t o p kind = grind arith
 
-default_nowhere : (d : ℤ) (s : Scalar) → position_of (default_spot d s) ≡ None
-unfolding default_spot
-default_nowhere d s = grind arith
-
 absent_nowhere : (optional : Bool) (d : ℤ) (kind : Kind) → position_of (absent_spot optional d kind) ≡ None
 unfolding absent_spot
-absent_nowhere optional d kind = grind (arith, default_nowhere)
+absent_nowhere optional d kind = grind arith
 
 field_in_place : (b : List ℕ) (t : ℕ) (f : Live) → IsFieldOf b t f (field_spot b t f)
 field_in_place b t f = record {

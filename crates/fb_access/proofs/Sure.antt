@@ -4,7 +4,7 @@ use Rattle.std.specs.Prelude.{option_and_then}
 use Rattle.fb_schema.specs.{Rows.Rows, Live.Live, Served.IsServed, declared.kinds.Kind.Kind, declared.kinds.Kind.TheVariants.Table}
 use Rattle.fb_rules.specs.{Fields.IsField, Fields.IsPresentOrAbsent, declared.checks.Checks.Checks}
 use Rattle.fb_access.specs.declared.{step.Step.Step, step.Step.TheVariants.Field, spot.Spot.Spot, spot.Spot.TheVariants.AtTable}
-use Rattle.fb_access.specs.{Fitting.numbered, Denotes.next_spot, Denotes.Leads, Held.IsSpot, Held.IsTableAt, Spots.default_spot, Spots.absent_spot, Spots.spot_at, Spots.field_spot}
+use Rattle.fb_access.specs.{Fitting.numbered, Denotes.next_spot, Denotes.Leads, Held.IsSpot, Held.IsTableAt, Spots.absent_spot, Spots.spot_at, Spots.field_spot}
 use Rattle.fb_access.specs.Here.{IsHere, defaults, sure_field, sure_kind, HereGoesOn}
 use Rattle.fb_access.proofs.{Held.at_table, TableFields.field_holds, StepKinds.present_kind}
 
@@ -36,7 +36,7 @@ pub sure_kind_of : (f : Live) (onward : Kind) → sure_field f ≡ Some onward �
 sure_kind_of f onward e = (sure_same (f.required || defaults f.optional f.kind) f.kind onward e).0
 
 absent_here : (required optional : Bool) (d : ℤ) (kind : Kind) → IsFalse required → (required || defaults optional kind) ≡ true → IsHere (absent_spot optional d kind) kind
-unfolding absent_spot default_spot
+unfolding absent_spot
 absent_here required optional d kind f h = grind arith
 
 place_here : (c : Checks) (b : List ℕ) (S : Rows) (t : ℕ) (f : Live) (place : Option ℕ) → IsPresentOrAbsent c b S t f place → (f.required || defaults f.optional f.kind) ≡ true → IsHere (spot_at b t f place) f.kind

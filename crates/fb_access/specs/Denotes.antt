@@ -1,6 +1,7 @@
 -- What a path denotes in a buffer: a chain of spots from the root table, one for each step, and the value at its end.
-use Rattle.std.specs.Prelude.{◌≡◌, ℕ, ℤ, ◌+◌, ◌%◌, ◌^◌, ◌==◌, Bool, true, not, List, [], ◌∷◌, take, drop, Option, Some, None, is_some}
+use Rattle.std.specs.Prelude.{◌≡◌, ℕ, ℤ, ◌+◌, ◌%◌, ◌^◌, ◌==◌, Bool, true, not, List, [], ◌∷◌, take, drop, to_bits, from_bits, Option, Some, None, is_some}
 use Rattle.std.specs.Int.{cast_signed, cast_unsigned, w8, w16, w32, w64}
+use Rattle.std.specs.Float.{binary32, binary64, round_to_format}
 use Rattle.fb_bytes.specs.Word.{word}
 use Rattle.fb_schema.specs.declared.kinds.Scalar.TheVariants.{Bool as AsBool, Byte, Short, Int as AsInt, Long, Float as AsFloat, Double}
 use Rattle.fb_schema.specs.{Rows.Rows, Kinds.scalar_size, Kinds.struct_size, declared.kinds.Scalar.Scalar, declared.kinds.Kind.Kind}
@@ -47,6 +48,8 @@ pub data Shown : Type 0 where
   signed : ℤ → Shown
   unsigned : ℕ → Shown
   float : List ℕ → Shown
+  default_float : ℕ → Shown
+  default_double : ℕ → Shown
   text : List ℕ → Shown
   structure : List ℕ → Shown
   vector : ℕ → Shown
@@ -62,13 +65,15 @@ shown (answer.Bool v) = truth v
 shown (answer.Int z) = signed z
 shown (answer.UInt n) = unsigned n
 shown (answer.Float s) = float s.now
+shown (answer.DefaultFloat bits) = default_float bits
+shown (answer.DefaultDouble bits) = default_double bits
 shown (answer.Text s) = text s.now
 shown (answer.Struct s) = structure s.now
 shown (answer.Vector n) = vector n
 shown answer.Table = table
 shown (answer.Union y) = union y
 
--- the number of a scalar whose bytes are n, the lowest first; a float is shown by its bytes and has none
+-- the number of a scalar whose bytes are n, the lowest first; a float is shown by its bytes or its bits, and has none
 unfoldable pub number : Scalar → ℕ → Shown
 number AsBool n = truth (not (n == 0))
 number Byte n = signed (cast_signed w8 n)
@@ -89,8 +94,15 @@ inline_value b p AsFloat = float (bytes_at b p 4)
 inline_value b p Double = float (bytes_at b p 8)
 inline_value b p s = number s (word b p (scalar_size s))
 
--- the lowest bytes of a default, as many as the scalar has, are its number
+-- the bits of the single that is nearest to the double of these bits
+abbrev pub nearest_single : ℕ → ℕ
+nearest_single bits = to_bits binary32 (round_to_format binary32 (from_bits binary64 bits))
+
+-- the default of a scalar that is absent: of a Float or Double it is the bits of a double, and of all others the lowest
+-- bytes, as many as the scalar has, are its number
 unfoldable pub default_value : Scalar → ℤ → Shown
+default_value AsFloat d = default_float (nearest_single (cast_unsigned w64 d))
+default_value Double d = default_double (cast_unsigned w64 d)
 default_value s d = number s (cast_unsigned w64 d % 256 ^ scalar_size s)
 
 -- the value at a spot

@@ -6,7 +6,7 @@ use Rattle.fb_rules.specs.Samples.{monsters, monster, open_name}
 use Rattle.fb_rules.specs.Examples.{Counts, one_table, one_leaf, kids_of}
 use Rattle.fb_access.specs.declared.{step.Step.Step, step.Step.TheVariants.Field, step.Step.TheVariants.Element, step.Step.TheVariants.Member}
 use Rattle.fb_access.specs.declared.spot.Spot.TheVariants.{AtTable, AtStruct, AtText, AtUnion}
-use Rattle.fb_access.specs.Denotes.{next_spot, Shown, nothing, no_element, other_member, truth, signed, unsigned, float, text, structure, vector, table, union, Denotes}
+use Rattle.fb_access.specs.Denotes.{next_spot, Shown, nothing, no_element, other_member, truth, signed, unsigned, float, default_float, default_double, text, structure, vector, table, union, Denotes, nearest_single}
 use Rattle.fb_access.specs.{Inside.LiesInside, Samples.rows, Samples.bytes, Samples.prefixed_monster}
 
 -- in the sample these steps from the root table lead to this value
@@ -77,7 +77,7 @@ pub record ScalarValues : Type 0 where
   pub float_bytes : Holds (Field 3 ∷ Field 9 ∷ []) (float (0 ∷ 0 ∷ 192 ∷ 191 ∷ []))
   pub double_bytes : Holds (Field 3 ∷ Field 10 ∷ []) (float (0 ∷ 0 ∷ 0 ∷ 0 ∷ 0 ∷ 0 ∷ 6 ∷ 192 ∷ []))
 
--- the scalars of a table that has none: defaults by their lowest bytes, but for optional scalars and floats
+-- the scalars of a table that has none: defaults by their lowest bytes, or by their bits, but for optional scalars
 pub record DefaultValues : Type 0 where
   pub flag : Holds (Field 9 ∷ Element 1 ∷ Field 0 ∷ []) (truth false)
   pub byte : Holds (Field 9 ∷ Element 1 ∷ Field 1 ∷ []) (signed (negsuc 0))
@@ -88,8 +88,20 @@ pub record DefaultValues : Type 0 where
   pub uint : Holds (Field 9 ∷ Element 1 ∷ Field 6 ∷ []) (unsigned 4294967295)
   pub long : Holds (Field 9 ∷ Element 1 ∷ Field 7 ∷ []) (signed (negsuc 0))
   pub ulong : Holds (Field 9 ∷ Element 1 ∷ Field 8 ∷ []) (unsigned 18446744073709551615)
-  pub float_bytes : Holds (Field 9 ∷ Element 1 ∷ Field 9 ∷ []) nothing
-  pub double_bytes : Holds (Field 9 ∷ Element 1 ∷ Field 10 ∷ []) nothing
+  pub float_bits : Holds (Field 9 ∷ Element 1 ∷ Field 9 ∷ []) (default_float 0x3dcccccd)
+  pub double_bits : Holds (Field 9 ∷ Element 1 ∷ Field 10 ∷ []) (default_double 0x8000000000000000)
+
+-- the single that is nearest to a double: 1.5, -0.0 and infinities are themselves, 0.1 is rounded, 1e300 is past the
+-- last single, 1e-300 before the first, and of NaNs there is one
+pub record NearestSingles : Type 0 where
+  pub exact : nearest_single 0x3ff8000000000000 ≡ 0x3fc00000
+  pub rounded : nearest_single 0x3fb999999999999a ≡ 0x3dcccccd
+  pub negative_zero : nearest_single 0x8000000000000000 ≡ 0x80000000
+  pub infinite : nearest_single 0x7ff0000000000000 ≡ 0x7f800000
+  pub negative_infinite : nearest_single 0xfff0000000000000 ≡ 0xff800000
+  pub too_large : nearest_single 0x7e37e43c8800759c ≡ 0x7f800000
+  pub too_small : nearest_single 0x01a56e1fc2f8f359 ≡ 0
+  pub no_number : nearest_single 0xfff8000000000001 ≡ 0x7fc00000
 
 -- where nothing is, every step stays
 pub record StayingValues : Type 0 where

@@ -1,11 +1,11 @@
 -- From where something is, certain steps lead to where something is; and numbers are as wide as their scalars.
-use Rattle.std.specs.Prelude.{◌≡◌, ℕ, ◌<◌, ◌^◌, Bool, true, false, ◌||◌, ◌⊎◌, if◌then◌else◌, List, Option, Some, None, option_and_then}
+use Rattle.std.specs.Prelude.{◌≡◌, ℕ, ◌<◌, ◌^◌, Bool, true, false, ◌||◌, ◌⊎◌, if◌then◌else◌, List, length, Option, Some, None, option_and_then}
 use Rattle.std.specs.Int.{Width, w8, w16, w32, w64, RustNames.FitsSigned}
 use Rattle.fb_schema.specs.declared.{kinds.Scalar.Scalar, kinds.Kind.Kind, kinds.Kind.TheVariants.Scalar as AScalar, kinds.Kind.TheVariants.Table}
-use Rattle.fb_schema.specs.declared.kinds.Scalar.TheVariants.{Byte, Short, Int as AsInt, Long, Float as AsFloat, Double}
+use Rattle.fb_schema.specs.declared.kinds.Scalar.TheVariants.{Byte, Short, Int as AsInt, Long}
 use Rattle.fb_schema.specs.{Rows.Rows, Kinds.scalar_size, Live.Live}
 use Rattle.fb_access.specs.declared.{step.Step.Step, step.Step.TheVariants.Field, step.Step.TheVariants.Element, step.Step.TheVariants.Member, spot.Spot.Spot, spot.Spot.TheVariants.AtAbsent, answer.Answer.Answer}
-use Rattle.fb_access.specs.declared.answer.Answer.TheVariants.{Int, UInt}
+use Rattle.fb_access.specs.declared.answer.Answer.TheVariants.{Int, UInt, Float}
 use Rattle.fb_access.specs.{Fitting.numbered, Fitting.next_kind, Spots.kind_at, Denotes.Reaches, Denotes.Shown, Denotes.value}
 
 -- a value of this kind is here, or its default
@@ -24,16 +24,10 @@ IsOfKind p kind = IsHere p kind ⊎ (kind_at p ≡ None)
 abbrev pub KindsGoOn : Rows → Spot → Step → Spot → Type 0
 KindsGoOn S p s q = (kind next : Kind) → IsOfKind p kind → next_kind S kind s ≡ Some next → IsOfKind q next
 
--- whether a scalar has a default
-abbrev pub has_default : Scalar → Bool
-has_default AsFloat = false
-has_default Double = false
-has_default _ = true
-
 -- whether a field that isn't required is here even so: a scalar by its default
 abbrev pub defaults : Bool → Kind → Bool
 defaults true kind = false
-defaults false (AScalar s) = has_default s
+defaults false (AScalar s) = true
 defaults false _ = false
 
 -- the kind of a field that is certainly here
@@ -70,13 +64,14 @@ width_of Short = w16
 width_of AsInt = w32
 width_of _ = w64
 
--- a number fits the scalar
+-- a number fits the scalar, and a float has as many bytes
 abbrev pub FitsScalar : Scalar → Answer → Type 0
 FitsScalar s (Int z) = FitsSigned (width_of s) z
 FitsScalar s (UInt n) = n < 256 ^ scalar_size s
+FitsScalar s (Float bytes) = length bytes.now ≡ scalar_size s
 FitsScalar s _ = Unit {0}
 
--- the number at a scalar fits it
+-- the number or float at a scalar fits it
 abbrev pub IsNarrow : Spot → Answer → Type 0
 IsNarrow p a = (s : Scalar) → IsHere p (AScalar s) → FitsScalar s a
 

@@ -22,11 +22,11 @@ root_fields =
     ∷ field (codes "longs") 30 (vector 9 0)
     ∷ []
 
--- a scalar with a default
+-- a scalar with a default: a Float or Double has the bits of a double
 abbrev pub number : List ℕ → ℕ → ℕ → ℤ → Field
 number name slot base default = record (field name slot (type_of base 0 0)) { default = default }
 
--- a field of each scalar
+-- a field of each scalar; the Float's default is 0.1, and the Double's -0.0
 abbrev pub scalar_fields : List Field
 scalar_fields =
     number (codes "flag") 4 2 (pos 256)
@@ -38,8 +38,8 @@ scalar_fields =
     ∷ number (codes "uint") 16 8 (negsuc 0)
     ∷ number (codes "long") 18 9 (negsuc 0)
     ∷ number (codes "ulong") 20 10 (negsuc 0)
-    ∷ number (codes "float") 22 11 (pos 1)
-    ∷ number (codes "double") 24 12 (pos 1)
+    ∷ number (codes "float") 22 11 (pos 0x3fb999999999999a)
+    ∷ number (codes "double") 24 12 (negsuc 0x7fffffffffffffff)
     ∷ []
 
 -- the root table, a struct of two ints and four ubytes, the table of scalars, and a union of this table, this

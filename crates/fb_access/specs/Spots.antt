@@ -1,7 +1,7 @@
 -- Where values stand: of a field that is present or absent, of an element of a vector, of a member of a union.
 use Rattle.std.specs.Prelude.{ℕ, ℤ, ◌+◌, ◌*◌, ◌==◌, nat_lt, Bool, true, false, if◌then◌else◌, List, Option, Some, None, option_map}
 use Rattle.fb_bytes.specs.Word.{word}
-use Rattle.fb_schema.specs.declared.{kinds.Scalar.Scalar, kinds.Scalar.TheVariants.Float, kinds.Scalar.TheVariants.Double, kinds.Kind.Kind, views.PartView.PartView}
+use Rattle.fb_schema.specs.declared.{kinds.Kind.Kind, views.PartView.PartView}
 use Rattle.fb_schema.specs.declared.kinds.Kind.TheVariants.{Scalar as AScalar, Text, Struct, Table, Union, Scalars, Texts, Structs, Tables, Unions}
 use Rattle.fb_schema.specs.{Rows.Rows, Kinds.scalar_size, Kinds.struct_size, Live.Live, Members.member_of, Parts.part_at}
 use Rattle.fb_rules.specs.{Places.target, Places.field_place, Fields.type_place, Fields.union_type, Fields.types_begin}
@@ -40,16 +40,10 @@ present_spot b t o p (Structs k) = AtStructs k (target b p)
 present_spot b t o p (Tables k) = AtTables k (target b p)
 present_spot b t o p (Unions e) = AtUnions e (types_begin b (type_place b t o)) (target b p)
 
--- an absent scalar has its default, but floats have none
-unfoldable pub default_spot : ℤ → Scalar → Spot
-default_spot d Float = AtAbsent
-default_spot d Double = AtAbsent
-default_spot d s = AtDefault s d
-
 -- a field that is absent: a scalar that isn't optional has its default
 unfoldable pub absent_spot : Bool → ℤ → Kind → Spot
 absent_spot true d kind = AtAbsent
-absent_spot false d (AScalar s) = default_spot d s
+absent_spot false d (AScalar s) = AtDefault s d
 absent_spot false d _ = AtAbsent
 
 -- the field f of the table at t, if it stands at this place

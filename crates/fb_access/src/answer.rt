@@ -17,6 +17,11 @@ pub enum Answer<'b> {
     UInt(u64),
     /// A Float or Double: its 4 or 8 bytes as they stand in the buffer, the lowest first (FlatBuffers Internals).
     Float(&'b [u8]),
+    /// An absent Float, by the bits of its default: the schema's double, rounded to the nearest single. Every NaN is
+    /// the quiet one, 0x7fc00000.
+    DefaultFloat(u32),
+    /// An absent Double, by the bits of its default.
+    DefaultDouble(u64),
     /// A string: its bytes without the terminator.
     Text(&'b [u8]),
     /// A struct: its bytes as they stand in the buffer, padding included.

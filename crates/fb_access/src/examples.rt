@@ -2,10 +2,10 @@
 
 ghost use Rattle.fb_access.specs.PathTests.{Words, Spellings, Resolved, Unfit};
 ghost use Rattle.fb_access.specs.LocationTests.{Told, Nameless, Enclosed, Masked, Ways, Long};
-ghost use Rattle.fb_access.specs.Examples.{SampleUnfolds, FieldValues, ElementValues, PartValues, MemberValues, ScalarValues, DefaultValues, StayingValues, LackingFields, PrefixedValues, InsideValues};
+ghost use Rattle.fb_access.specs.Examples.{SampleUnfolds, FieldValues, ElementValues, PartValues, MemberValues, ScalarValues, DefaultValues, NearestSingles, StayingValues, LackingFields, PrefixedValues, InsideValues};
 
 /// A buffer with a field of each kind is good, and what paths denote in it.
-#[tactic(auto, using(crate::proofs::Shown::field_values, crate::proofs::Shown::element_values, crate::proofs::Shown::part_values, crate::proofs::Shown::member_values, crate::proofs::Shown::scalar_values, crate::proofs::Shown::default_values, crate::proofs::Shown::staying_values, crate::proofs::Shown::lacking_fields, crate::proofs::ShownTree::sample_unfolds))]
+#[tactic(auto, using(crate::proofs::Shown::field_values, crate::proofs::Shown::element_values, crate::proofs::Shown::part_values, crate::proofs::Shown::member_values, crate::proofs::Shown::scalar_values, crate::proofs::Shown::default_values, crate::proofs::Shown::nearest_singles, crate::proofs::Shown::staying_values, crate::proofs::Shown::lacking_fields, crate::proofs::ShownTree::sample_unfolds))]
 pub fn values()
     ensures good { SampleUnfolds }
     ensures fields { FieldValues }
@@ -14,6 +14,7 @@ pub fn values()
     ensures members { MemberValues }
     ensures scalars { ScalarValues }
     ensures defaults { DefaultValues }
+    ensures singles { NearestSingles }
     ensures nothing_stays { StayingValues }
     ensures no_such_fields { LackingFields }
 {}

@@ -9,7 +9,7 @@ ghost use Rattle.fb_access.specs.Spots.{present_spot, absent_spot, field_spot};
 
 use crate::spot::Spot;
 use fb_bytes::Window;
-use fb_schema::{FieldView, Kind, Scalar, Schema};
+use fb_schema::{FieldView, Kind, Schema};
 
 /// The live field of a table with this number.
 pub fn field_numbered<'s, 'n>(
@@ -99,16 +99,13 @@ fn types_at(window: &Window<'_>, place: Option<u64>) -> u64
     }
 }
 
-/// What an absent field is: a scalar that isn't optional has its default, and a float none.
-#[tactic(auto, unfolding(crate::specs::Spots::absent_spot, crate::specs::Spots::default_spot))]
+/// What an absent field is: a scalar that isn't optional has its default.
+#[tactic(auto, unfolding(crate::specs::Spots::absent_spot))]
 fn absent(field: &FieldView<'_>) -> Spot
     ensures { result ≡ absent_spot (field.now).optional (field.now).default (field.now).kind }
 {
     match field.kind {
-        Kind::Scalar(scalar) if !field.optional => match scalar {
-            Scalar::Float | Scalar::Double => Spot::AtAbsent,
-            _ => Spot::AtDefault(scalar, field.default),
-        },
+        Kind::Scalar(scalar) if !field.optional => Spot::AtDefault(scalar, field.default),
         _ => Spot::AtAbsent,
     }
 }

@@ -98,7 +98,7 @@ impl<'v, 'b, 's, 'n> Place<'v, 'b, 's, 'n> {
     /// What is here.
     pub fn answer(&self) -> Answer<'b>
         ensures shown { shown result ≡ value ((self.now).sealed).bytes ((self.now).sealed).schema (self.now).spot }
-        // A number fits its scalar.
+        // A number fits its scalar, and a float has as many bytes.
         ensures narrow { IsNarrow (self.now).spot result }
         // There are no more tables in a vector than their offset words have room.
         ensures tables { (k n : ℕ) → IsHere (self.now).spot (Tables k) → shown result ≡ vector n → 4 * n ≤ length ((self.now).sealed).bytes }

@@ -30,7 +30,7 @@ pub enum Spot {
     AtUnions(u32, u64, u64),
     /// A union: its enum's number, its type, and the position of its offset word.
     AtUnion(u32, u8, u64),
-    /// An absent scalar, and its field's default.
+    /// An absent scalar, and its field's default: of a Float or Double the bits of a double, as the row has it.
     AtDefault(Scalar, i64),
     /// Nothing: the field is absent, or a field on the way here is.
     AtAbsent,

@@ -3,13 +3,14 @@
 ghost use Rattle.std.specs.Prelude.{◌≡◌, ◌+◌, ◌*◌, ◌^◌, ◌%◌, ◌<◌, ◌≤◌, length};
 ghost use Rattle.fb_bytes.specs.Word.{word};
 ghost use Rattle.fb_schema.specs.Kinds.{scalar_size, struct_size};
-ghost use Rattle.fb_access.specs.Denotes.{number, inline_value, default_value, value, shown};
+ghost use Rattle.fb_access.specs.Denotes.{number, nearest_single, inline_value, default_value, value, shown};
 ghost use Rattle.fb_access.specs.{Held.IsSpot, Here.FitsScalar, Here.IsNarrow};
 
 use crate::answer::Answer;
 use crate::spot::Spot;
 use fb_bytes::Window;
 use fb_schema::{Scalar, Schema};
+use std::num::{f32_to_bits_with_nan, f64_from_bits_with_nan, nearest_f64_to_f32_with_nan};
 
 /// The bytes of a struct.
 pub fn struct_size(schema: &Schema<'_>, object: u32) -> u64
@@ -66,20 +67,37 @@ fn inline_at<'b>(window: &Window<'b>, at: u64, scalar: Scalar) -> Answer<'b>
     }
 }
 
-/// An absent scalar with this default: its low bytes, as many as the scalar has.
-#[tactic(auto, using(crate::proofs::Counted::number_fits), unfolding(crate::specs::Denotes::default_value))]
+/// The bits of the single that is nearest to the double of these bits.
+fn nearest_single(bits: u64) -> u32
+    ensures { result ≡ nearest_single bits }
+{
+    f32_to_bits_with_nan(nearest_f64_to_f32_with_nan(f64_from_bits_with_nan(bits)))
+}
+
+/// The lowest bytes of a number, as many as the scalar has.
+fn low_bytes(number: u64, scalar: Scalar) -> u64
+    ensures { result ≡ number % 256 ^ scalar_size scalar }
+{
+    match scalar.size() {
+        1 => number % 0x100,
+        2 => number % 0x1_0000,
+        4 => number % 0x1_0000_0000,
+        _ => number,
+    }
+}
+
+/// An absent scalar with this default.
+#[tactic(auto, unfolding(crate::specs::Denotes::default_value))]
 fn default_at<'b>(default: i64, scalar: Scalar) -> Answer<'b>
     ensures shown { shown result ≡ default_value scalar default }
     ensures fits { FitsScalar scalar result }
 {
-    let bytes = default.cast_unsigned();
-    let low = match scalar.size() {
-        1 => bytes % 0x100,
-        2 => bytes % 0x1_0000,
-        4 => bytes % 0x1_0000_0000,
-        _ => bytes,
-    };
-    number_of(scalar, low)
+    let bits = default.cast_unsigned();
+    match scalar {
+        Scalar::Float => Answer::DefaultFloat(nearest_single(bits)),
+        Scalar::Double => Answer::DefaultDouble(bits),
+        _ => number_of(scalar, low_bytes(bits, scalar)),
+    }
 }
 
 /// The value at a spot.

@@ -1,13 +1,13 @@
 -- What is seen from a place is seen from the place before it, one step further on.
-use Rattle.std.proofs.Common.{◌≡◌, ℕ, zero, suc, ◌*◌, ◌≤◌, All, List, [], ◌∷◌, ◌++◌, map, length, refl, sym, Some, inl, inr}
+use Rattle.std.proofs.Common.{◌≡◌, ℕ, ℤ, Bool, true, false, zero, suc, ◌*◌, ◌≤◌, All, List, [], ◌∷◌, ◌++◌, map, length, refl, sym, Some, inl, inr}
 use Rattle.std.specs.Prelude.{slice_get}
 use Rattle.std.proofs.lemmas.{List.length-map, List.Elements.All-push}
 use Rattle.fb_access.specs.declared.{step.Step.Step, step.Step.TheVariants.Field as ToField, step.Step.TheVariants.Element}
 use Rattle.fb_access.specs.Held.{Placed}
 use Rattle.fb_access.specs.Denotes.{Shown, vector, Leads, value}
-use Rattle.fb_bfbs.specs.Says.{Says, after, AreRows}
+use Rattle.fb_bfbs.specs.Says.{Says, after, AreRows, HasDouble}
 use Rattle.fb_bfbs.specs.Seen.{seen, Within, behind, IsRowAt}
-use Rattle.fb_bfbs.specs.Describes.{IsTypeRow, IsFieldRow, IsObjectRow, IsTypeOrNone, IsMemberRow, IsEnumRow}
+use Rattle.fb_bfbs.specs.Describes.{IsTypeRow, IsDefault, is_float, IsFieldRow, IsObjectRow, IsTypeOrNone, IsMemberRow, IsEnumRow}
 use Rattle.fb_bfbs.specs.Marks.{IsTextOrEmpty, IsAttribute, AreAttributes, IsAttributed, IsTagged, AreTagged}
 
 -- what such rows say is kept by what says more
@@ -37,12 +37,19 @@ pub type_or_none_within : Carries IsTypeOrNone
 type_or_none_within D E r h (inl (here, a)) = inl (h _ _ here, type_within D E r h a)
 type_or_none_within D E r h (inr (absent, e)) = inr (h _ _ absent, e)
 
+double_within : (D E : Says) (bits : ℕ) → Within D E → HasDouble D bits → HasDouble E bits
+double_within D E bits h (x, here, is) = (x, h [] x here, is)
+
+default_within : (D E : Says) (float : Bool) (d : ℤ) → Within D E → IsDefault D float d → IsDefault E float d
+default_within D E true d h (bits, real, is) = (bits, double_within (after D (ToField 5)) (after E (ToField 5)) bits (within_after D E (ToField 5) h) real, is)
+default_within D E false d h a = h _ _ a
+
 pub field_within : Carries IsFieldRow
 field_within D E r h a = record {
   name = h _ _ a.name;
   ty = type_within (after D (ToField 1)) (after E (ToField 1)) r.ty (within_after D E (ToField 1) h) a.ty;
   slot = h _ _ a.slot;
-  default = h _ _ a.default;
+  default = default_within D E (is_float (r.ty).base) r.default h a.default;
   deprecated = h _ _ a.deprecated;
   required = h _ _ a.required;
   optional = h _ _ a.optional;

@@ -31,6 +31,10 @@ pub field_number : (p : Placed) → IsAt p (Table 4) → HasField p 4 (Scalar sc
 unfolding computing
 field_number p at = always at refl
 
+pub field_double : (p : Placed) → IsAt p (Table 4) → HasField p 5 (Scalar scalar.Double)
+unfolding computing
+field_double p at = always at refl
+
 pub object_numbers : (p : Placed) → IsAt p (Table 5) → HasField p 3 (Scalar scalar.Int) × HasField p 4 (Scalar scalar.Int)
 unfolding computing
 object_numbers p at = (always at refl, always at refl)

@@ -1,10 +1,12 @@
 -- A schema file describes one list of rows.
-use Rattle.std.proofs.Common.{◌≡◌, ℕ, zero, suc, List, [], ◌∷◌, length, refl, sym, ◌∙◌, Some, inl, inr}
+use Rattle.std.proofs.Common.{◌≡◌, ℕ, ℤ, Bool, true, false, zero, suc, List, [], ◌∷◌, length, refl, sym, ◌∙◌, ap, subst, arith, Some, inl, inr, w64}
+use Rattle.std.specs.Int.{cast_signed}
 use Rattle.std.specs.Prelude.{slice_get}
+use Rattle.fb_schema.specs.{Rows.Field, declared.rows.TypeRow.TypeRow}
 use Rattle.fb_access.specs.declared.{step.Step.Step, step.Step.TheVariants.Field as ToField, step.Step.TheVariants.Element}
 use Rattle.fb_access.specs.Denotes.{Shown, nothing, truth, signed, unsigned, text, table, vector}
-use Rattle.fb_bfbs.specs.Says.{Says, after, AreRows}
-use Rattle.fb_bfbs.specs.Describes.{IsTypeRow, IsFieldRow, IsObjectRow, IsTypeOrNone, IsMemberRow, IsEnumRow, Describes}
+use Rattle.fb_bfbs.specs.Says.{Says, after, AreRows, IsDouble, HasDouble}
+use Rattle.fb_bfbs.specs.Describes.{IsTypeRow, IsDefault, is_float, IsFieldRow, IsObjectRow, IsTypeOrNone, IsMemberRow, IsEnumRow, Describes}
 
 -- steps lead to one value at most
 abbrev pub IsSingle : Says → Type 0
@@ -70,12 +72,25 @@ only_type_or_none D r s h (inl a) (inr b) = absurd (table_is_something D h [] a.
 only_type_or_none D r s h (inr a) (inl b) = absurd (table_is_something D h [] b.0 a.0)
 only_type_or_none D r s h (inr a) (inr b) = a.1 ∙ sym b.1
 
+same_bits : (x : Shown) (m n : ℕ) → IsDouble x m → IsDouble x n → m ≡ n
+same_bits x m n h i = grind arith
+
+one_double : (D : Says) → IsSingle D → (m n : ℕ) → HasDouble D m → HasDouble D n → m ≡ n
+one_double D h m n (x, here, is) (y, there, are) = same_bits y m n (subst (λ z. IsDouble z m) (h [] x y here there) is) are
+
+one_default : (D : Says) → IsSingle D → (float : Bool) (d e : ℤ) → IsDefault D float d → IsDefault D float e → d ≡ e
+one_default D h true d e (m, real, is) (n, other, are) = is ∙ ap (cast_signed w64) (one_double (after D (ToField 5)) (single_after D (ToField 5) h) m n real other) ∙ sym are
+one_default D h false d e a b = one_signed D h _ a b
+
+same_default : (D : Says) → IsSingle D → (r s : Field) → r.ty ≡ s.ty → IsDefault D (is_float (r.ty).base) r.default → IsDefault D (is_float (s.ty).base) s.default → r.default ≡ s.default
+same_default D h r s e a b = one_default D h (is_float (s.ty).base) r.default s.default (subst (λ (t : TypeRow). IsDefault D (is_float t.base) r.default) e a) b
+
 only_field : IsOnly IsFieldRow
 only_field D r s h a b =
     let name = one_text D h _ a.name b.name in
     let ty = only_type (after D (ToField 1)) r.ty s.ty (single_after D (ToField 1) h) a.ty b.ty in
     let slot = one_unsigned D h _ a.slot b.slot in
-    let default = one_signed D h _ a.default b.default in
+    let default = same_default D h r s ty a.default b.default in
     let deprecated = one_truth D h _ a.deprecated b.deprecated in
     let required = one_truth D h _ a.required b.required in
     let optional = one_truth D h _ a.optional b.optional in

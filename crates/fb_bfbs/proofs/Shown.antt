@@ -1,23 +1,23 @@
 -- The files of the examples describe their rows, table by table.
-use Rattle.std.proofs.Common.{◌≡◌, ℕ, zero, suc, List, [], ◌∷◌, length, refl, sym, subst, Option, Some, None, option_map, inl, inr}
+use Rattle.std.proofs.Common.{◌≡◌, ℕ, ℤ, zero, suc, List, [], ◌∷◌, length, refl, sym, subst, Option, Some, None, option_map, inl, inr}
 use Rattle.std.specs.Prelude.{slice_get}
 use Rattle.fb_bytes.specs.Word.{word}
 use Rattle.fb_schema.specs.{Rows.Field, Rows.Object, Rows.Enum, Kinds.shape_of, Kinds.kind_of, Kinds.base_types, Live.live_fields, declared.rows.TypeRow.TypeRow}
 use Rattle.fb_rules.specs.Places.{has_vtable, vtable, field_place}
 use Rattle.fb_access.specs.declared.{step.Step.Step, step.Step.TheVariants.Field as ToField, step.Step.TheVariants.Element, spot.Spot.Spot}
 use Rattle.fb_access.specs.declared.spot.Spot.TheVariants.{AtTable, AtTables}
-use Rattle.fb_access.specs.Spots.{present_spot, default_spot, absent_spot, spot_of_element, member_spot}
+use Rattle.fb_access.specs.Spots.{present_spot, absent_spot, spot_of_element, member_spot}
 use Rattle.fb_access.specs.Denotes.{Shown, Leads, next_spot, truth, signed, unsigned, text, vector, number, inline_value, default_value, value}
 use Rattle.fb_access.specs.Here.{Shows}
 use Rattle.fb_access.proofs.StepLaws.{some_same}
-use Rattle.fb_bfbs.specs.{Fixed.fixed, Says.Says, Says.after, Says.AreRows, Loads.told, Examples.DetailedFile}
-use Rattle.fb_bfbs.specs.Describes.{IsTypeRow, IsFieldRow, IsObjectRow, IsMemberRow, IsEnumRow, Describes}
-use Rattle.fb_bfbs.specs.Samples.{plain, hp_field, name_field, monster_object, plain_rows, detailed, old_field, far_field, struct_object, no_member, one_member, a_union, an_enum, detailed_rows}
+use Rattle.fb_bfbs.specs.{Fixed.fixed, Says.Says, Says.after, Says.AreRows, Says.IsDouble, Says.HasDouble, Loads.told, Examples.RealFile, Examples.DetailedFile}
+use Rattle.fb_bfbs.specs.Describes.{IsTypeRow, IsDefault, is_float, IsFieldRow, IsObjectRow, IsMemberRow, IsEnumRow, Describes}
+use Rattle.fb_bfbs.specs.Samples.{plain, hp_field, name_field, monster_object, plain_rows, reals, float_field, double_field, real_object, real_rows, detailed, old_field, far_field, struct_object, no_member, one_member, a_union, an_enum, detailed_rows}
 use Rattle.fb_bfbs.proofs.Composed.{Carries, type_within, field_within, object_within, member_within, enum_within, rows_within}
 
 -- all that is computed
 unfoldable pub computing : ℕ
-unfolding fixed word live_fields shape_of kind_of base_types has_vtable vtable field_place present_spot default_spot absent_spot spot_of_element member_spot next_spot number inline_value default_value value
+unfolding fixed word live_fields shape_of kind_of base_types has_vtable vtable field_place present_spot absent_spot spot_of_element member_spot next_spot number inline_value default_value value
 computing = 0
 
 -- what is said from a spot on
@@ -54,19 +54,26 @@ type_row b t ty (base, element, index, length) = record { base = said b _ 0 _ ba
 
 -- a table Field of a file, by the values of its fields and by its Type at t
 field_row : (b : List ℕ) (p t : ℕ) (f : Field) → Leads b fixed (AtTable 4 p) (ToField 1) (AtTable 0 t) → IsTypeRow (From b (AtTable 0 t)) f.ty
-    → (told_by b (AtTable 4 p) 0 ≡ Some (text f.name)) × (told_by b (AtTable 4 p) 3 ≡ Some (unsigned f.slot)) × (told_by b (AtTable 4 p) 4 ≡ Some (signed f.default))
+    → (told_by b (AtTable 4 p) 0 ≡ Some (text f.name)) × (told_by b (AtTable 4 p) 3 ≡ Some (unsigned f.slot)) × IsDefault (From b (AtTable 4 p)) (is_float (f.ty).base) f.default
     → (told_by b (AtTable 4 p) 6 ≡ Some (truth f.deprecated)) × (told_by b (AtTable 4 p) 7 ≡ Some (truth f.required)) × (told_by b (AtTable 4 p) 11 ≡ Some (truth f.optional)) × (told_by b (AtTable 4 p) 13 ≡ Some (truth f.offset64))
     → IsFieldRow (From b (AtTable 4 p)) f
 field_row b p t f to ty (name, slot, default) (deprecated, required, optional, offset64) = record {
   name = said b _ 0 _ name;
   ty = onward IsTypeRow type_within b (AtTable 4 p) (AtTable 0 t) (ToField 1) f.ty to ty;
   slot = said b _ 3 _ slot;
-  default = said b _ 4 _ default;
+  default = default;
   deprecated = said b _ 6 _ deprecated;
   required = said b _ 7 _ required;
   optional = said b _ 11 _ optional;
   offset64 = said b _ 13 _ offset64;
 }
+
+-- its default: an integer, or the bits of a real one
+whole : (b : List ℕ) (p : ℕ) (d : ℤ) → told_by b (AtTable 4 p) 4 ≡ Some (signed d) → From b (AtTable 4 p) (ToField 4 ∷ []) (signed d)
+whole b p d e = said b _ 4 _ e
+
+real : (b : List ℕ) (p bits : ℕ) (x : Shown) → told_by b (AtTable 4 p) 5 ≡ Some x → IsDouble x bits → HasDouble (after (From b (AtTable 4 p)) (ToField 5)) bits
+real b p bits x e is = (x, said b _ 5 _ e, is)
 
 -- a table Object of a file, by the values of its fields and by its vector of fields at l
 object_row : (b : List ℕ) (p l : ℕ) (o : Object) → Leads b fixed (AtTable 5 p) (ToField 1) (AtTables 4 l) → AreRows IsFieldRow (From b (AtTables 4 l)) o.fields
@@ -108,7 +115,7 @@ plain_objects : AreRows IsObjectRow (From plain (AtTables 5 44)) (monster_object
 unfolding computing
 plain_objects = some_rows IsObjectRow plain 5 44 (monster_object ∷ []) refl (
   onward IsObjectRow object_within plain (AtTables 5 44) (AtTable 5 60) (Element 0) monster_object refl (object_row plain 60 80 monster_object refl (two_rows IsFieldRow field_within plain 4 80 112 172 hp_field name_field refl refl refl
-      (field_row plain 112 152 hp_field refl (type_row plain 152 hp_field.ty (refl, refl, refl, refl)) (refl, refl, refl) (refl, refl, refl, refl)) (field_row plain 172 200 name_field refl (type_row plain 200 name_field.ty (refl, refl, refl, refl)) (refl, refl, refl) (refl, refl, refl, refl))) (refl, refl, refl, refl)),
+      (field_row plain 112 152 hp_field refl (type_row plain 152 hp_field.ty (refl, refl, refl, refl)) (refl, refl, whole plain 112 hp_field.default refl) (refl, refl, refl, refl)) (field_row plain 172 200 name_field refl (type_row plain 200 name_field.ty (refl, refl, refl, refl)) (refl, refl, whole plain 172 name_field.default refl) (refl, refl, refl, refl))) (refl, refl, refl, refl)),
   tt,
 )
 
@@ -119,13 +126,33 @@ plain_described = record {
   enums = onward (AreRows IsEnumRow) (rows_within IsEnumRow enum_within) plain (AtTable 9 24) (AtTables 3 40) (ToField 1) plain_rows.enums refl (some_rows IsEnumRow plain 3 40 [] refl tt);
 }
 
+-- The file with real defaults.
+
+real_objects : AreRows IsObjectRow (From reals (AtTables 5 44)) (real_object ∷ [])
+unfolding computing
+real_objects = some_rows IsObjectRow reals 5 44 (real_object ∷ []) refl (
+  onward IsObjectRow object_within reals (AtTables 5 44) (AtTable 5 60) (Element 0) real_object refl (object_row reals 60 80 real_object refl (two_rows IsFieldRow field_within reals 4 80 112 172 float_field double_field refl refl refl
+      (field_row reals 112 152 float_field refl (type_row reals 152 float_field.ty (refl, refl, refl, refl)) (refl, refl, (_, real reals 112 0x3fb999999999999a _ refl refl, refl)) (refl, refl, refl, refl))
+      (field_row reals 172 200 double_field refl (type_row reals 200 double_field.ty (refl, refl, refl, refl)) (refl, refl, (_, real reals 172 0 _ refl refl, refl)) (refl, refl, refl, refl))) (refl, refl, refl, refl)),
+  tt,
+)
+
+pub real_file : RealFile
+unfolding computing
+real_file = record {
+  rows = record {
+    objects = onward (AreRows IsObjectRow) (rows_within IsObjectRow object_within) reals (AtTable 9 24) (AtTables 5 44) (ToField 0) real_rows.objects refl real_objects;
+    enums = onward (AreRows IsEnumRow) (rows_within IsEnumRow enum_within) reals (AtTable 9 24) (AtTables 3 40) (ToField 1) real_rows.enums refl (some_rows IsEnumRow reals 3 40 [] refl tt);
+  };
+}
+
 -- The detailed file.
 
 detailed_objects : AreRows IsObjectRow (From detailed (AtTables 5 36)) (struct_object ∷ [])
 unfolding computing
 detailed_objects = some_rows IsObjectRow detailed 5 36 (struct_object ∷ []) refl (
   onward IsObjectRow object_within detailed (AtTables 5 36) (AtTable 5 84) (Element 0) struct_object refl (object_row detailed 84 116 struct_object refl (two_rows IsFieldRow field_within detailed 4 116 160 260 old_field far_field refl refl refl
-      (field_row detailed 160 216 old_field refl (type_row detailed 216 old_field.ty (refl, refl, refl, refl)) (refl, refl, refl) (refl, refl, refl, refl)) (field_row detailed 260 296 far_field refl (type_row detailed 296 far_field.ty (refl, refl, refl, refl)) (refl, refl, refl) (refl, refl, refl, refl))) (refl, refl, refl, refl)),
+      (field_row detailed 160 216 old_field refl (type_row detailed 216 old_field.ty (refl, refl, refl, refl)) (refl, refl, whole detailed 160 old_field.default refl) (refl, refl, refl, refl)) (field_row detailed 260 296 far_field refl (type_row detailed 296 far_field.ty (refl, refl, refl, refl)) (refl, refl, whole detailed 260 far_field.default refl) (refl, refl, refl, refl))) (refl, refl, refl, refl)),
   tt,
 )
 

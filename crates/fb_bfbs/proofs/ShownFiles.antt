@@ -11,7 +11,7 @@ use Rattle.fb_rules.specs.{Fields.entries, Fields.row, Fields.union_row, Unfolds
 use Rattle.fb_rules.specs.Tree.{Tree, node, no_kids, kid, no_elements, element, leaf, table, size, depth}
 use Rattle.fb_rules.specs.Order.{own_failure, start_failure, prefix_failure, ident_failure, head_failure, offset_failure, string_failure, vector_failure, inline_failure, table_failure}
 use Rattle.fb_rules.proofs.Shown.{start, head, own, offset, string}
-use Rattle.fb_access.specs.Spots.{present_spot, default_spot, absent_spot, spot_of_element, member_spot}
+use Rattle.fb_access.specs.Spots.{present_spot, absent_spot, spot_of_element, member_spot}
 use Rattle.fb_access.specs.Denotes.{next_spot, number, inline_value, default_value, value}
 use Rattle.fb_bfbs.specs.{Fixed.fixed, Loads.published, Loads.IsSchemaFile, Samples.plain, Samples.plain_rows, Examples.PlainFile}
 use Rattle.fb_bfbs.proofs.Shown.{plain_described}
@@ -28,7 +28,7 @@ judging = 0
 
 -- and of what its paths denote
 reading : ℕ
-unfolding fixed word live_fields shape_of kind_of base_types has_vtable vtable field_place present_spot default_spot absent_spot spot_of_element member_spot next_spot number inline_value default_value value table_named
+unfolding fixed word live_fields shape_of kind_of base_types has_vtable vtable field_place present_spot absent_spot spot_of_element member_spot next_spot number inline_value default_value value table_named
 reading = 0
 
 -- The tree.

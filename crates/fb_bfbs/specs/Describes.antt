@@ -1,12 +1,13 @@
 -- What the rows of a schema file are: each is what the paths of its table lead to, by the field numbers of
 -- reflection.fbs.
-use Rattle.std.specs.Prelude.{◌≡◌, ℕ, pos, negsuc, List, [], ◌∷◌, ◌⊎◌, Option, Some, None}
+use Rattle.std.specs.Prelude.{◌≡◌, ℕ, ℤ, pos, negsuc, Bool, true, false, ◌||◌, List, [], ◌∷◌, ◌⊎◌, Option, Some, None}
 use Rattle.std.specs.Borrow.{Bor}
+use Rattle.std.specs.{Int.cast_signed, Int.w64, Ordering.int_eq}
 use Rattle.fb_schema.specs.declared.rows.TypeRow.{TypeRow}
 use Rattle.fb_schema.specs.Rows.{Field, Object, Member, Enum, Rows, table_named}
 use Rattle.fb_access.specs.declared.step.Step.TheVariants.{Field as ToField}
 use Rattle.fb_access.specs.Denotes.{nothing, truth, signed, unsigned, text, table}
-use Rattle.fb_bfbs.specs.Says.{Says, after, AreRows}
+use Rattle.fb_bfbs.specs.Says.{Says, after, AreRows, HasDouble}
 
 -- a table Type
 pub record IsTypeRow (D : Says) (ty : TypeRow) : Type 0 where
@@ -15,12 +16,21 @@ pub record IsTypeRow (D : Says) (ty : TypeRow) : Type 0 where
   pub index : D (ToField 2 ∷ []) (signed ty.index)
   pub fixed_length : D (ToField 3 ∷ []) (unsigned ty.fixed_length)
 
+-- the base types Float and Double
+abbrev pub is_float : ℤ → Bool
+is_float base = int_eq base (pos 11) || int_eq base (pos 12)
+
+-- the default of a field, which is a float or isn't: the bits of its real one, or its integer
+abbrev pub IsDefault : Says → Bool → ℤ → Type 0
+IsDefault D true default = (bits : ℕ) × HasDouble (after D (ToField 5)) bits × (default ≡ cast_signed w64 bits)
+IsDefault D false default = D (ToField 4 ∷ []) (signed default)
+
 -- a table Field
 pub record IsFieldRow (D : Says) (f : Field) : Type 0 where
   pub name : D (ToField 0 ∷ []) (text f.name)
   pub ty : IsTypeRow (after D (ToField 1)) f.ty
   pub slot : D (ToField 3 ∷ []) (unsigned f.slot)
-  pub default : D (ToField 4 ∷ []) (signed f.default)
+  pub default : IsDefault D (is_float (f.ty).base) f.default
   pub deprecated : D (ToField 6 ∷ []) (truth f.deprecated)
   pub required : D (ToField 7 ∷ []) (truth f.required)
   pub optional : D (ToField 11 ∷ []) (truth f.optional)

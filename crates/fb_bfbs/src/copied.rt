@@ -5,11 +5,12 @@ ghost use Rattle.std.specs.Prelude.{vec_len};
 ghost use Rattle.fb_schema.specs.Rows.{field_of, object_of, member_of_row, enum_of};
 ghost use Rattle.fb_access.specs.declared.step.Step.TheVariants.{Field as ToField};
 ghost use Rattle.fb_bfbs.specs.{Says.after, Seen.seen, Seen.IsAt};
-ghost use Rattle.fb_bfbs.specs.Describes.{IsTypeRow, IsTypeOrNone, IsFieldRow, IsObjectRow, IsMemberRow, IsEnumRow};
+ghost use Rattle.fb_bfbs.specs.Describes.{IsTypeRow, IsTypeOrNone, IsFieldRow, IsObjectRow, IsMemberRow, IsEnumRow, IsDefault, is_float};
 
 use crate::lists::{FromTable, rows_in};
-use crate::values::{bool_in, int_in, table_or_none, text_in, ushort_in};
+use crate::values::{bool_in, double_in, int_in, table_or_none, text_in, ushort_in};
 use fb_access::{Place, Step};
+use fb_schema::base_type::{DOUBLE, FLOAT};
 use fb_schema::{EnumRow, FieldRow, Kind, MemberRow, ObjectRow, TypeRow};
 use std::alloc::{AllocError, Global};
 
@@ -42,6 +43,18 @@ fn union_type(place: &Place) -> TypeRow
     }
 }
 
+/// The default of a field of this base type: of a Float or Double the bits of its real one, of others its integer.
+fn default_in(place: &Place, base: i8) -> i64
+    requires { IsAt place.now (Kind.Table 4) }
+    ensures { IsDefault (seen place.now) (is_float base) result }
+{
+    if base == FLOAT || base == DOUBLE {
+        double_in(place, 5).cast_signed()
+    } else {
+        int_in(place, 4)
+    }
+}
+
 /// A table Field.
 impl<'b> FromTable<'b> for FieldRow<'b> {
     ghost number = { 4 };
@@ -51,12 +64,13 @@ impl<'b> FromTable<'b> for FieldRow<'b> {
     ghost listed = { λ row. 0 };
 
     fn from_table(_alloc: Global, place: &Place<'_, 'b, '_, '_>) -> Result<Self, AllocError> {
-        let ty = place.go(Step::Field(1));
+        let type_place = place.go(Step::Field(1));
+        let ty = type_row(&type_place);
         Ok(FieldRow {
             name: text_in(place, 0),
-            ty: type_row(&ty),
+            ty,
             slot: ushort_in(place, 3),
-            default: int_in(place, 4),
+            default: default_in(place, ty.base),
             deprecated: bool_in(place, 6),
             required: bool_in(place, 7),
             optional: bool_in(place, 11),

@@ -7,9 +7,10 @@ ghost use Rattle.fb_schema.specs.declared.kinds.Scalar.TheVariants as scalar;
 ghost use Rattle.fb_access.specs.declared.step.Step.TheVariants.{Field as ToField};
 ghost use Rattle.fb_access.specs.Denotes.{nothing, text, truth, signed, unsigned, vector, value};
 ghost use Rattle.fb_access.specs.Here.{width_of};
-ghost use Rattle.fb_bfbs.specs.Says.{text_or_nothing};
+ghost use Rattle.fb_bfbs.specs.Says.{after, text_or_nothing, HasDouble};
 ghost use Rattle.fb_bfbs.specs.Seen.{seen, HasField, HasSigned, IsVector, MayHaveField, MayHaveTable, MayHaveTables, IsOneOn};
 
+use byteorder::{ByteOrder, LittleEndian};
 use fb_access::{Answer, Place, Step};
 use fb_schema::Kind;
 
@@ -48,6 +49,19 @@ pub fn int_in(place: &Place, number: u16) -> i64
     let field = place.go(Step::Field(number));
     match field.answer() {
         Answer::Int(value) => value,
+        _ => unreachable!(),
+    }
+}
+
+/// The bits of a Double, which stands in the file or has its default.
+pub fn double_in(place: &Place, number: u16) -> u64
+    requires { HasField place.now number (Kind.Scalar scalar.Double) }
+    ensures { HasDouble (after (seen place.now) (ToField number)) result }
+{
+    let field = place.go(Step::Field(number));
+    match field.answer() {
+        Answer::Float(bytes) => LittleEndian::read_u64(bytes),
+        Answer::DefaultDouble(bits) => bits,
         _ => unreachable!(),
     }
 }

@@ -9,7 +9,7 @@ use Rattle.json.specs.Print.{IsNumber}
 use Rattle.json.specs.Tree.{depth, members_depth, HasNumbers, MembersHaveNumbers}
 use Rattle.json.specs.Word.{after_number}
 use Rattle.json.proofs.{Printed.Decimals.IsNumber-decimal, Printed.Floats.IsNumber-plain, Printed.Trees.document-print}
-use Rattle.fb_access.specs.Denotes.{Shown, nothing, no_element, other_member, truth, signed, unsigned, float, text, structure, vector, table, union}
+use Rattle.fb_access.specs.Denotes.{Shown, nothing, no_element, other_member, truth, signed, unsigned, float, default_float, default_double, text, structure, vector, table, union}
 use Rattle.fb_lines.specs.Json.{AreValues, IsReal, IsValue, IsValuesMember, digits_json, field_of, json_text, labelled, line_json, name_json, no_members_of, object_of, place_member, spot_members, text_json, value_json, yes_members}
 use Rattle.fb_lines.specs.Spot.{IsShort}
 use Rattle.fb_lines.specs.declared.spot.Spot.{Spot}
@@ -59,6 +59,8 @@ shown_plain (truth b) few = record { numbers = tt; shallow = omega arith }
 shown_plain (signed z) few = record { numbers = signed_number z few; shallow = omega arith }
 shown_plain (unsigned n) few = record { numbers = IsNumber-decimal n few; shallow = omega arith }
 shown_plain (float bytes) few = record { numbers = (tt, tt); shallow = omega arith }
+shown_plain (default_float bits) few = record { numbers = tt; shallow = omega arith }
+shown_plain (default_double bits) few = record { numbers = tt; shallow = omega arith }
 shown_plain (text bytes) few = text_plain bytes
 shown_plain (structure bytes) few = record { numbers = (tt, tt); shallow = omega arith }
 shown_plain (vector count) few = record { numbers = (IsNumber-decimal count few, tt); shallow = omega arith }
@@ -73,6 +75,8 @@ value_plain (float bytes) value few is = elim (cases_eq (length bytes) 4) [
     | inr not_eight ↦ subst IsPlain (sym (is.neither not_four not_eight)) (shown_plain (float bytes) few)
   ]
 ]
+value_plain (default_float bits) value few is = real_plain binary32 _ value is
+value_plain (default_double bits) value few is = real_plain binary64 _ value is
 value_plain nothing value few is = subst IsPlain (sym is) (shown_plain nothing few)
 value_plain no_element value few is = subst IsPlain (sym is) (shown_plain no_element few)
 value_plain other_member value few is = subst IsPlain (sym is) (shown_plain other_member few)

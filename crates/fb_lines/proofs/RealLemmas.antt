@@ -12,7 +12,7 @@ use Rattle.byteorder.specs.Endian.{little_number}
 use Rattle.fb_bytes.specs.Word.{word}
 use Rattle.fb_access.proofs.StepLaws.{some_same}
 use Rattle.fb_lines.specs.Json.{IsFloat, IsReal, most_digits, most_zeros}
-use Rattle.fb_lines.specs.JsonLaws.{FloatsReadBack}
+use Rattle.fb_lines.specs.JsonLaws.{DefaultsReadBack, FloatsReadBack}
 
 -- what the printer says of the text of a float
 module _ (f : Format) (x : Float) (text : List ℕ) (reads : parse_float f text ≡ Some x) where
@@ -99,4 +99,10 @@ pub floats_read : FloatsReadBack
 floats_read bytes text fits is = record {
   single = λ four. number_reads binary32 (word bytes 0 4) _ text (four_fit bytes fits) refl (is.single four);
   double = λ eight. number_reads binary64 (word bytes 0 8) _ text (eight_fit bytes fits) refl (is.double eight);
+}
+
+pub defaults_read : DefaultsReadBack
+defaults_read = record {
+  single = λ bits text fits is. number_reads binary32 bits _ text (omega (arith, fits)) refl is;
+  double = λ bits text fits is. number_reads binary64 bits _ text (omega (arith, fits)) refl is;
 }

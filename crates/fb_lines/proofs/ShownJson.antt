@@ -11,7 +11,7 @@ use Rattle.json.specs.Print.{escape_byte, print_from}
 use Rattle.ryu.specs.Plain.{IsLaidOutText}
 use Rattle.fb_bytes.specs.Word.{word}
 use Rattle.fb_schema.specs.{Kinds.base_types, Kinds.kind_of, Kinds.shape_of, Live.live_fields}
-use Rattle.fb_access.specs.Denotes.{float}
+use Rattle.fb_access.specs.Denotes.{float, default_float, default_double}
 use Rattle.fb_lines.specs.{Json.json_text, JsonSums.Summaries, JsonTests.IsText, JsonTests.JsonLines, JsonTests.JsonTexts, JsonTests.JsonValues}
 use Rattle.fb_lines.proofs.RealLemmas.{eight_bytes, four_bytes}
 
@@ -34,8 +34,8 @@ digit : (c : ℕ) → 48 ≤ c → c ≤ 57 → digit_value c < 10
 digit c low high = omega (arith, digit_value_digit c (low, high))
 
 -- a number of one digit, a point, and one digit
-one_and_one : (whole fraction : ℕ) → 48 ≤ whole → whole ≤ 57 → 48 ≤ fraction → fraction ≤ 57 → IsLaidOutText 13 5 (whole ∷ 46 ∷ fraction ∷ [])
-one_and_one whole fraction low high few many =
+one_and_one : (digits zeros whole fraction : ℕ) → 1 ≤ digits → 48 ≤ whole → whole ≤ 57 → 48 ≤ fraction → fraction ≤ 57 → IsLaidOutText digits zeros (whole ∷ 46 ∷ fraction ∷ [])
+one_and_one digits zeros whole fraction room low high few many =
     let parts : Parts = record { whole = whole ∷ []; point = true; fraction = fraction ∷ []; exponent_negative = false; exponent = []; len = 3 } in (
       parts,
       refl,
@@ -65,29 +65,51 @@ one_and_one whole fraction low high few many =
 one : IsText (float (0 ∷ 0 ∷ 128 ∷ 63 ∷ [])) (codes "1.0")
 unfolding computing
 one =
-    let laid = one_and_one 49 48 (omega arith) (omega arith) (omega arith) (omega arith) in
+    let laid = one_and_one 13 5 49 48 (omega arith) (omega arith) (omega arith) (omega arith) (omega arith) in
     (number (codes "1.0"), four_bytes (0 ∷ 0 ∷ 128 ∷ 63 ∷ []) (number (codes "1.0")) refl (codes "1.0", record { reads = refl; layout = (false, codes "1.0", refl, laid); short = omega arith }, refl), refl)
 
 one_and_a_half : IsText (float (0 ∷ 0 ∷ 192 ∷ 63 ∷ [])) (codes "1.5")
 unfolding computing
 one_and_a_half =
-    let laid = one_and_one 49 53 (omega arith) (omega arith) (omega arith) (omega arith) in
+    let laid = one_and_one 13 5 49 53 (omega arith) (omega arith) (omega arith) (omega arith) (omega arith) in
     (number (codes "1.5"), four_bytes (0 ∷ 0 ∷ 192 ∷ 63 ∷ []) (number (codes "1.5")) refl (codes "1.5", record { reads = refl; layout = (false, codes "1.5", refl, laid); short = omega arith }, refl), refl)
 
 minus_zero : IsText (float (0 ∷ 0 ∷ 0 ∷ 128 ∷ [])) (codes "-0.0")
 unfolding computing
 minus_zero =
-    let laid = one_and_one 48 48 (omega arith) (omega arith) (omega arith) (omega arith) in
+    let laid = one_and_one 13 5 48 48 (omega arith) (omega arith) (omega arith) (omega arith) (omega arith) in
     (number (codes "-0.0"), four_bytes (0 ∷ 0 ∷ 0 ∷ 128 ∷ []) (number (codes "-0.0")) refl (codes "-0.0", record { reads = refl; layout = (true, codes "0.0", refl, laid); short = omega arith }, refl), refl)
+
+-- by default
+single_one_and_a_half : IsText (default_float 0x3fc00000) (codes "1.5")
+unfolding computing
+single_one_and_a_half =
+    let laid = one_and_one 13 5 49 53 (omega arith) (omega arith) (omega arith) (omega arith) (omega arith) in
+    (number (codes "1.5"), (codes "1.5", record { reads = refl; layout = (false, codes "1.5", refl, laid); short = omega arith }, refl), refl)
+
+double_one_and_a_half : IsText (default_double 0x3ff8000000000000) (codes "1.5")
+unfolding computing
+double_one_and_a_half =
+    let laid = one_and_one 16 4 49 53 (omega arith) (omega arith) (omega arith) (omega arith) (omega arith) in
+    (number (codes "1.5"), (codes "1.5", record { reads = refl; layout = (false, codes "1.5", refl, laid); short = omega arith }, refl), refl)
+
+single_zero : IsText (default_float 0) (codes "0.0")
+unfolding computing
+single_zero =
+    let laid = one_and_one 13 5 48 48 (omega arith) (omega arith) (omega arith) (omega arith) (omega arith) in
+    (number (codes "0.0"), (codes "0.0", record { reads = refl; layout = (false, codes "0.0", refl, laid); short = omega arith }, refl), refl)
 
 pub values_shown : JsonValues
 unfolding computing
 values_shown = record {
-  kinds = ((_, refl, refl), ((_, refl, refl), ((_, refl, refl), ((_, refl, refl), ((_, refl, refl), ((_, refl, refl), ((_, refl, refl), ((_, refl, refl), (one, (one_and_a_half, ((_, refl, refl), ((_, refl, refl), ((_, refl, refl), ((_, refl, refl), tt))))))))))))));
+  kinds = ((_, refl, refl), ((_, refl, refl), ((_, refl, refl), ((_, refl, refl), ((_, refl, refl), ((_, refl, refl), ((_, refl, refl), ((_, refl, refl), (one, (one_and_a_half, (single_one_and_a_half, (double_one_and_a_half, ((_, refl, refl), ((_, refl, refl), ((_, refl, refl), ((_, refl, refl), tt))))))))))))))));
   negative_zero = minus_zero;
   none = (string (codes "NaN"), four_bytes (0 ∷ 0 ∷ 192 ∷ 127 ∷ []) (string (codes "NaN")) refl refl, refl);
   infinite = (string (codes "Infinity"), four_bytes (0 ∷ 0 ∷ 128 ∷ 127 ∷ []) (string (codes "Infinity")) refl refl, refl);
   negative = (string (codes "-Infinity"), eight_bytes (0 ∷ 0 ∷ 0 ∷ 0 ∷ 0 ∷ 0 ∷ 240 ∷ 255 ∷ []) (string (codes "-Infinity")) refl refl, refl);
+  default_zero = single_zero;
+  default_none = (string (codes "NaN"), refl, refl);
+  default_infinite = (string (codes "-Infinity"), refl, refl);
 }
 
 pub texts_shown : JsonTexts

@@ -5,7 +5,7 @@ use Rattle.hex.specs.Hex.{encode_lower}
 use Rattle.json.specs.Print.{escape_byte}
 use Rattle.fb_lines.specs.declared.{value_text.Spelling.Spelling, value_text.Spelling.TheVariants.Quoted, value_text.Spelling.TheVariants.Json, value_text.Spelling.TheVariants.Digits}
 use Rattle.fb_access.specs.declared.answer.Answer.{Answer}
-use Rattle.fb_access.specs.Denotes.{Shown, shown, nothing, no_element, other_member, truth, signed, unsigned, float, text, structure, vector, table, union}
+use Rattle.fb_access.specs.Denotes.{Shown, shown, nothing, no_element, other_member, truth, signed, unsigned, float, default_float, default_double, text, structure, vector, table, union}
 
 -- a byte of a text: a quote and a backslash stand behind a backslash, and what isn't printable ASCII as two hexadecimal
 -- digits
@@ -30,7 +30,7 @@ abbrev pub label_text : Option (List ℕ) → List ℕ
 label_text None = []
 label_text (Some name) = flat_map byte_text name ++ codes ": "
 
--- a value
+-- a value; a float that isn't in the buffer is told as absent, whatever its default
 abbrev pub answer_text : Shown → List ℕ
 answer_text nothing = codes "absent"
 answer_text no_element = codes "no-element"
@@ -40,6 +40,8 @@ answer_text (truth false) = codes "false"
 answer_text (signed number) = signed_decimal number
 answer_text (unsigned number) = decimal number
 answer_text (float bytes) = codes "float:" ++ encode_lower bytes
+answer_text (default_float bits) = codes "absent"
+answer_text (default_double bits) = codes "absent"
 answer_text (text bytes) = quoted bytes
 answer_text (structure bytes) = codes "struct:" ++ encode_lower bytes
 answer_text (vector count) = codes "vector:" ++ decimal count

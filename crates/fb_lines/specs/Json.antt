@@ -11,7 +11,7 @@ use Rattle.fb_bytes.specs.Word.{word}
 use Rattle.fb_schema.specs.Rows.{Rows}
 use Rattle.fb_rules.specs.Reasons.{reason_number, reason_text}
 use Rattle.fb_rules.specs.declared.{fault.Fault.Fault, fault.Reason.Reason, fault.Report.Report}
-use Rattle.fb_access.specs.Denotes.{Shown, nothing, no_element, other_member, truth, signed, unsigned, float, text, structure, vector, table, union}
+use Rattle.fb_access.specs.Denotes.{Shown, nothing, no_element, other_member, truth, signed, unsigned, float, default_float, default_double, text, structure, vector, table, union}
 use Rattle.fb_access.specs.Location.{field_name}
 use Rattle.fb_lines.specs.declared.spot.Spot.{Spot}
 
@@ -40,7 +40,7 @@ name_json (Some name) = text_json name
 abbrev pub count_json : ℕ → Json
 count_json n = number (decimal n)
 
--- the value at the end of a path (a float by its digits: see below)
+-- the value at the end of a path (of floats only those of an odd length, by their digits: see below)
 abbrev pub value_json : Shown → Json
 value_json nothing = null
 value_json no_element = labelled (codes "absent") (string (codes "no-element"))
@@ -49,6 +49,8 @@ value_json (truth holds) = boolean holds
 value_json (signed z) = number (signed_decimal z)
 value_json (unsigned n) = count_json n
 value_json (float bytes) = labelled (codes "float") (digits_json bytes)
+value_json (default_float bits) = null
+value_json (default_double bits) = null
 value_json (text bytes) = text_json bytes
 value_json (structure bytes) = labelled (codes "struct") (digits_json bytes)
 value_json (vector count) = labelled (codes "vector") (count_json count)
@@ -83,9 +85,11 @@ pub record IsFloat (bytes : List ℕ) (value : Json) : Type 0 where
   pub double : length bytes ≡ 8 → IsReal binary64 (from_bits binary64 (word bytes 0 8)) value
   pub neither : (length bytes ≡ 4 → ⊥) → (length bytes ≡ 8 → ⊥) → value ≡ value_json (float bytes)
 
--- a value as a line has it
+-- a value as a line has it; a float that isn't in the buffer has its default's bits
 abbrev pub IsValue : Shown → Json → Type 0
 IsValue (float bytes) value = IsFloat bytes value
+IsValue (default_float bits) value = IsReal binary32 (from_bits binary32 bits) value
+IsValue (default_double bits) value = IsReal binary64 (from_bits binary64 bits) value
 IsValue shown value = value ≡ value_json shown
 
 -- the values of some paths, each by the text of its path

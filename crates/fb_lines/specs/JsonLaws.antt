@@ -6,10 +6,10 @@ use Rattle.std.specs.Float.Parse.{parse_float}
 use Rattle.fb_bytes.specs.Word.{word}
 use Rattle.fb_schema.specs.Rows.{Rows}
 use Rattle.fb_rules.specs.declared.{fault.Fault.Fault, fault.Report.Report}
-use Rattle.fb_access.specs.Denotes.{Shown, signed, unsigned, vector, union}
+use Rattle.fb_access.specs.Denotes.{Shown, default_float, default_double, signed, unsigned, vector, union}
 use Rattle.fb_lines.specs.declared.spot.Spot.{Spot}
 use Rattle.fb_lines.specs.Spot.{IsShort}
-use Rattle.fb_lines.specs.Json.{IsFloat, IsValuesMember, json_text, line_json, no_members_of, yes_members}
+use Rattle.fb_lines.specs.Json.{IsFloat, IsValue, IsValuesMember, json_text, line_json, no_members_of, yes_members}
 
 -- by the grammar of RFC 8259 the text of this value is that value
 abbrev pub ReadsBack : Json → Type 0
@@ -41,3 +41,8 @@ pub record ReadsAs (bytes text : List ℕ) : Type 0 where
 
 abbrev pub FloatsReadBack : Type 0
 FloatsReadBack = (bytes text : List ℕ) → ((i : ℕ) → slice_index bytes i < 256) → IsFloat bytes (number text) → ReadsAs bytes text
+
+-- and so has the float that a reader makes of the number of a default
+pub record DefaultsReadBack : Type 0 where
+  pub single : (bits : ℕ) (text : List ℕ) → bits < 2 ^ 32 → IsValue (default_float bits) (number text) → option_map (to_bits binary32) (parse_float binary32 text) ≡ Some bits
+  pub double : (bits : ℕ) (text : List ℕ) → bits < 2 ^ 64 → IsValue (default_double bits) (number text) → option_map (to_bits binary64) (parse_float binary64 text) ≡ Some bits

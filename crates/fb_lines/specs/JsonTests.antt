@@ -6,7 +6,7 @@ use Rattle.fb_schema.specs.Rows.{Rows}
 use Rattle.fb_rules.specs.Samples.{short, field, table as table_row}
 use Rattle.fb_rules.specs.declared.{fault.Fault.Fault, fault.Reason.TheVariants.Misaligned, fault.Reason.TheVariants.NoTerminator}
 use Rattle.fb_rules.specs.declared.fault.Report.{Report}
-use Rattle.fb_access.specs.Denotes.{Shown, float, signed, text}
+use Rattle.fb_access.specs.Denotes.{Shown, float, default_float, default_double, signed, text}
 use Rattle.fb_lines.specs.Json.{IsValue, IsYes, json_no, json_text, json_yes, text_json}
 use Rattle.fb_lines.specs.LineTests.{of_each_kind}
 use Rattle.fb_lines.specs.declared.spot.Spot.{Spot}
@@ -50,6 +50,9 @@ pub record JsonValues : Type 0 where
   pub none : IsText (float (0 ∷ 0 ∷ 192 ∷ 127 ∷ [])) (codes "\"NaN\"")
   pub infinite : IsText (float (0 ∷ 0 ∷ 128 ∷ 127 ∷ [])) (codes "\"Infinity\"")
   pub negative : IsText (float (0 ∷ 0 ∷ 0 ∷ 0 ∷ 0 ∷ 0 ∷ 240 ∷ 255 ∷ [])) (codes "\"-Infinity\"")
+  pub default_zero : IsText (default_float 0) (codes "0.0")
+  pub default_none : IsText (default_double 0x7ff8000000000000) (codes "\"NaN\"")
+  pub default_infinite : IsText (default_float 0xff800000) (codes "\"-Infinity\"")
 
 -- what is escaped, and what beside it isn't; a letter of two bytes; a byte that no text has, one that lacks the next, a
 -- letter that is longer than it need be, and half of a pair

@@ -1,6 +1,6 @@
 -- Lines of verdicts by example.
 use Rattle.std.specs.Prelude.{◌≡◌, ℕ, pos, negsuc, true, false, List, [], ◌∷◌, map, codes, Some, None, Ok, Err}
-use Rattle.fb_access.specs.Denotes.{Shown, nothing, no_element, other_member, truth, signed, unsigned, float, text, structure, vector, table, union}
+use Rattle.fb_access.specs.Denotes.{Shown, nothing, no_element, other_member, truth, signed, unsigned, float, default_float, default_double, text, structure, vector, table, union}
 use Rattle.fb_rules.specs.declared.{fault.Fault.Fault, fault.Reason.TheVariants.Misaligned, fault.Reason.TheVariants.NoTerminator}
 use Rattle.fb_rules.specs.declared.fault.Report.{Report}
 use Rattle.fb_lines.specs.{AnswerText.answer_text, AnswerText.label_text, Line.verdict_line}
@@ -30,6 +30,7 @@ of_each_kind =
     ∷ (signed (negsuc 299), codes "-300", codes "-300") ∷ (signed (pos 40), codes "40", codes "40")
     ∷ (float (0 ∷ 0 ∷ 128 ∷ 63 ∷ []), codes "float:0000803f", codes "1.0")
     ∷ (float (0 ∷ 0 ∷ 192 ∷ 63 ∷ []), codes "float:0000c03f", codes "1.5")
+    ∷ (default_float 0x3fc00000, codes "absent", codes "1.5") ∷ (default_double 0x3ff8000000000000, codes "absent", codes "1.5")
     ∷ (structure (1 ∷ 171 ∷ []), codes "struct:01ab", codes "{\"struct\":\"01ab\"}")
     ∷ (vector 3, codes "vector:3", codes "{\"vector\":3}") ∷ (table, codes "table", codes "{\"table\":true}") ∷ (union 2, codes "union:2", codes "{\"union\":2}") ∷ []
 

@@ -2,7 +2,7 @@
 //! theorems.
 
 ghost use Rattle.fb_schema.specs.Rows.{Rows};
-ghost use Rattle.fb_lines.specs.{FilterLaws.PassesAgain, JobTests.Buffers, JsonLaws.FloatsReadBack, JsonLaws.NoReadsBack, JsonLaws.YesReadsBack, JsonSums.Summaries, StrictLaws.StrictIsOk};
+ghost use Rattle.fb_lines.specs.{FilterLaws.PassesAgain, JobTests.Buffers, JsonLaws.DefaultsReadBack, JsonLaws.FloatsReadBack, JsonLaws.NoReadsBack, JsonLaws.YesReadsBack, JsonSums.Summaries, StrictLaws.StrictIsOk};
 ghost use Rattle.fb_lines.specs.JsonTests.{JsonLines, JsonTexts, JsonValues};
 ghost use Rattle.fb_lines.specs.LineTests.{Lines, Names, Values, Texts};
 ghost use Rattle.fb_lines.specs.declared.options.Options.{Options};
@@ -27,12 +27,14 @@ pub fn json_by_example()
     ensures sums { Summaries }
 {}
 
-/// Whoever reads a line of JSON by the grammar gets the object that it is, and of a float's number its very bits.
-#[tactic(auto, using(crate::proofs::JsonReads::yes_reads, crate::proofs::JsonReads::no_reads, crate::proofs::RealLemmas::floats_read))]
+/// Whoever reads a line of JSON by the grammar gets the object that it is, and of a float's number its very bits, also
+/// where it is a default.
+#[tactic(auto, using(crate::proofs::JsonReads::yes_reads, crate::proofs::JsonReads::no_reads, crate::proofs::RealLemmas::floats_read, crate::proofs::RealLemmas::defaults_read))]
 pub fn json_reads_back()
     ensures yes { YesReadsBack }
     ensures no { NoReadsBack }
     ensures floats { FloatsReadBack }
+    ensures defaults { DefaultsReadBack }
 {}
 
 /// The buffer in a message, and how it starts, by what its prefix is.

@@ -18,6 +18,7 @@ use fb_bytes::Sink;
 use itoa::{Buffer, Integer};
 use ryu::Float;
 use std::alloc::Allocator;
+use std::num::{f32_from_bits_with_nan, f64_from_bits_with_nan};
 
 /// Puts what the line of a yes has behind its counts: the values at the ends of some paths, and its end.
 pub fn put_values<A: Allocator, K: Sink>(
@@ -50,7 +51,9 @@ fn put_spaced<A: Allocator, K: Sink>(out: &mut Pending<A>, sink: &mut K, answer:
     ensures { Puts (spaced_answer answer.now) (queue_of K.Sink out.old sink.old) (queue_of K.Sink out.new sink.new) }
 {
     match answer {
-        Answer::Absent => out.put(sink, b" absent"),
+        Answer::Absent | Answer::DefaultFloat(_) | Answer::DefaultDouble(_) => {
+            out.put(sink, b" absent")
+        }
         Answer::NoElement => out.put(sink, b" no-element"),
         Answer::OtherMember => out.put(sink, b" other-member"),
         Answer::Bool(true) => out.put(sink, b" true"),
@@ -116,13 +119,14 @@ fn put_key<A: Allocator, K: Sink>(out: &mut Pending<A>, sink: &mut K, behind: bo
 fn put_value<A: Allocator, K: Sink>(out: &mut Pending<A>, sink: &mut K, answer: &Answer<'_>)
     ensures { PutsSome (λ text. (value : Json) × IsValue (shown answer.now) value × (text ≡ json_text value)) (queue_of K.Sink out.old sink.old) (queue_of K.Sink out.new sink.new) }
 {
-    let Answer::Float(bytes) = answer else {
-        put_as_is(out, sink, answer);
-        return;
-    };
-    match bytes.len() {
-        4 => put_real(out, sink, LittleEndian::read_f32(bytes)),
-        8 => put_real(out, sink, LittleEndian::read_f64(bytes)),
+    match answer {
+        Answer::Float(bytes) => match bytes.len() {
+            4 => put_real(out, sink, LittleEndian::read_f32(bytes)),
+            8 => put_real(out, sink, LittleEndian::read_f64(bytes)),
+            _ => put_as_is(out, sink, answer),
+        },
+        Answer::DefaultFloat(bits) => put_real(out, sink, f32_from_bits_with_nan(*bits)),
+        Answer::DefaultDouble(bits) => put_real(out, sink, f64_from_bits_with_nan(*bits)),
         _ => put_as_is(out, sink, answer),
     }
 }
@@ -151,7 +155,9 @@ fn put_as_is<A: Allocator, K: Sink>(out: &mut Pending<A>, sink: &mut K, answer: 
     ensures { Puts (json_text (value_json (shown answer.now))) (queue_of K.Sink out.old sink.old) (queue_of K.Sink out.new sink.new) }
 {
     match answer {
-        Answer::Absent => out.put(sink, b"null"),
+        Answer::Absent | Answer::DefaultFloat(_) | Answer::DefaultDouble(_) => {
+            out.put(sink, b"null")
+        }
         Answer::NoElement => out.put(sink, b"{\"absent\":\"no-element\"}"),
         Answer::OtherMember => out.put(sink, b"{\"absent\":\"other-member\"}"),
         Answer::Bool(true) => out.put(sink, b"true"),

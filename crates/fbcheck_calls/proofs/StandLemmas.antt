@@ -28,6 +28,8 @@ module _ (b : List ℕ) (S : Rows) where
 
   default_stands : (q : Spot) (s : Scalar) (n : _) → Stands b S q (default_value s n) None
   unfolding default_value
+  default_stands q AsFloat n = tt
+  default_stands q Double n = tt
   default_stands q s n = number_stands q s _
 
   pub stands : (q : Spot) → Stands b S q (value b S q) (extent b S q)

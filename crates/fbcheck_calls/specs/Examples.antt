@@ -146,6 +146,8 @@ pub record Values : Type 0 where
   pub unsigned : value_told (denotes.unsigned 7) ≡ record (plain 5) { number = 7 }
   pub bytes : map value_told (denotes.float [] ∷ denotes.text [] ∷ denotes.structure [] ∷ []) ≡ plain 6 ∷ plain 7 ∷ plain 8 ∷ []
   pub vector : value_told (denotes.vector 3) ≡ record (plain 9) { number = 3 }
+  pub single : value_told (denotes.default_float 0x3dcccccd) ≡ record (plain 12) { number = 0x3fb99999a0000000 }
+  pub double : value_told (denotes.default_double 0x3fb999999999999a) ≡ record (plain 12) { number = 0x3fb999999999999a }
   pub table : value_told denotes.table ≡ plain 10
   pub union : value_told (denotes.union 2) ≡ record (plain 11) { number = 2 }
   pub stands : placed (plain 7) (Some (record { at = 40; size = 5 })) ≡ record { kind = 7; reserved = 0; number = 0; integer = pos 0; at = 40; size = 5 }

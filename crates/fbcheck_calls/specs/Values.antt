@@ -1,5 +1,6 @@
 -- What C is told of a value.
-use Rattle.std.specs.Prelude.{◌≡◌, ℕ, ◌<◌, pos, List, length, slice_index_or, Bool, true, false, Option, Some, None, IsSomeAnd}
+use Rattle.std.specs.Prelude.{◌≡◌, ℕ, ◌<◌, pos, List, length, slice_index_or, to_bits, from_bits, Bool, true, false, Option, Some, None, IsSomeAnd}
+use Rattle.std.specs.Float.{binary32, binary64}
 use Rattle.fb_schema.specs.Rows.{Rows}
 use Rattle.fb_rules.specs.declared.start.Start.{Start}
 use Rattle.fb_access.specs.declared.{extent.Extent.Extent, spot.Spot.Spot}
@@ -20,7 +21,11 @@ abbrev pub bit : Bool → ℕ
 bit true = 1
 bit false = 0
 
--- a value in numbers, without where it stands
+-- the bits of the double that is the single of these bits
+abbrev pub widened : ℕ → ℕ
+widened bits = to_bits binary64 (from_bits binary32 bits)
+
+-- a value in numbers, without where it stands; a default is told by the bits of a double
 abbrev pub value_told : Shown → Value
 value_told denotes.nothing = plain 0
 value_told denotes.no_element = plain 1
@@ -29,6 +34,8 @@ value_told (denotes.truth v) = numbered 3 (bit v)
 value_told (denotes.signed z) = record (plain 4) { integer = z }
 value_told (denotes.unsigned n) = numbered 5 n
 value_told (denotes.float s) = plain 6
+value_told (denotes.default_float bits) = numbered 12 (widened bits)
+value_told (denotes.default_double bits) = numbered 12 bits
 value_told (denotes.text s) = plain 7
 value_told (denotes.structure s) = plain 8
 value_told (denotes.vector n) = numbered 9 n

@@ -4,9 +4,10 @@ ghost use Rattle.std.specs.Prelude.{◌≡◌, IfNone, IfSome};
 ghost use Rattle.fb_access.specs.Denotes.{shown};
 ghost use Rattle.fb_access.specs.declared.spot.Spot.{Spot};
 ghost use Rattle.fbcheck_calls.specs.Steps.{AllFit, DontFit, EndAt};
-ghost use Rattle.fbcheck_calls.specs.Values.{AreValues, numbered, placed, plain, value_at, value_told};
+ghost use Rattle.fbcheck_calls.specs.Values.{AreValues, numbered, placed, plain, value_at, value_told, widened};
 
 use crate::steps::{PlainPath, PlainStep};
+use core::num::{f32_from_bits_with_nan, f32_to_f64_with_nan, f64_to_bits_with_nan};
 use fb_access::{Answer as Found, Extent, at_root};
 use fb_verify::Verified;
 
@@ -16,11 +17,12 @@ use fb_verify::Verified;
 pub struct Value {
     /// What it is, by its number: 0 absent, 1 no such element, 2 another member, 3 a Bool, 4 a Byte, Short, Int or
     /// Long, 5 one of these without a sign, 6 a Float or Double, 7 a string, 8 a struct, 9 a vector, 10 a table, 11 a
-    /// union.
+    /// union, 12 an absent Float or Double with its default.
     pub kind: u32,
     /// 0.
     pub reserved: u32,
-    /// Of a Bool 0 or 1, of a number without a sign that number, of a vector its count, of a union its type.
+    /// Of a Bool 0 or 1, of a number without a sign that number, of a vector its count, of a union its type, of a
+    /// default the bits of a double.
     pub number: u64,
     /// Of a Byte, Short, Int or Long, the number.
     pub integer: i64,
@@ -50,6 +52,13 @@ fn numbered(kind: u32, number: u64) -> Value
     }
 }
 
+/// The bits of the double that is the single of these bits.
+fn widened(bits: u32) -> u64
+    ensures { result ≡ widened bits }
+{
+    f64_to_bits_with_nan(f32_to_f64_with_nan(f32_from_bits_with_nan(bits)))
+}
+
 /// What is told of a value without where it stands.
 fn told_value(found: Found<'_>) -> Value
     ensures { result ≡ value_told (shown found.entry) }
@@ -65,6 +74,8 @@ fn told_value(found: Found<'_>) -> Value
         },
         Found::UInt(number) => numbered(5, number),
         Found::Float(_) => plain(6),
+        Found::DefaultFloat(bits) => numbered(12, widened(bits)),
+        Found::DefaultDouble(bits) => numbered(12, bits),
         Found::Text(_) => plain(7),
         Found::Struct(_) => plain(8),
         Found::Vector(count) => numbered(9, u64::from(count)),

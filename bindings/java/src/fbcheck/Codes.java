@@ -96,6 +96,7 @@ final class Codes {
     static final int VECTOR = 9;
     static final int TABLE = 10;
     static final int UNION = 11;
+    static final int DEFAULT_FLOAT = 12;
 
     // enum fbcheck_ident
     static final int IDENT_ANY = 0;

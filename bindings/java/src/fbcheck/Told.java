@@ -67,6 +67,7 @@ final class Told {
             case Codes.INT -> new Value.Int(longAt(values, place + Codes.VALUE_INTEGER));
             case Codes.UINT -> new Value.UInt(number);
             case Codes.FLOAT -> new Value.Float(floating(bytes));
+            case Codes.DEFAULT_FLOAT -> new Value.Float(Double.longBitsToDouble(number));
             case Codes.TEXT -> new Value.Text(bytes);
             case Codes.STRUCT -> new Value.Struct(bytes);
             case Codes.VECTOR -> new Value.Vector(number, bytes);

@@ -60,7 +60,7 @@ public sealed interface Value {
         }
     }
 
-    /** A Float or Double. */
+    /** A Float or Double, or the default of an absent one. */
     record Float(double value) implements Value {
         @Override
         public String toString() {

@@ -96,6 +96,7 @@ class Kind(enum.IntEnum):
     VECTOR = 9
     TABLE = 10
     UNION = 11
+    DEFAULT_FLOAT = 12
 
 
 class Ident(enum.IntEnum):

@@ -5,10 +5,10 @@ use Rattle.fb_lines.proofs.PutsLemmas.{puts_same}
 use Rattle.fb_lines.proofs.values.put_as_is.Goals as goal
 
 pub returns-in-Absent : goal.returns-in-Absent
-returns-in-Absent g c = rw c.in-Absent.is (puts_same _ _ (queue_of g.K.Sink c.args.out.now c.args.sink.now) (queue_of g.K.Sink c.put.new.self c.put.new.sink) fixed_texts.0 c.put.ensures.puts)
+returns-in-Absent g c = search (rules, fixed_texts)
 
 pub returns-in-NoElement : goal.returns-in-NoElement
-returns-in-NoElement g c = rw c.in-NoElement.is (puts_same _ _ (queue_of g.K.Sink c.args.out.now c.args.sink.now) (queue_of g.K.Sink c.put-in-NoElement.new.self c.put-in-NoElement.new.sink) fixed_texts.3 c.put-in-NoElement.ensures.puts)
+returns-in-NoElement g c = rw c.in-NoElement.is (puts_same _ _ (queue_of g.K.Sink c.args.out.now c.args.sink.now) (queue_of g.K.Sink c.put.new.self c.put.new.sink) fixed_texts.3 c.put.ensures.puts)
 
 pub returns-in-OtherMember : goal.returns-in-OtherMember
 returns-in-OtherMember g c = rw c.in-OtherMember.is (puts_same _ _ (queue_of g.K.Sink c.args.out.now c.args.sink.now) (queue_of g.K.Sink c.put-in-OtherMember.new.self c.put-in-OtherMember.new.sink) fixed_texts.4 c.put-in-OtherMember.ensures.puts)
