@@ -5,8 +5,10 @@ One of them also shows where the budget of reads a byte ends that holds where no
 
 import re
 import shutil
+import struct
 import subprocess
 
+from tests.support import schemas
 from tests.support.builder import messages_of
 from tests.support.cases import Case
 from tests.support.program import FOLDER, TOP, file_of, good, loaded, rootless, run, schemaless, unschemed
@@ -132,6 +134,38 @@ class Hostile(Case):
         found = re.fullmatch(rb"1 ok tables=(\d+) depth=\d+ reads=\d+\n", ran.out)
         self.holds("chains", found and 20 * count < int(found[1]) <= 60 * count, ran)
 
+    def test_reads_a_byte_that_pages_name(self):
+        """Ordinary messages take 0.16 to 0.6, and an extreme case takes 42: tables that each set only the last of 500
+        fields. At 0.6, 100,000 offsets that lead to one vector of 600,000 bytes make a reader copy 60 GB."""
+        files = sorted((TOP / "tests/schema_files").glob("*.bfbs"))
+        deliveries = (TOP / "examples/deliveries.bin").read_bytes()
+        for name, words, given in [("schema files", ["--bare", *files], b""),
+                                   ("deliveries", ["--schema", TOP / "examples/deliveries.bfbs"], deliveries)]:
+            ran = run("--summary", "--quiet", *words, given=given)
+            found = re.search(rb" bytes=(\d+) .* reads=(\d+)", ran.err)
+            self.holds(name, 0.16 < int(found[2]) / int(found[1]) < 0.6, ran)
+        last = schemas.schema([
+            schemas.table("Last", *[schemas.field(f"f{slot}", schemas.INT, slot) for slot in range(4, 1004, 2)]),
+            schemas.table("Root", schemas.field("all", schemas.vector(schemas.an_object(0)), 4))], root="Root")
+        count = 20_000
+        layout = HOSTILE.begun().table("root", {4: "all"}).vector("all", [f"table {place}" for place in range(count)])
+        layout.data += struct.pack("<502H", 1004, 8, *[0] * 499, 4)
+        vtable = len(layout.data) - 1004
+        for place in range(count):
+            layout.name(f"table {place}").number(len(layout.data) - vtable, "i").number(7)
+        self.near("the last of 500 fields", last, layout.bytes(), 42)
+        one = schemas.schema([
+            schemas.table("One", schemas.field("bytes", schemas.vector(schemas.U_BYTE), 4)),
+            schemas.table("Root", schemas.field("all", schemas.vector(schemas.an_object(0)), 4))], root="Root")
+        layout = HOSTILE.begun().table("root", {4: "all"}).vector("all", ["one"] * 100_000).table("one", {4: "bytes"})
+        self.near("what a reader copies", one, layout.numbers("bytes", "B", [0] * 600_000).bytes(), 0.6)
+
+    def near(self, name, schema, data, want):
+        """A buffer is ok, and takes this many reads a byte, as the pages round them."""
+        ran = run("--bare", "--schema", file_of("shape.bfbs", schema), given=data)
+        found = re.fullmatch(rb"1 ok .* reads=(\d+)\n", ran.out)
+        self.holds(name, found and abs(int(found[1]) / len(data) - want) < 0.01 * want, ran)
+
     def test_a_chain_of_21_tables(self):
         """By default the budget ends first; without one, the tables do; and with more of these it is ok. Each table
         counts 2, and 2 more for each of the others' offsets; the root's offset counts 1."""
@@ -158,10 +192,12 @@ class Hostile(Case):
         self.same("it ends well", (ran.returncode, ran.stderr), (0, ""))
         self.same("lines", [row[:27].strip() for row in rows], names)
         for place in (0, 4):
-            columns = [[float(word.replace("-", "0")) for word in row[39:].split()[:6]] for row in rows[place : place + 4]]
+            columns = [[float(word.replace("-", "0")) for word in row[39:].split()[:6]]
+                       for row in rows[place : place + 4]]
             self.same("the worst", columns[3], [max(column) for column in zip(*columns[:3])])
             self.holds("memory's latency is measured", columns[3][3] > 0 or not shutil.which("cc"), columns)
-        self.same("seconds with a margin", len(re.findall(r"(?m)^its seconds, times 1\.5 +\d+\.\d{4}$", ran.stdout)), 2)
+        margins = re.findall(r"(?m)^its seconds, times 1\.5 +\d+\.\d{4}$", ran.stdout)
+        self.same("seconds with a margin", len(margins), 2)
 
     def test_good_schema_files(self):
         """Those of "equal names" have two fields of one name, which is found when all names are in order."""
