@@ -4,8 +4,11 @@ One of them also shows where the budget of reads a byte ends that holds where no
 """
 
 import re
+import shutil
+import struct
 import subprocess
 
+from tests.support import schemas
 from tests.support.builder import messages_of
 from tests.support.cases import Case
 from tests.support.program import FOLDER, TOP, file_of, good, loaded, rootless, run, schemaless, unschemed
@@ -24,6 +27,7 @@ SHAPES = [
     ("changing types far apart", 8192, 1 + 64),
     ("tags far from their ends", 16_384, 2 + 512),
     ("shared monsters", 400, 2**6 - 1),
+    ("tables twice below", 100, 2**8 - 1),
 ]
 
 # A shape of streams, its size, and what is told of each message by a budget without end, or by the default one.
@@ -33,6 +37,19 @@ STREAMS = [
     ("messages of monsters", 512, "ok tables=255 depth=8 reads=3821"),
     ("the last of many fields", 160, "bad V9 MissingRequired at=12 object=0 field=32763 reads=4"),
     ("places of long names", 100, "bad V8 BadVtable at=92 object=0 field=- reads=40"),
+    ("tables below, wide", 56, "ok tables=585 depth=4 reads=2340"),
+    ("wide, no alignment", 56, "ok tables=585 depth=4 reads=2340"),
+    ("tables below, narrow", 64, None),
+    ("tables twice below, wide", 104, "ok tables=255 depth=8 reads=1020"),
+]
+
+# Shapes that are checked by more than the format's rules, their sizes, and what is told of a message then. Of 585
+# tables, 512 have no fields; the others have eight. A walk counts 2 for the message's length and root offset, 2 for a
+# table's head, and 2 for each field that leads to a table. Beside that, the other check counts again what it reads of
+# a table: its head, the eight slots where there are any, and 2 for each field by which it goes on.
+MORE_CHECKS = [
+    ("wide, known fields", 56, "ok tables=585 depth=4 reads=5262"),
+    ("unions below, strict", 80, "ok tables=341 depth=5 reads=4426"),
 ]
 
 # Reads of the shape "texts of objects": before its objects 1 for the root offset, 2 for the head of the root table and
@@ -93,6 +110,73 @@ class Hostile(Case):
             ran = run(*words_for(shape), *shape.words, given=messages[0])
             self.holds(f"{name}: words are taken", ran.out.decode().startswith(f"1 {lines[0]}"), ran)
 
+    def test_streams_by_more_checks(self):
+        for name, size, told in MORE_CHECKS:
+            shape = BY_NAME[name]
+            ran = run(*words_for(shape), *shape.words, given=messages_of(shape.made(size))[0])
+            self.same(name, ran, good(f"1 {told}"))
+
+    def test_far_messages(self):
+        """Ten groups of 8,192 tables whose 32 fields lie far apart: of a vector each counts 3 reads, of a text 4. The
+        chains have 20 to 60 tables each."""
+        size, tables = 2**19, 1 + 10 + 10 * 8192
+        data = HOSTILE.far.fewer_far_fields(size)
+        self.holds("as long as asked", 0.99 * size < len(data) <= size, len(data))
+        for name, each in [("empty vectors far apart", 3), ("empty texts far apart", 4), ("unions far apart", None),
+                           ("vectors, no alignment", 3), ("far unions, strict", None)]:
+            shape = BY_NAME[name]
+            told = run("--bare", *words_for(shape), *shape.words, given=data).out.decode()
+            reads = "" if each is None else f"{1 + 5 + 10 * 6 + 10 * 8192 * (3 + 32 * each)}\n"
+            self.holds(name, told.startswith(f"1 ok tables={tables} depth=3 reads={reads}"), told)
+        count = 990_000 // 60
+        shape = BY_NAME["chains far apart"]
+        ran = run("--bare", *words_for(shape), given=shape.made(4 * 2**20))
+        found = re.fullmatch(rb"1 ok tables=(\d+) depth=\d+ reads=\d+\n", ran.out)
+        self.holds("chains", found and 20 * count < int(found[1]) <= 60 * count, ran)
+
+    def test_reads_a_byte_that_pages_name(self):
+        """Ordinary messages take 0.16 to 0.6, and an extreme case takes 42: tables that each set only the last of 500
+        fields. At 0.6, 100,000 offsets that lead to one vector of 600,000 bytes make a reader copy 60 GB."""
+        files = sorted((TOP / "tests/schema_files").glob("*.bfbs"))
+        deliveries = (TOP / "examples/deliveries.bin").read_bytes()
+        for name, words, given in [("schema files", ["--bare", *files], b""),
+                                   ("deliveries", ["--schema", TOP / "examples/deliveries.bfbs"], deliveries)]:
+            ran = run("--summary", "--quiet", *words, given=given)
+            found = re.search(rb" bytes=(\d+) .* reads=(\d+)", ran.err)
+            self.holds(name, 0.16 < int(found[2]) / int(found[1]) < 0.6, ran)
+        last = schemas.schema([
+            schemas.table("Last", *[schemas.field(f"f{slot}", schemas.INT, slot) for slot in range(4, 1004, 2)]),
+            schemas.table("Root", schemas.field("all", schemas.vector(schemas.an_object(0)), 4))], root="Root")
+        count = 20_000
+        layout = HOSTILE.begun().table("root", {4: "all"}).vector("all", [f"table {place}" for place in range(count)])
+        layout.data += struct.pack("<502H", 1004, 8, *[0] * 499, 4)
+        vtable = len(layout.data) - 1004
+        for place in range(count):
+            layout.name(f"table {place}").number(len(layout.data) - vtable, "i").number(7)
+        self.near("the last of 500 fields", last, layout.bytes(), 42)
+        one = schemas.schema([
+            schemas.table("One", schemas.field("bytes", schemas.vector(schemas.U_BYTE), 4)),
+            schemas.table("Root", schemas.field("all", schemas.vector(schemas.an_object(0)), 4))], root="Root")
+        layout = HOSTILE.begun().table("root", {4: "all"}).vector("all", ["one"] * 100_000).table("one", {4: "bytes"})
+        self.near("what a reader copies", one, layout.numbers("bytes", "B", [0] * 600_000).bytes(), 0.6)
+
+    def near(self, name, schema, data, want):
+        """A buffer is ok, and takes this many reads a byte, as the pages round them."""
+        ran = run("--bare", "--schema", file_of("shape.bfbs", schema), given=data)
+        found = re.fullmatch(rb"1 ok .* reads=(\d+)\n", ran.out)
+        self.holds(name, found and abs(int(found[1]) / len(data) - want) < 0.01 * want, ran)
+
+    def test_a_chain_of_21_tables(self):
+        """By default the budget ends first; without one, the tables do; and with more of these it is ok. Each table
+        counts 2, and 2 more for each of the others' offsets; the root's offset counts 1."""
+        whole = 2**21 - 1
+        for name, told in [("tables twice below", "bad V13 TooManyReads "),
+                           ("twice below, no budget", "bad V7 TooManyTables at=252 object=0 field=1 reads=4000001"),
+                           ("twice below, more tables", f"ok tables={whole} depth=21 reads={4 * whole - 1}")]:
+            shape = BY_NAME[name]
+            ran = run("--bare", *words_for(shape), *shape.words, given=shape.made(256))
+            self.holds(name, ran.out.decode().startswith(f"1 {told}"), ran.out)
+
     def test_sizes_and_names(self):
         self.same("each shape has a name of its own", len(BY_NAME), len(HOSTILE.SHAPES))
         for shape in HOSTILE.SHAPES:
@@ -108,8 +192,12 @@ class Hostile(Case):
         self.same("it ends well", (ran.returncode, ran.stderr), (0, ""))
         self.same("lines", [row[:27].strip() for row in rows], names)
         for place in (0, 4):
-            columns = [[float(word) for word in row[39:].split()[:5]] for row in rows[place : place + 4]]
+            columns = [[float(word.replace("-", "0")) for word in row[39:].split()[:6]]
+                       for row in rows[place : place + 4]]
             self.same("the worst", columns[3], [max(column) for column in zip(*columns[:3])])
+            self.holds("memory's latency is measured", columns[3][3] > 0 or not shutil.which("cc"), columns)
+        margins = re.findall(r"(?m)^its seconds, times 1\.5 +\d+\.\d{4}$", ran.stdout)
+        self.same("seconds with a margin", len(margins), 2)
 
     def test_good_schema_files(self):
         """Those of "equal names" have two fields of one name, which is found when all names are in order."""
