@@ -442,6 +442,8 @@ class Python(LibraryCase):
             ("to..name", "first 3 bytes"), ("", "first 0 bytes"), ("é", "first 0 bytes"), ("to.nam", "P2 at '.nam'"),
             ("nam", "P2 at 'nam'"), ("to[3]", "P3 at '[3]'"), ("items[0]@Parcel@Parcel", "P4 at '@Parcel'"),
             ("items[0]@Nobody", "P5 at '@Nobody'"), ("to.name.x", "P6 at '.x'"),
+            ("to.nam", "no such field; did you mean name?; fields: name"), ("to[3]", "no element; this is a table"),
+            ("items[0]@Nobody", "no such member; this union's members: Parcel Letter Place Note"),
             ("to.home.zz", "P2 at '.zz'"),
         ]:
             self.fails(f"the path {text!r}", of.PathError, words, lambda: paths.path(text))
@@ -478,7 +480,8 @@ class Python(LibraryCase):
             self.same(f"{name}: pickled", str(pickle.loads(pickle.dumps(error))), str(error))
         self.same("a root that is said", bool(of.Schema(schema([table("A")]), root="A").check(PLAIN)), True)
         for root in ("Delivery", "post.Nobody", "", "é"):
-            self.fails(f"the root {root!r}", of.SchemaError, repr(root), lambda: of.Schema(ORDERS, root=root))
+            words = f"no table {root!r}; tables: post.Delivery post.Letter post.Parcel post.Person"
+            self.fails(f"the root {root!r}", of.SchemaError, words, lambda: of.Schema(ORDERS, root=root))
         self.fails("a struct as the root", of.SchemaError, "'W'", lambda: self.by("X", root="W"))
         self.fails("an identifier that isn't one", of.SchemaError, "hasn't 4 bytes", lambda: of.Schema(
             schema([table("T")], root="T", ident="OWN"), ident="own"))
