@@ -51,6 +51,9 @@ size_t fbcheck_fault_name_proved(uint32_t status, uint32_t number, uint8_t *text
 size_t fbcheck_status_text_proved(uint32_t status, uint8_t *text, size_t room);
 size_t fbcheck_object_name_proved(handle schema, uint32_t object, uint8_t *text, size_t room);
 size_t fbcheck_field_name_proved(handle schema, uint32_t object, uint32_t field, uint8_t *text, size_t room);
+size_t fbcheck_path_hint_proved(handle schema, uint32_t root, const uint8_t *path, size_t length, uint8_t *text,
+                                size_t room);
+size_t fbcheck_root_hint_proved(handle schema, const uint8_t *name, size_t length, uint8_t *text, size_t room);
 uint32_t fbcheck_framer_feed_proved(fbcheck_framer *framer, uint8_t *room, size_t size, const uint8_t *piece,
                                     size_t length, size_t *used);
 uint32_t fbcheck_framer_next_proved(fbcheck_framer *framer, const uint8_t *room, size_t size);
@@ -256,6 +259,25 @@ size_t fbcheck_field_name(const fbcheck_schema *schema, uint32_t object, uint32_
     if (schema == NULL || (text == NULL && room != 0))
         return 0;
     return fbcheck_field_name_proved(schema->owner, object, field, text != NULL ? (uint8_t *)text : none, room);
+}
+
+size_t fbcheck_path_hint(const fbcheck_schema *schema, uint32_t root, const char *path, size_t length, char *text,
+                         size_t room)
+{
+    uint8_t none[1];
+    if (schema == NULL || (path == NULL && length != 0) || (text == NULL && room != 0))
+        return 0;
+    return fbcheck_path_hint_proved(schema->owner, root, path != NULL ? (const uint8_t *)path : no_bytes, length,
+                                    text != NULL ? (uint8_t *)text : none, room);
+}
+
+size_t fbcheck_root_hint(const fbcheck_schema *schema, const char *name, size_t length, char *text, size_t room)
+{
+    uint8_t none[1];
+    if (schema == NULL || (name == NULL && length != 0) || (text == NULL && room != 0))
+        return 0;
+    return fbcheck_root_hint_proved(schema->owner, name != NULL ? (const uint8_t *)name : no_bytes, length,
+                                    text != NULL ? (uint8_t *)text : none, room);
 }
 
 uint32_t fbcheck_framer_feed(fbcheck_framer *framer, uint8_t *room, size_t size, const uint8_t *piece, size_t length,

@@ -136,11 +136,12 @@ class SchemaError : public std::runtime_error {
     }
 };
 
-// A text isn't a path from the root; verdict has the reason.
+// A text isn't a path from the root; verdict has the reason, and the hint says which names there are.
 class PathError : public std::runtime_error {
   public:
-    PathError(std::string_view text, const fbcheck_verdict &told)
-        : std::runtime_error("no path: " + std::string(text) + ": " + why(told)), verdict(told) {}
+    PathError(std::string_view text, const fbcheck_verdict &told, const std::string &hint = {})
+        : std::runtime_error("no path: " + std::string(text) + ": " + why(told) + (hint.empty() ? "" : "; " + hint)),
+          verdict(told) {}
     fbcheck_verdict verdict;
 };
 
@@ -292,7 +293,8 @@ class Schema {
         fbcheck_verdict told;
         const auto status = fbcheck_resolve(get(), &options, text.data(), text.size(), &path, &told);
         if (status == FBCHECK_NO_MEMORY) throw std::bad_alloc();
-        if (status == FBCHECK_BAD_PATH || status == FBCHECK_NO_ROOM) throw PathError(text, told);
+        if (status == FBCHECK_BAD_PATH || status == FBCHECK_NO_ROOM)
+            throw PathError(text, told, hint(text, options.root));
         return served(status), path;
     }
 
@@ -376,6 +378,11 @@ class Schema {
     static std::uint32_t served(std::uint32_t status, std::uint64_t at = 0) {
         if (status != FBCHECK_OK && status != FBCHECK_BAD && status != FBCHECK_TOO_LONG) throw Misuse(status, at);
         return status;
+    }
+    // What helps with a text that isn't a path from this root; empty if nothing does.
+    std::string hint(std::string_view text, std::uint32_t root) const {
+        char told[FBCHECK_LONGEST_HINT];
+        return std::string(told, fbcheck_path_hint(get(), root, text.data(), text.size(), told, sizeof told));
     }
     // The options of a check, with the demands of this schema.
     Options demanding(Options options) const noexcept {

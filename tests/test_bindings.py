@@ -184,7 +184,8 @@ class Binding:
         ident = file_of("ident", buffer({0: ("h", 5)}, b"KIND"))
         rows = [
             ("max_depth=4097", f"error {self.max_depth} is above 4096"), ("max_depth=4096", "done"),
-            ("root=N", f"error no root table{self.quoted.format('N')}"), ("root=M", "done"), ("ident=own", "done"),
+            ("root=N", f"error no root table{self.quoted.format('N')}; tables: M"), ("root=M", "done"),
+            ("ident=own", "done"),
             ("ident=NONE", "done"),
         ]
         answers = self.told(f"load {FILES['M']}", *[f"with {asked}" for asked, _ in rows])
@@ -334,8 +335,9 @@ class Binding:
                     f"misfit root=post.Parcel tags[0] {first}", f"load {FILES['CHAIN']}", f"read {none} {deep}"]
         _, *answers, bad, misfit, _, long = self.told(*commands)
         for text, got in zip(texts, answers):
-            want = self.fault("--schema", ORDERS, "--path", text)
-            self.same(f"the path {text}", got, f"error {want}{self.quoted.format(text)}")
+            want = run("--schema", ORDERS, "--path", text).err.decode().removeprefix("fbcheck: ").strip()
+            fault, mark, hint = want.partition("; ")
+            self.same(f"the path {text}", got, f"error {fault}{self.quoted.format(text)}{mark}{hint}")
         want = run("--names", "--schema", ORDERS, given=messages_of(POST)[4]).out.decode()[2:].strip()
         self.same("a bad message has no values", bad, f"error {want}")
         self.same("a path of another root", misfit, "error a path is none of this schema from this root")
@@ -498,8 +500,8 @@ class Node(Binding, LibraryCase):
                 ("schema.read(Buffer.alloc(0), 'name')", "BadBuffer"), ("new Schema('/nowhere')", "Error"),
                 ("schema.path(5)", "TypeError: a path is a string, or what path() gives"),
                 ("schema.read(Buffer.alloc(0), ['name'])", "TypeError: a path is a string"),
-                ("schema.path('nam')", "FbcheckError: path: P2 NoSuchField step=0 ('nam')"),
-                ("schema.with({ root: 'N' })", "FbcheckError: no root table ('N')"),
+                ("schema.path('nam')", "FbcheckError: path: P2 NoSuchField step=0 ('nam'); did you mean name?; fields: "),
+                ("schema.with({ root: 'N' })", "FbcheckError: no root table ('N'); tables: M"),
                 (f"new Schema('{plain}')",
                  f"FbcheckError: schema: L1 V5 WrongIdentifier at=4 object=9 field=- reads=1{NO_SCHEMA} ('{plain}')")]
         code = (f"const {{ Schema }} = require('{TOP}/bindings/node'); const schema = new Schema('{FILES['M']}');\n"

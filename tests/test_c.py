@@ -815,7 +815,8 @@ class LibraryForC(LibraryCase):
                 self.same(f"the first {last} alone, in pieces of {size}", of(last), (0, front, ""))
         long = ".".join("a" * 32)
         for name, words, given, text in [
-            ("a path", [ORDERS, "to.nam", 9, 512], POST, "no path: to.nam: P2 NoSuchField step=1"),
+            ("a path", [ORDERS, "to.nam", 9, 512], POST,
+             "no path: to.nam: P2 NoSuchField step=1; did you mean name?; fields: name age home"),
             ("a text", [ORDERS, "to..name", 9, 512], POST, "no path: to..name: P1 BadText at=3"),
             ("a long path", [file_of("node", schemas.NODE), long, 9, 512], POST, f"no path: {long}: too many steps"),
             ("a stream", [ORDERS, "to", 9, 512], POST[:-1], "the stream ends inside a message"),

@@ -94,8 +94,10 @@ class ServerForC(LibraryCase):
             ("rows that are none", [bent, "T", "a", good], 2, 0, [f"{bent}: no schema, C4 BadSlot"]),
             ("an unmarked field", [unmarked, "All", "least", good], 2, 0, [
                 f"{unmarked}: strict can't tell which bytes are nested buffers or flexbuffers", "in All.bytes"]),
-            ("no such table", [ORDERS, "Delivery", "id", good], 2, 0, ["Delivery: no root table"]),
-            ("no such field", [ORDERS, ROOT, "to.nobody", good], 2, 0, ["to.nobody: no path, P2 NoSuchField"]),
+            ("no such table", [ORDERS, "Delivery", "id", good], 2, 0, [
+                "Delivery: no root table", "tables: post.Delivery post.Letter post.Parcel post.Person"]),
+            ("no such field", [ORDERS, ROOT, "to.nobody", good], 2, 0, [
+                "to.nobody: no path, P2 NoSuchField", "fields: name age home"]),
             ("no words", [], 2, 0, None),
         ]:
             for program in self.made():

@@ -2,7 +2,6 @@
 
 import array
 import asyncio
-import concurrent.futures
 import copy
 import io
 import math
@@ -13,7 +12,6 @@ import signal
 import struct
 import subprocess
 import sys
-import threading
 import time
 import timeit
 
@@ -28,6 +26,7 @@ from tests.support.schemas import (
     BOOL, BYTE, DOUBLE, FLOAT, INT, LONG, SHORT, TEXT, U_BYTE, U_INT, U_LONG, U_SHORT, U_TYPE, a_union, an_object,
     field, schema, table, union, vector,
 )
+from tests.support.threads import on_eight, tried, turns_beside
 
 BINDING = TOP / "bindings/python"
 ORDERS = TOP / "examples/deliveries.bfbs"
@@ -517,26 +516,14 @@ class Columns(LibraryCase):
                 count += [*columns.skipped] != [*range(21, 4201, 21)] or {one.reason for one in columns.verdicts} != {2}
             return count
 
-        interval = sys.getswitchinterval()
-        sys.setswitchinterval(0.0002)
-        try:
-            with concurrent.futures.ThreadPoolExecutor(8) as pool:
-                self.same("wrong ones", [*pool.map(wrong, [12] * 8)], [0] * 8)
-        finally:
-            sys.setswitchinterval(interval)
+        self.same("wrong ones", on_eight(wrong, 12), [0] * 8)
 
     def test_others_run_meanwhile(self):
         """While a long stream is gone through, another thread does its work, and a signal breaks it off."""
         checker, stream = self.by("M"), prefixed(ORC) * 4_000_000
 
         def turns():
-            """How many the other thread has meanwhile; where it has to wait, that is one or two."""
-            count, thread = 0, threading.Thread(target=checker.columns, args=(stream, ("hp",)))
-            thread.start()
-            while thread.is_alive():
-                time.sleep(0.001)
-                count += 1
-            return count
+            return turns_beside(checker.columns, stream, ("hp",))
 
         def broken_off():
             """How much of the time of a call passes before a signal that comes early ends it."""
@@ -559,9 +546,7 @@ class Columns(LibraryCase):
 
         for name, call, holds in [("turns of the other thread", turns, lambda told: told > 10),
                                   ("a part of a call's time", broken_off, lambda told: told < 0.7)]:
-            told = []
-            while len(told) < 20 and (not told or not holds(told[-1])):
-                told.append(call())
+            told = tried(call, holds)
             self.holds(name, holds(told[-1]), told)
 
     def test_streams_that_change(self):

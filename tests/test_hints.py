@@ -176,8 +176,8 @@ class Hints(Case):
 
     def test_each_text_of_the_code_stands_in_a_row(self):
         hints = [hint for *_, hint in ROWS if hint]
-        for file in "hint", "framing":
-            code = (TOP / f"crates/fbcheck_texts/src/{file}.rt").read_text()
+        for file in "fb_access/src/hint", "fbcheck_texts/src/hint", "fbcheck_texts/src/framing":
+            code = (TOP / f"crates/{file}.rt").read_text()
             for text in re.findall(r'b"((?:[^"\\]|\\.)+)"', code):
                 text = text.removesuffix(r"\n")
                 self.holds(text, any(text in hint for hint in hints))

@@ -2,7 +2,6 @@
 
 import array
 import asyncio
-import concurrent.futures
 import copy
 import io
 import mmap
@@ -16,7 +15,6 @@ import struct
 import subprocess
 import sys
 import textwrap
-import threading
 import time
 import timeit
 
@@ -35,6 +33,7 @@ from tests.support.schemas import (
     BOOL, BYTE, DOUBLE, FLOAT, INT, LONG, SHORT, TEXT, U_BYTE, U_INT, U_LONG, U_SHORT, U_TYPE, a_union, an_object,
     field, schema, table, union, vector,
 )
+from tests.support.threads import on_eight, tried, turns_beside
 from tests.support.tools import there
 
 BINDING = TOP / "bindings/python"
@@ -448,6 +447,8 @@ class Python(LibraryCase):
             ("to..name", "first 3 bytes"), ("", "first 0 bytes"), ("é", "first 0 bytes"), ("to.nam", "P2 at '.nam'"),
             ("nam", "P2 at 'nam'"), ("to[3]", "P3 at '[3]'"), ("items[0]@Parcel@Parcel", "P4 at '@Parcel'"),
             ("items[0]@Nobody", "P5 at '@Nobody'"), ("to.name.x", "P6 at '.x'"),
+            ("to.nam", "no such field; did you mean name?; fields: name"), ("to[3]", "no element; this is a table"),
+            ("items[0]@Nobody", "no such member; this union's members: Parcel Letter Place Note"),
             ("to.home.zz", "P2 at '.zz'"),
         ]:
             self.fails(f"the path {text!r}", of.PathError, words, lambda: paths.path(text))
@@ -484,7 +485,8 @@ class Python(LibraryCase):
             self.same(f"{name}: pickled", str(pickle.loads(pickle.dumps(error))), str(error))
         self.same("a root that is said", bool(of.Schema(schema([table("A")]), root="A").check(PLAIN)), True)
         for root in ("Delivery", "post.Nobody", "", "é"):
-            self.fails(f"the root {root!r}", of.SchemaError, repr(root), lambda: of.Schema(ORDERS, root=root))
+            words = f"no table {root!r}; tables: post.Delivery post.Letter post.Parcel post.Person"
+            self.fails(f"the root {root!r}", of.SchemaError, words, lambda: of.Schema(ORDERS, root=root))
         self.fails("a struct as the root", of.SchemaError, "'W'", lambda: self.by("X", root="W"))
         self.fails("an identifier that isn't one", of.SchemaError, "hasn't 4 bytes", lambda: of.Schema(
             schema([table("T")], root="T", ident="OWN"), ident="own"))
@@ -556,31 +558,14 @@ class Python(LibraryCase):
                     count += deep.read(rows[-2][0], "hp") != 300
             return count
 
-        interval = sys.getswitchinterval()
-        sys.setswitchinterval(0.0002)
-        try:
-            with concurrent.futures.ThreadPoolExecutor(8) as pool:
-                self.same("wrong ones", [*pool.map(wrong, [1250] * 8)], [0] * 8)
-        finally:
-            sys.setswitchinterval(interval)
+        self.same("wrong ones", on_eight(wrong, 1250), [0] * 8)
 
     def test_others_run_meanwhile(self):
         """While a message takes long, another thread does its work."""
         chain = buffers.doubling(22)
         checker = self.by("NODE", max_tables=2**32 - 1, max_reads=2**64 - 1, reads_per_byte=2**32 - 1)
 
-        def turns():
-            """How many the other thread has meanwhile; where it has to wait for a check, that is one or two."""
-            count, thread = 0, threading.Thread(target=checker.check, args=(chain,))
-            thread.start()
-            while thread.is_alive():
-                time.sleep(0.001)
-                count += 1
-            return count
-
-        told = []
-        while len(told) < 20 and (not told or told[-1] <= 10):
-            told.append(turns())
+        told = tried(lambda: turns_beside(checker.check, chain), lambda turns: turns > 10)
         self.holds("turns of the other thread", told[-1] > 10, told)
 
     def test_streams(self):

@@ -104,6 +104,16 @@ size_t name_of(const checker *checker, int of_field, uint32_t object, uint32_t f
 	                : fbcheck_object_name(schema_of(checker), object, text, room);
 }
 
+size_t path_hint_of(const checker *checker, const uint8_t *path, size_t length, char *text, size_t room)
+{
+	return fbcheck_path_hint(schema_of(checker), checker->options.root, (const char *)path, length, text, room);
+}
+
+size_t root_hint_of(const checker *checker, const uint8_t *name, size_t length, char *text, size_t room)
+{
+	return fbcheck_root_hint(schema_of(checker), (const char *)name, length, text, room);
+}
+
 fed feed_piece(fbcheck_framer *framer, uint8_t *room, size_t size, const uint8_t *piece, size_t length)
 {
 	fed fed = { 0, 0 };

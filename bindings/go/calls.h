@@ -34,6 +34,8 @@ fbcheck_verdict read_values(const checker *checker, const uint8_t *message, size
                             fbcheck_value *values, size_t count);
 uint64_t most_reads_of(const checker *checker, uint64_t length);
 size_t name_of(const checker *checker, int of_field, uint32_t object, uint32_t field, char *text, size_t room);
+size_t path_hint_of(const checker *checker, const uint8_t *path, size_t length, char *text, size_t room);
+size_t root_hint_of(const checker *checker, const uint8_t *name, size_t length, char *text, size_t room);
 fed feed_piece(fbcheck_framer *framer, uint8_t *room, size_t size, const uint8_t *piece, size_t length);
 
 #endif

@@ -168,6 +168,15 @@ func errorOf(verdict C.fbcheck_verdict, asked string) *Error {
 	return &Error{Status: status, text: text}
 }
 
+// hinted is the error with what helps behind its text, which a call copies into a room.
+func (e *Error) hinted(call func(*C.char, C.size_t) C.size_t) *Error {
+	var room [C.FBCHECK_LONGEST_HINT]byte
+	if length := call((*C.char)(unsafe.Pointer(&room)), C.size_t(len(room))); length > 0 {
+		e.text += "; " + string(room[:length])
+	}
+	return e
+}
+
 // naming is a text with what was asked for.
 func naming(text, asked string) string {
 	return fmt.Sprintf("%s (%q)", text, asked)

@@ -308,6 +308,33 @@ static napi_value resolve(napi_env env, napi_callback_info info)
     return made;
 }
 
+/* pathHint(schema, text): what helps with a text that is no path. */
+static napi_value path_hint(napi_env env, napi_callback_info info)
+{
+    napi_value words[2];
+    struct checker *checker = checker_of(env, info, words, 2);
+    uint8_t *path;
+    size_t length;
+    char text[FBCHECK_LONGEST_HINT];
+    if (checker == NULL || !bytes_of(env, words[1], &path, &length))
+        return NULL;
+    return text_of(env, text, fbcheck_path_hint(checker->rows->schema, checker->options.root, (const char *)path,
+                                                length, text, sizeof text));
+}
+
+/* rootHint(schema, name): what helps with a name that no table has. */
+static napi_value root_hint(napi_env env, napi_callback_info info)
+{
+    napi_value words[2];
+    struct checker *checker = checker_of(env, info, words, 2);
+    uint8_t *name;
+    size_t length;
+    char text[FBCHECK_LONGEST_HINT];
+    if (checker == NULL || !bytes_of(env, words[1], &name, &length))
+        return NULL;
+    return text_of(env, text, fbcheck_root_hint(checker->rows->schema, (const char *)name, length, text, sizeof text));
+}
+
 /* read(schema, message, paths, values): the status. Paths and values are the library's by their bytes. */
 static napi_value read_values(napi_env env, napi_callback_info info)
 {
@@ -437,8 +464,8 @@ NAPI_MODULE_INIT()
         napi_callback call;
     } calls[] = { { "begin", begin },     { "load", load },          { "choose", choose },   { "close", close_schema },
                   { "table", table },     { "locate", locate },      { "resolve", resolve }, { "read", read_values },
-                  { "mostReads", most_reads }, { "name", name },     { "stream", stream_of }, { "feed", feed },
-                  { "finish", finish } };
+                  { "pathHint", path_hint }, { "rootHint", root_hint }, { "mostReads", most_reads },
+                  { "name", name },       { "stream", stream_of },   { "feed", feed },       { "finish", finish } };
     for (size_t i = 0; i < sizeof calls / sizeof *calls; i++) {
         napi_value made;
         napi_create_function(env, calls[i].name, NAPI_AUTO_LENGTH, calls[i].call, NULL, &made);

@@ -97,8 +97,11 @@ class Bad {
   }
 }
 
-/** The error of a call that wasn't done, by what it told, with the name of what was asked for, and of a field. */
-function errorOf(status, asked, field) {
+/**
+ * The error of a call that wasn't done, by what it told, with the name of what was asked for, and of a field, and with
+ * what helps.
+ */
+function errorOf(status, asked, { field, hint } = {}) {
   const name = STATUSES[status];
   const code = told[REASON];
   let text = TEXTS[name];
@@ -112,7 +115,8 @@ function errorOf(status, asked, field) {
   } else if (name in REFUSALS) {
     text = REFUSALS[name].join(field);
   }
-  return new FbcheckError(name, asked === undefined ? text : `${text} ('${asked}')`);
+  if (asked !== undefined) text += ` ('${asked}')`;
+  return new FbcheckError(name, hint ? `${text}; ${hint}` : text);
 }
 
 /** A whole number from 0 up to a greatest one, as a bigint. */
@@ -152,7 +156,7 @@ function load(file, demands, path) {
   const plain = load(file, 0, path);
   const name = `${native.name(plain, object)}.${native.name(plain, object, field)}`;
   native.close(plain);
-  throw errorOf(status, path, name);
+  throw errorOf(status, path, { field: name });
 }
 
 /** The library's options by these, as bytes. */
@@ -162,7 +166,9 @@ function bytesOf(schema, options) {
   const given = { root: undefined, ...LIMITS, prefixed: false, alignment: true, inlineSize: false, ident: undefined,
     ...options };
   const root = given.root === undefined ? NONE : native.table(schema, Buffer.from(given.root));
-  if (root === NO_TABLE) throw errorOf(NO_ROOT, given.root);
+  if (root === NO_TABLE) {
+    throw errorOf(NO_ROOT, given.root, { hint: native.rootHint(schema, Buffer.from(given.root)) });
+  }
   put(VERSION, OPTIONS.version);
   put(root, OPTIONS.root);
   put(demandsOf(given), OPTIONS.demands);
@@ -288,8 +294,9 @@ class Schema {
 
   path(text) {
     if (typeof text !== 'string') throw new TypeError('a path is a string, or what path() gives');
-    const bytes = native.resolve(this.#schema, Buffer.from(text));
-    if (bytes === undefined) throw errorOf(told[STATUS], text);
+    const path = Buffer.from(text);
+    const bytes = native.resolve(this.#schema, path);
+    if (bytes === undefined) throw errorOf(told[STATUS], text, { hint: native.pathHint(this.#schema, path) });
     return new Path(text, bytes);
   }
 

@@ -246,6 +246,18 @@ static fbcheck_schema *schema_of(const char *path, const fbcheck_options *option
     return schema;
 }
 
+/* Logs which names there are, if the root table or a name of the path isn't there. */
+static void tell_hint(const struct service *service, const char *root, const char *path, uint32_t status)
+{
+    char text[FBCHECK_LONGEST_HINT];
+    const fbcheck_schema *schema = service->schema;
+    size_t length = status == FBCHECK_NO_ROOT
+                        ? fbcheck_root_hint(schema, root, strlen(root), text, sizeof text)
+                        : fbcheck_path_hint(schema, service->options.root, path, strlen(path), text, sizeof text);
+    if (length > 0)
+        fprintf(stderr, "server: %.*s\n", (int)length, text);
+}
+
 /* Makes what all threads share. Returns STOP, after a line that says why, if that can't be done. */
 static enum action start(struct service *service, const char *file, const char *root, const char *path)
 {
@@ -264,6 +276,7 @@ static enum action start(struct service *service, const char *file, const char *
     if (why.status == FBCHECK_BAD) /* no bytes are a bad buffer: schema, options and path can be used */
         return SERVE;
     tell_refusal(why.status == FBCHECK_NO_ROOT ? root : path, &why);
+    tell_hint(service, root, path, why.status);
     return STOP;
 }
 

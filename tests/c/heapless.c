@@ -74,7 +74,9 @@ static void call_each(fbcheck_scratch *scratch, const fbcheck_options *asked)
     if (fbcheck_object_name(schema, 0, name, sizeof name) == 0
         || fbcheck_field_name(schema, 0, 0, name, sizeof name) > sizeof name
         || fbcheck_reason_name(1, name, sizeof name) == 0 || fbcheck_fault_name(1, 1, name, sizeof name) == 0
-        || fbcheck_status_text(0, name, sizeof name) != 4)
+        || fbcheck_status_text(0, name, sizeof name) != 4
+        || fbcheck_path_hint(schema, FBCHECK_NONE, "_", 1, name, sizeof name) == 0
+        || fbcheck_root_hint(schema, "_", 1, name, sizeof name) == 0)
         _exit(4);
 }
 

@@ -111,7 +111,7 @@ def _shown(values: ctypes.Array, data: bytes) -> list:
 
 
 def _name(call, *words) -> str | None:
-    """The name that a call tells."""
+    """The name or the hint that a call tells."""
     length = call(*words, None, 0)
     text = ctypes.create_string_buffer(length)
     call(*words, text, length)
@@ -232,6 +232,16 @@ class Verifier:
     def field_name(self, table: int, number: int) -> str | None:
         """The name of a field by its number and that of its table."""
         return _name(self._calls.fbcheck_field_name, self._schema, table, number)
+
+    def path_hint(self, path: str) -> str | None:
+        """What helps with a text that is no path from this root."""
+        text = path.encode()
+        return _name(self._calls.fbcheck_path_hint, self._schema, self._root, text, len(text))
+
+    def root_hint(self, name: str) -> str | None:
+        """What helps with a name that no table has."""
+        text = name.encode()
+        return _name(self._calls.fbcheck_root_hint, self._schema, text, len(text))
 
     def close(self):
         """Frees the schema."""

@@ -15,6 +15,7 @@ UTF8 = 4
 PLAIN_BYTES = 8
 STEPS = 31
 LONGEST_PLACE = 4098
+LONGEST_HINT = 1024
 
 U8, U32, U64, I64 = ctypes.c_uint8, ctypes.c_uint32, ctypes.c_uint64, ctypes.c_int64
 SIZE, TEXT, ADDRESS, to = ctypes.c_size_t, ctypes.c_char_p, ctypes.c_void_p, ctypes.POINTER
@@ -235,6 +236,8 @@ CALLS = [
     (SIZE, "fbcheck_status_text", [U32, TEXT, SIZE]),
     (SIZE, "fbcheck_object_name", [ADDRESS, U32, TEXT, SIZE]),
     (SIZE, "fbcheck_field_name", [ADDRESS, U32, U32, TEXT, SIZE]),
+    (SIZE, "fbcheck_path_hint", [ADDRESS, U32, TEXT, SIZE, TEXT, SIZE]),
+    (SIZE, "fbcheck_root_hint", [ADDRESS, TEXT, SIZE, TEXT, SIZE]),
     (U32, "fbcheck_framer_feed", [to(Framer), to(U8), SIZE, ADDRESS, SIZE, to(SIZE)]),
     (U32, "fbcheck_framer_next", [to(Framer), ADDRESS, SIZE]),
     (U32, "fbcheck_framer_finish", [to(Framer), ADDRESS, SIZE]),

@@ -158,6 +158,24 @@ static PyObject *table(PyObject *module, PyObject *words)
     return PyLong_FromUnsignedLong(number);
 }
 
+/* root_hint(handle, name): what helps where no table has this name; empty where one has. */
+static PyObject *root_hint(PyObject *module, PyObject *words)
+{
+    PyObject *handle;
+    const char *name;
+    Py_ssize_t length;
+    fbcheck_schema *schema;
+    char hint[FBCHECK_LONGEST_HINT];
+    (void)module;
+    if (!PyArg_ParseTuple(words, "Os#", &handle, &name, &length))
+        return NULL;
+    schema = PyCapsule_GetPointer(handle, HANDLE);
+    if (schema == NULL)
+        return NULL;
+    length = (Py_ssize_t)fbcheck_root_hint(schema, name, (size_t)length, hint, sizeof hint);
+    return PyUnicode_FromStringAndSize(hint, length);
+}
+
 /* Raises what tells that a call wasn't done. */
 PyObject *refused(Schema *self, uint32_t status)
 {
@@ -429,18 +447,20 @@ static PyObject *schema_verify(Schema *self, PyObject *message)
 
 /* ---- values ---- */
 
-/* _resolve(path): the bytes of a path, or the numbers of why it is none. */
+/* _resolve(path): the bytes of a path, or the numbers of why it is none, with what helps then. */
 static PyObject *schema_resolve(Schema *self, PyObject *text)
 {
     fbcheck_path path;
     fbcheck_verdict why;
+    char hint[FBCHECK_LONGEST_HINT];
     Py_ssize_t length;
     const char *bytes = PyUnicode_AsUTF8AndSize(text, &length);
     if (bytes == NULL)
         return NULL;
     if (fbcheck_resolve(self->schema, &self->options, bytes, (size_t)length, &path, &why) == FBCHECK_OK)
         return PyBytes_FromStringAndSize((const char *)&path, sizeof path);
-    return Py_BuildValue("IIK", why.status, why.reason, (unsigned long long)why.at);
+    length = (Py_ssize_t)fbcheck_path_hint(self->schema, self->options.root, bytes, (size_t)length, hint, sizeof hint);
+    return Py_BuildValue("IIKs#", why.status, why.reason, (unsigned long long)why.at, hint, length);
 }
 
 static PyObject *float_of(const char *bytes, uint64_t size)
@@ -699,6 +719,7 @@ static int module_exec(PyObject *module)
 static PyMethodDef module_methods[] = {
     { "load", load, METH_VARARGS, NULL },
     { "table", table, METH_VARARGS, NULL },
+    { "root_hint", root_hint, METH_VARARGS, NULL },
     { "name", name, METH_VARARGS, NULL },
     { NULL, NULL, 0, NULL },
 };

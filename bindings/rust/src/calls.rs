@@ -15,6 +15,7 @@ pub const UTF8: u32 = 4;
 pub const PLAIN_BYTES: u32 = 8;
 pub const STEPS: u32 = 31;
 pub const LONGEST_PLACE: u32 = 4098;
+pub const LONGEST_HINT: u32 = 1024;
 
 // enum fbcheck_status
 pub const OK: u32 = 0;
@@ -309,6 +310,21 @@ extern "C" {
         schema: *const Schema,
         object: u32,
         field: u32,
+        text: *mut c_char,
+        room: usize,
+    ) -> usize;
+    pub fn fbcheck_path_hint(
+        schema: *const Schema,
+        root: u32,
+        path: *const c_char,
+        length: usize,
+        text: *mut c_char,
+        room: usize,
+    ) -> usize;
+    pub fn fbcheck_root_hint(
+        schema: *const Schema,
+        name: *const c_char,
+        length: usize,
         text: *mut c_char,
         room: usize,
     ) -> usize;

@@ -215,8 +215,13 @@ pub enum Error {
     TooMuchShared,
     /// The schema has no root table of its own.
     NoRoot,
-    /// The schema has no table of this name, which was asked for as the root.
-    NoSuchRoot(String),
+    /// The schema has no table of this name.
+    NoSuchRoot {
+        /// The name, which was asked for as the root.
+        root: String,
+        /// The names that there are.
+        hint: String,
+    },
     /// The schema's own identifier was asked for, and it has some bytes, but not 4.
     NoIdent,
     /// A depth above 4,096 was asked for.
@@ -229,6 +234,8 @@ pub enum Error {
         at: u64,
         /// The text.
         path: String,
+        /// The names that there are, and the one that may have been meant, or what is there instead; empty with `P1`.
+        hint: String,
     },
     /// This path has more than 31 steps.
     TooManySteps(String),
@@ -261,6 +268,14 @@ const AS_BYTES: &str = "plain_bytes takes such fields as bytes";
 /// What is said where a schema is asked for other demands.
 const OTHERS: &str = "the schema was loaded with other demands: ask for these when you load it";
 
+/// A hint behind a text, where there is one.
+fn behind(hint: &str) -> String {
+    match hint {
+        "" => String::new(),
+        _ => format!("; {hint}"),
+    }
+}
+
 impl Error {
     /// What a call told, which was asked for something, or for nothing that has a name.
     pub(crate) fn of(verdict: &calls::Verdict, asked: &str) -> Error {
@@ -278,11 +293,6 @@ impl Error {
             },
             calls::ROOT_NOT_LISTED => Error::RootNotListed,
             calls::NO_MEMORY => Error::NoMemory,
-            calls::BAD_PATH => Error::BadPath {
-                code: verdict.reason,
-                at: verdict.at,
-                path: asked.to_owned(),
-            },
             calls::NO_ROOM => Error::TooManySteps(asked.to_owned()),
             calls::TOO_MUCH_SHARED => Error::TooMuchShared,
             calls::UNKNOWN_OPTIONS => Error::UnknownOptions,
@@ -307,14 +317,25 @@ impl fmt::Display for Error {
             Error::TooLong => write!(to, "schema: L5 TooLong"),
             Error::TooMuchShared => write!(to, "schema: L6 TooMuchShared"),
             Error::NoRoot => write!(to, "no root table"),
-            Error::NoSuchRoot(ref name) => write!(to, "no root table ({name:?})"),
+            Error::NoSuchRoot { ref root, ref hint } => {
+                write!(to, "no root table ({root:?}){}", behind(hint))
+            }
             Error::NoIdent => write!(to, "the schema's identifier isn't four bytes"),
             Error::OutOfRange => write!(to, "max_depth is above {}", calls::DEEPEST),
-            Error::BadPath { code, at, ref path } => {
+            Error::BadPath {
+                code,
+                at,
+                ref path,
+                ref hint,
+            } => {
                 let name = fault_name(calls::BAD_PATH, code);
                 let is_text = code == calls::BAD_TEXT;
                 let at_or_step = if is_text { "at" } else { "step" };
-                write!(to, "path: {name} {at_or_step}={at} ({path:?})")
+                write!(
+                    to,
+                    "path: {name} {at_or_step}={at} ({path:?}){}",
+                    behind(hint)
+                )
             }
             Error::TooManySteps(ref path) => {
                 let steps = calls::STEPS;

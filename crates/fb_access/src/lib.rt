@@ -1,10 +1,12 @@
 //! Reads values out of a verified buffer by a path, without generated code and without a check of one's own.
 #![tactic(auto)]
 
+mod alike;
 mod answer;
 pub mod examples;
 mod extent;
 mod field;
+mod hint;
 mod location;
 pub mod location_laws;
 mod misfit;
@@ -22,11 +24,12 @@ mod value;
 
 pub use answer::Answer;
 pub use extent::Extent;
+pub use hint::{Hint, path_hint, root_hint};
 pub use location::{
     LocationText, field_of, location_of, object_name, place_of, put_location, write_location,
 };
 pub use misfit::element_kind;
-pub use path::{Path, misfit_at};
+pub use path::Path;
 pub use path_fault::PathFault;
 pub use place::{Place, at_root, get};
 pub use step::Step;

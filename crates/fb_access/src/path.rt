@@ -8,7 +8,7 @@ ghost use Rattle.fb_access.specs.Resolving.{IsFault, Resolves, Refuses, fault_of
 
 use crate::misfit::{Misfit, fit};
 use crate::path_fault::PathFault;
-use crate::pieces::{Next, first_part, next_part, wrong_from};
+use crate::pieces::{Next, Piece, first_part, next_part, wrong_from};
 use crate::step::Step;
 use fb_schema::{Kind, Schema};
 use std::alloc::{Allocator, Global};
@@ -127,21 +127,40 @@ fn follow<A: Allocator>(
     }
 }
 
-/// The kind at which the first step of a path's text stands that doesn't fit, from the table `root` on; none where the
-/// text is no path, or each step fits. So whoever tells of the fault can tell what there is. It takes no memory.
-pub fn misfit_at(schema: &Schema<'_>, root: u32, text: &[u8]) -> Option<Kind>
+/// Where a path's step doesn't fit.
+#[derive(Clone, Copy)]
+pub struct Missed<'t> {
+    /// What is there.
+    pub kind: Kind,
+    /// The step in the path's text.
+    pub piece: Piece<'t>,
+    /// Why it is no step of this kind.
+    pub misfit: Misfit,
+}
+
+/// Where the first step of a path's text doesn't fit, from the table `root` on; none where the text is no path, or each
+/// step fits. So whoever tells of the fault can tell what there is. It takes no memory.
+pub fn misfit_at<'t>(schema: &Schema<'_>, root: u32, text: &'t [u8]) -> Option<Missed<'t>>
     requires { IsTrue (is_table schema.now root) }
-    ensures { IfSome result (IsThere schema.now) }
+    ensures there { IfSome result (λ m. IsThere schema.now m.kind) }
+    ensures fault { IfSome result (λ m. (step : ℕ) × IsFault schema.now root text.now (fault_of m.misfit step)) }
 {
     schema.lawful();
     let mut kind = Kind::Table(root);
     let mut next = first_part(text);
     while let Next::Part(piece, rest) = next {
-        let Ok(fitted) = fit(schema, kind, piece) else {
-            return match wrong_from(rest) {
-                Some(_) => None,
-                None => Some(kind),
-            };
+        let fitted = match fit(schema, kind, piece) {
+            Ok(fitted) => fitted,
+            Err(misfit) => {
+                return match wrong_from(rest) {
+                    Some(_) => None,
+                    None => Some(Missed {
+                        kind,
+                        piece,
+                        misfit,
+                    }),
+                };
+            }
         };
         kind = fitted.kind;
         next = next_part(rest);

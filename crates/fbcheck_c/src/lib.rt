@@ -10,6 +10,7 @@ ghost use Rattle.fbcheck_calls.specs.Answered.{IfSchema, IsChecked, IsPriceTold,
 ghost use Rattle.fbcheck_calls.specs.{Asked.published, Placed.IsLocatedBy, Reached.IsPath, Reached.IsReadBy, Spans.AreTold, Spans.IsEachAnswered};
 ghost use Rattle.fb_access.specs.Location.{field_name};
 ghost use Rattle.fbcheck_calls.specs.Told.{told};
+ghost use Rattle.fbcheck_calls.specs.Hinted.{IsHintTold, LacksPathHint, LacksRootHint};
 ghost use Rattle.fbcheck_calls.specs.Framers.{IsFedTold, IsFinished, IsKept, IsNext};
 ghost use Rattle.fbcheck_calls.specs.Names.{IsFaultName, IsNameTold, IsReasonName, held_name, object_name, status_text, table_number};
 ghost use Rattle.fbcheck_calls.specs.declared.answer.Answer.{Answer};
@@ -17,8 +18,8 @@ ghost use Rattle.fbcheck_calls.specs.declared.answer.Answer.{Answer};
 use fb_bytes::Taken;
 use fbcheck_calls::{
     Framer, Handle, Options, PlainPath, Shared, Span, Value, Verdict, all_good, check, check_alone,
-    check_each, fault_told, field_told, locate, object_told, price, read, reason_told, resolve,
-    status_told, table_of, try_options,
+    check_each, fault_told, field_told, locate, object_told, path_hint, price, read, reason_told,
+    resolve, root_hint, status_told, table_of, try_options,
 };
 use std::alloc::Global;
 
@@ -308,6 +309,31 @@ pub extern "C" fn fbcheck_field_name_proved(
     ensures { IsNameTold (held_name schema.held (λ rows. field_name rows object number)) room.old room.new result }
 {
     field_told(schema.held(), object, number, room)
+}
+
+/// Copies what helps where a path's text doesn't fit the table of this number, as much of it as there is room for, and
+/// tells how long the whole is: 0 where there is nothing to tell.
+#[unsafe(no_mangle)]
+pub extern "C" fn fbcheck_path_hint_proved(
+    schema: Shared,
+    root: u32,
+    path: &[u8],
+    room: &mut [u8],
+) -> usize
+    ensures told { IsHintTold room.old room.new result }
+    ensures none { LacksPathHint schema.held root path.now result }
+{
+    path_hint(schema.held(), root, path, room)
+}
+
+/// Copies what helps where no table has this name, as much of it as there is room for, and tells how long the whole is:
+/// 0 where one has.
+#[unsafe(no_mangle)]
+pub extern "C" fn fbcheck_root_hint_proved(schema: Shared, name: &[u8], room: &mut [u8]) -> usize
+    ensures told { IsHintTold room.old room.new result }
+    ensures none { LacksRootHint schema.held name.now result }
+{
+    root_hint(schema.held(), name, room)
 }
 
 /// Feeds a framer a piece of its stream, as [`Framer::feed`] does, and tells how many bytes it took. 0 where a whole

@@ -4,6 +4,7 @@ pub mod FaultNames
 pub mod FitLemmas
 pub mod FramerLemmas
 pub mod HandleLemmas
+pub mod HintLemmas
 pub mod MarkLemmas
 pub mod MemberLemmas
 pub mod Owned

@@ -11,6 +11,7 @@ pub mod Values
 pub mod Reached
 pub mod Placed
 pub mod Names
+pub mod Hinted
 pub mod Examples
 -- What a handle owns.
 pub mod Owns

@@ -21,7 +21,7 @@ use fb_verify::{Fault, Link, Located, Verified, verify_and_locate, verify_and_lo
 use std::alloc::Global;
 
 /// Copies as much of a text as there is room for, and tells its whole length.
-fn cut_into(text: &[u8], room: &mut [u8]) -> usize
+pub fn cut_into(text: &[u8], room: &mut [u8]) -> usize
     ensures length { result ≡ length text.now }
     ensures room { room.new ≡ cut_to text.now room.old }
 {

@@ -14,7 +14,7 @@ ghost use Rattle.fb_schema.specs.declared.kinds.Kind.TheVariants.{Table};
 use crate::inputs::{STANDARD, label};
 use crate::limits::schema_limits;
 use crate::strict::plan_of;
-use fb_access::{Path, misfit_at};
+use fb_access::Path;
 use fb_bfbs::{Loaded, load, own_ident, reflection};
 use fb_run::{AskedPath, Form, Mode, Options, Places, Prefix};
 use fb_schema::Schema;
@@ -97,8 +97,7 @@ fn find_paths(
             Err(fault) => {
                 let bytes = text.as_bytes();
                 let told = if several { Some(bytes) } else { None };
-                let at = misfit_at(schema, root, bytes);
-                let hint = path_hint(alloc, schema, told, bytes, fault, at);
+                let hint = path_hint(alloc, schema, root, told, bytes, fault);
                 return Err(Unasked::new(fault, hint));
             }
         };

@@ -1,28 +1,21 @@
 //! What is told behind a fault, to the end of its line.
 
-ghost use Rattle.std.specs.Prelude.{IfSome, ◌≡◌};
-ghost use Rattle.fb_access.specs.Kept.{IsThere};
+ghost use Rattle.std.specs.Prelude.{IsTrue, ◌≡◌};
+ghost use Rattle.fb_schema.specs.Rows.{is_table};
 ghost use Rattle.fbcheck_texts.specs.Hints.{IsHint, fault_with};
 
-use crate::alike::{is_alike, step_name};
 use crate::causes::reason;
 use crate::fault::{AskFault, FileFault, WordsFault};
-use fb_access::PathFault;
+use fb_access::{path_hint as pieces_of_path, root_hint as pieces_of_root};
 use fb_run::put_bytes;
-use fb_schema::{Kind, Scalar, Schema};
+use fb_schema::Schema;
 use fbcheck_words::Settings;
 use std::alloc::{AllocError, Global};
 use std::marker::Model;
 use thiserror::Error;
 
-/// How many names are told.
-const MOST: usize = 10;
-
 /// By how many of its first bytes a file is taken for a text.
 const FRONT: usize = 16;
-
-/// How many values a union's type has.
-const VALUES: u16 = 256;
 
 /// With how many bytes a hint is full. A word of a command line, of at most 131,071 bytes on Linux, takes at most four
 /// times as many of them.
@@ -145,99 +138,16 @@ impl Draft {
         Ok(Hint { text })
     }
 
-    /// With the names of the tables of a schema, of which there may be more than are told.
-    fn with_tables(self, schema: &Schema<'_>) -> Result<Draft, AllocError> {
-        let mut text = self;
-        let mut left = MOST;
-        for number in 0..schema.object_count() {
-            let object = schema.object(number);
-            if object.is_struct {
-                continue;
-            }
-            if left == 0 {
-                return text.with(b" ..");
-            }
-            text = text.with_name(object.name)?;
-            left -= 1;
+    /// With the pieces of a text behind it, if there are any.
+    fn with_all(self, pieces: &[&[u8]]) -> Result<Draft, AllocError> {
+        if pieces.is_empty() {
+            return Ok(self);
+        }
+        let mut text = self.with(b"; ")?;
+        for piece in pieces {
+            text = text.with(piece)?;
         }
         Ok(text)
-    }
-
-    /// With the names of the fields of a table or a struct, of which there may be more than are told.
-    fn with_fields(self, schema: &Schema<'_>, kind: Kind) -> Result<Draft, AllocError>
-        requires { IsThere schema.now kind }
-    {
-        let mut text = self;
-        for place in 0..MOST {
-            let Some(name) = field_name(schema, kind, place) else {
-                return Ok(text);
-            };
-            text = text.with_name(name)?;
-        }
-        match field_name(schema, kind, MOST) {
-            Some(_) => text.with(b" .."),
-            None => Ok(text),
-        }
-    }
-
-    /// With the names of the members of a union, of which there may be more than are told.
-    fn with_members(self, schema: &Schema<'_>, union: u32) -> Result<Draft, AllocError> {
-        let mut text = self;
-        let mut left = MOST;
-        for value in 0..VALUES {
-            let Some(name) = schema.member_name(union, value as u8) else {
-                continue;
-            };
-            if left == 0 {
-                return text.with(b" ..");
-            }
-            text = text.with_name(name)?;
-            left -= 1;
-        }
-        Ok(text)
-    }
-
-    /// With the name of a field that may have been meant, where there is one.
-    fn with_meant(self, schema: &Schema<'_>, kind: Kind, asked: &[u8]) -> Result<Draft, AllocError>
-        requires { IsThere schema.now kind }
-    {
-        match alike_field(schema, kind, asked) {
-            Some(name) => self.with(b"; did you mean")?.with_name(name)?.with(b"?"),
-            None => Ok(self),
-        }
-    }
-
-    /// With the members of a union, or what else this is.
-    fn with_what(self, schema: &Schema<'_>, kind: Kind) -> Result<Draft, AllocError> {
-        match kind {
-            Kind::Union(union) => self
-                .with(b"; this union's members:")?
-                .with_members(schema, union),
-            _ => self.with(b"; this is ")?.with(kind_text(kind)),
-        }
-    }
-
-    /// With what there is at this kind, where a step of this path doesn't fit.
-    fn with_misfit(
-        self,
-        schema: &Schema<'_>,
-        path: &[u8],
-        fault: PathFault,
-        kind: Kind,
-    ) -> Result<Draft, AllocError>
-        requires { IsThere schema.now kind }
-    {
-        match fault {
-            PathFault::NoSuchField { step } => self
-                .with_meant(schema, kind, step_name(path, step))?
-                .with(b"; fields:")?
-                .with_fields(schema, kind),
-            PathFault::NotIndexable { .. }
-            | PathFault::NotAUnion { .. }
-            | PathFault::NoSuchMember { .. }
-            | PathFault::NotATable { .. } => self.with_what(schema, kind),
-            PathFault::BadText { .. } | PathFault::OutOfMemory => Ok(self),
-        }
     }
 
     /// With which path or file it is, where that is told.
@@ -271,71 +181,6 @@ impl Draft {
         } else {
             self.with(b"; this is no binary schema, which flatc --binary --schema makes")
         }
-    }
-}
-
-/// The name of the field at this place among those of a table or a struct.
-fn field_name<'s>(schema: &'s Schema<'_>, kind: Kind, place: usize) -> Option<&'s [u8]>
-    requires { IsThere schema.now kind }
-{
-    match kind {
-        Kind::Table(table) => Some(schema.fields_of(table).get(place)?.name),
-        Kind::Struct(object) => Some(schema.parts_of(object).get(place)?.name),
-        _ => None,
-    }
-}
-
-/// How many fields a table or a struct has that can be named.
-fn field_count(schema: &Schema<'_>, kind: Kind) -> usize
-    requires { IsThere schema.now kind }
-{
-    match kind {
-        Kind::Table(table) => schema.fields_of(table).len(),
-        Kind::Struct(object) => schema.parts_of(object).len(),
-        _ => 0,
-    }
-}
-
-/// The first name of a field of a table or a struct that is nearly this one.
-fn alike_field<'s>(schema: &'s Schema<'_>, kind: Kind, asked: &[u8]) -> Option<&'s [u8]>
-    requires { IsThere schema.now kind }
-{
-    for place in 0..field_count(schema, kind) {
-        let name = field_name(schema, kind, place)?;
-        if is_alike(asked, name) {
-            return Some(name);
-        }
-    }
-    None
-}
-
-/// A scalar by its name in a schema's text.
-fn scalar_text(scalar: Scalar) -> &'static [u8] {
-    match scalar {
-        Scalar::UType => b"a union's type",
-        Scalar::Bool => b"a bool",
-        Scalar::Byte => b"a byte",
-        Scalar::UByte => b"a ubyte",
-        Scalar::Short => b"a short",
-        Scalar::UShort => b"a ushort",
-        Scalar::Int => b"an int",
-        Scalar::UInt => b"a uint",
-        Scalar::Long => b"a long",
-        Scalar::ULong => b"a ulong",
-        Scalar::Float => b"a float",
-        Scalar::Double => b"a double",
-    }
-}
-
-/// What a value of this kind is.
-fn kind_text(kind: Kind) -> &'static [u8] {
-    match kind {
-        Kind::Scalar(scalar) => scalar_text(scalar),
-        Kind::Text => b"a string",
-        Kind::Struct(_) => b"a struct",
-        Kind::Table(_) => b"a table",
-        Kind::Union(_) => b"a union",
-        _ => b"a vector or an array",
     }
 }
 
@@ -390,31 +235,29 @@ pub fn root_hint(
     if let Some(name) = &settings.root {
         text = text.with_name(name.as_bytes())?;
     }
-    text.with(b"; tables:")?
-        .with_tables(schema)?
+    text.with_all(pieces_of_root(schema).as_slice())?
         .with(schemaless(&settings.schema))?
         .ended()
 }
 
-/// What is told behind the fault of a path of this text: which it is, where that is to be told, and what there is at
-/// this kind, where its step doesn't fit.
+/// What is told behind the fault of a path of this text from the table `root`: which it is, where that is to be told,
+/// and what there is where its step doesn't fit.
 pub fn path_hint(
     alloc: Global,
     schema: &Schema<'_>,
+    root: u32,
     told: Option<&[u8]>,
     path: &[u8],
     fault: AskFault,
-    at: Option<Kind>,
 ) -> Result<Hint, AllocError>
-    requires { IfSome at (IsThere schema.now) }
+    requires { IsTrue (is_table schema.now root) }
 {
     let text = Draft::new(alloc);
-    match (fault, at) {
-        (AskFault::Path(fault), Some(kind)) => text
+    match fault {
+        AskFault::Path(_) => text
             .with_which(told)?
-            .with_misfit(schema, path, fault, kind)?
+            .with_all(pieces_of_path(schema, root, path).as_slice())?
             .ended(),
-        (AskFault::Path(_), None) => text.with_which(told)?.ended(),
         _ => text.ended(),
     }
 }

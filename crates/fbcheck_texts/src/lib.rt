@@ -1,7 +1,6 @@
 //! What the program tells of faults, to the end of their lines: the texts and what stands behind them.
 #![tactic(auto)]
 
-mod alike;
 pub mod causes;
 pub mod fault;
 pub mod framing;

@@ -37,6 +37,8 @@ final class Calls {
     private static final MethodHandle FAULT_NAME = call("fbcheck_fault_name", Codes.FAULT_NAME_WORDS, CRITICAL);
     private static final MethodHandle OBJECT_NAME = call("fbcheck_object_name", Codes.OBJECT_NAME_WORDS, CRITICAL);
     private static final MethodHandle FIELD_NAME = call("fbcheck_field_name", Codes.FIELD_NAME_WORDS, CRITICAL);
+    private static final MethodHandle PATH_HINT = call("fbcheck_path_hint", Codes.PATH_HINT_WORDS, CRITICAL);
+    private static final MethodHandle ROOT_HINT = call("fbcheck_root_hint", Codes.ROOT_HINT_WORDS, CRITICAL);
     private static final MethodHandle SCHEMA_NEW = call("fbcheck_schema_new", Codes.SCHEMA_NEW_WORDS, CRITICAL);
     private static final MethodHandle SCHEMA_FREE = call("fbcheck_schema_free", Codes.SCHEMA_FREE_WORDS);
     private static final MethodHandle SCRATCH_NEW = call("fbcheck_scratch_new", Codes.SCRATCH_NEW_WORDS);
@@ -57,7 +59,7 @@ final class Calls {
         T told() throws Throwable;
     }
 
-    /** A call that copies a name where there is room for it, and tells its length either way. */
+    /** A call that copies a name or a hint where there is room for it, and tells its length either way. */
     private interface Naming {
         long told(MemorySegment room) throws Throwable;
     }
@@ -146,6 +148,16 @@ final class Calls {
 
     static Optional<String> fieldName(MemorySegment schema, int object, int field) {
         return name(room -> (long) FIELD_NAME.invokeExact(schema, object, field, room, room.byteSize()));
+    }
+
+    /** What helps with a text that is no path from this root. */
+    static Optional<String> pathHint(MemorySegment schema, int root, MemorySegment path) {
+        return name(room -> (long) PATH_HINT.invokeExact(schema, root, path, path.byteSize(), room, room.byteSize()));
+    }
+
+    /** What helps with a name that no table has. */
+    static Optional<String> rootHint(MemorySegment schema, MemorySegment root) {
+        return name(room -> (long) ROOT_HINT.invokeExact(schema, root, root.byteSize(), room, room.byteSize()));
     }
 
     private static Optional<String> name(Naming call) {

@@ -20,6 +20,7 @@ final class Codes {
     static final int PLAIN_BYTES = 8;
     static final int STEPS = 31;
     static final int LONGEST_PLACE = 4098;
+    static final int LONGEST_HINT = 1024;
 
     // enum fbcheck_status
     static final int OK = 0;
@@ -211,6 +212,10 @@ final class Codes {
             FunctionDescriptor.of(JAVA_LONG, ADDRESS, JAVA_INT, ADDRESS, JAVA_LONG);
     static final FunctionDescriptor FIELD_NAME_WORDS =
             FunctionDescriptor.of(JAVA_LONG, ADDRESS, JAVA_INT, JAVA_INT, ADDRESS, JAVA_LONG);
+    static final FunctionDescriptor PATH_HINT_WORDS =
+            FunctionDescriptor.of(JAVA_LONG, ADDRESS, JAVA_INT, ADDRESS, JAVA_LONG, ADDRESS, JAVA_LONG);
+    static final FunctionDescriptor ROOT_HINT_WORDS =
+            FunctionDescriptor.of(JAVA_LONG, ADDRESS, ADDRESS, JAVA_LONG, ADDRESS, JAVA_LONG);
     static final FunctionDescriptor FRAMER_FEED_WORDS =
             FunctionDescriptor.of(JAVA_INT, ADDRESS, ADDRESS, JAVA_LONG, ADDRESS, JAVA_LONG, ADDRESS);
     static final FunctionDescriptor FRAMER_NEXT_WORDS = FunctionDescriptor.of(JAVA_INT, ADDRESS, ADDRESS, JAVA_LONG);

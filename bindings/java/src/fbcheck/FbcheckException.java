@@ -1,5 +1,7 @@
 package fbcheck;
 
+import java.util.Optional;
+
 /** A call couldn't be served. */
 public class FbcheckException extends RuntimeException {
     private static final long serialVersionUID = 1;
@@ -107,6 +109,11 @@ public class FbcheckException extends RuntimeException {
     /** The exception of this status, with what was asked for, or null. */
     static FbcheckException of(Status status, String asked) {
         return new FbcheckException(status, naming(asked, status.text));
+    }
+
+    /** The same exception with what helps behind its text, where something does. */
+    FbcheckException with(Optional<String> hint) {
+        return hint.isEmpty() ? this : new FbcheckException(status, getMessage() + "; " + hint.get());
     }
 
     /** A text with what was asked for, unless that is null. */

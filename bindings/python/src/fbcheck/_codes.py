@@ -15,6 +15,7 @@ UTF8: Final = 4
 PLAIN_BYTES: Final = 8
 STEPS: Final = 31
 LONGEST_PLACE: Final = 4098
+LONGEST_HINT: Final = 1024
 
 # Where the steps of a path begin, how many bytes each has, and where its number stands.
 PATH_STEPS: Final = 8

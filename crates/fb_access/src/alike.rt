@@ -1,6 +1,4 @@
-//! Names that are nearly alike, and the names in a path's text.
-
-use fbcheck_words::is_sign;
+// Names that are nearly alike.
 
 /// Whether two texts are equal but for the case of ASCII letters; or, where the first has three bytes at least, but for
 /// one byte that is another, or that one of them has more.
@@ -17,29 +15,4 @@ fn is_near(some: &[u8], other: &[u8]) -> bool {
         }
     }
     some.len().abs_diff(other.len()) <= 1
-}
-
-/// A path's text from the step of this number on, whose sign is left out.
-fn from_step(path: &[u8], step: u64) -> &[u8] {
-    let mut left = step;
-    for place in 0..path.len() {
-        if left == 0 {
-            return &path[place..];
-        }
-        if is_sign(path[place]) {
-            left -= 1;
-        }
-    }
-    b""
-}
-
-/// The name of the step of this number in a path's text.
-pub fn step_name(path: &[u8], step: u64) -> &[u8] {
-    let rest = from_step(path, step);
-    for place in 0..rest.len() {
-        if is_sign(rest[place]) {
-            return &rest[..place];
-        }
-    }
-    rest
 }
