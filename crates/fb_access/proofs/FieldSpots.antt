@@ -4,7 +4,7 @@ use Rattle.std.proofs.lemmas.Nat.{pow_pos}
 use Rattle.std.specs.Prelude.{slice_get, IfSome}
 use Rattle.fb_bytes.specs.Word.{word}
 use Rattle.fb_schema.specs.declared.kinds.Kind.TheVariants.{Scalar as AScalar, Text, Struct, Table, Union, Scalars, Texts, Structs, Tables, Unions}
-use Rattle.fb_schema.specs.{Rows.Rows, Rows.Object, Kinds.kind_size, Kinds.kind_align, Kinds.align_in, Live.Live, Members.member_of, declared.kinds.Scalar.Scalar, declared.kinds.Kind.Kind}
+use Rattle.fb_schema.specs.{Rows.Rows, Rows.Object, Kinds.kind_size, Kinds.kind_align, Kinds.align_in, Live.Live, Members.member_of, declared.kinds.Kind.Kind}
 use Rattle.fb_schema.specs.Served.{IsAlignment, IsServed, KindHolds}
 use Rattle.fb_rules.specs.{Places.target, Places.field_place, Tree.Elements, Unfolds.ElementsUnfold, OffsetRows.TypesFit, OffsetRows.IsTyped, declared.checks.Checks.Checks}
 use Rattle.fb_rules.specs.Fields.{IsPresent, IsPresentOrAbsent, IsField, entries, entries_of, entries_at, union_entry, union_type, type_count, types_begin, type_place, to_table, to_string, lead_of}

@@ -4,7 +4,7 @@ use Rattle.std.specs.{Prelude.slice_get, Prelude.option_map, List.position_or_le
 use Rattle.std.proofs.lemmas.{Bool.Decides.nat_tests, List.Folds.find_at}
 use Rattle.fb_bytes.specs.Word.{word}
 use Rattle.fb_schema.specs.declared.kinds.Kind.TheVariants.{Text, Table, Union, Texts, Tables, Unions}
-use Rattle.fb_schema.specs.{Rows.Rows, Kinds.kind_size, Live.Live, Live.live_fields, Members.member_of, declared.kinds.Scalar.Scalar, declared.kinds.Kind.Kind}
+use Rattle.fb_schema.specs.{Rows.Rows, Kinds.kind_size, Live.Live, Live.live_fields, Members.member_of, declared.kinds.Kind.Kind}
 use Rattle.fb_schema.proofs.Kinded.{field_sized}
 use Rattle.fb_rules.specs.Places.{target}
 use Rattle.fb_rules.specs.Fields.{type_place, union_type, types_begin, to_table, to_string, lead_of, Entry, entry, union_entry, entries_of, entries_at, entries}

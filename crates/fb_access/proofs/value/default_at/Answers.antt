@@ -1,4 +1,4 @@
-use Rattle.std.proofs.Common.{rules, arith, ◌≡◌, ◌∙◌, ap, sym, ◌<◌, ◌%◌, ◌^◌, w64}
+use Rattle.std.proofs.Common.{rules, ◌≡◌, ◌∙◌, ap, sym, ◌%◌, ◌^◌, w64}
 use Rattle.std.specs.Int.{cast_unsigned}
 use Rattle.fb_schema.specs.Kinds.{scalar_size}
 use Rattle.fb_access.specs.Denotes.{number}
