@@ -1,7 +1,7 @@
 //! A message that stands whole in a piece.
 
-ghost use Rattle.std.specs.Prelude.{IfSome, ◌≡◌, ◌<◌, ◌≤◌, length, take};
-ghost use Rattle.fb_bytes.specs.Messages.{IsMessage};
+ghost use Rattle.std.specs.Prelude.{IfNone, IfSome, ◌≡◌, ◌<◌, ◌≤◌, ◌^◌, ◌⊎◌, length, take};
+ghost use Rattle.fb_bytes.specs.Messages.{IsMessage, IsOversize, IsPartial};
 
 use fb_bytes::Meter;
 
@@ -11,6 +11,7 @@ pub fn front_message(bytes: &[u8], limit: u32) -> Option<&[u8]>
     ensures front { IfSome result (λ message. message.now ≡ take (length message.now) bytes.now) }
     ensures some { IfSome result (λ message. 0 < length message.now) }
     ensures within { IfSome result (λ message. length message.now ≤ length bytes.now) }
+    ensures none { IfNone result (length bytes.now < 2 ^ 31 → IsPartial limit bytes.now ⊎ IsOversize limit bytes.now) }
 {
     let Ok(meter) = Meter::new(bytes) else {
         return None;
