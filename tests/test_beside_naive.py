@@ -11,7 +11,7 @@ from tests.support import buffers, schemas
 from tests.support.builder import buffer, prefixed
 from tests.support.cases import Case
 from tests.support.every_kind import FILE, LITTLE, OBJECTS, OPTIONS, UNION, WHOLE, variants, words_of
-from tests.support.json_lines import names_of, read, said
+from tests.support.json_lines import names_of, read, said, spans_of
 from tests.support.naive import NAMES, Reader, Schema, Walk, pieces_in, refusal
 from tests.support.program import UNSCHEMED, Ran, file_of, good, lines, refused, run
 from tests.support.schemas import an_object, field, table
@@ -61,6 +61,11 @@ def told_behind(by, wants):
     return [f"fbcheck: no message was good: {UNSCHEMED}"] if none else []
 
 
+def spans_in(given):
+    """Where these buffers stand in a stream of all of them."""
+    return spans_of(b"".join(map(prefixed, given)))
+
+
 class BesideNaive(Case):
     def told_alike(self, name, by, schema_and_root, given, options):
         """One stream of all these buffers, and what the walk says of each."""
@@ -80,13 +85,13 @@ class BesideNaive(Case):
         placed = [want + (walk.place() if want.startswith("bad") else "") for walk, want in zip(walks, wants)]
         self.named(name, by, given, options, placed)
         ran = run(*by, "--json", *words_of(options), given=b"".join(map(prefixed, given)))
-        self.as_json(name, schema_and_root[0], ran, placed, told=told)
+        self.as_json(name, schema_and_root[0], spans_in(given), ran, placed, told=told)
         return wants
 
-    def as_json(self, name, schema, ran, wants, paths=(), told=()):
+    def as_json(self, name, schema, spans, ran, wants, paths=(), told=()):
         """Each line of JSON says to a reader of JSON what the walk says of its buffer."""
         names = names_of(schema)
-        wanted = [said(f"{number} {want}".encode(), names, paths) for number, want in enumerate(wants, 1)]
+        wanted = [said(f"{number} {want}".encode(), spans, names, paths) for number, want in enumerate(wants, 1)]
         got = [read(line) for line in ran.out.split(b"\n")[:-1]]
         differing = [pair for pair in zip(got, wanted) if pair[0] != pair[1]]
         self.same(f"{name}: lines of JSON that differ, with what is expected", differing[:3], [])
@@ -160,7 +165,7 @@ class BesideNaive(Case):
             self.same(f"{path} of each", (len(got), differing[:2]), (len(given), []))
             ran = run(*by, "--json", "--path", path, given=b"".join(map(prefixed, given)))
             told = [f"{verdict} {want}" for verdict, want in zip(verdicts, wants)]
-            self.as_json(f"{path} of each", ALL, ran, told, [path])
+            self.as_json(f"{path} of each", ALL, spans_in(given), ran, told, [path])
 
     def test_values_by_many_paths(self):
         """Of some of them, the values at as many paths as may be, in the order in which these are asked for."""
@@ -208,7 +213,7 @@ class BesideNaive(Case):
             walk = Walk(ALL, 0, given)
             told = walk.verdict(b"KIND", prefix=False)
             told += walk.place() if told.startswith("bad") else ""
-            self.as_json(f"bare, {given.hex()}", ALL, run(*by, "--json", given=given), [told])
+            self.as_json(f"bare, {given.hex()}", ALL, [(0, len(given))], run(*by, "--json", given=given), [told])
 
     def test_delimited_buffers(self):
         """Bare buffers in one stream, each behind its length."""
@@ -225,7 +230,7 @@ class BesideNaive(Case):
             words = {"tables": 500, **options}
             ran = run(*BY_ALL, "--delimited", "--json", *words_of(words), given=b"".join(map(prefixed, given)))
             placed = [want + (walk.place() if want.startswith("bad") else "") for walk, want in zip(walks, told)]
-            self.as_json(f"delimited, {options}", ALL, ran, placed)
+            self.as_json(f"delimited, {options}", ALL, spans_in(given), ran, placed)
 
     def test_schema_files_without_a_schema(self):
         """By the table that is built in."""

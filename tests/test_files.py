@@ -122,7 +122,7 @@ class Files(Case):
         self.same("that of the file - has", run(*BY_N, "-H", "-", given=SEVEN + SEVEN[:-1]), failed(
             "-: stream: S2 Truncated held=31", "-: 1 ok tables=1 depth=1 reads=5"))
         self.same("as JSON", run(*BY_N, "-H", "--json", given=SEVEN).out,
-                  lines('{"file":"-","message":1,"ok":true,"tables":1,"depth":1,"reads":5}'))
+                  lines('{"file":"-","message":1,"begin":0,"bytes":32,"ok":true,"tables":1,"depth":1,"reads":5}'))
         self.same("twice", run(*BY_N, "-H", "-H", given=SEVEN).status, 2)
 
     def test_several_files(self):
@@ -171,9 +171,9 @@ class Files(Case):
             f"{good}: 1 ok tables=1 depth=1 reads=5",
             f"{bad}: 1 bad V2 OutOfBuffer at=4 object=0 field=- reads=1"), b""))
         self.same("as JSON", run(*BY_N, "--json", good, bad), Ran(1, lines(
-            f'{{"file":"{good}","message":1,"ok":true,"tables":1,"depth":1,"reads":5}}',
-            f'{{"file":"{bad}","message":1,"ok":false,"code":"V2","reason":"OutOfBuffer","at":4,"object":"N",'
-            '"field":null,"reads":1,"place":"."}'), b""))
+            f'{{"file":"{good}","message":1,"begin":0,"bytes":32,"ok":true,"tables":1,"depth":1,"reads":5}}',
+            f'{{"file":"{bad}","message":1,"begin":0,"bytes":{len(NOTHING)},"ok":false,"code":"V2","reason":"OutOfBuffer",'
+            '"at":4,"object":"N","field":null,"reads":1,"place":"."}'), b""))
         self.same("one that gives no schema", run("--schema", empty, GOOD),
                   schemaless("L1 V2 OutOfBuffer at=4 object=9 field=- reads=0", empty, NO_BYTES))
         long = "x" * 131_071

@@ -15,7 +15,7 @@ from tests.support.buffers import NOTHING, ODD, ORC, PLAIN, SEVEN
 from tests.support.builder import Plain, buffer, prefixed
 from tests.support.cases import Case
 from tests.support.every_kind import FILE, LITTLE, OBJECTS, UNION, WHOLE, variants
-from tests.support.json_lines import Float, names_of, read, said
+from tests.support.json_lines import Float, names_of, read, said, spans_of
 from tests.support.naive import Schema
 from tests.support.program import FOLDER, PROGRAM, TOP, Ran, file_of, lines, run
 from tests.test_beside_naive import PATHS
@@ -27,20 +27,22 @@ BY_ALL = ("--schema", file_of("all.bfbs", FILE))
 ALL = Schema(OBJECTS, [UNION])
 NAMES = names_of(ALL)
 
-GOOD = '{"message":%d,"ok":true,"tables":1,"depth":1,"reads":5}'
-BAD = '{"message":2,"ok":false,"code":"V3","reason":"Misaligned","at":7,"object":"N","field":null,"reads":3,"place":"."}'
+GOOD = '{"message":%d,"begin":%d,"bytes":32,"ok":true,"tables":1,"depth":1,"reads":5}'
+FIRST, THIRD = GOOD % (1, 0), GOOD % (3, 64)
+BAD = ('{"message":2,"begin":32,"bytes":32,"ok":false,"code":"V3","reason":"Misaligned","at":7,"object":"N","field":null,'
+       '"reads":3,"place":"."}')
 
 
 class Json(Case):
     def test_lines(self):
         stream = SEVEN + ODD + SEVEN
         for name, words, want in [
-            ("each", [], Ran(1, lines(GOOD % 1, BAD, GOOD % 3), b"")),
+            ("each", [], Ran(1, lines(FIRST, BAD, THIRD), b"")),
             ("bad ones", ["--quiet"], Ran(1, lines(BAD), b"")),
-            ("places in words are told in any case", ["--names"], Ran(1, lines(GOOD % 1, BAD, GOOD % 3), b"")),
+            ("places in words are told in any case", ["--names"], Ran(1, lines(FIRST, BAD, THIRD), b"")),
             ("a filter", ["--filter"], Ran(1, SEVEN * 2, lines(BAD))),
             ("a value", ["--path", "v"],
-             Ran(1, lines(GOOD[:-1] % 1 + ',"values":{"v":7}}', BAD, GOOD[:-1] % 3 + ',"values":{"v":7}}'), b"")),
+             Ran(1, lines(FIRST[:-1] + ',"values":{"v":7}}', BAD, THIRD[:-1] + ',"values":{"v":7}}'), b"")),
             ("a summary", ["--quiet", "--summary"], Ran(1, lines(BAD), lines(
                 '{"messages":3,"yes":2,"no":1,"V3":1,"bytes":96,"tables":2,"reads":13}'))),
             ("a summary behind a filter's notes", ["--filter", "--summary"], Ran(1, SEVEN * 2, lines(
@@ -49,10 +51,10 @@ class Json(Case):
             self.same(name, run(*BY_N, "--json", *words, given=stream), want)
         self.same("of nothing", run(*BY_N, "--json", given=b""), Ran(0, b"", b""))
         self.same("past the end", run(*BY_N, "--json", given=NOTHING), Ran(1, lines(
-            '{"message":1,"ok":false,"code":"V2","reason":"OutOfBuffer","at":4,"object":"N","field":null,"reads":1,'
-            '"place":"."}'), b""))
+            '{"message":1,"begin":0,"bytes":%d,"ok":false,"code":"V2","reason":"OutOfBuffer","at":4,"object":"N","field":null,"reads":1,'
+            '"place":"."}' % len(NOTHING)), b""))
         self.same("a text", run(*BY_M, "--path", "name", given=ORC), Ran(0, lines(
-            '{"message":1,"ok":true,"tables":1,"depth":1,"reads":8,"values":{"name":"Orc"}}'), b""))
+            '{"message":1,"begin":0,"bytes":%d,"ok":true,"tables":1,"depth":1,"reads":8,"values":{"name":"Orc"}}' % len(ORC)), b""))
         self.same("none", run(*BY_M, "--path", "name", given=PLAIN).out.rpartition(b'"values":')[2], b'{"name":null}}\n')
 
     def test_texts(self):
@@ -68,7 +70,7 @@ class Json(Case):
         told = run(*by, "--json", given=stream).out.split(b"\n")[:-1]
         self.same("as many", (len(told), len(plain)), (len(texts), len(texts)))
         for text, line, beside in zip(texts, told, plain):
-            self.same(f"{text[:20]} is read", read(line), said(beside, NAMES, ["name"]))
+            self.same(f"{text[:20]} is read", read(line), said(beside, spans_of(stream), NAMES, ["name"]))
 
     def test_lines_beside_plain_ones(self):
         """Buffers of every kind, cut off and changed: a reader of JSON gets what the plain lines say."""
@@ -79,7 +81,8 @@ class Json(Case):
                 words = [] if path is None else ["--path", path]
                 plain = run(*BY_ALL, "--names", *words, given=stream)
                 told = run(*BY_ALL, "--json", *words, given=stream)
-                wants = [said(line, NAMES, words[1:]) for line in plain.out.splitlines()]
+                spans = spans_of(stream)
+                wants = [said(line, spans, NAMES, words[1:]) for line in plain.out.splitlines()]
                 got = [read(line) for line in told.out.split(b"\n")[:-1]]
                 differing = [pair for pair in zip(got, wants) if pair[0] != pair[1]]
                 self.same(f"{which}, {path}: lines that differ", differing[:3], [])

@@ -103,7 +103,7 @@ class LargeValues(Case):
             self.holds(f"memory of a large text {name}", memory <= length + MORE, (memory, length))
             status, memory, made = measured(*BY_TEXT, "--json", "--path", "s", *words, given=big)
             self.same(f"status as JSON {name}", status, 0)
-            head = f'{{"message":1,"ok":true,"tables":1,"depth":1,"reads":{reads},"values":{{"s":{{"bytes":"'
+            head = f'{{"message":1,"begin":0,"bytes":{length},"ok":true,"tables":1,"depth":1,"reads":{reads},"values":{{"s":{{"bytes":"'
             self.holds(f"as JSON {name}", holds(made, [head.encode()], digits_of_big(), [b'"}}}\n']))
             self.holds(f"memory as JSON {name}", memory <= length + MORE, (memory, length))
             status, memory, made = measured(*BY_TEXT, "--filter", *words, given=big)

@@ -98,18 +98,30 @@ def counts_of(words):
     return {name: int(number) for name, number in (word.decode().split("=") for word in words)}
 
 
-def said(line, names, paths=()):
-    """What the line of JSON says where this is the plain one, with the place in words: names has the name of each object
-    and those of its fields by their numbers."""
+def spans_of(stream):
+    """Where each message of a stream begins, and how many bytes it has."""
+    spans, at = [], 0
+    while at < len(stream):
+        size = 4 + int.from_bytes(stream[at : at + 4], "little")
+        spans.append((at, size))
+        at += size
+    return spans
+
+
+def said(line, spans, names, paths=()):
+    """What the line of JSON says where this is the plain one, with the place in words: spans has where each message
+    begins and its length, and names the name of each object and those of its fields by their numbers."""
     number, verdict, *words = words_of(line)
+    begin, size = spans[int(number) - 1]
+    stands = {"message": int(number), "begin": begin, "bytes": size}
     if verdict == b"ok":
         values = {path: value_of(word) for path, word in zip(paths, words[3:])}
-        told = {"message": int(number), "ok": True, **counts_of(words[:3])}
+        told = {**stands, "ok": True, **counts_of(words[:3])}
         return {**told, "values": values} if paths else told
     code, reason, at, place, field, reads, _, way, _ = (word.decode() for word in words)
     name, fields = names[int(place.removeprefix("object="))]
     field = field.removeprefix("field=")
     return {
-        "message": int(number), "ok": False, "code": code, "reason": reason, **counts_of([at.encode()]), "object": name,
+        **stands, "ok": False, "code": code, "reason": reason, **counts_of([at.encode()]), "object": name,
         "field": None if field == "-" else fields.get(int(field)), **counts_of([reads.encode()]), "place": way,
     }

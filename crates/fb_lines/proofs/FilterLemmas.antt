@@ -3,13 +3,13 @@ use Rattle.std.proofs.Common.{◌≡◌, ℕ, ◌+◌, ◌∙◌, ◌++◌, List
 use mathlib.Core.Logic.{inl}
 use Rattle.std.proofs.lemmas.List.Elements.{All-head, All-tail}
 use Rattle.fb_bytes.specs.Messages.{IsMessage, Splits}
-use Rattle.fb_lines.specs.{FilterLaws.PassesAgain, Job.Job, Line.IsLine, Line.TellsLine, Line.ToldBy, Lines.AreTold, Sums.no_tally, Sums.tally_with}
+use Rattle.fb_lines.specs.{FilterLaws.PassesAgain, Job.Job, Line.IsLine, Line.TellsLine, Line.ToldBy, Lines.AreTold, Spot.Before, Spot.at_first, Spot.past, Spot.spot_of, Sums.no_tally, Sums.tally_with}
 use Rattle.fb_lines.specs.Texts.{Texts, to_notes, to_out}
 use Rattle.fb_lines.specs.declared.{tally.Tally.Tally, options.Mode.TheVariants.Filter}
 use Rattle.fb_lines.proofs.Splitting.{empty_partial, splits_one, splits_rest, splits_then}
 
--- what was told of messages that are numbered from k, as what is told of those that were passed on, numbered from j
-again : (job : Job) (limit k j : ℕ) (messages : List (List ℕ)) (text : Texts) (tally : Tally) → job.mode ≡ Filter → All (IsMessage limit) messages → AreTold job k messages text tally
+-- what was told of messages, as what is told of those that were passed on, wherever both begin
+again : (job : Job) (limit : ℕ) (k j : Before) (messages : List (List ℕ)) (text : Texts) (tally : Tally) → job.mode ≡ Filter → All (IsMessage limit) messages → AreTold job k messages text tally
     → (passed : List (List ℕ)) × (good : Tally) × Splits limit text.out passed [] × AreTold job j passed (to_out text.out) good × (good.yes ≡ tally.yes) × (good.no ≡ 0)
 again job limit k j [] text tally filter each (e, none) = (
   [],
@@ -20,8 +20,8 @@ again job limit k j [] text tally filter each (e, none) = (
   refl,
 )
 again job limit k j (m ∷ ms) text tally filter each (Ok found, line, rest, others, is, e, told, sums) =
-    let more = again job limit (k + 1) (j + 1) ms rest others filter (All-tail (IsMessage limit) m ms each) told in
-    let line_is : line ≡ to_out m = subst (λ o. ToldBy o (IsLine job k (Ok found)) m (Ok found) line) filter is.text in
+    let more = again job limit (past k m) (past j m) ms rest others filter (All-tail (IsMessage limit) m ms each) told in
+    let line_is : line ≡ to_out m = subst (λ o. ToldBy o (IsLine job (spot_of k m) (Ok found)) m (Ok found) line) filter is.text in
     let out_is : text.out ≡ m ++ rest.out = ap (λ t. t.out) e ∙ ap (λ t. t.out ++ rest.out) line_is in (
       m ∷ more.0,
       tally_with m (Ok found) more.1,
@@ -32,7 +32,7 @@ again job limit k j (m ∷ ms) text tally filter each (Ok found, line, rest, oth
         to_out m,
         to_out rest.out,
         more.1,
-        record { verdict_is = is.verdict_is; text = subst (λ o. ToldBy o (IsLine job j (Ok found)) m (Ok found) (to_out m)) (sym filter) refl },
+        record { verdict_is = is.verdict_is; text = subst (λ o. ToldBy o (IsLine job (spot_of j m) (Ok found)) m (Ok found) (to_out m)) (sym filter) refl },
         ap to_out out_is,
         more.3,
         refl,
@@ -41,8 +41,8 @@ again job limit k j (m ∷ ms) text tally filter each (Ok found, line, rest, oth
       more.5,
     )
 again job limit k j (m ∷ ms) text tally filter each (Err fault, line, rest, others, is, e, told, sums) =
-    let more = again job limit (k + 1) j ms rest others filter (All-tail (IsMessage limit) m ms each) told in
-    let noted : TellsLine (IsLine job k (Err fault)) to_notes line = subst (λ o. ToldBy o (IsLine job k (Err fault)) m (Err fault) line) filter is.text in
+    let more = again job limit (past k m) j ms rest others filter (All-tail (IsMessage limit) m ms each) told in
+    let noted : TellsLine (IsLine job (spot_of k m) (Err fault)) to_notes line = subst (λ o. ToldBy o (IsLine job (spot_of k m) (Err fault)) m (Err fault) line) filter is.text in
     let out_is : text.out ≡ rest.out = ap (λ t. t.out) e ∙ ap (λ t. t.out ++ rest.out) noted.2 in (
       more.0,
       more.1,
@@ -53,4 +53,4 @@ again job limit k j (m ∷ ms) text tally filter each (Err fault, line, rest, ot
     )
 
 pub passes_again : PassesAgain
-passes_again job limit bytes rest messages text tally filter splits told = again job limit 1 1 messages text tally filter splits.each told
+passes_again job limit bytes rest messages text tally filter splits told = again job limit at_first at_first messages text tally filter splits.each told

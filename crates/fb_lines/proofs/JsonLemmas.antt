@@ -17,6 +17,7 @@ use Rattle.json.proofs.Printed.Tokens.{print_from-append}
 use Rattle.fb_schema.specs.Rows.{Rows}
 use Rattle.fb_rules.specs.declared.{fault.Fault.Fault, fault.Report.Report}
 use Rattle.fb_access.specs.Denotes.{Shown, nothing, no_element, other_member, table}
+use Rattle.fb_lines.specs.declared.spot.Spot.{Spot}
 use Rattle.fb_lines.specs.Json.{AreValues, IsValue, IsValuesMember, json_text, text_json, value_json, labelled, digits_json, line_json, yes_members, no_members_of}
 use Rattle.fb_lines.specs.Json.{place_member, members_text, member_part, following, begin_part, counts_part, reason_part, names_part, end_part, json_yes, json_no}
 
@@ -193,10 +194,10 @@ pub escape_more : (xs : List ℕ) (b : ℕ) → escape (xs ++ b ∷ []) ≡ esca
 escape_more xs b = sym (flat_map_more escape_byte [] xs b)
 
 -- a line by its beginning and the rest
-pub begun : (file : Option (List ℕ)) (k : ℕ) (rest : Members) → json_text (line_json file k rest) ≡ begin_part file k ++ following rest
+pub begun : (file : Option (List ℕ)) (spot : Spot) (rest : Members) → json_text (line_json file spot rest) ≡ begin_part file spot ++ following rest
 unfolding escape_byte
-begun None k rest = simp (first_member, number_text)
-begun (Some file) k rest = simp (first_member, next_member, number_text, append_assoc)
+begun None spot rest = simp (first_member, next_member, number_text, append_assoc)
+begun (Some file) spot rest = simp (first_member, next_member, number_text, append_assoc)
 
 -- the place in words, where there is one
 pub place_parts : (place : List ℕ) → following (place_member (Some place)) ≡ codes ",\"place\":" ++ (json_text (text_json place) ++ codes "}")
@@ -268,17 +269,17 @@ line_end head text inner all is whole =
     rw (is, whole) (sym (append_assoc head (inner ++ codes "}") (codes "\n") ∙ ap (λ l. head ++ l) (append_assoc inner (codes "}") (codes "\n"))))
 
 -- the lines by what is written
-pub yes_line : (file : Option (List ℕ)) (k : ℕ) (report : Report) (values : Members)
-    → json_yes file k report values ≡ begin_part file k ++ (counts_part report ++ (following values ++ codes "\n"))
+pub yes_line : (file : Option (List ℕ)) (spot : Spot) (report : Report) (values : Members)
+    → json_yes file spot report values ≡ begin_part file spot ++ (counts_part report ++ (following values ++ codes "\n"))
 unfolding escape_byte
-yes_line file k report values = ap (λ l. l ++ codes "\n") (begun file k (yes_members report values)) ∙ simp (next_member, fixed_texts.1, number_text, append_assoc)
+yes_line file spot report values = ap (λ l. l ++ codes "\n") (begun file spot (yes_members report values)) ∙ simp (next_member, fixed_texts.1, number_text, append_assoc)
 
-pub no_line : (file : Option (List ℕ)) (k : ℕ) (rows : Rows) (fault : Fault) (place : Option (List ℕ))
-    → json_no file k rows fault place
-    ≡ begin_part file k ++ (reason_part fault.reason ++ ((codes ",\"at\":" ++ decimal fault.at) ++ (names_part rows fault ++ (end_part fault.reads place ++ codes "\n"))))
+pub no_line : (file : Option (List ℕ)) (spot : Spot) (rows : Rows) (fault : Fault) (place : Option (List ℕ))
+    → json_no file spot rows fault place
+    ≡ begin_part file spot ++ (reason_part fault.reason ++ ((codes ",\"at\":" ++ decimal fault.at) ++ (names_part rows fault ++ (end_part fault.reads place ++ codes "\n"))))
 unfolding escape_byte
-no_line file k rows fault place =
-    ap (λ l. l ++ codes "\n") (begun file k (no_members_of rows fault place)) ∙ simp (next_member, fixed_texts.2, number_text, append_assoc)
+no_line file spot rows fault place =
+    ap (λ l. l ++ codes "\n") (begun file spot (no_members_of rows fault place)) ∙ simp (next_member, fixed_texts.2, number_text, append_assoc)
 
 -- a line that is put by its six parts, one behind the other
 pub six_parts : (text t1 t2 t3 t4 t5 t6 a b c d e f whole : List ℕ) → whole ≡ a ++ (b ++ (c ++ (d ++ (e ++ f))))

@@ -10,7 +10,9 @@ use Rattle.json.specs.Tree.{depth, members_depth, HasNumbers, MembersHaveNumbers
 use Rattle.json.specs.Word.{after_number}
 use Rattle.json.proofs.{Printed.Decimals.IsNumber-decimal, Printed.Floats.IsNumber-plain, Printed.Trees.document-print}
 use Rattle.fb_access.specs.Denotes.{Shown, nothing, no_element, other_member, truth, signed, unsigned, float, text, structure, vector, table, union}
-use Rattle.fb_lines.specs.Json.{AreValues, IsReal, IsValue, IsValuesMember, digits_json, field_of, json_text, labelled, line_json, name_json, no_members_of, object_of, place_member, text_json, value_json, yes_members}
+use Rattle.fb_lines.specs.Json.{AreValues, IsReal, IsValue, IsValuesMember, digits_json, field_of, json_text, labelled, line_json, name_json, no_members_of, object_of, place_member, spot_members, text_json, value_json, yes_members}
+use Rattle.fb_lines.specs.Spot.{IsShort}
+use Rattle.fb_lines.specs.declared.spot.Spot.{Spot}
 use Rattle.fb_lines.specs.JsonLaws.{HasFewBits, NoReadsBack, ReadsBack, YesReadsBack}
 
 -- a value whose numbers are such, and within one object
@@ -109,16 +111,19 @@ reads : (value : Json) → HasNumbers value → depth value ≤ 3 → ReadsBack 
 unfolding json_text
 reads value numbers shallow = document-print value numbers (omega arith)
 
-line_reads : (file : Option (List ℕ)) (k : ℕ) (rest : Members) → k < 2 ^ 64 → ArePlain 2 rest → ReadsBack (line_json file k rest)
-line_reads None k rest few plain = reads (line_json None k rest) (IsNumber-decimal k few, plain.numbers) (omega (arith, plain.shallow))
-line_reads (Some file) k rest few plain =
+spot_numbers : (spot : Spot) (rest : Members) → IsShort spot → MembersHaveNumbers rest → MembersHaveNumbers (spot_members spot rest)
+spot_numbers spot rest few numbers = (IsNumber-decimal spot.number few.number, (IsNumber-decimal spot.begin few.begin, (IsNumber-decimal spot.bytes few.bytes, numbers)))
+
+line_reads : (file : Option (List ℕ)) (spot : Spot) (rest : Members) → IsShort spot → ArePlain 2 rest → ReadsBack (line_json file spot rest)
+line_reads None spot rest few plain = reads (line_json None spot rest) (spot_numbers spot rest few plain.numbers) (omega (arith, plain.shallow))
+line_reads (Some file) spot rest few plain =
     let name = text_plain file in
-    reads (line_json (Some file) k rest) (name.numbers, (IsNumber-decimal k few, plain.numbers)) (omega (arith, plain.shallow, name.shallow))
+    reads (line_json (Some file) spot rest) (name.numbers, spot_numbers spot rest few plain.numbers) (omega (arith, plain.shallow, name.shallow))
 
 pub yes_reads : YesReadsBack
-yes_reads file k report paths shown values few tables depth reads each are =
+yes_reads file spot report paths shown values few tables depth reads each are =
     let end = member_plain paths shown values each are in
-    line_reads file k (yes_members report values) few (record {
+    line_reads file spot (yes_members report values) few (record {
       numbers = (tt, (IsNumber-decimal report.tables tables, (IsNumber-decimal report.depth depth, (IsNumber-decimal report.reads reads, end.numbers))));
       shallow = omega (arith, end.shallow);
     })
@@ -128,11 +133,11 @@ place_plain None = record { numbers = tt; shallow = omega arith }
 place_plain (Some place) = let text = text_plain place in record { numbers = (text.numbers, tt); shallow = omega (arith, text.shallow) }
 
 pub no_reads : NoReadsBack
-no_reads file k rows fault place few at reads =
+no_reads file spot rows fault place few at reads =
     let object = name_plain (object_of rows fault) in
     let field = name_plain (field_of rows fault) in
     let end = place_plain place in
-    line_reads file k (no_members_of rows fault place) few (record {
+    line_reads file spot (no_members_of rows fault place) few (record {
       numbers = (tt, (tt, (tt, (IsNumber-decimal fault.at at, (object.numbers, (field.numbers, (IsNumber-decimal fault.reads reads, end.numbers)))))));
       shallow = omega (arith, object.shallow, field.shallow, end.shallow);
     })

@@ -1,11 +1,13 @@
 -- What is told of a message by its verdict.
-use Rattle.std.proofs.Common.{◌≡◌, ◌⊎◌, inl, inr, ℕ, ◌++◌, ◌∙◌, List, [], Result, Ok, Err, IsTrue, ap, append-nil, append_assoc, codes, refl, subst, sym}
+use Rattle.std.proofs.Common.{◌≡◌, ◌⊎◌, inl, inr, ℕ, ◌+◌, ◌++◌, ◌∙◌, List, [], Result, Ok, Err, IsTrue, ap, append-nil, append_assoc, codes, refl, subst, sym}
 use Rattle.std.specs.Prelude.{map}
 use Rattle.fb_lines.specs.{AnswerText.label_text, Job.IsVerdict, Job.Job, Job.No, Job.Verdict, Job.Yes, Job.buffer_in, Job.is_brief, Sums.tally_with, Wanted.Wanted}
 use Rattle.fb_lines.specs.AnswerText.{answers_text}
 use Rattle.fb_lines.specs.Json.{begin_part, counts_part, following}
 use Rattle.fb_lines.specs.Line.{IsLine, IsLineIn, IsRest, ToldBy, front_in, short_line, verdict_line}
 use Rattle.fb_lines.specs.Puts.{Adds, AddsBy, AddsOr, AreSo, Puts, PutsBoth, PutsSome, Queue, Queues, Tells, Waits}
+use Rattle.fb_lines.specs.Spot.{Before, spot_of}
+use Rattle.fb_lines.specs.declared.spot.Spot.{Spot}
 use Rattle.fb_lines.specs.Texts.{Texts, silent, to_notes, to_out}
 use Rattle.fb_lines.specs.declared.{fault.RunFault.RunFault, options.Form.Form, options.Mode.Mode, tally.Tally.Tally}
 use Rattle.fb_lines.specs.declared.fault.RunFault.TheVariants as run
@@ -22,47 +24,47 @@ module _ {P Q : List ℕ → Type 0} (weaker : (line : List ℕ) → P line → 
   told_weaker Filter (Err bad) told (line, is, there) = (line, weaker line is, there)
 
 -- where no more is asked, a line tells numbers
-brief_line : (job : Job) (k : ℕ) (v : Verdict) → IsTrue (is_brief job) → (line : List ℕ) → line ≡ verdict_line k v → IsLine job k v line
-brief_line job k v brief line is =
+brief_line : (job : Job) (spot : Spot) (v : Verdict) → IsTrue (is_brief job) → (line : List ℕ) → line ≡ verdict_line spot.number v → IsLine job spot v line
+brief_line job spot v brief line is =
     let none = asks_none job.paths job.names job.label job.form brief in
-    subst (λ f. IsLineIn f job k v line) (sym none.3) (is ∙ ap (λ l. label_text l ++ verdict_line k v) (sym none.2))
+    subst (λ f. IsLineIn f job spot v line) (sym none.3) (is ∙ ap (λ l. label_text l ++ verdict_line spot.number v) (sym none.2))
 
 -- a line of a yes by its two parts, and that of a no
-pub line_of_yes : (f : Form) (job : Job) (k : ℕ) (found : Yes) (front rest : List ℕ) → front ≡ front_in f job k (Ok found) → IsRest f (map (λ (wanted : Wanted). wanted.text) job.paths) found.answers rest
-    → IsLineIn f job k (Ok found) (front ++ rest)
-line_of_yes form.Plain job k found front rest is behind =
-    rw (is, behind) (append_assoc (label_text job.label) (short_line k (Ok found)) (answers_text found.answers ++ codes "\n"))
-line_of_yes form.Json job k found front rest is (values, are, behind) = (
+pub line_of_yes : (f : Form) (job : Job) (spot : Spot) (found : Yes) (front rest : List ℕ) → front ≡ front_in f job spot (Ok found) → IsRest f (map (λ (wanted : Wanted). wanted.text) job.paths) found.answers rest
+    → IsLineIn f job spot (Ok found) (front ++ rest)
+line_of_yes form.Plain job spot found front rest is behind =
+    rw (is, behind) (append_assoc (label_text job.label) (short_line spot.number (Ok found)) (answers_text found.answers ++ codes "\n"))
+line_of_yes form.Json job spot found front rest is (values, are, behind) = (
   values,
   are,
-  rw (is, behind) (append_assoc (begin_part job.label k) (counts_part found.report) (following values ++ codes "\n") ∙ sym (yes_line job.label k found.report values)),
+  rw (is, behind) (append_assoc (begin_part job.label spot) (counts_part found.report) (following values ++ codes "\n") ∙ sym (yes_line job.label spot found.report values)),
 )
 
-pub line_of_no : (f : Form) (job : Job) (k : ℕ) (bad : No) (front : List ℕ) → front ≡ front_in f job k (Err bad) → IsLineIn f job k (Err bad) front
-line_of_no form.Plain job k bad front is = is
-line_of_no form.Json job k bad front is = is
+pub line_of_no : (f : Form) (job : Job) (spot : Spot) (bad : No) (front : List ℕ) → front ≡ front_in f job spot (Err bad) → IsLineIn f job spot (Err bad) front
+line_of_no form.Plain job spot bad front is = is
+line_of_no form.Json job spot bad front is = is
 
-module _ (job : Job) (k : ℕ) (message : List ℕ) (v : Verdict) (before after : Queues) (tally tally' : Tally) where
+module _ (job : Job) (past : Before) (message : List ℕ) (v : Verdict) (before after : Queues) (tally tally' : Tally) where
   -- by its verdict a message has this told of it
-  pub adds_told : IsVerdict job (buffer_in job message) v → Tells job.mode (IsLine job k v) message v before after → tally' ≡ tally_with message v tally → Adds job k message before after tally tally'
+  pub adds_told : IsVerdict job (buffer_in job message) v → Tells job.mode (IsLine job (spot_of past message) v) message v before after → tally' ≡ tally_with message v tally → Adds job past message before after tally tally'
   adds_told is tells counted = record { verdict = v; told = tells.told; is_told = record { verdict_is = is; text = tells.is_told }; puts = tells.puts; tally_is = counted }
 
   -- so it has where no more is asked
-  adds_briefly : (mode : Mode) → mode ≡ job.mode → IsTrue (is_brief job) → IsVerdict job (buffer_in job message) v → Tells mode (λ line. line ≡ verdict_line k v) message v before after
-      → tally' ≡ tally_with message v tally → Adds job k message before after tally tally'
+  adds_briefly : (mode : Mode) → mode ≡ job.mode → IsTrue (is_brief job) → IsVerdict job (buffer_in job message) v → Tells mode (λ line. line ≡ verdict_line (1 + past.messages) v) message v before after
+      → tally' ≡ tally_with message v tally → Adds job past message before after tally tally'
   adds_briefly mode same brief is tells counted =
-      let told = told_weaker (brief_line job k v brief) message mode v tells.told tells.is_told in
-      adds_told is (record { told = tells.told; is_told = subst (λ m. ToldBy m (IsLine job k v) message v tells.told) same told; puts = tells.puts }) counted
+      let told = told_weaker (brief_line job (spot_of past message) v brief) message mode v tells.told tells.is_told in
+      adds_told is (record { told = tells.told; is_told = subst (λ m. ToldBy m (IsLine job (spot_of past message) v) message v tells.told) same told; puts = tells.puts }) counted
 
   pub yes_added : (mode : Mode) (end : Result (Unit {0}) RunFault) → mode ≡ job.mode → IsTrue (is_brief job) → IsVerdict job (buffer_in job message) v
-      → Tells mode (λ line. line ≡ verdict_line k v) message v before after → tally' ≡ tally_with message v tally → AreSo after end → AddsBy job k message before after tally tally' end
+      → Tells mode (λ line. line ≡ verdict_line (1 + past.messages) v) message v before after → tally' ≡ tally_with message v tally → AreSo after end → AddsBy job past message before after tally tally' end
   yes_added mode (Ok done) same brief is tells counted so = (adds_briefly mode same brief is tells counted, so)
   yes_added mode (Err (run.WriteFault written)) same brief is tells counted so = (adds_briefly mode same brief is tells counted, so)
   yes_added mode (Err (run.NoteFault written)) same brief is tells counted so = (adds_briefly mode same brief is tells counted, so)
   yes_added mode (Err _) same brief is tells counted so = absurd so
 
   pub no_added : (end : Result (Unit {0}) RunFault) → IsVerdict job (buffer_in job message) v
-      → AddsOr (Tells job.mode (IsLine job k v) message v before after × (tally' ≡ tally_with message v tally)) before after tally tally' end → AddsBy job k message before after tally tally' end
+      → AddsOr (Tells job.mode (IsLine job (spot_of past message) v) message v before after × (tally' ≡ tally_with message v tally)) before after tally tally' end → AddsBy job past message before after tally tally' end
   no_added (Ok done) is (both, so) = (adds_told is both.0 both.1, so)
   no_added (Err run.OutOfMemory) is kept = kept
   no_added (Err _) is (both, so) = (adds_told is both.0 both.1, so)

@@ -13,6 +13,7 @@ use Rattle.fb_rules.specs.Reasons.{reason_number, reason_text}
 use Rattle.fb_rules.specs.declared.{fault.Fault.Fault, fault.Reason.Reason, fault.Report.Report}
 use Rattle.fb_access.specs.Denotes.{Shown, nothing, no_element, other_member, truth, signed, unsigned, float, text, structure, vector, table, union}
 use Rattle.fb_access.specs.Location.{field_name}
+use Rattle.fb_lines.specs.declared.spot.Spot.{Spot}
 
 -- the text of a value, without a space
 unfoldable pub json_text : Json → List ℕ
@@ -99,10 +100,14 @@ IsValuesMember [] shown member_of = member_of ≡ no_members
 IsValuesMember (path ∷ paths) shown member_of =
     (values : Members) × AreValues (path ∷ paths) shown values × (member_of ≡ member (codes "values") (object values) no_members)
 
--- what every line begins with: the input's name, where it has one, and the message's number
-abbrev pub line_json : Option (List ℕ) → ℕ → Members → Json
-line_json None k rest = object (member (codes "message") (count_json k) rest)
-line_json (Some file) k rest = object (member (codes "file") (text_json file) (member (codes "message") (count_json k) rest))
+-- the message's number, where it begins in the input, and its length
+abbrev pub spot_members : Spot → Members → Members
+spot_members spot rest = member (codes "message") (count_json spot.number) (member (codes "begin") (count_json spot.begin) (member (codes "bytes") (count_json spot.bytes) rest))
+
+-- what every line begins with: the input's name, where it has one, and where the message stands
+abbrev pub line_json : Option (List ℕ) → Spot → Members → Json
+line_json None spot rest = object (spot_members spot rest)
+line_json (Some file) spot rest = object (member (codes "file") (text_json file) (spot_members spot rest))
 
 -- what the line of a yes has behind that
 abbrev pub yes_members : Report → Members → Members
@@ -134,7 +139,7 @@ abbrev pub place_member : Option (List ℕ) → Members
 place_member None = no_members
 place_member (Some place) = member (codes "place") (text_json place) no_members
 
--- what the line of a no has behind the message's number
+-- what the line of a no has behind that
 abbrev pub no_members_of : Rows → Fault → Option (List ℕ) → Members
 no_members_of rows fault place =
     member (codes "ok") (boolean false)
@@ -146,15 +151,15 @@ no_members_of rows fault place =
     (member (codes "reads") (count_json fault.reads)
     (place_member place)))))))
 
--- the lines of a yes and of a no on message number k
-abbrev pub json_yes : Option (List ℕ) → ℕ → Report → Members → List ℕ
-json_yes file k report values = json_text (line_json file k (yes_members report values)) ++ codes "\n"
+-- the lines of a yes and of a no on the message there
+abbrev pub json_yes : Option (List ℕ) → Spot → Report → Members → List ℕ
+json_yes file spot report values = json_text (line_json file spot (yes_members report values)) ++ codes "\n"
 
-abbrev pub IsYes : Option (List ℕ) → ℕ → Report → List (List ℕ) → List Shown → List ℕ → Type 0
-IsYes file k report paths shown line = (values : Members) × IsValuesMember paths shown values × (line ≡ json_yes file k report values)
+abbrev pub IsYes : Option (List ℕ) → Spot → Report → List (List ℕ) → List Shown → List ℕ → Type 0
+IsYes file spot report paths shown line = (values : Members) × IsValuesMember paths shown values × (line ≡ json_yes file spot report values)
 
-abbrev pub json_no : Option (List ℕ) → ℕ → Rows → Fault → Option (List ℕ) → List ℕ
-json_no file k rows fault place = json_text (line_json file k (no_members_of rows fault place)) ++ codes "\n"
+abbrev pub json_no : Option (List ℕ) → Spot → Rows → Fault → Option (List ℕ) → List ℕ
+json_no file spot rows fault place = json_text (line_json file spot (no_members_of rows fault place)) ++ codes "\n"
 
 -- ---- by the parts that are written
 
@@ -169,10 +174,14 @@ following members = members_text true members
 abbrev pub member_part : Bool → List ℕ → Json → List ℕ
 member_part behind key value = (if behind then codes "," else []) ++ (json_text (string key) ++ (codes ":" ++ json_text value))
 
+-- where a message stands
+abbrev pub spot_part : Spot → List ℕ
+spot_part spot = decimal spot.number ++ (codes ",\"begin\":" ++ (decimal spot.begin ++ (codes ",\"bytes\":" ++ decimal spot.bytes)))
+
 -- what every line begins with
-abbrev pub begin_part : Option (List ℕ) → ℕ → List ℕ
-begin_part None k = codes "{\"message\":" ++ decimal k
-begin_part (Some file) k = codes "{\"file\":" ++ (json_text (text_json file) ++ (codes ",\"message\":" ++ decimal k))
+abbrev pub begin_part : Option (List ℕ) → Spot → List ℕ
+begin_part None spot = codes "{\"message\":" ++ spot_part spot
+begin_part (Some file) spot = codes "{\"file\":" ++ (json_text (text_json file) ++ (codes ",\"message\":" ++ spot_part spot))
 
 -- what a yes counted
 abbrev pub counts_part : Report → List ℕ

@@ -7,6 +7,8 @@ use Rattle.fb_bytes.specs.Word.{word}
 use Rattle.fb_schema.specs.Rows.{Rows}
 use Rattle.fb_rules.specs.declared.{fault.Fault.Fault, fault.Report.Report}
 use Rattle.fb_access.specs.Denotes.{Shown, signed, unsigned, vector, union}
+use Rattle.fb_lines.specs.declared.spot.Spot.{Spot}
+use Rattle.fb_lines.specs.Spot.{IsShort}
 use Rattle.fb_lines.specs.Json.{IsFloat, IsValuesMember, json_text, line_json, no_members_of, yes_members}
 
 -- by the grammar of RFC 8259 the text of this value is that value
@@ -23,14 +25,14 @@ HasFewBits _ = ⊤
 
 -- the line of a yes, where its numbers have at most 64 bits
 abbrev pub YesReadsBack : Type 0
-YesReadsBack = (file : Option (List ℕ)) (k : ℕ) (report : Report) (paths : List (List ℕ)) (shown : List Shown) (values : Members)
-    → k < 2 ^ 64 → report.tables < 2 ^ 64 → report.depth < 2 ^ 64 → report.reads < 2 ^ 64 → AllByRecursion HasFewBits shown → IsValuesMember paths shown values
-    → ReadsBack (line_json file k (yes_members report values))
+YesReadsBack = (file : Option (List ℕ)) (spot : Spot) (report : Report) (paths : List (List ℕ)) (shown : List Shown) (values : Members)
+    → IsShort spot → report.tables < 2 ^ 64 → report.depth < 2 ^ 64 → report.reads < 2 ^ 64 → AllByRecursion HasFewBits shown → IsValuesMember paths shown values
+    → ReadsBack (line_json file spot (yes_members report values))
 
 -- and that of a no
 abbrev pub NoReadsBack : Type 0
-NoReadsBack = (file : Option (List ℕ)) (k : ℕ) (rows : Rows) (fault : Fault) (place : Option (List ℕ)) → k < 2 ^ 64 → fault.at < 2 ^ 64 → fault.reads < 2 ^ 64
-    → ReadsBack (line_json file k (no_members_of rows fault place))
+NoReadsBack = (file : Option (List ℕ)) (spot : Spot) (rows : Rows) (fault : Fault) (place : Option (List ℕ)) → IsShort spot → fault.at < 2 ^ 64 → fault.reads < 2 ^ 64
+    → ReadsBack (line_json file spot (no_members_of rows fault place))
 
 -- the float that a reader makes of a number has the very bits of that which stood in the buffer
 pub record ReadsAs (bytes text : List ℕ) : Type 0 where

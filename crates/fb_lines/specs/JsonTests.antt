@@ -9,6 +9,7 @@ use Rattle.fb_rules.specs.declared.fault.Report.{Report}
 use Rattle.fb_access.specs.Denotes.{Shown, float, signed, text}
 use Rattle.fb_lines.specs.Json.{IsValue, IsYes, json_no, json_text, json_yes, text_json}
 use Rattle.fb_lines.specs.LineTests.{of_each_kind}
+use Rattle.fb_lines.specs.declared.spot.Spot.{Spot}
 
 -- one table, eight reads
 abbrev pub counts : Report
@@ -21,15 +22,22 @@ deliveries = record { objects = table_row (codes "post.Delivery") (field (codes 
 abbrev pub unended : Fault
 unended = record { at = 314; object = 0; field = Some 0; reads = 63; reason = NoTerminator }
 
+-- the first message, of 28 bytes, and the seventh, with 308 bytes before it
+abbrev pub first : Spot
+first = record { number = 1; begin = 0; bytes = 28 }
+
+abbrev pub seventh : Spot
+seventh = record { number = 7; begin = 308; bytes = 64 }
+
 pub record JsonLines : Type 0 where
-  pub yes : json_yes None 7 counts no_members ≡ codes "{\"message\":7,\"ok\":true,\"tables\":1,\"depth\":1,\"reads\":8}\n"
-  pub values : IsYes None 1 counts (codes "hp" ∷ codes "name" ∷ []) (signed (pos 300) ∷ text (codes "Orc") ∷ [])
-      (codes "{\"message\":1,\"ok\":true,\"tables\":1,\"depth\":1,\"reads\":8,\"values\":{\"hp\":300,\"name\":\"Orc\"}}\n")
-  pub of_a_file : json_yes (Some (codes "a b.bin")) 7 counts no_members ≡ codes "{\"file\":\"a b.bin\",\"message\":7,\"ok\":true,\"tables\":1,\"depth\":1,\"reads\":8}\n"
-  pub no : json_no None 5 deliveries unended (Some (codes "items[1]@Note"))
-      ≡ codes "{\"message\":5,\"ok\":false,\"code\":\"V10\",\"reason\":\"NoTerminator\",\"at\":314,\"object\":\"post.Delivery\",\"field\":\"items\",\"reads\":63,\"place\":\"items[1]@Note\"}\n"
-  pub no_field : json_no None 100 deliveries (record unended { field = None; reason = Misaligned }) None
-      ≡ codes "{\"message\":100,\"ok\":false,\"code\":\"V3\",\"reason\":\"Misaligned\",\"at\":314,\"object\":\"post.Delivery\",\"field\":null,\"reads\":63}\n"
+  pub yes : json_yes None seventh counts no_members ≡ codes "{\"message\":7,\"begin\":308,\"bytes\":64,\"ok\":true,\"tables\":1,\"depth\":1,\"reads\":8}\n"
+  pub values : IsYes None first counts (codes "hp" ∷ codes "name" ∷ []) (signed (pos 300) ∷ text (codes "Orc") ∷ [])
+      (codes "{\"message\":1,\"begin\":0,\"bytes\":28,\"ok\":true,\"tables\":1,\"depth\":1,\"reads\":8,\"values\":{\"hp\":300,\"name\":\"Orc\"}}\n")
+  pub of_a_file : json_yes (Some (codes "a b.bin")) seventh counts no_members ≡ codes "{\"file\":\"a b.bin\",\"message\":7,\"begin\":308,\"bytes\":64,\"ok\":true,\"tables\":1,\"depth\":1,\"reads\":8}\n"
+  pub no : json_no None seventh deliveries unended (Some (codes "items[1]@Note"))
+      ≡ codes "{\"message\":7,\"begin\":308,\"bytes\":64,\"ok\":false,\"code\":\"V10\",\"reason\":\"NoTerminator\",\"at\":314,\"object\":\"post.Delivery\",\"field\":\"items\",\"reads\":63,\"place\":\"items[1]@Note\"}\n"
+  pub no_field : json_no None first deliveries (record unended { field = None; reason = Misaligned }) None
+      ≡ codes "{\"message\":1,\"begin\":0,\"bytes\":28,\"ok\":false,\"code\":\"V3\",\"reason\":\"Misaligned\",\"at\":314,\"object\":\"post.Delivery\",\"field\":null,\"reads\":63}\n"
 
 -- a value may be told so
 abbrev pub IsText : Shown → List ℕ → Type 0

@@ -6,6 +6,7 @@ pub mod AnswerText
 pub mod Texts
 pub mod Ends
 pub mod Sums
+pub mod Spot
 pub mod Json
 pub mod JsonSums
 pub mod Line

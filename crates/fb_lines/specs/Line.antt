@@ -7,6 +7,8 @@ use Rattle.fb_lines.specs.Json.{IsValuesMember, IsYes, begin_part, counts_part, 
 use Rattle.fb_lines.specs.Job.{Job, Verdict, IsVerdict, buffer_in}
 use Rattle.fb_lines.specs.declared.{options.Form.Form, options.Form.TheVariants.Plain, options.Form.TheVariants.Json, options.Mode.Mode}
 use Rattle.fb_lines.specs.declared.options.Mode.TheVariants.{Lines, BadLines, Filter}
+use Rattle.fb_lines.specs.Spot.{Before, spot_of}
+use Rattle.fb_lines.specs.declared.spot.Spot.{Spot}
 use Rattle.fb_lines.specs.Texts.{Texts, silent, to_notes, to_out}
 use Rattle.fb_rules.specs.declared.{fault.Fault.Fault, fault.Report.Report}
 use Rattle.fb_rules.specs.Reasons.{reason_text}
@@ -52,16 +54,16 @@ abbrev pub verdict_line : ℕ → Verdict → List ℕ
 verdict_line k verdict = short_line k verdict ++ (asked_text verdict ++ codes "\n")
 
 -- the same as JSON
-abbrev pub IsJsonLine : Job → ℕ → Verdict → List ℕ → Type 0
-IsJsonLine job k (Ok found) line = IsYes job.label k found.report (map (λ (wanted : Wanted). wanted.text) job.paths) found.answers line
-IsJsonLine job k (Err bad) line = line ≡ json_no job.label k job.rows bad.fault bad.place
+abbrev pub IsJsonLine : Job → Spot → Verdict → List ℕ → Type 0
+IsJsonLine job spot (Ok found) line = IsYes job.label spot found.report (map (λ (wanted : Wanted). wanted.text) job.paths) found.answers line
+IsJsonLine job spot (Err bad) line = line ≡ json_no job.label spot job.rows bad.fault bad.place
 
--- the line of the verdict on message number k, with the input's name where it has one: before it, or as JSON has it
-abbrev pub IsLineIn : Form → Job → ℕ → Verdict → List ℕ → Type 0
-IsLineIn Plain job k verdict line = line ≡ label_text job.label ++ verdict_line k verdict
-IsLineIn Json job k verdict line = IsJsonLine job k verdict line
+-- the line of the verdict on the message there, with the input's name where it has one: before it, or as JSON has it
+abbrev pub IsLineIn : Form → Job → Spot → Verdict → List ℕ → Type 0
+IsLineIn Plain job spot verdict line = line ≡ label_text job.label ++ verdict_line spot.number verdict
+IsLineIn Json job spot verdict line = IsJsonLine job spot verdict line
 
-abbrev pub IsLine : Job → ℕ → Verdict → List ℕ → Type 0
+abbrev pub IsLine : Job → Spot → Verdict → List ℕ → Type 0
 IsLine job = IsLineIn job.form job
 
 -- what the line of a yes has behind its counts
@@ -70,11 +72,11 @@ IsRest Plain paths shown text = text ≡ answers_text shown ++ codes "\n"
 IsRest Json paths shown text = (values : Members) × IsValuesMember paths shown values × (text ≡ following values ++ codes "\n")
 
 -- what its line has up to there, or all of the line of a no
-abbrev pub front_in : Form → Job → ℕ → Verdict → List ℕ
-front_in Plain job k (Ok found) = label_text job.label ++ short_line k (Ok found)
-front_in Json job k (Ok found) = begin_part job.label k ++ counts_part found.report
-front_in Plain job k (Err bad) = label_text job.label ++ verdict_line k (Err bad)
-front_in Json job k (Err bad) = json_no job.label k job.rows bad.fault bad.place
+abbrev pub front_in : Form → Job → Spot → Verdict → List ℕ
+front_in Plain job spot (Ok found) = label_text job.label ++ short_line spot.number (Ok found)
+front_in Json job spot (Ok found) = begin_part job.label spot ++ counts_part found.report
+front_in Plain job spot (Err bad) = label_text job.label ++ verdict_line spot.number (Err bad)
+front_in Json job spot (Err bad) = json_no job.label spot job.rows bad.fault bad.place
 
 -- a line that goes there
 abbrev pub TellsLine : (List ℕ → Type 0) → (List ℕ → Texts) → Texts → Type 0
@@ -89,7 +91,7 @@ ToldBy BadLines IsItsLine message (Err bad) told = TellsLine IsItsLine to_out to
 ToldBy Filter IsItsLine message (Ok found) told = told ≡ to_out message
 ToldBy Filter IsItsLine message (Err bad) told = TellsLine IsItsLine to_notes told
 
--- what is told of the message with number k, by the verdict on the buffer in it
-pub record IsTold (job : Job) (k : ℕ) (bytes : List ℕ) (verdict : Verdict) (told : Texts) : Type 0 where
+-- what is told of the message behind so much, by the verdict on the buffer in it
+pub record IsTold (job : Job) (before : Before) (bytes : List ℕ) (verdict : Verdict) (told : Texts) : Type 0 where
   pub verdict_is : IsVerdict job (buffer_in job bytes) verdict
-  pub text : ToldBy job.mode (IsLine job k verdict) bytes verdict told
+  pub text : ToldBy job.mode (IsLine job (spot_of before bytes) verdict) bytes verdict told

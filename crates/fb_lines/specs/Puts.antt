@@ -3,6 +3,7 @@ use Rattle.std.specs.Prelude.{◌≡◌, ℕ, Bool, true, false, List, [], ◌++
 use Rattle.fb_bytes.specs.Ends.{one_more}
 use Rattle.fb_bytes.specs.declared.ends.Sink as sink
 use Rattle.fb_lines.specs.{Ends.Outs, Ends.Writer, Ends.writer_of, Job.Job, Job.Verdict, Line.IsTold, Line.ToldBy}
+use Rattle.fb_lines.specs.Spot.{Before}
 use Rattle.fb_lines.specs.{Lines.ComesBehind, Lines.WritesFront, Sums.tally_with, Texts.Texts}
 use Rattle.fb_lines.specs.declared.{fault.RunFault.RunFault, options.Mode.Mode, output.Output.Output, tally.Tally.Tally, writing.Pending.Pending, writing.Written.Written}
 use Rattle.fb_lines.specs.declared.fault.RunFault.TheVariants.{OutOfMemory, WriteFault, NoteFault}
@@ -93,11 +94,11 @@ pub record Waits (mode : Mode) (IsItsLine : List ℕ → Type 0) (message : List
   pub puts : Puts told.out before after
   pub notes_are : notes' ≡ notes ++ told.notes
 
--- what is told of message number k was put there, and its verdict was counted
-pub record Adds (job : Job) (k : ℕ) (message : List ℕ) (before after : Queues) (tally tally' : Tally) : Type 0 where
+-- what is told of the message behind so much was put there, and its verdict was counted
+pub record Adds (job : Job) (before_it : Before) (message : List ℕ) (before after : Queues) (tally tally' : Tally) : Type 0 where
   pub verdict : Verdict
   pub told : Texts
-  pub is_told : IsTold job k message verdict told
+  pub is_told : IsTold job before_it message verdict told
   pub puts : PutsBoth told before after
   pub tally_is : tally' ≡ tally_with message verdict tally
 
@@ -106,5 +107,5 @@ abbrev pub AddsOr : Type 0 → Queues → Queues → Tally → Tally → Result 
 AddsOr Added before after tally tally' (Err OutOfMemory) = (after ≡ before) × (tally' ≡ tally)
 AddsOr Added before after tally tally' end = Added × AreSo after end
 
-abbrev pub AddsBy : Job → ℕ → List ℕ → Queues → Queues → Tally → Tally → Result (Unit {0}) RunFault → Type 0
-AddsBy job k message before after tally tally' = AddsOr (Adds job k message before after tally tally') before after tally tally'
+abbrev pub AddsBy : Job → Before → List ℕ → Queues → Queues → Tally → Tally → Result (Unit {0}) RunFault → Type 0
+AddsBy job before_it message before after tally tally' = AddsOr (Adds job before_it message before after tally tally') before after tally tally'

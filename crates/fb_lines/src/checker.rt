@@ -14,6 +14,7 @@ use crate::answers::{Answers, MOST_PATHS};
 use crate::json_line::{put_no, put_yes};
 use crate::options::{AskedPath, Form, Mode, Options, Places, Prefix};
 use crate::room::Room;
+use crate::spot::Spot;
 use fb_access::{get, place_of, put_location};
 use fb_bytes::Meter;
 use fb_schema::Schema;
@@ -144,20 +145,20 @@ impl<'s, 'n, 'o> Checker<'s, 'n, 'o> {
         self.options.paths.as_slice()
     }
 
-    /// Adds what the line of this verdict on message number `number` has before its values as JSON, which is all of the
-    /// line of a no.
+    /// Adds what the line of this verdict on the message there has before its values as JSON, which is all of the line
+    /// of a no.
     pub fn put_json<A: Allocator>(
         &self,
         text: &mut Vec<u8, A>,
-        number: u64,
+        spot: &Spot,
         verdict: &Result<Found<'_>, Wrong<'_>>,
     ) -> Result<(), AllocError>
-        ensures { OnOk result (text.new.items ≡ text.old.items ++ front_in Json self.now number (verdict_of verdict.now)) }
+        ensures { OnOk result (text.new.items ≡ text.old.items ++ front_in Json self.now spot.now (verdict_of verdict.now)) }
     {
         let label = &self.options.label;
         match verdict {
-            Ok(found) => put_yes(text, label, number, &found.report),
-            Err(wrong) => put_no(text, label, number, self.schema, &wrong.fault, wrong.place),
+            Ok(found) => put_yes(text, label, spot, &found.report),
+            Err(wrong) => put_no(text, label, spot, self.schema, &wrong.fault, wrong.place),
         }
     }
 

@@ -1,9 +1,10 @@
 //! Counts verdicts.
 
 ghost use Rattle.std.specs.Prelude.{Ok, ◌≡◌, ◌+◌, ◌<◌, ◌^◌, length};
-ghost use Rattle.fb_lines.specs.{Job.brief_verdict, Job.verdict_of, Sums.no_tally, Sums.tally_with};
+ghost use Rattle.fb_lines.specs.{Job.brief_verdict, Job.verdict_of, Spot.past_all, Spot.spot_of, Sums.no_tally, Sums.tally_with};
 
 use crate::checker::{Found, Wrong};
+use crate::spot::Spot;
 use crate::tally::{Tally, count_place};
 use fb_verify::Report;
 use std::marker::Model;
@@ -49,6 +50,18 @@ impl Counter {
         ensures { result ≡ self.now.yes + self.now.no }
     {
         self.tally.yes + self.tally.no
+    }
+
+    /// Where this message stands, the next one.
+    pub fn spot(&self, message: &[u8]) -> Spot
+        requires few { self.now.yes + self.now.no < 2 ^ 63 }
+        ensures { result ≡ spot_of (past_all self.now) message.now }
+    {
+        Spot {
+            number: 1 + self.messages(),
+            begin: self.tally.bytes,
+            bytes: message.len() as u64,
+        }
     }
 
     /// Counts a message with this report, of which no more is asked.

@@ -3,8 +3,9 @@
 ghost use Rattle.std.specs.Prelude.{OnOk, ◌≡◌, ◌++◌, option_map};
 ghost use Rattle.json.specs.Json.{string};
 ghost use Rattle.fb_lines.specs.Json.{begin_part, code_of, counts_part, digits_json, end_part, following, json_no, json_text, labelled, name_json, name_of};
-ghost use Rattle.fb_lines.specs.Json.{names_part, place_member, reason_part, text_json};
+ghost use Rattle.fb_lines.specs.Json.{names_part, place_member, reason_part, spot_part, text_json};
 
+use crate::spot::Spot;
 use crate::tally::count_place;
 use crate::value_text::{Spelling, put_hex, put_number, put_spelled};
 use fb_access::{field_of, object_name};
@@ -12,33 +13,33 @@ use fb_schema::Schema;
 use fb_verify::{Fault, Reason, Report};
 use std::alloc::{AllocError, Allocator};
 
-/// Adds what the line of a yes on message number `number` begins with, up to its values.
+/// Adds what the line of a yes on the message there begins with, up to its values.
 pub fn put_yes<A: Allocator>(
     text: &mut Vec<u8, A>,
     file: &Option<Vec<u8>>,
-    number: u64,
+    spot: &Spot,
     report: &Report,
 ) -> Result<(), AllocError>
-    ensures { OnOk result (text.new.items ≡ text.old.items ++ (begin_part (option_map (λ f. f.items) file.now) number ++ counts_part report.now)) }
+    ensures { OnOk result (text.new.items ≡ text.old.items ++ (begin_part (option_map (λ f. f.items) file.now) spot.now ++ counts_part report.now)) }
 {
-    put_begin(text, file, number)?;
+    put_begin(text, file, spot)?;
     put_counts(text, report)
 }
 
-/// Adds the line of a no on message number `number`, with the names that the schema has of its fault, and its place in
+/// Adds the line of a no on the message there, with the names that the schema has of its fault, and its place in
 /// words where there is one.
 pub fn put_no<A: Allocator>(
     text: &mut Vec<u8, A>,
     file: &Option<Vec<u8>>,
-    number: u64,
+    spot: &Spot,
     schema: &Schema<'_>,
     fault: &Fault,
     place: Option<&[u8]>,
 ) -> Result<(), AllocError>
-    ensures { OnOk result (text.new.items ≡ text.old.items ++ json_no (option_map (λ f. f.items) file.now) number schema.now fault.now
+    ensures { OnOk result (text.new.items ≡ text.old.items ++ json_no (option_map (λ f. f.items) file.now) spot.now schema.now fault.now
         (option_map (λ p. p.now) place.entry)) }
 {
-    put_begin(text, file, number)?;
+    put_begin(text, file, spot)?;
     put_reason(text, fault.reason)?;
     put_number(text, b",\"at\":", fault.at)?;
     put_names(text, schema, fault)?;
@@ -50,18 +51,31 @@ pub fn put_no<A: Allocator>(
 fn put_begin<A: Allocator>(
     text: &mut Vec<u8, A>,
     file: &Option<Vec<u8>>,
-    number: u64,
+    spot: &Spot,
 ) -> Result<(), AllocError>
-    ensures { OnOk result (text.new.items ≡ text.old.items ++ begin_part (option_map (λ f. f.items) file.now) number) }
+    ensures { OnOk result (text.new.items ≡ text.old.items ++ begin_part (option_map (λ f. f.items) file.now) spot.now) }
 {
     match file {
         Some(file) => {
             put(text, b"{\"file\":")?;
             put_text(text, file)?;
-            put_number(text, b",\"message\":", number)
+            put_spot(text, b",\"message\":", spot)
         }
-        None => put_number(text, b"{\"message\":", number),
+        None => put_spot(text, b"{\"message\":", spot),
     }
+}
+
+/// Adds a label and where a message stands.
+fn put_spot<A: Allocator>(
+    text: &mut Vec<u8, A>,
+    label: &[u8],
+    spot: &Spot,
+) -> Result<(), AllocError>
+    ensures { OnOk result (text.new.items ≡ text.old.items ++ (label.now ++ spot_part spot.now)) }
+{
+    put_number(text, label, spot.number)?;
+    put_number(text, b",\"begin\":", spot.begin)?;
+    put_number(text, b",\"bytes\":", spot.bytes)
 }
 
 /// Adds what a yes counted.

@@ -12,6 +12,7 @@ mod line;
 mod options;
 mod output;
 mod room;
+mod spot;
 pub mod summary;
 mod tally;
 mod value_text;

@@ -1,7 +1,7 @@
 //! What a run tells: counted, and put behind what waits to be written.
 
 ghost use Rattle.std.specs.Prelude.{Err, Ok, OnOk, OnErr, IsTrue, ◌≡◌, ◌+◌, ◌<◌, ◌^◌, ◌++◌, [], false, length};
-ghost use Rattle.fb_lines.specs.{AnswerText.label_text, Ends.outs_of, Sums.count_of, Sums.no_tally, Sums.tally_with, Texts.silent};
+ghost use Rattle.fb_lines.specs.{AnswerText.label_text, Ends.outs_of, Spot.past_all, Spot.spot_of, Sums.count_of, Sums.no_tally, Sums.tally_with, Texts.silent};
 ghost use Rattle.fb_lines.specs.Job.{HasRoom, brief_verdict, is_brief, verdict_of};
 ghost use Rattle.fb_lines.specs.Line.{IsLine, front_in, verdict_line};
 ghost use Rattle.fb_lines.specs.Lines.{AddsText};
@@ -13,6 +13,7 @@ use crate::fault::RunFault;
 use crate::line::Line;
 use crate::options::{Form, Mode};
 use crate::room::Room;
+use crate::spot::Spot;
 use crate::tally::Tally;
 use crate::value_text::put_words;
 use crate::values::put_values;
@@ -68,7 +69,7 @@ impl<A: Allocator> Output<A> {
         requires few { count_of self.old.counter < 2 ^ 63 }
         requires short { length message.now < 2 ^ 31 }
         requires unfailed { AreOpen (queues_of K.Sink N.Sink self.old writer.old notes.old) }
-        ensures told { AddsBy checker.now (1 + count_of self.old.counter) message.now (queues_of K.Sink N.Sink self.old writer.old notes.old)
+        ensures told { AddsBy checker.now (past_all self.old.counter) message.now (queues_of K.Sink N.Sink self.old writer.old notes.old)
             (queues_of K.Sink N.Sink self.new writer.new notes.new) self.old.counter self.new.counter result }
         ensures one { OnOk result (count_of self.new.counter ≡ count_of self.old.counter + 1) }
         ensures room { HasRoom checker.now room.new }
@@ -96,7 +97,7 @@ impl<A: Allocator> Output<A> {
         requires few { count_of self.old.counter < 2 ^ 63 }
         requires short { length message.now < 2 ^ 31 }
         requires unfailed { AreOpen (queues_of K.Sink N.Sink self.old writer.old notes.old) }
-        ensures told { AddsBy checker.now (1 + count_of self.old.counter) message.now (queues_of K.Sink N.Sink self.old writer.old notes.old)
+        ensures told { AddsBy checker.now (past_all self.old.counter) message.now (queues_of K.Sink N.Sink self.old writer.old notes.old)
             (queues_of K.Sink N.Sink self.new writer.new notes.new) self.old.counter self.new.counter result }
         ensures one { OnOk result (count_of self.new.counter ≡ count_of self.old.counter + 1) }
         ensures room { HasRoom checker.now room.new }
@@ -154,13 +155,13 @@ impl<A: Allocator> Output<A> {
         requires few { count_of self.old.counter < 2 ^ 63 }
         requires short { length message.now < 2 ^ 31 }
         requires unfailed { AreOpen (queues_of K.Sink N.Sink self.old writer.old notes.old) }
-        ensures { AddsOr (Tells checker.now.mode (IsLine checker.now (1 + count_of self.old.counter) (brief_verdict (Err fault))) message.now (brief_verdict (Err fault))
+        ensures { AddsOr (Tells checker.now.mode (IsLine checker.now (spot_of (past_all self.old.counter) message.now) (brief_verdict (Err fault))) message.now (brief_verdict (Err fault))
             (queues_of K.Sink N.Sink self.old writer.old notes.old) (queues_of K.Sink N.Sink self.new writer.new notes.new) × (self.new.counter ≡ tally_with message.now (brief_verdict (Err fault)) self.old.counter))
             (queues_of K.Sink N.Sink self.old writer.old notes.old) (queues_of K.Sink N.Sink self.new writer.new notes.new) self.old.counter self.new.counter result }
     {
         let verdict = Err(Wrong { fault, place: None });
-        let number = 1 + self.counter.messages();
-        self.tell(checker, b"", number, message, &verdict, writer)?;
+        let spot = self.counter.spot(message);
+        self.tell(checker, b"", &spot, message, &verdict, writer)?;
         self.counter.count(message, &verdict);
         self.settle(writer, notes)
     }
@@ -178,32 +179,32 @@ impl<A: Allocator> Output<A> {
         requires few { count_of self.old.counter < 2 ^ 63 }
         requires short { length message.now < 2 ^ 31 }
         requires unfailed { AreOpen (queues_of K.Sink N.Sink self.old writer.old notes.old) }
-        ensures told { AddsBy checker.now (1 + count_of self.old.counter) message.now (queues_of K.Sink N.Sink self.old writer.old notes.old)
+        ensures told { AddsBy checker.now (past_all self.old.counter) message.now (queues_of K.Sink N.Sink self.old writer.old notes.old)
             (queues_of K.Sink N.Sink self.new writer.new notes.new) self.old.counter self.new.counter result }
         ensures one { OnOk result (count_of self.new.counter ≡ count_of self.old.counter + 1) }
         ensures room { HasRoom checker.now room.new }
     {
         let verdict = checker.verdict(room, message)?;
         let (verdict, begin) = checker.told(room, verdict);
-        let number = 1 + self.counter.messages();
-        self.tell(checker, begin, number, message, &verdict, writer)?;
+        let spot = self.counter.spot(message);
+        self.tell(checker, begin, &spot, message, &verdict, writer)?;
         self.counter.count(message, &verdict);
         self.settle(writer, notes)
     }
 
-    /// Puts what is told of message number `number` by this verdict, where plain lines begin so. Of the notes nothing is
+    /// Puts what is told of the message there by this verdict, where plain lines begin so. Of the notes nothing is
     /// written.
     fn tell<K: Sink>(
         &mut self,
         checker: &Checker<'_, '_, '_>,
         begin: &[u8],
-        number: u64,
+        spot: &Spot,
         message: &[u8],
         verdict: &Result<Found<'_>, Wrong<'_>>,
         writer: &mut K,
     ) -> Result<(), AllocError>
         requires begin { begin.now ≡ label_text checker.now.label }
-        ensures ok { OnOk result (Waits checker.now.mode (IsLine checker.now number (verdict_of verdict.now)) message.now (verdict_of verdict.now)
+        ensures ok { OnOk result (Waits checker.now.mode (IsLine checker.now spot.now (verdict_of verdict.now)) message.now (verdict_of verdict.now)
             (queue_of K.Sink self.old.out writer.old) (queue_of K.Sink self.new.out writer.new) self.old.notes.bytes.items self.new.notes.bytes.items) }
         ensures err { OnErr result (queue_of K.Sink self.new.out writer.new ≡ queue_of K.Sink self.old.out writer.old) }
         ensures err_noted { OnErr result (self.new.notes.bytes.items ≡ self.old.notes.bytes.items) }
@@ -212,7 +213,7 @@ impl<A: Allocator> Output<A> {
     {
         match verdict {
             Ok(_) => match checker.mode() {
-                Mode::Lines => self.put_line(checker, begin, number, verdict, writer),
+                Mode::Lines => self.put_line(checker, begin, spot, verdict, writer),
                 Mode::BadLines => Ok(()),
                 Mode::Filter => {
                     self.out.put(writer, message);
@@ -221,29 +222,29 @@ impl<A: Allocator> Output<A> {
             },
             Err(_) => match checker.mode() {
                 Mode::Lines | Mode::BadLines => {
-                    self.put_line(checker, begin, number, verdict, writer)
+                    self.put_line(checker, begin, spot, verdict, writer)
                 }
-                Mode::Filter => self.note_line(checker, begin, number, verdict),
+                Mode::Filter => self.note_line(checker, begin, spot, verdict),
             },
         }
     }
 
-    /// Puts the line of this verdict on message number `number` for the writer. Plain lines begin so.
+    /// Puts the line of this verdict on the message there for the writer. Plain lines begin so.
     fn put_line<K: Sink>(
         &mut self,
         checker: &Checker<'_, '_, '_>,
         begin: &[u8],
-        number: u64,
+        spot: &Spot,
         verdict: &Result<Found<'_>, Wrong<'_>>,
         writer: &mut K,
     ) -> Result<(), AllocError>
         requires begin { begin.now ≡ label_text checker.now.label }
-        ensures ok { OnOk result (PutsSome (IsLine checker.now number (verdict_of verdict.now)) (queue_of K.Sink self.old.out writer.old) (queue_of K.Sink self.new.out writer.new)) }
+        ensures ok { OnOk result (PutsSome (IsLine checker.now spot.now (verdict_of verdict.now)) (queue_of K.Sink self.old.out writer.old) (queue_of K.Sink self.new.out writer.new)) }
         ensures err { OnErr result (queue_of K.Sink self.new.out writer.new ≡ queue_of K.Sink self.old.out writer.old) }
         ensures notes { self.new.notes ≡ self.old.notes }
         ensures counted { self.new.counter ≡ self.old.counter }
     {
-        self.make_front(checker, begin, number, verdict)?;
+        self.make_front(checker, begin, spot, verdict)?;
         self.out.put(writer, self.made.as_slice());
         if let Ok(found) = verdict {
             let answers = found.answers.as_slice();
@@ -258,36 +259,36 @@ impl<A: Allocator> Output<A> {
         Ok(())
     }
 
-    /// Adds the line of this verdict on a bad message with number `number` to what waits for the notes.
+    /// Adds the line of this verdict on the bad message there to what waits for the notes.
     fn note_line(
         &mut self,
         checker: &Checker<'_, '_, '_>,
         begin: &[u8],
-        number: u64,
+        spot: &Spot,
         verdict: &Result<Found<'_>, Wrong<'_>>,
     ) -> Result<(), AllocError>
         requires begin { begin.now ≡ label_text checker.now.label }
-        ensures ok { OnOk result (self.new.notes.bytes.items ≡ self.old.notes.bytes.items ++ front_in checker.now.form checker.now number (verdict_of verdict.now)) }
+        ensures ok { OnOk result (self.new.notes.bytes.items ≡ self.old.notes.bytes.items ++ front_in checker.now.form checker.now spot.now (verdict_of verdict.now)) }
         ensures err { OnErr result (self.new.notes.bytes.items ≡ self.old.notes.bytes.items) }
         ensures out { self.new.out ≡ self.old.out }
         ensures noted { self.new.notes.written ≡ self.old.notes.written }
         ensures counted { self.new.counter ≡ self.old.counter }
     {
-        self.make_front(checker, begin, number, verdict)?;
+        self.make_front(checker, begin, spot, verdict)?;
         self.notes.bytes.extend_from_slice(self.made.as_slice())
     }
 
-    /// Makes what the line of this verdict on message number `number` has before its values, which is all of the line of
-    /// a no. Plain ones begin so.
+    /// Makes what the line of this verdict on the message there has before its values, which is all of the line of a no.
+    /// Plain ones begin so.
     fn make_front(
         &mut self,
         checker: &Checker<'_, '_, '_>,
         begin: &[u8],
-        number: u64,
+        spot: &Spot,
         verdict: &Result<Found<'_>, Wrong<'_>>,
     ) -> Result<(), AllocError>
         requires begin { begin.now ≡ label_text checker.now.label }
-        ensures front { OnOk result (self.new.made.items ≡ front_in checker.now.form checker.now number (verdict_of verdict.now)) }
+        ensures front { OnOk result (self.new.made.items ≡ front_in checker.now.form checker.now spot.now (verdict_of verdict.now)) }
         ensures out { self.new.out ≡ self.old.out }
         ensures notes { self.new.notes ≡ self.old.notes }
         ensures counted { self.new.counter ≡ self.old.counter }
@@ -295,7 +296,7 @@ impl<A: Allocator> Output<A> {
         self.made.clear();
         match checker.form() {
             Form::Plain => {
-                self.line.set(number, verdict);
+                self.line.set(spot.number, verdict);
                 self.made.extend_from_slice(begin)?;
                 self.made.extend_from_slice(self.line.bytes())?;
                 match verdict {
@@ -303,7 +304,7 @@ impl<A: Allocator> Output<A> {
                     Err(wrong) => put_words(&mut self.made, wrong.place),
                 }
             }
-            Form::Json => checker.put_json(&mut self.made, number, verdict),
+            Form::Json => checker.put_json(&mut self.made, spot, verdict),
         }
     }
 

@@ -7,7 +7,7 @@ use Rattle.std.proofs.lemmas.List.{append-nil, nil_from_length}
 use Rattle.fb_bytes.specs.declared.ends.Sink as sink
 use Rattle.fb_lines.specs.declared.output.Output.{Output}
 use Rattle.fb_lines.specs.Ends.{Outs, Reader, beside, outs_of}
-use Rattle.fb_lines.specs.{Job.Job, Job.Verdict, Line.IsLine, Line.ToldBy, Sums.count_of, Sums.no_tally}
+use Rattle.fb_lines.specs.{Job.Job, Job.Verdict, Line.IsLine, Line.ToldBy, Spot.at_first, Spot.past_all, Spot.spot_of, Sums.no_tally}
 use Rattle.fb_lines.specs.Faults.{End, EndsBeside}
 use Rattle.fb_lines.specs.Lines.{WritesFront, WritesFronts}
 use Rattle.fb_lines.specs.Puts.{Adds, AddsBy, AreCut, AreSo, IsUnused, PutsBoth, Queues, all_unused, queues_of}
@@ -25,9 +25,9 @@ unused_queues k n output writer notes ((none, out), (no_notes, noted)) = rw (non
 
 -- behind nothing else
 pub begun : (job : Job) (bytes : List ℕ) (first : Outs) (before now : Queues) (tally tally' : Tally) (end : End) → before ≡ all_unused first → tally ≡ no_tally
-    → AddsBy job (1 + count_of tally) bytes before now tally tally' end → AddsBy job 1 bytes (all_unused first) now no_tally tally' end
+    → AddsBy job (past_all tally) bytes before now tally tally' end → AddsBy job at_first bytes (all_unused first) now no_tally tally' end
 begun job bytes first before now tally tally' end unused counted adds =
-    subst (λ (q : Queues). AddsBy job 1 bytes q now no_tally tally' end) unused (subst (λ (t : Tally). AddsBy job (1 + count_of t) bytes before now t tally' end) counted adds)
+    subst (λ (q : Queues). AddsBy job at_first bytes q now no_tally tally' end) unused (subst (λ (t : Tally). AddsBy job (past_all t) bytes before now t tally' end) counted adds)
 
 -- what holds where it went well
 pub on_ok : {P : Type 0} (end : End) → OnOk end P → end ≡ Ok tt → P
@@ -48,13 +48,13 @@ keeps_nil None b grown = tt
 keeps_nil (Some xs) None grown = grown
 keeps_nil (Some xs) (Some ys) grown = grown ∙ append-nil xs
 
-module _ (job : Job) (bytes : List ℕ) (first : Outs) (now : Queues) (tally : Tally) (adds : Adds job 1 bytes (all_unused first) now no_tally tally) where
+module _ (job : Job) (bytes : List ℕ) (first : Outs) (now : Queues) (tally : Tally) (adds : Adds job at_first bytes (all_unused first) now no_tally tally) where
   -- a write came to rest
   fronts : (fault : RunFault) → AreCut now fault → WritesFronts adds.told first (outs_in now) no_bytes fault
   fronts (run.WriteFault written) (cut, fine, is) =
       let front = (put_front adds.told.out first.writer now.out cut adds.puts.0).0 in
       let behind = (put_behind adds.told.notes first.notes now.notes fine adds.puts.1).0 in
-      let none : adds.told.notes ≡ [] = elim (alone job.mode (IsLine job 1 adds.verdict) bytes adds.verdict adds.told adds.is_told.text) [
+      let none : adds.told.notes ≡ [] = elim (alone job.mode (IsLine job (spot_of at_first bytes) adds.verdict) bytes adds.verdict adds.told adds.is_told.text) [
         | inl nothing ↦ absurd (omega (arith, front.within, ap length nothing))
         | inr nothing ↦ nothing
       ] in
@@ -76,7 +76,7 @@ module _ (job : Job) {bytes : List ℕ} {begun last : Reader} (first : Outs) (ta
   IsRun now end = IsBareRun job (beside begun first) (beside last (outs_in now)) tally end × EndsBeside (beside begun first) (beside last (outs_in now)) turns end
 
   -- a write failed
-  cut_run : (now : Queues) (fault : RunFault) → Adds job 1 bytes (all_unused first) now no_tally tally → AreCut now fault → IsRun now (Err fault)
+  cut_run : (now : Queues) (fault : RunFault) → Adds job at_first bytes (all_unused first) now no_tally tally → AreCut now fault → IsRun now (Err fault)
   cut_run now (run.WriteFault written) adds cut = (
     (bytes, whole.read, (whole.within, part job bytes first now tally adds (run.WriteFault written) cut)),
     caused_at begun.failures last.failures (begun.calls + turns - last.calls) last.ended first (outs_in now) (run.WriteFault written) whole.unfailed (cut_caused adds.told first now adds.puts (run.WriteFault written) cut),
@@ -88,7 +88,7 @@ module _ (job : Job) {bytes : List ℕ} {begun last : Reader} (first : Outs) (ta
   cut_run now _ adds never = absurd never
 
   -- it was not told to its end
-  pub bare_stops : (now : Queues) (fault : RunFault) → AddsBy job 1 bytes (all_unused first) now no_tally tally (Err fault) → IsRun now (Err fault)
+  pub bare_stops : (now : Queues) (fault : RunFault) → AddsBy job at_first bytes (all_unused first) now no_tally tally (Err fault) → IsRun now (Err fault)
   bare_stops now run.OutOfMemory (same, counted) =
       rw same ((bytes, whole.read, (whole.within, ((Keeps-refl first.writer.bytes, Keeps-refl first.notes.bytes), counted))), (whole.unfailed, refl, refl))
   bare_stops now (run.WriteFault written) (adds, cut) = cut_run now (run.WriteFault written) adds cut
@@ -96,12 +96,12 @@ module _ (job : Job) {bytes : List ℕ} {begun last : Reader} (first : Outs) (ta
   bare_stops now _ (adds, never) = absurd never
 
   -- what waited was written
-  pub bare_ends : (mid now : Queues) (end : End) → AddsBy job 1 bytes (all_unused first) mid no_tally tally (Ok tt) → PutsBoth silent mid now → AreSo now end → (end ≡ Ok tt → AreEmpty now) → IsRun now end
+  pub bare_ends : (mid now : Queues) (end : End) → AddsBy job at_first bytes (all_unused first) mid no_tally tally (Ok tt) → PutsBoth silent mid now → AreSo now end → (end ≡ Ok tt → AreEmpty now) → IsRun now end
   bare_ends mid now end (adds, fine) none so empty =
-      let all : Adds job 1 bytes (all_unused first) now no_tally tally = record { verdict = adds.verdict; told = adds.told; is_told = adds.is_told; puts = still job first adds.told mid now adds.puts none; tally_is = adds.tally_is } in
+      let all : Adds job at_first bytes (all_unused first) now no_tally tally = record { verdict = adds.verdict; told = adds.told; is_told = adds.is_told; puts = still job first adds.told mid now adds.puts none; tally_is = adds.tally_is } in
       by end all so empty
     where
-      by : (e : End) → Adds job 1 bytes (all_unused first) now no_tally tally → AreSo now e → (e ≡ Ok tt → AreEmpty now) → IsRun now e
+      by : (e : End) → Adds job at_first bytes (all_unused first) now no_tally tally → AreSo now e → (e ≡ Ok tt → AreEmpty now) → IsRun now e
       by (Ok done) all fine empty =
           let unfailed = none_failed all.told first now all.puts fine in (
             record {

@@ -1,35 +1,39 @@
 -- Lines after lines.
 use Rattle.std.proofs.Common.{◌≡◌, ℕ, ◌+◌, List, [], ◌∷◌, ◌++◌, length, refl, sym, ap, subst, ◌∙◌, arith}
-use Rattle.fb_lines.specs.{Job.Job, Job.Verdict, Line.IsTold, Lines.AreTold, Sums.tally_with, Texts.Texts, Texts.followed, Texts.silent}
+use Rattle.fb_lines.specs.{Job.Job, Job.Verdict, Line.IsTold, Lines.AreTold, Spot.Before, Spot.at_first, Spot.past, Spot.past_all, Sums.tally_with, Texts.Texts, Texts.followed, Texts.silent}
 use Rattle.fb_lines.specs.declared.tally.Tally.{Tally}
 use Rattle.fb_lines.proofs.SumsLemmas.{counts_one, with_both}
 use Rattle.fb_run.proofs.TextsLemmas.{followed_assoc, followed_silent}
 
--- each message has one verdict
-pub lines_count : (job : Job) (k : ℕ) (messages : List (List ℕ)) (text : Texts) (tally : Tally) → AreTold job k messages text tally → length messages ≡ tally.yes + tally.no
-lines_count job k [] text tally (e, none) = sym (ap (λ (t : Tally). t.yes + t.no) none)
-lines_count job k (m ∷ ms) text tally (v, line, rest, others, first, is, told, sums) =
-    rw sums (omega (arith, lines_count job (k + 1) ms rest others told, counts_one m v others))
+-- what stands before so many messages, and then behind these
+abbrev before_with : Before → Tally → Before
+before_with before tally = record { messages = before.messages + (tally.yes + tally.no); bytes = before.bytes + tally.bytes }
 
-lines_then : (job : Job) (k : ℕ) (xs : List (List ℕ)) (m : List ℕ) (a line : Texts) (tally : Tally) (v : Verdict)
-    → AreTold job k xs a tally → IsTold job (k + length xs) m v line → AreTold job k (xs ++ m ∷ []) (followed a line) (tally_with m v tally)
-lines_then job k [] m a line tally v (e, none) is = (v, line, silent, tally, subst (λ (n : ℕ). IsTold job n m v line) (omega arith) is, ap (λ t. followed t line) e ∙ sym (followed_silent line), (refl, none), refl)
-lines_then job k (x ∷ xs) m a line tally v (w, first, rest, others, is_first, text, told, sums) is = (
-  w,
-  first,
-  followed rest line,
-  tally_with m v others,
-  is_first,
-  ap (λ t. followed t line) text ∙ followed_assoc first rest line,
-  lines_then job (k + 1) xs m rest line others v told (subst (λ (n : ℕ). IsTold job n m v line) (omega arith) is),
-  ap (λ (t : Tally). tally_with m v t) sums ∙ with_both m x v w others,
-)
+-- one message more stands before them, or is one of them
+one_before : (before : Before) (m : List ℕ) (v : Verdict) (t : Tally) → before_with before (tally_with m v t) ≡ before_with (past before m) t
+one_before before m v t = grind arith
+
+lines_then : (job : Job) (before : Before) (xs : List (List ℕ)) (m : List ℕ) (a line : Texts) (tally : Tally) (v : Verdict)
+    → AreTold job before xs a tally → IsTold job (before_with before tally) m v line → AreTold job before (xs ++ m ∷ []) (followed a line) (tally_with m v tally)
+lines_then job before [] m a line tally v (e, none) is =
+    let here : before_with before tally ≡ before = rw none (grind arith) in
+    (v, line, silent, tally, subst (λ (b : Before). IsTold job b m v line) here is, ap (λ t. followed t line) e ∙ sym (followed_silent line), (refl, none), refl)
+lines_then job before (x ∷ xs) m a line tally v (w, first, rest, others, is_first, text, told, sums) is =
+    let here : before_with before tally ≡ before_with (past before x) others = ap (before_with before) sums ∙ one_before before x w others in (
+      w,
+      first,
+      followed rest line,
+      tally_with m v others,
+      is_first,
+      ap (λ t. followed t line) text ∙ followed_assoc first rest line,
+      lines_then job (past before x) xs m rest line others v told (subst (λ (b : Before). IsTold job b m v line) here is),
+      ap (λ (t : Tally). tally_with m v t) sums ∙ with_both m x v w others,
+    )
 
 -- one line more
 pub lines_more : (job : Job) (messages : List (List ℕ)) (message : List ℕ) (text line : Texts) (tally tally' : Tally) (verdict : Verdict)
     → tally' ≡ tally_with message verdict tally
-    → AreTold job 1 messages text tally → IsTold job (1 + (tally.yes + tally.no)) message verdict line → AreTold job 1 (messages ++ message ∷ []) (followed text line) tally'
+    → AreTold job at_first messages text tally → IsTold job (past_all tally) message verdict line → AreTold job at_first (messages ++ message ∷ []) (followed text line) tally'
 lines_more job ms m text line tally tally' v sums lines is =
-    let count = lines_count job 1 ms text tally lines in
-    let is' : IsTold job (1 + length ms) m v line = subst (λ (n : ℕ). IsTold job n m v line) (omega arith) is in
-    rw sums (lines_then job 1 ms m text line tally v lines is')
+    let here : before_with at_first tally ≡ past_all tally = grind arith in
+    rw sums (lines_then job at_first ms m text line tally v lines (subst (λ (b : Before). IsTold job b m v line) (sym here) is))

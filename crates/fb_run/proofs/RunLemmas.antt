@@ -5,7 +5,7 @@ use Rattle.std.proofs.KnownBytes.{Consumes-nil, Consumes-trans, Keeps-refl}
 use mathlib.Core.Logic.{inl, inr}
 use Rattle.fb_bytes.specs.Messages.{IsPartial}
 use Rattle.fb_bytes.specs.declared.stream_fault.StreamFault.TheVariants as stream
-use Rattle.fb_lines.specs.{Ends.Ends, Ends.Outs, Ends.Reader, Ends.Takes, Ends.beside, Job.Job, Lines.AreTold, Sums.count_of, Sums.no_tally}
+use Rattle.fb_lines.specs.{Ends.Ends, Ends.Outs, Ends.Reader, Ends.Takes, Ends.beside, Job.Job, Lines.AreTold, Spot.at_first, Sums.count_of, Sums.no_tally}
 use Rattle.fb_lines.specs.Faults.{End, EndsBeside, IsCaused, IsCausedOut, IsUnfailedOut, end_of, failed}
 use Rattle.fb_lines.specs.Puts.{AreOpen, Queues, all_unused}
 use Rattle.fb_lines.specs.Texts.{Texts, followed, silent, to_notes}
@@ -79,7 +79,7 @@ halts_fails job first reader before bytes tally queues (run.WriteFault written) 
               some.left,
               some.splits,
               refl,
-              subst (λ (t : Texts). AreTold job 1 some.done t tally) whole some.told,
+              subst (λ (t : Texts). AreTold job at_first some.done t tally) whole some.told,
             ),
           ),
         ),
@@ -111,7 +111,7 @@ halts_fails job first reader before bytes tally queues (run.NoteFault written) r
               some.left,
               some.splits,
               refl,
-              subst (λ (t : Texts). AreTold job 1 some.done t tally) whole some.told,
+              subst (λ (t : Texts). AreTold job at_first some.done t tally) whole some.told,
             ),
           ),
         ),

@@ -6,7 +6,7 @@ use Rattle.fb_bytes.specs.Framing.{Framing, Feeds, FeedFails}
 use Rattle.fb_bytes.specs.declared.stream_fault.StreamFault.{StreamFault}
 use Rattle.fb_bytes.specs.declared.stream_fault.StreamFault.TheVariants as stream
 use Rattle.fb_bytes.proofs.MessageLemmas.{readings_some}
-use Rattle.fb_lines.specs.{Ends.Outs, Faults.feed_fault, Job.Beside, Job.HasRoom, Job.Job, Texts.Texts, Texts.followed, Texts.silent, Sums.no_tally}
+use Rattle.fb_lines.specs.{Ends.Outs, Faults.feed_fault, Job.Beside, Job.HasRoom, Job.Job, Spot.Before, Spot.past_all, Texts.Texts, Texts.followed, Texts.silent, Sums.no_tally}
 use Rattle.fb_lines.specs.Puts.{Adds, AddsBy, AreCut, AreOpen, AreSound, PutsBoth, Queues, all_unused, unused}
 use Rattle.fb_run.specs.Pieces.{AreEmpty, AreSettled, Carry, Gathers, GoesOn, Halts, IsReady, Passes, PassesAllBy, Stands, Stops, WritesBy}
 use Rattle.fb_lines.specs.declared.{tally.Tally.Tally, fault.RunFault.RunFault}
@@ -28,7 +28,7 @@ module _ (job : Job) (first : Outs) where
 
   -- a message was whole, and what is told of it was put
   pub message_stands : (bytes more message : List ℕ) (before after : Carry) → message ≡ before.framer.held ++ more → IsMessage job.limit message → after.framer.held ≡ []
-      → Adds job (1 + (before.tally.yes + before.tally.no)) message before.queues after.queues before.tally after.tally → Stands job first bytes before → Stands job first (bytes ++ more) after
+      → Adds job (past_all before.tally) message before.queues after.queues before.tally after.tally → Stands job first bytes before → Stands job first (bytes ++ more) after
   message_stands bytes more message before after at is gone adds stands =
       let one : Splits job.limit (before.framer.held ++ more) (message ∷ []) [] = rw (← at) (splits_one job.limit message is) in
       record {
@@ -94,16 +94,16 @@ module _ (job : Job) (first : Outs) where
   -- a message was whole at the front of a piece, and a write failed or there was no memory
   pub add_halts : (bytes front tail piece message : List ℕ) (before : Carry) (queues : Queues) (tally : Tally) (fault : RunFault) → piece ≡ front ++ tail → message ≡ before.framer.held ++ front
       → IsMessage job.limit message → AreOpen before.queues
-      → AddsBy job (1 + (before.tally.yes + before.tally.no)) message before.queues queues before.tally tally (Err fault) → Stands job first bytes before → Halts job first (bytes ++ piece) tally queues fault
+      → AddsBy job (past_all before.tally) message before.queues queues before.tally tally (Err fault) → Stands job first bytes before → Halts job first (bytes ++ piece) tally queues fault
   add_halts bytes front tail piece message before queues tally fault whole at is fine adds stands = by fault adds
     where
-      come : Adds job (1 + (before.tally.yes + before.tally.no)) message before.queues queues before.tally tally → Gathers job first (bytes ++ piece) tally queues
+      come : Adds job (past_all before.tally) message before.queues queues before.tally tally → Gathers job first (bytes ++ piece) tally queues
       come one =
           let after : Carry = record before { tally = tally; framer = record before.framer { held = [] }; queues = queues } in
           subst (λ (l : List ℕ). Gathers job first l tally queues) (append_assoc bytes front tail ∙ ap (λ l. bytes ++ l) (sym whole))
           (gathers_more (bytes ++ front) tail after (message_stands bytes front message before after at is refl one stands))
 
-      by : (f : RunFault) → AddsBy job (1 + (before.tally.yes + before.tally.no)) message before.queues queues before.tally tally (Err f) → Halts job first (bytes ++ piece) tally queues f
+      by : (f : RunFault) → AddsBy job (past_all before.tally) message before.queues queues before.tally tally (Err f) → Halts job first (bytes ++ piece) tally queues f
       by run.OutOfMemory (same, counted) = rw (same, counted) (gathers_more bytes piece before stands, fine)
       by (run.WriteFault written) (one, cut) = (come one, cut)
       by (run.NoteFault written) (one, cut) = (come one, cut)
@@ -171,11 +171,11 @@ pub passed_sound : (job : Job) (piece : List ℕ) (before mid : Carry) (end : Re
 passed_sound job piece before mid (Ok done) goes = open_sound mid.queues goes.unfailed
 passed_sound job piece before mid (Err fault) (stops, sound) = sound
 
-pub added_sound : (job : Job) (k : ℕ) (message : List ℕ) (before after : Queues) (tally tally' : Tally) (fault : RunFault) → AreOpen before → AddsBy job k message before after tally tally' (Err fault) → AreSound after
-added_sound job k message before after tally tally' run.OutOfMemory fine (same, counted) is = rw same (open_sound before fine (rw same at is))
-added_sound job k message before after tally tally' (run.WriteFault written) fine (one, cut) is = absurd (true≢false (sym is ∙ cut.1))
-added_sound job k message before after tally tally' (run.NoteFault written) fine (one, cut) is = (cut.1, cut.2)
-added_sound job k message before after tally tally' _ fine (one, never) is = absurd never
+pub added_sound : (job : Job) (past : Before) (message : List ℕ) (before after : Queues) (tally tally' : Tally) (fault : RunFault) → AreOpen before → AddsBy job past message before after tally tally' (Err fault) → AreSound after
+added_sound job past message before after tally tally' run.OutOfMemory fine (same, counted) is = rw same (open_sound before fine (rw same at is))
+added_sound job past message before after tally tally' (run.WriteFault written) fine (one, cut) is = absurd (true≢false (sym is ∙ cut.1))
+added_sound job past message before after tally tally' (run.NoteFault written) fine (one, cut) is = (cut.1, cut.2)
+added_sound job past message before after tally tally' _ fine (one, never) is = absurd never
 
 settled_empty : (queues : Queues) (fault : RunFault) → AreEmpty queues → AreSettled queues fault
 settled_empty queues (run.WriteFault written) empty = tt

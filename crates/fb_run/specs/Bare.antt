@@ -2,7 +2,7 @@
 use Rattle.std.specs.Prelude.{◌≡◌, ℕ, ◌<◌, ◌≤◌, List, length}
 use Rattle.std.specs.Io.KnownBytes.{Consumes}
 use Rattle.fb_lines.specs.Ends.{Ends, Outs, Takes, Unwritten}
-use Rattle.fb_lines.specs.{Job.Job, Job.Verdict, Texts.Texts, Texts.no_bytes, Line.IsTold, Sums.no_tally, Sums.tally_with, Lines.WritesFronts}
+use Rattle.fb_lines.specs.{Job.Job, Job.Verdict, Texts.Texts, Texts.no_bytes, Line.IsTold, Spot.at_first, Sums.no_tally, Sums.tally_with, Lines.WritesFronts}
 use Rattle.fb_lines.specs.declared.{tally.Tally.Tally, fault.RunFault.RunFault}
 use Rattle.fb_lines.specs.declared.fault.RunFault.TheVariants.{WriteFault, NoteFault, Stream, BareTooLong}
 
@@ -13,7 +13,7 @@ pub record PassesBare (job : Job) (before after : Ends) (tally : Tally) : Type 0
   pub within : length bytes ≤ job.limit
   pub verdict : Verdict
   pub line : Texts
-  pub is_line : IsTold job 1 bytes verdict line
+  pub is_line : IsTold job at_first bytes verdict line
   pub takes : Takes before.outs after.outs line
   pub tally_is : tally ≡ tally_with bytes verdict no_tally
 
@@ -21,7 +21,7 @@ pub record PassesBare (job : Job) (before after : Ends) (tally : Tally) : Type 0
 pub record WritesPart (job : Job) (bytes : List ℕ) (before after : Outs) (tally : Tally) (fault : RunFault) : Type 0 where
   pub verdict : Verdict
   pub line : Texts
-  pub is_line : IsTold job 1 bytes verdict line
+  pub is_line : IsTold job at_first bytes verdict line
   pub wrote : WritesFronts line before after no_bytes fault
   pub tally_is : tally ≡ tally_with bytes verdict no_tally
 

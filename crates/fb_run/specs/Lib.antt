@@ -7,6 +7,7 @@ pub use Rattle.fb_lines.specs.Texts
 pub use Rattle.fb_lines.specs.Ends
 pub mod Leave
 pub use Rattle.fb_lines.specs.Sums
+pub use Rattle.fb_lines.specs.Spot
 pub use Rattle.fb_lines.specs.Json
 pub use Rattle.fb_lines.specs.JsonSums
 pub use Rattle.fb_lines.specs.Line

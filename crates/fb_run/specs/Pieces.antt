@@ -3,7 +3,7 @@ use Rattle.std.specs.Prelude.{◌≡◌, ℕ, ◌+◌, ◌<◌, ◌≤◌, ◌^�
 use Rattle.fb_bytes.specs.{Framing.Framing, Messages.declared, Messages.IsOversize, Messages.IsPartial, Messages.Splits}
 use Rattle.fb_bytes.specs.declared.ends.Sink as sink
 use Rattle.fb_bytes.specs.declared.stream_fault.StreamFault.TheVariants as stream
-use Rattle.fb_lines.specs.{Ends.Outs, Job.Beside, Job.HasRoom, Job.Job, Lines.AreTold, Sums.count_of, Sums.no_tally, Texts.Texts}
+use Rattle.fb_lines.specs.{Ends.Outs, Job.Beside, Job.HasRoom, Job.Job, Lines.AreTold, Spot.at_first, Sums.count_of, Sums.no_tally, Texts.Texts}
 use Rattle.fb_lines.specs.Puts.{AreCut, AreOpen, AreSound, IsUnused, PutsBoth, Queues, all_unused, queues_of}
 use Rattle.fb_lines.specs.declared.{fault.RunFault.RunFault, tally.Tally.Tally}
 use Rattle.fb_lines.specs.declared.fault.RunFault.TheVariants.{WriteFault, NoteFault, Stream, OutOfMemory}
@@ -41,7 +41,7 @@ pub record Stands (job : Job) (first : Outs) (bytes : List ℕ) (now : Carry) : 
   pub messages : List (List ℕ)
   pub text : Texts
   pub splits : Splits job.limit bytes messages now.framer.held
-  pub told : AreTold job 1 messages text now.tally
+  pub told : AreTold job at_first messages text now.tally
   pub puts : PutsBoth text (all_unused first) now.queues
 
 -- what is told of the first messages of these bytes was put behind these ends
@@ -51,7 +51,7 @@ pub record Gathers (job : Job) (first : Outs) (bytes : List ℕ) (tally : Tally)
   pub rest : List ℕ
   pub text : Texts
   pub splits : Splits job.limit bytes (done ++ left) rest
-  pub told : AreTold job 1 done text tally
+  pub told : AreTold job at_first done text tally
   pub puts : PutsBoth text (all_unused first) queues
 
 -- why a run came to rest in them

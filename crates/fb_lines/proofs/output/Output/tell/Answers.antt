@@ -35,5 +35,5 @@ pub returns-in-Filter-mode-clause-ok : goal.returns-in-Filter-mode-clause-ok
 returns-in-Filter-mode-clause-ok g c =
     on_ok_weaker c.note_line.result
     (λ added. note_waits _ _ c.args.message.now (verdict_of c.args.verdict.now) _ _ _ _ _ _ (ap verdict_of c.in-Err.is) (sym c.mode-in-Err.ensures ∙ c.in-Filter-mode.is)
-    (rw c.in-Err.is (line_of_no c.args.checker.now.form c.args.checker.now c.args.number _ _ refl))
+    (rw c.in-Err.is (line_of_no c.args.checker.now.form c.args.checker.now c.args.spot.now _ _ refl))
     (ap (λ (p : Pending g.row.A.Denot). queue_of g.K.Sink p c.args.writer.now) c.note_line.ensures.out) added) c.note_line.ensures.ok
