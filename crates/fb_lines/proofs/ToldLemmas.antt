@@ -1,16 +1,16 @@
 -- What is told of a message by its verdict.
-use Rattle.std.proofs.Common.{◌≡◌, ◌⊎◌, inl, inr, ℕ, ◌++◌, ◌∙◌, List, [], Result, Ok, Err, IsTrue, ap, append-nil, append_assoc, codes, refl, subst, sym}
+use Rattle.std.proofs.Common.{◌≡◌, ◌≢◌, ◌⊎◌, inl, inr, ℕ, ◌++◌, ◌∙◌, List, [], Result, Ok, Err, IsTrue, ap, append-nil, append_assoc, codes, refl, subst, sym}
 use Rattle.std.specs.Prelude.{map}
 use Rattle.fb_lines.specs.{AnswerText.label_text, Job.IsVerdict, Job.Job, Job.No, Job.Verdict, Job.Yes, Job.buffer_in, Job.is_brief, Sums.tally_with, Wanted.Wanted}
 use Rattle.fb_lines.specs.AnswerText.{answers_text}
 use Rattle.fb_lines.specs.Json.{begin_part, counts_part, following}
-use Rattle.fb_lines.specs.Line.{IsLine, IsLineIn, IsRest, ToldBy, front_in, short_line, verdict_line}
+use Rattle.fb_lines.specs.Line.{IsLine, IsLineBy, IsLineIn, IsRest, ToldBy, front_in, short_line, verdict_line}
 use Rattle.fb_lines.specs.Puts.{Adds, AddsBy, AddsOr, AreSo, Puts, PutsBoth, PutsSome, Queue, Queues, Tells, Waits}
 use Rattle.fb_lines.specs.Texts.{Texts, silent, to_notes, to_out}
 use Rattle.fb_lines.specs.declared.{fault.RunFault.RunFault, options.Form.Form, options.Mode.Mode, tally.Tally.Tally}
 use Rattle.fb_lines.specs.declared.fault.RunFault.TheVariants as run
 use Rattle.fb_lines.specs.declared.options.Form.TheVariants as form
-use Rattle.fb_lines.specs.declared.options.Mode.TheVariants.{Lines, BadLines, Filter}
+use Rattle.fb_lines.specs.declared.options.Mode.TheVariants.{Lines, BadLines, Filter, Rows}
 use Rattle.fb_lines.proofs.{JsonLemmas.yes_line, PlaceLemmas.asks_none, PutsLemmas.puts_none, PutsLemmas.puts_still, PutsLemmas.puts_then, PutsLemmas.puts_waiting}
 
 module _ {P Q : List ℕ → Type 0} (weaker : (line : List ℕ) → P line → Q line) (message : List ℕ) where
@@ -20,12 +20,27 @@ module _ {P Q : List ℕ → Type 0} (weaker : (line : List ℕ) → P line → 
   told_weaker BadLines (Err bad) told (line, is, there) = (line, weaker line is, there)
   told_weaker Filter (Ok found) told passed = passed
   told_weaker Filter (Err bad) told (line, is, there) = (line, weaker line is, there)
+  told_weaker Rows (Ok found) told (line, is, there) = (line, weaker line is, there)
+  told_weaker Rows (Err bad) told (line, is, there) = (line, weaker line is, there)
+
+-- where no rows are asked for, and of each bad message, a line is written
+pub line_by : (mode : Mode) (job : Job) (k : ℕ) (v : Verdict) (line : List ℕ) → mode ≢ Rows → IsLineIn job.form job k v line → IsLineBy mode job k v line
+line_by Lines job k v line other is = is
+line_by BadLines job k v line other is = is
+line_by Filter job k v line other is = is
+line_by Rows job k v line other is = absurd (other refl)
+
+pub bad_line_by : (mode : Mode) (job : Job) (k : ℕ) (bad : No) (line : List ℕ) → IsLineIn job.form job k (Err bad) line → IsLineBy mode job k (Err bad) line
+bad_line_by Lines job k bad line is = is
+bad_line_by BadLines job k bad line is = is
+bad_line_by Filter job k bad line is = is
+bad_line_by Rows job k bad line is = is
 
 -- where no more is asked, a line tells numbers
 brief_line : (job : Job) (k : ℕ) (v : Verdict) → IsTrue (is_brief job) → (line : List ℕ) → line ≡ verdict_line k v → IsLine job k v line
 brief_line job k v brief line is =
-    let none = asks_none job.paths job.names job.label job.form brief in
-    subst (λ f. IsLineIn f job k v line) (sym none.3) (is ∙ ap (λ l. label_text l ++ verdict_line k v) (sym none.2))
+    let none = asks_none job.paths job.names job.label job.form job.mode brief in
+    line_by job.mode job k v line none.4 (subst (λ f. IsLineIn f job k v line) (sym none.3) (is ∙ ap (λ l. label_text l ++ verdict_line k v) (sym none.2)))
 
 -- a line of a yes by its two parts, and that of a no
 pub line_of_yes : (f : Form) (job : Job) (k : ℕ) (found : Yes) (front rest : List ℕ) → front ≡ front_in f job k (Ok found) → IsRest f (map (λ (wanted : Wanted). wanted.text) job.paths) found.answers rest

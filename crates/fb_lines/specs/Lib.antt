@@ -8,6 +8,7 @@ pub mod Ends
 pub mod Sums
 pub mod Json
 pub mod JsonSums
+pub mod Csv
 pub mod Line
 pub mod Lines
 pub mod LineTests

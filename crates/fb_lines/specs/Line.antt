@@ -2,11 +2,11 @@
 use Rattle.std.specs.Prelude.{◌≡◌, ℕ, List, [], ◌++◌, map, Option, Some, None, Ok, Err, codes, decimal}
 use Rattle.json.specs.Json.{Members}
 use Rattle.fb_access.specs.Denotes.{Shown}
-use Rattle.fb_lines.specs.{AnswerText.answers_text, AnswerText.label_text, Wanted.Wanted}
+use Rattle.fb_lines.specs.{AnswerText.answers_text, AnswerText.label_text, Csv.IsRow, Wanted.Wanted}
 use Rattle.fb_lines.specs.Json.{IsValuesMember, IsYes, begin_part, counts_part, following, json_no}
 use Rattle.fb_lines.specs.Job.{Job, Verdict, IsVerdict, buffer_in}
 use Rattle.fb_lines.specs.declared.{options.Form.Form, options.Form.TheVariants.Plain, options.Form.TheVariants.Json, options.Mode.Mode}
-use Rattle.fb_lines.specs.declared.options.Mode.TheVariants.{Lines, BadLines, Filter}
+use Rattle.fb_lines.specs.declared.options.Mode.TheVariants.{Lines, BadLines, Filter, Rows}
 use Rattle.fb_lines.specs.Texts.{Texts, silent, to_notes, to_out}
 use Rattle.fb_rules.specs.declared.{fault.Fault.Fault, fault.Report.Report}
 use Rattle.fb_rules.specs.Reasons.{reason_text}
@@ -61,8 +61,13 @@ abbrev pub IsLineIn : Form → Job → ℕ → Verdict → List ℕ → Type 0
 IsLineIn Plain job k verdict line = line ≡ label_text job.label ++ verdict_line k verdict
 IsLineIn Json job k verdict line = IsJsonLine job k verdict line
 
+-- what is written of a message: the row of a good one, where rows are asked for, and else its line
+abbrev pub IsLineBy : Mode → Job → ℕ → Verdict → List ℕ → Type 0
+IsLineBy Rows job k (Ok found) row = IsRow job.label found.answers row
+IsLineBy _ job k verdict line = IsLineIn job.form job k verdict line
+
 abbrev pub IsLine : Job → ℕ → Verdict → List ℕ → Type 0
-IsLine job = IsLineIn job.form job
+IsLine job = IsLineBy job.mode job
 
 -- what the line of a yes has behind its counts
 abbrev pub IsRest : Form → List (List ℕ) → List Shown → List ℕ → Type 0
@@ -81,13 +86,15 @@ abbrev pub TellsLine : (List ℕ → Type 0) → (List ℕ → Texts) → Texts 
 TellsLine IsItsLine there told = (line : List ℕ) × IsItsLine line × (told ≡ there line)
 
 -- what is told of a message by its verdict: the line of each, that of each bad message alone, or the good message itself
--- and, in the notes, the line of a bad one
+-- and, in the notes, the line of a bad one; or the row of a good message, and the line of a bad one in the notes
 abbrev pub ToldBy : Mode → (List ℕ → Type 0) → List ℕ → Verdict → Texts → Type 0
 ToldBy Lines IsItsLine message verdict told = TellsLine IsItsLine to_out told
 ToldBy BadLines IsItsLine message (Ok found) told = told ≡ silent
 ToldBy BadLines IsItsLine message (Err bad) told = TellsLine IsItsLine to_out told
 ToldBy Filter IsItsLine message (Ok found) told = told ≡ to_out message
 ToldBy Filter IsItsLine message (Err bad) told = TellsLine IsItsLine to_notes told
+ToldBy Rows IsItsLine message (Ok found) told = TellsLine IsItsLine to_out told
+ToldBy Rows IsItsLine message (Err bad) told = TellsLine IsItsLine to_notes told
 
 -- what is told of the message with number k, by the verdict on the buffer in it
 pub record IsTold (job : Job) (k : ℕ) (bytes : List ℕ) (verdict : Verdict) (told : Texts) : Type 0 where

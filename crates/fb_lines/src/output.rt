@@ -9,6 +9,7 @@ ghost use Rattle.fb_lines.specs.Puts.{AddsBy, AddsOr, AreOpen, AreSo, AreSound, 
 
 use crate::checker::{Checker, Course, Found, Wrong};
 use crate::counter::Counter;
+use crate::csv::put_row;
 use crate::fault::RunFault;
 use crate::line::Line;
 use crate::options::{Form, Mode};
@@ -25,7 +26,7 @@ use std::alloc::{AllocError, Allocator};
 #[derive(Drop)]
 pub struct Output<A: Allocator> {
     pub counter: Counter,
-    /// Lines, or whole messages that are passed on.
+    /// Lines, rows, or whole messages that are passed on.
     pub out: Pending<A>,
     /// Whole lines.
     pub notes: Pending<A>,
@@ -129,7 +130,7 @@ impl<A: Allocator> Output<A> {
         ensures counted { self.new.counter ≡ tally_with message.now (brief_verdict (Ok report.now)) self.old.counter }
     {
         match mode {
-            Mode::Lines => {
+            Mode::Lines | Mode::Rows => {
                 self.line.set_yes(1 + self.counter.messages(), report);
                 self.out.put(writer, self.line.bytes());
             }
@@ -211,11 +212,16 @@ impl<A: Allocator> Output<A> {
         ensures counted { self.new.counter ≡ self.old.counter }
     {
         match verdict {
-            Ok(_) => match checker.mode() {
+            Ok(found) => match checker.mode() {
                 Mode::Lines => self.put_line(checker, begin, number, verdict, writer),
                 Mode::BadLines => Ok(()),
                 Mode::Filter => {
                     self.out.put(writer, message);
+                    Ok(())
+                }
+                Mode::Rows => {
+                    let answers = found.answers.as_slice();
+                    put_row(&mut self.out, writer, checker.label(), answers);
                     Ok(())
                 }
             },
@@ -223,7 +229,7 @@ impl<A: Allocator> Output<A> {
                 Mode::Lines | Mode::BadLines => {
                     self.put_line(checker, begin, number, verdict, writer)
                 }
-                Mode::Filter => self.note_line(checker, begin, number, verdict),
+                Mode::Filter | Mode::Rows => self.note_line(checker, begin, number, verdict),
             },
         }
     }

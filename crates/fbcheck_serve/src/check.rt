@@ -11,6 +11,7 @@ ghost use Rattle.fb_run.specs.Leave.{HasLeave, ends_of, noteless};
 
 use crate::asked::asked_of;
 use crate::files::Files;
+use crate::head::{head_of, write_head};
 use crate::inputs::{Passed, pass_files};
 use fb_bytes::Sink;
 use fb_run::{Input, MOST_TURNS, Nowhere, Ran, Tally, run_beside};
@@ -35,7 +36,8 @@ use std::alloc::Global;
 /// a field of bytes without a mark and doesn't show that it would mark it, and `NoSuchTable` where it marks one as a
 /// nested buffer of no table; all before anything is read of the input, and `OutOfMemory` in place of any where memory
 /// was refused. Each with what is told behind it. A run ends as [`run_beside`](fb_run::run_beside) says, with at most
-/// 2^32 reads.
+/// 2^32 reads. Where rows are asked for, their head is written before it; if that fails, the run ends with `WriteFault`,
+/// by how many bytes of the head were taken.
 pub fn check_beside<S: Input<K, N>, K: Sink, N: Sink>(
     alloc: Global,
     schema_bytes: Option<&[u8]>,
@@ -59,6 +61,10 @@ pub fn check_beside<S: Input<K, N>, K: Sink, N: Sink>(
     ensures turns { S.calls reader.new ≤ S.calls reader.old + MOST_TURNS }
 {
     let asked = asked_of(alloc, schema_bytes, settings)?;
+    let head = head_of(alloc, &asked.options, &[])?;
+    if let Err(fault) = write_head(writer, head.as_slice()) {
+        return Ok(Ran::none(fault));
+    }
     Ok(run_beside(
         alloc,
         reader,
@@ -94,11 +100,16 @@ pub fn check_files<F: Files<K, N>, S: Input<K, N> + Explains, K: Sink, N: Sink>(
     ensures turns { S.calls reader.new ≤ S.calls reader.old + MOST_TURNS }
 {
     let mut asked = asked_of(alloc, schema_bytes, settings)?;
+    let names = settings.files.as_slice();
+    let head = head_of(alloc, &asked.options, names)?;
+    if let Err(fault) = write_head(writer, head.as_slice()) {
+        return Ok(Passed::none(fault));
+    }
     let lent = &mut asked;
     Ok(pass_files(
         alloc,
         files,
-        settings.files.as_slice(),
+        names,
         &lent.schema,
         &mut lent.options,
         reader,
@@ -107,7 +118,8 @@ pub fn check_files<F: Files<K, N>, S: Input<K, N> + Explains, K: Sink, N: Sink>(
     ))
 }
 
-/// The same without notes: what would be noted is dropped, and only a filter notes anything.
+/// The same without notes: what would be noted is dropped, and only where messages are filtered or rows are asked for is
+/// anything noted.
 pub fn check<S: Input<K, Nowhere>, K: Sink>(
     alloc: Global,
     schema_bytes: Option<&[u8]>,
