@@ -11,7 +11,7 @@ ghost use Rattle.fb_run.specs.Leave.{HasLeave, ends_of, noteless};
 
 use crate::asked::asked_of;
 use crate::files::Files;
-use crate::head::{head_of, write_head};
+use crate::head::{head_of, with_head, write_head};
 use crate::inputs::{Passed, pass_files};
 use fb_bytes::Sink;
 use fb_run::{Input, MOST_TURNS, Nowhere, Ran, Tally, run_beside};
@@ -36,8 +36,8 @@ use std::alloc::Global;
 /// a field of bytes without a mark and doesn't show that it would mark it, and `NoSuchTable` where it marks one as a
 /// nested buffer of no table; all before anything is read of the input, and `OutOfMemory` in place of any where memory
 /// was refused. Each with what is told behind it. A run ends as [`run_beside`](fb_run::run_beside) says, with at most
-/// 2^32 reads. Where rows are asked for, their head is written before it; if that fails, the run ends with `WriteFault`,
-/// by how many bytes of the head were taken.
+/// 2^32 reads. Where rows are asked for, their head is written before anything is read, and `WriteFault` counts its bytes
+/// too.
 pub fn check_beside<S: Input<K, N>, K: Sink, N: Sink>(
     alloc: Global,
     schema_bytes: Option<&[u8]>,
@@ -65,7 +65,7 @@ pub fn check_beside<S: Input<K, N>, K: Sink, N: Sink>(
     if let Err(fault) = write_head(writer, head.as_slice()) {
         return Ok(Ran::none(fault));
     }
-    Ok(run_beside(
+    let Ran { tally, end } = run_beside(
         alloc,
         reader,
         writer,
@@ -73,7 +73,9 @@ pub fn check_beside<S: Input<K, N>, K: Sink, N: Sink>(
         &asked.schema,
         &asked.options,
         MOST_TURNS,
-    ))
+    );
+    let end = with_head(head.len(), end);
+    Ok(Ran { tally, end })
 }
 
 /// The same of the files that the settings name, one behind another, as [`pass_files`] says.

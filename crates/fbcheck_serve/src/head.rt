@@ -3,7 +3,7 @@
 ghost use Rattle.std.specs.Prelude.{IfErr, IfOk, ◌≡◌, map, string_bytes};
 ghost use Rattle.fb_schema.specs.Rows.{Rows};
 ghost use Rattle.fb_lines.specs.{Ends.writer_of, Job.job_of};
-ghost use Rattle.fbcheck_serve.specs.Heads.{IsHeadPut, head_of};
+ghost use Rattle.fbcheck_serve.specs.Heads.{IsHeadPut, head_of, with_head};
 ghost use Rattle.fbcheck_texts.specs.declared.fault.AskFault.TheVariants.{OutOfMemory};
 
 use crate::inputs::are_named;
@@ -37,4 +37,16 @@ pub fn write_head<K: Sink>(writer: &mut K, head: &[u8]) -> Result<(), RunFault>
         });
     }
     Ok(())
+}
+
+/// How a run ended, where the bytes that were written are counted with those of its head.
+pub fn with_head(bytes: usize, end: Result<(), RunFault>) -> Result<(), RunFault>
+    ensures { result ≡ with_head bytes end }
+{
+    match end {
+        Err(RunFault::WriteFault { written }) => Err(RunFault::WriteFault {
+            written: written.saturating_add(bytes as u128),
+        }),
+        _ => end,
+    }
 }

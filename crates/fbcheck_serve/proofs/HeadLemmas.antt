@@ -1,0 +1,27 @@
+-- The head of a table, and what is told behind it.
+use Rattle.std.proofs.Common.{◌≡◌, ℕ, Err, Ok, ap, refl, rules, subst, sym}
+use Rattle.std.specs.Prelude.{List}
+use Rattle.fb_lines.specs.{Ends.Ends, Ends.Writer, Ends.with_writer, Faults.End, Faults.EndsBeside, Faults.EndsWith, Faults.Failures, Faults.failures_of}
+use Rattle.fb_lines.specs.declared.fault.RunFault.{RunFault}
+use Rattle.fb_lines.specs.declared.fault.RunFault.TheVariants as run
+use Rattle.fbcheck_serve.specs.Heads.{IsHeadPut, with_head}
+
+module _ (before after : Ends) (writer : Writer) (turns bytes : ℕ) (same : writer.failures ≡ before.outs.writer.failures) where
+  -- no call failed by the head
+  none_failed : failures_of (with_writer before writer) ≡ failures_of before
+  none_failed = ap (λ (n : ℕ). record { reads = before.reader.failures; writes = n; notes = before.outs.notes.failures }) same
+
+  ends_so : (end : End) → EndsBeside (with_writer before writer) after turns end → EndsBeside before after turns end
+  ends_so end ends = subst (λ (f : Failures). EndsWith f (failures_of after) _ _ end) none_failed ends
+
+  -- so a run behind it ended as it did, whatever is counted
+  pub ends_headed : (end : End) → EndsBeside (with_writer before writer) after turns end → EndsBeside before after turns (with_head bytes end)
+  ends_headed (Ok done) ends = ends_so (Ok done) ends
+  ends_headed (Err (run.WriteFault written)) ends = ends_so (Err (run.WriteFault written)) ends
+  ends_headed (Err fault) ends = ends_so (Err fault) ends
+
+-- a write of the head failed
+pub ends_cut : (before : Ends) (writer : Writer) (turns : ℕ) (head : List ℕ) (fault : RunFault) → IsHeadPut head before.outs.writer writer (Err fault)
+    → EndsBeside before (with_writer before writer) turns (Err fault)
+ends_cut before writer turns head (run.WriteFault written) put = (refl, put.1, refl)
+ends_cut before writer turns head _ put = absurd put
