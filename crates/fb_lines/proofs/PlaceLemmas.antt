@@ -7,7 +7,7 @@ use Rattle.fb_strict.specs.{AsAsked.ReportsBy, AsAsked.StopsBy, AsAsked.StopsAlo
 use Rattle.fb_lines.specs.{Wanted.Wanted}
 use Rattle.fb_lines.specs.Job.{AreAnswers, Beside, HasRoom, IsChecked, IsVerdict, IsVerified, Job, Verdict, asked_of, asks_little, brief_verdict, is_brief, job_of, limits_for, place_beside, place_told}
 use Rattle.fb_lines.specs.declared.{checker.Checked.Checked, options.Form.Form, options.Form.TheVariants.Plain, options.Form.TheVariants.Json, options.Options.Options}
-use Rattle.fb_lines.specs.declared.{options.Mode.Mode, options.Mode.TheVariants.Lines, options.Mode.TheVariants.BadLines, options.Mode.TheVariants.Filter, options.Mode.TheVariants.Rows}
+use Rattle.fb_lines.specs.declared.{options.Mode.Mode, options.Mode.TheVariants.Lines, options.Mode.TheVariants.BadLines, options.Mode.TheVariants.Filter, options.Mode.TheVariants.Csv}
 use Rattle.fb_lines.specs.declared.{options.Places.Places, options.Places.TheVariants.Numbers, options.Places.TheVariants.Words}
 
 -- room that is as large serves as well
@@ -47,11 +47,11 @@ module _ {job : Job} {rows : Rows} (options : Options) {start : Start} {limits :
 
 -- where no more is asked than a report, there are no values, no words, no name, no JSON, and no rows
 pub asks_none : (paths : List Wanted) (names : Places) (label : Option (List ℕ)) (form : Form) (mode : Mode) → asks_little paths names label form mode ≡ true
-    → (paths ≡ []) × (names ≡ Numbers) × (label ≡ None) × (form ≡ Plain) × (mode ≢ Rows)
-asks_none [] Numbers None Plain Lines little = (refl, refl, refl, refl, λ rows. cc)
-asks_none [] Numbers None Plain BadLines little = (refl, refl, refl, refl, λ rows. cc)
-asks_none [] Numbers None Plain Filter little = (refl, refl, refl, refl, λ rows. cc)
-asks_none [] Numbers None Plain Rows little = cc
+    → (paths ≡ []) × (names ≡ Numbers) × (label ≡ None) × (form ≡ Plain) × (mode ≢ Csv)
+asks_none [] Numbers None Plain Lines little = (refl, refl, refl, refl, λ csv. cc)
+asks_none [] Numbers None Plain BadLines little = (refl, refl, refl, refl, λ csv. cc)
+asks_none [] Numbers None Plain Filter little = (refl, refl, refl, refl, λ csv. cc)
+asks_none [] Numbers None Plain Csv little = cc
 asks_none [] Numbers None Json mode little = cc
 asks_none [] Numbers (Some name) form mode little = cc
 asks_none [] Words label form mode little = cc

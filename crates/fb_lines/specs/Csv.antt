@@ -4,7 +4,7 @@ use Rattle.std.specs.{List.AllZip, List.flat_map, List.list_any}
 use Rattle.json.specs.Json.{Json, null, boolean, number, string}
 use Rattle.fb_access.specs.Denotes.{Shown, text}
 use Rattle.fb_lines.specs.{AnswerText.answer_text, AnswerText.doubled, Json.IsValue, Json.json_text, Wanted.Wanted}
-use Rattle.fb_lines.specs.declared.{options.Mode.Mode, options.Mode.TheVariants.Rows}
+use Rattle.fb_lines.specs.declared.{options.Mode.Mode, options.Mode.TheVariants.Csv}
 use Rattle.fb_lines.specs.declared.{values.Notation.Notation, values.Notation.TheVariants.AsJson, values.Notation.TheVariants.Field, values.Notation.TheVariants.OnlyField}
 
 -- bytes as a string between quotes
@@ -30,7 +30,7 @@ written Field shown value = field_of [] shown value
 written OnlyField shown value = field_of (codes "\"\"") shown value
 
 abbrev pub IsWritten : Notation → Shown → List ℕ → Type 0
-IsWritten notation shown text = (value : Json) × IsValue shown value × (text ≡ written notation shown value)
+IsWritten notation shown told = (value : Json) × IsValue shown value × (told ≡ written notation shown value)
 
 -- the same of the number, or the word, that stands for a float
 abbrev pub bare_text : Json → List ℕ
@@ -73,7 +73,7 @@ notation_of _ _ = Field
 
 -- the fields of some values, with a comma between
 abbrev pub AreJoined : Notation → List Shown → List ℕ → Type 0
-AreJoined notation shown text = (fields : List (List ℕ)) × AllZip (IsWritten notation) shown fields × (text ≡ joined fields)
+AreJoined notation shown told = (fields : List (List ℕ)) × AllZip (IsWritten notation) shown fields × (told ≡ joined fields)
 
 -- the row of these values
 abbrev pub IsRow : Option (List ℕ) → List Shown → List ℕ → Type 0
@@ -93,5 +93,5 @@ head named paths = (if named then codes "file," else []) ++ (joined (map head_fi
 
 -- what is written before any message: the head, where rows are asked for
 abbrev pub head_in : Mode → Bool → List Wanted → List ℕ
-head_in Rows named paths = head named (map (λ (wanted : Wanted). wanted.text) paths)
+head_in Csv named paths = head named (map (λ (wanted : Wanted). wanted.text) paths)
 head_in _ named paths = []

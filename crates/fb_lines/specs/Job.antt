@@ -11,7 +11,7 @@ use Rattle.fb_access.specs.{Denotes.Denotes, Denotes.Shown, Denotes.shown, Fitti
 use Rattle.fb_lines.specs.{AnswerText.label_text, Wanted.Wanted}
 use Rattle.fb_lines.specs.declared.{checker.Checked.Checked, checker.Course.Course, checker.Found.Found, checker.Wrong.Wrong, options.Form.Form}
 use Rattle.fb_lines.specs.declared.checker.Course.TheVariants.{Brief, BriefStrictly, AtLength}
-use Rattle.fb_lines.specs.declared.{options.Form.TheVariants.Plain, options.Form.TheVariants.Json, options.Mode.Mode, options.Mode.TheVariants.Rows, options.Places.Places}
+use Rattle.fb_lines.specs.declared.{options.Form.TheVariants.Plain, options.Form.TheVariants.Json, options.Mode.Mode, options.Mode.TheVariants.Csv, options.Places.Places}
 use Rattle.fb_lines.specs.declared.{options.Places.TheVariants.Numbers, options.Places.TheVariants.Words, options.Prefix.Prefix}
 use Rattle.fb_lines.specs.declared.{options.Prefix.TheVariants.Part, options.Prefix.TheVariants.Apart, options.Options.Options}
 
@@ -104,7 +104,7 @@ verdict_beside job text (Err fault) = Err (record { fault = fault; place = place
 -- whether no more is asked of a buffer than what was counted, or its fault by numbers: neither a value, nor words, nor a
 -- name, nor JSON, nor rows
 abbrev pub asks_little : List Wanted → Places → Option (List ℕ) → Form → Mode → Bool
-asks_little [] Numbers None Plain Rows = false
+asks_little [] Numbers None Plain Csv = false
 asks_little [] Numbers None Plain mode = true
 asks_little _ _ _ _ _ = false
 

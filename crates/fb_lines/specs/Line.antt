@@ -6,7 +6,7 @@ use Rattle.fb_lines.specs.{AnswerText.answers_text, AnswerText.label_text, Csv.I
 use Rattle.fb_lines.specs.Json.{IsValuesMember, IsYes, begin_part, counts_part, following, json_no}
 use Rattle.fb_lines.specs.Job.{Job, Verdict, IsVerdict, buffer_in}
 use Rattle.fb_lines.specs.declared.{options.Form.Form, options.Form.TheVariants.Plain, options.Form.TheVariants.Json, options.Mode.Mode}
-use Rattle.fb_lines.specs.declared.options.Mode.TheVariants.{Lines, BadLines, Filter, Rows}
+use Rattle.fb_lines.specs.declared.options.Mode.TheVariants.{Lines, BadLines, Filter, Csv}
 use Rattle.fb_lines.specs.Texts.{Texts, silent, to_notes, to_out}
 use Rattle.fb_rules.specs.declared.{fault.Fault.Fault, fault.Report.Report}
 use Rattle.fb_rules.specs.Reasons.{reason_text}
@@ -63,7 +63,7 @@ IsLineIn Json job k verdict line = IsJsonLine job k verdict line
 
 -- what is written of a message: the row of a good one, where rows are asked for, and else its line
 abbrev pub IsLineBy : Mode → Job → ℕ → Verdict → List ℕ → Type 0
-IsLineBy Rows job k (Ok found) row = IsRow job.label found.answers row
+IsLineBy Csv job k (Ok found) row = IsRow job.label found.answers row
 IsLineBy _ job k verdict line = IsLineIn job.form job k verdict line
 
 abbrev pub IsLine : Job → ℕ → Verdict → List ℕ → Type 0
@@ -93,8 +93,8 @@ ToldBy BadLines IsItsLine message (Ok found) told = told ≡ silent
 ToldBy BadLines IsItsLine message (Err bad) told = TellsLine IsItsLine to_out told
 ToldBy Filter IsItsLine message (Ok found) told = told ≡ to_out message
 ToldBy Filter IsItsLine message (Err bad) told = TellsLine IsItsLine to_notes told
-ToldBy Rows IsItsLine message (Ok found) told = TellsLine IsItsLine to_out told
-ToldBy Rows IsItsLine message (Err bad) told = TellsLine IsItsLine to_notes told
+ToldBy Csv IsItsLine message (Ok found) told = TellsLine IsItsLine to_out told
+ToldBy Csv IsItsLine message (Err bad) told = TellsLine IsItsLine to_notes told
 
 -- what is told of the message with number k, by the verdict on the buffer in it
 pub record IsTold (job : Job) (k : ℕ) (bytes : List ℕ) (verdict : Verdict) (told : Texts) : Type 0 where

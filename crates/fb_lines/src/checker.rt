@@ -485,7 +485,7 @@ fn is_brief(options: &Options) -> bool
         ..
     } = options;
     match (names, form, mode) {
-        (_, _, Mode::Rows) => false,
+        (_, _, Mode::Csv) => false,
         (Places::Numbers, Form::Plain, _) => paths.is_empty() && label.is_none(),
         _ => false,
     }

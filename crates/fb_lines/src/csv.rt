@@ -30,15 +30,11 @@ pub fn put_row<A: Allocator, K: Sink>(
 }
 
 /// Puts the name of an input and a comma, where it has one.
-fn put_name<A: Allocator, K: Sink>(
-    out: &mut Pending<A>,
-    sink: &mut K,
-    label: &Option<Vec<u8>>,
-)
+fn put_name<A: Allocator, K: Sink>(out: &mut Pending<A>, sink: &mut K, label: &Option<Vec<u8>>)
     ensures { Puts (name_field (option_map vec_items label.now)) (queue_of K.Sink out.old sink.old) (queue_of K.Sink out.new sink.new) }
 {
     if let Some(name) = label {
-        put_between(out, sink, b"\"", name, Spelling::Doubled, b"\",");
+        put_between(out, sink, b"\"", name.as_slice(), Spelling::Doubled, b"\",");
     }
 }
 
@@ -86,14 +82,13 @@ pub fn put_head<A: Allocator>(
 ) -> Result<(), AllocError>
     ensures { OnOk result (text.new.items ≡ text.old.items ++ head_in options.now.mode named options.now.paths.items) }
 {
-    let Mode::Rows = options.mode else {
+    let Mode::Csv = options.mode else {
         return Ok(());
     };
-    if named {
-        text.extend_from_slice(b"file,")?;
-    }
+    add_if(text, named, b"file,")?;
     put_texts(text, options.paths.as_slice())?;
-    text.extend_from_slice(b"\r\n")
+    text.extend_from_slice(b"\r\n")?;
+    Ok(())
 }
 
 /// Adds the texts of paths as fields, with a comma between.
@@ -101,10 +96,18 @@ fn put_texts<A: Allocator>(text: &mut Vec<u8, A>, paths: &[AskedPath]) -> Result
     ensures { OnOk result (text.new.items ≡ text.old.items ++ joined (map head_field (map (λ p. p.text) paths.now))) }
 {
     for index in 0..paths.len() {
-        if index > 0 {
-            text.extend_from_slice(b",")?;
-        }
+        add_if(text, index > 0, b",")?;
         put_text(text, paths[index].text())?;
+    }
+    Ok(())
+}
+
+/// Adds these bytes, where that is asked.
+fn add_if<A: Allocator>(text: &mut Vec<u8, A>, asked: bool, bytes: &[u8]) -> Result<(), AllocError>
+    ensures { OnOk result (text.new.items ≡ text.old.items ++ (if asked then bytes.now else [])) }
+{
+    if asked {
+        return text.extend_from_slice(bytes);
     }
     Ok(())
 }

@@ -18,7 +18,7 @@ pub enum Mode {
     Filter,
     /// The writer gets a row of CSV (RFC 4180) of each good one, with the values at the ends of the paths, and the notes
     /// get a line of each bad one.
-    Rows,
+    Csv,
 }
 
 /// How lines are written.

@@ -3,7 +3,7 @@
 ghost use Rattle.std.specs.Prelude.{Err, Ok, OnOk, OnErr, IsTrue, ◌≡◌, ◌+◌, ◌<◌, ◌^◌, ◌++◌, [], false, length};
 ghost use Rattle.fb_lines.specs.{AnswerText.label_text, Ends.outs_of, Sums.count_of, Sums.no_tally, Sums.tally_with, Texts.silent};
 ghost use Rattle.fb_lines.specs.Job.{HasRoom, brief_verdict, is_brief, verdict_of};
-ghost use Rattle.fb_lines.specs.Line.{IsLine, front_in, verdict_line};
+ghost use Rattle.fb_lines.specs.Line.{IsLine, IsLineIn, front_in, verdict_line};
 ghost use Rattle.fb_lines.specs.Lines.{AddsText};
 ghost use Rattle.fb_lines.specs.Puts.{AddsBy, AddsOr, AreOpen, AreSo, AreSound, IsUnused, PutsBoth, PutsSome, Tells, Waits, all_unused, queue_of, queues_of};
 
@@ -130,7 +130,7 @@ impl<A: Allocator> Output<A> {
         ensures counted { self.new.counter ≡ tally_with message.now (brief_verdict (Ok report.now)) self.old.counter }
     {
         match mode {
-            Mode::Lines | Mode::Rows => {
+            Mode::Lines | Mode::Csv => {
                 self.line.set_yes(1 + self.counter.messages(), report);
                 self.out.put(writer, self.line.bytes());
             }
@@ -219,7 +219,7 @@ impl<A: Allocator> Output<A> {
                     self.out.put(writer, message);
                     Ok(())
                 }
-                Mode::Rows => {
+                Mode::Csv => {
                     let answers = found.answers.as_slice();
                     put_row(&mut self.out, writer, checker.label(), answers);
                     Ok(())
@@ -229,7 +229,7 @@ impl<A: Allocator> Output<A> {
                 Mode::Lines | Mode::BadLines => {
                     self.put_line(checker, begin, number, verdict, writer)
                 }
-                Mode::Filter | Mode::Rows => self.note_line(checker, begin, number, verdict),
+                Mode::Filter | Mode::Csv => self.note_line(checker, begin, number, verdict),
             },
         }
     }
@@ -244,7 +244,7 @@ impl<A: Allocator> Output<A> {
         writer: &mut K,
     ) -> Result<(), AllocError>
         requires begin { begin.now ≡ label_text checker.now.label }
-        ensures ok { OnOk result (PutsSome (IsLine checker.now number (verdict_of verdict.now)) (queue_of K.Sink self.old.out writer.old) (queue_of K.Sink self.new.out writer.new)) }
+        ensures ok { OnOk result (PutsSome (IsLineIn checker.now.form checker.now number (verdict_of verdict.now)) (queue_of K.Sink self.old.out writer.old) (queue_of K.Sink self.new.out writer.new)) }
         ensures err { OnErr result (queue_of K.Sink self.new.out writer.new ≡ queue_of K.Sink self.old.out writer.old) }
         ensures notes { self.new.notes ≡ self.old.notes }
         ensures counted { self.new.counter ≡ self.old.counter }

@@ -125,6 +125,7 @@ pub enum Notation {
 }
 
 /// Puts a value in a notation.
+#[inline(always)]
 pub fn put_value<A: Allocator, K: Sink>(
     out: &mut Pending<A>,
     sink: &mut K,
@@ -179,16 +180,23 @@ fn put_word<A: Allocator, K: Sink>(
 )
     ensures { Puts (edge notation ++ (word.now ++ edge notation)) (queue_of K.Sink out.old sink.old) (queue_of K.Sink out.new sink.new) }
 {
-    let edge: &[u8] = match notation {
+    out.put(sink, edge(notation));
+    out.put(sink, word);
+    out.put(sink, edge(notation));
+}
+
+/// What stands before and behind it.
+fn edge(notation: Notation) -> &'static [u8]
+    ensures { result.now ≡ edge notation }
+{
+    match notation {
         Notation::AsJson => b"\"",
         Notation::Field | Notation::OnlyField => b"",
-    };
-    out.put(sink, edge);
-    out.put(sink, word);
-    out.put(sink, edge);
+    }
 }
 
 /// Puts a value that has one text in a notation.
+#[inline(always)]
 fn put_exactly<A: Allocator, K: Sink>(
     out: &mut Pending<A>,
     sink: &mut K,

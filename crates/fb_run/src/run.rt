@@ -97,7 +97,7 @@ pub fn run_beside<A: Allocator, S: Input<K, N>, K: Sink, N: Sink>(
 }
 
 /// The same without notes: what would be noted is dropped, and only [`Filter`](crate::Mode::Filter) and
-/// [`Rows`](crate::Mode::Rows) note anything.
+/// [`Csv`](crate::Mode::Csv) note anything.
 pub fn run_within<A: Allocator, S: Input<K, Nowhere>, K: Sink>(
     alloc: A,
     reader: &mut S,

@@ -135,7 +135,7 @@ fn mode(settings: &Settings) -> Mode
     ensures { result ≡ mode_of settings.now.csv settings.now.filter settings.now.quiet }
 {
     if settings.csv {
-        Mode::Rows
+        Mode::Csv
     } else if settings.filter {
         Mode::Filter
     } else if settings.quiet {

@@ -65,7 +65,7 @@ pub fn check_beside<S: Input<K, N>, K: Sink, N: Sink>(
     if let Err(fault) = write_head(writer, head.as_slice()) {
         return Ok(Ran::none(fault));
     }
-    let Ran { tally, end } = run_beside(
+    let ran = run_beside(
         alloc,
         reader,
         writer,
@@ -74,8 +74,10 @@ pub fn check_beside<S: Input<K, N>, K: Sink, N: Sink>(
         &asked.options,
         MOST_TURNS,
     );
-    let end = with_head(head.len(), end);
-    Ok(Ran { tally, end })
+    Ok(Ran {
+        tally: ran.tally,
+        end: with_head(head.len(), ran.end),
+    })
 }
 
 /// The same of the files that the settings name, one behind another, as [`pass_files`] says.
