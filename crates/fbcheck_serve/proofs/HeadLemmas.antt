@@ -1,17 +1,21 @@
 -- The head of a table, and what is told behind it.
-use Rattle.std.proofs.Common.{◌≡◌, ℕ, Err, List, Ok, ap, refl, subst}
+use Rattle.std.proofs.Common.{◌≡◌, ℕ, ◌+◌, ◌-◌, Err, List, Ok, ap, refl, subst}
 use Rattle.fb_lines.specs.{Ends.Ends, Ends.Writer, Ends.with_writer, Faults.End, Faults.EndsBeside, Faults.EndsWith, Faults.Failures, Faults.failures_of, Job.Job}
 use Rattle.fb_lines.specs.declared.fault.RunFault.{RunFault}
 use Rattle.fb_lines.specs.declared.fault.RunFault.TheVariants as run
 use Rattle.fbcheck_serve.specs.Heads.{IsCut, IsHeadPut, IsHeaded, head_of, with_head}
 
+-- the calls that failed, with so many of the writer
+abbrev with_writes : Ends → ℕ → Failures
+with_writes before writes = record { reads = before.reader.failures; writes = writes; notes = before.outs.notes.failures }
+
 module _ (before after : Ends) (writer : Writer) (turns bytes : ℕ) (same : writer.failures ≡ before.outs.writer.failures) where
   -- no call failed by the head
   none_failed : failures_of (with_writer before writer) ≡ failures_of before
-  none_failed = ap (λ (n : ℕ). record { reads = before.reader.failures; writes = n; notes = before.outs.notes.failures }) same
+  none_failed = ap (with_writes before) same
 
   ends_so : (end : End) → EndsBeside (with_writer before writer) after turns end → EndsBeside before after turns end
-  ends_so end ends = subst (λ (f : Failures). EndsWith f (failures_of after) _ _ end) none_failed ends
+  ends_so end ends = subst (λ (f : Failures). EndsWith f (failures_of after) (before.reader.calls + turns - after.reader.calls) after.reader.ended end) none_failed ends
 
   -- so a run behind it ended as it did, whatever is counted
   pub ends_headed : (end : End) → EndsBeside (with_writer before writer) after turns end → EndsBeside before after turns (with_head bytes end)
