@@ -1,6 +1,7 @@
 pub mod AnswerLemmas
 pub mod PlaceLemmas
 pub mod BehindLemmas
+pub mod CsvLemmas
 pub mod FilterLemmas
 pub mod FoundLemmas
 pub mod LineLemmas

@@ -1,5 +1,5 @@
 -- What a checker answers of a buffer, by its job.
-use Rattle.std.proofs.Common.{◌≡◌, ◌≤◌, ◌∙◌, ℕ, true, List, [], ◌∷◌, Option, Some, None, IfSome, IfOk, IfErr, IsTrue, Result, Ok, Err, ap, refl, subst, sym}
+use Rattle.std.proofs.Common.{◌≡◌, ◌≢◌, ◌≤◌, ◌∙◌, ℕ, true, List, [], ◌∷◌, Option, Some, None, IfSome, IfOk, IfErr, IsTrue, Result, Ok, Err, ap, refl, subst, sym}
 use Rattle.fb_schema.specs.Rows.{Rows}
 use Rattle.fb_rules.specs.{Bounds.Bounds, Question.Question, Question.question}
 use Rattle.fb_rules.specs.declared.{fault.Fault.Fault, fault.Report.Report, link.Link.Link, start.Start.Start}
@@ -7,6 +7,7 @@ use Rattle.fb_strict.specs.{AsAsked.ReportsBy, AsAsked.StopsBy, AsAsked.StopsAlo
 use Rattle.fb_lines.specs.{Wanted.Wanted}
 use Rattle.fb_lines.specs.Job.{AreAnswers, Beside, HasRoom, IsChecked, IsVerdict, IsVerified, Job, Verdict, asked_of, asks_little, brief_verdict, is_brief, job_of, limits_for, place_beside, place_told}
 use Rattle.fb_lines.specs.declared.{checker.Checked.Checked, options.Form.Form, options.Form.TheVariants.Plain, options.Form.TheVariants.Json, options.Options.Options}
+use Rattle.fb_lines.specs.declared.{options.Mode.Mode, options.Mode.TheVariants.Lines, options.Mode.TheVariants.BadLines, options.Mode.TheVariants.Filter, options.Mode.TheVariants.Csv}
 use Rattle.fb_lines.specs.declared.{options.Places.Places, options.Places.TheVariants.Numbers, options.Places.TheVariants.Words}
 
 -- room that is as large serves as well
@@ -44,22 +45,25 @@ module _ {job : Job} {rows : Rows} (options : Options) {start : Start} {limits :
   pub checked_along : (fault : Fault) (links : List Link) → StopsAlongBy plan (asked_by rows options start limits) bytes fault links → StopsAlongBy job.plan (asked_of job bytes) bytes fault links
   checked_along fault links along = by_job (λ p q. StopsAlongBy p q bytes fault links) along
 
--- where no more is asked than a report, there are no values, no words, no name, and no JSON
-pub asks_none : (paths : List Wanted) (names : Places) (label : Option (List ℕ)) (form : Form) → asks_little paths names label form ≡ true
-    → (paths ≡ []) × (names ≡ Numbers) × (label ≡ None) × (form ≡ Plain)
-asks_none [] Numbers None Plain little = (refl, refl, refl, refl)
-asks_none [] Numbers None Json little = cc
-asks_none [] Numbers (Some name) form little = cc
-asks_none [] Words label form little = cc
-asks_none (path ∷ paths) names label form little = cc
+-- where no more is asked than a report, there are no values, no words, no name, no JSON, and no rows
+pub asks_none : (paths : List Wanted) (names : Places) (label : Option (List ℕ)) (form : Form) (mode : Mode) → asks_little paths names label form mode ≡ true
+    → (paths ≡ []) × (names ≡ Numbers) × (label ≡ None) × (form ≡ Plain) × (mode ≢ Csv)
+asks_none [] Numbers None Plain Lines little = (refl, refl, refl, refl, λ csv. cc)
+asks_none [] Numbers None Plain BadLines little = (refl, refl, refl, refl, λ csv. cc)
+asks_none [] Numbers None Plain Filter little = (refl, refl, refl, refl, λ csv. cc)
+asks_none [] Numbers None Plain Csv little = cc
+asks_none [] Numbers None Json mode little = cc
+asks_none [] Numbers (Some name) form mode little = cc
+asks_none [] Words label form mode little = cc
+asks_none (path ∷ paths) names label form mode little = cc
 
 -- so the report, or the fault, is all of the verdict
 pub told_briefly : (job : Job) (bytes : List ℕ) (answer : Result Report Fault) → IsTrue (is_brief job) → IfOk answer (ReportsBy job.plan (asked_of job bytes) bytes)
     → IfErr answer (StopsBy job.plan (asked_of job bytes) bytes) → IsVerdict job bytes (brief_verdict answer)
 told_briefly job bytes (Ok report) brief reports stops =
-    let none = asks_none job.paths job.names job.label job.form brief in
+    let none = asks_none job.paths job.names job.label job.form job.mode brief in
     (reports, subst (λ (paths : List Wanted). AreAnswers bytes job.rows job.start job.root paths []) (sym none.0) tt)
-told_briefly job bytes (Err fault) brief reports stops = (stops, (asks_none job.paths job.names job.label job.form brief).1)
+told_briefly job bytes (Err fault) brief reports stops = (stops, (asks_none job.paths job.names job.label job.form job.mode brief).1)
 
 module _ {job : Job} {rows : Rows} (options : Options) (bytes : List ℕ) (fault : Fault) (links : List Link) (is : job_of rows options ≡ job) (words : options.names ≡ Words)
     (stops : StopsBy job.plan (asked_of job bytes) bytes fault) (along : StopsAlongBy job.plan (asked_of job bytes) bytes fault links) where

@@ -1,10 +1,11 @@
 -- What is told of a message by its verdict.
-use Rattle.std.proofs.Common.{◌≡◌, ◌⊎◌, inl, inr, ℕ, ◌+◌, ◌++◌, ◌∙◌, List, [], Result, Ok, Err, IsTrue, ap, append-nil, append_assoc, codes, refl, subst, sym}
+use Rattle.std.proofs.Common.{◌≡◌, ◌≢◌, ◌⊎◌, inl, inr, ℕ, ◌+◌, ◌++◌, ◌∙◌, List, [], Result, Ok, Err, IsTrue, ap, append-nil, append_assoc, codes, refl, subst, sym}
 use Rattle.std.specs.Prelude.{map}
 use Rattle.fb_lines.specs.{AnswerText.label_text, Job.IsVerdict, Job.Job, Job.No, Job.Verdict, Job.Yes, Job.buffer_in, Job.is_brief, Sums.tally_with, Wanted.Wanted}
 use Rattle.fb_lines.specs.AnswerText.{answers_text}
+use Rattle.fb_lines.specs.Csv.{IsRow}
 use Rattle.fb_lines.specs.Json.{begin_part, counts_part, following}
-use Rattle.fb_lines.specs.Line.{IsLine, IsLineIn, IsRest, ToldBy, front_in, short_line, verdict_line}
+use Rattle.fb_lines.specs.Line.{IsLine, IsLineBy, IsLineIn, IsRest, ToldBy, front_in, short_line, verdict_line}
 use Rattle.fb_lines.specs.Puts.{Adds, AddsBy, AddsOr, AreSo, Puts, PutsBoth, PutsSome, Queue, Queues, Tells, Waits}
 use Rattle.fb_lines.specs.Spot.{Before, spot_of}
 use Rattle.fb_lines.specs.declared.spot.Spot.{Spot}
@@ -12,7 +13,7 @@ use Rattle.fb_lines.specs.Texts.{Texts, silent, to_notes, to_out}
 use Rattle.fb_lines.specs.declared.{fault.RunFault.RunFault, options.Form.Form, options.Mode.Mode, tally.Tally.Tally}
 use Rattle.fb_lines.specs.declared.fault.RunFault.TheVariants as run
 use Rattle.fb_lines.specs.declared.options.Form.TheVariants as form
-use Rattle.fb_lines.specs.declared.options.Mode.TheVariants.{Lines, BadLines, Filter}
+use Rattle.fb_lines.specs.declared.options.Mode.TheVariants.{Lines, BadLines, Filter, Csv}
 use Rattle.fb_lines.proofs.{JsonLemmas.yes_line, PlaceLemmas.asks_none, PutsLemmas.puts_none, PutsLemmas.puts_still, PutsLemmas.puts_then, PutsLemmas.puts_waiting}
 
 module _ {P Q : List ℕ → Type 0} (weaker : (line : List ℕ) → P line → Q line) (message : List ℕ) where
@@ -22,12 +23,37 @@ module _ {P Q : List ℕ → Type 0} (weaker : (line : List ℕ) → P line → 
   told_weaker BadLines (Err bad) told (line, is, there) = (line, weaker line is, there)
   told_weaker Filter (Ok found) told passed = passed
   told_weaker Filter (Err bad) told (line, is, there) = (line, weaker line is, there)
+  told_weaker Csv (Ok found) told (line, is, there) = (line, weaker line is, there)
+  told_weaker Csv (Err bad) told (line, is, there) = (line, weaker line is, there)
+
+-- where no rows are asked for, and of each bad message, a line is written
+pub line_by : (mode : Mode) (job : Job) (spot : Spot) (v : Verdict) (line : List ℕ) → mode ≢ Csv → IsLineIn job.form job spot v line → IsLineBy mode job spot v line
+line_by Lines job spot v line other is = is
+line_by BadLines job spot v line other is = is
+line_by Filter job spot v line other is = is
+line_by Csv job spot v line other is = absurd (other refl)
+
+pub bad_line_by : (mode : Mode) (job : Job) (spot : Spot) (bad : No) (line : List ℕ) → IsLineIn job.form job spot (Err bad) line → IsLineBy mode job spot (Err bad) line
+bad_line_by Lines job spot bad line is = is
+bad_line_by BadLines job spot bad line is = is
+bad_line_by Filter job spot bad line is = is
+bad_line_by Csv job spot bad line is = is
+
+-- so where the mode is that of lines, of each bad message, and of a row
+pub as_line : (job : Job) (spot : Spot) (v : Verdict) → job.mode ≡ Lines → (line : List ℕ) → IsLineIn job.form job spot v line → IsLine job spot v line
+as_line job spot v lines line is = subst (λ m. IsLineBy m job spot v line) (sym lines) is
+
+pub bad_as_line : (job : Job) (spot : Spot) (v : Verdict) (bad : No) → v ≡ Err bad → (line : List ℕ) → IsLineIn job.form job spot v line → IsLine job spot v line
+bad_as_line job spot v bad same line is = subst (λ w. IsLine job spot w line) (sym same) (bad_line_by job.mode job spot bad line (subst (λ w. IsLineIn job.form job spot w line) same is))
+
+pub row_as_line : (job : Job) (spot : Spot) (v : Verdict) (found : Yes) → v ≡ Ok found → job.mode ≡ Csv → (row : List ℕ) → IsRow job.label found.answers row → IsLine job spot v row
+row_as_line job spot v found same csv row is = subst (λ w. IsLine job spot w row) (sym same) (subst (λ m. IsLineBy m job spot (Ok found) row) (sym csv) is)
 
 -- where no more is asked, a line tells numbers
 brief_line : (job : Job) (spot : Spot) (v : Verdict) → IsTrue (is_brief job) → (line : List ℕ) → line ≡ verdict_line spot.number v → IsLine job spot v line
 brief_line job spot v brief line is =
-    let none = asks_none job.paths job.names job.label job.form brief in
-    subst (λ f. IsLineIn f job spot v line) (sym none.3) (is ∙ ap (λ l. label_text l ++ verdict_line spot.number v) (sym none.2))
+    let none = asks_none job.paths job.names job.label job.form job.mode brief in
+    line_by job.mode job spot v line none.4 (subst (λ f. IsLineIn f job spot v line) (sym none.3) (is ∙ ap (λ l. label_text l ++ verdict_line spot.number v) (sym none.2)))
 
 -- a line of a yes by its two parts, and that of a no
 pub line_of_yes : (f : Form) (job : Job) (spot : Spot) (found : Yes) (front rest : List ℕ) → front ≡ front_in f job spot (Ok found) → IsRest f (map (λ (wanted : Wanted). wanted.text) job.paths) found.answers rest
@@ -95,6 +121,10 @@ module _ (mode : Mode) (P : List ℕ → Type 0) (message : List ℕ) (v : Verdi
     pub line_waits : mode ≡ Lines → PutsSome P before after → notes' ≡ notes → Waits mode P message v before after notes notes'
     line_waits lines (line, is, put) same = record { told = to_out line; is_told = rw lines (line, is, refl); puts = put; notes_are = same ∙ sym (append-nil notes) }
 
+    pub good_line_waits : (found : Yes) → v ≡ Ok found → (mode ≡ Lines) ⊎ (mode ≡ Csv) → PutsSome P before after → notes' ≡ notes → Waits mode P message v before after notes notes'
+    good_line_waits found is (inl lines) some same = line_waits lines some same
+    good_line_waits found is (inr csv) (line, holds, put) same = record { told = to_out line; is_told = rw (csv, is) (line, holds, refl); puts = put; notes_are = same ∙ sym (append-nil notes) }
+
     pub bad_line_waits : (bad : No) → v ≡ Err bad → (mode ≡ Lines) ⊎ (mode ≡ BadLines) → PutsSome P before after → notes' ≡ notes → Waits mode P message v before after notes notes'
     bad_line_waits bad is (inl lines) some same = line_waits lines some same
     bad_line_waits bad is (inr bads) (line, holds, put) same = record { told = to_out line; is_told = rw (bads, is) (line, holds, refl); puts = put; notes_are = same ∙ sym (append-nil notes) }
@@ -105,5 +135,6 @@ module _ (mode : Mode) (P : List ℕ → Type 0) (message : List ℕ) (v : Verdi
     pub none_waits : (found : Yes) → v ≡ Ok found → mode ≡ BadLines → after ≡ before → notes' ≡ notes → Waits mode P message v before after notes notes'
     none_waits found is bads kept same = record { told = silent; is_told = rw (bads, is) refl; puts = subst (λ q. Puts [] before q) (sym kept) (puts_none before); notes_are = same ∙ sym (append-nil notes) }
 
-    pub note_waits : (bad : No) (line : List ℕ) → v ≡ Err bad → mode ≡ Filter → P line → after ≡ before → notes' ≡ notes ++ line → Waits mode P message v before after notes notes'
-    note_waits bad line is filter holds kept added = record { told = to_notes line; is_told = rw (filter, is) (line, holds, refl); puts = subst (λ q. Puts [] before q) (sym kept) (puts_none before); notes_are = added }
+    pub note_waits : (bad : No) (line : List ℕ) → v ≡ Err bad → (mode ≡ Filter) ⊎ (mode ≡ Csv) → P line → after ≡ before → notes' ≡ notes ++ line → Waits mode P message v before after notes notes'
+    note_waits bad line is (inl filter) holds kept added = record { told = to_notes line; is_told = rw (filter, is) (line, holds, refl); puts = subst (λ q. Puts [] before q) (sym kept) (puts_none before); notes_are = added }
+    note_waits bad line is (inr csv) holds kept added = record { told = to_notes line; is_told = rw (csv, is) (line, holds, refl); puts = subst (λ q. Puts [] before q) (sym kept) (puts_none before); notes_are = added }

@@ -3,7 +3,7 @@ use Rattle.std.specs.Prelude.{ℕ, List, [], ◌∷◌, ◌++◌, Option, Some, 
 use Rattle.std.specs.{Fmt.signed_decimal, List.flat_map}
 use Rattle.hex.specs.Hex.{encode_lower}
 use Rattle.json.specs.Print.{escape_byte}
-use Rattle.fb_lines.specs.declared.{value_text.Spelling.Spelling, value_text.Spelling.TheVariants.Quoted, value_text.Spelling.TheVariants.Json, value_text.Spelling.TheVariants.Digits}
+use Rattle.fb_lines.specs.declared.{value_text.Spelling.Spelling, value_text.Spelling.TheVariants.Quoted, value_text.Spelling.TheVariants.Json, value_text.Spelling.TheVariants.Digits, value_text.Spelling.TheVariants.Doubled}
 use Rattle.fb_access.specs.declared.answer.Answer.{Answer}
 use Rattle.fb_access.specs.Denotes.{Shown, shown, nothing, no_element, other_member, truth, signed, unsigned, float, default_float, default_double, text, structure, vector, table, union}
 
@@ -15,11 +15,16 @@ byte_text b =
     else if nat_lt b 32 || nat_lt 126 b then codes "\\x" ++ encode_lower (b ∷ [])
     else b ∷ []
 
+-- a byte of a string of CSV: a quote stands twice
+abbrev pub doubled : ℕ → List ℕ
+doubled b = if b == 34 then 34 ∷ 34 ∷ [] else b ∷ []
+
 -- a byte of a value, by how its bytes are written
 abbrev pub spelled : Spelling → ℕ → List ℕ
 spelled Quoted b = byte_text b
 spelled Json b = escape_byte b
 spelled Digits b = encode_lower (b ∷ [])
+spelled Doubled b = doubled b
 
 -- a text between quotes
 abbrev pub quoted : List ℕ → List ℕ

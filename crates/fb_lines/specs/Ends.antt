@@ -35,6 +35,10 @@ beside reader outs = record { reader = reader; outs = outs }
 abbrev pub with_notes : Ends → Writer → Ends
 with_notes ends notes = record ends { outs = record ends.outs { notes = notes } }
 
+-- and with this writer
+abbrev pub with_writer : Ends → Writer → Ends
+with_writer ends writer = record ends { outs = record ends.outs { writer = writer } }
+
 -- nothing was written or noted
 abbrev pub Unwritten : Outs → Outs → Type 0
 Unwritten before after = Keeps before.writer.bytes after.writer.bytes × Keeps before.notes.bytes after.notes.bytes

@@ -11,7 +11,7 @@ use Rattle.fb_access.specs.{Denotes.Denotes, Denotes.Shown, Denotes.shown, Fitti
 use Rattle.fb_lines.specs.{AnswerText.label_text, Wanted.Wanted}
 use Rattle.fb_lines.specs.declared.{checker.Checked.Checked, checker.Course.Course, checker.Found.Found, checker.Wrong.Wrong, options.Form.Form}
 use Rattle.fb_lines.specs.declared.checker.Course.TheVariants.{Brief, BriefStrictly, AtLength}
-use Rattle.fb_lines.specs.declared.{options.Form.TheVariants.Plain, options.Form.TheVariants.Json, options.Mode.Mode, options.Places.Places}
+use Rattle.fb_lines.specs.declared.{options.Form.TheVariants.Plain, options.Form.TheVariants.Json, options.Mode.Mode, options.Mode.TheVariants.Csv, options.Places.Places}
 use Rattle.fb_lines.specs.declared.{options.Places.TheVariants.Numbers, options.Places.TheVariants.Words, options.Prefix.Prefix}
 use Rattle.fb_lines.specs.declared.{options.Prefix.TheVariants.Part, options.Prefix.TheVariants.Apart, options.Options.Options}
 
@@ -102,13 +102,14 @@ verdict_beside job text (Ok found) = Ok (record { report = found.report; answers
 verdict_beside job text (Err fault) = Err (record { fault = fault; place = place_beside job.names text })
 
 -- whether no more is asked of a buffer than what was counted, or its fault by numbers: neither a value, nor words, nor a
--- name, nor JSON
-abbrev pub asks_little : List Wanted → Places → Option (List ℕ) → Form → Bool
-asks_little [] Numbers None Plain = true
-asks_little _ _ _ _ = false
+-- name, nor JSON, nor rows
+abbrev pub asks_little : List Wanted → Places → Option (List ℕ) → Form → Mode → Bool
+asks_little [] Numbers None Plain Csv = false
+asks_little [] Numbers None Plain mode = true
+asks_little _ _ _ _ _ = false
 
 abbrev pub is_brief : Job → Bool
-is_brief job = asks_little job.paths job.names job.label job.form
+is_brief job = asks_little job.paths job.names job.label job.form job.mode
 
 -- by which course a message is checked: where no more is asked by one without a plan or by one with it
 abbrev pub course_by : Bool → Option Planned → Course

@@ -9,6 +9,7 @@ pub mod Sums
 pub mod Spot
 pub mod Json
 pub mod JsonSums
+pub mod Csv
 pub mod Line
 pub mod Lines
 pub mod LineTests

@@ -2,11 +2,11 @@
 use Rattle.std.specs.Prelude.{◌≡◌, ℕ, List, [], ◌++◌, map, Option, Some, None, Ok, Err, codes, decimal}
 use Rattle.json.specs.Json.{Members}
 use Rattle.fb_access.specs.Denotes.{Shown}
-use Rattle.fb_lines.specs.{AnswerText.answers_text, AnswerText.label_text, Wanted.Wanted}
+use Rattle.fb_lines.specs.{AnswerText.answers_text, AnswerText.label_text, Csv.IsRow, Wanted.Wanted}
 use Rattle.fb_lines.specs.Json.{IsValuesMember, IsYes, begin_part, counts_part, following, json_no}
 use Rattle.fb_lines.specs.Job.{Job, Verdict, IsVerdict, buffer_in}
 use Rattle.fb_lines.specs.declared.{options.Form.Form, options.Form.TheVariants.Plain, options.Form.TheVariants.Json, options.Mode.Mode}
-use Rattle.fb_lines.specs.declared.options.Mode.TheVariants.{Lines, BadLines, Filter}
+use Rattle.fb_lines.specs.declared.options.Mode.TheVariants.{Lines, BadLines, Filter, Csv}
 use Rattle.fb_lines.specs.Spot.{Before, spot_of}
 use Rattle.fb_lines.specs.declared.spot.Spot.{Spot}
 use Rattle.fb_lines.specs.Texts.{Texts, silent, to_notes, to_out}
@@ -63,8 +63,13 @@ abbrev pub IsLineIn : Form → Job → Spot → Verdict → List ℕ → Type 0
 IsLineIn Plain job spot verdict line = line ≡ label_text job.label ++ verdict_line spot.number verdict
 IsLineIn Json job spot verdict line = IsJsonLine job spot verdict line
 
+-- what is written of a message: the row of a good one, where rows are asked for, and else its line
+abbrev pub IsLineBy : Mode → Job → Spot → Verdict → List ℕ → Type 0
+IsLineBy Csv job spot (Ok found) row = IsRow job.label found.answers row
+IsLineBy _ job spot verdict line = IsLineIn job.form job spot verdict line
+
 abbrev pub IsLine : Job → Spot → Verdict → List ℕ → Type 0
-IsLine job = IsLineIn job.form job
+IsLine job = IsLineBy job.mode job
 
 -- what the line of a yes has behind its counts
 abbrev pub IsRest : Form → List (List ℕ) → List Shown → List ℕ → Type 0
@@ -83,13 +88,15 @@ abbrev pub TellsLine : (List ℕ → Type 0) → (List ℕ → Texts) → Texts 
 TellsLine IsItsLine there told = (line : List ℕ) × IsItsLine line × (told ≡ there line)
 
 -- what is told of a message by its verdict: the line of each, that of each bad message alone, or the good message itself
--- and, in the notes, the line of a bad one
+-- and, in the notes, the line of a bad one; or the row of a good message, and the line of a bad one in the notes
 abbrev pub ToldBy : Mode → (List ℕ → Type 0) → List ℕ → Verdict → Texts → Type 0
 ToldBy Lines IsItsLine message verdict told = TellsLine IsItsLine to_out told
 ToldBy BadLines IsItsLine message (Ok found) told = told ≡ silent
 ToldBy BadLines IsItsLine message (Err bad) told = TellsLine IsItsLine to_out told
 ToldBy Filter IsItsLine message (Ok found) told = told ≡ to_out message
 ToldBy Filter IsItsLine message (Err bad) told = TellsLine IsItsLine to_notes told
+ToldBy Csv IsItsLine message (Ok found) told = TellsLine IsItsLine to_out told
+ToldBy Csv IsItsLine message (Err bad) told = TellsLine IsItsLine to_notes told
 
 -- what is told of the message behind so much, by the verdict on the buffer in it
 pub record IsTold (job : Job) (before : Before) (bytes : List ℕ) (verdict : Verdict) (told : Texts) : Type 0 where

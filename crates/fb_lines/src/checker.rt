@@ -1,6 +1,6 @@
 //! The verifier, with what a run hands it for every buffer.
 
-ghost use Rattle.std.specs.Prelude.{IfOk, IfErr, IfSome, None, OnOk, IsTrue, ◌≡◌, ◌++◌, ◌<◌, ◌≤◌, ◌^◌, length, map, take};
+ghost use Rattle.std.specs.Prelude.{IfOk, IfErr, IfSome, None, OnOk, IsTrue, ◌≡◌, ◌++◌, ◌<◌, ◌≤◌, ◌^◌, length, map, option_map, take, vec_items};
 ghost use Rattle.fb_access.specs.Denotes.{shown};
 ghost use Rattle.fb_lines.specs.declared.options.Places.TheVariants.{Words};
 ghost use Rattle.fb_lines.specs.declared.checker.Course.TheVariants.{Brief, BriefStrictly};
@@ -35,7 +35,7 @@ pub enum Course {
     Brief,
     /// The same, and there is a plan.
     BriefStrictly,
-    /// Values, words or a name are asked, or JSON.
+    /// Values, words or a name are asked, JSON, or rows.
     AtLength,
 }
 
@@ -136,6 +136,13 @@ impl<'s, 'n, 'o> Checker<'s, 'n, 'o> {
         ensures { result ≡ self.now.form }
     {
         self.options.form
+    }
+
+    /// The name of the input, where lines and rows tell it.
+    pub fn label(&self) -> &Option<Vec<u8>>
+        ensures { option_map vec_items result.now ≡ self.now.label }
+    {
+        &self.options.label
     }
 
     /// The paths to the values that are asked for.
@@ -466,7 +473,7 @@ fn skip(options: &Options) -> usize
 }
 
 /// Whether no more is asked of a buffer than a report, or a fault by its numbers: neither values, nor words, nor a
-/// name, nor JSON.
+/// name, nor JSON, nor rows.
 fn is_brief(options: &Options) -> bool
     ensures { (rows : Rows) → result ≡ is_brief (job_of rows options.now) }
 {
@@ -475,10 +482,12 @@ fn is_brief(options: &Options) -> bool
         names,
         label,
         form,
+        mode,
         ..
     } = options;
-    match (names, form) {
-        (Places::Numbers, Form::Plain) => paths.is_empty() && label.is_none(),
+    match (names, form, mode) {
+        (_, _, Mode::Csv) => false,
+        (Places::Numbers, Form::Plain, _) => paths.is_empty() && label.is_none(),
         _ => false,
     }
 }

@@ -5,6 +5,7 @@
 mod answers;
 mod checker;
 mod counter;
+mod csv;
 mod fault;
 mod json_line;
 pub mod laws;
@@ -21,6 +22,7 @@ mod writing;
 
 pub use answers::MOST_PATHS;
 pub use checker::Checker;
+pub use csv::put_head;
 pub use fault::{RunFault, status};
 pub use line::Line;
 pub use options::{AskedPath, Form, Mode, Options, Places, Prefix};

@@ -16,6 +16,9 @@ pub enum Mode {
     BadLines,
     /// The writer gets each good one as it is, prefix included, and the notes get a line of each bad one.
     Filter,
+    /// The writer gets a row of CSV (RFC 4180) of each good one, with the values at the ends of the paths, and the notes
+    /// get a line of each bad one.
+    Csv,
 }
 
 /// How lines are written.
@@ -109,7 +112,8 @@ pub struct Options {
     pub mode: Mode,
     /// How the places of faults are told.
     pub names: Places,
-    /// The name of the input, where each line begins with it and `: `. A byte that isn't printable is told as in texts.
+    /// The name of the input, where each line begins with it and `: `, and each row with it as a string. A byte that
+    /// isn't printable is told in lines as in texts.
     pub label: Option<Vec<u8>>,
     /// How lines are written.
     pub form: Form,

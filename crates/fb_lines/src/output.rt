@@ -3,12 +3,13 @@
 ghost use Rattle.std.specs.Prelude.{Err, Ok, OnOk, OnErr, IsTrue, ◌≡◌, ◌+◌, ◌<◌, ◌^◌, ◌++◌, [], false, length};
 ghost use Rattle.fb_lines.specs.{AnswerText.label_text, Ends.outs_of, Spot.past_all, Spot.spot_of, Sums.count_of, Sums.no_tally, Sums.tally_with, Texts.silent};
 ghost use Rattle.fb_lines.specs.Job.{HasRoom, brief_verdict, is_brief, verdict_of};
-ghost use Rattle.fb_lines.specs.Line.{IsLine, front_in, verdict_line};
+ghost use Rattle.fb_lines.specs.Line.{IsLine, IsLineIn, front_in, verdict_line};
 ghost use Rattle.fb_lines.specs.Lines.{AddsText};
 ghost use Rattle.fb_lines.specs.Puts.{AddsBy, AddsOr, AreOpen, AreSo, AreSound, IsUnused, PutsBoth, PutsSome, Tells, Waits, all_unused, queue_of, queues_of};
 
 use crate::checker::{Checker, Course, Found, Wrong};
 use crate::counter::Counter;
+use crate::csv::put_row;
 use crate::fault::RunFault;
 use crate::line::Line;
 use crate::options::{Form, Mode};
@@ -26,7 +27,7 @@ use std::alloc::{AllocError, Allocator};
 #[derive(Drop)]
 pub struct Output<A: Allocator> {
     pub counter: Counter,
-    /// Lines, or whole messages that are passed on.
+    /// Lines, rows, or whole messages that are passed on.
     pub out: Pending<A>,
     /// Whole lines.
     pub notes: Pending<A>,
@@ -130,7 +131,7 @@ impl<A: Allocator> Output<A> {
         ensures counted { self.new.counter ≡ tally_with message.now (brief_verdict (Ok report.now)) self.old.counter }
     {
         match mode {
-            Mode::Lines => {
+            Mode::Lines | Mode::Csv => {
                 self.line.set_yes(1 + self.counter.messages(), report);
                 self.out.put(writer, self.line.bytes());
             }
@@ -212,11 +213,16 @@ impl<A: Allocator> Output<A> {
         ensures counted { self.new.counter ≡ self.old.counter }
     {
         match verdict {
-            Ok(_) => match checker.mode() {
+            Ok(found) => match checker.mode() {
                 Mode::Lines => self.put_line(checker, begin, spot, verdict, writer),
                 Mode::BadLines => Ok(()),
                 Mode::Filter => {
                     self.out.put(writer, message);
+                    Ok(())
+                }
+                Mode::Csv => {
+                    let answers = found.answers.as_slice();
+                    put_row(&mut self.out, writer, checker.label(), answers);
                     Ok(())
                 }
             },
@@ -224,7 +230,7 @@ impl<A: Allocator> Output<A> {
                 Mode::Lines | Mode::BadLines => {
                     self.put_line(checker, begin, spot, verdict, writer)
                 }
-                Mode::Filter => self.note_line(checker, begin, spot, verdict),
+                Mode::Filter | Mode::Csv => self.note_line(checker, begin, spot, verdict),
             },
         }
     }
@@ -239,7 +245,7 @@ impl<A: Allocator> Output<A> {
         writer: &mut K,
     ) -> Result<(), AllocError>
         requires begin { begin.now ≡ label_text checker.now.label }
-        ensures ok { OnOk result (PutsSome (IsLine checker.now spot.now (verdict_of verdict.now)) (queue_of K.Sink self.old.out writer.old) (queue_of K.Sink self.new.out writer.new)) }
+        ensures ok { OnOk result (PutsSome (IsLineIn checker.now.form checker.now spot.now (verdict_of verdict.now)) (queue_of K.Sink self.old.out writer.old) (queue_of K.Sink self.new.out writer.new)) }
         ensures err { OnErr result (queue_of K.Sink self.new.out writer.new ≡ queue_of K.Sink self.old.out writer.old) }
         ensures notes { self.new.notes ≡ self.old.notes }
         ensures counted { self.new.counter ≡ self.old.counter }

@@ -4,7 +4,7 @@ ghost use Rattle.std.specs.Prelude.{OnOk, true, codes, ℕ, List, ◌≡◌, ◌
 ghost use Rattle.std.specs.{Borrow.Bor, Char.digit_char, List.flat_map};
 ghost use Rattle.hex.specs.Hex.{encode_lower};
 ghost use Rattle.json.specs.Print.{escape_byte, escape_letter};
-ghost use Rattle.fb_lines.specs.AnswerText.{byte_text, label_text, spelled};
+ghost use Rattle.fb_lines.specs.AnswerText.{byte_text, doubled, label_text, spelled};
 ghost use Rattle.fb_lines.specs.Line.{words_text};
 
 use itoa::{Buffer, Integer};
@@ -113,6 +113,8 @@ pub enum Spelling {
     Json,
     /// As two hexadecimal digits.
     Digits,
+    /// As in a string of CSV between quotes.
+    Doubled,
 }
 
 /// How many bytes at the front are written as they are.
@@ -136,6 +138,7 @@ fn is_plain(spelling: Spelling, byte: u8) -> bool
         Spelling::Quoted => (b' '..=b'~').contains(&byte) && byte != b'"' && byte != b'\\',
         Spelling::Json => byte >= b' ' && letter(byte) == 0,
         Spelling::Digits => false,
+        Spelling::Doubled => byte != b'"',
     }
 }
 
@@ -152,6 +155,19 @@ pub fn spell(spelling: Spelling, byte: u8) -> ([u8; 6], usize)
             put_digits(&mut spelled[..2], byte);
             (spelled, 2)
         }
+        Spelling::Doubled => double(byte),
+    }
+}
+
+/// One byte of a string of CSV: a quote stands twice.
+fn double(byte: u8) -> ([u8; 6], usize)
+    ensures text { take result.1 result.0 ≡ doubled byte }
+    ensures fits { result.1 ≤ 6 }
+{
+    if byte == b'"' {
+        ([byte, byte, 0, 0, 0, 0], 2)
+    } else {
+        ([byte, 0, 0, 0, 0, 0], 1)
     }
 }
 

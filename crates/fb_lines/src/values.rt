@@ -6,6 +6,7 @@ ghost use Rattle.hex.specs.Hex.{encode_lower};
 ghost use Rattle.json.specs.{Json.Json, Json.Members, Json.string, Print.escape};
 ghost use Rattle.fb_access.specs.Denotes.{shown};
 ghost use Rattle.fb_lines.specs.AnswerText.{spaced_answer, spelled};
+ghost use Rattle.fb_lines.specs.Csv.{IsWritten, edge, field_of, real_text, written};
 ghost use Rattle.fb_lines.specs.Json.{AreValues, IsFloat, IsReal, IsValue, IsValuesMember, following, json_text, members_text, most_digits, most_zeros, text_json, value_json};
 ghost use Rattle.fb_lines.specs.{Line.IsRest, Puts.Puts, Puts.PutsSome, Puts.queue_of};
 
@@ -99,7 +100,7 @@ fn put_members<A: Allocator, K: Sink>(
 {
     for index in 0..paths.len().min(answers.len()) {
         put_key(out, sink, index > 0, paths[index].text());
-        put_value(out, sink, &answers[index]);
+        put_value(out, sink, Notation::AsJson, &answers[index]);
     }
     out.put(sink, b"}");
 }
@@ -115,38 +116,131 @@ fn put_key<A: Allocator, K: Sink>(out: &mut Pending<A>, sink: &mut K, behind: bo
     }
 }
 
-/// Puts a value as JSON.
-fn put_value<A: Allocator, K: Sink>(out: &mut Pending<A>, sink: &mut K, answer: &Answer<'_>)
-    ensures { PutsSome (λ text. (value : Json) × IsValue (shown answer.now) value × (text ≡ json_text value)) (queue_of K.Sink out.old sink.old) (queue_of K.Sink out.new sink.new) }
+/// How a value is written where not in a plain line.
+#[derive(Clone, Copy)]
+pub enum Notation {
+    /// As JSON.
+    AsJson,
+    /// As a field of CSV, beside others.
+    Field,
+    /// The same as the only field of a row.
+    OnlyField,
+}
+
+/// Puts a value in a notation.
+#[inline(always)]
+pub fn put_value<A: Allocator, K: Sink>(
+    out: &mut Pending<A>,
+    sink: &mut K,
+    notation: Notation,
+    answer: &Answer<'_>,
+)
+    ensures { PutsSome (IsWritten notation (shown answer.now)) (queue_of K.Sink out.old sink.old) (queue_of K.Sink out.new sink.new) }
 {
     match answer {
         Answer::Float(bytes) => match bytes.len() {
-            4 => put_real(out, sink, LittleEndian::read_f32(bytes)),
-            8 => put_real(out, sink, LittleEndian::read_f64(bytes)),
-            _ => put_as_is(out, sink, answer),
+            4 => put_real(out, sink, notation, LittleEndian::read_f32(bytes)),
+            8 => put_real(out, sink, notation, LittleEndian::read_f64(bytes)),
+            _ => put_exactly(out, sink, notation, answer),
         },
-        Answer::DefaultFloat(bits) => put_real(out, sink, f32_from_bits_with_nan(*bits)),
-        Answer::DefaultDouble(bits) => put_real(out, sink, f64_from_bits_with_nan(*bits)),
-        _ => put_as_is(out, sink, answer),
+        Answer::DefaultFloat(bits) => put_real(out, sink, notation, f32_from_bits_with_nan(*bits)),
+        Answer::DefaultDouble(bits) => put_real(out, sink, notation, f64_from_bits_with_nan(*bits)),
+        _ => put_exactly(out, sink, notation, answer),
     }
 }
 
 /// Puts a float: a number that reads as it, and a word where it is no number.
-fn put_real<A: Allocator, K: Sink, F: Float>(out: &mut Pending<A>, sink: &mut K, real: F)
+fn put_real<A: Allocator, K: Sink, F: Float>(
+    out: &mut Pending<A>,
+    sink: &mut K,
+    notation: Notation,
+    real: F,
+)
     requires digits { F.WHOLE_DIGITS ≡ most_digits F.format }
     requires zeros { F.LEADING_ZEROS ≡ most_zeros F.format }
-    ensures { PutsSome (λ text. (value : Json) × IsReal F.format (F.value real) value × (text ≡ json_text value)) (queue_of K.Sink out.old sink.old) (queue_of K.Sink out.new sink.new) }
+    ensures { PutsSome (λ text. (value : Json) × IsReal F.format (F.value real) value × (text ≡ real_text notation value)) (queue_of K.Sink out.old sink.old) (queue_of K.Sink out.new sink.new) }
 {
     let mut buffer = ryu::Buffer::new();
     let numeral = buffer.format(real);
     if numeral == "NaN" {
-        out.put(sink, b"\"NaN\"");
+        put_word(out, sink, notation, b"NaN");
     } else if numeral == "inf" {
-        out.put(sink, b"\"Infinity\"");
+        put_word(out, sink, notation, b"Infinity");
     } else if numeral == "-inf" {
-        out.put(sink, b"\"-Infinity\"");
+        put_word(out, sink, notation, b"-Infinity");
     } else {
         out.put(sink, numeral.as_bytes());
+    }
+}
+
+/// Puts a word that stands for a float: between quotes as JSON.
+#[cold]
+#[inline(never)]
+fn put_word<A: Allocator, K: Sink>(
+    out: &mut Pending<A>,
+    sink: &mut K,
+    notation: Notation,
+    word: &[u8],
+)
+    ensures { Puts (edge notation ++ (word.now ++ edge notation)) (queue_of K.Sink out.old sink.old) (queue_of K.Sink out.new sink.new) }
+{
+    out.put(sink, edge(notation));
+    out.put(sink, word);
+    out.put(sink, edge(notation));
+}
+
+/// What stands before and behind it.
+fn edge(notation: Notation) -> &'static [u8]
+    ensures { result.now ≡ edge notation }
+{
+    match notation {
+        Notation::AsJson => b"\"",
+        Notation::Field | Notation::OnlyField => b"",
+    }
+}
+
+/// Puts a value that has one text in a notation.
+#[inline(always)]
+fn put_exactly<A: Allocator, K: Sink>(
+    out: &mut Pending<A>,
+    sink: &mut K,
+    notation: Notation,
+    answer: &Answer<'_>,
+)
+    ensures { Puts (written notation (shown answer.now) (value_json (shown answer.now))) (queue_of K.Sink out.old sink.old) (queue_of K.Sink out.new sink.new) }
+{
+    match notation {
+        Notation::AsJson => put_as_is(out, sink, answer),
+        Notation::Field => put_field(out, sink, answer, b""),
+        Notation::OnlyField => put_field(out, sink, answer, b"\"\""),
+    }
+}
+
+/// Puts such a value as a field of CSV, where this is the field of what is absent.
+fn put_field<A: Allocator, K: Sink>(
+    out: &mut Pending<A>,
+    sink: &mut K,
+    answer: &Answer<'_>,
+    absent: &[u8],
+)
+    ensures { Puts (field_of absent.now (shown answer.now) (value_json (shown answer.now))) (queue_of K.Sink out.old sink.old) (queue_of K.Sink out.new sink.new) }
+{
+    match answer {
+        Answer::Absent | Answer::DefaultFloat(_) | Answer::DefaultDouble(_) => {
+            out.put(sink, absent)
+        }
+        Answer::NoElement => out.put(sink, b"no-element"),
+        Answer::OtherMember => out.put(sink, b"other-member"),
+        Answer::Bool(true) => out.put(sink, b"true"),
+        Answer::Bool(false) => out.put(sink, b"false"),
+        Answer::Int(number) => put_number(out, sink, b"", *number),
+        Answer::UInt(number) => put_number(out, sink, b"", *number),
+        Answer::Float(bytes) => put_bytes(out, sink, b"float:", bytes, Spelling::Digits),
+        Answer::Text(bytes) => put_between(out, sink, b"\"", bytes, Spelling::Doubled, b"\""),
+        Answer::Struct(bytes) => put_bytes(out, sink, b"struct:", bytes, Spelling::Digits),
+        Answer::Vector(count) => put_number(out, sink, b"vector:", *count),
+        Answer::Table => out.put(sink, b"table"),
+        Answer::Union(number) => put_number(out, sink, b"union:", *number),
     }
 }
 
@@ -218,7 +312,7 @@ fn put_number<A: Allocator, K: Sink, I: Integer>(
 }
 
 /// Puts the bytes of a value between two texts.
-fn put_between<A: Allocator, K: Sink>(
+pub fn put_between<A: Allocator, K: Sink>(
     out: &mut Pending<A>,
     sink: &mut K,
     head: &[u8],

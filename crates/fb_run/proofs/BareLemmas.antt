@@ -13,7 +13,7 @@ use Rattle.fb_lines.specs.Lines.{WritesFront, WritesFronts}
 use Rattle.fb_lines.specs.Puts.{Adds, AddsBy, AreCut, AreSo, IsUnused, PutsBoth, Queues, all_unused, queues_of}
 use Rattle.fb_lines.specs.Texts.{Texts, no_bytes, silent}
 use Rattle.fb_lines.specs.declared.{tally.Tally.Tally, fault.RunFault.RunFault, options.Mode.Mode}
-use Rattle.fb_lines.specs.declared.options.Mode.TheVariants.{Lines, BadLines, Filter}
+use Rattle.fb_lines.specs.declared.options.Mode.TheVariants.{Lines, BadLines, Filter, Csv}
 use Rattle.fb_lines.specs.declared.fault.RunFault.TheVariants as run
 use Rattle.fb_run.specs.{Bare.WritesPart, Pieces.AreEmpty, Run.IsBareRun, Whole.ReadsWhole}
 use Rattle.fb_run.proofs.{RunLemmas.caused_at, StreamLemmas.still, TakesLemmas.cut_caused, TakesLemmas.none_failed, TakesLemmas.outs_in}
@@ -41,6 +41,8 @@ alone BadLines P message (Ok found) told nothing = inr (rw nothing refl)
 alone BadLines P message (Err bad) told (line, is, there) = inr (rw there refl)
 alone Filter P message (Ok found) told passed = inr (rw passed refl)
 alone Filter P message (Err bad) told (line, is, there) = inl (rw there refl)
+alone Csv P message (Ok found) told (line, is, there) = inr (rw there refl)
+alone Csv P message (Err bad) told (line, is, there) = inl (rw there refl)
 
 -- where nothing came, nothing changed
 keeps_nil : (a b : Option (List ℕ)) → Appends a b [] → Keeps a b

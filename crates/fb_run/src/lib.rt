@@ -11,7 +11,7 @@ mod stream;
 
 pub use fb_lines::{
     AskedPath, Form, Line, MOST_PATHS, Mode, Nowhere, Options, Places, Prefix, RunFault, Tally,
-    laws, push_all, put_bytes, status, summary,
+    laws, push_all, put_bytes, put_head, status, summary,
 };
 pub use input::Input;
 pub use reading::MOST_TURNS;

@@ -24,7 +24,7 @@ pub struct Ran {
 
 impl Ran {
     /// That of a run that ended with this fault before it counted anything.
-    fn none(fault: RunFault) -> Ran
+    pub fn none(fault: RunFault) -> Ran
         ensures { result ≡ record { tally = no_tally; end = Err fault } }
     {
         Ran {
@@ -96,8 +96,8 @@ pub fn run_beside<A: Allocator, S: Input<K, N>, K: Sink, N: Sink>(
     Ran { tally, end }
 }
 
-/// The same without notes: what would be noted is dropped, and only [`Filter`](crate::Mode::Filter) notes
-/// anything.
+/// The same without notes: what would be noted is dropped, and only [`Filter`](crate::Mode::Filter) and
+/// [`Csv`](crate::Mode::Csv) note anything.
 pub fn run_within<A: Allocator, S: Input<K, Nowhere>, K: Sink>(
     alloc: A,
     reader: &mut S,

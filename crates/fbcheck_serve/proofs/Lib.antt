@@ -1,5 +1,6 @@
 mod AskedLemmas
 mod ByteLemmas
+mod HeadLemmas
 mod InputsLemmas
 mod NoteLemmas
 mod OneAsk

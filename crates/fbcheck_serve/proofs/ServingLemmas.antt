@@ -11,6 +11,7 @@ use Rattle.fbcheck_words.specs.{CommandLine.program, Given.AreGiven, Refusal.Ref
 use Rattle.fbcheck_serve.specs.Checking.{IsPromptAmongAsked, IsPromptAsAsked, IsPromptOverAsked, IsCheckedBeside, IsServedEach, MayReadAsked, names_in}
 use Rattle.fbcheck_texts.specs.Faults.{IsFile, HasFileFault}
 use Rattle.fbcheck_texts.specs.declared.{fault.FileFault.FileFault, fault.WordsFault.WordsFault, framing.By.By, framing.Manner.Manner, hint.Unasked.Unasked}
+use Rattle.fbcheck_serve.specs.Heads.{IsHeaded}
 use Rattle.fbcheck_serve.specs.Inputs.{Folder, IsPromptAmong, IsPromptOver, Seen, with_cause}
 use Rattle.fb_lines.specs.{Job.Job, Faults.End, Faults.EndsBeside, JsonSums.summary_in}
 use Rattle.fb_lines.specs.Ends.{Ends, Reader, Writer, beside}
@@ -86,7 +87,13 @@ module _ (folder : Folder) where
   -- all that was read is told, where no file is named, and among files
   pub prompt_alone : (file : Option (Bor (List ℕ))) (settings : Settings) (before now : Ends) → names_in settings ≡ [] → IsPromptAsAsked file settings before now
       → IsPromptOverAsked folder file settings before now
-  prompt_alone file settings before now none (job, asks, prompt) = (job, asks, subst (λ (names : List Text). IsPromptOver folder job names before now) (sym none) prompt)
+  prompt_alone file settings before now none (job, asks, headed, head, prompt) = (
+    job,
+    asks,
+    headed,
+    subst (λ (names : List Text). IsHeaded job names before headed) (sym none) head,
+    subst (λ (names : List Text). IsPromptOver folder job names headed now) (sym none) prompt,
+  )
 
   over_some : (job : Job) (names : List Text) (before now : Ends) → names ≢ [] → IsPromptAmong folder job names before now → IsPromptOver folder job names before now
   over_some job [] before now some among = absurd (some refl)
@@ -94,7 +101,7 @@ module _ (folder : Folder) where
 
   pub prompt_among : (file : Option (Bor (List ℕ))) (settings : Settings) (before now : Ends) → names_in settings ≢ [] → IsPromptAmongAsked folder file settings before now
       → IsPromptOverAsked folder file settings before now
-  prompt_among file settings before now some (job, asks, among) = (job, asks, over_some job (names_in settings) before now some among)
+  prompt_among file settings before now some (job, asks, headed, head, among) = (job, asks, headed, head, over_some job (names_in settings) headed now some among)
 
   -- the words could be read
   pub comes_read : {A B : Type 0} (given : Result (Vec (String A) B) WordsFault) (words : Vec (String A) B) (slice : List (String A)) (before after : Seen) (sums : Option Sums) (outcome : Result Ending Stop)

@@ -14,7 +14,7 @@ use Rattle.fbcheck_words.specs.declared.choices.Form as asked
 use Rattle.fbcheck_words.specs.declared.choices.Form.TheVariants as words
 use Rattle.fbcheck_words.specs.declared.choices.Settings.{Settings}
 use Rattle.fb_lines.specs.declared.{options.Form.Form, options.Form.TheVariants.Plain, options.Form.TheVariants.Json, options.Mode.Mode}
-use Rattle.fb_lines.specs.declared.options.Mode.TheVariants.{Lines, BadLines, Filter}
+use Rattle.fb_lines.specs.declared.options.Mode.TheVariants.{Lines, BadLines, Filter, Csv}
 use Rattle.fb_lines.specs.declared.{options.Places.Places, options.Places.TheVariants.Numbers, options.Places.TheVariants.Words, options.Prefix.Prefix}
 use Rattle.fb_lines.specs.declared.{options.Prefix.TheVariants.Part, options.Prefix.TheVariants.Apart, options.Options.Options}
 use Rattle.fbcheck_texts.specs.declared.fault.AskFault.{AskFault}
@@ -62,11 +62,13 @@ ident_of (Some bytes) = Want bytes
 abbrev pub asked_ident : Own → Settings → Option Ident
 asked_ident own settings = if settings.schema_ident then own_ident own.ident else Some (ident_of settings.ident)
 
--- what is told of the buffers, by whether they are filtered and whether there are no lines of good ones
-abbrev pub mode_of : Bool → Bool → Mode
-mode_of true quiet = Filter
-mode_of false true = BadLines
-mode_of false false = Lines
+-- what is told of the buffers, by whether rows are asked for, whether they are filtered and whether there are no lines
+-- of good ones
+abbrev pub mode_of : Bool → Bool → Bool → Mode
+mode_of true filter quiet = Csv
+mode_of false true quiet = Filter
+mode_of false false true = BadLines
+mode_of false false false = Lines
 
 -- how lines are written
 abbrev pub form_of : asked.Form → Form
@@ -96,7 +98,7 @@ options_of settings root paths ident plan = record {
   bare = settings.bare;
   prefix = prefix_of settings.delimited;
   checks = settings.checks;
-  mode = mode_of settings.filter settings.quiet;
+  mode = mode_of settings.csv settings.filter settings.quiet;
   names = places_of settings.names settings.form;
   label = None;
   form = form_of settings.form;

@@ -1,5 +1,5 @@
 -- A run by the schema of a file, or without one by the fixed table of schema files.
-use Rattle.std.specs.Prelude.{◌≡◌, ℕ, IsTrue, false, List, Option, Some, None, Result, Ok, Err, length, codes, map, string_bytes}
+use Rattle.std.specs.Prelude.{◌≡◌, ℕ, IsTrue, false, List, [], Option, Some, None, Result, Ok, Err, length, codes, map, string_bytes}
 use Rattle.std.specs.{Borrow.Bor, Io.KnownBytes.Keeps}
 use Rattle.fb_schema.specs.Rows.{Rows}
 use Rattle.fb_bfbs.specs.{Fixed.fixed, Loads.IsLoaded, Loads.IsLoadFault, Loads.schema_number}
@@ -11,9 +11,10 @@ use Rattle.fb_bfbs.specs.declared.{marks.Builtins.Builtins, marks.Marks.Marks}
 use Rattle.fb_strict.specs.Planned.{IsPlan, Planned}
 use Rattle.fbcheck_serve.specs.{ByteFields.AreTold, ByteFields.LacksTable, ByteFields.Misses, FileMarks.IsMarkedFile, FileMarks.schema_limits}
 use Rattle.fbcheck_serve.specs.Asked.{AsksBy, IsPathFault, Own, demanded_by}
-use Rattle.fbcheck_serve.specs.Inputs.{Folder, IsPromptAmong, IsPromptOver, MayReadEach, Seen, ServesEach, at_first, stand}
+use Rattle.fbcheck_serve.specs.Heads.{IsHeaded, RunsBehindHead, ServesBehindHead}
+use Rattle.fbcheck_serve.specs.Inputs.{Folder, IsPromptAmong, IsPromptOver, MayReadEach, Seen}
 use Rattle.fb_lines.specs.{Ends.Ends, Ends.Unwritten, Job.Job}
-use Rattle.fb_run.specs.{Prompt.IsPrompt, Run.IsRunBeside}
+use Rattle.fb_run.specs.Prompt.{IsPrompt}
 use Rattle.fbcheck_words.specs.declared.choices.Settings.{Settings}
 use Rattle.fbcheck_texts.specs.declared.{fault.AskFault.AskFault, hint.Unasked.Unasked, fault.CheckFault.CheckFault}
 use Rattle.fbcheck_texts.specs.declared.fault.AskFault.TheVariants.{Load, Path, UnmarkedBytes, NoSuchTable, OutOfMemory}
@@ -111,9 +112,10 @@ LacksPlanBy bytes rows fault = (read : Marks) × AreMarks bytes (schema_limits (
 abbrev pub IsIdle : Ends → Ends → Type 0
 IsIdle before after = Keeps before.reader.left after.reader.left × Unwritten before.outs after.outs
 
--- what was read, written and noted by a run that was asked for, which ended so and came to these numbers by then
+-- what was read, written and noted by a run that was asked for, behind its head, which ended so and came to these
+-- numbers by then
 abbrev pub RunsAsAsked : Option (Bor (List ℕ)) → Settings → Ends → Ends → Tally → End → Type 0
-RunsAsAsked file settings before after tally end = (job : Job) × Asks file settings (Ok job) × IsRunBeside job before after tally end
+RunsAsAsked file settings before after tally end = (job : Job) × Asks file settings (Ok job) × RunsBehindHead job before after tally end
 
 -- the same where it may be that no run began, since nothing was asked for or memory was refused before
 abbrev pub IsCheckedBeside : Option (Bor (List ℕ)) → Settings → Ends → Ends → Result Ran Unasked → Type 0
@@ -130,10 +132,10 @@ IsChecked file settings before after (Err (check.Ask fault)) = LacksJob file set
 abbrev pub names_in : Settings → List (List ℕ)
 names_in settings = map string_bytes settings.files.items
 
--- what came of these files, gone through as was asked for, and what was read, written and noted
+-- what came of these files, gone through as was asked for, behind their head, and what was read, written and noted
 abbrev pub ServesAsAsked : Folder → Option (Bor (List ℕ)) → Settings → Seen → Seen → Course → End → Type 0
 ServesAsAsked folder file settings before after course end =
-    (job : Job) × Asks file settings (Ok job) × ServesEach folder job (names_in settings) (at_first before) (stand after course) end
+    (job : Job) × Asks file settings (Ok job) × ServesBehindHead folder job (names_in settings) before after course end
 
 -- the same where it may be that none was begun
 abbrev pub IsServedEach : Folder → Option (Bor (List ℕ)) → Settings → Seen → Seen → Result Passed Unasked → Type 0
@@ -151,18 +153,25 @@ EndsChecked before after turns (Ok tally) = EndsBeside before after turns (Ok tt
 EndsChecked before after turns (Err (check.Run fault)) = EndsBeside before after turns (Err fault)
 EndsChecked before after turns (Err (check.Ask fault)) = IsUnfailed (failures_of before) (failures_of after)
 
--- all that was read by now is told, of a run that was asked for
+-- all that was read by now is told, of a run that was asked for, behind its head
 abbrev pub IsPromptAsAsked : Option (Bor (List ℕ)) → Settings → Ends → Ends → Type 0
-IsPromptAsAsked file settings before now = (job : Job) × Asks file settings (Ok job) × IsPrompt job before now
+IsPromptAsAsked file settings before now =
+    (job : Job) × Asks file settings (Ok job) × (headed : Ends) × IsHeaded job [] before headed × IsPrompt job headed now
 
 -- the same where files are gone through
 abbrev pub IsPromptAmongAsked : Folder → Option (Bor (List ℕ)) → Settings → Ends → Ends → Type 0
-IsPromptAmongAsked folder file settings before now = (job : Job) × Asks file settings (Ok job) × IsPromptAmong folder job (names_in settings) before now
+IsPromptAmongAsked folder file settings before now =
+    (job : Job) × Asks file settings (Ok job) × (headed : Ends) × IsHeaded job (names_in settings) before headed
+    × IsPromptAmong folder job (names_in settings) headed now
 
 -- and whether or not they are
 abbrev pub IsPromptOverAsked : Folder → Option (Bor (List ℕ)) → Settings → Ends → Ends → Type 0
-IsPromptOverAsked folder file settings before now = (job : Job) × Asks file settings (Ok job) × IsPromptOver folder job (names_in settings) before now
+IsPromptOverAsked folder file settings before now =
+    (job : Job) × Asks file settings (Ok job) × (headed : Ends) × IsHeaded job (names_in settings) before headed
+    × IsPromptOver folder job (names_in settings) headed now
 
--- the files that are named may be read so
+-- the files that are named may be read so, behind the head
 abbrev pub MayReadAsked : Folder → Option (Bor (List ℕ)) → Settings → Ends → Type 0
-MayReadAsked folder file settings before = (job : Job) → Asks file settings (Ok job) → MayReadEach folder job (names_in settings) before
+MayReadAsked folder file settings before =
+    (job : Job) (headed : Ends) → Asks file settings (Ok job) → IsHeaded job (names_in settings) before headed
+    → MayReadEach folder job (names_in settings) headed

@@ -221,8 +221,11 @@ pub record Stand : Type 0 where
   pub course : Course
 
 -- no file
+abbrev pub no_course : Course
+no_course = record { tally = no_tally; status = 0; standard = Unread }
+
 abbrev pub at_first : Seen → Stand
-at_first before = record { seen = before; course = record { tally = no_tally; status = 0; standard = Unread } }
+at_first before = record { seen = before; course = no_course }
 
 abbrev pub stand : Seen → Course → Stand
 stand now course = record { seen = now; course = course }

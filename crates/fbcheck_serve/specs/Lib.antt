@@ -3,6 +3,7 @@ pub mod ByteFields
 pub mod FileMarks
 pub mod Asked
 pub mod Inputs
+pub mod Heads
 pub mod Checking
 pub mod Serving
 pub mod CheckLaws

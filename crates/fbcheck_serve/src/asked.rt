@@ -131,9 +131,11 @@ fn find_ident(settings: &Settings, own: Option<&[u8]>) -> Option<Ident>
 
 /// What is told of the buffers.
 fn mode(settings: &Settings) -> Mode
-    ensures { result ≡ mode_of settings.now.filter settings.now.quiet }
+    ensures { result ≡ mode_of settings.now.csv settings.now.filter settings.now.quiet }
 {
-    if settings.filter {
+    if settings.csv {
+        Mode::Csv
+    } else if settings.filter {
         Mode::Filter
     } else if settings.quiet {
         Mode::BadLines

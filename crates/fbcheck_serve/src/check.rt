@@ -11,6 +11,7 @@ ghost use Rattle.fb_run.specs.Leave.{HasLeave, ends_of, noteless};
 
 use crate::asked::asked_of;
 use crate::files::Files;
+use crate::head::{head_of, with_head, write_head};
 use crate::inputs::{Passed, pass_files};
 use fb_bytes::Sink;
 use fb_run::{Input, MOST_TURNS, Nowhere, Ran, Tally, run_beside};
@@ -35,7 +36,8 @@ use std::alloc::Global;
 /// a field of bytes without a mark and doesn't show that it would mark it, and `NoSuchTable` where it marks one as a
 /// nested buffer of no table; all before anything is read of the input, and `OutOfMemory` in place of any where memory
 /// was refused. Each with what is told behind it. A run ends as [`run_beside`](fb_run::run_beside) says, with at most
-/// 2^32 reads.
+/// 2^32 reads. Where rows are asked for, their head is written before anything is read, and `WriteFault` counts its bytes
+/// too.
 pub fn check_beside<S: Input<K, N>, K: Sink, N: Sink>(
     alloc: Global,
     schema_bytes: Option<&[u8]>,
@@ -59,7 +61,11 @@ pub fn check_beside<S: Input<K, N>, K: Sink, N: Sink>(
     ensures turns { S.calls reader.new ≤ S.calls reader.old + MOST_TURNS }
 {
     let asked = asked_of(alloc, schema_bytes, settings)?;
-    Ok(run_beside(
+    let head = head_of(alloc, &asked.options, &[])?;
+    if let Err(fault) = write_head(writer, head.as_slice()) {
+        return Ok(Ran::none(fault));
+    }
+    let ran = run_beside(
         alloc,
         reader,
         writer,
@@ -67,7 +73,11 @@ pub fn check_beside<S: Input<K, N>, K: Sink, N: Sink>(
         &asked.schema,
         &asked.options,
         MOST_TURNS,
-    ))
+    );
+    Ok(Ran {
+        tally: ran.tally,
+        end: with_head(head.len(), ran.end),
+    })
 }
 
 /// The same of the files that the settings name, one behind another, as [`pass_files`] says.
@@ -94,11 +104,16 @@ pub fn check_files<F: Files<K, N>, S: Input<K, N> + Explains, K: Sink, N: Sink>(
     ensures turns { S.calls reader.new ≤ S.calls reader.old + MOST_TURNS }
 {
     let mut asked = asked_of(alloc, schema_bytes, settings)?;
+    let names = settings.files.as_slice();
+    let head = head_of(alloc, &asked.options, names)?;
+    if let Err(fault) = write_head(writer, head.as_slice()) {
+        return Ok(Passed::none(fault));
+    }
     let lent = &mut asked;
     Ok(pass_files(
         alloc,
         files,
-        settings.files.as_slice(),
+        names,
         &lent.schema,
         &mut lent.options,
         reader,
@@ -107,7 +122,8 @@ pub fn check_files<F: Files<K, N>, S: Input<K, N> + Explains, K: Sink, N: Sink>(
     ))
 }
 
-/// The same without notes: what would be noted is dropped, and only a filter notes anything.
+/// The same without notes: what would be noted is dropped, and only where messages are filtered or rows are asked for is
+/// anything noted.
 pub fn check<S: Input<K, Nowhere>, K: Sink>(
     alloc: Global,
     schema_bytes: Option<&[u8]>,

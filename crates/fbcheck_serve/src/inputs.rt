@@ -4,9 +4,9 @@ ghost use Rattle.std.specs.Prelude.{Err, IfOk, IfSome, true, false, ◌≡◌, �
 ghost use Rattle.fb_rules.specs.Reasons.{reason_count};
 ghost use Rattle.fb_lines.specs.Ends.{outs_of, writer_of};
 ghost use Rattle.fb_run.specs.Leave.{HasLeave, ends_of};
-ghost use Rattle.fb_lines.specs.{Sums.no_tally, Job.Serves, Job.job_of};
+ghost use Rattle.fb_lines.specs.{Job.Serves, Job.job_of};
 ghost use Rattle.fb_run.specs.Prompt.{IsPrompt};
-ghost use Rattle.fbcheck_serve.specs.Inputs.{ComesOf, IsBehind, IsBehindEnd, IsBehindRun, IsNotedOf, IsPromptAmong, MayRead, MayReadEach, ServesEach, Tries, at_first, course_with, fault_line, folder_of, is_final, is_standard, label_of, seen_of, stand, standard_after, sum_of, sums, are_named};
+ghost use Rattle.fbcheck_serve.specs.Inputs.{ComesOf, IsBehind, IsBehindEnd, IsBehindRun, IsNotedOf, IsPromptAmong, MayRead, MayReadEach, ServesEach, Tries, at_first, course_with, fault_line, no_course, folder_of, is_final, is_standard, label_of, seen_of, stand, standard_after, sum_of, sums, are_named};
 ghost use Rattle.fbcheck_serve.specs.declared.inputs.Standard.TheVariants.{Unread, Spent};
 ghost use Rattle.fbcheck_texts.specs.Hints.{IsHint};
 
@@ -71,6 +71,19 @@ pub struct Passed {
     pub course: Course,
     /// Whether all were gone through, or what ended it.
     pub end: Result<(), RunFault>,
+}
+
+impl Passed {
+    /// None of the files was begun, for this fault.
+    pub fn none(fault: RunFault) -> Passed
+        ensures course { result.course ≡ no_course }
+        ensures end { result.end ≡ Err fault }
+    {
+        Passed {
+            course: Course::new(),
+            end: Err(fault),
+        }
+    }
 }
 
 /// Checks the buffers of files, one behind another, and writes what is told of each, as
@@ -139,7 +152,7 @@ pub fn pass_files<F: Files<K, N>, S: Input<K, N> + Explains, K: Sink, N: Sink>(
 }
 
 /// Whether lines tell of which file they are: where there are several, or lines of standard input do by themselves.
-fn are_named(options: &Options, names: &[String]) -> bool
+pub fn are_named(options: &Options, names: &[String]) -> bool
     ensures { result ≡ are_named (option_map vec_items options.now.label) (map string_bytes names.now) }
 {
     options.label.is_some() || names.len() > 1
@@ -255,7 +268,7 @@ impl Came {
 impl Course {
     /// That of no files.
     fn new() -> Course
-        ensures { result ≡ record { tally = no_tally; status = 0; standard = Unread } }
+        ensures { result ≡ no_course }
     {
         Course {
             tally: Tally::new(),

@@ -9,6 +9,7 @@ mod byte_fields;
 pub mod check;
 pub mod check_laws;
 mod files;
+mod head;
 mod inputs;
 mod limits;
 pub mod serve;

@@ -1,7 +1,7 @@
 use Rattle.std.proofs.Common.{Ok, ◌≡◌, List, ℕ, ◌+◌, ap, refl, rules}
 use Rattle.fb_lines.specs.{Ends.writer_of, Job.brief_verdict, Line.verdict_line, Puts.Waits, Puts.behind, Puts.queue_of, Puts.queues_of, Sums.count_of}
 use Rattle.fb_lines.specs.declared.{output.Output.Output, writing.Pending.Pending}
-use Rattle.fb_lines.proofs.ToldLemmas.{line_waits, message_waits, none_waits, waits_told}
+use Rattle.fb_lines.proofs.ToldLemmas.{good_line_waits, message_waits, none_waits, waits_told}
 use Rattle.fb_lines.proofs.output.Output.add_yes.Goals.{in-Lines, in-BadLines, in-Filter}
 use Rattle.fb_lines.proofs.output.Output.add_yes.Goals as goal
 
@@ -12,7 +12,7 @@ returns-clause-told g c =
     let IsIt : List ℕ → Type 0 = λ line. line ≡ verdict_line (1 + count_of old.counter) verdict in
     let now = c.match-mode.self in
     let waits : Waits c.args.mode IsIt c.args.message.now verdict (queue_of g.K.Sink old.out c.args.writer.now) (queue_of g.K.Sink now.out c.match-mode.writer) old.notes.bytes.items now.notes.bytes.items = elim c.match-mode.branch [
-      | in-Lines w ↦ rw (w.self-is, w.writer-is) (line_waits c.args.mode IsIt c.args.message.now verdict _ _ _ _ w.in-Lines.is (_, search rules, w.put.ensures.puts) refl)
+      | in-Lines w ↦ rw (w.self-is, w.writer-is) (good_line_waits c.args.mode IsIt c.args.message.now verdict _ _ _ _ _ refl w.in-Lines.is (_, search rules, w.put.ensures.puts) refl)
       | in-BadLines w ↦ rw (w.self-is, w.writer-is) (none_waits c.args.mode IsIt c.args.message.now verdict _ _ _ _ _ refl w.in-BadLines.is refl refl)
       | in-Filter w ↦ rw (w.self-is, w.writer-is) (message_waits c.args.mode IsIt c.args.message.now verdict _ _ _ _ _ refl w.in-Filter.is w.put-in-Filter.ensures.puts refl)
     ] in
