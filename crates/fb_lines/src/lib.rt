@@ -24,6 +24,7 @@ pub use answers::MOST_PATHS;
 pub use checker::Checker;
 pub use csv::put_head;
 pub use fault::{RunFault, status};
+pub use json_line::put_text;
 pub use line::Line;
 pub use options::{AskedPath, Form, Mode, Options, Places, Prefix};
 pub use output::Output;

@@ -3,6 +3,7 @@
 
 pub mod causes;
 pub mod fault;
+pub mod fault_json;
 pub mod framing;
 pub mod hint;
 pub mod texts;
