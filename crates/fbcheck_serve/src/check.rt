@@ -76,7 +76,7 @@ pub fn check_beside<S: Input<K, N>, K: Sink, N: Sink>(
     );
     Ok(Ran {
         tally: ran.tally,
-        end: with_head(head.len(), ran.end),
+        end: with_head(head.as_slice().len(), ran.end),
     })
 }
 

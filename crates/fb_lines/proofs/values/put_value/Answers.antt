@@ -1,4 +1,4 @@
-use Rattle.std.proofs.Common.{◌∙◌}
+use Rattle.std.proofs.Common.{◌∙◌, refl}
 use Rattle.std.specs.Float.{binary32, binary64}
 use Rattle.fb_access.specs.Denotes.{float}
 use Rattle.fb_lines.proofs.{CsvLemmas.real_written, RealLemmas.eight_bytes_read, RealLemmas.four_bytes_read}

@@ -20,7 +20,7 @@ returns-clause-run g c =
         c.run_beside-ran.result.end,
         stands job [] before c.as_slice.result.now writer (Ok tt) (c.as_slice.ensures.value ∙ head_is) c.in_default.ensures refl,
         c.run_beside-ran.ensures.run,
-        c.with_head.ensures ∙ ap (λ (n : ℕ). with_head n c.run_beside-ran.result.end) (c.len.ensures ∙ ap length head_is),
+        c.with_head.ensures ∙ ap (λ (n : ℕ). with_head n c.run_beside-ran.result.end) (c.len.ensures ∙ ap length (c.as_slice-2.ensures.value ∙ head_is)),
       ),
     )
 
