@@ -6,3 +6,4 @@ pub mod fault;
 pub mod framing;
 pub mod hint;
 pub mod texts;
+mod unsupported;
