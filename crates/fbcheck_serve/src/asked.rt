@@ -233,10 +233,7 @@ fn schemaless(alloc: Global, fault: AskFault, file: Option<&[u8]>, settings: &Se
     ensures { LacksJob file.entry settings.now result.fault }
 {
     match fault {
-        AskFault::Load(cause) => {
-            let hint = schema_hint(alloc, &settings.schema, file, cause);
-            Unasked::new(fault, hint)
-        }
+        AskFault::Load(_) => Unasked::new(fault, schema_hint(alloc, &settings.schema, file)),
         _ => Unasked::plain(fault),
     }
 }

@@ -7,4 +7,3 @@ pub mod fault_json;
 pub mod framing;
 pub mod hint;
 pub mod texts;
-mod unsupported;
