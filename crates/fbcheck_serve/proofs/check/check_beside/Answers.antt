@@ -20,7 +20,7 @@ returns-clause-run g c =
         c.run_beside-ran.result.end,
         stands job [] before c.as_slice.result.now writer (Ok tt) (c.as_slice.ensures.value ∙ head_is) c.in_default.ensures refl,
         c.run_beside-ran.ensures.run,
-        c.with_head.ensures ∙ ap (λ (n : ℕ). with_head n c.run_beside-ran.result.end) (c.len.ensures ∙ ap length (c.as_slice-2.ensures.value ∙ head_is)),
+        c.with_head.ensures ∙ ap (λ (n : ℕ). with_head n c.run_beside-ran.result.end) (ap length (c.as_slice-2.ensures.value ∙ head_is)),
       ),
     )
 
@@ -28,7 +28,7 @@ pub returns-clause-end : goal.returns-clause-end
 returns-clause-end g c =
     let before = ends_of g.S.Input g.K.Sink g.N.Sink c.args.reader.now c.args.writer.now c.args.notes.now in
     let after = ends_of g.S.Input g.K.Sink g.N.Sink c.run_beside-ran.new.reader c.run_beside-ran.new.writer c.run_beside-ran.new.notes in
-    rw c.with_head.ensures (ends_headed before after (writer_of g.K.Sink c.write_head.new.writer) 4294967296 c.len.result c.in_default.ensures.1 c.run_beside-ran.result.end c.run_beside-ran.ensures.end)
+    rw c.with_head.ensures (ends_headed before after (writer_of g.K.Sink c.write_head.new.writer) 4294967296 (length c.as_slice-2.result.now) c.in_default.ensures.1 c.run_beside-ran.result.end c.run_beside-ran.ensures.end)
 
 pub returns-in-Err-clause-run : goal.returns-in-Err-clause-run
 returns-in-Err-clause-run g c =

@@ -1,5 +1,6 @@
 use Rattle.std.proofs.Common.{None, refl}
 use Rattle.std.specs.Prelude.{map, string_bytes}
+use Rattle.fb_lines.specs.Ends.{writer_of}
 use Rattle.fb_run.specs.Leave.{ends_of}
 use Rattle.fbcheck_serve.proofs.ServingLemmas.{comes_asked, comes_read, comes_unserved, early, fileless, holds_given, may_read, prompt_read, told_as_lines, told_plainly, told_read, wordless}
 use Rattle.fbcheck_serve.specs.Inputs.{folder_of, seen_of}
@@ -54,7 +55,7 @@ returns-in-Err-clause-form g c = rw c.in-Err.is refl
 pub returns-in-Err-settings-clause-form : goal.returns-in-Err-settings-clause-form
 returns-in-Err-settings-clause-form g c =
     told_read c.args.words c.in-Ok.words c.as_slice.result.now _ _ c.in-Ok.is c.as_slice.ensures.value
-    (told_plainly c.in-Err-settings.fault _ _ _ (map string_bytes c.as_slice.result.now) _ c.without_settings.ensures.0 refl)
+    (told_plainly c.in-Err-settings.fault (writer_of g.K.Sink c.args.writer.now) (writer_of g.K.Sink c.without_settings.new.writer) c.without_settings.result (map string_bytes c.as_slice.result.now) _ c.without_settings.ensures.0 refl)
 
 pub returns-clause-form : goal.returns-clause-form
 returns-clause-form g c =
