@@ -340,7 +340,7 @@ class Python(LibraryCase):
             ("X", MEMBER, "u@T", None, "R"), ("X", lower_type(9), "u", of.Union(9), "R"), ("X", PLAIN, "u", None, "R"),
             ("X", PLAIN, "u_type", 0, "R"), ("X", MEMBERS, "us", of.Vector(2)), ("X", MEMBERS, "us[0]", of.Union(3)),
             ("X", MEMBERS, "us[0]@T", "hi"), ("X", MEMBERS, "us[1]", of.Union(0)), ("X", MEMBERS, "us[2]@T", None),
-            ("X", MEMBERS, "us[4294967295]", None), ("G", HALVES, "f", 1.5), ("G", PLAIN, "f", None),
+            ("X", MEMBERS, "us[4294967295]", None), ("G", HALVES, "f", 1.5), ("G", PLAIN, "f", 0.0),
             ("NODE", TWINS, "a.b", of.Table()), ("NODE", TWINS, "a.b.a.b", None), ("N", SEVEN, "v", 7),
         ]:
             checker = self.by(name, root=root[0] if root else None, prefixed=name == "N")

@@ -16,7 +16,9 @@ pub struct TypeRow {
 /// A field of a table or struct (table `Field` of reflection.fbs).
 ///
 /// In a table `slot` is the field's place in a vtable, in bytes; in a struct it is the field's place in the struct, in
-/// bytes. `default` is the integer default of a scalar. `deprecated` has no meaning in a struct.
+/// bytes. `default` is the default of a scalar: of a Float or Double the bits of a double, as `f64::to_bits` gives them
+/// (`default_real` of reflection.fbs; 0 is 0.0), and of others the number (`default_integer`). `deprecated` has no
+/// meaning in a struct.
 #[derive(Clone, Copy, Debug)]
 pub struct FieldRow<'n> {
     pub name: &'n [u8],
