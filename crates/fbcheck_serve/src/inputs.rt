@@ -1,12 +1,12 @@
 //! Files as inputs, one behind another.
 
-ghost use Rattle.std.specs.Prelude.{Err, IfOk, IfSome, true, false, ◌≡◌, ◌≢◌, ◌⊎◌, ◌+◌, ◌<◌, ◌≤◌, ◌^◌, length, map, option_map, string_bytes, vec_items};
+ghost use Rattle.std.specs.Prelude.{Err, IfOk, IfSome, OnErr, OnOk, true, false, ◌≡◌, ◌≢◌, ◌⊎◌, ◌+◌, ◌<◌, ◌≤◌, ◌^◌, length, map, option_map, string_bytes, vec_items};
 ghost use Rattle.fb_rules.specs.Reasons.{reason_count};
 ghost use Rattle.fb_lines.specs.Ends.{outs_of, writer_of};
 ghost use Rattle.fb_run.specs.Leave.{HasLeave, ends_of};
 ghost use Rattle.fb_lines.specs.{Sums.no_tally, Job.Serves, Job.job_of};
 ghost use Rattle.fb_run.specs.Prompt.{IsPrompt};
-ghost use Rattle.fbcheck_serve.specs.Inputs.{ComesOf, IsBehind, IsBehindEnd, IsBehindRun, IsNotedOf, IsPromptAmong, MayRead, MayReadEach, ServesEach, Tries, at_first, course_with, fault_line, folder_of, is_final, is_standard, label_of, seen_of, stand, standard_after, sum_of, sums, are_named};
+ghost use Rattle.fbcheck_serve.specs.Inputs.{ComesOf, IsBehind, IsBehindEnd, IsBehindRun, IsNotedOf, IsStopOf, IsPromptAmong, MayRead, MayReadEach, ServesEach, Tries, at_first, course_with, fault_line, folder_of, is_final, is_standard, label_of, seen_of, stand, standard_after, sum_of, sums, are_named};
 ghost use Rattle.fbcheck_serve.specs.declared.inputs.Standard.TheVariants.{Unread, Spent};
 ghost use Rattle.fbcheck_texts.specs.Hints.{IsHint};
 
@@ -21,7 +21,7 @@ use fb_verify::REASONS;
 use fbcheck_texts::causes::{Causes, Explains, reason};
 use fbcheck_texts::fault::FileFault;
 use fbcheck_texts::framing::{By, Framing, end_hint, run_hint};
-use fbcheck_texts::texts::run_text;
+use fbcheck_texts::texts::{run_text, stopped_text};
 use std::alloc::{AllocError, Global};
 use std::io::ErrorKind;
 
@@ -187,7 +187,7 @@ fn pass_file<F: Files<K, N>, S: Input<K, N> + Explains, K: Sink, N: Sink>(
     );
     *course = course.with(name, &came.what);
     let framing = Framing::of(options.bare, options.prefix);
-    tell_behind(alloc, name, framing, &came, notes)
+    tell_behind(alloc, name, framing, options.most_bad, &came, notes)
 }
 
 /// Runs over one file, where it can be read.
@@ -338,13 +338,14 @@ fn tell_behind<N: Sink>(
     alloc: Global,
     name: &str,
     framing: Framing,
+    most_bad: u64,
     came: &Came,
     notes: &mut N,
 ) -> Result<(), RunFault>
-    ensures { IsBehind name.now came.now.what came.now.cause (writer_of N.Sink notes.old) (writer_of N.Sink notes.new) result }
+    ensures { IsBehind most_bad name.now came.now.what came.now.cause (writer_of N.Sink notes.old) (writer_of N.Sink notes.new) result }
 {
     match &came.what {
-        Ok(ran) => tell_run(alloc, name, framing, ran, came.cause, notes),
+        Ok(ran) => tell_run(alloc, name, framing, most_bad, ran, came.cause, notes),
         Err(Missed::File(FileFault::OutOfMemory)) => Err(RunFault::OutOfMemory),
         Err(Missed::File(FileFault::Unreadable(cause))) => {
             tell_fault(alloc, name, reason(*cause).as_bytes(), b"\n", notes)
@@ -361,13 +362,15 @@ fn tell_run<N: Sink>(
     alloc: Global,
     name: &str,
     framing: Framing,
+    most_bad: u64,
     ran: &Ran,
     cause: Option<ErrorKind>,
     notes: &mut N,
 ) -> Result<(), RunFault>
-    ensures { IsBehindRun name.now ran.now.end cause (writer_of N.Sink notes.old) (writer_of N.Sink notes.new) result }
+    ensures { IsBehindRun most_bad name.now ran.now cause (writer_of N.Sink notes.old) (writer_of N.Sink notes.new) result }
 {
     let Err(fault) = &ran.end else {
+        tell_stop(alloc, name, most_bad, &ran.tally, notes)?;
         return tell_end(alloc, name, end_hint(By::Named, framing, &ran.tally), notes);
     };
     if is_final(fault) {
@@ -376,6 +379,27 @@ fn tell_run<N: Sink>(
     let behind = run_hint(framing, fault, &ran.tally);
     let why = run_text(fault, Causes::of_read(cause));
     tell_fault(alloc, name, why.bytes(), behind, notes)
+}
+
+/// Notes that a file's run ended behind as many bad messages as there may be, where it did. What can't be written is
+/// left.
+fn tell_stop<N: Sink>(
+    alloc: Global,
+    name: &str,
+    most_bad: u64,
+    tally: &Tally,
+    notes: &mut N,
+) -> Result<(), AllocError>
+    ensures told { OnOk result (IsStopOf most_bad name.now tally.now (writer_of N.Sink notes.old) (writer_of N.Sink notes.new)) }
+    ensures refused { OnErr result (notes.new ≡ notes.old) }
+{
+    if tally.no < most_bad {
+        return Ok(());
+    }
+    let why = stopped_text(most_bad);
+    let line = fault_line(alloc, name, why.bytes(), b"\n")?;
+    note(notes, line.as_slice());
+    Ok(())
 }
 
 /// Notes what is told of an end, where there is something. What can't be written is left.

@@ -4,7 +4,7 @@ ghost use Rattle.std.specs.Prelude.{Err, IfSome, None, ◌≡◌, ◌++◌, ◌+
 ghost use Rattle.fb_rules.specs.Reasons.{reason_count};
 ghost use Rattle.fb_lines.specs.Ends.{writer_of};
 ghost use Rattle.fbcheck_serve.specs.Inputs.{IsNoted};
-ghost use Rattle.fbcheck_serve.specs.Serving.{Complains, IsBehindEnding, IsBehindStop, SumsUp, exit_status, hinted_stop, stop_status, stop_text};
+ghost use Rattle.fbcheck_serve.specs.Serving.{Complains, IsBehindEnding, IsBehindStop, IsStopTold, SumsUp, exit_status, hinted_stop, stop_status, stop_text};
 ghost use Rattle.fbcheck_texts.specs.Hints.{IsHint};
 ghost use Rattle.fbcheck_words.specs.declared.choices.SettingsFault.TheVariants as refusal;
 ghost use Rattle.fbcheck_serve.specs.declared.stop.Stop.TheVariants as stop;
@@ -19,7 +19,7 @@ use fbcheck_texts::fault::{FileFault, WordsFault};
 use fbcheck_texts::framing::{By, Manner, by_hint, end_hint, run_hint};
 use fbcheck_texts::hint::{Hint, Unasked};
 use fbcheck_texts::texts::{
-    ask_text, failed_write, file_text, run_text, unsummed_text, words_text,
+    ask_text, failed_write, file_text, run_text, stopped_text, unsummed_text, words_text,
 };
 use fbcheck_words::SettingsFault;
 use std::alloc::AllocError;
@@ -83,10 +83,25 @@ impl Ending {
         }
     }
 
-    /// Notes that, where there is something. What can't be written is left.
+    /// Notes that the input ended behind as many bad messages as there may be, where it did. What can't be written is
+    /// left.
+    fn tell_stop<N: Sink>(&self, notes: &mut N)
+        ensures { IsStopTold self.now (writer_of N.Sink notes.old) (writer_of N.Sink notes.new) }
+    {
+        if let Ending::Checked(tally, manner) = self {
+            if tally.no >= manner.most_bad {
+                let mut line = stopped_text(manner.most_bad);
+                line.put_text(NAME);
+                note_both(notes, line.bytes(), b"\n");
+            }
+        }
+    }
+
+    /// Notes that, and a hint, where there is one. What can't be written is left.
     fn tell<N: Sink>(&self, notes: &mut N)
         ensures { IsBehindEnding self.now (writer_of N.Sink notes.old) (writer_of N.Sink notes.new) }
     {
+        self.tell_stop(notes);
         if let Some(hint) = self.hint() {
             note_both(notes, NAME.as_bytes(), hint);
         }
