@@ -353,7 +353,7 @@ class Names(Case):
             talk.run.stdin.write(ODD)
             talk.run.stdin.close()
             self.same("the second can't be written", (talk.run.stderr.read(), talk.run.wait(SECONDS)),
-                      (f"fbcheck: write failed after {len(first)} bytes: broken pipe\n".encode(), 3))
+                      (b"", 3))
         whole = told(ODD, PAST)
         for room in range(len(whole)):
             self.same(f"room for {room} bytes", narrowed(*BY_N, given=ODD + PAST, room=room),

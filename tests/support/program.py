@@ -55,6 +55,15 @@ def run_in_shell(redirections, *words, given=b""):
     return Ran(ran.returncode, ran.stdout, ran.stderr)
 
 
+def run_unread(*words, given=b""):
+    """Runs the program on these bytes, with a pipe as standard output that nobody reads."""
+    there, here = os.pipe()
+    os.close(there)
+    ran = subprocess.run([PROGRAM, *words], input=given, stdout=here, stderr=subprocess.PIPE, timeout=SECONDS)
+    os.close(here)
+    return Ran(ran.returncode, b"", ran.stderr)
+
+
 def run_broken_off(*words, given):
     """Runs the program on a terminal's far end, of which a read fails once all of these bytes were read."""
     far, near = os.openpty()

@@ -1,12 +1,12 @@
 -- What the program does, from its words to its exit status.
-use Rattle.std.specs.Prelude.{◌≡◌, ◌≢◌, ℕ, ◌+◌, ◌<◌, ◌≤◌, ◌⊎◌, ◌++◌, length, if◌then◌else◌, List, [], Option, Some, None, Result, Ok, Err, Vec, String, IfSome, codes, map, option_map, string_bytes, string_len, vec_items}
+use Rattle.std.specs.Prelude.{◌≡◌, ◌≢◌, ℕ, ◌+◌, ◌<◌, ◌≤◌, ◌⊎◌, ◌++◌, Bool, ◌&&◌, true, false, length, if◌then◌else◌, List, [], Option, Some, None, Result, Ok, Err, Vec, String, IfSome, codes, map, option_map, string_bytes, string_len, vec_items}
 use Rattle.fb_bytes.specs.Ends.{one_more}
 use Rattle.fb_rules.specs.Reasons.{reason_count}
 use Rattle.std.specs.{Borrow.Bor, Io.KnownBytes.Appends, Io.KnownBytes.Keeps, declared.alloc.AllocError.AllocError, declared.io.ErrorKind.ErrorKind}
 use Rattle.clap.specs.{Walk.Text, Faults.fault_of}
 use Rattle.fbcheck_serve.specs.Asked.{form_of}
 use Rattle.fbcheck_serve.specs.Checking.{IsIdle, IsPromptOverAsked, LacksJob, MayReadAsked, RunsAsAsked, ServesAsAsked, names_in}
-use Rattle.fbcheck_texts.specs.{Hints.IsHint, Hints.IsRunHint, Faults.HasFileFault, Faults.IsFile, Faults.ask_status}
+use Rattle.fbcheck_texts.specs.{Causes.is_unread, Hints.IsHint, Hints.IsRunHint, Faults.HasFileFault, Faults.IsFile, Faults.ask_status}
 use Rattle.fbcheck_texts.specs.Texts.{ask_text, file_text, run_text, unsummed_text, words_text}
 use Rattle.fbcheck_texts.specs.declared.{framing.By.By, framing.Manner.Manner, hint.Unasked.Unasked}
 use Rattle.fbcheck_serve.specs.Inputs.{Folder, IsNoted, Seen, renoted}
@@ -199,12 +199,28 @@ IsBehindEnding Helped before after = Keeps before.bytes after.bytes × (after.fa
 IsBehindEnding ending before after =
     Keeps before.bytes after.bytes × (after.failures ≡ before.failures) ⊎ ((hint : List ℕ) × IsHint hint × IsNoted (codes "fbcheck: " ++ hint) before after)
 
--- so it is; a stop is told by the text of `clap`, or else by a line of its own behind the program's name, where this is
--- why a read of standard input or a write failed, if one did
+-- whether a stop is a failed write to the output
+abbrev pub is_unwritten : Stop → Bool
+is_unwritten (stop.CutOff written) = true
+is_unwritten (stop.Run (WriteFault written) tally manner) = true
+is_unwritten (stop.Halted (WriteFault written)) = true
+is_unwritten _ = false
+
+-- whether it is one that failed since nobody reads the output any more
+abbrev pub is_quiet : Causes → Stop → Bool
+is_quiet causes fault = is_unwritten fault && is_unread causes.write
+
+-- a stop is told by the text of `clap`, or else by a line of its own behind the program's name; one that is quiet isn't
+-- told
+abbrev pub TellsStop : Bool → Causes → Stop → Writer → Writer → Type 0
+TellsStop true causes fault before after = Keeps before.bytes after.bytes × (after.failures ≡ before.failures)
+TellsStop false causes (stop.Usage text) before after = IsNoted (string_bytes text) before after
+TellsStop false causes fault before after = (hint : List ℕ) × IsBehindStop fault hint × IsNoted ((codes "fbcheck: " ++ stop_text causes fault) ++ hint) before after
+
+-- what is told of the end, where this is why a read of standard input or a write failed, if one did
 abbrev pub Complains : Causes → Result Ending Stop → Writer → Writer → Type 0
 Complains causes (Ok ending) before after = IsBehindEnding ending before after
-Complains causes (Err (stop.Usage text)) before after = IsNoted (string_bytes text) before after
-Complains causes (Err fault) before after = (hint : List ℕ) × IsBehindStop fault hint × IsNoted ((codes "fbcheck: " ++ stop_text causes fault) ++ hint) before after
+Complains causes (Err fault) before after = TellsStop (is_quiet causes fault) causes fault before after
 
 -- the exit status of a stop
 abbrev pub stop_status : Stop → ℕ

@@ -1,6 +1,6 @@
 -- The texts of the whole program by example.
 use Rattle.std.specs.Global.{Global}
-use Rattle.std.specs.Prelude.{◌≡◌, ℕ, Some, None, Vec, codes}
+use Rattle.std.specs.Prelude.{◌≡◌, ℕ, true, false, Some, None, Vec, codes}
 use Rattle.std.specs.declared.io.ErrorKind.TheVariants as kind
 use Rattle.fb_lines.specs.Sums.{no_tally}
 use Rattle.fb_lines.specs.declared.fault.RunFault.TheVariants as run
@@ -9,7 +9,7 @@ use Rattle.fbcheck_texts.specs.{Texts.file_text, Texts.of_read, Texts.words_text
 use Rattle.fbcheck_texts.specs.declared.fault.FileFault.TheVariants as file
 use Rattle.fbcheck_texts.specs.declared.fault.WordsFault.TheVariants as words
 use Rattle.fbcheck_texts.specs.declared.{framing.By.TheVariants.Named, framing.Framing.TheVariants.Prefixed}
-use Rattle.fbcheck_serve.specs.Serving.{stop_text}
+use Rattle.fbcheck_serve.specs.Serving.{is_quiet, stop_text}
 use Rattle.fbcheck_serve.specs.declared.stop.Stop.TheVariants as stop
 
 -- why it comes to rest
@@ -30,7 +30,10 @@ pub record StopTexts : Type 0 where
       ≡ codes "a .bfbs file is given as input: put --schema before it, or --bare to check the file itself"
   pub memory : stop_text (of_read None) (stop.Settings refusal.OutOfMemory) ≡ codes "out of memory"
   pub help : stop_text (of_read None) (stop.CutOff 7) ≡ codes "write failed after 7 bytes"
-  pub help_pipe : stop_text (record { read = None; write = Some kind.BrokenPipe }) (stop.CutOff 7) ≡ codes "write failed after 7 bytes: broken pipe"
+  pub help_full : stop_text (record { read = None; write = Some kind.StorageFull }) (stop.CutOff 7) ≡ codes "write failed after 7 bytes: no storage space"
   pub summary : stop_text (of_read None) (stop.Unsummed 40) ≡ codes "write to standard error failed after 40 bytes of the summary"
   pub read : stop_text (of_read (Some kind.IsADirectory)) (stop.Run run.ReadFault no_tally (record { framing = Prefixed; by = Named })) ≡ codes "read failed: is a directory"
+  pub unread : is_quiet (record { read = None; write = Some kind.BrokenPipe }) (stop.CutOff 7) ≡ true
+  pub full : is_quiet (record { read = None; write = Some kind.StorageFull }) (stop.CutOff 7) ≡ false
+  pub note : is_quiet (record { read = None; write = Some kind.BrokenPipe }) (stop.Halted (run.NoteFault 7)) ≡ false
   pub halted : stop_text (of_read None) (stop.Halted run.TooManyTurns) ≡ codes "too many reads"

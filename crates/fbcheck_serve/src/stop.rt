@@ -4,7 +4,7 @@ ghost use Rattle.std.specs.Prelude.{Err, IfSome, None, ◌≡◌, ◌++◌, ◌+
 ghost use Rattle.fb_rules.specs.Reasons.{reason_count};
 ghost use Rattle.fb_lines.specs.Ends.{writer_of};
 ghost use Rattle.fbcheck_serve.specs.Inputs.{IsNoted};
-ghost use Rattle.fbcheck_serve.specs.Serving.{Complains, IsBehindEnding, IsBehindStop, SumsUp, exit_status, hinted_stop, stop_status, stop_text};
+ghost use Rattle.fbcheck_serve.specs.Serving.{Complains, IsBehindEnding, IsBehindStop, SumsUp, exit_status, hinted_stop, is_quiet, is_unwritten, stop_status, stop_text};
 ghost use Rattle.fbcheck_texts.specs.Hints.{IsHint};
 ghost use Rattle.fbcheck_words.specs.declared.choices.SettingsFault.TheVariants as refusal;
 ghost use Rattle.fbcheck_serve.specs.declared.stop.Stop.TheVariants as stop;
@@ -169,11 +169,34 @@ impl Stop {
         }
     }
 
+    /// Whether it is a failed write to the output.
+    fn is_unwritten(&self) -> bool
+        ensures { result ≡ is_unwritten self.now }
+    {
+        match self {
+            Stop::CutOff { .. } => true,
+            Stop::Run(RunFault::WriteFault { .. }, ..) => true,
+            Stop::Halted(RunFault::WriteFault { .. }) => true,
+            _ => false,
+        }
+    }
+
+    /// Whether it is one that failed since nobody reads the output any more, of which nothing is told.
+    fn is_quiet(&self, causes: Causes) -> bool
+        ensures { result ≡ is_quiet causes self.now }
+    {
+        self.is_unwritten() && causes.is_unread()
+    }
+
     /// Writes the text of `clap`, or else a line that begins with the program's name, where this is why a read of
-    /// standard input or a write failed, if one did. What can't be written is left.
+    /// standard input or a write failed, if one did; nothing where nobody reads the output any more. What can't be
+    /// written is left.
     fn tell<N: Sink>(&self, causes: Causes, notes: &mut N)
         ensures { Complains causes (Err self.now) (writer_of N.Sink notes.old) (writer_of N.Sink notes.new) }
     {
+        if self.is_quiet(causes) {
+            return;
+        }
         if let Stop::Usage(text) = self {
             note(notes, text.as_bytes());
             return;

@@ -1,5 +1,5 @@
 -- Why a call failed, in words.
-use Rattle.std.specs.Prelude.{ℕ, List, Option, Some, None, codes}
+use Rattle.std.specs.Prelude.{ℕ, Bool, true, false, List, Option, Some, None, codes}
 use Rattle.std.specs.declared.io.ErrorKind.{ErrorKind}
 use Rattle.std.specs.declared.io.ErrorKind.TheVariants as kind
 
@@ -56,3 +56,8 @@ or_failed (Some reason) = reason
 -- why the system gives no file
 abbrev pub reason_text : ErrorKind → List ℕ
 reason_text cause = or_failed (known_reason cause)
+
+-- whether a write failed since nobody reads the output any more
+abbrev pub is_unread : Option ErrorKind → Bool
+is_unread (Some kind.BrokenPipe) = true
+is_unread _ = false

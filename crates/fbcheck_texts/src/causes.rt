@@ -3,7 +3,7 @@
 ghost use Rattle.std.specs.Prelude.{◌≡◌, ◌+◌, ◌<◌, ◌≤◌, ◌^◌, IfErr, IfSome, OnOk, Option, None, Some, false, length, option_map};
 ghost use Rattle.std.specs.{Io.ReadsAtMost, Io.WritesAtMost, Io.KnownBytes.ReadConsumes, Io.KnownBytes.WriteAppends, IoError.error_kind};
 ghost use Rattle.fb_bytes.specs.Ends.{failed, failed_more, one_more, told_end};
-ghost use Rattle.fbcheck_texts.specs.Causes.{known_reason, reason_text};
+ghost use Rattle.fbcheck_texts.specs.Causes.{is_unread, known_reason, reason_text};
 ghost use Rattle.fbcheck_texts.specs.Texts.{of_read};
 ghost use Rattle.std.specs.declared.io.ErrorKind.{ErrorKind};
 
@@ -90,6 +90,16 @@ impl Causes {
         Causes {
             read: cause,
             write: None,
+        }
+    }
+
+    /// Whether the write failed since nobody reads the output any more.
+    pub fn is_unread(self) -> bool
+        ensures { result ≡ is_unread self.write }
+    {
+        match self.write {
+            Some(ErrorKind::BrokenPipe) => true,
+            _ => false,
         }
     }
 }
