@@ -100,7 +100,7 @@ class Json(Case):
             label, *numbers = plain.err.splitlines()[0].decode().split()
             want = [(key, int(number)) for key, number in (number.split("=") for number in numbers)]
             self.same(f"{name}: the numbers", (label, list(read(told.err.splitlines()[0]).items())), ("summary:", want))
-            self.same(f"{name}: the rest", (told.status, told.err.splitlines()[1:]), (plain.status, plain.err.splitlines()[1:]))
+            self.same(f"{name}: the rest", (told.status, len(told.err.splitlines())), (plain.status, len(plain.err.splitlines())))
 
     def test_numbers_of_64_bits(self):
         """Whole numbers stand as they are."""

@@ -21,6 +21,7 @@ mod writing;
 pub use answers::MOST_PATHS;
 pub use checker::Checker;
 pub use fault::{RunFault, status};
+pub use json_line::put_text;
 pub use line::Line;
 pub use options::{AskedPath, Form, Mode, Options, Places, Prefix};
 pub use output::Output;

@@ -3,12 +3,15 @@ use Rattle.std.proofs.Common.{◌≡◌, ◌∙◌, ℕ, ◌+◌, ◌<◌, ◌�
 use mathlib.Core.Logic.{inl, inr}
 use Rattle.std.specs.{Io.KnownBytes.Appends, Global.Global, Prelude.String}
 use Rattle.std.proofs.{KnownBytes.Appends-trans, KnownBytes.Keeps-refl, Math.Nat.eq-or-lt_of_le, Math.Seq.take-append-add, Math.Seq.take-length}
-use Rattle.std.proofs.Common.{Err, refl, codes}
+use Rattle.std.proofs.Common.{Err, None, refl, codes}
 use Rattle.std.proofs.lemmas.List.{length-append}
 use Rattle.fbcheck_texts.specs.declared.causes.Causes.{Causes}
 use Rattle.fb_bytes.specs.Ends.{one_more}
 use Rattle.fb_lines.specs.Ends.{Writer}
-use Rattle.fbcheck_serve.specs.{Inputs.IsNoted, Serving.Complains, Serving.IsBehindStop, Serving.TellsStop, Serving.is_quiet, Serving.stop_text}
+use Rattle.fb_lines.specs.declared.{options.Form.Form, options.Form.TheVariants.Json}
+use Rattle.fbcheck_texts.proofs.FaultJsonLemmas.{object_in, plain_in}
+use Rattle.fbcheck_texts.specs.FaultJson.{fault_object}
+use Rattle.fbcheck_serve.specs.{Inputs.IsNoted, Serving.Complains, Serving.IsBehindStop, Serving.IsStopLine, Serving.TellsStop, Serving.is_quiet, Serving.stop_status, Serving.stop_text}
 use Rattle.fbcheck_serve.specs.declared.stop.Stop.{Stop}
 use Rattle.fbcheck_serve.specs.declared.stop.Stop.TheVariants as stop
 
@@ -33,21 +36,30 @@ second_noted text behind n m n' k l k' first second whole wrote same le more fai
     ]
 
 -- what isn't the text of `clap` is told by a line of its own
-own_line : (causes : Causes) (fault : Stop) (before after : Writer) → ((text : String Global) → fault ≡ stop.Usage text → ⊥)
-    → (hint : List ℕ) → IsBehindStop fault hint → IsNoted ((codes "fbcheck: " ++ stop_text causes fault) ++ hint) before after → TellsStop false causes fault before after
-own_line causes (stop.Usage text) before after other hint is noted = absurd (other text refl)
-own_line causes fault before after other hint is noted = (hint, is, noted)
+own_line : (form : Form) (causes : Causes) (fault : Stop) (before after : Writer) → ((text : String Global) → fault ≡ stop.Usage text → ⊥)
+    → (hint line : List ℕ) → IsBehindStop fault hint → IsStopLine form causes fault hint line → IsNoted line before after → TellsStop false form causes fault before after
+own_line form causes (stop.Usage text) before after other hint line is told noted = absurd (other text refl)
+own_line form causes fault before after other hint line is told noted = (hint, line, is, told, noted)
+
+-- by an object, or by a plain line
+pub object_told : (form : Form) (causes : Causes) (fault : Stop) (before after : Writer) (text hint line : List ℕ) (status : ℕ) → ((text : String Global) → fault ≡ stop.Usage text → ⊥)
+    → IsBehindStop fault hint → text ≡ stop_text causes fault → status ≡ stop_status fault → (form ≡ Json) × (line ≡ fault_object None text hint status) → IsNoted line before after
+    → TellsStop false form causes fault before after
+object_told form causes fault before after text hint line status other is told ends (json, made) noted =
+    own_line form causes fault before after other hint line is (object_in form _ _ line json (rw (← told, ← ends) made)) noted
+
+pub line_told : (form : Form) (causes : Causes) (fault : Stop) (before after : Writer) (text hint : List ℕ) → ((text : String Global) → fault ≡ stop.Usage text → ⊥)
+    → IsBehindStop fault hint → text ≡ stop_text causes fault → IsNoted ((codes "fbcheck: " ++ text) ++ hint) before after → TellsStop false form causes fault before after
+line_told form causes fault before after text hint other is told noted =
+    own_line form causes fault before after other hint _ is (plain_in form _ _ _ (ap (λ (t : List ℕ). (codes "fbcheck: " ++ t) ++ hint) told)) noted
 
 -- a stop that isn't quiet is told
-pub told_aloud : (causes : Causes) (fault : Stop) (before after : Writer) (quiet : Bool) → quiet ≡ is_quiet causes fault → quiet ≡ false → TellsStop false causes fault before after
-    → Complains causes (Err fault) before after
-told_aloud causes fault before after quiet is loud tells = subst (λ (b : Bool). TellsStop b causes fault before after) (sym loud ∙ is) tells
+pub told_aloud : (form : Form) (causes : Causes) (fault : Stop) (before after : Writer) (quiet : Bool) → quiet ≡ is_quiet causes fault → quiet ≡ false
+    → TellsStop false form causes fault before after → Complains form causes (Err fault) before after
+told_aloud form causes fault before after quiet is loud tells = subst (λ (b : Bool). TellsStop b form causes fault before after) (sym loud ∙ is) tells
 
 -- one that is quiet leaves the notes as they are
-pub kept_quiet : (causes : Causes) (fault : Stop) (before : Writer) (quiet : Bool) → quiet ≡ is_quiet causes fault → quiet ≡ true → Complains causes (Err fault) before before
-kept_quiet causes fault before quiet is silent = subst (λ (b : Bool). TellsStop b causes fault before before) (sym silent ∙ is) (Keeps-refl before.bytes, refl)
-
-pub line_told : (causes : Causes) (fault : Stop) (before after : Writer) (line hint : List ℕ) → ((text : String Global) → fault ≡ stop.Usage text → ⊥)
-    → line ≡ codes "fbcheck: " ++ stop_text causes fault → IsBehindStop fault hint → IsNoted (line ++ hint) before after → TellsStop false causes fault before after
-line_told causes fault before after line hint other is one noted =
-    own_line causes fault before after other hint one (subst (λ (l : List ℕ). IsNoted (l ++ hint) before after) is noted)
+pub kept_quiet : (form : Form) (causes : Causes) (fault : Stop) (before : Writer) (quiet : Bool) → quiet ≡ is_quiet causes fault → quiet ≡ true
+    → Complains form causes (Err fault) before before
+kept_quiet form causes fault before quiet is silent =
+    subst (λ (b : Bool). TellsStop b form causes fault before before) (sym silent ∙ is) (Keeps-refl before.bytes, refl)

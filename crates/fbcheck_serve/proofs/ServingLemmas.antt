@@ -1,7 +1,7 @@
 -- What the program comes to.
 use Rattle.std.proofs.Common.{codes, ◌+◌, ◌≡◌, ◌≢◌, ◌==◌, ◌≤◌, ◌∙◌, arith, ℕ, Bool, true, false, true≢false, List, [], ◌∷◌, Option, Some, None, Result, Ok, Err, ap, length, refl, take, sym, subst}
 use Rattle.fb_rules.specs.Reasons.{reason_count}
-use mathlib.Core.Logic.{inl}
+use mathlib.Core.Logic.{inl, inr}
 use Rattle.std.specs.{Borrow.Bor, Io.KnownBytes.Appends, Result.OnErr, declared.alloc.AllocError.AllocError, declared.io.ErrorKind.ErrorKind}
 use Rattle.std.specs.Prelude.{if◌then◌else◌, IfOk, IfSome, String, Vec, map, option_map, string_bytes, vec_items}
 use Rattle.std.proofs.{KnownBytes.Keeps-refl, Math.Seq.take-length}
@@ -14,8 +14,8 @@ use Rattle.fbcheck_texts.specs.declared.{fault.FileFault.FileFault, fault.WordsF
 use Rattle.fbcheck_serve.specs.Inputs.{Folder, IsPromptAmong, IsPromptOver, Seen, with_cause}
 use Rattle.fb_lines.specs.{Job.Job, Faults.End, Faults.EndsBeside, JsonSums.summary_in}
 use Rattle.fb_lines.specs.Ends.{Ends, Reader, Writer, beside}
-use Rattle.fbcheck_serve.specs.Serving.{ChecksAsAsked, ComesAsAsked, ComesBy, ComesTo, EndsFiles, EndsRun, EndsSo, HoldsAsGiven, IsPromptAsGiven, MayReadAsGiven, PassesAsAsked, Rests, SumsUp, Unserved}
-use Rattle.fbcheck_serve.specs.Serving.{files_ending, hinted_stop, lent_bytes, run_ending, summed, words_of}
+use Rattle.fbcheck_serve.specs.Serving.{ChecksAsAsked, ComesAsAsked, ComesBy, ComesTo, EndsFiles, EndsRun, EndsSo, HoldsAsGiven, IsPromptAsGiven, MayReadAsGiven, PassesAsAsked, Rests, SumsUp, TellsAsGiven, TellsIn, IsFormOf, Unserved}
+use Rattle.fbcheck_serve.specs.Serving.{files_ending, hinted_stop, is_set, lent_bytes, run_ending, summed, words_of}
 use Rattle.fbcheck_serve.proofs.AskedLemmas.{idle}
 use Rattle.fbcheck_serve.specs.declared.inputs.Passed as inputs
 use Rattle.fb_run.specs.declared.input.Input as input
@@ -23,7 +23,7 @@ use Rattle.fb_bytes.specs.declared.ends.Sink as sink
 use Rattle.fb_run.specs.{Leave.ends_of, declared.run.Ran.Ran}
 use Rattle.fbcheck_words.specs.declared.choices.SettingsFault.TheVariants as refusal
 use Rattle.fbcheck_words.specs.declared.{choices.Settings.Settings, choices.SettingsFault.SettingsFault}
-use Rattle.fb_lines.specs.declared.{tally.Tally.Tally}
+use Rattle.fb_lines.specs.declared.{options.Form.Form, options.Form.TheVariants.Plain, tally.Tally.Tally}
 use Rattle.fbcheck_serve.specs.declared.{stop.Ending.Ending, inputs.Course.Course, stop.Ending.TheVariants.Helped}
 use Rattle.fbcheck_serve.specs.declared.{stop.Stop.Stop, stop.Sums.Sums}
 use Rattle.fbcheck_serve.specs.declared.stop.Stop.TheVariants as stop
@@ -194,3 +194,23 @@ module _ (settings : Settings) (before after : Ends) (turns : after.reader.calls
       → Rests before after sums outcome
   files_rests (Ok passed) sums outcome (told, by, is) are same = rw (told, is) (files_rests_so by passed.course passed.end are)
   files_rests (Err unasked) sums outcome (told, is) are same = rw (told, is) (unasked_rests unasked same)
+
+-- faults are told in the form of lines, whether the program ended by settings or not
+pub told_as_lines : (set : Bool) (given : List Text) (form : Form) → IsFormOf given form → TellsIn set given form
+told_as_lines true given form is = is
+told_as_lines false given form is = inl is
+
+-- and plainly where it ended without settings
+pub told_plainly : (fault : SettingsFault) (before after : Writer) (outcome : Result Ending Stop) (given : List Text) (form : Form) → Unserved fault before after outcome → form ≡ Plain
+    → TellsIn (is_set outcome) given form
+told_plainly fault before after (Ok Helped) given form unserved plain = inr plain
+told_plainly fault before after (Err (stop.Usage text)) given form unserved plain = inr plain
+told_plainly fault before after (Err (stop.Settings why)) given form unserved plain = inr plain
+told_plainly fault before after (Err (stop.CutOff written)) given form unserved plain = inr plain
+told_plainly fault before after _ given form never plain = absurd never
+
+pub told_read : {A B : Type 0} (given : Result (Vec (String A) B) WordsFault) (words : Vec (String A) B) (slice : List (String A)) (outcome : Result Ending Stop) (form : Form)
+    → given ≡ Ok words → slice ≡ vec_items words → TellsIn (is_set outcome) (map string_bytes slice) form → TellsAsGiven (words_of given) outcome form
+told_read {A} {B} given words slice outcome form is same tells =
+    subst (λ (g : Result (Vec (String A) B) WordsFault). TellsAsGiven (words_of g) outcome form) (sym is)
+    (subst (λ (l : List (String A)). TellsIn (is_set outcome) (map string_bytes l) form) same tells)

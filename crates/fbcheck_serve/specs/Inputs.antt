@@ -9,11 +9,11 @@ use Rattle.fb_bytes.specs.declared.ends.Sink as sink
 use Rattle.fb_run.specs.declared.input.Input as input
 use Rattle.fb_lines.specs.{Job.Job, Lines.WritesFront, Sums.no_tally}
 use Rattle.fb_run.specs.{Prompt.IsPrompt, Run.IsRunBeside, Run.answer_by}
-use Rattle.fb_lines.specs.declared.{fault.RunFault.RunFault, tally.Tally.Tally}
+use Rattle.fb_lines.specs.declared.{fault.RunFault.RunFault, options.Form.Form, tally.Tally.Tally}
 use Rattle.fb_run.specs.declared.run.Ran.{Ran}
 use Rattle.fb_lines.specs.declared.fault.RunFault.TheVariants.{WriteFault, NoteFault, OutOfMemory}
 use Rattle.std.specs.declared.io.ErrorKind.{ErrorKind}
-use Rattle.fbcheck_texts.specs.{Causes.reason_text, Hints.IsHint, Hints.IsRunHint, Texts.of_read, Texts.run_text}
+use Rattle.fbcheck_texts.specs.{Causes.reason_text, FaultJson.IsLineIn, FaultJson.fault_object, FaultJson.hint_object, Hints.IsHint, Hints.IsRunHint, Texts.of_read, Texts.run_text}
 use Rattle.fbcheck_serve.specs.declared.files.Files as files
 use Rattle.fbcheck_texts.specs.declared.causes.Explains as explains
 use Rattle.fbcheck_texts.specs.declared.fault.FileFault.{FileFault}
@@ -149,6 +149,13 @@ ComesOf folder job name standard before after (Err missed) cause = IsMissed fold
 abbrev pub fault_line : List ℕ → List ℕ → List ℕ → List ℕ
 fault_line name why behind = codes "fbcheck: " ++ flat_map byte_text name ++ codes ": " ++ why ++ behind
 
+-- the line that tells so, and the one that tells a hint, by the form of lines
+abbrev pub IsFaultLine : Form → List ℕ → List ℕ → List ℕ → List ℕ → Type 0
+IsFaultLine form name why behind line = IsLineIn form (fault_object (Some name) why behind 3) (fault_line name why behind) line
+
+abbrev pub IsHintLine : Form → List ℕ → List ℕ → List ℕ → Type 0
+IsHintLine form name hint line = IsLineIn form (hint_object (Some name) hint) (fault_line name hint []) line
+
 -- this line was noted; or in a write that failed a front of it, or nothing for want of memory, and that ends it all
 abbrev pub IsNotedOf : List ℕ → Writer → Writer → End → Type 0
 IsNotedOf line before after (Ok done) = Appends before.bytes after.bytes line × (after.failures ≡ before.failures)
@@ -168,6 +175,10 @@ IsHintOf line before after (Ok done) = IsNoted line before after
 IsHintOf line before after (Err OutOfMemory) = after ≡ before
 IsHintOf line before after (Err _) = ⊥
 
+-- why a file wasn't checked to its end was noted so, with what stands behind that
+abbrev pub TellsFault : Form → List ℕ → List ℕ → List ℕ → Writer → Writer → End → Type 0
+TellsFault form name why behind before after end = (line : List ℕ) × IsFaultLine form name why behind line × IsNotedOf line before after end
+
 -- whether this ends it all: a failed write or note, or want of memory
 abbrev pub is_final : RunFault → Bool
 is_final (WriteFault written) = true
@@ -177,25 +188,26 @@ is_final fault = false
 
 -- behind a fault of a run, of which this is the cause: nothing, where that ends it all; else its text is noted, maybe
 -- with a hint
-abbrev pub IsBehindFault : Bool → List ℕ → RunFault → Option ErrorKind → Writer → Writer → End → Type 0
-IsBehindFault true name fault cause before after end = (end ≡ Err fault) × (after ≡ before)
-IsBehindFault false name fault cause before after end = (hint : List ℕ) × IsRunHint fault hint × IsNotedOf (fault_line name (run_text (of_read cause) fault) hint) before after end
+abbrev pub IsBehindFault : Bool → Form → List ℕ → RunFault → Option ErrorKind → Writer → Writer → End → Type 0
+IsBehindFault true form name fault cause before after end = (end ≡ Err fault) × (after ≡ before)
+IsBehindFault false form name fault cause before after end = (hint : List ℕ) × IsRunHint fault hint × TellsFault form name (run_text (of_read cause) fault) hint before after end
 
 -- behind a run that came to its end: nothing, or a hint
-abbrev pub IsBehindEnd : List ℕ → Writer → Writer → End → Type 0
-IsBehindEnd name before after end = (end ≡ Ok tt) × (after ≡ before) ⊎ ((hint : List ℕ) × IsHint hint × IsHintOf (fault_line name hint []) before after end)
+abbrev pub IsBehindEnd : Form → List ℕ → Writer → Writer → End → Type 0
+IsBehindEnd form name before after end =
+    (end ≡ Ok tt) × (after ≡ before) ⊎ ((hint line : List ℕ) × IsHint hint × IsHintLine form name hint line × IsHintOf line before after end)
 
 -- behind a run
-abbrev pub IsBehindRun : List ℕ → End → Option ErrorKind → Writer → Writer → End → Type 0
-IsBehindRun name (Ok done) cause before after end = IsBehindEnd name before after end
-IsBehindRun name (Err fault) cause before after end = IsBehindFault (is_final fault) name fault cause before after end
+abbrev pub IsBehindRun : Form → List ℕ → End → Option ErrorKind → Writer → Writer → End → Type 0
+IsBehindRun form name (Ok done) cause before after end = IsBehindEnd form name before after end
+IsBehindRun form name (Err fault) cause before after end = IsBehindFault (is_final fault) form name fault cause before after end
 
 -- the same where there may have been no run
-abbrev pub IsBehind : List ℕ → Result Ran Missed → Option ErrorKind → Writer → Writer → End → Type 0
-IsBehind name (Ok ran) cause before after end = IsBehindRun name ran.end cause before after end
-IsBehind name (Err (missed.File file.OutOfMemory)) cause before after end = (end ≡ Err OutOfMemory) × (after ≡ before)
-IsBehind name (Err (missed.File (file.Unreadable why))) cause before after end = IsNotedOf (fault_line name (reason_text why) (codes "\n")) before after end
-IsBehind name (Err missed.Again) cause before after end = IsNotedOf (fault_line name (codes "standard input was read before") (codes "\n")) before after end
+abbrev pub IsBehind : Form → List ℕ → Result Ran Missed → Option ErrorKind → Writer → Writer → End → Type 0
+IsBehind form name (Ok ran) cause before after end = IsBehindRun form name ran.end cause before after end
+IsBehind form name (Err (missed.File file.OutOfMemory)) cause before after end = (end ≡ Err OutOfMemory) × (after ≡ before)
+IsBehind form name (Err (missed.File (file.Unreadable why))) cause before after end = TellsFault form name (reason_text why) (codes "\n") before after end
+IsBehind form name (Err missed.Again) cause before after end = TellsFault form name (codes "standard input was read before") (codes "\n") before after end
 
 -- standard input once this file was gone through
 abbrev pub standard_after : Bool → Standard → Standard
@@ -233,7 +245,7 @@ pub record Passes (folder : Folder) (job : Job) (name : List ℕ) (before after 
   pub cause : Option ErrorKind
   pub between : Seen
   pub comes : ComesOf folder job name before.course.standard before.seen between came cause
-  pub told : IsBehind name came cause between.ends.outs.notes after.seen.ends.outs.notes end
+  pub told : IsBehind job.form name came cause between.ends.outs.notes after.seen.ends.outs.notes end
   pub others : after.seen ≡ renoted between after.seen.ends.outs.notes
   pub course_is : after.course ≡ course_with name came before.course
 

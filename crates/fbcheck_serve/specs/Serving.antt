@@ -6,7 +6,7 @@ use Rattle.std.specs.{Borrow.Bor, Io.KnownBytes.Appends, Io.KnownBytes.Keeps, de
 use Rattle.clap.specs.{Walk.Text, Faults.fault_of}
 use Rattle.fbcheck_serve.specs.Asked.{form_of}
 use Rattle.fbcheck_serve.specs.Checking.{IsIdle, IsPromptOverAsked, LacksJob, MayReadAsked, RunsAsAsked, ServesAsAsked, names_in}
-use Rattle.fbcheck_texts.specs.{Causes.is_unread, Hints.IsHint, Hints.IsRunHint, Faults.HasFileFault, Faults.IsFile, Faults.ask_status}
+use Rattle.fbcheck_texts.specs.{Causes.is_unread, FaultJson.IsLineIn, FaultJson.fault_object, FaultJson.hint_object, Hints.IsHint, Hints.IsRunHint, Faults.HasFileFault, Faults.IsFile, Faults.ask_status}
 use Rattle.fbcheck_texts.specs.Texts.{ask_text, file_text, run_text, unsummed_text, words_text}
 use Rattle.fbcheck_texts.specs.declared.{framing.By.By, framing.Manner.Manner, hint.Unasked.Unasked}
 use Rattle.fbcheck_serve.specs.Inputs.{Folder, IsNoted, Seen, renoted}
@@ -21,7 +21,7 @@ use Rattle.fbcheck_serve.specs.declared.inputs.Passed as inputs
 use Rattle.fbcheck_serve.specs.declared.{inputs.Course.Course, stop.Ending.Ending}
 use Rattle.fbcheck_serve.specs.declared.stop.Ending.TheVariants.{Helped, Checked, Passed}
 use Rattle.fbcheck_serve.specs.declared.{stop.Stop.Stop, stop.Sums.Sums}
-use Rattle.fb_lines.specs.declared.{fault.RunFault.TheVariants.WriteFault, tally.Tally.Tally}
+use Rattle.fb_lines.specs.declared.{fault.RunFault.TheVariants.WriteFault, options.Form.Form, options.Form.TheVariants.Plain, tally.Tally.Tally}
 use Rattle.fbcheck_texts.specs.declared.causes.Causes.{Causes}
 use Rattle.fbcheck_serve.specs.declared.stop.Stop.TheVariants as stop
 use Rattle.fbcheck_texts.specs.declared.fault.WordsFault.{WordsFault}
@@ -193,35 +193,6 @@ IsBehindStop (stop.Ask unasked) text = IsHint text
 IsBehindStop (stop.Run fault tally manner) text = IsRunHint fault text
 IsBehindStop _ text = text ≡ codes "\n"
 
--- behind help nothing is noted; behind another good end nothing, or a hint behind the program's name
-abbrev pub IsBehindEnding : Ending → Writer → Writer → Type 0
-IsBehindEnding Helped before after = Keeps before.bytes after.bytes × (after.failures ≡ before.failures)
-IsBehindEnding ending before after =
-    Keeps before.bytes after.bytes × (after.failures ≡ before.failures) ⊎ ((hint : List ℕ) × IsHint hint × IsNoted (codes "fbcheck: " ++ hint) before after)
-
--- whether a stop is a failed write to the output
-abbrev pub is_unwritten : Stop → Bool
-is_unwritten (stop.CutOff written) = true
-is_unwritten (stop.Run (WriteFault written) tally manner) = true
-is_unwritten (stop.Halted (WriteFault written)) = true
-is_unwritten _ = false
-
--- whether it is one that failed since nobody reads the output any more
-abbrev pub is_quiet : Causes → Stop → Bool
-is_quiet causes fault = is_unwritten fault && is_unread causes.write
-
--- a stop is told by the text of `clap`, or else by a line of its own behind the program's name; one that is quiet isn't
--- told
-abbrev pub TellsStop : Bool → Causes → Stop → Writer → Writer → Type 0
-TellsStop true causes fault before after = Keeps before.bytes after.bytes × (after.failures ≡ before.failures)
-TellsStop false causes (stop.Usage text) before after = IsNoted (string_bytes text) before after
-TellsStop false causes fault before after = (hint : List ℕ) × IsBehindStop fault hint × IsNoted ((codes "fbcheck: " ++ stop_text causes fault) ++ hint) before after
-
--- what is told of the end, where this is why a read of standard input or a write failed, if one did
-abbrev pub Complains : Causes → Result Ending Stop → Writer → Writer → Type 0
-Complains causes (Ok ending) before after = IsBehindEnding ending before after
-Complains causes (Err fault) before after = TellsStop (is_quiet causes fault) causes fault before after
-
 -- the exit status of a stop
 abbrev pub stop_status : Stop → ℕ
 stop_status (stop.Words (words_fault.NotText word) hint) = 2
@@ -236,12 +207,71 @@ stop_status (stop.Ask unasked) = ask_status unasked.fault
 stop_status (stop.Run fault tally manner) = status_of (Err fault)
 stop_status (stop.Halted fault) = status_of (Err fault)
 
+-- the line of a hint behind a good end: it stands behind the program's name, or is an object of JSON
+abbrev pub IsEndLine : Form → List ℕ → List ℕ → Type 0
+IsEndLine form hint line = IsLineIn form (hint_object None hint) (codes "fbcheck: " ++ hint) line
+
+-- behind help nothing is noted; behind another good end nothing, or the line of a hint
+abbrev pub IsBehindEnding : Form → Ending → Writer → Writer → Type 0
+IsBehindEnding form Helped before after = Keeps before.bytes after.bytes × (after.failures ≡ before.failures)
+IsBehindEnding form ending before after =
+    Keeps before.bytes after.bytes × (after.failures ≡ before.failures) ⊎ ((hint line : List ℕ) × IsHint hint × IsEndLine form hint line × IsNoted line before after)
+
+-- whether a stop is a failed write to the output
+abbrev pub is_unwritten : Stop → Bool
+is_unwritten (stop.CutOff written) = true
+is_unwritten (stop.Run (WriteFault written) tally manner) = true
+is_unwritten (stop.Halted (WriteFault written)) = true
+is_unwritten _ = false
+
+-- whether it is one that failed since nobody reads the output any more
+abbrev pub is_quiet : Causes → Stop → Bool
+is_quiet causes fault = is_unwritten fault && is_unread causes.write
+
+-- the line of a stop: its text stands behind the program's name, or in an object of JSON with the exit status
+abbrev pub IsStopLine : Form → Causes → Stop → List ℕ → List ℕ → Type 0
+IsStopLine form causes fault hint line =
+    IsLineIn form (fault_object None (stop_text causes fault) hint (stop_status fault)) ((codes "fbcheck: " ++ stop_text causes fault) ++ hint) line
+
+-- a stop is told by the text of `clap`, or else by a line of its own; one that is quiet isn't told
+abbrev pub TellsStop : Bool → Form → Causes → Stop → Writer → Writer → Type 0
+TellsStop true form causes fault before after = Keeps before.bytes after.bytes × (after.failures ≡ before.failures)
+TellsStop false form causes (stop.Usage text) before after = IsNoted (string_bytes text) before after
+TellsStop false form causes fault before after = (hint line : List ℕ) × IsBehindStop fault hint × IsStopLine form causes fault hint line × IsNoted line before after
+
+-- what is told of the end, where this is why a read of standard input or a write failed, if one did
+abbrev pub Complains : Form → Causes → Result Ending Stop → Writer → Writer → Type 0
+Complains form causes (Ok ending) before after = IsBehindEnding form ending before after
+Complains form causes (Err fault) before after = TellsStop (is_quiet causes fault) form causes fault before after
+
 -- the exit status
 abbrev pub exit_status : Result Ending Stop → ℕ
 exit_status (Ok Helped) = 0
 exit_status (Ok (Checked tally manner)) = status_of (Ok tally)
 exit_status (Ok (Passed course by)) = course.status
 exit_status (Err cause) = stop_status cause
+
+-- the words give settings, and lines have this form by them
+abbrev pub IsFormOf : List Text → Form → Type 0
+IsFormOf given form = (settings : Settings) × AreGiven given settings × (form ≡ form_of settings.form)
+
+-- whether it ended so by settings
+abbrev pub is_set : Result Ending Stop → Bool
+is_set (Ok Helped) = false
+is_set (Err (stop.Words fault hint)) = false
+is_set (Err (stop.Usage text)) = false
+is_set (Err (stop.Settings fault)) = false
+is_set (Err (stop.CutOff written)) = false
+is_set _ = true
+
+-- faults are told in the form of lines, and plainly where it may have ended without settings
+abbrev pub TellsIn : Bool → List Text → Form → Type 0
+TellsIn true given form = IsFormOf given form
+TellsIn false given form = IsFormOf given form ⊎ (form ≡ Plain)
+
+abbrev pub TellsAsGiven : Result (List Text) WordsFault → Result Ending Stop → Form → Type 0
+TellsAsGiven (Ok given) outcome form = TellsIn (is_set outcome) given form
+TellsAsGiven (Err fault) outcome form = form ≡ Plain
 
 -- The program did what its words ask with at most so many reads, told behind its notes the numbers that they ask for and
 -- why it came to rest if it did, and ended with the status of that. Behind what it came to the notes were `between`, and
@@ -252,8 +282,10 @@ pub record IsServed (folder : Folder) (given : Result (List Text) WordsFault) (b
   pub between : Writer
   pub comes : ComesTo folder given before (renoted after between) sums outcome
   pub ends : EndsSo before.ends (with_notes after.ends between) turns outcome
+  pub form : Form
+  pub form_is : TellsAsGiven given outcome form
   pub ending : Result Ending Stop
   pub behind : Writer
   pub summed : SumsUp sums between behind outcome ending
-  pub told : Complains (record { read = after.cause; write = unwritten }) ending behind after.ends.outs.notes
+  pub told : Complains form (record { read = after.cause; write = unwritten }) ending behind after.ends.outs.notes
   pub status_is : status ≡ exit_status ending

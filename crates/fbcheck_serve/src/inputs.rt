@@ -6,7 +6,7 @@ ghost use Rattle.fb_lines.specs.Ends.{outs_of, writer_of};
 ghost use Rattle.fb_run.specs.Leave.{HasLeave, ends_of};
 ghost use Rattle.fb_lines.specs.{Sums.no_tally, Job.Serves, Job.job_of};
 ghost use Rattle.fb_run.specs.Prompt.{IsPrompt};
-ghost use Rattle.fbcheck_serve.specs.Inputs.{ComesOf, IsBehind, IsBehindEnd, IsBehindRun, IsNotedOf, IsPromptAmong, MayRead, MayReadEach, ServesEach, Tries, at_first, course_with, fault_line, folder_of, is_final, is_standard, label_of, seen_of, stand, standard_after, sum_of, sums, are_named};
+ghost use Rattle.fbcheck_serve.specs.Inputs.{ComesOf, IsBehind, IsBehindEnd, IsBehindRun, IsFaultLine, IsHintLine, IsPromptAmong, MayRead, MayReadEach, ServesEach, TellsFault, Tries, at_first, course_with, fault_line, folder_of, is_final, is_standard, label_of, seen_of, stand, standard_after, sum_of, sums, are_named};
 ghost use Rattle.fbcheck_serve.specs.declared.inputs.Standard.TheVariants.{Unread, Spent};
 ghost use Rattle.fbcheck_texts.specs.Hints.{IsHint};
 
@@ -14,12 +14,13 @@ use crate::files::Files;
 use crate::stop::note;
 use fb_bytes::Sink;
 use fb_run::{
-    Input, MOST_TURNS, Options, Ran, RunFault, Tally, push_all, put_bytes, run_beside, status,
+    Form, Input, MOST_TURNS, Options, Ran, RunFault, Tally, push_all, put_bytes, run_beside, status,
 };
 use fb_schema::Schema;
 use fb_verify::REASONS;
 use fbcheck_texts::causes::{Causes, Explains, reason};
 use fbcheck_texts::fault::FileFault;
+use fbcheck_texts::fault_json::{fault_object, hint_object};
 use fbcheck_texts::framing::{By, Framing, end_hint, run_hint};
 use fbcheck_texts::texts::run_text;
 use std::alloc::{AllocError, Global};
@@ -27,6 +28,9 @@ use std::io::ErrorKind;
 
 /// The name of standard input.
 pub const STANDARD: &str = "-";
+
+/// The exit status where a file isn't checked to its end.
+const UNCHECKED: u8 = 3;
 
 /// Whether standard input was among the files.
 #[derive(Clone, Copy)]
@@ -187,7 +191,7 @@ fn pass_file<F: Files<K, N>, S: Input<K, N> + Explains, K: Sink, N: Sink>(
     );
     *course = course.with(name, &came.what);
     let framing = Framing::of(options.bare, options.prefix);
-    tell_behind(alloc, name, framing, &came, notes)
+    tell_behind(alloc, options.form, name, framing, &came, notes)
 }
 
 /// Runs over one file, where it can be read.
@@ -282,7 +286,7 @@ impl Course {
             },
             Err(_) => Course {
                 tally: self.tally,
-                status: self.status.max(3),
+                status: self.status.max(UNCHECKED),
                 standard,
             },
         }
@@ -336,22 +340,23 @@ fn sums(some: &[u64; REASONS], more: &[u64; REASONS]) -> [u64; REASONS]
 /// Notes why a file wasn't checked to its end, where it wasn't; what ends it all is answered.
 fn tell_behind<N: Sink>(
     alloc: Global,
+    form: Form,
     name: &str,
     framing: Framing,
     came: &Came,
     notes: &mut N,
 ) -> Result<(), RunFault>
-    ensures { IsBehind name.now came.now.what came.now.cause (writer_of N.Sink notes.old) (writer_of N.Sink notes.new) result }
+    ensures { IsBehind form name.now came.now.what came.now.cause (writer_of N.Sink notes.old) (writer_of N.Sink notes.new) result }
 {
     match &came.what {
-        Ok(ran) => tell_run(alloc, name, framing, ran, came.cause, notes),
+        Ok(ran) => tell_run(alloc, form, name, framing, ran, came.cause, notes),
         Err(Missed::File(FileFault::OutOfMemory)) => Err(RunFault::OutOfMemory),
         Err(Missed::File(FileFault::Unreadable(cause))) => {
-            tell_fault(alloc, name, reason(*cause).as_bytes(), b"\n", notes)
+            tell_fault(alloc, form, name, reason(*cause).as_bytes(), b"\n", notes)
         }
         Err(Missed::Again) => {
             let why = b"standard input was read before";
-            tell_fault(alloc, name, why, b"\n", notes)
+            tell_fault(alloc, form, name, why, b"\n", notes)
         }
     }
 }
@@ -359,39 +364,42 @@ fn tell_behind<N: Sink>(
 /// The same behind a run; or what there is to be told of its end.
 fn tell_run<N: Sink>(
     alloc: Global,
+    form: Form,
     name: &str,
     framing: Framing,
     ran: &Ran,
     cause: Option<ErrorKind>,
     notes: &mut N,
 ) -> Result<(), RunFault>
-    ensures { IsBehindRun name.now ran.now.end cause (writer_of N.Sink notes.old) (writer_of N.Sink notes.new) result }
+    ensures { IsBehindRun form name.now ran.now.end cause (writer_of N.Sink notes.old) (writer_of N.Sink notes.new) result }
 {
     let Err(fault) = &ran.end else {
-        return tell_end(alloc, name, end_hint(By::Named, framing, &ran.tally), notes);
+        let hint = end_hint(By::Named, framing, &ran.tally);
+        return tell_end(alloc, form, name, hint, notes);
     };
     if is_final(fault) {
         return Err(*fault);
     }
     let behind = run_hint(framing, fault, &ran.tally);
     let why = run_text(fault, Causes::of_read(cause));
-    tell_fault(alloc, name, why.bytes(), behind, notes)
+    tell_fault(alloc, form, name, why.bytes(), behind, notes)
 }
 
 /// Notes what is told of an end, where there is something. What can't be written is left.
 fn tell_end<N: Sink>(
     alloc: Global,
+    form: Form,
     name: &str,
     hint: Option<&[u8]>,
     notes: &mut N,
 ) -> Result<(), RunFault>
     requires line { IfSome hint (λ h. IsHint h.now) }
-    ensures { IsBehindEnd name.now (writer_of N.Sink notes.old) (writer_of N.Sink notes.new) result }
+    ensures { IsBehindEnd form name.now (writer_of N.Sink notes.old) (writer_of N.Sink notes.new) result }
 {
     let Some(hint) = hint else {
         return Ok(());
     };
-    let line = fault_line(alloc, name, hint, b"")?;
+    let line = hint_line(alloc, form, name, hint)?;
     note(notes, line.as_slice());
     Ok(())
 }
@@ -409,14 +417,15 @@ fn is_final(fault: &RunFault) -> bool
 /// Notes why a file wasn't checked to its end, with what stands behind that.
 fn tell_fault<N: Sink>(
     alloc: Global,
+    form: Form,
     name: &str,
     why: &[u8],
     behind: &[u8],
     notes: &mut N,
 ) -> Result<(), RunFault>
-    ensures { IsNotedOf (fault_line name.now why.now behind.now) (writer_of N.Sink notes.old) (writer_of N.Sink notes.new) result }
+    ensures { TellsFault form name.now why.now behind.now (writer_of N.Sink notes.old) (writer_of N.Sink notes.new) result }
 {
-    let line = fault_line(alloc, name, why, behind)?;
+    let line = told_line(alloc, form, name, why, behind)?;
     let written = push_all(notes, line.as_slice());
     if written < line.len() {
         return Err(RunFault::NoteFault {
@@ -426,7 +435,33 @@ fn tell_fault<N: Sink>(
     Ok(())
 }
 
-/// The line that tells it.
+/// The line that tells it, by the form of lines. Where there is no memory for an object, it is the plain one.
+fn told_line(
+    alloc: Global,
+    form: Form,
+    name: &str,
+    why: &[u8],
+    behind: &[u8],
+) -> Result<Vec<u8>, AllocError>
+    ensures { IfOk result (λ line. IsFaultLine form name.now why.now behind.now line.items) }
+{
+    match fault_object(alloc, form, Some(name.as_bytes()), why, behind, UNCHECKED) {
+        Some(line) => Ok(line),
+        None => fault_line(alloc, name, why, behind),
+    }
+}
+
+/// The same of a hint.
+fn hint_line(alloc: Global, form: Form, name: &str, hint: &[u8]) -> Result<Vec<u8>, AllocError>
+    ensures { IfOk result (λ line. IsHintLine form name.now hint.now line.items) }
+{
+    match hint_object(alloc, form, Some(name.as_bytes()), hint) {
+        Some(line) => Ok(line),
+        None => fault_line(alloc, name, hint, b""),
+    }
+}
+
+/// The plain line.
 fn fault_line(alloc: Global, name: &str, why: &[u8], behind: &[u8]) -> Result<Vec<u8>, AllocError>
     ensures { IfOk result (λ line. line.items ≡ fault_line name.now why.now behind.now) }
 {

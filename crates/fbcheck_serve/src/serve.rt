@@ -5,7 +5,7 @@ ghost use Rattle.fb_lines.specs.Ends.{Reader, Writer, beside, writer_of};
 ghost use Rattle.fb_run.specs.Leave.{HasLeave, ends_of};
 ghost use Rattle.fbcheck_serve.specs.Inputs.{folder_of, seen_of};
 ghost use Rattle.fbcheck_serve.specs.Checking.{IsPromptOverAsked, MayReadAsked};
-ghost use Rattle.fbcheck_serve.specs.Serving.{ComesAsAsked, ComesTo, EndsFiles, EndsRun, EndsSo, IsPromptAsGiven, IsServed, MayReadAsGiven, Rests, Unserved, summed, words_of};
+ghost use Rattle.fbcheck_serve.specs.Serving.{ComesAsAsked, ComesTo, EndsFiles, EndsRun, EndsSo, IsPromptAsGiven, IsServed, MayReadAsGiven, Rests, TellsAsGiven, Unserved, summed, words_of};
 ghost use Rattle.fbcheck_words.specs.Ranges.{AreInRange};
 
 use crate::asked::{by, form, manner};
@@ -15,7 +15,7 @@ use crate::inputs::Passed;
 use crate::stop::{Ending, Stop, Sums, exit_status, sum_up, tell};
 use clap::Error;
 use fb_bytes::Sink;
-use fb_run::{Input, MOST_TURNS, Ran, Tally, push_all};
+use fb_run::{Form, Input, MOST_TURNS, Ran, Tally, push_all};
 use fbcheck_texts::causes::{Causes, Explains};
 use fbcheck_texts::fault::WordsFault;
 use fbcheck_texts::hint::{Unasked, file_hint, words_hint};
@@ -43,17 +43,20 @@ pub fn serve<F: Files<K, N>, S: Input<K, N> + Explains, K: Sink + Explains, N: S
     ensures turns { S.calls reader.new ≤ S.calls reader.old + MOST_TURNS }
 {
     let mut sums = None;
-    let outcome = come_to(alloc, words, files, reader, writer, notes, &mut sums);
+    let mut form = Form::Plain;
+    let outcome = come_to(
+        alloc, words, files, reader, writer, notes, &mut sums, &mut form,
+    );
     let ending = sum_up(outcome, &sums, notes);
     let causes = Causes {
         read: reader.cause(),
         write: writer.cause(),
     };
-    tell(&ending, causes, notes);
+    tell(alloc, form, &ending, causes, notes);
     exit_status(&ending)
 }
 
-/// What the program comes to, and the numbers of the run, where these are to be told.
+/// What the program comes to, the numbers of the run, where these are to be told, and the form in which faults are.
 fn come_to<F: Files<K, N>, S: Input<K, N> + Explains, K: Sink, N: Sink>(
     alloc: Global,
     words: Result<Vec<String>, WordsFault>,
@@ -62,16 +65,19 @@ fn come_to<F: Files<K, N>, S: Input<K, N> + Explains, K: Sink, N: Sink>(
     writer: &mut K,
     notes: &mut N,
     sums: &mut Option<Sums>,
+    told: &mut Form,
 ) -> Result<Ending, Stop>
     requires few { S.calls reader.old < 2 ^ 64 }
     requires leave { HasLeave S.Input (ends_of S.Input K.Sink N.Sink reader.old writer.old notes.old) (IsPromptAsGiven (folder_of F.Files F.Opened.Input F.Opened.Explains files.now) (words_of words)) }
     requires files { MayReadAsGiven (folder_of F.Files F.Opened.Input F.Opened.Explains files.now) (words_of words) (ends_of S.Input K.Sink N.Sink reader.old writer.old notes.old) }
 
-    ensures { ComesTo (folder_of F.Files F.Opened.Input F.Opened.Explains files.now) (words_of words) (seen_of S.Input S.Explains K.Sink N.Sink reader.old writer.old notes.old)
+    ensures form { TellsAsGiven (words_of words) result told.new }
+    ensures comes { ComesTo (folder_of F.Files F.Opened.Input F.Opened.Explains files.now) (words_of words) (seen_of S.Input S.Explains K.Sink N.Sink reader.old writer.old notes.old)
         (seen_of S.Input S.Explains K.Sink N.Sink reader.new writer.new notes.new) sums.new result
         × Rests (ends_of S.Input K.Sink N.Sink reader.old writer.old notes.old) (ends_of S.Input K.Sink N.Sink reader.new writer.new notes.new) sums.new result }
 {
     *sums = None;
+    *told = Form::Plain;
     let words = match words {
         Ok(words) => words,
         Err(fault) => {
@@ -83,6 +89,7 @@ fn come_to<F: Files<K, N>, S: Input<K, N> + Explains, K: Sink, N: Sink>(
         Ok(settings) => settings,
         Err(fault) => return without_settings(alloc, fault, writer),
     };
+    *told = form(&settings);
     match read_schema(files, &settings.schema) {
         Ok(file) => {
             let file = file.as_deref();

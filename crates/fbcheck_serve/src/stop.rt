@@ -1,6 +1,6 @@
 //! How the program comes to its end: well, or for a cause.
 
-ghost use Rattle.std.specs.Prelude.{Err, IfSome, None, ◌≡◌, ◌++◌, ◌+◌, ◌<◌, ◌≤◌, ◌^◌, length};
+ghost use Rattle.std.specs.Prelude.{Err, IfSome, None, ◌≡◌, ◌++◌, ◌+◌, ◌<◌, ◌≤◌, ◌^◌, codes, length};
 ghost use Rattle.fb_rules.specs.Reasons.{reason_count};
 ghost use Rattle.fb_lines.specs.Ends.{writer_of};
 ghost use Rattle.fbcheck_serve.specs.Inputs.{IsNoted};
@@ -16,13 +16,14 @@ use fb_run::summary::summary;
 use fb_run::{Form, Line, RunFault, Tally, push_all, status};
 use fbcheck_texts::causes::Causes;
 use fbcheck_texts::fault::{FileFault, WordsFault};
+use fbcheck_texts::fault_json::{fault_object, hint_object};
 use fbcheck_texts::framing::{By, Manner, by_hint, end_hint, run_hint};
 use fbcheck_texts::hint::{Hint, Unasked};
 use fbcheck_texts::texts::{
     ask_text, failed_write, file_text, run_text, unsummed_text, words_text,
 };
 use fbcheck_words::SettingsFault;
-use std::alloc::AllocError;
+use std::alloc::{AllocError, Global};
 
 /// How a line begins that tells why the program comes to rest.
 const NAME: &str = "fbcheck: ";
@@ -83,12 +84,16 @@ impl Ending {
         }
     }
 
-    /// Notes that, where there is something. What can't be written is left.
-    fn tell<N: Sink>(&self, notes: &mut N)
-        ensures { IsBehindEnding self.now (writer_of N.Sink notes.old) (writer_of N.Sink notes.new) }
+    /// Notes that in this form, where there is something. What can't be written is left.
+    fn tell<N: Sink>(&self, alloc: Global, form: Form, notes: &mut N)
+        ensures { IsBehindEnding form self.now (writer_of N.Sink notes.old) (writer_of N.Sink notes.new) }
     {
-        if let Some(hint) = self.hint() {
-            note_both(notes, NAME.as_bytes(), hint);
+        let Some(hint) = self.hint() else {
+            return;
+        };
+        match hint_object(alloc, form, None, hint) {
+            Some(line) => note(notes, line.as_slice()),
+            None => note_both(notes, NAME.as_bytes(), hint),
         }
     }
 }
@@ -188,11 +193,10 @@ impl Stop {
         self.is_unwritten() && causes.is_unread()
     }
 
-    /// Writes the text of `clap`, or else a line that begins with the program's name, where this is why a read of
-    /// standard input or a write failed, if one did; nothing where nobody reads the output any more. What can't be
-    /// written is left.
-    fn tell<N: Sink>(&self, causes: Causes, notes: &mut N)
-        ensures { Complains causes (Err self.now) (writer_of N.Sink notes.old) (writer_of N.Sink notes.new) }
+    /// Writes the text of `clap`, or else a line in this form, where this is why a read of standard input or a write
+    /// failed, if one did; nothing where nobody reads the output any more. What can't be written is left.
+    fn tell<N: Sink>(&self, alloc: Global, form: Form, causes: Causes, notes: &mut N)
+        ensures { Complains form causes (Err self.now) (writer_of N.Sink notes.old) (writer_of N.Sink notes.new) }
     {
         if self.is_quiet(causes) {
             return;
@@ -201,9 +205,12 @@ impl Stop {
             note(notes, text.as_bytes());
             return;
         }
-        let mut line = self.text(causes);
-        line.put_text(NAME);
-        note_both(notes, line.bytes(), self.behind());
+        let text = self.text(causes);
+        let behind = self.behind();
+        match fault_object(alloc, form, None, text.bytes(), behind, self.status()) {
+            Some(line) => note(notes, line.as_slice()),
+            None => note_plain(notes, text, behind),
+        }
     }
 }
 
@@ -221,6 +228,16 @@ fn note_both<N: Sink>(notes: &mut N, text: &[u8], behind: &[u8])
     if push_all(notes, text) == text.len() {
         push_all(notes, behind);
     }
+}
+
+/// Notes a fault's text behind the program's name, and a hint behind that.
+fn note_plain<N: Sink>(notes: &mut N, text: Line, behind: &[u8])
+    requires short { length text ≤ 200 }
+    ensures { IsNoted ((codes "fbcheck: " ++ text) ++ behind.now) (writer_of N.Sink notes.old) (writer_of N.Sink notes.new) }
+{
+    let mut line = text;
+    line.put_text(NAME);
+    note_both(notes, line.bytes(), behind);
 }
 
 /// Notes a summary of these numbers, where there are some, and answers how the program ends with that.
@@ -247,14 +264,20 @@ pub fn sum_up<N: Sink>(
     }
 }
 
-/// Tells on standard error why the program came to rest, if it did, or what there is to be told of its end. This is why
-/// a read of standard input or a write failed, if one did.
-pub fn tell<N: Sink>(outcome: &Result<Ending, Stop>, causes: Causes, notes: &mut N)
-    ensures { Complains causes outcome.now (writer_of N.Sink notes.old) (writer_of N.Sink notes.new) }
+/// Tells on standard error, in this form, why the program came to rest, if it did, or what there is to be told of its
+/// end. This is why a read of standard input or a write failed, if one did.
+pub fn tell<N: Sink>(
+    alloc: Global,
+    form: Form,
+    outcome: &Result<Ending, Stop>,
+    causes: Causes,
+    notes: &mut N,
+)
+    ensures { Complains form causes outcome.now (writer_of N.Sink notes.old) (writer_of N.Sink notes.new) }
 {
     match outcome {
-        Ok(ending) => ending.tell(notes),
-        Err(stop) => stop.tell(causes, notes),
+        Ok(ending) => ending.tell(alloc, form, notes),
+        Err(stop) => stop.tell(alloc, form, causes, notes),
     }
 }
 

@@ -1,3 +1,4 @@
+pub mod FaultJsonLemmas
 mod HintLemmas
 mod TextLemmas
 pub mod ShownTexts

@@ -2,5 +2,6 @@
 pub mod Faults
 pub mod Causes
 pub mod Hints
+pub mod FaultJson
 pub mod Texts
 pub mod TextTests

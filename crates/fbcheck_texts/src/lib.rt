@@ -4,6 +4,7 @@
 mod alike;
 pub mod causes;
 pub mod fault;
+pub mod fault_json;
 pub mod framing;
 pub mod hint;
 pub mod texts;
