@@ -125,10 +125,10 @@ holds_number words m read k least most name default at own =
     let held = holds_value words m read k (parser.Signed (pos least) (pos most)) name default at own in
     (held.1, held.2, held.3)
 
--- the same of any number
-pub holds_wide_number : (words : List Text) (m : ArgMatches) → IsReadOf words m → (k : ℕ) (name default : Text)
-    → ((d : Rule) → slice_index_or program.top.rules k d ≡ wide_number_rule name default) → is_own name k ≡ true
-    → HoldsWideNumber (one_text (found_of m) name)
-holds_wide_number words m read k name default at own =
-    let held = holds_value words m read k (parser.Unsigned 0 18446744073709551615) name default at own in
+-- the same of any number from the least on
+pub holds_wide_number : (words : List Text) (m : ArgMatches) → IsReadOf words m → (k least : ℕ) (name default : Text)
+    → ((d : Rule) → slice_index_or program.top.rules k d ≡ wide_number_rule name least default) → is_own name k ≡ true
+    → HoldsWideNumber (one_text (found_of m) name) least
+holds_wide_number words m read k least name default at own =
+    let held = holds_value words m read k (parser.Unsigned least 18446744073709551615) name default at own in
     (held.1, held.2, held.3)

@@ -1,5 +1,6 @@
 -- What a parse of the program's words gives.
-use Rattle.std.proofs.Common.{◌≡◌, ◌↔◌, arith, map, string_bytes, length, ℕ, Bool, true, false, not, IsTrue, List, [], ◌∷◌, codes, Option, Some, None, refl, sym, ap, subst, ◌∙◌}
+use Rattle.std.proofs.Common.{zero, suc, ◌<◌, ◌≡◌, ◌↔◌, ◌++◌, arith, map, string_bytes, length, ℕ, Bool, true, false, not, IsTrue, List, [], ◌∷◌, codes, Option, Some, None, refl, sym, ap, subst, ◌∙◌}
+use Rattle.std.specs.List.{slice_index_or}
 use Rattle.std.specs.Prelude.{IsSomeAnd, if◌then◌else◌, unwrap_or}
 use Rattle.clap.specs.Walk.{Text, all_of, first_of, one_of}
 use Rattle.clap.specs.{Built.IsParsedFrom, Matches.first_value, Matches.found_of, Matches.one_text, Kinds.HasKind}
@@ -7,12 +8,11 @@ use Rattle.clap.specs.Faults.{fault_of, is_simple_and_free}
 use Rattle.clap.specs.Simple.{App, HasMatchesOf, app_of, is_simple, matches_of}
 use Rattle.clap.specs.declared.{builder.command.Command.Command, error.Error.Error, parser.matches.ArgMatches.ArgMatches}
 use Rattle.clap.proofs.{OnLiterals.clap_on_literals, WalkLemmas.first_value-rows, WalkLemmas.one_text-rows, WalkLemmas.raw_values-rows}
-use Rattle.fbcheck_words.specs.{CommandLine.program, Given.Say, Given.contradiction, Given.steps_of, Matched.IsReadOf, Matched.all_values, Refusal.Refuses}
+use Rattle.fbcheck_words.specs.{CommandLine.program, Given.Say, Given.contradiction, Given.first_broken, Given.rules_of, Given.rules_of_csv, Given.steps_of, Matched.IsReadOf, Matched.all_values, Refusal.Refuses}
 use Rattle.std.proofs.lemmas.Bool.{ltb-false}
 use Rattle.fbcheck_words.specs.Ranges.{AreInRange}
 use Rattle.fbcheck_words.specs.Values.{IsGiven, IsNumberIn, IsNumberOf, text_of, texts_of}
-use Rattle.fbcheck_words.specs.declared.{choices.Settings.Settings, choices.SettingsFault.SettingsFault}
-use Rattle.fbcheck_words.specs.declared.choices.SettingsFault.TheVariants.{PathInFilter, TwoIdents, TooManyPaths, BareDelimited, PlainUnstrict, PathTwice, TooManySteps, SchemaAsInput}
+use Rattle.fbcheck_words.specs.declared.{choices.Settings.Settings, choices.SettingsFault.SettingsFault, choices.SettingsFault.TheVariants.OutOfMemory}
 
 simple : (is_simple program ≡ true) × (is_simple_and_free program ≡ true)
 unfolding clap_on_literals
@@ -63,51 +63,47 @@ pub reads_by_words : (words : List Text) (m : ArgMatches) (reads : Option ℕ) �
 reads_by_words words m (Some n) read told = number_by_words words m (codes "max-reads") 0 18446744073709551615 n read told
 reads_by_words words m None read told = absurd told
 
--- the rule that settings break, by whether they break each
-abbrev broken : Bool → Bool → Bool → Bool → Bool → Bool → Bool → Bool → Option SettingsFault
-broken a b c d e f g h =
-    if a then Some PathInFilter else if b then Some TwoIdents else if c then Some TooManyPaths else if d then Some BareDelimited else if e then Some PlainUnstrict
-    else if f then Some PathTwice else if g then Some TooManySteps else if h then Some SchemaAsInput else None
+-- this holds of the fault of each rule
+abbrev Each : (SettingsFault → Type 0) → List (Bool × SettingsFault) → Type 0
+Each P [] = Unit {0}
+Each P (rule ∷ rules) = P rule.1 × Each P rules
 
--- what holds of each of these eight holds of the one that is broken
-any_broken : (P : SettingsFault → Type 0) (a b c d e f g h : Bool) (fault : SettingsFault) → broken a b c d e f g h ≡ Some fault
-    → P PathInFilter → P TwoIdents → P TooManyPaths → P BareDelimited → P PlainUnstrict → P PathTwice → P TooManySteps → P SchemaAsInput → P fault
-any_broken P true b c d e f g h fault is first second third fourth fifth sixth seventh eighth = let same : PathInFilter ≡ fault = cc in subst P same first
-any_broken P false true c d e f g h fault is first second third fourth fifth sixth seventh eighth = let same : TwoIdents ≡ fault = cc in subst P same second
-any_broken P false false true d e f g h fault is first second third fourth fifth sixth seventh eighth = let same : TooManyPaths ≡ fault = cc in subst P same third
-any_broken P false false false true e f g h fault is first second third fourth fifth sixth seventh eighth = let same : BareDelimited ≡ fault = cc in subst P same fourth
-any_broken P false false false false true f g h fault is first second third fourth fifth sixth seventh eighth = let same : PlainUnstrict ≡ fault = cc in subst P same fifth
-any_broken P false false false false false true g h fault is first second third fourth fifth sixth seventh eighth = let same : PathTwice ≡ fault = cc in subst P same sixth
-any_broken P false false false false false false true h fault is first second third fourth fifth sixth seventh eighth = let same : TooManySteps ≡ fault = cc in subst P same seventh
-any_broken P false false false false false false false true fault is first second third fourth fifth sixth seventh eighth = let same : SchemaAsInput ≡ fault = cc in subst P same eighth
-any_broken P false false false false false false false false fault is first second third fourth fifth sixth seventh eighth = cc
+each_if : (P : SettingsFault → Type 0) (b : Bool) (rules : List (Bool × SettingsFault)) → Each P rules → Each P (if b then rules else [])
+each_if P true rules each = each
+each_if P false rules each = tt
+
+-- what holds of each holds of that of the one that is broken
+one_of_all : (P : SettingsFault → Type 0) (rules : List (Bool × SettingsFault)) (fault : SettingsFault) → first_broken rules ≡ Some fault → Each P rules → P fault
+one_of_all P [] fault is all = cc
+one_of_all P ((true, told) ∷ rules) fault is all = let same : told ≡ fault = cc in subst P same all.0
+one_of_all P ((false, told) ∷ rules) fault is all = one_of_all P rules fault is all.1
 
 -- what is refused of settings that words say
 pub contradicted : (words : List Text) (settings : Settings) (fault : SettingsFault) → Say words settings → contradiction settings ≡ Some fault → Refuses words fault
 contradicted words settings fault said is =
-    any_broken (λ f. contradiction settings ≡ Some f → Refuses words f) _ _ _ _ _ _ _ _ fault is
-    (λ e. (settings, said, e)) (λ e. (settings, said, e)) (λ e. (settings, said, e)) (λ e. (settings, said, e)) (λ e. (settings, said, e)) (λ e. (settings, said, e))
-    (λ e. (settings, said, e)) (λ e. (settings, said, e)) is
+    let P = λ (f : SettingsFault). contradiction settings ≡ Some f → Refuses words f in
+    let csv : Each P (rules_of_csv settings) = ((λ e. (settings, said, e)), ((λ e. (settings, said, e)), ((λ e. (settings, said, e)), ((λ e. (settings, said, e)), tt)))) in
+    one_of_all P (rules_of settings ++ (if settings.csv then rules_of_csv settings else [])) fault is
+    ((λ e. (settings, said, e)), ((λ e. (settings, said, e)), ((λ e. (settings, said, e)), ((λ e. (settings, said, e)), ((λ e. (settings, said, e)), ((λ e. (settings, said, e)), ((λ e. (settings, said, e)), ((λ e. (settings, said, e)), ((λ e. (settings, said, e)), each_if P settings.csv (rules_of_csv settings) csv))))))))) is
 
--- those that agree have no more paths than may be, and no more steps
-few_paths : (a b c d e f g h : Bool) → broken a b c d e f g h ≡ None → (c ≡ false) × (g ≡ false)
-few_paths true b c d e f g h none = cc
-few_paths false true c d e f g h none = cc
-few_paths false false true d e f g h none = cc
-few_paths false false false true e f g h none = cc
-few_paths false false false false true f g h none = cc
-few_paths false false false false false true g h none = cc
-few_paths false false false false false false true h none = cc
-few_paths false false false false false false false true none = cc
-few_paths false false false false false false false false none = (refl, refl)
+-- where none is broken, that at place k isn't
+unbroken : (rules : List (Bool × SettingsFault)) (k : ℕ) (d : Bool × SettingsFault) → first_broken rules ≡ None → k < length rules → (slice_index_or rules k d).0 ≡ false
+unbroken [] k d none at = absurd (omega arith)
+unbroken ((true, fault) ∷ rules) k d none at = cc
+unbroken ((false, fault) ∷ rules) zero d none at = refl
+unbroken ((false, fault) ∷ rules) (suc k) d none at = unbroken rules k d none (omega arith)
 
 pub in_range : (words : List Text) (settings : Settings) → Say words settings → contradiction settings ≡ None → AreInRange settings
-in_range words settings said agree = record {
-  least = said.bytes.1;
-  most = omega (arith, said.bytes.2);
-  few = ltb-false 16 (length settings.paths.items) (few_paths _ _ _ _ _ _ _ _ agree).0;
-  few_steps = ltb-false 1024 (steps_of (map string_bytes settings.paths.items)) (few_paths _ _ _ _ _ _ _ _ agree).1;
-}
+in_range words settings said agree =
+    let rules = rules_of settings ++ (if settings.csv then rules_of_csv settings else []) in
+    record {
+      least = said.bytes.1;
+      most = omega (arith, said.bytes.2);
+      some_messages = said.most_messages.1;
+      some_bad = said.most_bad.1;
+      few = ltb-false 16 (length settings.paths.items) (unbroken rules 2 (false, OutOfMemory) agree (omega arith));
+      few_steps = ltb-false 1024 (steps_of (map string_bytes settings.paths.items)) (unbroken rules 6 (false, OutOfMemory) agree (omega arith));
+    }
 
 -- a flag that is turned round
 pub turned : (b : Bool) (P : Type 0) → IsTrue b ↔ P → (not b ≡ false) ↔ P

@@ -1,11 +1,11 @@
 -- What words ask for.
-use Rattle.std.specs.Prelude.{◌+◌, ◌==◌, count_by, sum_by, ◌≡◌, ◌↔◌, ◌&&◌, ◌||◌, ℕ, Bool, false, IsTrue, IfSome, IsSomeAnd, List, [], ◌∷◌, Option, Some, None, codes, if◌then◌else◌, is_some, length, map, nat_eq, nat_lt, not, option_map, string_bytes}
+use Rattle.std.specs.Prelude.{◌+◌, ◌++◌, true, ◌==◌, count_by, sum_by, ◌≡◌, ◌↔◌, ◌&&◌, ◌||◌, ℕ, Bool, false, IsTrue, IfSome, IsSomeAnd, List, [], ◌∷◌, Option, Some, None, codes, if◌then◌else◌, is_some, length, map, nat_eq, nat_lt, not, option_map, string_bytes}
 use Rattle.std.specs.{List.ends_with, List.list_any, Str.bytes_eq}
 use Rattle.clap.specs.{Walk.Text, Faults.fault_of}
 use Rattle.fbcheck_words.specs.CommandLine.{program}
 use Rattle.fbcheck_words.specs.Values.{IsGiven, IsNumberOf, text_of, texts_of}
-use Rattle.fbcheck_words.specs.declared.{choices.Form.TheVariants.Json, choices.Settings.Settings, choices.SettingsFault.SettingsFault}
-use Rattle.fbcheck_words.specs.declared.choices.SettingsFault.TheVariants.{PathInFilter, TwoIdents, TooManyPaths, BareDelimited, PlainUnstrict, PathTwice, TooManySteps, SchemaAsInput}
+use Rattle.fbcheck_words.specs.declared.{choices.Form.Form, choices.Form.TheVariants.Json, choices.Form.TheVariants.Plain, choices.Settings.Settings, choices.SettingsFault.SettingsFault}
+use Rattle.fbcheck_words.specs.declared.choices.SettingsFault.TheVariants.{PathInFilter, TwoIdents, TooManyPaths, BareDelimited, PlainUnstrict, PathTwice, TooManySteps, SchemaAsInput, CsvAsJson, CsvInFilter, CsvInQuiet, CsvPathless, NamedTwice}
 
 -- the words say these settings
 pub record Say (given : List Text) (settings : Settings) : Type 0 where
@@ -21,6 +21,9 @@ pub record Say (given : List Text) (settings : Settings) : Type 0 where
   pub reads : IsSomeAnd settings.limits.reads (IsNumberOf (codes "max-reads") 0 18446744073709551615 given)
   pub by_length : IsNumberOf (codes "reads-per-byte") 0 4294967295 given settings.reads_per_byte
   pub bytes : IsNumberOf (codes "max-bytes") 8 2147483647 given settings.max_bytes
+  pub skip : IsNumberOf (codes "skip") 0 18446744073709551615 given settings.skip
+  pub most_messages : IsNumberOf (codes "limit") 1 18446744073709551615 given settings.most_messages
+  pub most_bad : IsNumberOf (codes "max-bad") 1 18446744073709551615 given settings.most_bad
   pub bare : IsTrue settings.bare ↔ IsGiven (codes "bare") given
   pub delimited : IsTrue settings.delimited ↔ IsGiven (codes "delimited") given
   pub alignment : (settings.checks.alignment ≡ false) ↔ IsGiven (codes "no-alignment") given
@@ -34,7 +37,9 @@ pub record Say (given : List Text) (settings : Settings) : Type 0 where
   pub summary : IsTrue settings.summary ↔ IsGiven (codes "summary") given
   pub names : IsTrue settings.names ↔ IsGiven (codes "names") given
   pub json : (settings.form ≡ Json) ↔ IsGiven (codes "json") given
+  pub csv : IsTrue settings.csv ↔ IsGiven (codes "csv") given
   pub with_filename : IsTrue settings.with_filename ↔ IsGiven (codes "with-filename") given
+  pub names_file : option_map string_bytes settings.names_file ≡ text_of (codes "files0-from") given
   pub files : map string_bytes settings.files.items ≡ texts_of (codes "files") given
 
 -- whether a text stands among these; and whether one of them stands there twice
@@ -60,18 +65,45 @@ steps_in path = 1 + count_by is_sign path
 abbrev pub steps_of : List (List ℕ) → ℕ
 steps_of paths = sum_by steps_in paths
 
--- what is refused of settings that don't agree with one another, the first of these
+-- whether lines are objects of JSON
+abbrev pub is_json : Form → Bool
+is_json Json = true
+is_json Plain = false
+
+-- rules that settings may break, each with its fault; and the first that is broken
+abbrev pub first_broken : List (Bool × SettingsFault) → Option SettingsFault
+first_broken [] = None
+first_broken (rule ∷ rules) = if rule.0 then Some rule.1 else first_broken rules
+
+-- what is refused beside CSV, in this order
+abbrev pub rules_of_csv : Settings → List (Bool × SettingsFault)
+rules_of_csv settings =
+    (is_json settings.form, CsvAsJson)
+    ∷ (settings.filter, CsvInFilter)
+    ∷ (settings.quiet, CsvInQuiet)
+    ∷ (not (nat_lt 0 (length settings.paths.items)), CsvPathless)
+    ∷ []
+
+abbrev pub contradiction_of_csv : Settings → Option SettingsFault
+contradiction_of_csv settings = first_broken (rules_of_csv settings)
+
+-- what is refused of any settings that don't agree with one another, in this order
+abbrev pub rules_of : Settings → List (Bool × SettingsFault)
+rules_of settings =
+    (settings.filter && nat_lt 0 (length settings.paths.items), PathInFilter)
+    ∷ (settings.schema_ident && is_some settings.ident, TwoIdents)
+    ∷ (nat_lt 16 (length settings.paths.items), TooManyPaths)
+    ∷ (settings.bare && settings.delimited, BareDelimited)
+    ∷ (settings.plain_bytes && not settings.strict, PlainUnstrict)
+    ∷ (has_twice (map string_bytes settings.paths.items), PathTwice)
+    ∷ (nat_lt 1024 (steps_of (map string_bytes settings.paths.items)), TooManySteps)
+    ∷ (not (is_some settings.schema) && (not settings.bare && list_any is_bfbs (map string_bytes settings.files.items)), SchemaAsInput)
+    ∷ (is_some settings.names_file && nat_lt 0 (length settings.files.items), NamedTwice)
+    ∷ []
+
+-- the first of these, those of CSV behind the others
 abbrev pub contradiction : Settings → Option SettingsFault
-contradiction settings =
-    if settings.filter && nat_lt 0 (length settings.paths.items) then Some PathInFilter
-    else if settings.schema_ident && is_some settings.ident then Some TwoIdents
-    else if nat_lt 16 (length settings.paths.items) then Some TooManyPaths
-    else if settings.bare && settings.delimited then Some BareDelimited
-    else if settings.plain_bytes && not settings.strict then Some PlainUnstrict
-    else if has_twice (map string_bytes settings.paths.items) then Some PathTwice
-    else if nat_lt 1024 (steps_of (map string_bytes settings.paths.items)) then Some TooManySteps
-    else if not (is_some settings.schema) && (not settings.bare && list_any is_bfbs (map string_bytes settings.files.items)) then Some SchemaAsInput
-    else None
+contradiction settings = first_broken (rules_of settings ++ (if settings.csv then rules_of_csv settings else []))
 
 -- the words give these settings, which agree
 pub record AreGiven (given : List Text) (settings : Settings) : Type 0 where

@@ -34,6 +34,6 @@ IsGiven name words = text_of name words ≡ Some (codes "true")
 abbrev pub HoldsNumber : Option Text → ℕ → ℕ → Type 0
 HoldsNumber found least most = (t : Text) × (found ≡ Some (without_minus t)) × IsSignedIn (pos least) (pos most) t
 
--- the matches hold a text that passed the parser of any number of `u64`
-abbrev pub HoldsWideNumber : Option Text → Type 0
-HoldsWideNumber found = (t : Text) × (found ≡ Some t) × IsUnsignedIn 0 18446744073709551615 t
+-- the matches hold a text that passed the parser of any number of `u64` from the least on
+abbrev pub HoldsWideNumber : Option Text → ℕ → Type 0
+HoldsWideNumber found least = (t : Text) × (found ≡ Some t) × IsUnsignedIn least 18446744073709551615 t

@@ -46,6 +46,12 @@ pub struct Settings {
     /// How many bytes a message may have, prefix included, 8 to 2,147,483,647 (`--max-bytes`,
     /// 67,108,864).
     pub max_bytes: u32,
+    /// How many bytes are left out at the beginning of each input (`--skip`, 0).
+    pub skip: u64,
+    /// How many messages of each input are checked at most, at least 1 (`--limit`, 2^64 - 1).
+    pub most_messages: u64,
+    /// After how many bad messages an input ends, at least 1 (`--max-bad`, 2^64 - 1).
+    pub most_bad: u64,
     /// Whether an input is one bare buffer, and no stream (`--bare`).
     pub bare: bool,
     /// Whether the prefix with a message's length is no part of the buffer (`--delimited`); `bare` is false then.
@@ -72,8 +78,13 @@ pub struct Settings {
     pub names: bool,
     /// How lines are written (`--json`).
     pub form: Form,
+    /// Whether good buffers have rows of values (`--csv`); there are paths then, lines are plain, and good buffers are
+    /// neither passed on nor left out.
+    pub csv: bool,
     /// Whether each line begins with the name of its file, also where that is the only one (`-H`, `--with-filename`).
     pub with_filename: bool,
+    /// The file with the names of the files to be read (`--files0-from`); `files` is empty then.
+    pub names_file: Option<String>,
     /// The files to be read, one behind another, of which `-` is standard input (`FILE`); none stands for that alone.
     pub files: Vec<String>,
 }
@@ -103,6 +114,16 @@ pub enum SettingsFault {
     TooManySteps,
     /// The words are read, and name no schema file, and for a stream of messages a file `.bfbs`.
     SchemaAsInput,
+    /// The words are read, and ask for CSV and for JSON.
+    CsvAsJson,
+    /// The words are read, and ask for CSV and for a filter.
+    CsvInFilter,
+    /// The words are read, and ask for CSV without good buffers.
+    CsvInQuiet,
+    /// The words are read, and ask for CSV without a path.
+    CsvPathless,
+    /// The words are read, and name files beside a file of names.
+    NamedTwice,
     /// No memory was to be had.
     OutOfMemory,
 }
@@ -124,7 +145,12 @@ impl SettingsFault {
             | SettingsFault::PlainUnstrict
             | SettingsFault::PathTwice
             | SettingsFault::TooManySteps
-            | SettingsFault::SchemaAsInput => 2,
+            | SettingsFault::SchemaAsInput
+            | SettingsFault::CsvAsJson
+            | SettingsFault::CsvInFilter
+            | SettingsFault::CsvInQuiet
+            | SettingsFault::CsvPathless
+            | SettingsFault::NamedTwice => 2,
             SettingsFault::OutOfMemory => 3,
         }
     }
@@ -146,6 +172,11 @@ impl SettingsFault {
             SettingsFault::TooManySteps => "more than 1024 steps in all paths",
             SettingsFault::SchemaAsInput =>
                 "a .bfbs file is given as input: put --schema before it, or --bare to check the file itself",
+            SettingsFault::CsvAsJson => "csv and json exclude each other",
+            SettingsFault::CsvInFilter => "csv and filter exclude each other",
+            SettingsFault::CsvInQuiet => "csv and quiet exclude each other",
+            SettingsFault::CsvPathless => "csv needs a path",
+            SettingsFault::NamedTwice => "files0-from takes no files beside it",
             SettingsFault::OutOfMemory => "out of memory",
         }
     }

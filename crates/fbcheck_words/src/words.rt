@@ -1,6 +1,6 @@
 ghost use Rattle.std.specs.Prelude.{nat_lt, IfOk, IfErr, IfSome, IsSomeAnd, OnErr, ℕ, ◌≢◌, length, option_map, IsTrue, ◌≡◌, ◌↔◌, List, map, string_bytes, Some, codes};
 ghost use Rattle.clap.specs.Words.{Text, first_value, found_of, one_text};
-ghost use Rattle.fbcheck_words.specs.{Ranges.AreInRange, Given.AreGiven, Given.Say, Given.contradiction, Given.has_twice, Given.is_among, Given.is_bfbs, Given.is_sign, Given.steps_in, Given.steps_of};
+ghost use Rattle.fbcheck_words.specs.{Ranges.AreInRange, Given.AreGiven, Given.Say, Given.contradiction, Given.contradiction_of_csv, Given.has_twice, Given.is_among, Given.is_bfbs, Given.is_sign, Given.steps_in, Given.steps_of};
 ghost use Rattle.fbcheck_words.specs.{Values.HoldsNumber, Values.HoldsWideNumber, Values.IsNumberIn, Refusal.Refuses};
 ghost use Rattle.std.specs.List.{list_any};
 ghost use Rattle.fbcheck_words.specs.Matched.{IsReadOf, all_values};
@@ -21,8 +21,10 @@ use std::alloc::{AllocError, Global};
 /// bytes long. Then, where they say what doesn't agree, `PathInFilter` for a filter with a path, then `TwoIdents` for
 /// an identifier beside the schema's own, then `TooManyPaths` for more than 16, then `BareDelimited` for a bare buffer
 /// behind its length, then `PlainUnstrict` for plain bytes without strict checks, then `PathTwice` for the same path
-/// twice, then `TooManySteps` for more than 1,024 steps of all paths, and then `SchemaAsInput` for a stream in a file
-/// `.bfbs` without a schema file. `OutOfMemory` for want of memory.
+/// twice, then `TooManySteps` for more than 1,024 steps of all paths, then `SchemaAsInput` for a stream in a file `.bfbs`
+/// without a schema file, then `NamedTwice` for files beside a file of names, and then of CSV `CsvAsJson`, `CsvInFilter`
+/// and `CsvInQuiet` where it is asked for with one of these, and `CsvPathless` without a path. `OutOfMemory` for want of
+/// memory.
 pub fn settings(alloc: Global, words: &[String]) -> Result<Settings, SettingsFault>
     ensures given { IfOk result (AreGiven (map string_bytes words.now)) }
     ensures ranges { IfOk result AreInRange }
@@ -48,6 +50,7 @@ fn said(alloc: Global, matches: &ArgMatches<'_>) -> Result<Settings, SettingsFau
     let schema = copied(alloc, matches, "schema")?;
     let root = copied(alloc, matches, "root")?;
     let paths = all_copied(alloc, matches, "path")?;
+    let names_file = copied(alloc, matches, "files0-from")?;
     let files = all_copied(alloc, matches, "files")?;
     Ok(Settings {
         schema,
@@ -58,6 +61,9 @@ fn said(alloc: Global, matches: &ArgMatches<'_>) -> Result<Settings, SettingsFau
         limits: limits(matches),
         reads_per_byte: number(matches, "reads-per-byte", 0, u32::MAX),
         max_bytes: number(matches, "max-bytes", 8, 2_147_483_647),
+        skip: wide_number(matches, "skip", 0),
+        most_messages: wide_number(matches, "limit", 1),
+        most_bad: wide_number(matches, "max-bad", 1),
         bare: flag(matches, "bare"),
         delimited: flag(matches, "delimited"),
         checks: Checks {
@@ -73,7 +79,9 @@ fn said(alloc: Global, matches: &ArgMatches<'_>) -> Result<Settings, SettingsFau
         summary: flag(matches, "summary"),
         names: flag(matches, "names"),
         form: form(matches),
+        csv: flag(matches, "csv"),
         with_filename: flag(matches, "with-filename"),
+        names_file,
         files,
     })
 }
@@ -98,6 +106,27 @@ fn contradiction(settings: &Settings) -> Option<SettingsFault>
         Some(SettingsFault::TooManySteps)
     } else if settings.schema.is_none() && !settings.bare && has_bfbs(settings.files.as_slice()) {
         Some(SettingsFault::SchemaAsInput)
+    } else if settings.names_file.is_some() && !settings.files.is_empty() {
+        Some(SettingsFault::NamedTwice)
+    } else if settings.csv {
+        contradiction_of_csv(settings)
+    } else {
+        None
+    }
+}
+
+/// What is refused beside CSV.
+fn contradiction_of_csv(settings: &Settings) -> Option<SettingsFault>
+    ensures { result ≡ contradiction_of_csv settings.now }
+{
+    if let Form::Json = settings.form {
+        Some(SettingsFault::CsvAsJson)
+    } else if settings.filter {
+        Some(SettingsFault::CsvInFilter)
+    } else if settings.quiet {
+        Some(SettingsFault::CsvInQuiet)
+    } else if settings.paths.is_empty() {
+        Some(SettingsFault::CsvPathless)
     } else {
         None
     }
@@ -256,7 +285,7 @@ fn copies(alloc: Global, texts: &[&str]) -> Result<Vec<String>, AllocError>
 fn limits(matches: &ArgMatches<'_>) -> Limits
     requires depth { HoldsNumber (one_text (found_of matches.now) (codes "max-depth")) 0 4096 }
     requires tables { HoldsNumber (one_text (found_of matches.now) (codes "max-tables")) 0 4294967295 }
-    requires reads { HoldsWideNumber (one_text (found_of matches.now) (codes "max-reads")) }
+    requires reads { HoldsWideNumber (one_text (found_of matches.now) (codes "max-reads")) 0 }
     ensures depth { IsNumberIn (one_text (found_of matches.now) (codes "max-depth")) 0 4096 result.depth }
     ensures tables { IsNumberIn (one_text (found_of matches.now) (codes "max-tables")) 0 4294967295 result.tables }
     ensures reads { IsSomeAnd result.reads (IsNumberIn (one_text (found_of matches.now) (codes "max-reads")) 0 18446744073709551615) }
@@ -266,7 +295,7 @@ fn limits(matches: &ArgMatches<'_>) -> Limits
     let Ok(limits) = Limits::new(depth, tables) else {
         unreachable!()
     };
-    limits.with_reads(wide_number(matches, "max-reads"))
+    limits.with_reads(wide_number(matches, "max-reads", 0))
 }
 
 /// The number that the matches hold for an option.
@@ -280,10 +309,10 @@ fn number(matches: &ArgMatches<'_>, id: &str, least: u32, most: u32) -> u32
     }
 }
 
-/// The same of an option that may be any number of `u64`.
-fn wide_number(matches: &ArgMatches<'_>, id: &str) -> u64
-    requires { HoldsWideNumber (one_text (found_of matches.now) id.now) }
-    ensures { IsNumberIn (one_text (found_of matches.now) id.now) 0 18446744073709551615 result }
+/// The same of an option that may be any number of `u64` from the least on.
+fn wide_number(matches: &ArgMatches<'_>, id: &str, least: u64) -> u64
+    requires { HoldsWideNumber (one_text (found_of matches.now) id.now) least }
+    ensures { IsNumberIn (one_text (found_of matches.now) id.now) least 18446744073709551615 result }
 {
     match matches.get_one::<u64>(id) {
         Some(number) => number,

@@ -15,13 +15,22 @@ pub limits-requires-clause-tables : goal.limits-requires-clause-tables
 limits-requires-clause-tables c = holds_number _ _ c.requires.1 6 0 4294967295 (codes "max-tables") (codes "1000000") (λ d. refl) refl
 
 pub limits-requires-clause-reads : goal.limits-requires-clause-reads
-limits-requires-clause-reads c = holds_wide_number _ _ c.requires.1 7 (codes "max-reads") (codes "100000000") (λ d. refl) refl
+limits-requires-clause-reads c = holds_wide_number _ _ c.requires.1 7 0 (codes "max-reads") (codes "100000000") (λ d. refl) refl
 
 pub number-requires : goal.number-requires
 number-requires c = holds_number _ _ c.requires.1 8 0 4294967295 (codes "reads-per-byte") (codes "64") (λ d. refl) refl
 
 pub number-requires-2 : goal.number-requires-2
 number-requires-2 c = holds_number _ _ c.requires.1 9 8 2147483647 (codes "max-bytes") (codes "67108864") (λ d. refl) refl
+
+pub wide_number-requires : goal.wide_number-requires
+wide_number-requires c = holds_wide_number _ _ c.requires.1 10 0 (codes "skip") (codes "0") (λ d. refl) refl
+
+pub wide_number-requires-2 : goal.wide_number-requires-2
+wide_number-requires-2 c = holds_wide_number _ _ c.requires.1 11 1 (codes "limit") (codes "18446744073709551615") (λ d. refl) refl
+
+pub wide_number-requires-3 : goal.wide_number-requires-3
+wide_number-requires-3 c = holds_wide_number _ _ c.requires.1 12 1 (codes "max-bad") (codes "18446744073709551615") (λ d. refl) refl
 
 pub returns-clause-says : goal.returns-clause-says
 returns-clause-says c words read = record {
@@ -37,6 +46,9 @@ returns-clause-says c words read = record {
   reads = reads_by_words _ _ _ read c.limits.ensures.reads;
   by_length = number_by_words _ _ (codes "reads-per-byte") 0 4294967295 _ read c.number.ensures;
   bytes = number_by_words _ _ (codes "max-bytes") 8 2147483647 _ read c.number-2.ensures;
+  skip = number_by_words _ _ (codes "skip") 0 18446744073709551615 _ read c.wide_number.ensures;
+  most_messages = number_by_words _ _ (codes "limit") 1 18446744073709551615 _ read c.wide_number-2.ensures;
+  most_bad = number_by_words _ _ (codes "max-bad") 1 18446744073709551615 _ read c.wide_number-3.ensures;
   bare = given_by_words _ _ (codes "bare") _ read c.flag-2.ensures;
   delimited = given_by_words _ _ (codes "delimited") _ read c.flag-3.ensures;
   alignment = turned _ _ (given_by_words _ _ (codes "no-alignment") _ read c.flag-4.ensures);
@@ -50,6 +62,8 @@ returns-clause-says c words read = record {
   summary = given_by_words _ _ (codes "summary") _ read c.flag-12.ensures;
   names = given_by_words _ _ (codes "names") _ read c.flag-13.ensures;
   json = given_by_words _ _ (codes "json") _ read c.form.ensures;
-  with_filename = given_by_words _ _ (codes "with-filename") _ read c.flag-14.ensures;
+  csv = given_by_words _ _ (codes "csv") _ read c.flag-14.ensures;
+  with_filename = given_by_words _ _ (codes "with-filename") _ read c.flag-15.ensures;
+  names_file = c.in_ok-names_file.ensures ∙ text_of_words _ _ (codes "files0-from") read;
   files = c.in_ok-files.ensures ∙ texts_of_words _ _ (codes "files") read;
 }
