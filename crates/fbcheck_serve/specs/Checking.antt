@@ -11,6 +11,7 @@ use Rattle.fb_bfbs.specs.declared.{marks.Builtins.Builtins, marks.Marks.Marks}
 use Rattle.fb_strict.specs.Planned.{IsPlan, Planned}
 use Rattle.fbcheck_serve.specs.{ByteFields.AreTold, ByteFields.LacksTable, ByteFields.Misses, FileMarks.IsMarkedFile, FileMarks.schema_limits}
 use Rattle.fbcheck_serve.specs.Asked.{AsksBy, IsPathFault, Own, demanded_by}
+use Rattle.fbcheck_serve.specs.{Lists.AreNamed, Names.Named}
 use Rattle.fbcheck_serve.specs.Inputs.{Folder, IsPromptAmong, IsPromptOver, MayReadEach, Seen, ServesEach, at_first, stand}
 use Rattle.fb_lines.specs.{Ends.Ends, Ends.Unwritten, Job.Job}
 use Rattle.fb_run.specs.{Prompt.IsPrompt, Run.IsRunBeside}
@@ -126,19 +127,15 @@ IsChecked file settings before after (Ok tally) = RunsAsAsked file settings befo
 IsChecked file settings before after (Err (check.Run fault)) = (tally : Tally) × RunsAsAsked file settings before after tally (Err fault)
 IsChecked file settings before after (Err (check.Ask fault)) = LacksJob file settings fault × IsIdle before after
 
--- the names of the files that the settings ask for
-abbrev pub names_in : Settings → List (List ℕ)
-names_in settings = map string_bytes settings.files.items
-
 -- what came of these files, gone through as was asked for, and what was read, written and noted
-abbrev pub ServesAsAsked : Folder → Option (Bor (List ℕ)) → Settings → Seen → Seen → Course → End → Type 0
-ServesAsAsked folder file settings before after course end =
-    (job : Job) × Asks file settings (Ok job) × ServesEach folder job (names_in settings) (at_first before) (stand after course) end
+abbrev pub ServesAsAsked : Folder → Option (Bor (List ℕ)) → Settings → List Named → Seen → Seen → Course → End → Type 0
+ServesAsAsked folder file settings names before after course end =
+    (job : Job) × Asks file settings (Ok job) × ServesEach folder job names (at_first before) (stand after course) end
 
 -- the same where it may be that none was begun
-abbrev pub IsServedEach : Folder → Option (Bor (List ℕ)) → Settings → Seen → Seen → Result Passed Unasked → Type 0
-IsServedEach folder file settings before after (Ok passed) = ServesAsAsked folder file settings before after passed.course passed.end
-IsServedEach folder file settings before after (Err unasked) = LacksJob file settings unasked.fault × IsIdle before.ends after.ends
+abbrev pub IsServedEach : Folder → Option (Bor (List ℕ)) → Settings → List Named → Seen → Seen → Result Passed Unasked → Type 0
+IsServedEach folder file settings names before after (Ok passed) = ServesAsAsked folder file settings names before after passed.course passed.end
+IsServedEach folder file settings names before after (Err unasked) = LacksJob file settings unasked.fault × IsIdle before.ends after.ends
 
 -- there was nothing to check by
 abbrev pub IsUnasked : CheckFault → Type 0
@@ -155,14 +152,18 @@ EndsChecked before after turns (Err (check.Ask fault)) = IsUnfailed (failures_of
 abbrev pub IsPromptAsAsked : Option (Bor (List ℕ)) → Settings → Ends → Ends → Type 0
 IsPromptAsAsked file settings before now = (job : Job) × Asks file settings (Ok job) × IsPrompt job before now
 
--- the same where files are gone through
-abbrev pub IsPromptAmongAsked : Folder → Option (Bor (List ℕ)) → Settings → Ends → Ends → Type 0
-IsPromptAmongAsked folder file settings before now = (job : Job) × Asks file settings (Ok job) × IsPromptAmong folder job (names_in settings) before now
+-- the same where these files are gone through
+abbrev pub IsPromptAmongAsked : Folder → Option (Bor (List ℕ)) → Settings → List Named → Ends → Ends → Type 0
+IsPromptAmongAsked folder file settings names before now = (job : Job) × Asks file settings (Ok job) × IsPromptAmong folder job names before now
 
--- and whether or not they are
+-- and whether or not some are
 abbrev pub IsPromptOverAsked : Folder → Option (Bor (List ℕ)) → Settings → Ends → Ends → Type 0
-IsPromptOverAsked folder file settings before now = (job : Job) × Asks file settings (Ok job) × IsPromptOver folder job (names_in settings) before now
+IsPromptOverAsked folder file settings before now =
+    (names : Option (List Named)) × (job : Job) × AreNamed folder.gives settings names × Asks file settings (Ok job) × IsPromptOver folder job names before now
 
--- the files that are named may be read so
+-- these files may be read so, and those that are asked for
+abbrev pub MayReadNamed : Folder → Option (Bor (List ℕ)) → Settings → List Named → Ends → Type 0
+MayReadNamed folder file settings names before = (job : Job) → Asks file settings (Ok job) → MayReadEach folder job names before
+
 abbrev pub MayReadAsked : Folder → Option (Bor (List ℕ)) → Settings → Ends → Type 0
-MayReadAsked folder file settings before = (job : Job) → Asks file settings (Ok job) → MayReadEach folder job (names_in settings) before
+MayReadAsked folder file settings before = (names : List Named) → AreNamed folder.gives settings (Some names) → MayReadNamed folder file settings names before

@@ -11,6 +11,7 @@ pub mod check_laws;
 mod files;
 mod inputs;
 mod limits;
+mod names;
 pub mod serve;
 mod stop;
 mod strict;

@@ -10,8 +10,9 @@ ghost use Rattle.fbcheck_words.specs.Ranges.{AreInRange};
 
 use crate::asked::{by, form, manner};
 use crate::check::{check_beside, check_files};
-use crate::files::{Files, read_schema};
+use crate::files::{Files, read_list, read_schema};
 use crate::inputs::Passed;
+use crate::names::{Name, listed_names, word_names};
 use crate::stop::{Ending, Stop, Sums, exit_status, sum_up, tell};
 use clap::Error;
 use fb_bytes::Sink;
@@ -122,12 +123,44 @@ fn check_by<F: Files<K, N>, S: Input<K, N> + Explains, K: Sink, N: Sink>(
         (seen_of S.Input S.Explains K.Sink N.Sink reader.new writer.new notes.new) sums.new result
         × Rests (ends_of S.Input K.Sink N.Sink reader.old writer.old notes.old) (ends_of S.Input K.Sink N.Sink reader.new writer.new notes.new) sums.new result }
 {
-    if settings.files.as_slice().is_empty() {
+    if settings.names_file.is_none() && settings.files.as_slice().is_empty() {
         let ran = check_beside(alloc, file, settings, reader, writer, notes);
         return run_ending(settings, ran, sums);
     }
-    let passed = check_files(alloc, files, file, settings, reader, writer, notes);
+    let names = names_of(alloc, files, settings)?;
+    let passed = check_files(
+        alloc,
+        files,
+        file,
+        settings,
+        names.as_slice(),
+        reader,
+        writer,
+        notes,
+    );
     files_ending(settings, passed, sums)
+}
+
+/// The names of the files that the settings ask for: those in the list that they name, or else their own.
+fn names_of<F: Files<K, N>, K: Sink, N: Sink>(
+    alloc: Global,
+    files: &F,
+    settings: &Settings,
+) -> Result<Vec<Name>, Stop>
+    requires some { IsAlone settings.now → ⊥ }
+    ensures names { IfOk result (λ names. AreNamed (F.gives files.now) settings.now (Some names.items)) }
+    ensures none { IfErr result (IsNameless (F.gives files.now) settings.now) }
+{
+    let Some(list) = &settings.names_file else {
+        return Ok(word_names(alloc, settings.files.as_slice())?);
+    };
+    match read_list(files, list.as_str()) {
+        Ok(bytes) => Ok(listed_names(alloc, bytes.as_slice())?),
+        Err(fault) => {
+            let hint = file_hint(alloc, fault, &settings.names_file);
+            Err(Stop::list(fault, hint))
+        }
+    }
 }
 
 /// How the program ends by what a run over an input came to, and the numbers that are told then.
