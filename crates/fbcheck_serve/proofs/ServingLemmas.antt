@@ -68,7 +68,7 @@ module _ (folder : Folder) where
     comes_ended manner tally (Ok done) is checks = rw is checks
     comes_ended manner tally (Err fault) is checks = rw is checks
 
-    pub comes_run : (ran : Result Ran Unasked) → names_in settings ≡ [] → IsCheckedBeside file settings before.ends after.ends ran → EndsRun settings ran sums outcome
+    pub comes_run : (ran : Result Ran Unasked) → IsAlone settings → IsCheckedBeside file settings before.ends after.ends ran → EndsRun settings ran sums outcome
         → ComesAsAsked folder file settings before after sums outcome
     comes_run (Ok ran) none checked (told, manner, is) = comes_ended manner ran.tally ran.end is (none, checked, told)
     comes_run (Err unasked) none checked (told, is) = rw is (checked.0, checked.1, told)
@@ -78,23 +78,19 @@ module _ (folder : Folder) where
     comes_passed by course (Ok done) is passes = rw is passes
     comes_passed by course (Err fault) is passes = rw is (course, passes)
 
-    pub comes_files : (passed : Result inputs.Passed Unasked) → names_in settings ≢ [] → IsServedEach folder file settings before after passed → EndsFiles settings passed sums outcome
-        → ComesAsAsked folder file settings before after sums outcome
-    comes_files (Ok passed) some served (told, by, is) = comes_passed by passed.course passed.end is (some, served, told)
-    comes_files (Err unasked) some served (told, is) = rw is (served.0, served.1, told)
+    pub comes_files : (names : List Named) (passed : Result inputs.Passed Unasked) → AreNamed folder.gives settings (Some names) → IsServedEach folder file settings names before after passed
+        → EndsFiles settings passed sums outcome → ComesAsAsked folder file settings before after sums outcome
+    comes_files names (Ok passed) are served (told, by, is) = comes_passed by passed.course passed.end is (names, are, served, told)
+    comes_files names (Err unasked) are served (told, is) = rw is (served.0, served.1, told)
 
   -- all that was read is told, where no file is named, and among files
-  pub prompt_alone : (file : Option (Bor (List ℕ))) (settings : Settings) (before now : Ends) → names_in settings ≡ [] → IsPromptAsAsked file settings before now
+  pub prompt_alone : (file : Option (Bor (List ℕ))) (settings : Settings) (before now : Ends) → IsAlone settings → IsPromptAsAsked file settings before now
       → IsPromptOverAsked folder file settings before now
-  prompt_alone file settings before now none (job, asks, prompt) = (job, asks, subst (λ (names : List Text). IsPromptOver folder job names before now) (sym none) prompt)
+  prompt_alone file settings before now (unlisted, none) (job, asks, prompt) = (None, job, rw (unlisted, none) refl, asks, prompt)
 
-  over_some : (job : Job) (names : List Text) (before now : Ends) → names ≢ [] → IsPromptAmong folder job names before now → IsPromptOver folder job names before now
-  over_some job [] before now some among = absurd (some refl)
-  over_some job (name ∷ names) before now some among = among
-
-  pub prompt_among : (file : Option (Bor (List ℕ))) (settings : Settings) (before now : Ends) → names_in settings ≢ [] → IsPromptAmongAsked folder file settings before now
-      → IsPromptOverAsked folder file settings before now
-  prompt_among file settings before now some (job, asks, among) = (job, asks, over_some job (names_in settings) before now some among)
+  pub prompt_among : (file : Option (Bor (List ℕ))) (settings : Settings) (names : List Named) (before now : Ends) → AreNamed folder.gives settings (Some names)
+      → IsPromptAmongAsked folder file settings names before now → IsPromptOverAsked folder file settings before now
+  prompt_among file settings names before now are (job, asks, among) = (Some names, job, are, asks, among)
 
   -- the words could be read
   pub comes_read : {A B : Type 0} (given : Result (Vec (String A) B) WordsFault) (words : Vec (String A) B) (slice : List (String A)) (before after : Seen) (sums : Option Sums) (outcome : Result Ending Stop)

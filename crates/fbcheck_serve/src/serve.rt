@@ -123,7 +123,7 @@ fn check_by<F: Files<K, N>, S: Input<K, N> + Explains, K: Sink, N: Sink>(
         (seen_of S.Input S.Explains K.Sink N.Sink reader.new writer.new notes.new) sums.new result
         × Rests (ends_of S.Input K.Sink N.Sink reader.old writer.old notes.old) (ends_of S.Input K.Sink N.Sink reader.new writer.new notes.new) sums.new result }
 {
-    if settings.names_file.is_none() && settings.files.as_slice().is_empty() {
+    if is_alone(settings) {
         let ran = check_beside(alloc, file, settings, reader, writer, notes);
         return run_ending(settings, ran, sums);
     }
@@ -139,6 +139,17 @@ fn check_by<F: Files<K, N>, S: Input<K, N> + Explains, K: Sink, N: Sink>(
         notes,
     );
     files_ending(settings, passed, sums)
+}
+
+/// Whether the settings name no files, and no list of names: so standard input is all.
+fn is_alone(settings: &Settings) -> bool
+    ensures alone { result ≡ true → IsAlone settings.now }
+    ensures others { result ≡ false → IsAlone settings.now → ⊥ }
+{
+    match &settings.names_file {
+        Some(_) => false,
+        None => settings.files.as_slice().is_empty(),
+    }
 }
 
 /// The names of the files that the settings ask for: those in the list that they name, or else their own.
