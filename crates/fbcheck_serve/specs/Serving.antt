@@ -63,6 +63,12 @@ abbrev pub PassesAsAsked : Folder → Option (Bor (List ℕ)) → Settings → S
 PassesAsAsked folder file settings before after sums course end =
     (names : List Named) × AreNamed folder.gives settings (Some names) × ServesAsAsked folder file settings names before after course end × (sums ≡ summed settings course.tally)
 
+-- the list of names can't be read, or there was no memory for names
+abbrev pub IsNameless : (List ℕ → Result (List ℕ) FileFault → Type 0) → Settings → Stop → Type 0
+IsNameless gives settings (stop.List fault hint) = LacksList gives settings fault
+IsNameless gives settings (stop.Settings refusal.OutOfMemory) = Unit {0}
+IsNameless gives settings _ = ⊥
+
 -- what the program came to by these settings and this schema file
 abbrev pub ComesAsAsked : Folder → Option (Bor (List ℕ)) → Settings → Seen → Seen → Option Sums → Result Ending Stop → Type 0
 ComesAsAsked folder file settings before after sums (Ok (Checked tally manner)) = ChecksAsAsked file settings before.ends after.ends sums tally (Ok tt)
@@ -70,9 +76,8 @@ ComesAsAsked folder file settings before after sums (Err (stop.Run fault tally m
 ComesAsAsked folder file settings before after sums (Ok (Passed course by)) = PassesAsAsked folder file settings before after sums course (Ok tt)
 ComesAsAsked folder file settings before after sums (Err (stop.Halted fault)) = (course : Course) × PassesAsAsked folder file settings before after sums course (Err fault)
 ComesAsAsked folder file settings before after sums (Err (stop.Ask unasked)) = LacksJob file settings unasked.fault × IsIdle before.ends after.ends × (sums ≡ None)
-ComesAsAsked folder file settings before after sums (Err (stop.List fault hint)) = LacksList folder.gives settings fault × IsIdle before.ends after.ends × (sums ≡ None)
-ComesAsAsked folder file settings before after sums (Err (stop.Settings refusal.OutOfMemory)) = IsIdle before.ends after.ends × (sums ≡ None)
-ComesAsAsked folder file settings before after sums _ = ⊥
+ComesAsAsked folder file settings before after sums (Ok Helped) = ⊥
+ComesAsAsked folder file settings before after sums (Err fault) = IsNameless folder.gives settings fault × IsIdle before.ends after.ends × (sums ≡ None)
 
 -- how the program ends by the end of a run, and of files
 abbrev pub run_ending : Manner → Tally → End → Result Ending Stop

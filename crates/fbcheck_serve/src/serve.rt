@@ -1,11 +1,12 @@
 //! What the program does, from its words to its exit status.
 
-ghost use Rattle.std.specs.Prelude.{IfOk, ◌≡◌, ◌+◌, ◌<◌, ◌≤◌, ◌^◌, ℕ, string_len};
+ghost use Rattle.std.specs.Prelude.{IfErr, IfOk, Some, true, false, ◌≡◌, ◌+◌, ◌<◌, ◌≤◌, ◌^◌, ℕ, string_len};
 ghost use Rattle.fb_lines.specs.Ends.{Reader, Writer, beside, writer_of};
 ghost use Rattle.fb_run.specs.Leave.{HasLeave, ends_of};
 ghost use Rattle.fbcheck_serve.specs.Inputs.{folder_of, seen_of};
 ghost use Rattle.fbcheck_serve.specs.Checking.{IsPromptOverAsked, MayReadAsked};
-ghost use Rattle.fbcheck_serve.specs.Serving.{ComesAsAsked, ComesTo, EndsFiles, EndsRun, EndsSo, IsPromptAsGiven, IsServed, MayReadAsGiven, Rests, TellsAsGiven, Unserved, summed, words_of};
+ghost use Rattle.fbcheck_serve.specs.Lists.{AreNamed};
+ghost use Rattle.fbcheck_serve.specs.Serving.{IsAlone, IsNameless, ComesAsAsked, ComesTo, EndsFiles, EndsRun, EndsSo, IsPromptAsGiven, IsServed, MayReadAsGiven, Rests, TellsAsGiven, Unserved, summed, words_of};
 ghost use Rattle.fbcheck_words.specs.Ranges.{AreInRange};
 
 use crate::asked::{by, form, manner};
@@ -123,6 +124,7 @@ fn check_by<F: Files<K, N>, S: Input<K, N> + Explains, K: Sink, N: Sink>(
         (seen_of S.Input S.Explains K.Sink N.Sink reader.new writer.new notes.new) sums.new result
         × Rests (ends_of S.Input K.Sink N.Sink reader.old writer.old notes.old) (ends_of S.Input K.Sink N.Sink reader.new writer.new notes.new) sums.new result }
 {
+    *sums = None;
     if is_alone(settings) {
         let ran = check_beside(alloc, file, settings, reader, writer, notes);
         return run_ending(settings, ran, sums);
