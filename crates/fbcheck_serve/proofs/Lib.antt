@@ -1,6 +1,7 @@
 mod AskedLemmas
 mod ByteLemmas
 mod InputsLemmas
+mod NamesLemmas
 mod NoteLemmas
 mod OneAsk
 mod PathLemmas

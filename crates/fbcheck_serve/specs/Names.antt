@@ -40,9 +40,12 @@ word_names texts = map word_name texts
 abbrev pub listed_name : List ℕ → Named
 listed_name bytes = record { bytes = bytes; origin = in_list }
 
+abbrev pub last_name : List ℕ → List Named
+last_name [] = []
+last_name (a ∷ front) = listed_name (a ∷ front) ∷ []
+
 abbrev pub listed_from : List ℕ → List ℕ → List Named
-listed_from [] [] = []
-listed_from (a ∷ front) [] = listed_name (a ∷ front) ∷ []
+listed_from front [] = last_name front
 listed_from front (b ∷ list) = if b == 0 then listed_name front ∷ listed_from [] list else listed_from (front ++ (b ∷ [])) list
 
 abbrev pub listed_names : List ℕ → List Named
