@@ -1,5 +1,5 @@
 -- The lines of faults and hints by their parts, and which of both they are.
-use Rattle.std.proofs.Common.{◌≡◌, ◌∙◌, ◌≢◌, ℕ, suc, Bool, true, false, List, [], ◌∷◌, ◌++◌, Option, Some, None, codes, decimal, drop, get_or, refl, sym, subst, append_assoc}
+use Rattle.std.proofs.Common.{◌≡◌, ◌∙◌, ◌≢◌, ℕ, suc, Bool, true, false, List, [], ◌∷◌, ◌++◌, Option, Some, None, codes, decimal, drop, get_or, refl, sym, subst, append_assoc, arith, length}
 use Rattle.std.specs.Prelude.{◌==◌, if◌then◌else◌}
 use mathlib.Core.Logic.{inl, inr}
 use Rattle.json.specs.Print.{escape_byte}
@@ -21,8 +21,16 @@ fault_told (Some name) fault (b ∷ hint) status = simp (first_member, next_memb
 pub hint_told : (file : Option (List ℕ)) (hint : List ℕ)
     → json_text (hint_json file hint) ++ codes "\n" ≡ head_part file ++ (codes "\"hint\":" ++ (json_text (text_json hint) ++ codes "}\n"))
 unfolding escape_byte
-hint_told None hint = simp (first_member, next_member, no_more, append_assoc)
+hint_told None hint = simp (first_member, no_more, append_assoc)
 hint_told (Some name) hint = simp (first_member, next_member, no_more, append_assoc)
+
+-- a line that is put by its parts, one behind the other
+pub four_put : (t0 t1 t2 t3 t4 a b c d whole : List ℕ) → whole ≡ a ++ (b ++ (c ++ d)) → t0 ≡ [] → t1 ≡ t0 ++ a → t2 ≡ t1 ++ b → t3 ≡ t2 ++ c → t4 ≡ t3 ++ d → t4 ≡ whole
+four_put t0 t1 t2 t3 t4 a b c d whole is none p1 p2 p3 p4 = rw (p4, p3, p2, p1, none, is) (simp append_assoc)
+
+pub five_put : (t0 t1 t2 t3 t4 t5 a b c d e whole : List ℕ) → whole ≡ a ++ (b ++ (c ++ (d ++ e))) → t0 ≡ [] → t1 ≡ t0 ++ a → t2 ≡ t1 ++ b → t3 ≡ t2 ++ c → t4 ≡ t3 ++ d
+    → t5 ≡ t4 ++ e → t5 ≡ whole
+five_put t0 t1 t2 t3 t4 t5 a b c d e whole is none p1 p2 p3 p4 p5 = rw (p5, p4, p3, p2, p1, none, is) (simp append_assoc)
 
 -- a text without its first byte, where that joins it to another, and else as it is
 pub join_off : (text : List ℕ) (b : ℕ) → b ≡ get_or text 0 0 → is_join b ≡ true → drop 1 text ≡ past_join text
@@ -41,10 +49,23 @@ pub space_kept : (text : List ℕ) (b : ℕ) → b ≡ get_or text 0 0 → (b ==
 space_kept [] b same none = refl
 space_kept (a ∷ text) b same none = rw (rw same at none) refl
 
--- a line that is the object where faults are told in JSON, and one that is the plain line
-pub object_in : (form : Form) (object plain line : List ℕ) → form ≡ in_json → line ≡ object → IsLineIn form object plain line
-object_in form object plain line json is = subst (λ (f : Form). IsLineIn f object plain line) (sym json) (inl is)
+pub none_joined : (text : List ℕ) → length text ≡ 0 → (text ≡ past_join text) × (text ≡ past_space text)
+none_joined [] none = (refl, refl)
+none_joined (a ∷ text) none = absurd (omega (arith, none))
 
-pub plain_in : (form : Form) (object plain line : List ℕ) → line ≡ plain → IsLineIn form object plain line
-plain_in in_json object plain line is = inr is
-plain_in _ object plain line is = is
+-- what a hint says, where there is one and where there is none
+pub hint_some : (text : List ℕ) → (length text ≡ 0 → ⊥) → hint_part text ≡ codes ",\"hint\":" ++ json_text (text_json text)
+hint_some [] some = absurd (some refl)
+hint_some (b ∷ text) some = refl
+
+pub hint_none : (text : List ℕ) → length text ≡ 0 → hint_part text ≡ []
+hint_none [] none = refl
+hint_none (b ∷ text) none = absurd (omega (arith, none))
+
+-- a line that is the object where faults are told in JSON, and one that is the plain line
+pub object_in : (form : Form) (told plain line : List ℕ) → form ≡ in_json → line ≡ told → IsLineIn form told plain line
+object_in form told plain line json is = subst (λ (f : Form). IsLineIn f told plain line) (sym json) (inl is)
+
+pub plain_in : (form : Form) (told plain line : List ℕ) → line ≡ plain → IsLineIn form told plain line
+plain_in in_json told plain line is = inr is
+plain_in _ told plain line is = is

@@ -47,8 +47,8 @@ hint_object file hint = json_text (hint_json file (hint_text hint)) ++ codes "\n
 
 -- which of both a line is: the object where faults are told in JSON, the plain line else, and there for want of memory
 abbrev pub IsLineIn : Form → List ℕ → List ℕ → List ℕ → Type 0
-IsLineIn in_json object plain line = (line ≡ object) ⊎ (line ≡ plain)
-IsLineIn _ object plain line = line ≡ plain
+IsLineIn in_json told plain line = (line ≡ told) ⊎ (line ≡ plain)
+IsLineIn _ told plain line = line ≡ plain
 
 -- ---- by the parts that are written
 

@@ -121,10 +121,10 @@ fn hint_text(hint: &[u8]) -> &[u8]
 fn past_join(text: &[u8]) -> &[u8]
     ensures { result.now ≡ past_join text.now }
 {
-    if text.is_empty() || !is_join(text[0]) {
+    if text.is_empty() {
         return text;
     }
-    &text[1..]
+    if is_join(text[0]) { &text[1..] } else { text }
 }
 
 /// Whether this is one of these.
@@ -138,8 +138,8 @@ fn is_join(byte: u8) -> bool
 fn past_space(text: &[u8]) -> &[u8]
     ensures { result.now ≡ past_space text.now }
 {
-    if text.is_empty() || text[0] != b' ' {
+    if text.is_empty() {
         return text;
     }
-    &text[1..]
+    if text[0] == b' ' { &text[1..] } else { text }
 }
