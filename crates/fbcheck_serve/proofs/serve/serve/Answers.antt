@@ -9,12 +9,14 @@ returns-clause-served g c = record {
   outcome = c.come_to-outcome.result;
   sums = c.come_to-outcome.new.sums;
   between = writer_of g.N.Sink c.come_to-outcome.new.notes;
-  comes = c.come_to-outcome.ensures.0;
-  ends = c.come_to-outcome.ensures.1.ends;
+  comes = c.come_to-outcome.ensures.comes.0;
+  ends = c.come_to-outcome.ensures.comes.1.ends;
+  form = c.come_to-outcome.new.told;
+  form_is = c.come_to-outcome.ensures.form;
   ending = c.sum_up-ending.result;
   behind = writer_of g.N.Sink c.sum_up-ending.new.notes;
   summed = c.sum_up-ending.ensures;
-  told = subst (λ (write : Option ErrorKind). Complains (record { read = g.S.Explains.cause c.come_to-outcome.new.reader; write = write }) c.sum_up-ending.result (writer_of g.N.Sink c.sum_up-ending.new.notes) (writer_of g.N.Sink c.tell.new.notes)) c.cause-2.ensures
-      (subst (λ (read : Option ErrorKind). Complains (record { read = read; write = c.cause-2.result }) c.sum_up-ending.result (writer_of g.N.Sink c.sum_up-ending.new.notes) (writer_of g.N.Sink c.tell.new.notes)) c.cause.ensures c.tell.ensures);
+  told = subst (λ (write : Option ErrorKind). Complains c.come_to-outcome.new.told (record { read = g.S.Explains.cause c.come_to-outcome.new.reader; write = write }) c.sum_up-ending.result (writer_of g.N.Sink c.sum_up-ending.new.notes) (writer_of g.N.Sink c.tell.new.notes)) c.cause-2.ensures
+      (subst (λ (read : Option ErrorKind). Complains c.come_to-outcome.new.told (record { read = read; write = c.cause-2.result }) c.sum_up-ending.result (writer_of g.N.Sink c.sum_up-ending.new.notes) (writer_of g.N.Sink c.tell.new.notes)) c.cause.ensures c.tell.ensures);
   status_is = c.exit_status.ensures;
 }
