@@ -5,6 +5,7 @@ as one stream, and each line, also as JSON, is held against what the walk says o
 """
 
 import collections
+import json
 import random
 
 from tests.support import buffers, schemas
@@ -85,7 +86,8 @@ class BesideNaive(Case):
         placed = [want + (walk.place() if want.startswith("bad") else "") for walk, want in zip(walks, wants)]
         self.named(name, by, given, options, placed)
         ran = run(*by, "--json", *words_of(options), given=b"".join(map(prefixed, given)))
-        self.as_json(name, schema_and_root[0], spans_in(given), ran, placed, told=told)
+        hints = [json.dumps({"hint": line.removeprefix("fbcheck: ")}, separators=(",", ":")) for line in told]
+        self.as_json(name, schema_and_root[0], spans_in(given), ran, placed, told=hints)
         return wants
 
     def as_json(self, name, schema, spans, ran, wants, paths=(), told=(), values=None):
