@@ -33,7 +33,7 @@ class Ends(Case):
     def test_what_one_read_gives_is_written_at_once(self):
         """In one call, and in one more where 65,536 bytes come before the last message."""
         for name, words, count, calls in [
-            ("lines", BY_N, 1_000, 1), ("lines of JSON", (*BY_N, "--json"), 1_000, 1), ("many lines", BY_N, 2_048, 2),
+            ("lines", BY_N, 1_000, 1), ("lines of JSON", (*BY_N, "--json"), 700, 1), ("many lines", BY_N, 2_048, 2),
             ("messages of a filter", (*BY_N, "--filter"), 2_048, 1),
         ]:
             ran = refusing([PROGRAM, *words], file_of("many", SEVEN * count))

@@ -21,7 +21,7 @@ MISSING = FOLDER / "none.bin"
 STRAY = ("no good message came before: --bare is for a buffer without a prefix, --delimited for prefixes outside the "
          "buffers")
 MISALIGNED = "each message is misaligned: --delimited is for prefixes outside the buffers"
-OK = '{"message":1,"ok":true,"tables":1,"depth":1,"reads":5}'
+OK = '{"message":1,"begin":0,"bytes":32,"ok":true,"tables":1,"depth":1,"reads":5}'
 
 
 def said(fault, hint="", status=3, file=None):
@@ -74,8 +74,8 @@ class FaultJson(Case):
             ("a summary before it", (*BY_N, "--summary", "--quiet"), SEVEN + b"\0", Ran(3, b"", lines(
                 '{"messages":1,"yes":1,"no":0,"bytes":32,"tables":1,"reads":5}', said("stream: S2 Truncated held=1")))),
             ("a hint behind a filter's line", (*BY_N, "--filter"), ODD, Ran(1, b"", lines(
-                '{"message":1,"ok":false,"code":"V3","reason":"Misaligned","at":7,"object":"N","field":null,"reads":3,'
-                '"place":"."}', hinted(MISALIGNED)))),
+                '{"message":1,"begin":0,"bytes":32,"ok":false,"code":"V3","reason":"Misaligned","at":7,"object":"N",'
+                '"field":null,"reads":3,"place":"."}', hinted(MISALIGNED)))),
             ("a schema file that isn't there", ("--schema", MISSING, "--json"), b"", Ran(2, b"", lines(
                 said("cannot read schema", f"{MISSING}: no such file", 2)))),
             ("no such path", (*BY_N, "--path", "w"), b"", Ran(2, b"", lines(

@@ -216,16 +216,17 @@ class Install(LibraryCase):
         self.same("and behind its letter", completed(folder, "-s", ""), files)
         self.same("and nothing for a number", completed(folder, "--max-depth", ""), [])
         for name, words, gone in [
-            ("not what stands there", ["--quiet", "--max-depth", "9", "--json"], {"--quiet", "--max-depth", "--json"}),
+            ("not what stands there", ["--quiet", "--max-depth", "9", "--json"],
+             {"--quiet", "--max-depth", "--json", "--csv"}),
             ("nor behind an equals sign", ["--schema", "=", "a.bfbs"], {"--schema"}),
             ("nor what excludes it", ["--bare", "--ident", "KIND"],
              {"--bare", "--delimited", "--ident", "--schema-ident"}),
             ("nor the other way round", ["--delimited", "--schema-ident"],
              {"--bare", "--delimited", "--ident", "--schema-ident"}),
             ("a path again, and no filter", ["--path", "id"], {"--filter"}),
-            ("or the other way round", ["--filter"], {"--filter", "--path"}),
+            ("or the other way round", ["--filter"], {"--filter", "--path", "--csv"}),
             ("nor what a letter stands for", ["-s", "a.bfbs", "-rpost.Order", "-q", "-j", "-H"],
-             {"--schema", "--root", "--quiet", "--json", "--with-filename"}),
+             {"--schema", "--root", "--quiet", "--json", "--with-filename", "--csv"}),
             ("a path again behind its letter, and no filter", ["-p", "id"], {"--filter"}),
         ]:
             self.same(f"bash offers {name}", completed(folder, *words, "--"), sorted({*options()} - gone))

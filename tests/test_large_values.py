@@ -153,13 +153,16 @@ class LargeValues(Case):
         texts = [b"first", (PATTERN * 200)[:200_000], b"last"]
         stream = b"".join(prefixed(buffer({0: text})) for text in texts)
         as_json = run(*BY_TEXT, "--path", "s", "--json", given=stream).out
-        for form, want in ((), lines_of(texts)), (("--json",), as_json):
+        for form, want, told in [
+            ((), lines_of(texts), "fbcheck: write failed after {} bytes\n"),
+            (("--json",), as_json, '{{"fault":"write failed after {} bytes","status":3}}\n'),
+        ]:
             for room in (0, 1, 36, 37, 38, 66, 67, 65_536, 65_600, 100_000, 131_072, len(want) - 40, len(want) - 1):
                 for most in 65_536, 1000:
                     ran = narrowed(*BY_TEXT, "--path", "s", *form, given=stream, room=room, write=most)
                     name = f"room for {room} bytes, {most} at a write {form}"
                     self.same(name, (ran.status, ran.out == want[:room], ran.err),
-                              (3, True, f"fbcheck: write failed after {room} bytes\n".encode()))
+                              (3, True, told.format(room).encode()))
 
     def test_memory_that_is_refused(self):
         """Whole lines are written, all or the first ones; a line that was begun is ended."""
