@@ -10,7 +10,6 @@ import (
 	"math"
 	"math/bits"
 	"os"
-	"reflect"
 	"strconv"
 	"strings"
 	"sync"
@@ -152,7 +151,7 @@ func read(schema *fbcheck.Schema, message []byte, texts []string) (string, error
 	var told []string
 	for i, one := range values {
 		again, _ := schema.Read(message, paths[i])
-		if !reflect.DeepEqual(again[0], one) {
+		if fmt.Sprintf("%#v", again[0]) != fmt.Sprintf("%#v", one) {
 			return "one path tells otherwise", nil
 		}
 		told = append(told, value(one))
