@@ -31,8 +31,8 @@ _fbcheck_left() { # WORD..
 _fbcheck() {
     local word=${COMP_WORDS[COMP_CWORD]} before=${COMP_WORDS[COMP_CWORD - 1]}
     local left=" --schema --root --ident --schema-ident --path --max-depth --max-tables --max-reads --reads-per-byte \
---max-bytes --bare --delimited --no-alignment --inline-size --strict --plain-bytes --known-fields --utf8 --quiet \
---filter --summary --names --json --csv --with-filename --help --version "
+--max-bytes --skip --limit --max-bad --bare --delimited --no-alignment --inline-size --strict --plain-bytes \
+--known-fields --utf8 --quiet --filter --summary --names --json --csv --with-filename --files0-from --help --version "
     COMPREPLY=()
     # An equals sign is a word of its own.
     [ "$before" != = ] || before=${COMP_WORDS[COMP_CWORD - 2]}
@@ -42,7 +42,11 @@ _fbcheck() {
         compopt -o filenames 2>/dev/null
         mapfile -t COMPREPLY < <(compgen -d -- "$word"; compgen -f -X '!*.bfbs' -- "$word")
         ;;
-    -r | --root | --ident | -p | --path | --max-depth | --max-tables | --max-reads | --reads-per-byte | --max-bytes) ;;
+    --files0-from)
+        compopt -o filenames 2>/dev/null
+        mapfile -t COMPREPLY < <(compgen -f -- "$word")
+        ;;
+    -r | --root | --ident | -p | --path | --max-depth | --max-tables | --max-reads | --reads-per-byte | --max-bytes | --skip | --limit | --max-bad) ;;
     *)
         _fbcheck_left "${COMP_WORDS[@]:1:COMP_CWORD-1}"
         mapfile -t COMPREPLY < <(compgen -W "$left" -- "$word")

@@ -62,6 +62,9 @@ Options:
       --max-reads <N>       Most reads of one buffer, 0 to 18446744073709551615 [default: 100000000]
       --reads-per-byte <N>  Most reads for each byte of a buffer and for 64 more, 0 to 4294967295 [default: 64]
       --max-bytes <N>       Most bytes of a message, prefix included, 8 to 2147483647 [default: 67108864]
+      --skip <N>            Leave out so many bytes at the beginning of each input [default: 0]
+      --limit <N>           Check no more than so many messages of each input, from 1
+      --max-bad <N>         End an input after so many bad messages, from 1
       --bare                Each input is one bare buffer, not a stream
       --delimited           The four bytes with a message's length are no part of the buffer, which is a bare one
       --no-alignment        Don't check alignment
@@ -77,6 +80,7 @@ Options:
   -j, --json                Write each line as a JSON object
       --csv                 Write the values of good buffers as CSV, and lines of bad ones to standard error
   -H, --with-filename       Begin lines with the file's name, also where there is one file alone
+      --files0-from <F>     Read the names of the files from F, each ended by a zero byte; - for standard input
   -h, --help                Print help
   -V, --version             Print version
 """

@@ -51,6 +51,13 @@ by_length_rule = number_rule (codes "reads-per-byte") 0 4294967295 (codes "64")
 abbrev pub bytes_rule : Rule
 bytes_rule = number_rule (codes "max-bytes") 8 2147483647 (codes "67108864")
 
+abbrev pub skip_rule : Rule
+skip_rule = wide_number_rule (codes "skip") 0 (codes "0")
+
+-- a number that nothing comes to, where it isn't given
+abbrev pub most_rule : Text → Rule
+most_rule name = wide_number_rule name 1 (codes "18446744073709551615")
+
 -- an option that is given or not
 abbrev pub flag_rule : Text → Rule
 flag_rule name = record (new_rule name) { long = Some name; action = Some SetTrue }
@@ -77,8 +84,11 @@ texts = with_rule (with_rule (with_rule sources (text_rule (codes "ident"))) (fl
 abbrev pub numbers : App
 numbers = with_rule (with_rule (with_rule (with_rule (with_rule texts depth_rule) tables_rule) reads_rule) by_length_rule) bytes_rule
 
+abbrev pub portions : App
+portions = with_rule (with_rule (with_rule numbers skip_rule) (most_rule (codes "limit"))) (most_rule (codes "max-bad"))
+
 abbrev pub inputs : App
-inputs = with_rule (with_rule (with_rule (with_rule numbers (flag_rule (codes "bare"))) (flag_rule (codes "delimited"))) (flag_rule (codes "no-alignment"))) (flag_rule (codes "inline-size"))
+inputs = with_rule (with_rule (with_rule (with_rule portions (flag_rule (codes "bare"))) (flag_rule (codes "delimited"))) (flag_rule (codes "no-alignment"))) (flag_rule (codes "inline-size"))
 
 abbrev pub demands : App
 demands = with_rule (with_rule (with_rule (with_rule inputs (flag_rule (codes "strict"))) (flag_rule (codes "plain-bytes"))) (flag_rule (codes "known-fields"))) (flag_rule (codes "utf8"))
@@ -88,4 +98,5 @@ outputs = with_rule (with_rule (with_rule (with_rule (with_rule demands (by_lett
     (by_letter (codes "j") (flag_rule (codes "json")))
 
 abbrev pub program : App
-program = with_rule (with_rule (with_rule outputs (flag_rule (codes "csv"))) (by_letter (codes "H") (flag_rule (codes "with-filename")))) (words_rule (codes "files"))
+program = with_rule (with_rule (with_rule (with_rule outputs (flag_rule (codes "csv"))) (by_letter (codes "H") (flag_rule (codes "with-filename"))))
+    (text_rule (codes "files0-from"))) (words_rule (codes "files"))

@@ -7,5 +7,7 @@ use Rattle.fbcheck_words.specs.declared.choices.Settings.{Settings}
 pub record AreInRange (settings : Settings) : Type 0 where
   pub least : 8 ≤ settings.max_bytes
   pub most : settings.max_bytes < 2 ^ 31
+  pub some_messages : 1 ≤ settings.most_messages
+  pub some_bad : 1 ≤ settings.most_bad
   pub few : length settings.paths.items ≤ 16
   pub few_steps : steps_of (map string_bytes settings.paths.items) ≤ 1024

@@ -46,6 +46,12 @@ pub struct Settings {
     /// How many bytes a message may have, prefix included, 8 to 2,147,483,647 (`--max-bytes`,
     /// 67,108,864).
     pub max_bytes: u32,
+    /// How many bytes are left out at the beginning of each input (`--skip`, 0).
+    pub skip: u64,
+    /// How many messages of each input are checked at most, at least 1 (`--limit`, 2^64 - 1).
+    pub most_messages: u64,
+    /// After how many bad messages an input ends, at least 1 (`--max-bad`, 2^64 - 1).
+    pub most_bad: u64,
     /// Whether an input is one bare buffer, and no stream (`--bare`).
     pub bare: bool,
     /// Whether the prefix with a message's length is no part of the buffer (`--delimited`); `bare` is false then.
@@ -77,6 +83,8 @@ pub struct Settings {
     pub csv: bool,
     /// Whether each line begins with the name of its file, also where that is the only one (`-H`, `--with-filename`).
     pub with_filename: bool,
+    /// The file with the names of the files to be read (`--files0-from`); `files` is empty then.
+    pub names_file: Option<String>,
     /// The files to be read, one behind another, of which `-` is standard input (`FILE`); none stands for that alone.
     pub files: Vec<String>,
 }
@@ -114,6 +122,8 @@ pub enum SettingsFault {
     CsvInQuiet,
     /// The words are read, and ask for CSV without a path.
     CsvPathless,
+    /// The words are read, and name files beside a file of names.
+    NamedTwice,
     /// No memory was to be had.
     OutOfMemory,
 }
@@ -139,7 +149,8 @@ impl SettingsFault {
             | SettingsFault::CsvAsJson
             | SettingsFault::CsvInFilter
             | SettingsFault::CsvInQuiet
-            | SettingsFault::CsvPathless => 2,
+            | SettingsFault::CsvPathless
+            | SettingsFault::NamedTwice => 2,
             SettingsFault::OutOfMemory => 3,
         }
     }
@@ -165,6 +176,7 @@ impl SettingsFault {
             SettingsFault::CsvInFilter => "csv and filter exclude each other",
             SettingsFault::CsvInQuiet => "csv and quiet exclude each other",
             SettingsFault::CsvPathless => "csv needs a path",
+            SettingsFault::NamedTwice => "files0-from takes no files beside it",
             SettingsFault::OutOfMemory => "out of memory",
         }
     }

@@ -21,6 +21,8 @@ enum Takes<'a> {
     Texts(&'a str),
     /// A number that this parser passes, with a default.
     Number(ValueParser<'a>, &'a str),
+    /// A number from 1 on, at which something ends; without it nothing does.
+    Most,
     /// Nothing: the option is given or not.
     Nothing,
     /// Words that stand by themselves, with no option's name before them.
@@ -39,7 +41,7 @@ struct Choice<'a> {
 
 /// All options, in the order of help. As a constant they would be built anew in the loop's function, text by text,
 /// which is dear to prove.
-static CHOICES: [Choice<'static>; 26] = [
+static CHOICES: [Choice<'static>; 30] = [
     Choice {
         name: "schema",
         letter: Some('s'),
@@ -99,6 +101,24 @@ static CHOICES: [Choice<'static>; 26] = [
         letter: None,
         takes: Takes::Number(ValueParser::Signed(8, 2_147_483_647), "67108864"),
         help: "Most bytes of a message, prefix included, 8 to 2147483647",
+    },
+    Choice {
+        name: "skip",
+        letter: None,
+        takes: Takes::Number(ValueParser::Unsigned(0, u64::MAX), "0"),
+        help: "Leave out so many bytes at the beginning of each input",
+    },
+    Choice {
+        name: "limit",
+        letter: None,
+        takes: Takes::Most,
+        help: "Check no more than so many messages of each input, from 1",
+    },
+    Choice {
+        name: "max-bad",
+        letter: None,
+        takes: Takes::Most,
+        help: "End an input after so many bad messages, from 1",
     },
     Choice {
         name: "bare",
@@ -191,6 +211,12 @@ static CHOICES: [Choice<'static>; 26] = [
         help: "Begin lines with the file's name, also where there is one file alone",
     },
     Choice {
+        name: "files0-from",
+        letter: None,
+        takes: Takes::Text("F"),
+        help: "Read the names of the files from F, each ended by a zero byte; - for standard input",
+    },
+    Choice {
         name: "files",
         letter: None,
         takes: Takes::Words("FILE"),
@@ -224,6 +250,13 @@ fn long_arg<'a>(alloc: Global, choice: Choice<'a>) -> Arg<'a>
             .value_name("N")
             .value_parser(parser)
             .default_value(default)
+            .action(ArgAction::Set),
+        Takes::Most => arg
+            .long(choice.name)
+            .value_name("N")
+            .value_parser(ValueParser::Unsigned(1, u64::MAX))
+            .default_value("18446744073709551615")
+            .hide_default_value(true)
             .action(ArgAction::Set),
         Takes::Nothing => arg.long(choice.name).action(ArgAction::SetTrue),
         Takes::Words(value) => arg.value_name(value).action(ArgAction::Append),

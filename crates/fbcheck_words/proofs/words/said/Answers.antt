@@ -23,6 +23,15 @@ number-requires c = holds_number _ _ c.requires.1 8 0 4294967295 (codes "reads-p
 pub number-requires-2 : goal.number-requires-2
 number-requires-2 c = holds_number _ _ c.requires.1 9 8 2147483647 (codes "max-bytes") (codes "67108864") (λ d. refl) refl
 
+pub wide_number-requires : goal.wide_number-requires
+wide_number-requires c = holds_wide_number _ _ c.requires.1 10 0 (codes "skip") (codes "0") (λ d. refl) refl
+
+pub wide_number-requires-2 : goal.wide_number-requires-2
+wide_number-requires-2 c = holds_wide_number _ _ c.requires.1 11 1 (codes "limit") (codes "18446744073709551615") (λ d. refl) refl
+
+pub wide_number-requires-3 : goal.wide_number-requires-3
+wide_number-requires-3 c = holds_wide_number _ _ c.requires.1 12 1 (codes "max-bad") (codes "18446744073709551615") (λ d. refl) refl
+
 pub returns-clause-says : goal.returns-clause-says
 returns-clause-says c words read = record {
   read = read.faultless;
@@ -37,6 +46,9 @@ returns-clause-says c words read = record {
   reads = reads_by_words _ _ _ read c.limits.ensures.reads;
   by_length = number_by_words _ _ (codes "reads-per-byte") 0 4294967295 _ read c.number.ensures;
   bytes = number_by_words _ _ (codes "max-bytes") 8 2147483647 _ read c.number-2.ensures;
+  skip = number_by_words _ _ (codes "skip") 0 18446744073709551615 _ read c.wide_number.ensures;
+  most_messages = number_by_words _ _ (codes "limit") 1 18446744073709551615 _ read c.wide_number-2.ensures;
+  most_bad = number_by_words _ _ (codes "max-bad") 1 18446744073709551615 _ read c.wide_number-3.ensures;
   bare = given_by_words _ _ (codes "bare") _ read c.flag-2.ensures;
   delimited = given_by_words _ _ (codes "delimited") _ read c.flag-3.ensures;
   alignment = turned _ _ (given_by_words _ _ (codes "no-alignment") _ read c.flag-4.ensures);
@@ -52,5 +64,6 @@ returns-clause-says c words read = record {
   json = given_by_words _ _ (codes "json") _ read c.form.ensures;
   csv = given_by_words _ _ (codes "csv") _ read c.flag-14.ensures;
   with_filename = given_by_words _ _ (codes "with-filename") _ read c.flag-15.ensures;
+  names_file = c.in_ok-names_file.ensures ∙ text_of_words _ _ (codes "files0-from") read;
   files = c.in_ok-files.ensures ∙ texts_of_words _ _ (codes "files") read;
 }
