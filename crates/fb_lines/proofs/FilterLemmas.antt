@@ -1,5 +1,5 @@
 -- What a filter passes on, filtered again.
-use Rattle.std.proofs.Common.{◌≡◌, ℕ, ◌+◌, ◌∙◌, ◌++◌, List, [], ◌∷◌, Ok, Err, All, refl, sym, ap, subst}
+use Rattle.std.proofs.Common.{◌≡◌, ℕ, ◌+◌, ◌∙◌, ◌++◌, List, [], ◌∷◌, Ok, Err, All, refl, sym, ap, subst, arith, ◌≤◌}
 use mathlib.Core.Logic.{inl}
 use Rattle.std.proofs.lemmas.List.Elements.{All-head, All-tail}
 use Rattle.fb_bytes.specs.Messages.{IsMessage, Splits}
@@ -8,10 +8,15 @@ use Rattle.fb_lines.specs.Texts.{Texts, to_notes, to_out}
 use Rattle.fb_lines.specs.declared.{tally.Tally.Tally, options.Mode.TheVariants.Filter}
 use Rattle.fb_lines.proofs.Splitting.{empty_partial, splits_one, splits_rest, splits_then}
 
--- what was told of messages, as what is told of those that were passed on, wherever both begin
-again : (job : Job) (limit : ℕ) (k j : Before) (messages : List (List ℕ)) (text : Texts) (tally : Tally) → job.mode ≡ Filter → All (IsMessage limit) messages → AreTold job k messages text tally
+-- no more messages, and no more bad ones
+record IsFewer (j k : Before) : Type 0 where
+  messages : j.messages ≤ k.messages
+  bad : j.bad ≤ k.bad
+
+-- what was told of messages, as what is told of those that were passed on, wherever both begin, where no more stand before those
+again : (job : Job) (limit : ℕ) (k j : Before) (messages : List (List ℕ)) (text : Texts) (tally : Tally) → IsFewer j k → job.mode ≡ Filter → All (IsMessage limit) messages → AreTold job k messages text tally
     → (passed : List (List ℕ)) × (good : Tally) × Splits limit text.out passed [] × AreTold job j passed (to_out text.out) good × (good.yes ≡ tally.yes) × (good.no ≡ 0)
-again job limit k j [] text tally filter each (e, none) = (
+again job limit k j [] text tally fewer filter each (e, none) = (
   [],
   no_tally,
   subst (λ (l : List ℕ). Splits limit l [] []) (sym (ap (λ t. t.out) e)) (splits_rest limit [] (inl (empty_partial limit))),
@@ -19,8 +24,8 @@ again job limit k j [] text tally filter each (e, none) = (
   sym (ap (λ (t : Tally). t.yes) none),
   refl,
 )
-again job limit k j (m ∷ ms) text tally filter each (Ok found, line, rest, others, is, e, told, sums) =
-    let more = again job limit (past k m) (past j m) ms rest others filter (All-tail (IsMessage limit) m ms each) told in
+again job limit k j (m ∷ ms) text tally fewer filter each (Ok found, line, rest, others, due, is, e, told, sums) =
+    let more = again job limit (past k m (Ok found)) (past j m (Ok found)) ms rest others (record { messages = omega (arith, fewer.messages); bad = fewer.bad }) filter (All-tail (IsMessage limit) m ms each) told in
     let line_is : line ≡ to_out m = subst (λ o. ToldBy o (IsLine job (spot_of k m) (Ok found)) m (Ok found) line) filter is.text in
     let out_is : text.out ≡ m ++ rest.out = ap (λ t. t.out) e ∙ ap (λ t. t.out ++ rest.out) line_is in (
       m ∷ more.0,
@@ -32,6 +37,7 @@ again job limit k j (m ∷ ms) text tally filter each (Ok found, line, rest, oth
         to_out m,
         to_out rest.out,
         more.1,
+        record { messages = omega (arith, fewer.messages, due.messages); bad = omega (arith, fewer.bad, due.bad) },
         record { verdict_is = is.verdict_is; text = subst (λ o. ToldBy o (IsLine job (spot_of j m) (Ok found)) m (Ok found) (to_out m)) (sym filter) refl },
         ap to_out out_is,
         more.3,
@@ -40,8 +46,8 @@ again job limit k j (m ∷ ms) text tally filter each (Ok found, line, rest, oth
       ap (λ (n : ℕ). n + 1) more.4 ∙ sym (ap (λ (t : Tally). t.yes) sums),
       more.5,
     )
-again job limit k j (m ∷ ms) text tally filter each (Err fault, line, rest, others, is, e, told, sums) =
-    let more = again job limit (past k m) j ms rest others filter (All-tail (IsMessage limit) m ms each) told in
+again job limit k j (m ∷ ms) text tally fewer filter each (Err fault, line, rest, others, due, is, e, told, sums) =
+    let more = again job limit (past k m (Err fault)) j ms rest others (record { messages = omega (arith, fewer.messages); bad = omega (arith, fewer.bad) }) filter (All-tail (IsMessage limit) m ms each) told in
     let noted : TellsLine (IsLine job (spot_of k m) (Err fault)) to_notes line = subst (λ o. ToldBy o (IsLine job (spot_of k m) (Err fault)) m (Err fault) line) filter is.text in
     let out_is : text.out ≡ rest.out = ap (λ t. t.out) e ∙ ap (λ t. t.out ++ rest.out) noted.2 in (
       more.0,
@@ -53,4 +59,4 @@ again job limit k j (m ∷ ms) text tally filter each (Err fault, line, rest, ot
     )
 
 pub passes_again : PassesAgain
-passes_again job limit bytes rest messages text tally filter splits told = again job limit at_first at_first messages text tally filter splits.each told
+passes_again job limit bytes rest messages text tally filter splits told = again job limit (at_first job) (at_first job) messages text tally (record { messages = omega arith; bad = omega arith }) filter splits.each told

@@ -3,7 +3,7 @@ use Rattle.std.specs.Prelude.{ℕ, List, ◌++◌, codes, decimal}
 use Rattle.fb_bytes.specs.declared.stream_fault.StreamFault.{StreamFault}
 use Rattle.fb_bytes.specs.declared.stream_fault.StreamFault.TheVariants as stream
 use Rattle.fb_lines.specs.declared.fault.RunFault.{RunFault}
-use Rattle.fb_lines.specs.declared.fault.RunFault.TheVariants.{ReadFault, WriteFault, NoteFault, Stream, TooManyTurns, OutOfMemory, BareTooLong}
+use Rattle.fb_lines.specs.declared.fault.RunFault.TheVariants.{ReadFault, WriteFault, NoteFault, Stream, TooManyTurns, OutOfMemory, BareTooLong, SkipPastEnd}
 
 -- what is wrong with a stream
 abbrev pub stream_text : StreamFault → List ℕ
@@ -20,4 +20,5 @@ fault_text (NoteFault written) = codes "write to standard error failed after " +
 fault_text (Stream cause) = codes "stream: " ++ stream_text cause
 fault_text TooManyTurns = codes "too many reads"
 fault_text OutOfMemory = codes "out of memory"
+fault_text (SkipPastEnd skip) = codes "the input ends before its first " ++ decimal skip ++ codes " bytes are skipped"
 fault_text (BareTooLong limit) = codes "input longer than " ++ decimal limit ++ codes " bytes"

@@ -5,7 +5,7 @@ use Rattle.fb_bytes.specs.declared.stream_fault.StreamFault.{StreamFault}
 use Rattle.fb_bytes.specs.declared.stream_fault.StreamFault.TheVariants as stream
 use Rattle.fb_lines.specs.Ends.{Ends, Outs, Writer}
 use Rattle.fb_lines.specs.declared.{fault.RunFault.RunFault, tally.Tally.Tally}
-use Rattle.fb_lines.specs.declared.fault.RunFault.TheVariants.{ReadFault, WriteFault, NoteFault, Stream, TooManyTurns, OutOfMemory}
+use Rattle.fb_lines.specs.declared.fault.RunFault.TheVariants.{ReadFault, WriteFault, NoteFault, Stream, TooManyTurns, OutOfMemory, SkipPastEnd}
 
 -- a fault of the framer
 abbrev pub feed_fault : StreamFault → RunFault
@@ -36,6 +36,7 @@ IsCaused before after left ended (WriteFault written) = IsUnfailed (record befor
 IsCaused before after left ended (NoteFault written) = IsUnfailed (record before { notes = one_more before.notes }) after
 IsCaused before after left ended TooManyTurns = IsUnfailed before after × (left ≡ 0)
 IsCaused before after left ended (Stream (stream.Truncated held)) = IsUnfailed before after × (ended ≡ true)
+IsCaused before after left ended (SkipPastEnd skip) = IsUnfailed before after × (ended ≡ true)
 IsCaused before after left ended _ = IsUnfailed before after
 
 -- the same where it befell the writer and the notes alone, whatever is read
@@ -59,9 +60,9 @@ abbrev pub end_of : Result Tally RunFault → End
 end_of (Ok tally) = Ok tt
 end_of (Err fault) = Err fault
 
--- how a run ended, by the same counts: after its end was told, where no call failed, or by the cause of its fault
+-- how a run ended, by the same counts: well, where no call failed, or by the cause of its fault
 abbrev pub EndsWith : Failures → Failures → ℕ → Bool → End → Type 0
-EndsWith before after left ended (Ok done) = IsUnfailed before after × (ended ≡ true)
+EndsWith before after left ended (Ok done) = IsUnfailed before after
 EndsWith before after left ended (Err fault) = IsCaused before after left ended fault
 
 -- the same by its ends, where it may make so many reads

@@ -7,6 +7,6 @@ use Rattle.fb_lines.specs.declared.{tally.Tally.Tally, options.Mode.TheVariants.
 -- what a filter passes on of a stream is itself a stream of whole messages, of which it passes all on and notes nothing
 abbrev pub PassesAgain : Type 0
 PassesAgain = (job : Job) (limit : ℕ) (bytes rest : List ℕ) (messages : List (List ℕ)) (text : Texts) (tally : Tally)
-    → job.mode ≡ Filter → Splits limit bytes messages rest → AreTold job at_first messages text tally
-    → (passed : List (List ℕ)) × (good : Tally) × Splits limit text.out passed [] × AreTold job at_first passed (to_out text.out) good
+    → job.mode ≡ Filter → Splits limit bytes messages rest → AreTold job (at_first job) messages text tally
+    → (passed : List (List ℕ)) × (good : Tally) × Splits limit text.out passed [] × AreTold job (at_first job) passed (to_out text.out) good
     × (good.yes ≡ tally.yes) × (good.no ≡ 0)

@@ -15,14 +15,18 @@ use Rattle.fb_lines.specs.declared.{options.Form.TheVariants.Plain, options.Form
 use Rattle.fb_lines.specs.declared.{options.Places.TheVariants.Numbers, options.Places.TheVariants.Words, options.Prefix.Prefix}
 use Rattle.fb_lines.specs.declared.{options.Prefix.TheVariants.Part, options.Prefix.TheVariants.Apart, options.Options.Options}
 
--- a schema with its root, whether the input is one bare buffer, how many bytes of a message stand before the buffer, how
--- the buffer starts, the identifier, the limits, the reads that each byte of a buffer allows, the checks, the values
+-- a schema with its root, how many bytes at the beginning of an input are left out, how many messages and how many bad
+-- ones of it are told at most, whether the input is one bare buffer, how many bytes of a message stand before the buffer,
+-- how the buffer starts, the identifier, the limits, the reads that each byte of a buffer allows, the checks, the values
 -- that are asked for, the most bytes that a message may have, what is told of messages, how of the places of faults,
 -- the name of the input, where lines tell it, how they are written, and the plan by which buffers are to be strict, if
 -- they are
 pub record Job : Type 0 where
   pub rows : Rows
   pub root : ℕ
+  pub begin : ℕ
+  pub most_messages : ℕ
+  pub most_bad : ℕ
   pub bare : Bool
   pub skip : ℕ
   pub start : Start
@@ -37,6 +41,10 @@ pub record Job : Type 0 where
   pub label : Option (List ℕ)
   pub form : Form
   pub plan : Option Planned
+
+-- what is checked of an input: all but the bytes at its beginning that are left out
+abbrev pub checked_in : Job → List ℕ → List ℕ
+checked_in job bytes = drop job.begin bytes
 
 -- the buffer in a message
 abbrev pub buffer_in : Job → List ℕ → List ℕ
@@ -155,6 +163,9 @@ abbrev pub job_of : Rows → Options → Job
 job_of rows options = record {
   rows = rows;
   root = options.root;
+  begin = options.skip;
+  most_messages = options.most_messages;
+  most_bad = options.most_bad;
   bare = options.bare;
   skip = skip_of options.bare options.prefix;
   start = start_of options.bare options.prefix;
@@ -176,13 +187,15 @@ abbrev pub PathsFit : Rows → ℕ → List Wanted → Type 0
 PathsFit rows root = All (λ (wanted : Wanted). StepsFit rows (Table root) wanted.steps)
 
 -- the options serve the schema: the root is a table of it, at most 16 paths fit from there, a framer may have the
--- limit, and a plan is that of this schema
+-- limit, a message may be told, and a plan is that of this schema
 pub record Serves (rows : Rows) (options : Options) : Type 0 where
   pub table : IsTrue (is_table rows options.root)
   pub fits : PathsFit rows options.root options.paths.items
   pub few : length options.paths.items ≤ 16
   pub least : 8 ≤ options.max_bytes
   pub most : options.max_bytes < 2 ^ 31
+  pub some_messages : 1 ≤ options.most_messages
+  pub some_bad : 1 ≤ options.most_bad
   pub planned : IfSome options.plan (λ p. IsPlan rows p.demands p)
 
 -- what a checker needs beside a buffer: so many levels for open tables, so many for those of a pass, so many links, the

@@ -1,23 +1,19 @@
 -- What is told of many messages, and what gathers and writes it.
 use Rattle.std.specs.Prelude.{◌≡◌, ℕ, ◌+◌, ◌<◌, List, [], ◌∷◌, ◌++◌, Option, length, take}
 use Rattle.std.specs.Io.KnownBytes.{Appends, Keeps}
-use Rattle.fb_lines.specs.{Job.Job, Job.Verdict, Ends.Outs, Line.IsTold, Spot.Before, Spot.at_first, Spot.past, Sums.no_tally, Sums.tally_with}
+use Rattle.fb_lines.specs.{Job.Job, Job.Verdict, Ends.Outs, Line.IsTold, Spot.Before, Spot.IsDue, Spot.past, Sums.no_tally, Sums.tally_with}
 use Rattle.fb_lines.specs.Texts.{IsCounted, Sizes, Texts, followed, silent}
 use Rattle.fb_lines.specs.declared.{tally.Tally.Tally, fault.RunFault.RunFault}
 use Rattle.fb_lines.specs.declared.fault.RunFault.TheVariants.{WriteFault, NoteFault}
 
--- the text is what is told of each message, the first of them behind so much, and the messages come to this by their
--- verdicts
+-- the text is what is told of each message, the first of them behind so much and each where another is told, and the
+-- messages come to this by their verdicts
 abbrev pub AreTold : Job → Before → List (List ℕ) → Texts → Tally → Type 0
 AreTold job before [] text tally = (text ≡ silent) × (tally ≡ no_tally)
 AreTold job before (message ∷ messages) text tally =
     (verdict : Verdict) × (line : Texts) × (rest : Texts) × (others : Tally)
-    × IsTold job before message verdict line × (text ≡ followed line rest) × AreTold job (past before message) messages rest others
+    × IsDue job before × IsTold job before message verdict line × (text ≡ followed line rest) × AreTold job (past before message verdict) messages rest others
     × (tally ≡ tally_with message verdict others)
-
--- the same, whatever the verdicts
-abbrev pub TextsOf : Job → List (List ℕ) → Texts → Type 0
-TextsOf job messages text = (tally : Tally) × AreTold job at_first messages text tally
 
 -- behind this text came a text of which this holds
 abbrev pub AddsText : (List ℕ → Type 0) → List ℕ → List ℕ → Type 0

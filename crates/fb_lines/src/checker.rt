@@ -7,7 +7,7 @@ ghost use Rattle.fb_lines.specs.declared.checker.Course.TheVariants.{Brief, Brie
 ghost use Rattle.fb_lines.specs.Job.{AreAnswers, HasRoom, IsChecked, IsVerdict, PathsFit, Serves, Verdict, VerifiesBy, asked_of, brief_verdict, buffer_in, course_by, course_of, is_brief, job_of, limits_for, place_told, skip_of, start_of, verdict_beside, verdict_of};
 ghost use Rattle.fb_strict.specs.AsAsked.{StopsBy, StopsAlongBy};
 ghost use Rattle.fb_schema.specs.Rows.{Rows};
-ghost use Rattle.fb_lines.specs.Line.{front_in};
+ghost use Rattle.fb_lines.specs.{Line.front_in, Spot.IsDue, Spot.at_first};
 ghost use Rattle.fb_lines.specs.declared.options.Form.TheVariants.{Json};
 
 use crate::answers::{Answers, MOST_PATHS};
@@ -122,6 +122,28 @@ impl<'s, 'n, 'o> Checker<'s, 'n, 'o> {
         ensures most { self.now.limit < 2 ^ 31 }
     {
         self.options.max_bytes
+    }
+
+    /// How many bytes at the beginning of the input are left out. The first message behind them is told.
+    pub fn begin(&self) -> u64
+        ensures value { result ≡ self.now.begin }
+        ensures due { IsDue self.now (at_first self.now) }
+    {
+        self.options.skip
+    }
+
+    /// How many messages are told at most.
+    pub fn most_messages(&self) -> u64
+        ensures { result ≡ self.now.most_messages }
+    {
+        self.options.most_messages
+    }
+
+    /// The number of bad messages behind the last of which none is told.
+    pub fn most_bad(&self) -> u64
+        ensures { result ≡ self.now.most_bad }
+    {
+        self.options.most_bad
     }
 
     /// What is told of the buffers.

@@ -1,7 +1,7 @@
 //! Counts verdicts.
 
 ghost use Rattle.std.specs.Prelude.{Ok, ◌≡◌, ◌+◌, ◌<◌, ◌^◌, length};
-ghost use Rattle.fb_lines.specs.{Job.brief_verdict, Job.verdict_of, Spot.past_all, Spot.spot_of, Sums.no_tally, Sums.tally_with};
+ghost use Rattle.fb_lines.specs.{Job.brief_verdict, Job.verdict_of, Spot.spot_of, Sums.no_tally, Sums.tally_with};
 
 use crate::checker::{Found, Wrong};
 use crate::spot::Spot;
@@ -52,14 +52,21 @@ impl Counter {
         self.tally.yes + self.tally.no
     }
 
-    /// Where this message stands, the next one.
-    pub fn spot(&self, message: &[u8]) -> Spot
+    /// How many of them were bad.
+    pub fn bad(&self) -> u64
+        ensures { result ≡ self.now.no }
+    {
+        self.tally.no
+    }
+
+    /// Where this message stands, the next one, where so many bytes stand before the first.
+    pub fn spot(&self, begin: u64, message: &[u8]) -> Spot
         requires few { self.now.yes + self.now.no < 2 ^ 63 }
-        ensures { result ≡ spot_of (past_all self.now) message.now }
+        ensures { result ≡ spot_of (record { messages = self.now.yes + self.now.no; bad = self.now.no; bytes = begin + self.now.bytes }) message.now }
     {
         Spot {
             number: 1 + self.messages(),
-            begin: self.tally.bytes,
+            begin: u128::from(begin) + self.tally.bytes,
             bytes: message.len() as u64,
         }
     }

@@ -28,6 +28,8 @@ pub enum RunFault {
     OutOfMemory,
     /// A bare input has more than `limit` bytes.
     BareTooLong { limit: u32 },
+    /// The input ended within its first `skip` bytes, which are left out.
+    SkipPastEnd { skip: u64 },
 }
 
 impl From<AllocError> for RunFault {
@@ -65,6 +67,7 @@ impl RunFault {
             RunFault::TooManyTurns => Line::of("too many reads"),
             RunFault::OutOfMemory => Line::of("out of memory"),
             RunFault::BareTooLong { limit } => counted("input longer than ", u128::from(*limit)),
+            RunFault::SkipPastEnd { skip } => unskipped(*skip),
         }
     }
 }
@@ -78,6 +81,17 @@ fn counted(before: &str, count: u128) -> Line
     let mut line = Line::of(" bytes");
     line.put_wide(count);
     line.put_text(before);
+    line
+}
+
+/// That an input has fewer bytes than are left out.
+fn unskipped(skip: u64) -> Line
+    ensures text { result ≡ codes "the input ends before its first " ++ decimal skip ++ codes " bytes are skipped" }
+    ensures short { length result ≤ 100 }
+{
+    let mut line = Line::of(" bytes are skipped");
+    line.put_number(skip);
+    line.put_text("the input ends before its first ");
     line
 }
 

@@ -102,6 +102,12 @@ pub struct Options {
     pub reads_per_byte: u32,
     /// The longest message, prefix included, or the longest bare input: 8 to 2,147,483,647 bytes.
     pub max_bytes: u32,
+    /// How many bytes at the beginning of the input are left out, where it has as many. Positions of messages count them.
+    pub skip: u64,
+    /// How many messages are checked at most, at least 1: behind the last of them the run ends.
+    pub most_messages: u64,
+    /// The number of bad messages, at least 1, behind the last of which the run ends.
+    pub most_bad: u64,
     /// Whether the input is one bare buffer, and no stream.
     pub bare: bool,
     /// What a message's prefix is, where the input is a stream.

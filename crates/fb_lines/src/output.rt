@@ -1,7 +1,7 @@
 //! What a run tells: counted, and put behind what waits to be written.
 
 ghost use Rattle.std.specs.Prelude.{Err, Ok, OnOk, OnErr, IsTrue, ◌≡◌, ◌+◌, ◌<◌, ◌^◌, ◌++◌, [], false, length};
-ghost use Rattle.fb_lines.specs.{AnswerText.label_text, Ends.outs_of, Spot.past_all, Spot.spot_of, Sums.count_of, Sums.no_tally, Sums.tally_with, Texts.silent};
+ghost use Rattle.fb_lines.specs.{AnswerText.label_text, Ends.outs_of, Spot.HasDue, Spot.IsFull, Spot.past_all, Spot.spot_of, Sums.count_of, Sums.no_tally, Sums.tally_with, Texts.silent};
 ghost use Rattle.fb_lines.specs.Job.{HasRoom, brief_verdict, is_brief, verdict_of};
 ghost use Rattle.fb_lines.specs.Line.{IsLine, IsLineIn, front_in, verdict_line};
 ghost use Rattle.fb_lines.specs.Lines.{AddsText};
@@ -70,7 +70,7 @@ impl<A: Allocator> Output<A> {
         requires few { count_of self.old.counter < 2 ^ 63 }
         requires short { length message.now < 2 ^ 31 }
         requires unfailed { AreOpen (queues_of K.Sink N.Sink self.old writer.old notes.old) }
-        ensures told { AddsBy checker.now (past_all self.old.counter) message.now (queues_of K.Sink N.Sink self.old writer.old notes.old)
+        ensures told { AddsBy checker.now (past_all checker.now self.old.counter) message.now (queues_of K.Sink N.Sink self.old writer.old notes.old)
             (queues_of K.Sink N.Sink self.new writer.new notes.new) self.old.counter self.new.counter result }
         ensures one { OnOk result (count_of self.new.counter ≡ count_of self.old.counter + 1) }
         ensures room { HasRoom checker.now room.new }
@@ -98,7 +98,7 @@ impl<A: Allocator> Output<A> {
         requires few { count_of self.old.counter < 2 ^ 63 }
         requires short { length message.now < 2 ^ 31 }
         requires unfailed { AreOpen (queues_of K.Sink N.Sink self.old writer.old notes.old) }
-        ensures told { AddsBy checker.now (past_all self.old.counter) message.now (queues_of K.Sink N.Sink self.old writer.old notes.old)
+        ensures told { AddsBy checker.now (past_all checker.now self.old.counter) message.now (queues_of K.Sink N.Sink self.old writer.old notes.old)
             (queues_of K.Sink N.Sink self.new writer.new notes.new) self.old.counter self.new.counter result }
         ensures one { OnOk result (count_of self.new.counter ≡ count_of self.old.counter + 1) }
         ensures room { HasRoom checker.now room.new }
@@ -156,12 +156,12 @@ impl<A: Allocator> Output<A> {
         requires few { count_of self.old.counter < 2 ^ 63 }
         requires short { length message.now < 2 ^ 31 }
         requires unfailed { AreOpen (queues_of K.Sink N.Sink self.old writer.old notes.old) }
-        ensures { AddsOr (Tells checker.now.mode (IsLine checker.now (spot_of (past_all self.old.counter) message.now) (brief_verdict (Err fault))) message.now (brief_verdict (Err fault))
+        ensures { AddsOr (Tells checker.now.mode (IsLine checker.now (spot_of (past_all checker.now self.old.counter) message.now) (brief_verdict (Err fault))) message.now (brief_verdict (Err fault))
             (queues_of K.Sink N.Sink self.old writer.old notes.old) (queues_of K.Sink N.Sink self.new writer.new notes.new) × (self.new.counter ≡ tally_with message.now (brief_verdict (Err fault)) self.old.counter))
             (queues_of K.Sink N.Sink self.old writer.old notes.old) (queues_of K.Sink N.Sink self.new writer.new notes.new) self.old.counter self.new.counter result }
     {
         let verdict = Err(Wrong { fault, place: None });
-        let spot = self.counter.spot(message);
+        let spot = self.counter.spot(checker.begin(), message);
         self.tell(checker, b"", &spot, message, &verdict, writer)?;
         self.counter.count(message, &verdict);
         self.settle(writer, notes)
@@ -180,14 +180,14 @@ impl<A: Allocator> Output<A> {
         requires few { count_of self.old.counter < 2 ^ 63 }
         requires short { length message.now < 2 ^ 31 }
         requires unfailed { AreOpen (queues_of K.Sink N.Sink self.old writer.old notes.old) }
-        ensures told { AddsBy checker.now (past_all self.old.counter) message.now (queues_of K.Sink N.Sink self.old writer.old notes.old)
+        ensures told { AddsBy checker.now (past_all checker.now self.old.counter) message.now (queues_of K.Sink N.Sink self.old writer.old notes.old)
             (queues_of K.Sink N.Sink self.new writer.new notes.new) self.old.counter self.new.counter result }
         ensures one { OnOk result (count_of self.new.counter ≡ count_of self.old.counter + 1) }
         ensures room { HasRoom checker.now room.new }
     {
         let verdict = checker.verdict(room, message)?;
         let (verdict, begin) = checker.told(room, verdict);
-        let spot = self.counter.spot(message);
+        let spot = self.counter.spot(checker.begin(), message);
         self.tell(checker, begin, &spot, message, &verdict, writer)?;
         self.counter.count(message, &verdict);
         self.settle(writer, notes)
@@ -350,6 +350,35 @@ impl<A: Allocator> Output<A> {
             return Err(RunFault::NoteFault { written });
         }
         Ok(())
+    }
+
+    /// How many messages more are told whatever their verdicts: so many, which are known, or where these are none, as
+    /// many as are. None are where the bounds of the options are reached.
+    #[inline(always)]
+    pub fn due(&self, checker: &Checker<'_, '_, '_>, sure: u64) -> u64
+        requires few { count_of self.now.counter < 2 ^ 63 }
+        requires sure { HasDue checker.now (past_all checker.now self.now.counter) sure }
+        ensures due { HasDue checker.now (past_all checker.now self.now.counter) result }
+        ensures full { result ≡ 0 → IsFull checker.now (past_all checker.now self.now.counter) }
+    {
+        if sure > 0 {
+            return sure;
+        }
+        self.count_due(checker)
+    }
+
+    /// How many messages more are told whatever their verdicts.
+    #[inline(never)]
+    fn count_due(&self, checker: &Checker<'_, '_, '_>) -> u64
+        requires few { count_of self.now.counter < 2 ^ 63 }
+        ensures due { HasDue checker.now (past_all checker.now self.now.counter) result }
+        ensures full { result ≡ 0 → IsFull checker.now (past_all checker.now self.now.counter) }
+    {
+        let messages = checker
+            .most_messages()
+            .saturating_sub(self.counter.messages());
+        let bad = checker.most_bad().saturating_sub(self.counter.bad());
+        messages.min(bad)
     }
 
     /// What was counted so far.

@@ -7,7 +7,7 @@ use Rattle.std.proofs.lemmas.List.{append-nil, nil_from_length}
 use Rattle.fb_bytes.specs.declared.ends.Sink as sink
 use Rattle.fb_lines.specs.declared.output.Output.{Output}
 use Rattle.fb_lines.specs.Ends.{Outs, Reader, beside, outs_of}
-use Rattle.fb_lines.specs.{Job.Job, Job.Verdict, Line.IsLine, Line.ToldBy, Spot.at_first, Spot.past_all, Spot.spot_of, Sums.no_tally}
+use Rattle.fb_lines.specs.{Job.Job, Job.Verdict, Job.checked_in, Line.IsLine, Line.ToldBy, Spot.at_first, Spot.past_all, Spot.spot_of, Sums.no_tally}
 use Rattle.fb_lines.specs.Faults.{End, EndsBeside}
 use Rattle.fb_lines.specs.Lines.{WritesFront, WritesFronts}
 use Rattle.fb_lines.specs.Puts.{Adds, AddsBy, AreCut, AreSo, IsUnused, PutsBoth, Queues, all_unused, queues_of}
@@ -15,7 +15,7 @@ use Rattle.fb_lines.specs.Texts.{Texts, no_bytes, silent}
 use Rattle.fb_lines.specs.declared.{tally.Tally.Tally, fault.RunFault.RunFault, options.Mode.Mode}
 use Rattle.fb_lines.specs.declared.options.Mode.TheVariants.{Lines, BadLines, Filter, Csv}
 use Rattle.fb_lines.specs.declared.fault.RunFault.TheVariants as run
-use Rattle.fb_run.specs.{Bare.WritesPart, Pieces.AreEmpty, Run.IsBareRun, Whole.ReadsWhole}
+use Rattle.fb_run.specs.{Bare.IsBareInput, Bare.WritesPart, Pieces.AreEmpty, Run.IsBareRun, Whole.ReadsWhole}
 use Rattle.fb_run.proofs.{RunLemmas.caused_at, StreamLemmas.still, TakesLemmas.cut_caused, TakesLemmas.none_failed, TakesLemmas.outs_in}
 use Rattle.fb_run.proofs.TakesLemmas.{put_behind, put_front, takes_all, written_all}
 
@@ -25,9 +25,9 @@ unused_queues k n output writer notes ((none, out), (no_notes, noted)) = rw (non
 
 -- behind nothing else
 pub begun : (job : Job) (bytes : List ℕ) (first : Outs) (before now : Queues) (tally tally' : Tally) (end : End) → before ≡ all_unused first → tally ≡ no_tally
-    → AddsBy job (past_all tally) bytes before now tally tally' end → AddsBy job at_first bytes (all_unused first) now no_tally tally' end
+    → AddsBy job (past_all job tally) bytes before now tally tally' end → AddsBy job (at_first job) bytes (all_unused first) now no_tally tally' end
 begun job bytes first before now tally tally' end unused counted adds =
-    subst (λ (q : Queues). AddsBy job at_first bytes q now no_tally tally' end) unused (subst (λ (t : Tally). AddsBy job (past_all t) bytes before now t tally' end) counted adds)
+    subst (λ (q : Queues). AddsBy job (at_first job) bytes q now no_tally tally' end) unused (subst (λ (t : Tally). AddsBy job (past_all job t) bytes before now t tally' end) counted adds)
 
 -- what holds where it went well
 pub on_ok : {P : Type 0} (end : End) → OnOk end P → end ≡ Ok tt → P
@@ -50,13 +50,13 @@ keeps_nil None b grown = tt
 keeps_nil (Some xs) None grown = grown
 keeps_nil (Some xs) (Some ys) grown = grown ∙ append-nil xs
 
-module _ (job : Job) (bytes : List ℕ) (first : Outs) (now : Queues) (tally : Tally) (adds : Adds job at_first bytes (all_unused first) now no_tally tally) where
+module _ (job : Job) (bytes : List ℕ) (is_input : IsBareInput job bytes) (first : Outs) (now : Queues) (tally : Tally) (adds : Adds job (at_first job) (checked_in job bytes) (all_unused first) now no_tally tally) where
   -- a write came to rest
   fronts : (fault : RunFault) → AreCut now fault → WritesFronts adds.told first (outs_in now) no_bytes fault
   fronts (run.WriteFault written) (cut, fine, is) =
       let front = (put_front adds.told.out first.writer now.out cut adds.puts.0).0 in
       let behind = (put_behind adds.told.notes first.notes now.notes fine adds.puts.1).0 in
-      let none : adds.told.notes ≡ [] = elim (alone job.mode (IsLine job (spot_of at_first bytes) adds.verdict) bytes adds.verdict adds.told adds.is_told.text) [
+      let none : adds.told.notes ≡ [] = elim (alone job.mode (IsLine job (spot_of (at_first job) (checked_in job bytes)) adds.verdict) (checked_in job bytes) adds.verdict adds.told adds.is_told.text) [
         | inl nothing ↦ absurd (omega (arith, front.within, ap length nothing))
         | inr nothing ↦ nothing
       ] in
@@ -71,51 +71,59 @@ module _ (job : Job) (bytes : List ℕ) (first : Outs) (now : Queues) (tally : T
   fronts _ never = absurd never
 
   part : (fault : RunFault) → AreCut now fault → WritesPart job bytes first (outs_in now) tally fault
-  part fault cut = record { verdict = adds.verdict; line = adds.told; is_line = adds.is_told; wrote = fronts fault cut; tally_is = adds.tally_is }
+  part fault cut = record { is_input = is_input; verdict = adds.verdict; line = adds.told; is_line = adds.is_told; wrote = fronts fault cut; tally_is = adds.tally_is }
 
-module _ (job : Job) {bytes : List ℕ} {begun last : Reader} (first : Outs) (tally : Tally) (turns : ℕ) (whole : ReadsWhole job.limit begun last bytes) where
+module _ (job : Job) {buffer : List ℕ} {begun last : Reader} (first : Outs) (tally : Tally) (turns : ℕ) (whole : ReadsWhole job begun last buffer) where
   abbrev IsRun : Queues → End → Type 0
   IsRun now end = IsBareRun job (beside begun first) (beside last (outs_in now)) tally end × EndsBeside (beside begun first) (beside last (outs_in now)) turns end
 
   -- a write failed
-  cut_run : (now : Queues) (fault : RunFault) → Adds job at_first bytes (all_unused first) now no_tally tally → AreCut now fault → IsRun now (Err fault)
+  cut_run : (now : Queues) (fault : RunFault) → Adds job (at_first job) (checked_in job whole.bytes) (all_unused first) now no_tally tally → AreCut now fault → IsRun now (Err fault)
   cut_run now (run.WriteFault written) adds cut = (
-    (bytes, whole.read, (whole.within, part job bytes first now tally adds (run.WriteFault written) cut)),
+    (whole.bytes, whole.read, part job whole.bytes whole.is_input first now tally adds (run.WriteFault written) cut),
     caused_at begun.failures last.failures (begun.calls + turns - last.calls) last.ended first (outs_in now) (run.WriteFault written) whole.unfailed (cut_caused adds.told first now adds.puts (run.WriteFault written) cut),
   )
   cut_run now (run.NoteFault written) adds cut = (
-    (bytes, whole.read, (whole.within, part job bytes first now tally adds (run.NoteFault written) cut)),
+    (whole.bytes, whole.read, part job whole.bytes whole.is_input first now tally adds (run.NoteFault written) cut),
     caused_at begun.failures last.failures (begun.calls + turns - last.calls) last.ended first (outs_in now) (run.NoteFault written) whole.unfailed (cut_caused adds.told first now adds.puts (run.NoteFault written) cut),
   )
   cut_run now _ adds never = absurd never
 
   -- it was not told to its end
-  pub bare_stops : (now : Queues) (fault : RunFault) → AddsBy job at_first bytes (all_unused first) now no_tally tally (Err fault) → IsRun now (Err fault)
-  bare_stops now run.OutOfMemory (same, counted) =
-      rw same ((bytes, whole.read, (whole.within, ((Keeps-refl first.writer.bytes, Keeps-refl first.notes.bytes), counted))), (whole.unfailed, refl, refl))
-  bare_stops now (run.WriteFault written) (adds, cut) = cut_run now (run.WriteFault written) adds cut
-  bare_stops now (run.NoteFault written) (adds, cut) = cut_run now (run.NoteFault written) adds cut
-  bare_stops now _ (adds, never) = absurd never
+  stops : (now : Queues) (fault : RunFault) → AddsBy job (at_first job) (checked_in job whole.bytes) (all_unused first) now no_tally tally (Err fault) → IsRun now (Err fault)
+  stops now run.OutOfMemory (same, counted) =
+      rw same ((whole.bytes, whole.read, (whole.is_input.within, ((Keeps-refl first.writer.bytes, Keeps-refl first.notes.bytes), counted))), (whole.unfailed, refl, refl))
+  stops now (run.WriteFault written) (adds, cut) = cut_run now (run.WriteFault written) adds cut
+  stops now (run.NoteFault written) (adds, cut) = cut_run now (run.NoteFault written) adds cut
+  stops now _ (adds, never) = absurd never
+
+  pub bare_stops : (now : Queues) (fault : RunFault) → AddsBy job (at_first job) buffer (all_unused first) now no_tally tally (Err fault) → IsRun now (Err fault)
+  bare_stops now fault adds = stops now fault (subst (λ (l : List ℕ). AddsBy job (at_first job) l (all_unused first) now no_tally tally (Err fault)) whole.buffer_is adds)
 
   -- what waited was written
-  pub bare_ends : (mid now : Queues) (end : End) → AddsBy job at_first bytes (all_unused first) mid no_tally tally (Ok tt) → PutsBoth silent mid now → AreSo now end → (end ≡ Ok tt → AreEmpty now) → IsRun now end
-  bare_ends mid now end (adds, fine) none so empty =
-      let all : Adds job at_first bytes (all_unused first) now no_tally tally = record { verdict = adds.verdict; told = adds.told; is_told = adds.is_told; puts = still job first adds.told mid now adds.puts none; tally_is = adds.tally_is } in
+  ends : (mid now : Queues) (end : End) → AddsBy job (at_first job) (checked_in job whole.bytes) (all_unused first) mid no_tally tally (Ok tt) → PutsBoth silent mid now → AreSo now end → (end ≡ Ok tt → AreEmpty now) → IsRun now end
+  ends mid now end (adds, fine) none so empty =
+      let all : Adds job (at_first job) (checked_in job whole.bytes) (all_unused first) now no_tally tally = record { verdict = adds.verdict; told = adds.told; is_told = adds.is_told; puts = still job first adds.told mid now adds.puts none; tally_is = adds.tally_is } in
       by end all so empty
     where
-      by : (e : End) → Adds job at_first bytes (all_unused first) now no_tally tally → AreSo now e → (e ≡ Ok tt → AreEmpty now) → IsRun now e
+      by : (e : End) → Adds job (at_first job) (checked_in job whole.bytes) (all_unused first) now no_tally tally → AreSo now e → (e ≡ Ok tt → AreEmpty now) → IsRun now e
       by (Ok done) all fine empty =
           let unfailed = none_failed all.told first now all.puts fine in (
             record {
-              bytes = bytes;
+              bytes = whole.bytes;
               read = whole.read;
-              within = whole.within;
+              ended = whole.ended;
+              is_input = whole.is_input;
               verdict = all.verdict;
               line = all.told;
               is_line = all.is_told;
               takes = takes_all all.told first now all.puts fine (empty refl);
               tally_is = all.tally_is;
             },
-            ((whole.unfailed, unfailed.0, unfailed.1), whole.ended),
+            (whole.unfailed, unfailed.0, unfailed.1),
           )
       by (Err fault) all cut empty = cut_run now fault all cut
+
+  pub bare_ends : (mid now : Queues) (end : End) → AddsBy job (at_first job) buffer (all_unused first) mid no_tally tally (Ok tt) → PutsBoth silent mid now → AreSo now end
+      → (end ≡ Ok tt → AreEmpty now) → IsRun now end
+  bare_ends mid now end adds = ends mid now end (subst (λ (l : List ℕ). AddsBy job (at_first job) l (all_unused first) mid no_tally tally (Ok tt)) whole.buffer_is adds)

@@ -2,6 +2,8 @@ pub mod BareLemmas
 pub mod FrontLemmas
 pub mod LinesLemmas
 pub mod RunLemmas
+pub mod SkipLemmas
 pub mod StreamLemmas
 pub mod TakesLemmas
 pub mod TextsLemmas
+pub mod WholeLemmas

@@ -1,30 +1,35 @@
 -- A run over a stream: what was read and written, and then one piece more.
 use Rattle.std.proofs.Common.{◌≡◌, ℕ, ◌+◌, ◌-◌, ◌*◌, ◌<◌, ◌≤◌, Bool, true, false, List, [], ◌++◌, length, take, drop, refl, sym, ap, subst, ◌∙◌, arith, append-nil, length-take-le, take-append-drop, Result, Ok, Err, IsErrAnd}
-use Rattle.std.specs.Io.KnownBytes.{Consumes}
-use Rattle.std.proofs.KnownBytes.{Consumes-nil, Consumes-trans, Keeps-refl}
+use Rattle.std.specs.Io.KnownBytes.{Consumes, Keeps}
+use Rattle.std.proofs.KnownBytes.{Consumes-kept, Consumes-nil, Consumes-trans, Keeps-refl}
+use Rattle.std.proofs.lemmas.List.{drop_all, length-append, length-drop}
 use mathlib.Core.Logic.{inl, inr}
-use Rattle.fb_bytes.specs.Messages.{IsPartial}
+use Rattle.fb_bytes.specs.Messages.{IsPartial, Splits}
 use Rattle.fb_bytes.specs.declared.stream_fault.StreamFault.TheVariants as stream
-use Rattle.fb_lines.specs.{Ends.Ends, Ends.Outs, Ends.Reader, Ends.Takes, Ends.beside, Job.Job, Lines.AreTold, Spot.at_first, Sums.count_of, Sums.no_tally}
+use Rattle.fb_lines.specs.{Ends.Ends, Ends.Outs, Ends.Reader, Ends.Takes, Ends.beside, Job.Job, Job.checked_in, Lines.AreTold, Spot.IsDue, Spot.IsFull, Spot.at_first, Spot.past_all, Sums.count_of, Sums.no_tally}
 use Rattle.fb_lines.specs.Faults.{End, EndsBeside, IsCaused, IsCausedOut, IsUnfailedOut, end_of, failed}
 use Rattle.fb_lines.specs.Puts.{AreOpen, Queues, all_unused}
 use Rattle.fb_lines.specs.Texts.{Texts, followed, silent, to_notes}
 use Rattle.fb_lines.specs.declared.{fault.RunFault.RunFault, tally.Tally.Tally}
 use Rattle.fb_lines.specs.declared.fault.RunFault.TheVariants as run
 use Rattle.fb_run.specs.{Leave.IsUnended, Prompt.IsPrompt, Prompt.IsPromptFrom, Prompt.IsStreamPrompt, Run.answer_by, Run.IsRunBeside, Run.IsRunFrom, Run.Runs}
-use Rattle.fb_run.specs.Stream.{FailsStream}
-use Rattle.fb_run.specs.Pieces.{AreEmpty, AreSettled, Carry, GoesOn, Halts, IsReady, Stands, WritesBy}
+use Rattle.fb_run.specs.Stream.{FailsStream, WhyStream}
+use Rattle.fb_run.specs.Pieces.{AreEmpty, AreSettled, Carry, Halts, IsReady, PassesFront, Stands, WritesBy}
+use Rattle.fb_run.specs.declared.skip.Skip.{Skip}
 use Rattle.fb_run.specs.declared.run.Ran.{Ran}
 use Rattle.fb_lines.proofs.Splitting.{empty_partial, splits_rest}
-use Rattle.fb_run.proofs.StreamLemmas.{stands_first}
+use Rattle.fb_run.proofs.StreamLemmas.{due_not_full, front_gathers, stands_first}
+use Rattle.fb_run.proofs.SkipLemmas.{LeavesOut, checked_more, skips_more}
 use Rattle.fb_run.proofs.TakesLemmas.{cut_caused, none_failed, outs_in, put_behind, put_front, takes_all, takes_none, written_all}
 use Rattle.fb_run.proofs.TextsLemmas.{same_texts}
 
--- what was read from the reader so far, of which all that is told is written
-pub record Sofar (job : Job) (first now : Reader) (before : Outs) (here : Carry) (turns left : ℕ) : Type 0 where
+-- what was read from the reader so far, of which all that is told is written, and the next message is told
+pub record Sofar (job : Job) (first now : Reader) (before : Outs) (here : Carry) (skip : Skip) (turns left : ℕ) : Type 0 where
   pub bytes : List ℕ
   pub read : Consumes first.left now.left bytes
-  pub stands : Stands job before bytes here
+  pub skips : LeavesOut job bytes skip
+  pub stands : Stands job before (checked_in job bytes) here
+  pub due : IsDue job (past_all job here.tally)
   pub ready : IsReady job here.framer here.room
   pub unfailed : AreOpen here.queues
   pub empty : AreEmpty here.queues
@@ -34,12 +39,14 @@ pub record Sofar (job : Job) (first now : Reader) (before : Outs) (here : Carry)
   pub asks : IsUnended first now
 
 -- nothing was told
-pub sofar_nothing : (job : Job) (reader : Reader) (outs : Outs) (here : Carry) (turns : ℕ) → IsReady job here.framer here.room → here.queues ≡ all_unused outs → here.tally ≡ no_tally → here.framer.held ≡ []
-    → Sofar job reader reader outs here turns turns
-sofar_nothing job reader outs here turns ready unused counted none = record {
+pub sofar_nothing : (job : Job) (reader : Reader) (outs : Outs) (here : Carry) (skip : Skip) (turns : ℕ) → LeavesOut job [] skip → IsDue job (at_first job) → IsReady job here.framer here.room → here.queues ≡ all_unused outs → here.tally ≡ no_tally → here.framer.held ≡ []
+    → Sofar job reader reader outs here skip turns turns
+sofar_nothing job reader outs here skip turns skips due ready unused counted none = record {
   bytes = [];
   read = Consumes-nil reader.left;
-  stands = stands_first job outs here unused counted none;
+  skips = skips;
+  stands = subst (λ (l : List ℕ). Stands job outs l here) (sym (drop_all job.begin [] (omega arith))) (stands_first job outs here unused counted none);
+  due = rw counted (record { messages = due.messages; bad = due.bad });
   ready = ready;
   unfailed = rw unused (refl, refl);
   empty = rw unused (refl, refl);
@@ -51,7 +58,7 @@ sofar_nothing job reader outs here turns ready unused counted none = record {
 
 -- a write failed behind a front of what is told of these bytes, or the run came to rest with all of that written
 halts_fails : (job : Job) (first reader : Reader) (before : Outs) (bytes : List ℕ) (tally : Tally) (queues : Queues) (fault : RunFault) → Consumes first.left reader.left bytes
-    → Halts job before bytes tally queues fault → AreSettled queues fault → FailsStream job (beside first before) (beside reader (outs_in queues)) tally fault
+    → Halts job before (checked_in job bytes) tally queues fault → AreSettled queues fault → FailsStream job (beside first before) (beside reader (outs_in queues)) tally fault
 halts_fails job first reader before bytes tally queues (run.WriteFault written) read (some, (cut, fine, is)) settled =
     let front = (put_front some.text.out before.writer queues.out cut some.puts.0).0 in
     let notes = (put_behind some.text.notes before.notes queues.notes fine some.puts.1).0 in
@@ -79,7 +86,7 @@ halts_fails job first reader before bytes tally queues (run.WriteFault written) 
               some.left,
               some.splits,
               refl,
-              subst (λ (t : Texts). AreTold job at_first some.done t tally) whole some.told,
+              subst (λ (t : Texts). AreTold job (at_first job) some.done t tally) whole some.told,
             ),
           ),
         ),
@@ -111,7 +118,7 @@ halts_fails job first reader before bytes tally queues (run.NoteFault written) r
               some.left,
               some.splits,
               refl,
-              subst (λ (t : Texts). AreTold job at_first some.done t tally) whole some.told,
+              subst (λ (t : Texts). AreTold job (at_first job) some.done t tally) whole some.told,
             ),
           ),
         ),
@@ -146,7 +153,7 @@ halts_caused job before bytes tally queues _ (some, never) reads left ended = ab
 pub caused_at : (reads reads' left : ℕ) (ended : Bool) (a b : Outs) (fault : RunFault) → reads' ≡ reads → IsCausedOut a b fault → IsCaused (failed reads a) (failed reads' b) left ended fault
 caused_at reads reads' left ended a b fault same caused = rw same (caused reads left ended)
 
-module _ {job : Job} {first now : Reader} {before : Outs} {here : Carry} {turns left : ℕ} (sofar : Sofar job first now before here turns left) where
+module _ {job : Job} {first now : Reader} {before : Outs} {here : Carry} {skip : Skip} {turns left : ℕ} (sofar : Sofar job first now before here skip turns left) where
   none : IsUnfailedOut before (outs_in here.queues)
   none = none_failed sofar.stands.text before here.queues sofar.stands.puts sofar.unfailed
 
@@ -165,43 +172,150 @@ module _ {job : Job} {first now : Reader} {before : Outs} {here : Carry} {turns 
     text = sofar.stands.text;
     read = sofar.read;
     splits = sofar.stands.splits;
+    tally = here.tally;
     partial = part;
-    told = (here.tally, sofar.stands.told);
+    told = sofar.stands.told;
+    due = sofar.due;
     takes = takes;
   }
 
-  -- a piece was read and passed
-  module _ (k : ℕ) (piece : List ℕ) (reader : Reader) (some : 0 < left) (read : Consumes now.left reader.left (take k piece)) (called : reader.calls ≡ now.calls + 1) (same : reader.failures ≡ now.failures) where
+  -- a piece was read, and what of it stands behind the bytes that are left out was passed
+  module _ (k : ℕ) (piece more : List ℕ) (reader : Reader) (some : 0 < left) (read : Consumes now.left reader.left (take k piece)) (called : reader.calls ≡ now.calls + 1) (same : reader.failures ≡ now.failures)
+      (behind : more ≡ drop skip.left (take k piece)) where
+    all : List ℕ
+    all = sofar.bytes ++ take k piece
+
     reads : Consumes first.left reader.left (sofar.bytes ++ take k piece)
     reads = Consumes-trans first.left now.left reader.left sofar.bytes (take k piece) sofar.read read
 
-    pub sofar_piece : {after : Carry} → length piece ≡ 65536 → k ≤ length piece → reader.ended ≡ false → GoesOn job (take k piece) here after × AreEmpty after.queues
-        → Sofar job first reader before after turns (left - 1)
-    sofar_piece {after} long fits unended (goes, empty) =
+    grown : checked_in job (sofar.bytes ++ take k piece) ≡ checked_in job sofar.bytes ++ more
+    grown = checked_more job sofar.bytes (take k piece) more skip sofar.skips behind
+
+    pub sofar_piece : {after : Carry} {skip' : Skip} → length piece ≡ 65536 → k ≤ length piece → reader.ended ≡ false → skip'.all ≡ skip.all → skip'.left ≡ skip.left - length (take k piece)
+        → IsDue job (past_all job after.tally) → PassesFront job more here after × AreEmpty after.queues → Sofar job first reader before after skip' turns (left - 1)
+    sofar_piece {after} {skip'} long fits unended alike shorter due (passes, empty) =
         let short = length-take-le k piece fits in
+        let goes = passes.goes_on in
+        let none : passes.left ≡ [] = elim passes.stopped [ inl full ↦ absurd (due_not_full job (past_all job after.tally) due full) | inr none ↦ none ] in
+        let front : passes.front ≡ more = sym (passes.whole ∙ ap (λ l. passes.front ++ l) none ∙ append-nil passes.front) in
+        let size : length more ≡ length (take k piece) - skip.left = ap length behind ∙ length-drop skip.left (take k piece) in
         record {
           bytes = sofar.bytes ++ take k piece;
           read = reads;
-          stands = goes.onward before sofar.bytes sofar.stands;
+          skips = skips_more job sofar.bytes (take k piece) skip skip' sofar.skips alike shorter;
+          stands = subst (λ (l : List ℕ). Stands job before l after) (ap (λ (l : List ℕ). checked_in job sofar.bytes ++ l) front ∙ sym grown) (goes.onward before (checked_in job sofar.bytes) sofar.stands);
+          due = due;
           ready = goes.ready;
           unfailed = goes.unfailed;
           empty = empty;
           fewer = omega (arith, sofar.fewer);
           calls = omega (arith, some, called, sofar.calls);
-          few = omega (arith, some, long, fits, short, goes.few, sofar.few);
+          few = omega (arith, some, long, fits, short, goes.few, sofar.few, size, ap length front);
           asks = (same ∙ sofar.asks.0, inl unended);
         }
 
-    -- or the run came to rest in it
-    pub fails_piece : (after : Carry) (fault : RunFault) → WritesBy job (take k piece) here after (Err fault)
-        → Runs false job (beside first before) (beside reader (outs_in after.queues)) turns after.tally (Err fault)
-    fails_piece after fault (stops, settled) =
-        let halts = stops before sofar.bytes sofar.stands in
+    -- a bound was reached in it
+    pub full_piece : (after : Carry) → IsFull job (past_all job after.tally) → PassesFront job more here after × AreEmpty after.queues
+        → Runs false job (beside first before) (beside reader (outs_in after.queues)) turns after.tally (Ok tt)
+    full_piece after full (passes, empty) =
+        let gathers = front_gathers job before (checked_in job sofar.bytes) more here after passes sofar.stands in
+        let fine = passes.goes_on.unfailed in
+        let kept = none_failed gathers.text before after.queues gathers.puts fine in
         record {
-          run = halts_fails job first reader before (sofar.bytes ++ take k piece) after.tally after.queues fault reads halts settled;
-          end_is = caused_at first.failures reader.failures _ _ before (outs_in after.queues) fault (same ∙ sofar.asks.0) (halts_caused job before (sofar.bytes ++ take k piece) after.tally after.queues fault halts);
+          run = record {
+            bytes = sofar.bytes ++ take k piece;
+            done = gathers.done;
+            left = gathers.left;
+            rest = gathers.rest;
+            text = gathers.text;
+            read = reads;
+            splits = subst (λ (l : List ℕ). Splits job.limit l (gathers.done ++ gathers.left) gathers.rest) (sym grown) gathers.splits;
+            told = gathers.told;
+            takes = takes_all gathers.text before after.queues gathers.puts fine empty;
+            stopped = inl full;
+          };
+          end_is = (same ∙ sofar.asks.0, kept.0, kept.1);
           turns_are = omega (arith, some, called, sofar.calls);
         }
+
+    -- or the run came to rest in it
+    pub fails_piece : (after : Carry) (fault : RunFault) → WritesBy job more here after (Err fault)
+        → Runs false job (beside first before) (beside reader (outs_in after.queues)) turns after.tally (Err fault)
+    fails_piece after fault (stops, settled) =
+        let halts = subst (λ (l : List ℕ). Halts job before l after.tally after.queues fault) (sym grown) (stops before (checked_in job sofar.bytes) sofar.stands) in
+        record {
+          run = halts_fails job first reader before (sofar.bytes ++ take k piece) after.tally after.queues fault reads halts settled;
+          end_is = caused_at first.failures reader.failures _ _ before (outs_in after.queues) fault (same ∙ sofar.asks.0) (halts_caused job before (checked_in job (sofar.bytes ++ take k piece)) after.tally after.queues fault halts);
+          turns_are = omega (arith, some, called, sofar.calls);
+        }
+
+  -- the run came to rest where all that is told of what was read is written
+  rests : (reader : Reader) (fault : RunFault) → Consumes first.left reader.left sofar.bytes → WhyStream job sofar.bytes sofar.stands.messages here.framer.held sofar.stands.text here.tally fault
+      → FailsStream job (beside first before) (beside reader (outs_in here.queues)) here.tally fault
+  rests reader fault read why = record {
+    bytes = sofar.bytes;
+    text = sofar.stands.text;
+    read = read;
+    takes = takes;
+    rests = (sofar.stands.messages, here.framer.held, sofar.stands.splits, why);
+  }
+
+  -- there are no more reads
+  pub fails_turns : left ≡ 0 → Runs false job (beside first before) (beside now (outs_in here.queues)) turns here.tally (Err run.TooManyTurns)
+  fails_turns spent = record {
+    run = rests now run.TooManyTurns sofar.read (part, sofar.stands.told);
+    end_is = ((sofar.asks.0, none.0, none.1), omega (arith, spent, sofar.calls));
+    turns_are = omega (arith, sofar.calls);
+  }
+
+  -- a read failed
+  pub fails_read : (reader : Reader) → 0 < left → Keeps now.left reader.left → reader.calls ≡ now.calls + 1 → reader.failures ≡ now.failures + 1
+      → Runs false job (beside first before) (beside reader (outs_in here.queues)) turns here.tally (Err run.ReadFault)
+  fails_read reader some kept called more = record {
+    run = rests reader run.ReadFault (Consumes-kept first.left now.left reader.left sofar.bytes sofar.read kept) (part, sofar.stands.told);
+    end_is = (omega (arith, more, sofar.asks.0), none.0, none.1);
+    turns_are = omega (arith, some, called, sofar.calls);
+  }
+
+  -- the input ended
+  module _ (reader : Reader) (some : 0 < left) (read : Consumes now.left reader.left []) (called : reader.calls ≡ now.calls + 1) (same : reader.failures ≡ now.failures) (ended : reader.ended ≡ true) where
+    whole : Consumes first.left reader.left sofar.bytes
+    whole = subst (Consumes first.left reader.left) (append-nil sofar.bytes) (Consumes-trans first.left now.left reader.left sofar.bytes [] sofar.read read)
+
+    -- within the bytes that are left out
+    pub fails_short : 0 < skip.left → Runs false job (beside first before) (beside reader (outs_in here.queues)) turns here.tally (Err (run.SkipPastEnd skip.all))
+    fails_short more = record {
+      run = rests reader (run.SkipPastEnd skip.all) whole (sofar.skips.all, omega (arith, more, sofar.skips.all, sofar.skips.left), sofar.stands.told);
+      end_is = ((same ∙ sofar.asks.0, none.0, none.1), ended);
+      turns_are = omega (arith, some, called, sofar.calls);
+    }
+
+    -- in mid-message
+    pub fails_part : (n : ℕ) → n ≡ length here.framer.held → 0 < n → Runs false job (beside first before) (beside reader (outs_in here.queues)) turns here.tally (Err (run.Stream (stream.Truncated n)))
+    fails_part n is held = record {
+      run = rests reader (run.Stream (stream.Truncated n)) whole (part, is, held, sofar.stands.told);
+      end_is = ((same ∙ sofar.asks.0, none.0, none.1), ended);
+      turns_are = omega (arith, some, called, sofar.calls);
+    }
+
+    -- with a message
+    pub passes_end : skip.left ≡ 0 → here.framer.held ≡ [] → Runs false job (beside first before) (beside reader (outs_in here.queues)) turns here.tally (Ok tt)
+    passes_end spent empty = record {
+      run = record {
+        bytes = sofar.bytes;
+        done = sofar.stands.messages;
+        left = [];
+        rest = here.framer.held;
+        text = sofar.stands.text;
+        read = whole;
+        splits = subst (λ (l : List (List ℕ)). Splits job.limit (checked_in job sofar.bytes) l here.framer.held) (sym (append-nil sofar.stands.messages)) sofar.stands.splits;
+        told = sofar.stands.told;
+        takes = takes;
+        stopped = inr (record { ended = ended; begun = omega (arith, spent, sofar.skips.left); none = refl; whole = empty });
+      };
+      end_is = (same ∙ sofar.asks.0, none.0, none.1);
+      turns_are = omega (arith, some, called, sofar.calls);
+    }
 
 -- over a stream that is all a run is asked for
 pub prompt_from : {job : Job} {before now : Ends} → job.bare ≡ false → IsStreamPrompt job before now → IsPrompt job before now
@@ -210,7 +324,7 @@ prompt_from {job} {before} {now} is prompt = subst (λ b. IsPromptFrom b job bef
 -- without memory nothing is read or written, whatever the input is
 none_from : (from : Bool) (job : Job) (ends : Ends) → IsRunFrom from job ends ends no_tally (Err run.OutOfMemory)
 none_from true job ends =
-    ([], Consumes-nil ends.reader.left, (omega arith, ((Keeps-refl ends.outs.writer.bytes, Keeps-refl ends.outs.notes.bytes), refl)))
+    ([], Consumes-nil ends.reader.left, (rw (drop_all job.begin [] (omega arith)) (omega arith), ((Keeps-refl ends.outs.writer.bytes, Keeps-refl ends.outs.notes.bytes), refl)))
 none_from false job ends = record {
   bytes = [];
   text = silent;

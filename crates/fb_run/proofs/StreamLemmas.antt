@@ -1,14 +1,14 @@
 -- What was read and told, and then more of the stream.
-use Rattle.std.proofs.Common.{◌≡◌, ℕ, ◌+◌, Bool, true≢false, List, [], ◌∷◌, ◌++◌, take, drop, refl, sym, ap, subst, ◌∙◌, arith, Result, Ok, Err, append-nil, append_assoc, length-append}
+use Rattle.std.proofs.Common.{◌≡◌, ◌⊎◌, ℕ, ◌+◌, ◌-◌, ◌<◌, Bool, true≢false, List, [], ◌∷◌, ◌++◌, take, drop, refl, sym, ap, subst, ◌∙◌, arith, Result, Ok, Err, append-nil, append_assoc, length-append}
 use mathlib.Core.Logic.{inl, inr}
 use Rattle.fb_bytes.specs.Messages.{IsMessage, IsOversize, IsPartial, Splits}
 use Rattle.fb_bytes.specs.Framing.{Framing, Feeds, FeedFails}
 use Rattle.fb_bytes.specs.declared.stream_fault.StreamFault.{StreamFault}
 use Rattle.fb_bytes.specs.declared.stream_fault.StreamFault.TheVariants as stream
 use Rattle.fb_bytes.proofs.MessageLemmas.{readings_some}
-use Rattle.fb_lines.specs.{Ends.Outs, Faults.feed_fault, Job.Beside, Job.HasRoom, Job.Job, Spot.Before, Spot.past_all, Texts.Texts, Texts.followed, Texts.silent, Sums.no_tally}
+use Rattle.fb_lines.specs.{Ends.Outs, Faults.feed_fault, Job.Beside, Job.HasRoom, Job.Job, Spot.Before, Spot.HasDue, Spot.IsDue, Spot.IsFull, Spot.past_all, Texts.Texts, Texts.followed, Texts.silent, Job.Verdict, Sums.no_tally, Sums.tally_with}
 use Rattle.fb_lines.specs.Puts.{Adds, AddsBy, AreCut, AreOpen, AreSound, PutsBoth, Queues, all_unused, unused}
-use Rattle.fb_run.specs.Pieces.{AreEmpty, AreSettled, Carry, Gathers, GoesOn, Halts, IsReady, Passes, PassesAllBy, Stands, Stops, WritesBy}
+use Rattle.fb_run.specs.Pieces.{AreEmpty, AreSettled, Carry, Gathers, GoesOn, Halts, IsReady, Passes, PassesAllBy, PassesFront, Stands, Stops, TellsOne, WritesBy}
 use Rattle.fb_lines.specs.declared.{tally.Tally.Tally, fault.RunFault.RunFault}
 use Rattle.fb_lines.specs.declared.fault.RunFault.TheVariants as run
 use Rattle.fb_lines.proofs.{Pieces.front-more, Splitting.empty_partial, Splitting.splits_one, Splitting.splits_rest, Splitting.splits_then}
@@ -27,15 +27,15 @@ module _ (job : Job) (first : Outs) where
   }
 
   -- a message was whole, and what is told of it was put
-  pub message_stands : (bytes more message : List ℕ) (before after : Carry) → message ≡ before.framer.held ++ more → IsMessage job.limit message → after.framer.held ≡ []
-      → Adds job (past_all before.tally) message before.queues after.queues before.tally after.tally → Stands job first bytes before → Stands job first (bytes ++ more) after
-  message_stands bytes more message before after at is gone adds stands =
+  pub message_stands : (bytes more message : List ℕ) (before after : Carry) → message ≡ before.framer.held ++ more → IsMessage job.limit message → after.framer.held ≡ [] → IsDue job (past_all job before.tally)
+      → Adds job (past_all job before.tally) message before.queues after.queues before.tally after.tally → Stands job first bytes before → Stands job first (bytes ++ more) after
+  message_stands bytes more message before after at is gone due adds stands =
       let one : Splits job.limit (before.framer.held ++ more) (message ∷ []) [] = rw (← at) (splits_one job.limit message is) in
       record {
         messages = stands.messages ++ message ∷ [];
         text = followed stands.text adds.told;
         splits = rw gone (splits_then job.limit bytes more before.framer.held [] stands.messages (message ∷ []) stands.splits one);
-        told = lines_more job stands.messages message stands.text adds.told before.tally after.tally adds.verdict adds.tally_is stands.told adds.is_told;
+        told = lines_more job stands.messages message stands.text adds.told before.tally after.tally adds.verdict adds.tally_is stands.told due adds.is_told;
         puts = (
           puts_then stands.text.out adds.told.out (unused first.writer) before.queues.out after.queues.out stands.puts.0 adds.puts.0,
           puts_then stands.text.notes adds.told.notes (unused first.notes) before.queues.notes after.queues.notes stands.puts.1 adds.puts.1,
@@ -93,17 +93,17 @@ module _ (job : Job) (first : Outs) where
 
   -- a message was whole at the front of a piece, and a write failed or there was no memory
   pub add_halts : (bytes front tail piece message : List ℕ) (before : Carry) (queues : Queues) (tally : Tally) (fault : RunFault) → piece ≡ front ++ tail → message ≡ before.framer.held ++ front
-      → IsMessage job.limit message → AreOpen before.queues
-      → AddsBy job (past_all before.tally) message before.queues queues before.tally tally (Err fault) → Stands job first bytes before → Halts job first (bytes ++ piece) tally queues fault
-  add_halts bytes front tail piece message before queues tally fault whole at is fine adds stands = by fault adds
+      → IsMessage job.limit message → AreOpen before.queues → IsDue job (past_all job before.tally)
+      → AddsBy job (past_all job before.tally) message before.queues queues before.tally tally (Err fault) → Stands job first bytes before → Halts job first (bytes ++ piece) tally queues fault
+  add_halts bytes front tail piece message before queues tally fault whole at is fine due adds stands = by fault adds
     where
-      come : Adds job (past_all before.tally) message before.queues queues before.tally tally → Gathers job first (bytes ++ piece) tally queues
+      come : Adds job (past_all job before.tally) message before.queues queues before.tally tally → Gathers job first (bytes ++ piece) tally queues
       come one =
           let after : Carry = record before { tally = tally; framer = record before.framer { held = [] }; queues = queues } in
           subst (λ (l : List ℕ). Gathers job first l tally queues) (append_assoc bytes front tail ∙ ap (λ l. bytes ++ l) (sym whole))
-          (gathers_more (bytes ++ front) tail after (message_stands bytes front message before after at is refl one stands))
+          (gathers_more (bytes ++ front) tail after (message_stands bytes front message before after at is refl due one stands))
 
-      by : (f : RunFault) → AddsBy job (past_all before.tally) message before.queues queues before.tally tally (Err f) → Halts job first (bytes ++ piece) tally queues f
+      by : (f : RunFault) → AddsBy job (past_all job before.tally) message before.queues queues before.tally tally (Err f) → Halts job first (bytes ++ piece) tally queues f
       by run.OutOfMemory (same, counted) = rw (same, counted) (gathers_more bytes piece before stands, fine)
       by (run.WriteFault written) (one, cut) = (come one, cut)
       by (run.NoteFault written) (one, cut) = (come one, cut)
@@ -136,11 +136,16 @@ module _ (job : Job) (first : Outs) where
     puts = still gathers.text a b gathers.puts none;
   }
 
+  -- a piece was passed as far as messages are told
+  pub front_gathers : (bytes piece : List ℕ) (before mid : Carry) → PassesFront job piece before mid → Stands job first bytes before → Gathers job first (bytes ++ piece) mid.tally mid.queues
+  front_gathers bytes piece before mid passes stands =
+      subst (λ (l : List ℕ). Gathers job first l mid.tally mid.queues) (append_assoc bytes passes.front passes.left ∙ ap (λ l. bytes ++ l) (sym passes.whole))
+      (gathers_more (bytes ++ passes.front) passes.left mid (passes.goes_on.onward first bytes stands))
+
   -- however a piece was passed, what is told of the first messages was put
   passed_gathers : (bytes piece : List ℕ) (before mid : Carry) (end : Result (Unit {0}) RunFault) → PassesAllBy job piece before mid end → Stands job first bytes before
       → Gathers job first (bytes ++ piece) mid.tally mid.queues
-  passed_gathers bytes piece before mid (Ok done) goes stands =
-      subst (λ (l : List ℕ). Gathers job first l mid.tally mid.queues) (append-nil (bytes ++ piece)) (gathers_more (bytes ++ piece) [] mid (goes.onward first bytes stands))
+  passed_gathers bytes piece before mid (Ok done) passes stands = front_gathers bytes piece before mid passes stands
   passed_gathers bytes piece before mid (Err fault) (stops, sound) stands = (stops first bytes stands).0
 
   -- a write of what waited behind it failed
@@ -163,12 +168,30 @@ module _ (job : Job) (first : Outs) where
   flushed_halts bytes tally a b (run.NoteFault written) none fine (gathers, why) = absurd (true≢false (sym why.0 ∙ was_unfailed [] a.notes b.notes none.1 fine.1))
   flushed_halts bytes tally a b _ none fine (gathers, never) = absurd never
 
+-- a message was counted
+pub one_told : (message : List ℕ) (verdict : Verdict) {before after : Tally} → after ≡ tally_with message verdict before → TellsOne before after
+one_told message (Ok found) {before} {after} is = rw is (record { messages = omega arith; bad = omega arith })
+one_told message (Err bad) {before} {after} is = rw is (record { messages = omega arith; bad = omega arith })
+
+-- where so many are told, and then one was, as many but one are
+pub due_less : (job : Job) (before after : Tally) (due : ℕ) → 0 < due → HasDue job (past_all job before) due → TellsOne before after → HasDue job (past_all job after) (due - 1)
+due_less job before after due some has one = record { messages = omega (arith, has.messages, one.messages, some); bad = omega (arith, has.bad, one.bad, some) }
+
+-- and where any are, the next is
+pub due_next : (job : Job) (before : Before) (due : ℕ) → 0 < due → HasDue job before due → IsDue job before
+due_next job before due some has = record { messages = omega (arith, has.messages, some); bad = omega (arith, has.bad, some) }
+
+-- where the next is told, no bound is reached
+pub due_not_full : (job : Job) (before : Before) → IsDue job before → IsFull job before → ⊥
+due_not_full job before due (inl over) = omega (arith, due.messages, over)
+due_not_full job before due (inr over) = omega (arith, due.bad, over)
+
 -- where no write has failed, none of the notes has
 pub open_sound : (queues : Queues) → AreOpen queues → AreSound queues
 open_sound queues fine cut = absurd (true≢false (sym cut ∙ fine.1))
 
 pub passed_sound : (job : Job) (piece : List ℕ) (before mid : Carry) (end : Result (Unit {0}) RunFault) → PassesAllBy job piece before mid end → AreSound mid.queues
-passed_sound job piece before mid (Ok done) goes = open_sound mid.queues goes.unfailed
+passed_sound job piece before mid (Ok done) passes = open_sound mid.queues passes.goes_on.unfailed
 passed_sound job piece before mid (Err fault) (stops, sound) = sound
 
 pub added_sound : (job : Job) (past : Before) (message : List ℕ) (before after : Queues) (tally tally' : Tally) (fault : RunFault) → AreOpen before → AddsBy job past message before after tally tally' (Err fault) → AreSound after
@@ -185,6 +208,7 @@ settled_empty queues run.TooManyTurns empty = empty
 settled_empty queues run.OutOfMemory empty = empty
 settled_empty queues (run.Stream fault) empty = empty
 settled_empty queues (run.BareTooLong limit) empty = empty
+settled_empty queues (run.SkipPastEnd skip) empty = empty
 
 pub settled_cut : (queues : Queues) (fault : RunFault) → AreCut queues fault → AreSettled queues fault
 settled_cut queues (run.WriteFault written) cut = tt
@@ -194,12 +218,18 @@ settled_cut queues _ never = absurd never
 -- a piece was passed, and what waited behind it was written
 pub flushed : (job : Job) (piece : List ℕ) (before mid : Carry) (queues : Queues) (end : Result (Unit {0}) RunFault) → PassesAllBy job piece before mid end → PutsBoth silent mid.queues queues
     → AreOpen queues → AreEmpty queues → WritesBy job piece before (record mid { queues = queues }) end
-flushed job piece before mid queues (Ok done) goes none fine empty = (
+flushed job piece before mid queues (Ok done) passes none fine empty = (
   record {
-    onward = λ first bytes stands. stands_still job first (bytes ++ piece) mid queues none (goes.onward first bytes stands);
-    ready = goes.ready;
-    unfailed = fine;
-    few = goes.few;
+    front = passes.front;
+    left = passes.left;
+    whole = passes.whole;
+    goes_on = record {
+      onward = λ first bytes stands. stands_still job first (bytes ++ passes.front) mid queues none (passes.goes_on.onward first bytes stands);
+      ready = passes.goes_on.ready;
+      unfailed = fine;
+      few = passes.goes_on.few;
+    };
+    stopped = passes.stopped;
   },
   empty,
 )
@@ -229,9 +259,9 @@ module _ {job : Job} {piece front rest : List ℕ} {before mid : Carry} (whole :
     },
   )
 
-  -- all of them
-  pub goes_all : rest ≡ [] → GoesOn job piece before mid
-  goes_all none = subst (λ (l : List ℕ). GoesOn job l before mid) (sym (whole ∙ ap (λ l. front ++ l) none ∙ append-nil front)) goes
+  -- all of them, or up to a bound
+  pub goes_front : IsFull job (past_all job mid.tally) ⊎ (rest ≡ []) → PassesFront job piece before mid
+  goes_front stopped = record { front = front; left = rest; whole = whole; goes_on = goes; stopped = stopped }
 
   -- and then the run came to rest
   pub stops_more : (after : Carry) (fault : RunFault) → Stops job mid rest after fault → Stops job before piece after fault

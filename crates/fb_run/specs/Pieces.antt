@@ -1,9 +1,9 @@
 -- What each step of a run over a stream answers.
-use Rattle.std.specs.Prelude.{◌≡◌, ℕ, ◌+◌, ◌<◌, ◌≤◌, ◌^◌, false, List, [], ◌++◌, Result, Ok, Err, length, take}
+use Rattle.std.specs.Prelude.{◌≡◌, ℕ, ◌+◌, ◌<◌, ◌≤◌, ◌^◌, ◌⊎◌, false, List, [], ◌++◌, Result, Ok, Err, length, take}
 use Rattle.fb_bytes.specs.{Framing.Framing, Messages.declared, Messages.IsOversize, Messages.IsPartial, Messages.Splits}
 use Rattle.fb_bytes.specs.declared.ends.Sink as sink
 use Rattle.fb_bytes.specs.declared.stream_fault.StreamFault.TheVariants as stream
-use Rattle.fb_lines.specs.{Ends.Outs, Job.Beside, Job.HasRoom, Job.Job, Lines.AreTold, Spot.at_first, Sums.count_of, Sums.no_tally, Texts.Texts}
+use Rattle.fb_lines.specs.{Ends.Outs, Job.Beside, Job.HasRoom, Job.Job, Lines.AreTold, Spot.IsFull, Spot.at_first, Spot.past_all, Sums.count_of, Sums.no_tally, Texts.Texts}
 use Rattle.fb_lines.specs.Puts.{AreCut, AreOpen, AreSound, IsUnused, PutsBoth, Queues, all_unused, queues_of}
 use Rattle.fb_lines.specs.declared.{fault.RunFault.RunFault, tally.Tally.Tally}
 use Rattle.fb_lines.specs.declared.fault.RunFault.TheVariants.{WriteFault, NoteFault, Stream, OutOfMemory}
@@ -41,7 +41,7 @@ pub record Stands (job : Job) (first : Outs) (bytes : List ℕ) (now : Carry) : 
   pub messages : List (List ℕ)
   pub text : Texts
   pub splits : Splits job.limit bytes messages now.framer.held
-  pub told : AreTold job at_first messages text now.tally
+  pub told : AreTold job (at_first job) messages text now.tally
   pub puts : PutsBoth text (all_unused first) now.queues
 
 -- what is told of the first messages of these bytes was put behind these ends
@@ -51,7 +51,7 @@ pub record Gathers (job : Job) (first : Outs) (bytes : List ℕ) (tally : Tally)
   pub rest : List ℕ
   pub text : Texts
   pub splits : Splits job.limit bytes (done ++ left) rest
-  pub told : AreTold job at_first done text tally
+  pub told : AreTold job (at_first job) done text tally
   pub puts : PutsBoth text (all_unused first) queues
 
 -- why a run came to rest in them
@@ -77,19 +77,32 @@ pub record GoesOn (job : Job) (bytes : List ℕ) (before after : Carry) : Type 0
   pub unfailed : AreOpen after.queues
   pub few : count_of after.tally ≤ count_of before.tally + length bytes
 
+-- one message more was told at most
+pub record TellsOne (before after : Tally) : Type 0 where
+  pub messages : count_of after ≤ count_of before + 1
+  pub bad : after.no ≤ before.no + 1
+
 -- so many bytes from the front of a piece were passed
 pub record Passes (job : Job) (piece : List ℕ) (used : ℕ) (before after : Carry) : Type 0 where
   pub within : used ≤ length piece
   pub some : 0 < used
   pub goes_on : GoesOn job (take used piece) before after
+  pub one : TellsOne before.tally after.tally
 
 abbrev pub PassesBy : Job → List ℕ → Carry → Carry → Result ℕ RunFault → Type 0
 PassesBy job piece before after (Ok used) = Passes job piece used before after
 PassesBy job piece before after (Err fault) = Stops job before piece after fault × AreSound after.queues
 
--- all of it was
+-- all of it was, or the messages at its front up to a bound of the job
+pub record PassesFront (job : Job) (piece : List ℕ) (before after : Carry) : Type 0 where
+  pub front : List ℕ
+  pub left : List ℕ
+  pub whole : piece ≡ front ++ left
+  pub goes_on : GoesOn job front before after
+  pub stopped : IsFull job (past_all job after.tally) ⊎ (left ≡ [])
+
 abbrev pub PassesAllBy : Job → List ℕ → Carry → Carry → Result (Unit {0}) RunFault → Type 0
-PassesAllBy job piece before after (Ok done) = GoesOn job piece before after
+PassesAllBy job piece before after (Ok done) = PassesFront job piece before after
 PassesAllBy job piece before after (Err fault) = Stops job before piece after fault × AreSound after.queues
 
 -- nothing waits
@@ -102,7 +115,7 @@ AreSettled queues (WriteFault written) = Unit {0}
 AreSettled queues (NoteFault written) = Unit {0}
 AreSettled queues fault = AreEmpty queues
 
--- all of it was, and what is told in it is written
+-- the same, and what is told in it is written
 abbrev pub WritesBy : Job → List ℕ → Carry → Carry → Result (Unit {0}) RunFault → Type 0
-WritesBy job piece before after (Ok done) = GoesOn job piece before after × AreEmpty after.queues
+WritesBy job piece before after (Ok done) = PassesFront job piece before after × AreEmpty after.queues
 WritesBy job piece before after (Err fault) = Stops job before piece after fault × AreSettled after.queues fault

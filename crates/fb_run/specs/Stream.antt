@@ -1,45 +1,56 @@
 -- What a run over a stream has read and written, and how it ends.
-use Rattle.std.specs.Prelude.{◌≡◌, ℕ, ◌<◌, List, [], ◌++◌, length}
+use Rattle.std.specs.Prelude.{◌≡◌, ℕ, ◌<◌, ◌≤◌, ◌⊎◌, true, List, [], ◌++◌, length}
 use Rattle.std.specs.Io.KnownBytes.{Consumes}
 use Rattle.fb_bytes.specs.Messages.{declared, IsPartial, IsOversize, Splits}
 use Rattle.fb_bytes.specs.declared.stream_fault.StreamFault.TheVariants as stream
-use Rattle.fb_lines.specs.{Ends.Ends, Ends.Takes, Job.Job, Lines.AreTold, Spot.at_first}
+use Rattle.fb_lines.specs.{Ends.Ends, Ends.Reader, Ends.Takes, Job.Job, Job.checked_in, Lines.AreTold, Spot.IsFull, Spot.at_first, Spot.past_all}
 use Rattle.fb_lines.specs.Texts.{IsCounted, Texts, followed, to_notes}
 use Rattle.fb_lines.specs.declared.{tally.Tally.Tally, fault.RunFault.RunFault}
-use Rattle.fb_lines.specs.declared.fault.RunFault.TheVariants.{ReadFault, WriteFault, NoteFault, Stream, TooManyTurns, OutOfMemory, BareTooLong}
+use Rattle.fb_lines.specs.declared.fault.RunFault.TheVariants.{ReadFault, WriteFault, NoteFault, Stream, TooManyTurns, OutOfMemory, BareTooLong, SkipPastEnd}
 
--- the text is what is told of the first messages of these bytes, which come to this
+-- the text is what is told of the first messages of these bytes, behind those that are left out, and they come to this
 abbrev pub TellsSome : Job → List ℕ → Texts → Tally → Type 0
 TellsSome job bytes text tally =
     (messages : List (List ℕ)) × (rest : List ℕ) × (done : List (List ℕ)) × (left : List (List ℕ))
-    × Splits job.limit bytes messages rest × (messages ≡ done ++ left) × AreTold job at_first done text tally
+    × Splits job.limit (checked_in job bytes) messages rest × (messages ≡ done ++ left) × AreTold job (at_first job) done text tally
 
 -- why a run came to rest that has read these messages and the rest, written this text and counted this
 abbrev pub WhyStream : Job → List ℕ → List (List ℕ) → List ℕ → Texts → Tally → RunFault → Type 0
-WhyStream job bytes messages rest text tally ReadFault = IsPartial job.limit rest × AreTold job at_first messages text tally
-WhyStream job bytes messages rest text tally TooManyTurns = IsPartial job.limit rest × AreTold job at_first messages text tally
-WhyStream job bytes messages rest text tally (Stream (stream.Oversize number)) = IsOversize job.limit rest × (number ≡ declared rest) × AreTold job at_first messages text tally
-WhyStream job bytes messages rest text tally (Stream (stream.Truncated held)) = IsPartial job.limit rest × (held ≡ length rest) × (0 < held) × AreTold job at_first messages text tally
+WhyStream job bytes messages rest text tally ReadFault = IsPartial job.limit rest × AreTold job (at_first job) messages text tally
+WhyStream job bytes messages rest text tally TooManyTurns = IsPartial job.limit rest × AreTold job (at_first job) messages text tally
+WhyStream job bytes messages rest text tally (Stream (stream.Oversize number)) = IsOversize job.limit rest × (number ≡ declared rest) × AreTold job (at_first job) messages text tally
+WhyStream job bytes messages rest text tally (Stream (stream.Truncated held)) = IsPartial job.limit rest × (held ≡ length rest) × (0 < held) × AreTold job (at_first job) messages text tally
 WhyStream job bytes messages rest text tally (Stream fault) = ⊥
 WhyStream job bytes messages rest text tally OutOfMemory = TellsSome job bytes text tally
 WhyStream job bytes messages rest text tally (WriteFault written) = IsCounted (length text.out) written × ((more : Texts) × TellsSome job bytes (followed text more) tally)
 WhyStream job bytes messages rest text tally (NoteFault written) = IsCounted (length text.notes) written × ((more : List ℕ) × TellsSome job bytes (followed text (to_notes more)) tally)
+WhyStream job bytes messages rest text tally (SkipPastEnd skip) = (skip ≡ job.begin) × (length bytes < skip) × AreTold job (at_first job) messages text tally
 WhyStream job bytes messages rest text tally (BareTooLong most) = ⊥
 
 -- a run over these bytes came to rest so
 abbrev pub Rests : Job → List ℕ → Texts → Tally → RunFault → Type 0
 Rests job bytes text tally fault =
-    (messages : List (List ℕ)) × (rest : List ℕ) × Splits job.limit bytes messages rest × WhyStream job bytes messages rest text tally fault
+    (messages : List (List ℕ)) × (rest : List ℕ) × Splits job.limit (checked_in job bytes) messages rest × WhyStream job bytes messages rest text tally fault
 
--- all that was read is whole messages, and what is told of them was written
+-- the input ended, behind the bytes that are left out, with a message: none of these messages and no rest is left
+pub record IsEnded (job : Job) (reader : Reader) (bytes : List ℕ) (left : List (List ℕ)) (rest : List ℕ) : Type 0 where
+  pub ended : reader.ended ≡ true
+  pub begun : job.begin ≤ length bytes
+  pub none : left ≡ []
+  pub whole : rest ≡ []
+
+-- what is told of the first messages that were read was written: up to a bound of the job, or to the input's end
 pub record PassesStream (job : Job) (before after : Ends) (tally : Tally) : Type 0 where
   pub bytes : List ℕ
-  pub messages : List (List ℕ)
+  pub done : List (List ℕ)
+  pub left : List (List ℕ)
+  pub rest : List ℕ
   pub text : Texts
   pub read : Consumes before.reader.left after.reader.left bytes
-  pub splits : Splits job.limit bytes messages []
-  pub told : AreTold job at_first messages text tally
+  pub splits : Splits job.limit (checked_in job bytes) (done ++ left) rest
+  pub told : AreTold job (at_first job) done text tally
   pub takes : Takes before.outs after.outs text
+  pub stopped : IsFull job (past_all job tally) ⊎ IsEnded job after.reader bytes left rest
 
 -- these bytes were read, this text was written and this counted, and then came the fault
 pub record FailsStream (job : Job) (before after : Ends) (tally : Tally) (fault : RunFault) : Type 0 where

@@ -10,7 +10,7 @@ use fb_bytes::Sink;
 use fb_lines::{Checker, Output, Room, RunFault};
 use std::alloc::Allocator;
 
-/// Reads the whole input, writes what is told of it, and counts its verdict.
+/// Reads the whole input, writes what is told of the buffer behind the bytes that are left out, and counts its verdict.
 pub fn pass_bare<A: Allocator, B: Allocator, C: Allocator, S: Input<K, N>, K: Sink, N: Sink>(
     alloc: B,
     output: &mut Output<A>,
@@ -27,10 +27,10 @@ pub fn pass_bare<A: Allocator, B: Allocator, C: Allocator, S: Input<K, N>, K: Si
     requires room { HasRoom checker.now room.old }
     requires piece { length piece.old.items ≡ PIECE }
     requires reads { S.calls reader.old + turns < 2 ^ 100 }
-    requires leave { HasLeave S.Input (ends_of S.Input K.Sink N.Sink reader.old writer.old notes.old) (IsBarePrompt checker.now.limit) }
+    requires leave { HasLeave S.Input (ends_of S.Input K.Sink N.Sink reader.old writer.old notes.old) (IsBarePrompt checker.now) }
     ensures { Runs true checker.now (ends_of S.Input K.Sink N.Sink reader.old writer.old notes.old) (ends_of S.Input K.Sink N.Sink reader.new writer.new notes.new) turns output.new.counter result }
 {
-    let whole = read_whole(alloc, reader, piece, writer, notes, checker.limit(), turns)?;
+    let whole = read_whole(alloc, reader, piece, writer, notes, checker, turns)?;
     output.add(checker, room, whole.as_slice(), writer, notes)?;
     output.flush(writer, notes)
 }

@@ -7,6 +7,7 @@ mod front;
 mod input;
 mod reading;
 pub mod run;
+mod skip;
 mod stream;
 
 pub use fb_lines::{

@@ -6,8 +6,9 @@ ghost use Rattle.fb_bytes.specs.Ends.{failed};
 ghost use Rattle.fb_run.specs.{Leave.HasLeave, Leave.MayAsk, Leave.ends_of, Prompt.IsBarePrompt, Whole.ReadsBy};
 
 use crate::input::Input;
+use crate::skip::Skip;
 use fb_bytes::Sink;
-use fb_lines::RunFault;
+use fb_lines::{Checker, RunFault};
 use std::alloc::{AllocError, Allocator};
 use std::io;
 
@@ -49,8 +50,8 @@ pub fn pull_piece<A: Allocator, S: Input<K, N>, K: Sink, N: Sink>(
     source.ask(piece.as_mut_slice(), writer, notes)
 }
 
-/// Reads the whole input, of at most `limit` bytes, in at most `turns` reads, beside these outputs. Whatever they hold,
-/// they keep.
+/// Reads the whole input, in at most `turns` reads, beside these outputs, and answers what stands behind the bytes that
+/// are left out: at most as many bytes as a buffer may have. Whatever the outputs hold, they keep.
 #[tactic(auto, using(std::proofs::lemmas::Grind::common_steps))]
 pub fn read_whole<A: Allocator, B: Allocator, S: Input<K, N>, K: Sink, N: Sink>(
     alloc: A,
@@ -58,29 +59,35 @@ pub fn read_whole<A: Allocator, B: Allocator, S: Input<K, N>, K: Sink, N: Sink>(
     piece: &mut Vec<u8, B>,
     writer: &K,
     notes: &N,
-    limit: u32,
+    checker: &Checker<'_, '_, '_>,
     turns: u64,
 ) -> Result<Vec<u8, A>, RunFault>
     requires room { length piece.old.items ≡ PIECE }
     requires calls { S.calls source.old + turns < 2 ^ 100 }
-    requires leave { HasLeave S.Input (ends_of S.Input K.Sink N.Sink source.old writer.now notes.now) (IsBarePrompt limit) }
-    ensures reads { ReadsBy limit turns (ends_of S.Input K.Sink N.Sink source.old writer.now notes.now)
+    requires leave { HasLeave S.Input (ends_of S.Input K.Sink N.Sink source.old writer.now notes.now) (IsBarePrompt checker.now) }
+    ensures reads { ReadsBy checker.now turns (ends_of S.Input K.Sink N.Sink source.old writer.now notes.now)
         (ends_of S.Input K.Sink N.Sink source.new writer.now notes.now) result }
     ensures turns { S.calls source.new ≤ S.calls source.old + turns }
 {
+    let limit = checker.limit();
     let mut whole = Vec::new(alloc);
+    let mut skip = Skip::new(checker.begin());
     let mut left = turns;
     while left > 0 {
         left -= 1;
         let read = match pull_piece(source, piece, writer, notes) {
-            Ok(0) => return Ok(whole),
+            Ok(0) => {
+                skip.end()?;
+                return Ok(whole);
+            }
             Ok(read) => read,
             Err(_) => return Err(RunFault::ReadFault),
         };
-        if read > limit as usize - whole.len() {
+        let more = skip.behind(&piece.as_slice()[..read]);
+        if more.len() > limit as usize - whole.len() {
             return Err(RunFault::BareTooLong { limit });
         }
-        let Ok(()) = whole.extend_from_slice(&piece.as_slice()[..read]) else {
+        let Ok(()) = whole.extend_from_slice(more) else {
             return Err(RunFault::OutOfMemory);
         };
     }

@@ -55,8 +55,9 @@ impl Ran {
 ///
 /// # Ends
 ///
-/// What a run comes to is that of the messages that are told, or in a write that failed were to be. It ends well, or
-/// for one of these:
+/// What a run comes to is that of the messages that are told, or in a write that failed were to be. It ends well at the
+/// end of the input, or over a stream behind as many messages, or bad ones, as are told at most: no read is made then,
+/// and what else was read is dropped. Or it ends for one of these:
 ///
 /// - `ReadFault` where the reader failed, `TooManyTurns` where `turns` reads were made and a further one is needed, and
 /// `Stream` where a prefix declares too much or the stream ends in mid-message: what is told of all whole messages that
@@ -65,6 +66,7 @@ impl Ran {
 /// `NoteFault` is the same of the notes.
 /// - `OutOfMemory` where memory was refused: what is told of the first messages is written, of a bare input nothing.
 /// - `BareTooLong` where more than `max_bytes` bytes of a bare input were read: nothing is written.
+/// - `SkipPastEnd` where the input ended within the bytes that are left out: nothing is written.
 pub fn run_beside<A: Allocator, S: Input<K, N>, K: Sink, N: Sink>(
     alloc: A,
     reader: &mut S,

@@ -1,7 +1,7 @@
 //! A run over a stream of size-prefixed buffers, or over one bare buffer.
 
 ghost use Rattle.std.specs.Prelude.{IfOk, ◌≡◌, ◌+◌, ◌<◌, ◌≤◌, ◌^◌, length};
-ghost use Rattle.fb_lines.specs.{Puts.AreOpen, Puts.queues_of, Sums.count_of};
+ghost use Rattle.fb_lines.specs.{Puts.AreOpen, Puts.queues_of, Spot.IsDue, Spot.past_all, Sums.count_of};
 ghost use Rattle.fb_run.specs.{Leave.HasLeave, Leave.ends_of, Prompt.IsPrompt, Run.Runs};
 ghost use Rattle.fb_run.specs.Pieces.{IsFirst, IsReady, PassesAllBy, PassesBy, WritesBy, carry_of};
 
@@ -9,6 +9,7 @@ use crate::bare::pass_bare;
 use crate::front::front_message;
 use crate::input::Input;
 use crate::reading::{MOST_TURNS, PIECE, pull_piece};
+use crate::skip::Skip;
 use fb_bytes::{Framer, Sink};
 use fb_lines::{Checker, Output, Room, RunFault};
 use std::alloc::{AllocError, Allocator};
@@ -42,8 +43,9 @@ impl<'a, A: Allocator> Carried<&'a A> {
 
 impl<A: Allocator> Carried<A> {
     /// Checks the buffers of an input from its start, and writes what the mode tells of each: one bare buffer, or a
-    /// stream of size-prefixed ones, each of at most `max_bytes` of the options. It comes in pieces through the read
-    /// buffer, with at most `turns` reads.
+    /// stream of size-prefixed ones, each of at most `max_bytes` of the options, behind the bytes that are left out. It
+    /// comes in pieces through the read buffer, with at most `turns` reads, and none once a bound of the options is
+    /// reached.
     ///
     /// What is told of all messages that are whole is written before the next read (`leave`), and before any answer;
     /// of a bare input nothing is before its end. On a fault that of all whole messages that were read is written, but
@@ -81,23 +83,30 @@ impl<A: Allocator> Carried<A> {
                 turns,
             );
         }
+        let mut skip = Skip::new(checker.begin());
         let mut left = turns;
         while left > 0 {
             left -= 1;
             let read = match pull_piece(reader, piece, writer, notes) {
                 Ok(0) => {
+                    skip.end()?;
                     self.framer.finish()?;
                     return Ok(());
                 }
                 Ok(read) => read,
                 Err(_) => return Err(RunFault::ReadFault),
             };
-            self.pass_piece(checker, &piece.as_slice()[..read], writer, notes)?;
+            let more = skip.behind(&piece.as_slice()[..read]);
+            self.pass_piece(checker, more, writer, notes)?;
+            if self.output.due(checker, 0) == 0 {
+                return Ok(());
+            }
         }
         Err(RunFault::TooManyTurns)
     }
 
-    /// Passes a whole piece, and writes what is told of the messages that end in it.
+    /// Passes a whole piece, or the messages of it up to a bound of the options, and writes what is told of those that
+    /// end in it.
     fn pass_piece<K: Sink, N: Sink>(
         &mut self,
         checker: &Checker<'_, '_, '_>,
@@ -116,7 +125,8 @@ impl<A: Allocator> Carried<A> {
         passed
     }
 
-    /// Passes a whole piece, and adds what is told of the messages that end in it.
+    /// Passes a whole piece, or the messages of it up to a bound of the options, and adds what is told of those that end
+    /// in it.
     fn pass_messages<K: Sink, N: Sink>(
         &mut self,
         checker: &Checker<'_, '_, '_>,
@@ -131,7 +141,13 @@ impl<A: Allocator> Carried<A> {
         ensures { PassesAllBy checker.now piece.now (carry_of K.Sink N.Sink self.old writer.old notes.old) (carry_of K.Sink N.Sink self.new writer.new notes.new) result }
     {
         let mut rest = piece;
+        let mut due = 0;
         while !rest.is_empty() {
+            due = self.output.due(checker, due);
+            if due == 0 {
+                return Ok(());
+            }
+            due -= 1;
             let used = self.pass_some(checker, rest, writer, notes)?;
             rest = &rest[used..];
         }
@@ -153,6 +169,7 @@ impl<A: Allocator> Carried<A> {
         requires ready { IsReady checker.now self.old.framer self.old.room }
         requires unfailed { AreOpen (queues_of K.Sink N.Sink self.old.output writer.old notes.old) }
         requires few { count_of self.old.output.counter < 2 ^ 63 }
+        requires due { IsDue checker.now (past_all checker.now self.old.output.counter) }
 
         ensures { PassesBy checker.now rest.now (carry_of K.Sink N.Sink self.old writer.old notes.old) (carry_of K.Sink N.Sink self.new writer.new notes.new) result }
     {

@@ -64,14 +64,14 @@ module _ (folder : Folder) where
 
   module _ (file : Option (Bor (List ℕ))) (settings : Settings) (before after : Seen) (sums : Option Sums) (outcome : Result Ending Stop) where
     -- the program ends by the end of the run, or of the files
-    comes_ended : (manner : Manner) (tally : Tally) (end : End) → outcome ≡ run_ending manner tally end → ChecksAsAsked file settings before.ends after.ends sums tally end
+    comes_ended : (manner : Manner) (tally : Tally) (end : End) → manner.most_bad ≡ settings.most_bad → outcome ≡ run_ending manner tally end → ChecksAsAsked file settings before.ends after.ends sums tally end
         → ComesAsAsked folder file settings before after sums outcome
-    comes_ended manner tally (Ok done) is checks = rw is checks
-    comes_ended manner tally (Err fault) is checks = rw is checks
+    comes_ended manner tally (Ok done) bound is checks = rw is (checks, bound)
+    comes_ended manner tally (Err fault) bound is checks = rw is checks
 
     pub comes_run : (ran : Result Ran Unasked) → names_in settings ≡ [] → IsCheckedBeside file settings before.ends after.ends ran → EndsRun settings ran sums outcome
         → ComesAsAsked folder file settings before after sums outcome
-    comes_run (Ok ran) none checked (told, manner, is) = comes_ended manner ran.tally ran.end is (none, checked, told)
+    comes_run (Ok ran) none checked (told, manner, bound, is) = comes_ended manner ran.tally ran.end bound is (none, checked, told)
     comes_run (Err unasked) none checked (told, is) = rw is (checked.0, checked.1, told)
 
     comes_passed : (by : By) (course : Course) (end : End) → outcome ≡ files_ending by course end → PassesAsAsked folder file settings before after sums course end
@@ -189,7 +189,7 @@ module _ (settings : Settings) (before after : Ends) (turns : after.reader.calls
 
   pub run_rests : (ran : Result Ran Unasked) (sums : Option Sums) (outcome : Result Ending Stop) → EndsRun settings ran sums outcome → IfOk ran (λ r. length r.tally.reasons ≡ reason_count)
       → IfOk ran (λ r. EndsBeside before after 4294967296 r.end) → OnErr ran (after ≡ before) → Rests before after sums outcome
-  run_rests (Ok ran) sums outcome (told, manner, is) are ends same = rw (told, is) (run_rests_so manner ran.tally ran.end are ends)
+  run_rests (Ok ran) sums outcome (told, manner, bound, is) are ends same = rw (told, is) (run_rests_so manner ran.tally ran.end are ends)
   run_rests (Err unasked) sums outcome (told, is) are ends same = rw (told, is) (unasked_rests unasked same)
 
   files_rests_so : (by : By) (course : Course) (end : End) → length course.tally.reasons ≡ reason_count → Rests before after (summed settings course.tally) (files_ending by course end)

@@ -9,4 +9,4 @@ pub labels_shown : Labels
 labels_shown = record { of_two = refl; of_one = refl; of_one_named = refl; of_a_fault = refl }
 
 pub finals_shown : Finals
-finals_shown = record { written = λ written. refl; noted = λ written. refl; memory = refl; read = refl; stream = λ fault. refl; turns = refl; long = λ limit. refl }
+finals_shown = record { written = λ written. refl; noted = λ written. refl; memory = refl; read = refl; stream = λ fault. refl; turns = refl; long = λ limit. refl; short = λ skip. refl }

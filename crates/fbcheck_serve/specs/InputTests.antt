@@ -2,7 +2,7 @@
 use Rattle.std.specs.Prelude.{◌≡◌, ℕ, true, false, [], ◌∷◌, Some, None, Ok, Err, codes}
 use Rattle.fb_bytes.specs.declared.stream_fault.StreamFault.{StreamFault}
 use Rattle.fb_lines.specs.Sums.{no_tally}
-use Rattle.fb_lines.specs.declared.fault.RunFault.TheVariants.{ReadFault, WriteFault, NoteFault, Stream, TooManyTurns, OutOfMemory, BareTooLong}
+use Rattle.fb_lines.specs.declared.fault.RunFault.TheVariants.{ReadFault, WriteFault, NoteFault, Stream, TooManyTurns, OutOfMemory, BareTooLong, SkipPastEnd}
 use Rattle.fb_run.specs.declared.run.Ran.{Ran}
 use Rattle.fbcheck_serve.specs.Inputs.{are_named, course_with, fault_line, is_final, label_of}
 use Rattle.fbcheck_serve.specs.declared.{inputs.Course.Course, inputs.Standard.TheVariants.Unread, inputs.Standard.TheVariants.Spent}
@@ -40,6 +40,7 @@ pub record Finals : Type 0 where
   pub stream : (fault : StreamFault) → is_final (Stream fault) ≡ false
   pub turns : is_final TooManyTurns ≡ false
   pub long : (limit : ℕ) → is_final (BareTooLong limit) ≡ false
+  pub short : (skip : ℕ) → is_final (SkipPastEnd skip) ≡ false
 
 -- lines begin with names where there are several files, or where those of standard input do; those of faults always
 pub record Labels : Type 0 where

@@ -1,5 +1,5 @@
 -- Files as inputs, one behind another.
-use Rattle.std.specs.Prelude.{◌≡◌, ◌≤◌, ℕ, ◌+◌, ◌⊎◌, Bool, true, false, ◌||◌, is_some, min, max, nat_lt, length, List, [], ◌∷◌, ◌++◌, IfSome, Option, Some, None, Result, Ok, Err, bytes_eq, codes}
+use Rattle.std.specs.Prelude.{◌≡◌, ◌<◌, ◌≤◌, ℕ, ◌+◌, ◌⊎◌, Bool, true, false, ◌||◌, is_some, min, max, nat_lt, length, List, [], ◌∷◌, ◌++◌, IfSome, Option, Some, None, Result, Ok, Err, bytes_eq, codes}
 use Rattle.std.specs.{List.flat_map, Io.KnownBytes.Appends}
 use Rattle.fb_lines.specs.{AnswerText.byte_text, Faults.End, Faults.EndsBeside, Faults.status_of}
 use Rattle.fb_lines.specs.Ends.{Ends, Outs, Reader, Writer, beside, with_notes}
@@ -13,7 +13,7 @@ use Rattle.fb_lines.specs.declared.{fault.RunFault.RunFault, options.Form.Form, 
 use Rattle.fb_run.specs.declared.run.Ran.{Ran}
 use Rattle.fb_lines.specs.declared.fault.RunFault.TheVariants.{WriteFault, NoteFault, OutOfMemory}
 use Rattle.std.specs.declared.io.ErrorKind.{ErrorKind}
-use Rattle.fbcheck_texts.specs.{Causes.reason_text, FaultJson.IsLineIn, FaultJson.fault_object, FaultJson.hint_object, Hints.IsHint, Hints.IsRunHint, Texts.of_read, Texts.run_text}
+use Rattle.fbcheck_texts.specs.{Causes.reason_text, FaultJson.IsLineIn, FaultJson.fault_object, FaultJson.hint_object, Hints.IsHint, Hints.IsRunHint, Texts.of_read, Texts.run_text, Texts.stopped_text}
 use Rattle.fbcheck_serve.specs.declared.files.Files as files
 use Rattle.fbcheck_texts.specs.declared.causes.Explains as explains
 use Rattle.fbcheck_texts.specs.declared.fault.FileFault.{FileFault}
@@ -197,17 +197,33 @@ abbrev pub IsBehindEnd : Form → List ℕ → Writer → Writer → End → Typ
 IsBehindEnd form name before after end =
     (end ≡ Ok tt) × (after ≡ before) ⊎ ((hint line : List ℕ) × IsHint hint × IsHintLine form name hint line × IsHintOf line before after end)
 
--- behind a run
-abbrev pub IsBehindRun : Form → List ℕ → End → Option ErrorKind → Writer → Writer → End → Type 0
-IsBehindRun form name (Ok done) cause before after end = IsBehindEnd form name before after end
-IsBehindRun form name (Err fault) cause before after end = IsBehindFault (is_final fault) form name fault cause before after end
+-- where as many messages were bad as may be, a line says that the run over the file ended behind them; it is told as a
+-- hint is
+abbrev pub IsStopOf : Form → ℕ → List ℕ → Tally → Writer → Writer → Type 0
+IsStopOf form most name tally before after =
+    (tally.no < most → after ≡ before)
+    × (most ≤ tally.no → (line : List ℕ) × IsHintLine form name (stopped_text most) line × IsNoted line before after)
+
+-- behind a run that ended well: that, and then what is told of its end; or nothing for want of memory, and that ends it
+-- all
+abbrev pub IsBehindGood : Form → ℕ → List ℕ → Tally → Writer → Writer → End → Type 0
+IsBehindGood form most name tally before after end =
+    ((mid : Writer) × IsStopOf form most name tally before mid × IsBehindEnd form name mid after end) ⊎ ((end ≡ Err OutOfMemory) × (after ≡ before))
+
+-- behind a run, of which so many messages may be bad
+abbrev pub IsBehindRunSo : Form → ℕ → List ℕ → Tally → End → Option ErrorKind → Writer → Writer → End → Type 0
+IsBehindRunSo form most name tally (Ok done) cause before after end = IsBehindGood form most name tally before after end
+IsBehindRunSo form most name tally (Err fault) cause before after end = IsBehindFault (is_final fault) form name fault cause before after end
+
+abbrev pub IsBehindRun : Form → ℕ → List ℕ → Ran → Option ErrorKind → Writer → Writer → End → Type 0
+IsBehindRun form most name ran = IsBehindRunSo form most name ran.tally ran.end
 
 -- the same where there may have been no run
-abbrev pub IsBehind : Form → List ℕ → Result Ran Missed → Option ErrorKind → Writer → Writer → End → Type 0
-IsBehind form name (Ok ran) cause before after end = IsBehindRun form name ran.end cause before after end
-IsBehind form name (Err (missed.File file.OutOfMemory)) cause before after end = (end ≡ Err OutOfMemory) × (after ≡ before)
-IsBehind form name (Err (missed.File (file.Unreadable why))) cause before after end = TellsFault form name (reason_text why) (codes "\n") before after end
-IsBehind form name (Err missed.Again) cause before after end = TellsFault form name (codes "standard input was read before") (codes "\n") before after end
+abbrev pub IsBehind : Form → ℕ → List ℕ → Result Ran Missed → Option ErrorKind → Writer → Writer → End → Type 0
+IsBehind form most name (Ok ran) cause before after end = IsBehindRun form most name ran cause before after end
+IsBehind form most name (Err (missed.File file.OutOfMemory)) cause before after end = (end ≡ Err OutOfMemory) × (after ≡ before)
+IsBehind form most name (Err (missed.File (file.Unreadable why))) cause before after end = TellsFault form name (reason_text why) (codes "\n") before after end
+IsBehind form most name (Err missed.Again) cause before after end = TellsFault form name (codes "standard input was read before") (codes "\n") before after end
 
 -- standard input once this file was gone through
 abbrev pub standard_after : Bool → Standard → Standard
@@ -248,7 +264,7 @@ pub record Passes (folder : Folder) (job : Job) (name : List ℕ) (before after 
   pub cause : Option ErrorKind
   pub between : Seen
   pub comes : ComesOf folder job name before.course.standard before.seen between came cause
-  pub told : IsBehind job.form name came cause between.ends.outs.notes after.seen.ends.outs.notes end
+  pub told : IsBehind job.form job.most_bad name came cause between.ends.outs.notes after.seen.ends.outs.notes end
   pub others : after.seen ≡ renoted between after.seen.ends.outs.notes
   pub course_is : after.course ≡ course_with name came before.course
 

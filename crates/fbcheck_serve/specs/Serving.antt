@@ -7,7 +7,7 @@ use Rattle.clap.specs.{Walk.Text, Faults.fault_of}
 use Rattle.fbcheck_serve.specs.Asked.{form_of}
 use Rattle.fbcheck_serve.specs.Checking.{IsIdle, IsPromptOverAsked, LacksJob, MayReadAsked, RunsAsAsked, ServesAsAsked, names_in}
 use Rattle.fbcheck_texts.specs.{Causes.is_unread, FaultJson.IsLineIn, FaultJson.fault_object, FaultJson.hint_object, Hints.IsHint, Hints.IsRunHint, Faults.HasFileFault, Faults.IsFile, Faults.ask_status}
-use Rattle.fbcheck_texts.specs.Texts.{ask_text, file_text, run_text, unsummed_text, words_text}
+use Rattle.fbcheck_texts.specs.Texts.{ask_text, file_text, run_text, stopped_text, unsummed_text, words_text}
 use Rattle.fbcheck_texts.specs.declared.{framing.By.By, framing.Manner.Manner, hint.Unasked.Unasked}
 use Rattle.fbcheck_serve.specs.Inputs.{Folder, IsNoted, Seen, renoted}
 use Rattle.fbcheck_words.specs.{CommandLine.program, Refusal.Refuses, Refusal.refusal_status, Refusal.refusal_text, Given.AreGiven, Values.text_of}
@@ -60,7 +60,7 @@ PassesAsAsked folder file settings before after sums course end =
 
 -- what the program came to by these settings and this schema file
 abbrev pub ComesAsAsked : Folder → Option (Bor (List ℕ)) → Settings → Seen → Seen → Option Sums → Result Ending Stop → Type 0
-ComesAsAsked folder file settings before after sums (Ok (Checked tally manner)) = ChecksAsAsked file settings before.ends after.ends sums tally (Ok tt)
+ComesAsAsked folder file settings before after sums (Ok (Checked tally manner)) = ChecksAsAsked file settings before.ends after.ends sums tally (Ok tt) × (manner.most_bad ≡ settings.most_bad)
 ComesAsAsked folder file settings before after sums (Err (stop.Run fault tally manner)) = ChecksAsAsked file settings before.ends after.ends sums tally (Err fault)
 ComesAsAsked folder file settings before after sums (Ok (Passed course by)) = PassesAsAsked folder file settings before after sums course (Ok tt)
 ComesAsAsked folder file settings before after sums (Err (stop.Halted fault)) = (course : Course) × PassesAsAsked folder file settings before after sums course (Err fault)
@@ -78,7 +78,8 @@ files_ending by course (Err fault) = Err (stop.Halted fault)
 
 -- the same of a run or files that may not have begun, with the numbers that are to be told
 abbrev pub EndsRun : Settings → Result Ran Unasked → Option Sums → Result Ending Stop → Type 0
-EndsRun settings (Ok ran) sums outcome = (sums ≡ summed settings ran.tally) × (manner : Manner) × (outcome ≡ run_ending manner ran.tally ran.end)
+EndsRun settings (Ok ran) sums outcome =
+    (sums ≡ summed settings ran.tally) × (manner : Manner) × (manner.most_bad ≡ settings.most_bad) × (outcome ≡ run_ending manner ran.tally ran.end)
 EndsRun settings (Err unasked) sums outcome = (sums ≡ None) × (outcome ≡ Err (stop.Ask unasked))
 
 abbrev pub EndsFiles : Settings → Result inputs.Passed Unasked → Option Sums → Result Ending Stop → Type 0
@@ -211,11 +212,26 @@ stop_status (stop.Halted fault) = status_of (Err fault)
 abbrev pub IsEndLine : Form → List ℕ → List ℕ → Type 0
 IsEndLine form hint line = IsLineIn form (hint_object None hint) (codes "fbcheck: " ++ hint) line
 
+-- nothing is noted
+abbrev pub IsUnnoted : Writer → Writer → Type 0
+IsUnnoted before after = Keeps before.bytes after.bytes × (after.failures ≡ before.failures)
+
+-- where as many messages were bad as may be, a line says that the input ended behind them; it is told as a hint is
+abbrev pub IsStopTold : Form → Ending → Writer → Writer → Type 0
+IsStopTold form (Checked tally manner) before after =
+    (tally.no < manner.most_bad → IsUnnoted before after)
+    × (manner.most_bad ≤ tally.no → (line : List ℕ) × IsEndLine form (stopped_text manner.most_bad) line × IsNoted line before after)
+IsStopTold form _ before after = IsUnnoted before after
+
 -- behind help nothing is noted; behind another good end nothing, or the line of a hint
+abbrev pub IsHintBehind : Form → Ending → Writer → Writer → Type 0
+IsHintBehind form Helped before after = IsUnnoted before after
+IsHintBehind form ending before after =
+    IsUnnoted before after ⊎ ((hint line : List ℕ) × IsHint hint × IsEndLine form hint line × IsNoted line before after)
+
+-- the one behind the other
 abbrev pub IsBehindEnding : Form → Ending → Writer → Writer → Type 0
-IsBehindEnding form Helped before after = Keeps before.bytes after.bytes × (after.failures ≡ before.failures)
-IsBehindEnding form ending before after =
-    Keeps before.bytes after.bytes × (after.failures ≡ before.failures) ⊎ ((hint line : List ℕ) × IsHint hint × IsEndLine form hint line × IsNoted line before after)
+IsBehindEnding form ending before after = (mid : Writer) × IsStopTold form ending before mid × IsHintBehind form ending mid after
 
 -- whether a stop is a failed write to the output
 abbrev pub is_unwritten : Stop → Bool

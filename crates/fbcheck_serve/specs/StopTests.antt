@@ -32,7 +32,7 @@ pub record StopTexts : Type 0 where
   pub help : stop_text (of_read None) (stop.CutOff 7) ≡ codes "write failed after 7 bytes"
   pub help_full : stop_text (record { read = None; write = Some kind.StorageFull }) (stop.CutOff 7) ≡ codes "write failed after 7 bytes: no storage space"
   pub summary : stop_text (of_read None) (stop.Unsummed 40) ≡ codes "write to standard error failed after 40 bytes of the summary"
-  pub read : stop_text (of_read (Some kind.IsADirectory)) (stop.Run run.ReadFault no_tally (record { framing = Prefixed; by = Named })) ≡ codes "read failed: is a directory"
+  pub read : stop_text (of_read (Some kind.IsADirectory)) (stop.Run run.ReadFault no_tally (record { framing = Prefixed; by = Named; most_bad = 1 })) ≡ codes "read failed: is a directory"
   pub unread : is_quiet (record { read = None; write = Some kind.BrokenPipe }) (stop.CutOff 7) ≡ true
   pub full : is_quiet (record { read = None; write = Some kind.StorageFull }) (stop.CutOff 7) ≡ false
   pub note : is_quiet (record { read = None; write = Some kind.BrokenPipe }) (stop.Halted (run.NoteFault 7)) ≡ false

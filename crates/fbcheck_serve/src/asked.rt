@@ -189,10 +189,13 @@ pub fn by(settings: &Settings) -> By {
 }
 
 /// In which manner an input is checked.
-pub fn manner(settings: &Settings) -> Manner {
+pub fn manner(settings: &Settings) -> Manner
+    ensures { result.most_bad ≡ settings.now.most_bad }
+{
     Manner {
         framing: framing(settings),
         by: by(settings),
+        most_bad: settings.most_bad,
     }
 }
 
@@ -214,6 +217,9 @@ fn options(
         limits: settings.limits,
         reads_per_byte: settings.reads_per_byte,
         max_bytes: settings.max_bytes,
+        skip: settings.skip,
+        most_messages: settings.most_messages,
+        most_bad: settings.most_bad,
         bare: settings.bare,
         prefix: prefix(settings),
         checks: settings.checks,

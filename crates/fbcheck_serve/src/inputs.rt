@@ -1,12 +1,12 @@
 //! Files as inputs, one behind another.
 
-ghost use Rattle.std.specs.Prelude.{Err, IfOk, IfSome, true, false, ◌≡◌, ◌≢◌, ◌⊎◌, ◌+◌, ◌<◌, ◌≤◌, ◌^◌, length, map, option_map, string_bytes, vec_items};
+ghost use Rattle.std.specs.Prelude.{Err, IfOk, IfSome, OnErr, OnOk, true, false, ◌≡◌, ◌≢◌, ◌⊎◌, ◌+◌, ◌<◌, ◌≤◌, ◌^◌, length, map, option_map, string_bytes, vec_items};
 ghost use Rattle.fb_rules.specs.Reasons.{reason_count};
 ghost use Rattle.fb_lines.specs.Ends.{outs_of, writer_of};
 ghost use Rattle.fb_run.specs.Leave.{HasLeave, ends_of};
 ghost use Rattle.fb_lines.specs.{Job.Serves, Job.job_of};
 ghost use Rattle.fb_run.specs.Prompt.{IsPrompt};
-ghost use Rattle.fbcheck_serve.specs.Inputs.{ComesOf, IsBehind, IsBehindEnd, IsBehindRun, IsFaultLine, IsHintLine, IsPromptAmong, MayRead, MayReadEach, ServesEach, TellsFault, Tries, at_first, course_with, fault_line, no_course, folder_of, is_final, is_standard, label_of, seen_of, stand, standard_after, sum_of, sums, are_named};
+ghost use Rattle.fbcheck_serve.specs.Inputs.{ComesOf, IsBehind, IsBehindEnd, IsBehindRun, IsFaultLine, IsHintLine, IsStopOf, IsPromptAmong, MayRead, MayReadEach, ServesEach, TellsFault, Tries, at_first, course_with, fault_line, no_course, folder_of, is_final, is_standard, label_of, seen_of, stand, standard_after, sum_of, sums, are_named};
 ghost use Rattle.fbcheck_serve.specs.declared.inputs.Standard.TheVariants.{Unread, Spent};
 ghost use Rattle.fbcheck_texts.specs.Hints.{IsHint};
 
@@ -22,7 +22,7 @@ use fbcheck_texts::causes::{Causes, Explains, reason};
 use fbcheck_texts::fault::FileFault;
 use fbcheck_texts::fault_json::{fault_object, hint_object};
 use fbcheck_texts::framing::{By, Framing, end_hint, run_hint};
-use fbcheck_texts::texts::run_text;
+use fbcheck_texts::texts::{run_text, stopped_text};
 use std::alloc::{AllocError, Global};
 use std::io::ErrorKind;
 
@@ -204,7 +204,7 @@ fn pass_file<F: Files<K, N>, S: Input<K, N> + Explains, K: Sink, N: Sink>(
     );
     *course = course.with(name, &came.what);
     let framing = Framing::of(options.bare, options.prefix);
-    tell_behind(alloc, options.form, name, framing, &came, notes)
+    tell_behind(alloc, options.form, name, framing, options.most_bad, &came, notes)
 }
 
 /// Runs over one file, where it can be read.
@@ -356,13 +356,14 @@ fn tell_behind<N: Sink>(
     form: Form,
     name: &str,
     framing: Framing,
+    most_bad: u64,
     came: &Came,
     notes: &mut N,
 ) -> Result<(), RunFault>
-    ensures { IsBehind form name.now came.now.what came.now.cause (writer_of N.Sink notes.old) (writer_of N.Sink notes.new) result }
+    ensures { IsBehind form most_bad name.now came.now.what came.now.cause (writer_of N.Sink notes.old) (writer_of N.Sink notes.new) result }
 {
     match &came.what {
-        Ok(ran) => tell_run(alloc, form, name, framing, ran, came.cause, notes),
+        Ok(ran) => tell_run(alloc, form, name, framing, most_bad, ran, came.cause, notes),
         Err(Missed::File(FileFault::OutOfMemory)) => Err(RunFault::OutOfMemory),
         Err(Missed::File(FileFault::Unreadable(cause))) => {
             tell_fault(alloc, form, name, reason(*cause).as_bytes(), b"\n", notes)
@@ -380,13 +381,15 @@ fn tell_run<N: Sink>(
     form: Form,
     name: &str,
     framing: Framing,
+    most_bad: u64,
     ran: &Ran,
     cause: Option<ErrorKind>,
     notes: &mut N,
 ) -> Result<(), RunFault>
-    ensures { IsBehindRun form name.now ran.now.end cause (writer_of N.Sink notes.old) (writer_of N.Sink notes.new) result }
+    ensures { IsBehindRun form most_bad name.now ran.now cause (writer_of N.Sink notes.old) (writer_of N.Sink notes.new) result }
 {
     let Err(fault) = &ran.end else {
+        tell_stop(alloc, form, name, most_bad, &ran.tally, notes)?;
         let hint = end_hint(By::Named, framing, &ran.tally);
         return tell_end(alloc, form, name, hint, notes);
     };
@@ -396,6 +399,28 @@ fn tell_run<N: Sink>(
     let behind = run_hint(framing, fault, &ran.tally);
     let why = run_text(fault, Causes::of_read(cause));
     tell_fault(alloc, form, name, why.bytes(), behind, notes)
+}
+
+/// Notes that a file's run ended behind as many bad messages as there may be, where it did. What can't be written is
+/// left.
+fn tell_stop<N: Sink>(
+    alloc: Global,
+    form: Form,
+    name: &str,
+    most_bad: u64,
+    tally: &Tally,
+    notes: &mut N,
+) -> Result<(), AllocError>
+    ensures told { OnOk result (IsStopOf form most_bad name.now tally.now (writer_of N.Sink notes.old) (writer_of N.Sink notes.new)) }
+    ensures refused { OnErr result (notes.new ≡ notes.old) }
+{
+    if tally.no < most_bad {
+        return Ok(());
+    }
+    let why = stopped_text(most_bad);
+    let line = hint_line(alloc, form, name, why.bytes())?;
+    note(notes, line.as_slice());
+    Ok(())
 }
 
 /// Notes what is told of an end, where there is something. What can't be written is left.

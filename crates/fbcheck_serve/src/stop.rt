@@ -4,7 +4,7 @@ ghost use Rattle.std.specs.Prelude.{Err, IfSome, None, ◌≡◌, ◌++◌, ◌+
 ghost use Rattle.fb_rules.specs.Reasons.{reason_count};
 ghost use Rattle.fb_lines.specs.Ends.{writer_of};
 ghost use Rattle.fbcheck_serve.specs.Inputs.{IsNoted};
-ghost use Rattle.fbcheck_serve.specs.Serving.{Complains, IsBehindEnding, IsBehindStop, SumsUp, exit_status, hinted_stop, is_quiet, is_unwritten, stop_status, stop_text};
+ghost use Rattle.fbcheck_serve.specs.Serving.{Complains, IsBehindEnding, IsBehindStop, IsHintBehind, IsStopTold, IsEndLine, SumsUp, exit_status, hinted_stop, is_quiet, is_unwritten, stop_status, stop_text};
 ghost use Rattle.fbcheck_texts.specs.Hints.{IsHint};
 ghost use Rattle.fbcheck_words.specs.declared.choices.SettingsFault.TheVariants as refusal;
 ghost use Rattle.fbcheck_serve.specs.declared.stop.Stop.TheVariants as stop;
@@ -20,7 +20,7 @@ use fbcheck_texts::fault_json::{fault_object, hint_object};
 use fbcheck_texts::framing::{By, Manner, by_hint, end_hint, run_hint};
 use fbcheck_texts::hint::{Hint, Unasked};
 use fbcheck_texts::texts::{
-    ask_text, failed_write, file_text, run_text, unsummed_text, words_text,
+    ask_text, failed_write, file_text, run_text, stopped_text, unsummed_text, words_text,
 };
 use fbcheck_words::SettingsFault;
 use std::alloc::{AllocError, Global};
@@ -84,17 +84,32 @@ impl Ending {
         }
     }
 
-    /// Notes that in this form, where there is something. What can't be written is left.
+    /// Notes that the input ended behind as many bad messages as there may be, where it did.
+    fn tell_stop<N: Sink>(&self, alloc: Global, form: Form, notes: &mut N)
+        ensures { IsStopTold form self.now (writer_of N.Sink notes.old) (writer_of N.Sink notes.new) }
+    {
+        if let Ending::Checked(tally, manner) = self {
+            if tally.no >= manner.most_bad {
+                note_end(alloc, form, stopped_text(manner.most_bad).bytes(), notes);
+            }
+        }
+    }
+
+    /// Notes a hint, where there is one.
+    fn tell_hint<N: Sink>(&self, alloc: Global, form: Form, notes: &mut N)
+        ensures { IsHintBehind form self.now (writer_of N.Sink notes.old) (writer_of N.Sink notes.new) }
+    {
+        if let Some(hint) = self.hint() {
+            note_end(alloc, form, hint, notes);
+        }
+    }
+
+    /// Notes both in this form. What can't be written is left.
     fn tell<N: Sink>(&self, alloc: Global, form: Form, notes: &mut N)
         ensures { IsBehindEnding form self.now (writer_of N.Sink notes.old) (writer_of N.Sink notes.new) }
     {
-        let Some(hint) = self.hint() else {
-            return;
-        };
-        match hint_object(alloc, form, None, hint) {
-            Some(line) => note(notes, line.as_slice()),
-            None => note_both(notes, NAME.as_bytes(), hint),
-        }
+        self.tell_stop(alloc, form, notes);
+        self.tell_hint(alloc, form, notes);
     }
 }
 
@@ -227,6 +242,16 @@ fn note_both<N: Sink>(notes: &mut N, text: &[u8], behind: &[u8])
 {
     if push_all(notes, text) == text.len() {
         push_all(notes, behind);
+    }
+}
+
+/// Notes what is told of a good end in this form: an object, or a line behind the program's name.
+fn note_end<N: Sink>(alloc: Global, form: Form, told: &[u8], notes: &mut N)
+    ensures { (line : List ℕ) × IsEndLine form told.now line × IsNoted line (writer_of N.Sink notes.old) (writer_of N.Sink notes.new) }
+{
+    match hint_object(alloc, form, None, told) {
+        Some(line) => note(notes, line.as_slice()),
+        None => note_both(notes, NAME.as_bytes(), told),
     }
 }
 

@@ -28,6 +28,7 @@ pub record RunTexts : Type 0 where
   pub turns : fault_text run.TooManyTurns ≡ codes "too many reads"
   pub memory : fault_text run.OutOfMemory ≡ codes "out of memory"
   pub too_long : fault_text (run.BareTooLong 31) ≡ codes "input longer than 31 bytes"
+  pub too_short : fault_text (run.SkipPastEnd 31) ≡ codes "the input ends before its first 31 bytes are skipped"
 
 -- a schema file with a fault in a field, and one whose rows have one, in a part or in none
 abbrev pub deep : Fault

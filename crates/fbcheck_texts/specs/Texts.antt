@@ -99,3 +99,7 @@ words_text words.OutOfMemory = codes "out of memory"
 -- why the summary isn't whole
 abbrev pub unsummed_text : ℕ → List ℕ
 unsummed_text written = codes "write to standard error failed after " ++ decimal written ++ codes " bytes of the summary"
+
+-- the line that tells that an input ended behind so many bad messages, as many as there may be
+abbrev pub stopped_text : ℕ → List ℕ
+stopped_text bad = codes "stopped after " ++ decimal bad ++ codes " bad messages\n"

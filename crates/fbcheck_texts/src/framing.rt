@@ -33,13 +33,15 @@ pub enum By {
     Fixed,
 }
 
-/// How messages stand in an input, and by what they are checked.
+/// How messages stand in an input, by what they are checked, and how many may be bad.
 #[derive(Clone, Copy)]
 pub struct Manner {
     /// How they stand.
     pub framing: Framing,
     /// By what they are checked.
     pub by: By,
+    /// The number of bad messages behind the last of which the input ends.
+    pub most_bad: u64,
 }
 
 impl Framing {
@@ -190,7 +192,7 @@ pub fn run_hint(framing: Framing, fault: &RunFault, tally: &Tally) -> &'static [
             b"; --max-bytes allows longer ones\n",
         RunFault::Stream(_) | RunFault::BareTooLong { .. } => b"\n",
         RunFault::ReadFault | RunFault::WriteFault { .. } | RunFault::NoteFault { .. } => b"\n",
-        RunFault::TooManyTurns | RunFault::OutOfMemory => b"\n",
+        RunFault::TooManyTurns | RunFault::OutOfMemory | RunFault::SkipPastEnd { .. } => b"\n",
     }
 }
 

@@ -3,7 +3,7 @@
 ghost use Rattle.std.specs.Prelude.{◌≡◌, ◌≤◌, ◌++◌, codes, decimal, length};
 ghost use Rattle.fb_lines.specs.{FaultText.fault_text, Line.field_text};
 ghost use Rattle.fb_lines.specs.declared.fault.RunFault.TheVariants.{WriteFault};
-ghost use Rattle.fbcheck_texts.specs.Texts.{ask_text, cause_text, file_text, ill_text, load_text, path_text, rows_text, run_text, step_text, unsummed_text, word_text, words_text};
+ghost use Rattle.fbcheck_texts.specs.Texts.{ask_text, cause_text, file_text, ill_text, load_text, path_text, rows_text, run_text, step_text, stopped_text, unsummed_text, word_text, words_text};
 
 use crate::causes::{Causes, known_reason};
 use crate::fault::{AskFault, FileFault, WordsFault};
@@ -94,6 +94,17 @@ pub fn unsummed_text(written: usize) -> Line
     let mut line = Line::of(" bytes of the summary");
     line.put_number(written as u64);
     line.put_text("write to standard error failed after ");
+    line
+}
+
+/// The line that tells that an input ended behind so many bad messages, as many as there may be.
+pub fn stopped_text(bad: u64) -> Line
+    ensures text { result ≡ stopped_text bad }
+    ensures short { length result ≤ 100 }
+{
+    let mut line = Line::of(" bad messages\n");
+    line.put_number(bad);
+    line.put_text("stopped after ");
     line
 }
 

@@ -83,7 +83,7 @@ const OF_STREAMS: [(StreamFault, &str); 4] = [
 ];
 
 /// Why runs come to rest.
-const OF_RUNS: [(RunFault, &str); 7] = [
+const OF_RUNS: [(RunFault, &str); 8] = [
     (RunFault::ReadFault, "read failed"),
     (
         RunFault::WriteFault { written: 31 },
@@ -102,6 +102,10 @@ const OF_RUNS: [(RunFault, &str); 7] = [
     (
         RunFault::BareTooLong { limit: 64 },
         "input longer than 64 bytes",
+    ),
+    (
+        RunFault::SkipPastEnd { skip: 64 },
+        "the input ends before its first 64 bytes are skipped",
     ),
 ];
 

@@ -7,14 +7,14 @@ pub returns-in_err-whole : goal.returns-in_err-whole
 returns-in_err-whole g c =
     rw (err_is _ _ c.from_residual.ensures.1, c.requires.counted)
     (record {
-      run = c.in_err-whole.ensures.reads.fails c.args.checker.now (sym c.limit.ensures.value);
+      run = c.in_err-whole.ensures.reads.fails;
       end_is = c.in_err-whole.ensures.reads.cause;
       turns_are = c.read_whole.ensures.turns;
     })
 
 pub returns-in_err-add : goal.returns-in_err-add
 returns-in_err-add g c =
-    let whole = rw (c.limit.ensures.value, sym c.as_slice.ensures.value) at c.in_ok-whole.ensures.reads in
+    let whole = rw (sym c.as_slice.ensures.value) at c.in_ok-whole.ensures.reads in
     let unused = unused_queues g.K.Sink g.N.Sink c.args.output.now c.args.writer.now c.args.notes.now c.requires.unused in
     let ends = bare_stops c.args.checker.now (outs_of g.K.Sink g.N.Sink c.args.writer.now c.args.notes.now) c.add.new.self.counter c.args.turns whole
     (queues_of g.K.Sink g.N.Sink c.add.new.self c.add.new.writer c.add.new.notes) c.in_err-add.field-0.0 (begun c.args.checker.now c.as_slice.result.now (outs_of g.K.Sink g.N.Sink c.args.writer.now c.args.notes.now) _ (queues_of g.K.Sink g.N.Sink c.add.new.self c.add.new.writer c.add.new.notes) c.args.output.now.counter c.add.new.self.counter (Err c.in_err-add.field-0.0) unused c.requires.counted c.in_err-add.ensures.told) in
@@ -22,7 +22,7 @@ returns-in_err-add g c =
 
 pub returns : goal.returns
 returns g c =
-    let whole = rw (c.limit.ensures.value, sym c.as_slice.ensures.value) at c.in_ok-whole.ensures.reads in
+    let whole = rw (sym c.as_slice.ensures.value) at c.in_ok-whole.ensures.reads in
     let unused = unused_queues g.K.Sink g.N.Sink c.args.output.now c.args.writer.now c.args.notes.now c.requires.unused in
     let ends = bare_ends c.args.checker.now (outs_of g.K.Sink g.N.Sink c.args.writer.now c.args.notes.now) c.add.new.self.counter c.args.turns whole
     (queues_of g.K.Sink g.N.Sink c.add.new.self c.add.new.writer c.add.new.notes) (queues_of g.K.Sink g.N.Sink c.flush.new.self c.flush.new.writer c.flush.new.notes) c.flush.result

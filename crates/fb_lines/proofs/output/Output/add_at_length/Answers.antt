@@ -14,7 +14,7 @@ returns-clause-told g c =
     let before = queues_of g.K.Sink g.N.Sink c.args.self.now c.args.writer.now c.args.notes.now in
     let between = queues_of g.K.Sink g.N.Sink c.tell.new.self c.tell.new.writer c.args.notes.now in
     let after = queues_of g.K.Sink g.N.Sink c.settle.new.self c.settle.new.writer c.settle.new.notes in
-    let waits = rw c.spot-spot.ensures at c.in_ok-tell.ensures.ok in
+    let waits = rw (c.spot-spot.ensures, c.begin.ensures.value) at c.in_ok-tell.ensures.ok in
     let noted = ap (λ (written : Written). behind c.tell.new.self.notes.bytes.items written (writer_of g.N.Sink c.args.notes.now)) c.tell.ensures.noted in
     let counted = c.settle.ensures.counted ∙ c.count.ensures ∙ ap (λ (t : Tally). tally_with message verdict t) c.tell.ensures.counted in
     added_so before after c.args.self.now.counter c.settle.new.self.counter c.settle.result

@@ -2,7 +2,8 @@ use Rattle.std.proofs.Common.{arith, rules, sym, ◌∙◌}
 use Rattle.fb_lines.specs.Ends.{outs_of}
 use Rattle.fb_run.specs.{Leave.ends_of, Leave.reader_of, Pieces.carry_of}
 use Rattle.fb_run.proofs.BareLemmas.{unused_queues}
-use Rattle.fb_run.proofs.RunLemmas.{err_is, fails_piece, runs_from, sofar_nothing, sofar_piece, prompt_from, sofar_prompt}
+use Rattle.fb_run.proofs.RunLemmas.{err_is, fails_piece, fails_read, fails_short, fails_turns, full_piece, passes_end, runs_from, sofar_nothing, sofar_piece, prompt_from, sofar_prompt}
+use Rattle.fb_run.proofs.StreamLemmas.{due_next}
 use Rattle.fb_run.proofs.stream.Carried.pass_all.Goals as goal
 
 pub pass_bare-requires-clause-leave : goal.pass_bare-requires-clause-leave
@@ -17,7 +18,9 @@ loop-left-init g c =
     record {
       room = c.requires.room;
       sofar = sofar_nothing c.args.checker.now (reader_of g.S.Input c.args.reader.now) (outs_of g.K.Sink g.N.Sink c.args.writer.now c.args.notes.now)
-          (carry_of g.K.Sink g.N.Sink c.args.self.now c.args.writer.now c.args.notes.now) c.args.turns c.requires.ready unused c.requires.first.1 c.requires.first.2;
+          (carry_of g.K.Sink g.N.Sink c.args.self.now c.args.writer.now c.args.notes.now) _ c.args.turns
+          (record { all = c.new-skip.ensures.all ∙ c.begin.ensures.value; left = omega (arith, c.new-skip.ensures.left, c.begin.ensures.value) }) c.begin.ensures.due
+          c.requires.ready unused c.requires.first.1 c.requires.first.2;
     }
 
 pub pull_piece-requires-clause-leave : goal.pull_piece-requires-clause-leave
@@ -26,20 +29,10 @@ pull_piece-requires-clause-leave g c =
     let now = ends_of g.S.Input g.K.Sink g.N.Sink c.loop-left.reader c.loop-left.writer c.loop-left.notes in
     c.requires.leave now (prompt_from (sym c.is_bare.ensures ∙ c.if-is_bare.false) (sofar_prompt sofar)) sofar.asks
 
-pub loop-left-preserved : goal.loop-left-preserved
-loop-left-preserved g c =
-    let read = c.in-Ok.ensures in
-    let before = c.loop-left.invariant in
-    let passed = rw c.as_slice.ensures.value at c.in_ok-pass_piece.ensures in
-    record {
-      room = read.room ∙ before.room;
-      sofar = sofar_piece before.sofar _ _ (reader_of g.S.Input c.pull_piece.new.source) c.loop-left-test.true read.ok read.counted (omega (arith, read.failure)) (omega (arith, read.room, before.room)) read.fits (search rules) passed;
-    }
-
 pub returns-in_err-pass_piece : goal.returns-in_err-pass_piece
 returns-in_err-pass_piece g c =
     let read = c.in-Ok.ensures in
-    let stops = rw c.as_slice.ensures.value at c.in_err-pass_piece.ensures in
+    let behind = rw c.as_slice.ensures.value at c.behind-more.ensures.rest in
     rw (err_is _ _ c.from_residual-in_err-pass_piece.ensures.1)
-    (runs_from (sym c.if-is_bare.false ∙ c.is_bare.ensures) (fails_piece c.loop-left.invariant.sofar _ _ (reader_of g.S.Input c.pull_piece.new.source) c.loop-left-test.true read.ok read.counted (omega (arith, read.failure))
-    (carry_of g.K.Sink g.N.Sink c.pass_piece.new.self c.pass_piece.new.writer c.pass_piece.new.notes) _ stops))
+    (runs_from (sym c.if-is_bare.false ∙ c.is_bare.ensures) (fails_piece c.loop-left.invariant.sofar _ _ _ (reader_of g.S.Input c.pull_piece.new.source) c.loop-left-test.true read.ok read.counted (omega (arith, read.failure)) behind
+    (carry_of g.K.Sink g.N.Sink c.pass_piece.new.self c.pass_piece.new.writer c.pass_piece.new.notes) _ c.in_err-pass_piece.ensures))

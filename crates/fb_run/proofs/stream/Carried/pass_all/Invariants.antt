@@ -8,7 +8,7 @@ abbrev pub invariant-loop-left : goal.invariant-loop-left
 invariant-loop-left g l = record {
   room : length l.piece.items ≡ 65536;
   sofar : Sofar l.checker (reader_of g.S.Input l.initial.reader) (reader_of g.S.Input l.reader) (outs_of g.K.Sink g.N.Sink l.initial.writer l.initial.notes)
-      (carry_of g.K.Sink g.N.Sink l.self l.writer l.notes) l.initial.left l.left;
+      (carry_of g.K.Sink g.N.Sink l.self l.writer l.notes) l.skip l.initial.left l.left;
 }
 
 abbrev pub decreases-loop-left : goal.decreases-loop-left

@@ -1,10 +1,13 @@
 use Rattle.std.proofs.Common.{◌≡◌, ◌++◌, List, ℕ, length}
+use Rattle.fb_lines.specs.Spot.{HasDue, past_all}
 use Rattle.fb_run.specs.Pieces.{GoesOn, carry_of}
 use Rattle.fb_run.proofs.stream.Carried.pass_messages.Given as goal
 
 abbrev pub invariant-loop-rest : goal.invariant-loop-rest
-invariant-loop-rest g l =
-    (front : List ℕ) × (l.piece ≡ front ++ l.rest) × GoesOn l.checker front (carry_of g.K.Sink g.N.Sink l.initial.self l.initial.writer l.initial.notes) (carry_of g.K.Sink g.N.Sink l.self l.writer l.notes)
+invariant-loop-rest g l = record {
+  passed : (front : List ℕ) × (l.piece ≡ front ++ l.rest) × GoesOn l.checker front (carry_of g.K.Sink g.N.Sink l.initial.self l.initial.writer l.initial.notes) (carry_of g.K.Sink g.N.Sink l.self l.writer l.notes);
+  due : HasDue l.checker (past_all l.checker l.self.output.counter) l.due;
+}
 
 abbrev pub decreases-loop-rest : goal.decreases-loop-rest
 decreases-loop-rest g l = length l.rest

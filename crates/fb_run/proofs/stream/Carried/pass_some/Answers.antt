@@ -4,7 +4,7 @@ use Rattle.fb_bytes.specs.{Framing.Framing, Messages.IsMessage, Messages.IsParti
 use Rattle.fb_lines.specs.Puts.{queues_of}
 use Rattle.fb_run.specs.Pieces.{PassesBy, carry_of}
 use Rattle.fb_run.proofs.RunLemmas.{err_exit}
-use Rattle.fb_run.proofs.StreamLemmas.{add_halts, added_sound, feed_halts, held_stands, message_stands, open_sound, still_ready}
+use Rattle.fb_run.proofs.StreamLemmas.{add_halts, added_sound, feed_halts, held_stands, message_stands, one_told, open_sound, still_ready}
 use Rattle.fb_run.proofs.stream.Carried.pass_some.Goals as goal
 
 pub returns-in_err-add : goal.returns-in_err-add
@@ -17,7 +17,7 @@ returns-in_err-add g c =
       λ first bytes stands.
           add_halts c.args.checker.now first bytes (take n rest) (drop n rest) rest message (carry_of g.K.Sink g.N.Sink c.args.self.now c.args.writer.now c.args.notes.now) (queues_of g.K.Sink g.N.Sink c.add.new.self c.add.new.writer c.add.new.notes) c.add.new.self.counter c.in_err-add.field-0.0
           (sym (take-append-drop n rest)) (c.in-Some.ensures.front ∙ ap (λ (l : List ℕ). l ++ take n rest) (sym none)) (subst (λ (k : ℕ). IsMessage k message) c.limit.ensures.value c.in-Some.ensures.whole)
-          c.requires.unfailed c.in_err-add.ensures.told stands,
+          c.requires.unfailed c.requires.due c.in_err-add.ensures.told stands,
       added_sound c.args.checker.now _ message (queues_of g.K.Sink g.N.Sink c.args.self.now.output c.args.writer.now c.args.notes.now) (queues_of g.K.Sink g.N.Sink c.add.new.self c.add.new.writer c.add.new.notes) c.args.self.now.output.counter c.add.new.self.counter c.in_err-add.field-0.0 c.requires.unfailed c.in_err-add.ensures.told,
     )
 
@@ -33,11 +33,12 @@ returns-in-Some g c =
       some = c.in-Some.ensures.some;
       goes_on = record {
         onward = λ first bytes stands. message_stands c.args.checker.now first bytes (take n rest) message (carry_of g.K.Sink g.N.Sink c.args.self.now c.args.writer.now c.args.notes.now) (carry_of g.K.Sink g.N.Sink (record c.args.self.now { room = c.add.new.room; output = c.add.new.self }) c.add.new.writer c.add.new.notes)
-            (c.in-Some.ensures.front ∙ ap (λ (l : List ℕ). l ++ take n rest) (sym none)) (subst (λ (k : ℕ). IsMessage k message) c.limit.ensures.value c.in-Some.ensures.whole) none added.0 stands;
+            (c.in-Some.ensures.front ∙ ap (λ (l : List ℕ). l ++ take n rest) (sym none)) (subst (λ (k : ℕ). IsMessage k message) c.limit.ensures.value c.in-Some.ensures.whole) none c.requires.due added.0 stands;
         ready = still_ready c.requires.ready c.add.ensures.room;
         unfailed = added.1;
         few = omega (arith, c.in_ok-add.ensures.one, c.in-Some.ensures.some, length-take-le n rest c.in-Some.ensures.within);
       };
+      one = one_told message added.0.verdict added.0.tally_is;
     }
 
 pub returns-in_err-taken : goal.returns-in_err-taken
@@ -61,6 +62,7 @@ returns-in_default-message g c =
         unfailed = c.requires.unfailed;
         few = omega arith;
       };
+      one = record { messages = omega arith; bad = omega arith };
     }
 
 pub returns-in_err-add-2 : goal.returns-in_err-add-2
@@ -75,7 +77,7 @@ returns-in_err-add-2 g c =
           add_halts c.args.checker.now first bytes (take used rest) (drop used rest) rest c.in-Some-message.message.now (carry_of g.K.Sink g.N.Sink c.args.self.now c.args.writer.now c.args.notes.now) (queues_of g.K.Sink g.N.Sink c.add-2.new.self c.add-2.new.writer c.add-2.new.notes) c.add-2.new.self.counter
           c.in_err-add-2.field-0.0 (sym (take-append-drop used rest)) (bytes_are ∙ feeds.held)
           (subst (λ (n : ℕ). IsMessage n c.in-Some-message.message.now) (feeds.limit ∙ c.requires.ready.limit) (subst (IsMessage c.feed.new.self.limit) (sym bytes_are) message.1))
-          c.requires.unfailed c.in_err-add-2.ensures.told stands,
+          c.requires.unfailed c.requires.due c.in_err-add-2.ensures.told stands,
       added_sound c.args.checker.now _ c.in-Some-message.message.now (queues_of g.K.Sink g.N.Sink c.args.self.now.output c.args.writer.now c.args.notes.now) (queues_of g.K.Sink g.N.Sink c.add-2.new.self c.add-2.new.writer c.add-2.new.notes) c.args.self.now.output.counter c.add-2.new.self.counter c.in_err-add-2.field-0.0 c.requires.unfailed c.in_err-add-2.ensures.told,
     )
 
@@ -95,9 +97,10 @@ returns g c =
         onward = λ first bytes stands. message_stands c.args.checker.now first bytes (take used rest) c.in-Some-message.message.now (carry_of g.K.Sink g.N.Sink c.args.self.now c.args.writer.now c.args.notes.now)
             (carry_of g.K.Sink g.N.Sink (record c.args.self.now { room = c.add-2.new.room; framer = c.next.new.self; output = c.add-2.new.self }) c.add-2.new.writer c.add-2.new.notes)
             (bytes_are ∙ feeds.held)
-            (subst (λ (n : ℕ). IsMessage n c.in-Some-message.message.now) (feeds.limit ∙ c.requires.ready.limit) (subst (IsMessage c.feed.new.self.limit) (sym bytes_are) message.1)) (ap (λ (f : Framing). f.held) (c.next.ensures.whole message)) added.0 stands;
+            (subst (λ (n : ℕ). IsMessage n c.in-Some-message.message.now) (feeds.limit ∙ c.requires.ready.limit) (subst (IsMessage c.feed.new.self.limit) (sym bytes_are) message.1)) (ap (λ (f : Framing). f.held) (c.next.ensures.whole message)) c.requires.due added.0 stands;
         ready = search rules;
         unfailed = added.1;
         few = omega (arith, c.in_ok-add-2.ensures.one, some, length-take-le used rest feeds.within);
       };
+      one = one_told c.in-Some-message.message.now added.0.verdict added.0.tally_is;
     }
