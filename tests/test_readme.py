@@ -12,7 +12,7 @@ from tests.support.program import FOLDER, PROGRAM, TOP, file_of
 
 README, REFERENCE = ((TOP / page).read_text() for page in ("README.md", "docs/REFERENCE.md"))
 PAGES = [*TOP.glob("*.md"), *(TOP / "docs").glob("*.md"), TOP / "bench/README.md", *TOP.glob("bindings/*/README.md"),
-         TOP / "examples/jq.md"]
+         TOP / "examples/jq.md", TOP / "examples/flatgeobuf/README.md"]
 
 
 def block(page, beginning):
