@@ -159,13 +159,15 @@ class Faults(Case):
 
     def test_schemas_that_are_not_legal(self):
         plain = table("T", field("v", INT, 4))
-        one = lambda *fields: [table("T", *fields)]
+        one, first = lambda *fields: [table("T", *fields)], "owner=0 part=0"
+        why = {"a vector of vectors": "T.v has a type that no table's field can have",
+               "64-bit offsets": "T.v has a 64-bit offset"}
         for name, objects, enums, want in [
             ("an object that isn't there", one(field("v", an_object(1), 4)), [], "C1 NoSuchObject owner=0 part=0"),
             ("in a union", [], [union("U", ("A", 1, an_object(5)))], "C1 NoSuchObject owner=0 part=0"),
             ("an enum that isn't there", one(field("v", a_union(0), 4)), [], "C2 NoSuchEnum owner=0 part=0"),
-            ("a vector of vectors", one(field("v", (14, 14), 4)), [], "C3 Unsupported owner=0 part=0"),
-            ("64-bit offsets", one(field("v", TEXT, 4, offset64=True)), [], "C3 Unsupported owner=0 part=0"),
+            ("a vector of vectors", one(field("v", (14, 14), 4)), [], f"C3 Unsupported {first}"),
+            ("64-bit offsets", one(field("v", TEXT, 4, offset64=True)), [], f"C3 Unsupported {first}"),
             ("an odd slot", one(field("v", INT, 5)), [], "C4 BadSlot owner=0 part=0"),
             ("a slot below 4", one(field("v", INT, 2)), [], "C4 BadSlot owner=0 part=0"),
             ("a slot twice", one(field("v", INT, 4), field("w", INT, 4)), [], "C4 BadSlot owner=0 part=1"),
@@ -180,10 +182,10 @@ class Faults(Case):
             ("two objects of a name", [plain, plain], [], "C8 NameTwice owner=1 part=-"),
         ]:
             path = file_of("illegal.bfbs", schema(objects, enums, root="T"))
-            self.same(name, run("--schema", path, given=SEVEN), schemaless(f"L2 {want}", path))
+            self.same(name, run("--schema", path, given=SEVEN), schemaless(f"L2 {want}", path, why.get(name, "")))
         path = file_of("type18.bfbs", changed(schemas.M, (156, "12")))
         self.same("a base type that isn't known", run("--schema", path),
-                  schemaless("L2 C3 Unsupported owner=0 part=0", path))
+                  schemaless(f"L2 C3 Unsupported {first}", path, "M.hp has a type that no table's field can have"))
         legal = schema([table("T", field("v", (14, 14), 4, deprecated=True)),
                         a_struct("S", 8, 4, field("x", array(INT, 2), 0))], root="T")
         self.same("a deprecated vector of vectors",

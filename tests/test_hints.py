@@ -116,6 +116,17 @@ FILES = [(f"{file}", ["--schema", file], b"", f"schema: {text}", f" in {file}{lo
     (file_of("empty.bfbs", b""), "L1 V2 OutOfBuffer at=4 object=9 field=- reads=0", "; this is empty"),
     (file_of("head.bfbs", schemas.M[:8]), "L1 V2 OutOfBuffer at=24 object=9 field=- reads=2", ""),
 ]]
+WHOLE = schema([table("A"), table("a.T", field("of", INT, 4), field("s", TEXT, 6, offset64=True))], root="A")
+UNSUPPORTED = [(f"{name}, unsupported", ["--schema", file], b"", f"schema: L2 C3 Unsupported {place}",
+                f" in {file}; {told}") for name, file, place, told in [
+    ("a 64-bit offset", file_of("far.bfbs", WHOLE), "owner=1 part=1", "a.T.s has a 64-bit offset"),
+    ("an array", file_of("array.bfbs", schema([table("T", field("two", array(INT, 2), 4))], root="T")),
+     "owner=0 part=0", "T.two is an array, which only structs have"),
+    ("vectors in a vector", file_of("vectors.bfbs", schema([table("T", field("all", (14, 14), 4))], root="T")),
+     "owner=0 part=0", "T.all has a type that no table's field can have"),
+    ("a name of odd bytes", file_of("odd.bfbs", schema([table("T", field("\n", (14, 14), 4))], root="T")),
+     "owner=0 part=0", r"T.\x0a has a type that no table's field can have"),
+]]
 STRAY = "; no good message came before: --bare is for a buffer without a prefix"
 TO_PARTS = "--delimited for prefixes outside the buffers"
 STREAMS = [(name, words, given, f"stream: {text}", hint) for name, words, given, text, hint in [
@@ -161,7 +172,7 @@ ENDS = [(name, words, given, "", hint) for name, words, given, hint in [
     ("a good one", ["--bare"], BARE, None),
     ("none", (), b"", None),
 ]]
-ROWS = [*WORDS, *ROOTS, *PATHS, *BYTES, *FILES, *STREAMS, *LONG_INPUT, *ENDS]
+ROWS = [*WORDS, *ROOTS, *PATHS, *BYTES, *FILES, *UNSUPPORTED, *STREAMS, *LONG_INPUT, *ENDS]
 
 
 class Hints(Case):
@@ -176,7 +187,7 @@ class Hints(Case):
 
     def test_each_text_of_the_code_stands_in_a_row(self):
         hints = [hint for *_, hint in ROWS if hint]
-        for file in "fb_access/src/hint", "fbcheck_texts/src/hint", "fbcheck_texts/src/framing":
+        for file in "fb_access/src/hint", *(f"fbcheck_texts/src/{name}" for name in ("hint", "unsupported", "framing")):
             code = (TOP / f"crates/{file}.rt").read_text()
             for text in re.findall(r'b"((?:[^"\\]|\\.)+)"', code):
                 text = text.removesuffix(r"\n")

@@ -239,7 +239,10 @@ fn schemaless(alloc: Global, fault: AskFault, file: Option<&[u8]>, settings: &Se
     ensures { LacksJob file.entry settings.now result.fault }
 {
     match fault {
-        AskFault::Load(_) => Unasked::new(fault, schema_hint(alloc, &settings.schema, file)),
+        AskFault::Load(cause) => {
+            let hint = schema_hint(alloc, &settings.schema, file, cause);
+            Unasked::new(fault, hint)
+        }
         _ => Unasked::plain(fault),
     }
 }

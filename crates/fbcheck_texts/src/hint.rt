@@ -6,9 +6,11 @@ ghost use Rattle.fbcheck_texts.specs.Hints.{IsHint, fault_with};
 
 use crate::causes::reason;
 use crate::fault::{AskFault, FileFault, WordsFault};
+use crate::unsupported::unsupported;
 use fb_access::{path_hint as pieces_of_path, root_hint as pieces_of_root};
+use fb_bfbs::LoadFault;
 use fb_run::put_bytes;
-use fb_schema::Schema;
+use fb_schema::{Code, Schema, SchemaFault};
 use fbcheck_words::Settings;
 use std::alloc::{AllocError, Global};
 use std::marker::Model;
@@ -169,6 +171,33 @@ impl Draft {
         }
     }
 
+    /// With the field for which a schema file is refused as unsupported, and why, where it is refused for that.
+    fn with_unsupported(
+        self,
+        alloc: Global,
+        file: &[u8],
+        fault: LoadFault,
+    ) -> Result<Draft, AllocError> {
+        let LoadFault::BadSchema(SchemaFault {
+            code: Code::Unsupported,
+            owner,
+            part: Some(part),
+        }) = fault
+        else {
+            return Ok(self);
+        };
+        match unsupported(alloc, file, owner, part) {
+            Some(found) => self
+                .with(b";")?
+                .with_name(found.table)?
+                .with(b".")?
+                .with(found.field)?
+                .with(b" ")?
+                .with(found.why),
+            None => Ok(self),
+        }
+    }
+
     /// With the identifier of a file that is no text and begins so, where that isn't the one of schema files.
     fn with_ident(self, front: &[u8]) -> Result<Draft, AllocError> {
         let ident = ident_in(front);
@@ -289,24 +318,27 @@ pub fn bytes_hint(
         .ended()
 }
 
-/// What is told of a file that gives no schema: its name, where it has one, and what it is by its first bytes.
+/// What is told of a file that gives no schema for this fault: its name, where it has one, what it is by its first
+/// bytes, and the field for which it is refused as unsupported.
 pub fn schema_hint(
     alloc: Global,
     name: &Option<String>,
     file: Option<&[u8]>,
+    fault: LoadFault,
 ) -> Result<Hint, AllocError> {
     let text = Draft::new(alloc);
     let Some(bytes) = file else {
         return text.ended();
     };
     let front = &bytes[..bytes.len().min(FRONT)];
-    match name {
-        Some(name) => text
-            .with_which(Some(name.as_bytes()))?
-            .with_front(front)?
-            .ended(),
-        None => text.with_front(front)?.ended(),
-    }
+    let named = match name {
+        Some(name) => text.with_which(Some(name.as_bytes()))?,
+        None => text,
+    };
+    named
+        .with_front(front)?
+        .with_unsupported(alloc, bytes, fault)?
+        .ended()
 }
 
 /// Whether a byte is a blank of a text.

@@ -7,3 +7,4 @@ pub mod fault_json;
 pub mod framing;
 pub mod hint;
 pub mod texts;
+mod unsupported;
