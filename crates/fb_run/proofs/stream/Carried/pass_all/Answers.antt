@@ -1,4 +1,4 @@
-use Rattle.std.proofs.Common.{arith, rules, sym, ◌∙◌}
+use Rattle.std.proofs.Common.{arith, rules, sym, ◌≡◌, ◌∙◌}
 use Rattle.fb_lines.specs.Ends.{outs_of}
 use Rattle.fb_run.specs.{Leave.ends_of, Leave.reader_of, Pieces.carry_of}
 use Rattle.fb_run.proofs.BareLemmas.{unused_queues}
@@ -61,3 +61,10 @@ returns-in-Err g c =
 
 pub returns : goal.returns
 returns g c = runs_from (sym c.if-is_bare.false ∙ c.is_bare.ensures) (fails_turns c.loop-left.invariant.sofar (omega (arith, c.loop-left-test.false)))
+
+pub returns-in-Ok-eq0 : goal.returns-in-Ok-eq0
+returns-in-Ok-eq0 g c =
+    let read = c.in-Ok-eq0.ensures in
+    let none : c.in-Ok-eq0.field-0 ≡ 0 = search rules in
+    runs_from (sym c.if-is_bare.false ∙ c.is_bare.ensures) (passes_end c.loop-left.invariant.sofar (reader_of g.S.Input c.pull_piece.new.source) c.loop-left-test.true (rw none at read.ok) read.counted (omega (arith, read.failure)) (read.end none)
+    c.in_ok-end-in-Ok-eq0.ensures.ok c.in_ok-finish-in-Ok-eq0.ensures.ok.1.1)
