@@ -67,4 +67,4 @@ returns-in-Ok-eq0 g c =
     let read = c.in-Ok-eq0.ensures in
     let none : c.in-Ok-eq0.field-0 ≡ 0 = search rules in
     runs_from (sym c.if-is_bare.false ∙ c.is_bare.ensures) (passes_end c.loop-left.invariant.sofar (reader_of g.S.Input c.pull_piece.new.source) c.loop-left-test.true (rw none at read.ok) read.counted (omega (arith, read.failure)) (read.end none)
-    c.in_ok-end-in-Ok-eq0.ensures.ok c.in_ok-finish-in-Ok-eq0.ensures.ok.1.1)
+    c.in_ok-end-in-Ok-eq0.ensures.ok c.in_ok-finish-in-Ok-eq0.ensures.ok.2)
