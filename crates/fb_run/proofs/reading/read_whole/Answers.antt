@@ -1,9 +1,8 @@
-use Rattle.std.proofs.Common.{arith, rules, refl, ◌∙◌, sym, ◌≤◌, ◌+◌, ◌<◌, length}
-use mathlib.Core.Logic.{inl}
+use Rattle.std.proofs.Common.{arith, rules, ◌∙◌, ◌≤◌, ◌+◌, ◌<◌, length}
 use Rattle.std.proofs.KnownBytes.{Keeps-refl}
 use Rattle.fb_lines.specs.Ends.{outs_of}
 use Rattle.fb_run.specs.Leave.{ends_of, reader_of}
-use Rattle.fb_run.proofs.WholeLemmas.{gathered_more, gathered_nothing, gathered_within, long_fails, memory_fails, read_fails, short_fails, spent_fails, whole_read}
+use Rattle.fb_run.proofs.WholeLemmas.{gathered_more, gathered_nothing, gathered_within, long_fails, memory_fails, read_fails, spent_fails}
 use Rattle.fb_run.proofs.reading.read_whole.Goals as goal
 
 pub loop-left-init : goal.loop-left-init

@@ -2,7 +2,7 @@ use Rattle.std.proofs.Common.{arith, rules, sym, ◌≡◌, ◌∙◌}
 use Rattle.fb_lines.specs.Ends.{outs_of}
 use Rattle.fb_run.specs.{Leave.ends_of, Leave.reader_of, Pieces.carry_of}
 use Rattle.fb_run.proofs.BareLemmas.{unused_queues}
-use Rattle.fb_run.proofs.RunLemmas.{err_is, fails_piece, fails_read, fails_short, fails_turns, full_piece, passes_end, runs_from, sofar_nothing, sofar_piece, prompt_from, sofar_prompt}
+use Rattle.fb_run.proofs.RunLemmas.{err_is, fails_piece, fails_read, fails_turns, full_piece, passes_end, runs_from, sofar_nothing, sofar_piece, prompt_from, sofar_prompt}
 use Rattle.fb_run.proofs.StreamLemmas.{due_next}
 use Rattle.fb_run.proofs.stream.Carried.pass_all.Goals as goal
 
