@@ -8,7 +8,8 @@ use Rattle.fb_run.proofs.reading.read_whole.Goals as goal
 pub loop-left-init : goal.loop-left-init
 loop-left-init g c = record {
   room = c.requires.room;
-  gathered = gathered_nothing c.args.checker.now (reader_of g.S.Input c.args.source.now) _ _ c.args.turns (search rules) (record { all = c.new-skip.ensures.all ∙ c.begin.ensures.value; left = omega (arith, c.new-skip.ensures.left, c.begin.ensures.value) });
+  gathered = gathered_nothing c.args.checker.now (reader_of g.S.Input c.args.source.now) _ _ c.args.turns (search rules)
+      (record { all = c.new-skip.ensures.all ∙ c.begin.ensures.value; left = omega (arith, c.new-skip.ensures.left, c.begin.ensures.value) });
 }
 
 pub pull_piece-requires-clause-leave : goal.pull_piece-requires-clause-leave
@@ -52,6 +53,6 @@ loop-left-preserved g c =
     let under : length c.loop-left.whole.items + length c.behind-more.result.now ≤ c.args.checker.now.limit = search rules in
     record {
       room = read.room ∙ c.loop-left.invariant.room;
-      gathered = gathered_more c.loop-left.invariant.gathered outs _ _ _ (reader_of g.S.Input c.pull_piece.new.source) read.ok (omega (arith, read.failure)) behind (search rules) under c.loop-left-test.true read.counted (search rules)
-          c.behind-more.ensures.all (rw c.as_slice.ensures.value at c.behind-more.ensures.left);
+      gathered = gathered_more c.loop-left.invariant.gathered outs _ _ _ (reader_of g.S.Input c.pull_piece.new.source) read.ok (omega (arith, read.failure)) behind
+          (search rules) under c.loop-left-test.true read.counted (search rules) c.behind-more.ensures.all (rw c.as_slice.ensures.value at c.behind-more.ensures.left);
     }
