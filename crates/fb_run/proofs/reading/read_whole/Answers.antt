@@ -1,8 +1,9 @@
-use Rattle.std.proofs.Common.{arith, rules, ◌∙◌, ◌≤◌, ◌+◌, ◌<◌, length}
+use Rattle.std.proofs.Common.{arith, rules, ◌≡◌, ◌∙◌, ◌≤◌, ◌+◌, ◌<◌, length}
 use Rattle.std.proofs.KnownBytes.{Keeps-refl}
 use Rattle.fb_lines.specs.Ends.{outs_of}
 use Rattle.fb_run.specs.Leave.{ends_of, reader_of}
-use Rattle.fb_run.proofs.WholeLemmas.{gathered_more, gathered_nothing, gathered_within, long_fails, memory_fails, read_fails, spent_fails}
+use Rattle.fb_run.proofs.WholeLemmas.{gathered_more, gathered_nothing, gathered_within, long_fails, memory_fails, read_fails, short_fails, spent_fails, whole_read}
+use Rattle.fb_run.proofs.RunLemmas.{err_is}
 use Rattle.fb_run.proofs.reading.read_whole.Goals as goal
 
 pub loop-left-init : goal.loop-left-init
@@ -56,3 +57,19 @@ loop-left-preserved g c =
       gathered = gathered_more c.loop-left.invariant.gathered outs _ _ _ (reader_of g.S.Input c.pull_piece.new.source) read.ok (omega (arith, read.failure)) behind
           (search rules) under c.loop-left-test.true read.counted (search rules) c.behind-more.ensures.all (rw c.as_slice.ensures.value at c.behind-more.ensures.left);
     }
+
+pub returns-in_err-end-in-Ok-eq0-clause-reads : goal.returns-in_err-end-in-Ok-eq0-clause-reads
+returns-in_err-end-in-Ok-eq0-clause-reads g c =
+    let read = c.in-Ok-eq0.ensures in
+    let none : c.in-Ok-eq0.field-0 ≡ 0 = search rules in
+    let early = c.in_err-end-in-Ok-eq0.ensures.early in
+    let outs = outs_of g.K.Sink g.N.Sink c.args.writer.now c.args.notes.now in
+    rw (err_is _ _ c.from_residual.ensures.1, early.1)
+    (short_fails c.loop-left.invariant.gathered outs (reader_of g.S.Input c.pull_piece.new.source) (rw none at read.ok) (omega (arith, read.failure)) (read.end none) early.0)
+
+pub returns-in-Ok-eq0-clause-reads : goal.returns-in-Ok-eq0-clause-reads
+returns-in-Ok-eq0-clause-reads g c =
+    let read = c.in-Ok-eq0.ensures in
+    let none : c.in-Ok-eq0.field-0 ≡ 0 = search rules in
+    let outs = outs_of g.K.Sink g.N.Sink c.args.writer.now c.args.notes.now in
+    whole_read c.loop-left.invariant.gathered outs (reader_of g.S.Input c.pull_piece.new.source) (rw none at read.ok) (omega (arith, read.failure)) (read.end none) c.in_ok-end-in-Ok-eq0.ensures.ok
