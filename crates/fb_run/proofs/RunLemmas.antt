@@ -299,7 +299,8 @@ module _ {job : Job} {first now : Reader} {before : Outs} {here : Carry} {skip :
     }
 
     -- with a message
-    pub passes_end : skip.left ≡ 0 → (here.framer.held ≡ []) ⊎ IsMessage here.framer.limit here.framer.held → Runs false job (beside first before) (beside reader (outs_in here.queues)) turns here.tally (Ok tt)
+    pub passes_end : skip.left ≡ 0 → (here.framer.held ≡ []) ⊎ IsMessage here.framer.limit here.framer.held
+        → Runs false job (beside first before) (beside reader (outs_in here.queues)) turns here.tally (Ok tt)
     passes_end spent held =
         let empty : here.framer.held ≡ [] = elim held [ inl none ↦ none | inr message ↦ absurd (omega (arith, message.whole, (sofar.ready.part message.prefixed).0)) ] in
         record {
