@@ -9,10 +9,11 @@ from tests.support.buffers import ORC, POST
 from tests.support.builder import buffer, messages_of, prefixed
 from tests.support.every_kind import WHOLE
 from tests.support.library import OUT, SANITIZED, SHARED, STATIC, LibraryCase, cpp_of, module, ran
-from tests.support.program import FOLDER, TOP, file_of, run
+from tests.support.program import TOP, file_of, folder_of, run
 from tests.support.schemas import INT, field, schema, table
 from tests.support.tools import there
 
+FOLDER = folder_of(__name__)
 CPP_17, CPP_20 = cpp_of(17), cpp_of(20)
 ORDERS = TOP / "examples/deliveries.bfbs"
 

@@ -9,9 +9,10 @@ from tests.support.buffers import NOTHING, ODD, ORC, SEVEN
 from tests.support.cases import Case
 from tests.support.json_lines import pairs
 from tests.support.preloaded import ALONE, WITH_LATER, sweep
-from tests.support.program import FOLDER, PROGRAM, Ran, file_of, lines, run, run_in_shell, run_unread
+from tests.support.program import PROGRAM, Ran, file_of, folder_of, lines, run, run_in_shell, run_unread
 from tests.test_hints import ROWS
 
+FOLDER = folder_of(__name__)
 FILES = schemas.files()
 BY_N = ("--schema", FILES["N"], "--json")
 BY_M = ("--schema", FILES["M"], "--json", "--bare")

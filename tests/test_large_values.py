@@ -12,8 +12,10 @@ import subprocess
 from tests.support.builder import Plain, buffer, prefixed
 from tests.support.cases import Case
 from tests.support.preloaded import ALONE, WITH_LATER, narrowed, refusing, sweep
-from tests.support.program import FOLDER, PROGRAM, file_of, lines, run
+from tests.support.program import PROGRAM, file_of, folder_of, lines, run
 from tests.support.schemas import INT, TEXT, a_struct, an_object, field, schema, table, vector
+
+FOLDER = folder_of(__name__)
 
 # How much more memory than the message a run may take.
 MORE = 4 << 20

@@ -7,7 +7,7 @@ import os
 import subprocess
 
 from tests.support.cases import Case
-from tests.support.program import FOLDER, TOP, loaded
+from tests.support.clone import TOP, folder_of, loaded
 from tests.support.tools import there
 
 OUT = TOP / "out"
@@ -45,7 +45,7 @@ class LibraryCase(Case):
 
     def compiled(self, name, source, *words, compiler="cc", standard="-std=gnu99"):
         """The program that a source is compiled to."""
-        made = FOLDER / name
+        made = folder_of(self.__module__) / name
         told = ran(compiler, standard, *STRICT, source, "-o", made, *words)
         self.same(f"{name} compiles without a warning", told, (0, "", ""))
         return made
