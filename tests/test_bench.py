@@ -9,6 +9,7 @@ import dataclasses
 import hashlib
 import io
 import os
+import re
 import shutil
 import subprocess
 import sys
@@ -136,6 +137,19 @@ class Bench(LibraryCase):
         count = jumps.runs(PROGRAM, dataclasses.replace(building.CORPORA[0], counted=building.Size(50)))
         walk = sum(count[at] for function, at, _, _ in found if "::walk_on" in function)
         self.holds("a walk over 50 messages makes some thousand", 50 * 100 < walk < 50 * 10_000, walk)
+
+    @unittest.skipUnless(shutil.which("valgrind"), "valgrind isn't there")
+    def test_what_demands_cost(self):
+        """On an eighth of each stream, what the page says."""
+        demands = loaded(TOP / "bench/demands")
+        rows = re.findall(r"(?m)^\| `(\w+)` \([^|]*\) \| ([\d.]+) \| ([\d.]+) \| ([\d.]+) \|$",
+                          (TOP / "docs/REFERENCE.md").read_text())
+        self.same("the streams of the page", [name for name, *_ in rows], demands.STREAMS)
+        for corpus, (name, *said) in zip(demands.corpora(), rows):
+            messages, parts = corpus.counted.messages, corpus.counted.parts
+            size = building.Size(max(messages // 8, 1), parts if messages > 8 else parts // 8)
+            for option, page, found in zip(demands.OPTIONS, said, demands.ratios(PROGRAM, corpus, size)):
+                self.holds(f"{name}, {option}", abs(found - float(page)) <= 0.1, (found, page))
 
     def test_a_chart_is_drawn(self):
         costs = {"fbcheck": timing.Cost(1.0, 1.0, None), "reflection": timing.Cost(2.0, 2.5, None),

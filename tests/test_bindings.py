@@ -32,11 +32,12 @@ from tests.support.generated import Kept
 from tests.support.header import Reason
 from tests.support.library import OUT, LibraryCase, ran
 from tests.support.naive import NAMES, Default, Reader
-from tests.support.program import FOLDER, TOP, file_of, run
+from tests.support.program import TOP, file_of, folder_of, run
 from tests.support.schemas import INT, TEXT, U_BYTE, a_union, an_object, field, schema, table, union
 from tests.support.strict_messages import MESSAGES
 from tests.support.tools import jdk_of_22, node_headers, there
 
+FOLDER = folder_of(__name__)
 DRIVERS = TOP / "tests/bindings"
 NO_SCHEMA = "; this is no binary schema, which flatc --binary --schema makes"
 FOUND = {"PKG_CONFIG_PATH": str(OUT), "LD_LIBRARY_PATH": str(OUT)}

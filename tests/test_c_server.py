@@ -9,9 +9,10 @@ from tests.support.buffers import BY_POST, POST
 from tests.support.builder import changed, messages_of, prefixed
 from tests.support.every_kind import FILE, variants
 from tests.support.library import SANITIZED, SHARED, STATIC, LibraryCase, ran
-from tests.support.program import FOLDER, TOP, file_of, run
+from tests.support.program import TOP, file_of, folder_of, run
 from tests.support.schemas import INT, field, schema, table
 
+FOLDER = folder_of(__name__)
 ORDERS, ROOT = TOP / "examples/deliveries.bfbs", "post.Delivery"
 ASKED = ("-H", "--names", "--strict", "--utf8", *BY_POST, "--root", ROOT, "--path")
 MESSAGES = messages_of(POST)

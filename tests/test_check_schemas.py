@@ -6,8 +6,9 @@ import subprocess
 import unittest
 
 from tests.support.cases import Case
-from tests.support.program import FOLDER, PROGRAM, TOP
+from tests.support.program import PROGRAM, TOP, folder_of
 
+FOLDER = folder_of(__name__)
 TOOLS = ["basename", "bash", "dirname", "find", "flatc", "grep", "mktemp", "rm", "sort", "tail"]
 NONE = "check_schemas: no program "
 

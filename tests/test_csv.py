@@ -18,10 +18,11 @@ from tests.support.cases import Case
 from tests.support.every_kind import FILE, LITTLE, WHOLE, variants
 from tests.support.json_lines import Float, read
 from tests.support.preloaded import narrowed
-from tests.support.program import FOLDER, PROGRAM, Ran, file_of, lines, refused, run, run_in_shell
+from tests.support.program import PROGRAM, Ran, file_of, folder_of, lines, refused, run, run_in_shell
 from tests.test_beside_naive import PATHS
 from tests.test_large_values import BY_TEXT, MORE, PATTERN, SIZE, big_file, holds, measured
 
+FOLDER = folder_of(__name__)
 FILES = schemas.files()
 BY_N = ("--schema", FILES["N"])
 BY_M = ("--schema", FILES["M"])

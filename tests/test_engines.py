@@ -18,9 +18,10 @@ from tests.support import schemas
 from tests.support.buffers import ORC, PLAIN, POST, named
 from tests.support.builder import changed, messages_of, prefixed
 from tests.support.library import SANITIZED, SHARED, STATIC, LibraryCase
-from tests.support.program import FOLDER, TOP, file_of, run, waiting
+from tests.support.program import TOP, file_of, folder_of, run, waiting
 from tests.support.python import package
 
+FOLDER = folder_of(__name__)
 CHECK_LINES = TOP / "examples/engines/check_lines"
 CONSUMER = TOP / "examples/engines/consumer.c"
 PATIENCE = 300  # seconds in which a cluster does what is asked of it, beside other work

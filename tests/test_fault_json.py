@@ -3,15 +3,17 @@ behind a good end. Faults of the words stay plain text."""
 
 import json
 import re
+import subprocess
 
 from tests.support import schemas
 from tests.support.buffers import NOTHING, ODD, ORC, SEVEN
 from tests.support.cases import Case
 from tests.support.json_lines import pairs
 from tests.support.preloaded import ALONE, WITH_LATER, sweep
-from tests.support.program import FOLDER, PROGRAM, Ran, file_of, lines, run, run_in_shell, run_unread
+from tests.support.program import PROGRAM, Ran, file_of, folder_of, lines, run, run_in_shell, run_unread
 from tests.test_hints import ROWS
 
+FOLDER = folder_of(__name__)
 FILES = schemas.files()
 BY_N = ("--schema", FILES["N"], "--json")
 BY_M = ("--schema", FILES["M"], "--json", "--bare")
@@ -154,9 +156,23 @@ class FaultJson(Case):
                 path.write_bytes(SEVEN if number % 5 else NOTHING)
             want[f"report/{number}.bin"] = "missing" if not number % 7 else number % 5 > 0
         ran = run(*BY_N, *want, cwd=FOLDER)
-        told = {}
-        for line in (ran.out + ran.err).splitlines():
-            said_of = json.loads(line, object_pairs_hook=pairs)
-            told[said_of["file"]] = "missing" if said_of.get("fault") == "no such file" else said_of["ok"]
-        self.same("each is told", told, want)
+        self.same("each is told", self.reported((ran.out + ran.err).splitlines()), want)
         self.same("the status", ran.status, 3)
+        both = subprocess.run([PROGRAM, *BY_N, "--summary", *want], cwd=FOLDER, stdin=subprocess.DEVNULL,
+                              stdout=subprocess.PIPE, stderr=subprocess.STDOUT)
+        *told, last = both.stdout.splitlines()
+        self.same("each is told where both are one pipe", self.reported(told), want)
+        ok, bad = (list(want.values()).count(kind) for kind in (True, False))
+        sums = {"messages": ok + bad, "yes": ok, "no": bad, "V2": bad}
+        told = json.loads(last)
+        self.same("behind them the sums", {key: told.get(key) for key in sums}, sums)
+        self.same("whose status is the same", both.returncode, 3)
+
+    def reported(self, told):
+        """What lines tell of each file, which has one."""
+        found = {}
+        for line in told:
+            one = json.loads(line, object_pairs_hook=pairs)
+            self.assertNotIn(one["file"], found)
+            found[one["file"]] = "missing" if one.get("fault") == "no such file" else one["ok"]
+        return found

@@ -9,14 +9,15 @@ from tests.support.buffers import MEMBER, ORC, PLAIN, SEVEN
 from tests.support.builder import changed, prefixed, spelled
 from tests.support.cases import Case
 from tests.support.program import (
-    CLOSED, FOLDER, FULL, NOT_UTF_8, NO_BYTES, NO_SCHEMA, PROGRAM, SECONDS, Ran, Talk, astray, bad, failed, fieldless,
-    file_of, good, lines, listed, overlong, oversize, refused, rootless, run, run_broken_off, run_in_shell, run_starved,
-    run_unread, schemaless,
+    CLOSED, FULL, NOT_UTF_8, NO_BYTES, NO_SCHEMA, PROGRAM, SECONDS, Ran, Talk, astray, bad, failed, fieldless,
+    file_of, folder_of, good, lines, listed, overlong, oversize, refused, rootless, run, run_broken_off,
+    run_in_shell, run_starved, run_unread, schemaless,
 )
 from tests.support.schemas import (
     INT, LONG, SHORT, TEXT, U_TYPE, a_struct, a_union, an_object, array, field, schema, table, union, vector,
 )
 
+FOLDER = folder_of(__name__)
 FILES = schemas.files()
 BY_M = ("--schema", FILES["M"], "--bare")
 BY_N = ("--schema", FILES["N"])

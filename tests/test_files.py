@@ -14,10 +14,11 @@ from tests.support.cases import Case
 from tests.support.header import Reason
 from tests.support.preloaded import narrowed
 from tests.support.program import (
-    FOLDER, FULL, NOT_UTF_8, NO_BYTES, PROGRAM, SECONDS, SHIFTED, Ran, Talk, failed, file_of, lines, overlong, refused,
-    rootless, run, run_in_shell, run_starved, schemaless,
+    FULL, NOT_UTF_8, NO_BYTES, PROGRAM, SECONDS, SHIFTED, Ran, Talk, failed, file_of, folder_of, lines, overlong,
+    refused, rootless, run, run_in_shell, run_starved, schemaless,
 )
 
+FOLDER = folder_of(__name__)
 FILES = schemas.files()
 BY_M = ("--schema", FILES["M"], "--bare")
 BY_N = ("--schema", FILES["N"])

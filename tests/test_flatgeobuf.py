@@ -19,7 +19,7 @@ from tests.support.cases import Case
 from tests.support.flatgeobuf import (
     COLUMNS, EXAMPLE, HEADER, KINDS, OF_LINES, OF_PARTS, SCHEMA, File, Layer, files, lines, node_count, parts, points,
 )
-from tests.support.program import FOLDER, PROGRAM, TOP, file_of, run
+from tests.support.program import PROGRAM, TOP, file_of, folder_of, run
 from tests.support.tools import there
 
 sys.path.insert(0, str(TOP / "bench" / "comparison"))
@@ -27,6 +27,7 @@ sys.path.insert(0, str(TOP / "bench" / "comparison"))
 import building  # noqa: E402  (the folder is named just above)
 import verdicts  # noqa: E402
 
+FOLDER = folder_of(__name__)
 LACKING = building.missing()
 WITH_GDAL = unittest.skipUnless(there("ogr2ogr"), "ogr2ogr isn't there")
 BY_HEADER = ["--schema", SCHEMA, "--root", HEADER]

@@ -11,8 +11,9 @@ import subprocess
 from tests.support import schemas
 from tests.support.builder import messages_of
 from tests.support.cases import Case
-from tests.support.program import FOLDER, TOP, file_of, good, loaded, rootless, run, schemaless, unschemed
+from tests.support.program import TOP, file_of, folder_of, good, loaded, rootless, run, schemaless, unschemed
 
+FOLDER = folder_of(__name__)
 HOSTILE = loaded(TOP / "bench/hostile")
 
 # A shape, its size in bytes, and the tables that a verification visits, by the shape's own plan.

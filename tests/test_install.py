@@ -8,9 +8,10 @@ import subprocess
 import unittest
 
 from tests.support.library import LibraryCase
-from tests.support.program import FOLDER, PROGRAM, TOP, run
+from tests.support.program import PROGRAM, TOP, folder_of, run
 from tests.support.tools import there
 
+FOLDER = folder_of(__name__)
 PAGES = ("README.md", "CHANGELOG.md", "CONTRIBUTING.md", "docs/*.md", "bindings/*/README.md", "bindings/node/index.d.ts",
          "bench/README.md", "bench/compare.svg", "crates/name_reader/src/lib.rt", "examples/deliveries.*",
          "examples/jq.md", "examples/c/*", "examples/split", "examples/engines/*", "examples/flatgeobuf/*")

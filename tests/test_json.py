@@ -17,9 +17,10 @@ from tests.support.cases import Case
 from tests.support.every_kind import FILE, LITTLE, OBJECTS, UNION, WHOLE, variants
 from tests.support.json_lines import Float, names_of, read, said, spans_of
 from tests.support.naive import Reader, Schema
-from tests.support.program import FOLDER, PROGRAM, TOP, Ran, file_of, lines, run
+from tests.support.program import PROGRAM, TOP, Ran, file_of, folder_of, lines, run
 from tests.test_beside_naive import PATHS
 
+FOLDER = folder_of(__name__)
 FILES = schemas.files()
 BY_N = ("--schema", FILES["N"])
 BY_M = ("--schema", FILES["M"], "--bare", "--json")

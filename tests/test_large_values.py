@@ -8,15 +8,25 @@ import itertools
 import os
 import struct
 import subprocess
+import sys
+import tempfile
 
+from bench.shapes.layout import begun
+from bench.shapes.measuring import MEASURE
 from tests.support.builder import Plain, buffer, prefixed
 from tests.support.cases import Case
 from tests.support.preloaded import ALONE, WITH_LATER, narrowed, refusing, sweep
-from tests.support.program import FOLDER, PROGRAM, file_of, lines, run
+from tests.support.program import PROGRAM, file_of, folder_of, lines, run
 from tests.support.schemas import INT, TEXT, a_struct, an_object, field, schema, table, vector
 
+FOLDER = folder_of(__name__)
+
 # How much more memory than the message a run may take.
-MORE = 4 << 20
+MORE = 3 << 20
+
+# As many paths as there may be, which all lead to a text of so many bytes.
+PATHS = [f"t{number}" for number in range(16)]
+TO_ONE = 16 << 20
 
 # Each byte once, among letters, and not as many as fit into any buffer evenly.
 PATTERN = bytes(range(256)) + b"all the letters of a plain text " * 60 + b"\\\""
@@ -82,6 +92,18 @@ def measured(*words, given):
     return child.returncode, usage.ru_maxrss * 1024, made
 
 
+def peak(*words, given):
+    """The most memory of a run on this file, and how many bytes it writes. A process that has less memory than this one
+    starts it, since a child's peak begins with that of its parent."""
+    with tempfile.NamedTemporaryFile("r", dir=FOLDER) as told, open(given, "rb") as source:
+        command = [sys.executable, "-S", "-E", "-c", MEASURE, told.name, PROGRAM, *words]
+        child = subprocess.Popen(command, stdin=source, stdout=subprocess.PIPE, bufsize=0, pipesize=1 << 20)
+        written = sum(map(len, iter(lambda: child.stdout.read(1 << 20), b"")))
+        child.stdout.close()
+        child.wait()
+        return int(told.read().split()[1]) * 1024, written
+
+
 def lines_of(texts):
     """The lines of a stream of these texts."""
     return lines(*(f"{number} ok tables=1 depth=1 reads=8 {quoted(text)}" for number, text in enumerate(texts, 1)))
@@ -109,6 +131,24 @@ class LargeValues(Case):
             status, memory, made = measured(*BY_TEXT, "--filter", *words, given=big)
             self.same(f"through a filter {name}", (status, made.stat().st_size), (0, length))
             self.holds(f"memory of a filter {name}", memory <= length + MORE, (memory, length))
+
+    def test_sixteen_paths_to_one_large_text(self):
+        """Whatever is written of it: plain lines, JSON, CSV, or the message itself."""
+        fields = [field(name, TEXT, 4 + 2 * at) for at, name in enumerate(PATHS)]
+        by = file_of("sixteen.bfbs", schema([table("T", *fields)], root="T"))
+        layout = begun().table("root", {4 + 2 * at: "text" for at in range(len(PATHS))})
+        data = layout.text("text", b"all the letters of a plain text " * (TO_ONE // 32)).bytes()
+        data += bytes(-len(data) % 4)
+        stream, bare = file_of("stream", prefixed(data)), file_of("bare", data)
+        named = [word for name in PATHS for word in ("--path", name)]
+        for given, words, texts in [
+            (stream, named, 16), (stream, [*named, "--json"], 16), (stream, [*named, "--csv"], 16),
+            (stream, ["--filter"], 1), (bare, [*named, "--bare", "--csv"], 16),
+        ]:
+            memory, written = peak("--schema", by, *words, given=given)
+            name = " ".join(word for word in words if word.startswith("--") and word != "--path") or "plain lines"
+            self.holds(f"all is written, {name}", 0 < written - texts * TO_ONE < 4096, written)
+            self.holds(f"memory, {name}", memory <= len(data) + MORE, (memory, len(data)))
 
     def test_among_others(self):
         """Lines before and behind it keep their order, whatever the pieces are; none is told twice."""

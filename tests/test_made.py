@@ -6,8 +6,9 @@ import shutil
 import subprocess
 
 from tests.support.cases import Case
-from tests.support.program import FOLDER, TOP, loaded
+from tests.support.program import TOP, folder_of, loaded
 
+FOLDER = folder_of(__name__)
 MAKE, COMPLETIONS = loaded(TOP / "bindings/make"), loaded(TOP / "completions/make")
 HEADER = (TOP / MAKE.HEADER).read_text()
 LAST = MAKE.Header(HEADER).enums["reason"].numbers[-1]

@@ -79,6 +79,9 @@ CALLS = {
     ],
     "a file packed by `zstd`; by `zip` it's `declared=67324752`, and `gzip` from a pipe gives `S2`, or a bad first "
     "message": [(BY_POST, by_zstd(POST))],
+    "a FlatGeobuf file (`.fgb`), which doesn't begin with a message": [
+        (("--schema", EXAMPLES / "flatgeobuf/flatgeobuf.bfbs"), (EXAMPLES / "flatgeobuf/places.fgb").read_bytes())
+    ],
     "a size-prefixed message with `--bare` (`at=` is the length less 4); rarely ok": [
         ((*BY_POST, "--bare"), FIRST), ((*BY_POST, "--bare"), POST)
     ],

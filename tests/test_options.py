@@ -8,11 +8,12 @@ from tests.support.buffers import ASKEW, MEMBER, ODD_MEMBER, ORC, PLAIN, SEVEN, 
 from tests.support.builder import changed, prefixed, spelled
 from tests.support.cases import Case
 from tests.support.program import (
-    FOLDER, SECONDS, TOP, Ran, astray, bad, failed, fieldless, file_of, good, overlong, refused, rootless, run,
+    SECONDS, TOP, Ran, astray, bad, failed, fieldless, file_of, folder_of, good, overlong, refused, rootless, run,
     schemaless, shifted, unschemed,
 )
 from tests.support.tools import there
 
+FOLDER = folder_of(__name__)
 FILES = schemas.files()
 X = "A", "R", "Q"
 REFLECTION = [f"reflection.{name}" for name in schemas.REFLECTION]

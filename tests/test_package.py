@@ -11,10 +11,11 @@ import sys
 import unittest
 
 from tests.support.library import LibraryCase, ran
-from tests.support.program import FOLDER, PROGRAM, TOP, run
+from tests.support.program import PROGRAM, TOP, folder_of, run
 from tests.support.tools import jdk_of_22, node_headers, there, with_jdk
 from tests.test_install import dead_links
 
+FOLDER = folder_of(__name__)
 VERSION = (TOP / "VERSION").read_text().strip()
 DEBS = [f"{name}_{VERSION}_amd64.deb" for name in ("fbcheck", "libfbcheck-dev", "libfbcheck1", "python3-fbcheck")]
 TARBALL = f"fbcheck-{VERSION}-x86_64-linux.tar.gz"

@@ -15,9 +15,10 @@ import zipfile
 from tests.support.buffers import POST
 from tests.support.builder import messages_of
 from tests.support.library import LibraryCase, ran
-from tests.support.program import FOLDER, PROGRAM, TOP, file_of
+from tests.support.program import PROGRAM, TOP, file_of, folder_of
 from tests.support.tools import jdk_of_22, node_headers, with_jdk
 
+FOLDER = folder_of(__name__)
 VERSION = (TOP / "VERSION").read_text().strip()
 ORDERS = TOP / "examples/deliveries.bfbs"
 GOOD, BAD = (file_of(name, messages_of(POST)[at]) for name, at in [("good", 0), ("bad", 4)])

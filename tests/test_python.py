@@ -27,7 +27,7 @@ from tests.support.builder import Plain, buffer, changed, messages_of, prefixed,
 from tests.support.every_kind import FILE, LITTLE, OPTIONS, WHOLE, variants, words_of
 from tests.support.library import LibraryCase, ran
 from tests.support.naive import NAMES
-from tests.support.program import FOLDER, TOP, file_of, run
+from tests.support.program import TOP, file_of, folder_of, run
 from tests.support.python import package
 from tests.support.schemas import (
     BOOL, BYTE, DOUBLE, FLOAT, INT, LONG, SHORT, TEXT, U_BYTE, U_INT, U_LONG, U_SHORT, U_TYPE, a_union, an_object,
@@ -36,6 +36,7 @@ from tests.support.schemas import (
 from tests.support.threads import on_eight, tried, turns_beside
 from tests.support.tools import there
 
+FOLDER = folder_of(__name__)
 BINDING = TOP / "bindings/python"
 ORDERS = TOP / "examples/deliveries.bfbs"
 ALL = file_of("all.bfbs", FILE)

@@ -16,12 +16,13 @@ from tests.support.library import LibraryCase, module
 from tests.support.many import each
 from tests.support.naive import NAMES, Reader, Schema, Walk
 from tests.support.paths import names_in, text_of, told, ways
-from tests.support.program import FOLDER, run
+from tests.support.program import folder_of, run
 from tests.support.random_buffers import Builder, damaged
 from tests.support.random_rows import Maker, Random
 from tests.support.told import line
 from tests.support.told import in_calls, text_of as value_text
 
+FOLDER = folder_of(__name__)
 SEEDS, SCHEMAS, BUFFERS = range(100, 140), 53, 100
 CODES = [*NAMES]
 PYTHON = None

@@ -8,8 +8,9 @@ import subprocess
 import unittest
 
 from tests.support.builder import changed
-from tests.support.program import FOLDER, PROGRAM, TOP, file_of
+from tests.support.program import PROGRAM, TOP, file_of, folder_of
 
+FOLDER = folder_of(__name__)
 README, REFERENCE = ((TOP / page).read_text() for page in ("README.md", "docs/REFERENCE.md"))
 PAGES = [*TOP.glob("*.md"), *(TOP / "docs").glob("*.md"), TOP / "bench/README.md", *TOP.glob("bindings/*/README.md"),
          TOP / "examples/jq.md", TOP / "examples/flatgeobuf/README.md"]

@@ -11,9 +11,10 @@ from tests.support.builder import buffer
 from tests.support.cases import Case
 from tests.support.generated import made, missing
 from tests.support.library import LibraryCase, module
-from tests.support.program import FOLDER, Ran, file_of, lines, run
+from tests.support.program import Ran, file_of, folder_of, lines, run
 from tests.support.real_defaults import FILE, MESSAGE, VALUES
 
+FOLDER = folder_of(__name__)
 BY = ("--schema", file_of("real.bfbs", FILE), "--bare")
 # The beginning of a program that writes what the accessors of an empty table give, each as the bits of a double.
 HEAD = """#include "reals_generated.h"

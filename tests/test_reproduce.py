@@ -10,8 +10,10 @@ import shutil
 import subprocess
 
 from tests.support.cases import Case
-from tests.support.program import FOLDER, PROGRAM, TOP, file_of
+from tests.support.program import PROGRAM, TOP, file_of, folder_of
 from tests.support.scripts import Scripts
+
+FOLDER = folder_of(__name__)
 
 # Stands for rt: the program is a file of the sources, with what the variable ADDS names in the place where it's built.
 RT = """#!/bin/bash

@@ -11,8 +11,9 @@ import sys
 
 from tests.support.buffers import POST
 from tests.support.cases import Case
-from tests.support.program import FOLDER, PROGRAM, TOP, run
+from tests.support.program import PROGRAM, TOP, folder_of, run
 
+FOLDER = folder_of(__name__)
 SECONDS = 300  # a recipe starts some sixty processes, and others may keep the machine busy
 PAGE = (TOP / "docs/SCALE.md").read_text()
 SCHEMA = (TOP / "examples/deliveries.bfbs").read_bytes()

@@ -11,8 +11,9 @@ import sys
 from tests.support.buffers import POST
 from tests.support.builder import messages_of, prefixed
 from tests.support.cases import Case
-from tests.support.program import FOLDER, TOP, file_of, run
+from tests.support.program import TOP, file_of, folder_of, run
 
+FOLDER = folder_of(__name__)
 SPLIT = TOP / "examples/split"
 
 

@@ -19,7 +19,7 @@ from tests.support.cases import Case
 from tests.support.file_rows import FileReader
 from tests.support.generated import Generated, Kept, missing
 from tests.support.naive import UNION, VECTOR, Schema, number_at
-from tests.support.program import FOLDER, TOP, run
+from tests.support.program import TOP, folder_of, run
 from tests.support.random_buffers import Builder
 from tests.support.random_buffers import damaged as damaged_at_random
 from tests.support.random_rows import Maker, Random
@@ -27,6 +27,8 @@ from tests.support.schemas import U_BYTE, field, table, vector
 from tests.support.strict import EVERYTHING, FLEX, STRICT, Demands, Plan, Strict, found_from, holds_bytes, lacks_marks, marks_of
 from tests.support.strict_messages import MESSAGES, bytes_changed, cut, every_byte, words_changed
 from tests.support.strict_program import ASKED, lines_of, refusal_of, words_of_demands, words_of_limits
+
+FOLDER = folder_of(__name__)
 
 # - `LONE`: a union whose value is the word at 16 and whose type stands at 20; `ALONE`: a type at 16 without a value
 # - `UNTYPED`, `ODD`: a value without a type field, at 16 and at 17

@@ -11,10 +11,11 @@ from tests.support.every_kind import words_of
 from tests.support.library import LibraryCase, module
 from tests.support.many import each
 from tests.support.naive import Walk
-from tests.support.program import FOLDER, run
+from tests.support.program import folder_of, run
 from tests.support.told import line
 from tests.support.wide_structs import ALIGNMENTS, FORMS, OPTIONS, PLACES, SHORT, SIZES, buffers, of_schema
 
+FOLDER = folder_of(__name__)
 PYTHON = None
 
 

@@ -7,7 +7,8 @@ import os
 import subprocess
 
 from tests.support.cases import Case
-from tests.support.program import FOLDER, TOP, loaded
+from tests.support.clone import TOP, folder_of, loaded
+from tests.support.tools import there
 
 OUT = TOP / "out"
 STRICT = ["-O1", "-Wall", "-Wextra", "-Wpedantic", "-Werror", "-I", TOP / "include"]
@@ -22,6 +23,11 @@ def ran(*words, given=None, seconds=120, **environment):
     told = subprocess.run(words, input=given, stdin=None if given is not None else subprocess.DEVNULL,
                           capture_output=True, timeout=seconds, env={**os.environ, **environment})
     return told.returncode, told.stdout.decode(), told.stderr.decode()
+
+
+def cpp_of(year):
+    """How C++ of this year is compiled, or None where there is no compiler for it."""
+    return {"compiler": "c++", "standard": f"-std=c++{year}"} if there("c++") else None
 
 
 def module():
@@ -39,7 +45,7 @@ class LibraryCase(Case):
 
     def compiled(self, name, source, *words, compiler="cc", standard="-std=gnu99"):
         """The program that a source is compiled to."""
-        made = FOLDER / name
+        made = folder_of(self.__module__) / name
         told = ran(compiler, standard, *STRICT, source, "-o", made, *words)
         self.same(f"{name} compiles without a warning", told, (0, "", ""))
         return made

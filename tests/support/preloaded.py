@@ -12,7 +12,8 @@ import subprocess
 import tempfile
 
 from tests.support.builder import messages_of
-from tests.support.program import FOLDER, PROGRAM, SECONDS, TOP, file_of, run
+from tests.support.clone import FOLDER
+from tests.support.program import PROGRAM, SECONDS, TOP, file_of, run
 
 # How many runs are under way at once.
 AT_ONCE = 4

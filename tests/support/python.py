@@ -3,7 +3,7 @@
 import subprocess
 import sys
 
-from tests.support.program import FOLDER, TOP
+from tests.support.clone import FOLDER, TOP
 
 
 def package(python=sys.executable):

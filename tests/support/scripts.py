@@ -3,7 +3,8 @@
 import shutil
 import subprocess
 
-from tests.support.program import FOLDER, TOP, Ran
+from tests.support.clone import FOLDER, TOP
+from tests.support.program import Ran
 
 
 class Scripts:
