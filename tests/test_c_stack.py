@@ -12,8 +12,8 @@ from tests.support.library import STATIC, LibraryCase, ran
 from tests.support.program import TOP, file_of
 from tests.support.strict_messages import MESSAGES
 
-SAID = re.compile(r"a check uses up to (\d+) KB of its \* thread's stack, with a scratch or without, and fbcheck_locate "
-                  r"(\d+) KB; with options.demands up to (\d+) KB more")
+SAID = re.compile(r"a check uses up to (\d+) KB of its \* thread's stack, with a scratch or without, and "
+                  r"fbcheck_locate (\d+) KB; with options.demands up to (\d+) KB more")
 ALL = STRICT | KNOWN_FIELDS | UTF8
 
 

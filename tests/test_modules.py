@@ -1,4 +1,4 @@
-"""The modules of these tests: they run in one process in any order, since each has a folder of its own for its files."""
+"""The modules of these tests: they run in one process in any order, since each has a folder for its files."""
 
 import re
 import subprocess

@@ -1,7 +1,7 @@
 /*
  * Tells how many bytes of its thread's stack each kind of call takes for a buffer: stack SCHEMA.bfbs BUFFER DEMANDS.
- * The thread's stack is memory of this program, which is painted below the caller before each call: what isn't as it was
- * painted afterwards was written. Each call is made with a scratch and without; the larger number counts.
+ * The thread's stack is memory of this program, which is painted below the caller before each call: what isn't as it
+ * was painted afterwards was written. Each call is made with a scratch and without; the larger number counts.
  */
 #define _GNU_SOURCE
 #include <fbcheck.h>

@@ -20,7 +20,7 @@ import tty
 import typing
 import unittest
 
-from tests.support.clone import TOP, file_of, folder_of, loaded  # noqa: F401  (whoever asks the program takes them here)
+from tests.support.clone import TOP, file_of, folder_of, loaded  # noqa: F401  (who asks the program takes them here)
 
 PROGRAM = pathlib.Path(os.environ.get("FBCHECK_PROGRAM") or TOP / "crates/fbcheck/out/fbcheck")
 SECONDS = 60
