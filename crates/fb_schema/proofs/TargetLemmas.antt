@@ -1,17 +1,11 @@
 -- The targets of a union are found by the values that its members have.
-use Rattle.std.proofs.Common.{◌≡◌, ℕ, zero, suc, ◌+◌, ◌<◌, ◌≤◌, ◌⊎◌, inl, inr, List, [], ◌∷◌, ◌++◌, length, get_or, take, map, true, sym, subst, ◌∙◌, ap, arith, option_and_then}
-use Rattle.std.proofs.lemmas.{Option.slice_get_within, List.get_or_append_left, List.length_push, Grind.take_at_read}
+use Rattle.std.proofs.Common.{◌≡◌, ℕ, zero, suc, ◌+◌, ◌-◌, ◌<◌, ◌≤◌, ◌==◌, nat_lt, min, if◌then◌else◌, ◌⊎◌, inl, inr, List, [], ◌∷◌, ◌++◌, length, get_or, slice_get, Some, take, map, true, refl, sym, subst, ◌∙◌, ap, arith, option_and_then}
+use Rattle.std.proofs.lemmas.{Option.slice_get_within, Option.get_or_from_slice_get, List.get_or_append_left, List.length_push, Grind.take_at_read, Bool.Decides.nat_tests}
 use Rattle.std.proofs.Math.Seq.{get_or-append_seam}
 use Rattle.fb_schema.specs.declared.{flat.EnumPart.EnumPart, views.Target.Target, rows.MemberRow.MemberRow}
 use Rattle.fb_schema.specs.{Flat.part, Kinds.kind_of, Rows.Rows, Rows.Member, Rows.member_of_row}
-use Rattle.fb_schema.specs.Targets.{nothing, target_at, target_of, kind_among, AreTargets, HaveTargets}
-use Rattle.fb_schema.proofs.{IndexLemmas.slice_get_end, UnionLemmas.none_for_zero}
-use Rattle.std.proofs.lemmas.List.{get_or_past, get_or-take, length-take-le}
-use Rattle.fb_schema.proofs.Numbers.{le_or_lt}
-
-pub first_place : (places : List ℕ) → places ≡ 0 ∷ [] → (k : ℕ) → get_or places k 0 ≡ 0
-first_place places e zero = ap (λ ps. get_or ps 0 0) e
-first_place places e (suc k) = ap (λ ps. get_or ps (suc k) 0) e
+use Rattle.fb_schema.specs.Targets.{nothing, target_below, target_at, target_of, kind_among, AreTargets, HaveTargets, LeadBelow}
+use Rattle.fb_schema.proofs.{IndexLemmas.slice_get_end, UnionLemmas.none_for_zero, Numbers.lt_or_eq}
 
 -- the value 0 leads to nothing
 pub zero_target : (rows : Rows) (members : List Member) → nothing ≡ target_of rows (kind_among rows members 0)
@@ -20,35 +14,123 @@ zero_target rows members = sym (ap (target_of rows) (ap (option_and_then (λ (m 
 put_last : {X : Type 0} (xs : List X) (x d : X) (n : ℕ) → n ≡ length xs → get_or (xs ++ x ∷ []) n d ≡ x
 put_last xs x d n e = ap (λ k. get_or (xs ++ x ∷ []) k d) e ∙ get_or-append_seam xs x [] d
 
--- one place more
-pub grown : (places : List ℕ) (place k : ℕ) → (get_or (places ++ place ∷ []) k 0 ≡ get_or places k 0) ⊎ ((k ≡ length places) × (get_or (places ++ place ∷ []) k 0 ≡ place))
-grown places place k = grind (arith, length_push places place, get_or_append_left places (place ∷ []) 0 k, put_last places place 0 k, get_or_past places k 0, get_or_past (places ++ place ∷ []) k 0)
-
 pub long_step : {X : Type 0} (xs : List X) (x : X) (n : ℕ) → length xs ≡ n → length (xs ++ x ∷ []) ≡ n + 1
 long_step xs x n long = length_push xs x ∙ ap (λ k. k + 1) long
 
--- the end of the places, behind the last that leads to something
-pub end_here : (end next place value : ℕ) → end ≤ value → next ≡ value + 1 → (end ≤ next) × (next ≤ value + 1) × (next ≤ value → place ≡ 0)
-end_here end next place value low at = (omega arith, omega arith, λ le. absurd (omega arith))
+lt_or_eq_or_gt : (a b : ℕ) → (a < b) ⊎ ((a ≡ b) ⊎ (b < a))
+lt_or_eq_or_gt a b = grind arith
 
-pub end_before : (end next place value : ℕ) → end ≤ value → next ≡ end → place ≡ 0 → (end ≤ next) × (next ≤ value + 1) × (next ≤ value → place ≡ 0)
-end_before end next place value low at none = (omega arith, omega arith, λ le. none)
+-- what is asked of a value is one of three
+one_of_three : (found value : ℕ) (here lower past wanted : Target) → (found ≡ value → here ≡ wanted) → (value < found → lower ≡ wanted) → (found < value → past ≡ wanted)
+    → (if found == value then here else if nat_lt value found then lower else past) ≡ wanted
+one_of_three found value here lower past wanted same above below = grind (arith, nat_tests, same, above, below)
 
-pub counts_step : (old new n : ℕ) → 0 < old → old ≤ n → old ≤ new → new ≤ old + 1 → (0 < new) × (new ≤ n + 1)
-counts_step old new n least few longer one = (omega arith, omega arith)
+module _ (wanted : ℕ → Target) (bound : ℕ) (places : List ℕ) (targets : List Target) (h : LeadBelow wanted bound places targets) where
+  -- of places from k on only greater values
+  sought_from : (value : ℕ) → value < bound → (k : ℕ) → k ≤ length places → ((j : ℕ) → k ≤ j → j < length places → value < get_or places j 0) → target_below places targets value k ≡ wanted value
+  sought_from value lt zero le above = sym (h.others value lt (λ j low same. (let w = above j (omega arith) low in omega (arith, w, same))))
+  sought_from value lt (suc k) le above = one_of_three (get_or places k 0) value (get_or targets k nothing) (target_below places targets value k) nothing (wanted value)
+      (λ same. h.leads k (omega (arith, le)) ∙ ap wanted same)
+      (λ more. sought_from value lt k (omega (arith, le)) (λ j low high. elim (lt_or_eq k j low) [
+        | inl past ↦ above j (omega (arith, past)) high
+        | inr here ↦ subst (λ n. value < get_or places n 0) here more
+      ]))
+      (λ less. sym (h.others value lt (λ j low same. elim (lt_or_eq_or_gt j k) [
+        | inl before ↦ (let w = h.rise j k before (omega (arith, le)) in omega (arith, w, less, same))
+        | inr other ↦ elim other [
+          | inl here ↦ (let w = ap (λ n. get_or places n 0) here in omega (arith, w, less, same))
+          | inr past ↦ (let w = above j (omega (arith, past)) low in omega (arith, w, same))
+        ]
+      ])))
 
-module _ (places : List ℕ) (place n : ℕ) (long : length places ≡ n) where
-  pub within_step : (old new : ℕ) → old ≤ new → place < new → ((k : ℕ) → get_or places k 0 < old) → (k : ℕ) → get_or (places ++ place ∷ []) k 0 < new
-  within_step old new le lt h k = elim (grown places place k) [ inl e ↦ (let w = h k in omega arith) | inr here ↦ (let w = here.1 in omega arith) ]
+  -- each value below the bound is found
+  pub found_below : (value : ℕ) → value < bound → target_at places targets value ≡ wanted value
+  found_below value lt = sought_from value lt (min value (length places)) (omega arith) (λ j low high. (let w = h.skip j high in omega (arith, w, low, high)))
 
-  pub behind_step : (end next : ℕ) → end ≤ next → (next ≤ n → place ≡ 0) → ((k : ℕ) → end ≤ k → get_or places k 0 ≡ 0) → (k : ℕ) → next ≤ k → get_or (places ++ place ∷ []) k 0 ≡ 0
-  behind_step end next le none h k low = elim (grown places place k) [ inl e ↦ e ∙ h k (omega arith) | inr here ↦ here.1 ∙ none (let w = here.0 in omega arith) ]
+  -- a value that no member has
+  pub none_more : wanted bound ≡ nothing → LeadBelow wanted (bound + 1) places targets
+  none_more none = record {
+    long = h.long;
+    few = omega (arith, h.few);
+    skip = h.skip;
+    rise = h.rise;
+    upto = λ k low. (let w = h.upto k low in omega (arith, w));
+    leads = h.leads;
+    others = λ value lt never. elim (lt_or_eq value bound (omega (arith, lt))) [ inl less ↦ h.others value less never | inr here ↦ ap wanted here ∙ none ];
+  }
 
-  pub found_step : (old new : List Target) (wanted : ℕ → Target) → ((k : ℕ) → get_or places k 0 < length old)
-      → ((k : ℕ) → k < length old → get_or new k nothing ≡ get_or old k nothing)
-      → ((k : ℕ) → k < n → target_at places old k ≡ wanted k) → get_or new place nothing ≡ wanted n
-      → (k : ℕ) → k < n + 1 → target_at (places ++ place ∷ []) new k ≡ wanted k
-  found_step old new wanted within kept found here k lt = grind (arith, get_or_append_left places (place ∷ []) 0 k, put_last places place 0 k, kept (get_or places k 0) (within k), found k, here)
+  -- a member of the next value
+  module _ (places' : List ℕ) (targets' : List Target) (target : Target) (ps : places' ≡ places ++ bound ∷ []) (ts : targets' ≡ targets ++ target ∷ []) where
+    longer : length places' ≡ length places + 1
+    longer = ap length ps ∙ length_push places bound
+
+    kept : (k : ℕ) → k < length places → get_or places' k 0 ≡ get_or places k 0
+    kept k low = ap (λ xs. get_or xs k 0) ps ∙ get_or_append_left places (bound ∷ []) 0 k low
+
+    last : (k : ℕ) → k ≡ length places → get_or places' k 0 ≡ bound
+    last k here = ap (λ xs. get_or xs k 0) ps ∙ put_last places bound 0 k here
+
+    pub one_more : target ≡ wanted bound → LeadBelow wanted (bound + 1) places' targets'
+    one_more is = record {
+      long = ap length ts ∙ length_push targets target ∙ ap (λ n. n + 1) h.long ∙ sym longer;
+      few = omega (arith, h.few, longer);
+      skip = λ k low. elim (lt_or_eq k (length places) (omega (arith, low, longer))) [
+        | inl old ↦ (let w = h.skip k old in let e = kept k old in omega (arith, w, e))
+        | inr new ↦ (let e = last k new in omega (arith, e, new, h.few))
+      ];
+      rise = λ j k lt low. elim (lt_or_eq k (length places) (omega (arith, low, longer))) [
+        | inl old ↦ (let w = h.rise j k lt old in let e = kept k old in let f = kept j (omega (arith, lt, old)) in omega (arith, w, e, f))
+        | inr new ↦ (let e = last k new in let before : j < length places = omega (arith, lt, new) in let f = kept j before in let w = h.upto j before in omega (arith, e, f, w))
+      ];
+      upto = λ k low. elim (lt_or_eq k (length places) (omega (arith, low, longer))) [
+        | inl old ↦ (let w = h.upto k old in let e = kept k old in omega (arith, w, e))
+        | inr new ↦ (let e = last k new in omega (arith, e))
+      ];
+      leads = λ k low. elim (lt_or_eq k (length places) (omega (arith, low, longer))) [
+        | inl old ↦ ap (λ xs. get_or xs k nothing) ts ∙ get_or_append_left targets (target ∷ []) nothing k (omega (arith, old, h.long)) ∙ h.leads k old ∙ ap wanted (sym (kept k old))
+        | inr new ↦ ap (λ xs. get_or xs k nothing) ts ∙ put_last targets target nothing k (new ∙ sym h.long) ∙ is ∙ ap wanted (sym (last k new))
+      ];
+      others = λ value lt never. elim (lt_or_eq value bound (omega (arith, lt))) [
+        | inl less ↦ h.others value less (λ k low same. never k (omega (arith, low, longer)) (kept k low ∙ same))
+        | inr here ↦ absurd (never (length places) (omega (arith, longer)) (last (length places) refl ∙ sym here))
+      ];
+    }
+
+-- before the first value
+pub none_yet : (wanted : ℕ → Target) (places : List ℕ) (targets : List Target) → wanted 0 ≡ nothing → places ≡ [] → targets ≡ [] → LeadBelow wanted 1 places targets
+none_yet wanted places targets zeroth ps ts =
+    let none = ap length ps in
+    record {
+      long = ap length ts ∙ sym none;
+      few = omega (arith, none);
+      skip = λ k low. absurd (omega (arith, none, low));
+      rise = λ j k lt low. absurd (omega (arith, none, low));
+      upto = λ k low. absurd (omega (arith, none, low));
+      leads = λ k low. absurd (omega (arith, none, low));
+      others = λ value lt never. ap wanted (let e : value ≡ 0 = omega (arith, lt) in e) ∙ zeroth;
+    }
+
+-- a value that stands at the place before it
+pub found_at_once : (places : List ℕ) (targets : List Target) (value : ℕ) → 0 < value → slice_get places (value - 1) ≡ Some value → target_at places targets value ≡ get_or targets (value - 1) nothing
+found_at_once places targets value real at =
+    let low = slice_get_within places (value - 1) value at in
+    let upto : min value (length places) ≡ suc (value - 1) = omega (arith, real, low) in
+    let here : get_or places (value - 1) 0 ≡ value = get_or_from_slice_get places (value - 1) value 0 at in
+    ap (target_below places targets value) upto ∙ one_of_three (get_or places (value - 1) 0) value (get_or targets (value - 1) nothing) (target_below places targets value (value - 1)) nothing (get_or targets (value - 1) nothing)
+    (λ same. refl) (λ more. absurd (omega (arith, more, here))) (λ less. absurd (omega (arith, less, here)))
+
+-- a step down
+pub step_down : (places : List ℕ) (targets : List Target) (value k n : ℕ) → n ≡ suc k → value < get_or places k 0 → target_below places targets value n ≡ target_below places targets value k
+step_down places targets value k n next more = ap (target_below places targets value) next ∙ one_of_three (get_or places k 0) value (get_or targets k nothing) (target_below places targets value k) nothing (target_below places targets value k)
+    (λ same. absurd (omega (arith, more, same))) (λ m. refl) (λ less. absurd (omega (arith, more, less)))
+
+pub stopped_here : (places : List ℕ) (targets : List Target) (value k n : ℕ) → n ≡ suc k → get_or places k 0 ≡ value → target_below places targets value n ≡ get_or targets k nothing
+stopped_here places targets value k n next here = ap (target_below places targets value) next ∙ one_of_three (get_or places k 0) value (get_or targets k nothing) (target_below places targets value k) nothing (get_or targets k nothing)
+    (λ same. refl) (λ more. absurd (omega (arith, more, here))) (λ less. absurd (omega (arith, less, here)))
+
+pub stopped_below : (places : List ℕ) (targets : List Target) (value k n : ℕ) → n ≡ suc k → get_or places k 0 < value → target_below places targets value n ≡ nothing
+stopped_below places targets value k n next less = ap (target_below places targets value) next ∙ one_of_three (get_or places k 0) value (get_or targets k nothing) (target_below places targets value k) nothing nothing
+    (λ same. absurd (omega (arith, less, same))) (λ more. absurd (omega (arith, less, more))) (λ l. refl)
 
 -- one enum more, with its places and targets
 have_more : (rows : Rows) (all : List MemberRow) (enums : List EnumPart) (places : List (List ℕ)) (targets : List (List Target)) (row : EnumPart) (ps : List ℕ) (ts : List Target) → HaveTargets rows all enums places targets
@@ -74,18 +156,3 @@ have_step rows all enums i row places places' targets targets' ps ts lt is h e f
     subst (λ es. HaveTargets rows all es places' targets') more
     (subst (λ x. HaveTargets rows all (take i enums ++ row ∷ []) x targets') (sym e)
     (subst (HaveTargets rows all (take i enums ++ row ∷ []) (places ++ ps ∷ [])) (sym f) (have_more rows all (take i enums) places targets row ps ts h r)))
-
--- what stands behind the end of the places leads to nothing, so they may be cut there
-pub cut_places : (places : List ℕ) (end : ℕ) → end ≤ length places → ((k : ℕ) → end ≤ k → get_or places k 0 ≡ 0) → (k : ℕ) → get_or (take end places) k 0 ≡ get_or places k 0
-cut_places places end within behind k = elim (le_or_lt end k) [
-  | inl past ↦ get_or_past (take end places) k 0 (let long = length-take-le end places within in omega (arith, long, past)) ∙ sym (behind k past)
-  | inr low ↦ get_or-take end places k 0 low
-]
-
-pub all_put : (rows : Rows) (members : List Member) (places cut : List ℕ) (targets : List Target) (end value : ℕ) → length places ≡ value → 256 ≤ value → end ≤ value → cut ≡ take end places → ((k : ℕ) → end ≤ k → get_or places k 0 ≡ 0)
-    → ((k : ℕ) → k < value → target_at places targets k ≡ target_of rows (kind_among rows members k)) → AreTargets rows members cut targets
-all_put rows members places cut targets end value long many upto e behind found = record {
-  at = λ k low. ap (λ ps. get_or targets (get_or ps k 0) nothing) e
-      ∙ ap (λ n. get_or targets n nothing) (cut_places places end (omega (arith, long, upto)) behind k)
-      ∙ found k (omega (arith, low, many));
-}
