@@ -1,8 +1,8 @@
 // What the offset words of a union lead to, found by their types without a search.
 
-ghost use Rattle.std.specs.Prelude.{◌≡◌, ◌+◌, ℕ, List, [], map, slice_index_or, OnOk};
+ghost use Rattle.std.specs.Prelude.{◌≡◌, ◌+◌, ℕ, List, [], map, OnOk};
 ghost use Rattle.fb_schema.specs.{FlatRows.borrowed_rows, Rows.Rows, Rows.member_of_row};
-ghost use Rattle.fb_schema.specs.Targets.{nothing, kind_to, target_of, target_at, kind_among, AreTargets, AreSorted, LeadBelow};
+ghost use Rattle.fb_schema.specs.Targets.{nothing, kind_to, target_of, target_at, place_among, kind_among, AreTargets, AreSorted, LeadBelow};
 ghost use Rattle.fb_schema.specs.declared.views.Target.{Target};
 ghost use Rattle.fb_schema.specs.declared.rows.MemberRow.{MemberRow};
 
@@ -22,9 +22,9 @@ const NOTHING: Target = Target {
 
 /// What the offset words of a union lead to, by their types.
 ///
-/// `places` has the values of the union's members from 1 to 255 in rising order, and `targets` what each of them leads
-/// to: 17 bytes a member, whatever their values. Where these are 1 to n, each is found at once, as the value v stands at
-/// place v - 1. It never stands behind that place, so a value that others skip is sought from there on down.
+/// `places` has the values of the union's members in rising order, and `targets` what each of them leads to: 17 bytes a
+/// member, whatever their values. Where these are 0 to n, as `flatc` gives them, each is found at once, as the value v
+/// stands at place v. It never stands behind that place, so where values are skipped it is sought from there on down.
 #[derive(Clone, Copy)]
 pub struct Targets<'s> {
     pub places: &'s [u8],
@@ -37,43 +37,33 @@ impl Targets<'_> {
     pub fn get(&self, value: u8) -> Target
         ensures { result ≡ target_at (self.now).places.now (self.now).targets.now value }
     {
-        if value == 0 {
-            return NOTHING;
-        }
-        let place = value as usize - 1;
-        match self.places.get(place) {
-            Some(found) if *found == value => self.at(place),
-            _ => self.sought(value),
-        }
-    }
-
-    /// The target at a place.
-    #[inline(always)]
-    fn at(&self, place: usize) -> Target
-        ensures { result ≡ slice_index_or (self.now).targets.now place nothing }
-    {
+        let place = match self.places.get(value as usize) {
+            Some(found) if *found == value => value as usize,
+            _ => sought(self.places, value),
+        };
         match self.targets.get(place) {
             Some(target) => *target,
             None => NOTHING,
         }
     }
+}
 
-    /// What an offset word of this type leads to, where values may be skipped.
-    #[inline(never)]
-    fn sought(&self, value: u8) -> Target
-        ensures { result ≡ target_at (self.now).places.now (self.now).targets.now value }
-    {
-        for place in (0..self.places.len().min(value as usize)).rev() {
-            let found = self.places[place];
-            if found == value {
-                return self.at(place);
-            }
-            if found < value {
-                return NOTHING;
-            }
+/// The place of this value among rising ones of which some may be skipped; their end where it isn't among them.
+#[cold]
+#[inline(never)]
+fn sought(values: &[u8], value: u8) -> usize
+    ensures { result ≡ place_among values.now value }
+{
+    for place in (0..values.len().min(value as usize + 1)).rev() {
+        let found = values[place];
+        if found == value {
+            return place;
         }
-        NOTHING
+        if found < value {
+            return values.len();
+        }
     }
+    values.len()
 }
 
 impl Target {
@@ -157,6 +147,23 @@ fn add_target<A: Allocator>(
     Ok(())
 }
 
+/// Begins with the type 0, where it is one of these values: it leads to nothing.
+fn put_none<A: Allocator>(
+    values: &[(i64, u32)],
+    places: &mut Vec<u8, A>,
+    targets: &mut Vec<Target, A>,
+) -> Result<(), AllocError>
+    requires places { places.old.items ≡ [] }
+    requires targets { targets.old.items ≡ [] }
+    ensures { (wanted : ℕ → Target) → wanted 0 ≡ nothing → OnOk result (LeadBelow wanted 1 places.new.items targets.new.items) }
+{
+    if place_of(values, &0).is_some() {
+        places.push(0)?;
+        targets.push(NOTHING)?;
+    }
+    Ok(())
+}
+
 /// Puts the targets of a union's members where none are yet, by the values in order and the kinds of these.
 pub fn put_targets<A: Allocator>(
     rows: &RowLists,
@@ -169,6 +176,7 @@ pub fn put_targets<A: Allocator>(
     requires targets { targets.old.items ≡ [] }
     ensures { OnOk result ((members : List MemberRow) → AreSorted (borrowed_rows rows.now) members values.now kinds.now → AreTargets (borrowed_rows rows.now) (map member_of_row members) places.new.items targets.new.items) }
 {
+    put_none(values, places, targets)?;
     for value in 1..256usize {
         let kind = kind_at(values, kinds, value as u8);
         add_target(rows, value as u8, kind, places, targets)?;

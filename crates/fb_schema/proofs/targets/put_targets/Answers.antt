@@ -1,14 +1,14 @@
 use Rattle.std.proofs.Common.{map, sym, ap, arith}
 use Rattle.fb_schema.specs.{FlatRows.borrowed_rows, Rows.member_of_row}
 use Rattle.fb_schema.specs.Targets.{target_of, kind_among}
-use Rattle.fb_schema.proofs.TargetLemmas.{zero_target, none_yet, found_below}
+use Rattle.fb_schema.proofs.TargetLemmas.{zero_target, found_below}
 use Rattle.fb_schema.proofs.targets.put_targets.Goals as goal
 
 pub loop-value-init : goal.loop-value-init
 loop-value-init g c =
     let rows = borrowed_rows c.args.rows.now in
     record {
-      lead = λ members h. none_yet (λ v. target_of rows (kind_among rows (map member_of_row members) v)) _ _ (sym (zero_target rows (map member_of_row members))) c.requires.places c.requires.targets;
+      lead = λ members h. c.in_ok-put_none.ensures (λ v. target_of rows (kind_among rows (map member_of_row members) v)) (sym (zero_target rows (map member_of_row members)));
     }
 
 pub loop-value-preserved : goal.loop-value-preserved

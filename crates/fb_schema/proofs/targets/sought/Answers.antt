@@ -1,9 +1,9 @@
 use Rattle.std.proofs.Common.{suc, ◌≡◌, ◌-◌, sym, ◌∙◌, arith}
 use Rattle.fb_schema.proofs.TargetLemmas.{stopped_here}
-use Rattle.fb_schema.proofs.targets.Targets.sought.Goals as goal
+use Rattle.fb_schema.proofs.targets.sought.Goals as goal
 
 pub returns-then-found-value : goal.returns-then-found-value
 returns-then-found-value c =
     let place = c.loop-place.place in
     let next : place ≡ suc (place - 1) = omega (arith, c.loop-place-test.true) in
-    c.at.ensures ∙ sym (stopped_here c.args.self.now.places.now c.args.self.now.targets.now c.args.value (place - 1) place next c.if-found-value.true) ∙ c.loop-place.invariant.same
+    sym (stopped_here c.args.values.now c.args.value (place - 1) place next c.if-found-value.true) ∙ c.loop-place.invariant.same
