@@ -6,12 +6,12 @@ from tests.support.program import TOP, file_of, loaded
 HOSTILE = loaded(TOP / "bench/hostile")
 
 MIB = 2**20
-SIZES = [MIB, 2400 * 1024, 4 * MIB]
+SIZES = [MIB, 2400 * 1024]
 # What a process has of its own, and of the one that starts it.
 ITSELF = 12 * MIB
-# The most bytes of a row, and of a union with its only member, which are two rows.
+# The most bytes of a row, and of one of a union, itself or a member.
 A_ROW = 165
-A_UNION = 190
+OF_A_UNION = 95
 
 
 def peak_of(data):
@@ -54,7 +54,7 @@ class LoadMemory(Case):
     def test_unions_take_room_for_their_members_alone(self):
         """Not for the values below the greatest that a member has."""
         for values in [255], [1], [1, 255], [2, 129, 255], range(128, 256):
-            for size in SIZES[:2]:
+            for size in SIZES:
                 count, data = unions(size, values)
-                memory, most = peak_of(data), most_of(size, count * (len(values) + 1), A_UNION // 2)
+                memory, most = peak_of(data), most_of(size, count * (len(values) + 1), OF_A_UNION)
                 self.holds(f"{count} unions of {len(values)} to {max(values)}", memory <= most, (memory, most))
