@@ -1,10 +1,10 @@
 -- The targets of a union are found by the values that its members have.
-use Rattle.std.proofs.Common.{◌≡◌, ℕ, zero, suc, ◌+◌, ◌-◌, ◌<◌, ◌≤◌, ◌==◌, nat_lt, min, if◌then◌else◌, ◌⊎◌, inl, inr, List, [], ◌∷◌, ◌++◌, length, get_or, slice_get, Some, take, map, true, refl, sym, subst, ◌∙◌, ap, arith, option_and_then}
-use Rattle.std.proofs.lemmas.{Option.slice_get_within, Option.get_or_from_slice_get, List.get_or_append_left, List.get_or_past, List.length_push, Grind.take_at_read, Bool.Decides.nat_tests}
+use Rattle.std.proofs.Common.{◌≡◌, ℕ, zero, suc, ◌+◌, ◌-◌, ◌<◌, ◌≤◌, ◌==◌, nat_lt, min, if◌then◌else◌, ◌⊎◌, inl, inr, List, [], ◌∷◌, ◌++◌, length, get_or, take, map, true, refl, sym, subst, ◌∙◌, ap, arith, option_and_then}
+use Rattle.std.proofs.lemmas.{Option.slice_get_within, List.get_or_append_left, List.get_or_past, List.length_push, Grind.take_at_read, Bool.Decides.nat_tests}
 use Rattle.std.proofs.Math.Seq.{get_or-append_seam}
 use Rattle.fb_schema.specs.declared.{flat.EnumPart.EnumPart, views.Target.Target, rows.MemberRow.MemberRow}
 use Rattle.fb_schema.specs.{Flat.part, Kinds.kind_of, Rows.Rows, Rows.Member, Rows.member_of_row}
-use Rattle.fb_schema.specs.Targets.{nothing, place_below, place_among, target_at, target_of, kind_among, AreTargets, HaveTargets, LeadBelow}
+use Rattle.fb_schema.specs.Targets.{nothing, place_below, target_at, target_of, kind_among, AreTargets, HaveTargets, LeadBelow}
 use Rattle.fb_schema.proofs.{IndexLemmas.slice_get_end, UnionLemmas.none_for_zero, Numbers.lt_or_eq}
 
 -- the value 0 leads to nothing
