@@ -1,17 +1,11 @@
 -- The targets of a union are found by the values that its members have.
-use Rattle.std.proofs.Common.{◌≡◌, ℕ, zero, suc, ◌+◌, ◌<◌, ◌≤◌, ◌⊎◌, inl, inr, List, [], ◌∷◌, ◌++◌, length, get_or, take, map, true, sym, subst, ◌∙◌, ap, arith, option_and_then}
-use Rattle.std.proofs.lemmas.{Option.slice_get_within, List.get_or_append_left, List.length_push, Grind.take_at_read}
+use Rattle.std.proofs.Common.{◌≡◌, ℕ, zero, suc, ◌+◌, ◌-◌, ◌<◌, ◌≤◌, ◌==◌, nat_lt, min, if◌then◌else◌, ◌⊎◌, inl, inr, List, [], ◌∷◌, ◌++◌, length, get_or, take, map, true, refl, sym, subst, ◌∙◌, ap, arith, option_and_then}
+use Rattle.std.proofs.lemmas.{Option.slice_get_within, List.get_or_append_left, List.get_or_past, List.length_push, Grind.take_at_read, Bool.Decides.nat_tests}
 use Rattle.std.proofs.Math.Seq.{get_or-append_seam}
 use Rattle.fb_schema.specs.declared.{flat.EnumPart.EnumPart, views.Target.Target, rows.MemberRow.MemberRow}
 use Rattle.fb_schema.specs.{Flat.part, Kinds.kind_of, Rows.Rows, Rows.Member, Rows.member_of_row}
-use Rattle.fb_schema.specs.Targets.{nothing, target_at, target_of, kind_among, AreTargets, HaveTargets}
-use Rattle.fb_schema.proofs.{IndexLemmas.slice_get_end, UnionLemmas.none_for_zero}
-use Rattle.std.proofs.lemmas.List.{get_or_past, get_or-take, length-take-le}
-use Rattle.fb_schema.proofs.Numbers.{le_or_lt}
-
-pub first_place : (places : List ℕ) → places ≡ 0 ∷ [] → (k : ℕ) → get_or places k 0 ≡ 0
-first_place places e zero = ap (λ ps. get_or ps 0 0) e
-first_place places e (suc k) = ap (λ ps. get_or ps (suc k) 0) e
+use Rattle.fb_schema.specs.Targets.{nothing, place_below, target_at, target_of, kind_among, AreTargets, HaveTargets, LeadBelow}
+use Rattle.fb_schema.proofs.{IndexLemmas.slice_get_end, UnionLemmas.none_for_zero, Numbers.lt_or_eq}
 
 -- the value 0 leads to nothing
 pub zero_target : (rows : Rows) (members : List Member) → nothing ≡ target_of rows (kind_among rows members 0)
@@ -20,35 +14,47 @@ zero_target rows members = sym (ap (target_of rows) (ap (option_and_then (λ (m 
 put_last : {X : Type 0} (xs : List X) (x d : X) (n : ℕ) → n ≡ length xs → get_or (xs ++ x ∷ []) n d ≡ x
 put_last xs x d n e = ap (λ k. get_or (xs ++ x ∷ []) k d) e ∙ get_or-append_seam xs x [] d
 
--- one place more
-pub grown : (places : List ℕ) (place k : ℕ) → (get_or (places ++ place ∷ []) k 0 ≡ get_or places k 0) ⊎ ((k ≡ length places) × (get_or (places ++ place ∷ []) k 0 ≡ place))
-grown places place k = grind (arith, length_push places place, get_or_append_left places (place ∷ []) 0 k, put_last places place 0 k, get_or_past places k 0, get_or_past (places ++ place ∷ []) k 0)
-
 pub long_step : {X : Type 0} (xs : List X) (x : X) (n : ℕ) → length xs ≡ n → length (xs ++ x ∷ []) ≡ n + 1
 long_step xs x n long = length_push xs x ∙ ap (λ k. k + 1) long
 
--- the end of the places, behind the last that leads to something
-pub end_here : (end next place value : ℕ) → end ≤ value → next ≡ value + 1 → (end ≤ next) × (next ≤ value + 1) × (next ≤ value → place ≡ 0)
-end_here end next place value low at = (omega arith, omega arith, λ le. absurd (omega arith))
+lt_or_eq_or_gt : (a b : ℕ) → (a < b) ⊎ ((a ≡ b) ⊎ (b < a))
+lt_or_eq_or_gt a b = grind arith
 
-pub end_before : (end next place value : ℕ) → end ≤ value → next ≡ end → place ≡ 0 → (end ≤ next) × (next ≤ value + 1) × (next ≤ value → place ≡ 0)
-end_before end next place value low at none = (omega arith, omega arith, λ le. none)
+-- what is asked of a value is one of three
+one_of_three : {X : Type 0} (at : ℕ → X) (found value here lower past : ℕ) (wanted : X) → (found ≡ value → at here ≡ wanted) → (value < found → at lower ≡ wanted) → (found < value → at past ≡ wanted)
+    → at (if found == value then here else if nat_lt value found then lower else past) ≡ wanted
+one_of_three at found value here lower past wanted same above below = grind (arith, nat_tests, same, above, below)
 
-pub counts_step : (old new n : ℕ) → 0 < old → old ≤ n → old ≤ new → new ≤ old + 1 → (0 < new) × (new ≤ n + 1)
-counts_step old new n least few longer one = (omega arith, omega arith)
+module _ (wanted : ℕ → Target) (bound : ℕ) (places : List ℕ) (targets : List Target) (h : LeadBelow wanted bound places targets) where
+  -- no value, no target
+  none_at_end : (value : ℕ) → value < bound → ((k : ℕ) → k < length places → get_or places k 0 ≡ value → ⊥) → get_or targets (length places) nothing ≡ wanted value
+  none_at_end value lt never = get_or_past targets (length places) nothing (omega (arith, h.long)) ∙ sym (h.others value lt never)
 
-module _ (places : List ℕ) (place n : ℕ) (long : length places ≡ n) where
-  pub within_step : (old new : ℕ) → old ≤ new → place < new → ((k : ℕ) → get_or places k 0 < old) → (k : ℕ) → get_or (places ++ place ∷ []) k 0 < new
-  within_step old new le lt h k = elim (grown places place k) [ inl e ↦ (let w = h k in omega arith) | inr here ↦ (let w = here.1 in omega arith) ]
+  -- of places from k on only greater values
+  sought_from : (value : ℕ) → value < bound → (k : ℕ) → k ≤ length places → ((j : ℕ) → k ≤ j → j < length places → value < get_or places j 0) → get_or targets (place_below places value k) nothing ≡ wanted value
+  sought_from value lt zero le above = none_at_end value lt (λ j low same. (let w = above j (omega arith) low in omega (arith, w, same)))
+  sought_from value lt (suc k) le above = one_of_three (λ n. get_or targets n nothing) (get_or places k 0) value k (place_below places value k) (length places) (wanted value)
+      (λ same. h.leads k (omega (arith, le)) ∙ ap wanted same)
+      (λ more. sought_from value lt k (omega (arith, le)) (λ j low high. elim (lt_or_eq k j low) [
+        | inl past ↦ above j (omega (arith, past)) high
+        | inr here ↦ subst (λ n. value < get_or places n 0) here more
+      ]))
+      (λ less. none_at_end value lt (λ j low same. elim (lt_or_eq_or_gt j k) [
+        | inl before ↦ (let w = h.rise j k before (omega (arith, le)) in omega (arith, w, less, same))
+        | inr other ↦ elim other [
+          | inl here ↦ (let w = ap (λ n. get_or places n 0) here in omega (arith, w, less, same))
+          | inr past ↦ (let w = above j (omega (arith, past)) low in omega (arith, w, same))
+        ]
+      ]))
 
-  pub behind_step : (end next : ℕ) → end ≤ next → (next ≤ n → place ≡ 0) → ((k : ℕ) → end ≤ k → get_or places k 0 ≡ 0) → (k : ℕ) → next ≤ k → get_or (places ++ place ∷ []) k 0 ≡ 0
-  behind_step end next le none h k low = elim (grown places place k) [ inl e ↦ e ∙ h k (omega arith) | inr here ↦ here.1 ∙ none (let w = here.0 in omega arith) ]
+  -- each value below the bound is found
+  pub found_below : (value : ℕ) → value < bound → target_at places targets value ≡ wanted value
+  found_below value lt = sought_from value lt (min (value + 1) (length places)) (omega arith) (λ j low high. (let w = h.skip j high in omega (arith, w, low, high)))
 
-  pub found_step : (old new : List Target) (wanted : ℕ → Target) → ((k : ℕ) → get_or places k 0 < length old)
-      → ((k : ℕ) → k < length old → get_or new k nothing ≡ get_or old k nothing)
-      → ((k : ℕ) → k < n → target_at places old k ≡ wanted k) → get_or new place nothing ≡ wanted n
-      → (k : ℕ) → k < n + 1 → target_at (places ++ place ∷ []) new k ≡ wanted k
-  found_step old new wanted within kept found here k lt = grind (arith, get_or_append_left places (place ∷ []) 0 k, put_last places place 0 k, kept (get_or places k 0) (within k), found k, here)
+-- the value is found, one place further down
+pub stopped_here : (values : List ℕ) (value k n : ℕ) → n ≡ suc k → get_or values k 0 ≡ value → place_below values value n ≡ k
+stopped_here values value k n next here = ap (place_below values value) next ∙ one_of_three (λ place. place) (get_or values k 0) value k (place_below values value k) (length values) k
+    (λ same. refl) (λ more. absurd (omega (arith, more, here))) (λ less. absurd (omega (arith, less, here)))
 
 -- one enum more, with its places and targets
 have_more : (rows : Rows) (all : List MemberRow) (enums : List EnumPart) (places : List (List ℕ)) (targets : List (List Target)) (row : EnumPart) (ps : List ℕ) (ts : List Target) → HaveTargets rows all enums places targets
@@ -74,18 +80,3 @@ have_step rows all enums i row places places' targets targets' ps ts lt is h e f
     subst (λ es. HaveTargets rows all es places' targets') more
     (subst (λ x. HaveTargets rows all (take i enums ++ row ∷ []) x targets') (sym e)
     (subst (HaveTargets rows all (take i enums ++ row ∷ []) (places ++ ps ∷ [])) (sym f) (have_more rows all (take i enums) places targets row ps ts h r)))
-
--- what stands behind the end of the places leads to nothing, so they may be cut there
-pub cut_places : (places : List ℕ) (end : ℕ) → end ≤ length places → ((k : ℕ) → end ≤ k → get_or places k 0 ≡ 0) → (k : ℕ) → get_or (take end places) k 0 ≡ get_or places k 0
-cut_places places end within behind k = elim (le_or_lt end k) [
-  | inl past ↦ get_or_past (take end places) k 0 (let long = length-take-le end places within in omega (arith, long, past)) ∙ sym (behind k past)
-  | inr low ↦ get_or-take end places k 0 low
-]
-
-pub all_put : (rows : Rows) (members : List Member) (places cut : List ℕ) (targets : List Target) (end value : ℕ) → length places ≡ value → 256 ≤ value → end ≤ value → cut ≡ take end places → ((k : ℕ) → end ≤ k → get_or places k 0 ≡ 0)
-    → ((k : ℕ) → k < value → target_at places targets k ≡ target_of rows (kind_among rows members k)) → AreTargets rows members cut targets
-all_put rows members places cut targets end value long many upto e behind found = record {
-  at = λ k low. ap (λ ps. get_or targets (get_or ps k 0) nothing) e
-      ∙ ap (λ n. get_or targets n nothing) (cut_places places end (omega (arith, long, upto)) behind k)
-      ∙ found k (omega (arith, low, many));
-}

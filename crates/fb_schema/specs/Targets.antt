@@ -1,5 +1,5 @@
 -- What the offset words of a union lead to, found by their types.
-use Rattle.std.specs.Prelude.{◌≡◌, ℕ, ℤ, pos, ◌<◌, true, List, [], map, filter, find, length, slice_get, slice_index_or, Option, Some, None, option_and_then}
+use Rattle.std.specs.Prelude.{◌≡◌, ℕ, zero, suc, ℤ, pos, ◌+◌, ◌<◌, ◌≤◌, ◌==◌, nat_lt, min, if◌then◌else◌, true, List, [], map, filter, find, length, slice_get, slice_index_or, Option, Some, None, option_and_then}
 use Rattle.std.specs.Ordering.{int_eq, int_cmp}
 use Rattle.fb_schema.specs.declared.{kinds.Kind.Kind, flat.EnumPart.EnumPart, rows.MemberRow.MemberRow, views.Goal.Goal, views.Target.Target}
 use Rattle.fb_schema.specs.declared.kinds.Kind.TheVariants.{Scalar, Text, Struct, Table, Union, Scalars, Texts, Structs, Tables, Unions}
@@ -36,9 +36,21 @@ target_of rows (Some (Unions e)) = nothing
 abbrev pub kind_to : Target → Option Kind
 kind_to t = kind_by t.goal t.object
 
--- the target whose place stands at this value; where none stands there, the first
+-- the place of a value among so many first ones, sought from the last of them down to a lower one; without it the end
+abbrev pub place_below : List ℕ → ℕ → ℕ → ℕ
+place_below values value zero = length values
+place_below values value (suc k) =
+    if slice_index_or values k 0 == value then k
+    else if nat_lt value (slice_index_or values k 0) then place_below values value k else length values
+
+-- among rising values, none of which stands behind the place that is the value itself
+abbrev pub place_among : List ℕ → ℕ → ℕ
+place_among values value = place_below values value (min (value + 1) (length values))
+
+-- what a type of this value leads to, by the rising values of members and the targets of these: nothing where no member
+-- has it
 abbrev pub target_at : List ℕ → List Target → ℕ → Target
-target_at places targets value = slice_index_or targets (slice_index_or places value 0) nothing
+target_at places targets value = slice_index_or targets (place_among places value) nothing
 
 -- the kind of the one of these members that has this value from 1 to 255
 abbrev pub kind_among : Rows → List Member → ℕ → Option Kind
@@ -47,6 +59,16 @@ kind_among rows members value = option_and_then (λ m. kind_of rows m.ty) (find 
 -- at each value the target of the member that has it, and nothing where none has
 pub record AreTargets (rows : Rows) (members : List Member) (places : List ℕ) (targets : List Target) : Type 0 where
   pub at : (value : ℕ) → value < 256 → target_at places targets value ≡ target_of rows (kind_among rows members value)
+
+-- up to a bound, rising values, what each of them leads to, and that all others lead to nothing
+pub record LeadBelow (wanted : ℕ → Target) (bound : ℕ) (places : List ℕ) (targets : List Target) : Type 0 where
+  pub long : length targets ≡ length places
+  pub few : length places ≤ bound
+  pub skip : (k : ℕ) → k < length places → k ≤ slice_index_or places k 0
+  pub rise : (j k : ℕ) → j < k → k < length places → slice_index_or places j 0 < slice_index_or places k 0
+  pub upto : (k : ℕ) → k < length places → slice_index_or places k 0 < bound
+  pub leads : (k : ℕ) → k < length places → slice_index_or targets k nothing ≡ wanted (slice_index_or places k 0)
+  pub others : (value : ℕ) → value < bound → ((k : ℕ) → k < length places → slice_index_or places k 0 ≡ value → ⊥) → wanted value ≡ nothing
 
 -- the same of each union among these enums
 pub record HaveTargets (rows : Rows) (members : List MemberRow) (enums : List EnumPart) (places : List (List ℕ)) (targets : List (List Target)) : Type 0 where

@@ -1,8 +1,9 @@
 // What the offset words of a union lead to, found by their types without a search.
 
-ghost use Rattle.std.specs.Prelude.{◌≡◌, ◌<◌, ◌≤◌, ◌+◌, ℕ, List, [], map, length, slice_index_or, IfOk, OnOk};
+ghost use Rattle.std.specs.Prelude.{◌≡◌, ◌+◌, ℕ, List, [], map, OnOk};
 ghost use Rattle.fb_schema.specs.{FlatRows.borrowed_rows, Rows.Rows, Rows.member_of_row};
-ghost use Rattle.fb_schema.specs.Targets.{nothing, kind_to, target_of, target_at, kind_among, AreTargets, AreSorted};
+ghost use Rattle.fb_schema.specs.Targets.{nothing, kind_to, target_of, target_at, place_among, kind_among, AreTargets, AreSorted, LeadBelow};
+ghost use Rattle.fb_schema.specs.declared.views.Target.{Target};
 ghost use Rattle.fb_schema.specs.declared.rows.MemberRow.{MemberRow};
 
 use crate::flat::RowLists;
@@ -21,8 +22,9 @@ const NOTHING: Target = Target {
 
 /// What the offset words of a union lead to, by their types.
 ///
-/// `places` has, at each type up to the greatest that a member has, the place of its target among `targets`, of which
-/// the first is that nothing is there. So a union takes a byte a value, and 16 bytes a member and once more.
+/// `places` has the values of the union's members in rising order, and `targets` what each of them leads to: 17 bytes a
+/// member, whatever their values. Where these are 0 to n, as `flatc` gives them, each is found at once, as the value v
+/// stands at place v. It never stands behind that place, so where values are skipped it is sought from there on down.
 #[derive(Clone, Copy)]
 pub struct Targets<'s> {
     pub places: &'s [u8],
@@ -36,14 +38,32 @@ impl Targets<'_> {
         ensures { result ≡ target_at (self.now).places.now (self.now).targets.now value }
     {
         let place = match self.places.get(value as usize) {
-            Some(place) => *place,
-            None => 0,
+            Some(found) if *found == value => value as usize,
+            _ => sought(self.places, value),
         };
-        match self.targets.get(place as usize) {
+        match self.targets.get(place) {
             Some(target) => *target,
             None => NOTHING,
         }
     }
+}
+
+/// The place of this value among rising ones of which some may be skipped; their end where it isn't among them.
+#[cold]
+#[inline(never)]
+fn sought(values: &[u8], value: u8) -> usize
+    ensures { result ≡ place_among values.now value }
+{
+    for place in (0..values.len().min(value as usize + 1)).rev() {
+        let found = values[place];
+        if found == value {
+            return place;
+        }
+        if found < value {
+            return values.len();
+        }
+    }
+    values.len()
 }
 
 impl Target {
@@ -110,29 +130,38 @@ fn target_of(rows: &RowLists, kind: Kind) -> Target
     }
 }
 
-/// The place of the target of a member of this kind, which is added; without a kind the first.
+/// Adds what the type of this value leads to, behind those of lower values, where a member of this kind has it.
 fn add_target<A: Allocator>(
-    targets: &mut Vec<Target, A>,
     rows: &RowLists,
+    value: u8,
     kind: Option<Kind>,
-) -> Result<u8, AllocError>
-    requires first { slice_index_or targets.old.items 0 nothing ≡ nothing }
-    requires least { 0 < length targets.old.items }
-    requires few { length targets.old.items ≤ 255 }
-    ensures within { IfOk result (λ place. place < length targets.new.items) }
-    ensures target { IfOk result (λ place. slice_index_or targets.new.items place nothing ≡ target_of (borrowed_rows rows.now) kind) }
-    ensures kept { OnOk result ((k : ℕ) → k < length targets.old.items → slice_index_or targets.new.items k nothing ≡ slice_index_or targets.old.items k nothing) }
-    ensures longer { OnOk result (length targets.old.items ≤ length targets.new.items) }
-    ensures one { OnOk result (length targets.new.items ≤ length targets.old.items + 1) }
+    places: &mut Vec<u8, A>,
+    targets: &mut Vec<Target, A>,
+) -> Result<(), AllocError>
+    ensures { (wanted : ℕ → Target) → wanted value ≡ target_of (borrowed_rows rows.now) kind → LeadBelow wanted value places.old.items targets.old.items → OnOk result (LeadBelow wanted (value + 1) places.new.items targets.new.items) }
 {
-    match kind {
-        Some(kind) => {
-            let place = targets.len() as u8;
-            targets.push(target_of(rows, kind))?;
-            Ok(place)
-        }
-        None => Ok(0),
+    if let Some(kind) = kind {
+        places.push(value)?;
+        targets.push(target_of(rows, kind))?;
     }
+    Ok(())
+}
+
+/// Begins with the type 0, where it is one of these values: it leads to nothing.
+fn put_none<A: Allocator>(
+    values: &[(i64, u32)],
+    places: &mut Vec<u8, A>,
+    targets: &mut Vec<Target, A>,
+) -> Result<(), AllocError>
+    requires places { places.old.items ≡ [] }
+    requires targets { targets.old.items ≡ [] }
+    ensures { (wanted : ℕ → Target) → wanted 0 ≡ nothing → OnOk result (LeadBelow wanted 1 places.new.items targets.new.items) }
+{
+    if place_of(values, &0).is_some() {
+        places.push(0)?;
+        targets.push(NOTHING)?;
+    }
+    Ok(())
 }
 
 /// Puts the targets of a union's members where none are yet, by the values in order and the kinds of these.
@@ -147,16 +176,10 @@ pub fn put_targets<A: Allocator>(
     requires targets { targets.old.items ≡ [] }
     ensures { OnOk result ((members : List MemberRow) → AreSorted (borrowed_rows rows.now) members values.now kinds.now → AreTargets (borrowed_rows rows.now) (map member_of_row members) places.new.items targets.new.items) }
 {
-    targets.push(NOTHING)?;
-    places.push(0)?;
-    let mut end = 0;
+    put_none(values, places, targets)?;
     for value in 1..256usize {
-        let place = add_target(targets, rows, kind_at(values, kinds, value as u8))?;
-        places.push(place)?;
-        if place != 0 {
-            end = value + 1;
-        }
+        let kind = kind_at(values, kinds, value as u8);
+        add_target(rows, value as u8, kind, places, targets)?;
     }
-    places.truncate(end);
     Ok(())
 }
