@@ -131,12 +131,12 @@ halts_fails job first reader before bytes tally queues run.OutOfMemory read (som
   takes = takes_all some.text before queues some.puts fine empty;
   rests = (some.done ++ some.left, some.rest, some.splits, (some.done ++ some.left, some.rest, some.done, some.left, some.splits, refl, some.told));
 }
-halts_fails job first reader before bytes tally queues (run.Stream (stream.Oversize number)) read (some, (fine, none, over, is)) empty = record {
+halts_fails job first reader before bytes tally queues (run.Stream (stream.Oversize number)) read (some, (due, fine, none, over, is)) empty = record {
   bytes = bytes;
   text = some.text;
   read = read;
   takes = takes_all some.text before queues some.puts fine empty;
-  rests = (some.done, some.rest, rw (none, append-nil some.done) at some.splits, (over, is, some.told));
+  rests = (some.done, some.rest, rw (none, append-nil some.done) at some.splits, (due, over, is, some.told));
 }
 halts_fails job first reader before bytes tally queues _ read (some, never) settled = absurd never
 
@@ -145,7 +145,7 @@ halts_caused job before bytes tally queues (run.WriteFault written) (some, cut) 
 halts_caused job before bytes tally queues (run.NoteFault written) (some, cut) reads left ended = cut_caused some.text before queues some.puts (run.NoteFault written) cut reads left ended
 halts_caused job before bytes tally queues run.OutOfMemory (some, fine) reads left ended =
     let none = none_failed some.text before queues some.puts fine in (refl, none.0, none.1)
-halts_caused job before bytes tally queues (run.Stream (stream.Oversize number)) (some, (fine, none, over, is)) reads left ended =
+halts_caused job before bytes tally queues (run.Stream (stream.Oversize number)) (some, (due, fine, none, over, is)) reads left ended =
     let kept = none_failed some.text before queues some.puts fine in (refl, kept.0, kept.1)
 halts_caused job before bytes tally queues _ (some, never) reads left ended = absurd never
 
@@ -263,7 +263,7 @@ module _ {job : Job} {first now : Reader} {before : Outs} {here : Carry} {skip :
   -- there are no more reads
   pub fails_turns : left ≡ 0 → Runs false job (beside first before) (beside now (outs_in here.queues)) turns here.tally (Err run.TooManyTurns)
   fails_turns spent = record {
-    run = rests now run.TooManyTurns sofar.read (part, sofar.stands.told);
+    run = rests now run.TooManyTurns sofar.read (sofar.due, part, sofar.stands.told);
     end_is = ((sofar.asks.0, none.0, none.1), omega (arith, spent, sofar.calls));
     turns_are = omega (arith, sofar.calls);
   }
@@ -272,7 +272,7 @@ module _ {job : Job} {first now : Reader} {before : Outs} {here : Carry} {skip :
   pub fails_read : (reader : Reader) → 0 < left → Keeps now.left reader.left → reader.calls ≡ now.calls + 1 → reader.failures ≡ now.failures + 1
       → Runs false job (beside first before) (beside reader (outs_in here.queues)) turns here.tally (Err run.ReadFault)
   fails_read reader some kept called more = record {
-    run = rests reader run.ReadFault (Consumes-kept first.left now.left reader.left sofar.bytes sofar.read kept) (part, sofar.stands.told);
+    run = rests reader run.ReadFault (Consumes-kept first.left now.left reader.left sofar.bytes sofar.read kept) (sofar.due, part, sofar.stands.told);
     end_is = (omega (arith, more, sofar.asks.0), none.0, none.1);
     turns_are = omega (arith, some, called, sofar.calls);
   }
@@ -293,7 +293,7 @@ module _ {job : Job} {first now : Reader} {before : Outs} {here : Carry} {skip :
     -- in mid-message
     pub fails_part : (n : ℕ) → n ≡ length here.framer.held → 0 < n → Runs false job (beside first before) (beside reader (outs_in here.queues)) turns here.tally (Err (run.Stream (stream.Truncated n)))
     fails_part n is held = record {
-      run = rests reader (run.Stream (stream.Truncated n)) whole (part, is, held, sofar.stands.told);
+      run = rests reader (run.Stream (stream.Truncated n)) whole (sofar.due, part, is, held, sofar.stands.told);
       end_is = ((same ∙ sofar.asks.0, none.0, none.1), ended);
       turns_are = omega (arith, some, called, sofar.calls);
     }

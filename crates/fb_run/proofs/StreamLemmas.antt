@@ -8,6 +8,7 @@ use Rattle.fb_bytes.specs.declared.stream_fault.StreamFault.TheVariants as strea
 use Rattle.fb_bytes.proofs.MessageLemmas.{readings_some}
 use Rattle.fb_lines.specs.{Ends.Outs, Faults.feed_fault, Job.Beside, Job.HasRoom, Job.Job, Spot.Before, Spot.HasDue, Spot.IsDue, Spot.IsFull, Spot.past_all, Texts.Texts, Texts.followed, Texts.silent, Job.Verdict, Sums.no_tally, Sums.tally_with}
 use Rattle.fb_lines.specs.Puts.{Adds, AddsBy, AreCut, AreOpen, AreSound, PutsBoth, Queues, all_unused, unused}
+use Rattle.fb_run.specs.Stream.{TellsMore}
 use Rattle.fb_run.specs.Pieces.{AreEmpty, AreSettled, Carry, Gathers, GoesOn, Halts, IsReady, Passes, PassesAllBy, PassesFront, Stands, Stops, TellsOne, WritesBy}
 use Rattle.fb_lines.specs.declared.{tally.Tally.Tally, fault.RunFault.RunFault}
 use Rattle.fb_lines.specs.declared.fault.RunFault.TheVariants as run
@@ -72,9 +73,10 @@ module _ (job : Job) (first : Outs) where
       }
 
   -- the framer failed at a piece
-  pub feed_halts : (bytes piece : List ℕ) (before : Carry) (framer : Framing) (fault : StreamFault) → before.framer.limit ≡ job.limit → AreOpen before.queues → FeedFails before.framer framer piece fault
+  pub feed_halts : (bytes piece : List ℕ) (before : Carry) (framer : Framing) (fault : StreamFault) → before.framer.limit ≡ job.limit → AreOpen before.queues → TellsMore job before.tally
+      → FeedFails before.framer framer piece fault
       → Stands job first bytes before → Halts job first (bytes ++ piece) before.tally before.queues (feed_fault fault)
-  feed_halts bytes piece before framer (stream.Oversize number) limit fine refused stands =
+  feed_halts bytes piece before framer (stream.Oversize number) limit fine due refused stands =
       let held = before.framer.held in
       let over : IsOversize job.limit (held ++ piece) = rw limit at refused.oversize in (
         record {
@@ -86,10 +88,10 @@ module _ (job : Job) (first : Outs) where
           told = stands.told;
           puts = stands.puts;
         },
-        (fine, refl, over, refused.number),
+        (due, fine, refl, over, refused.number),
       )
-  feed_halts bytes piece before framer stream.OutOfMemory limit fine starved stands = (gathers_more bytes piece before stands, fine)
-  feed_halts bytes piece before framer _ limit fine never stands = absurd never
+  feed_halts bytes piece before framer stream.OutOfMemory limit fine due starved stands = (gathers_more bytes piece before stands, fine)
+  feed_halts bytes piece before framer _ limit fine due never stands = absurd never
 
   -- a message was whole at the front of a piece, and a write failed or there was no memory
   pub add_halts : (bytes front tail piece message : List ℕ) (before : Carry) (queues : Queues) (tally : Tally) (fault : RunFault) → piece ≡ front ++ tail → message ≡ before.framer.held ++ front
@@ -162,7 +164,7 @@ module _ (job : Job) (first : Outs) where
   -- or it came to rest before, and what waited was written
   flushed_halts : (bytes : List ℕ) (tally : Tally) (a b : Queues) (fault : RunFault) → PutsBoth silent a b → AreOpen b → Halts job first bytes tally a fault → Halts job first bytes tally b fault
   unfolding gathers_still
-  flushed_halts bytes tally a b (run.Stream (stream.Oversize number)) none fine (gathers, why) = (gathers_still bytes tally a b none gathers, (fine, why.1, why.2, why.3))
+  flushed_halts bytes tally a b (run.Stream (stream.Oversize number)) none fine (gathers, why) = (gathers_still bytes tally a b none gathers, (why.0, fine, why.2, why.3, why.4))
   flushed_halts bytes tally a b run.OutOfMemory none fine (gathers, why) = (gathers_still bytes tally a b none gathers, fine)
   flushed_halts bytes tally a b (run.WriteFault written) none fine (gathers, why) = absurd (true≢false (sym why.0 ∙ was_unfailed [] a.out b.out none.0 fine.0))
   flushed_halts bytes tally a b (run.NoteFault written) none fine (gathers, why) = absurd (true≢false (sym why.0 ∙ was_unfailed [] a.notes b.notes none.1 fine.1))

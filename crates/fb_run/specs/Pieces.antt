@@ -7,6 +7,7 @@ use Rattle.fb_lines.specs.{Ends.Outs, Job.Beside, Job.HasRoom, Job.Job, Lines.Ar
 use Rattle.fb_lines.specs.Puts.{AreCut, AreOpen, AreSound, IsUnused, PutsBoth, Queues, all_unused, queues_of}
 use Rattle.fb_lines.specs.declared.{fault.RunFault.RunFault, tally.Tally.Tally}
 use Rattle.fb_lines.specs.declared.fault.RunFault.TheVariants.{WriteFault, NoteFault, Stream, OutOfMemory}
+use Rattle.fb_run.specs.Stream.{TellsMore}
 use Rattle.fb_run.specs.declared.stream.Carried.{Carried}
 
 -- what a run carries: what was counted, its framer and its room, and what was put for the writer and the notes
@@ -55,13 +56,13 @@ pub record Gathers (job : Job) (first : Outs) (bytes : List ℕ) (tally : Tally)
   pub puts : PutsBoth text (all_unused first) queues
 
 -- why a run came to rest in them
-abbrev pub Why : Job → List (List ℕ) → List ℕ → Queues → RunFault → Type 0
-Why job left rest queues (Stream (stream.Oversize number)) = AreOpen queues × (left ≡ []) × IsOversize job.limit rest × (number ≡ declared rest)
-Why job left rest queues OutOfMemory = AreOpen queues
-Why job left rest queues fault = AreCut queues fault
+abbrev pub Why : Job → Tally → List (List ℕ) → List ℕ → Queues → RunFault → Type 0
+Why job tally left rest queues (Stream (stream.Oversize number)) = TellsMore job tally × AreOpen queues × (left ≡ []) × IsOversize job.limit rest × (number ≡ declared rest)
+Why job tally left rest queues OutOfMemory = AreOpen queues
+Why job tally left rest queues fault = AreCut queues fault
 
 abbrev pub Halts : Job → Outs → List ℕ → Tally → Queues → RunFault → Type 0
-Halts job first bytes tally queues fault = (gathers : Gathers job first bytes tally queues) × Why job gathers.left gathers.rest queues fault
+Halts job first bytes tally queues fault = (gathers : Gathers job first bytes tally queues) × Why job tally gathers.left gathers.rest queues fault
 
 -- whatever was read before, with this piece more it stands so, or comes to rest
 abbrev pub Onward : Job → Carry → List ℕ → Carry → Type 0

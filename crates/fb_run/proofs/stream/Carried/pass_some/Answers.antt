@@ -45,7 +45,7 @@ pub returns-in_err-taken : goal.returns-in_err-taken
 returns-in_err-taken g c =
     err_exit _ _ (PassesBy _ _ _ _) c.from_residual-in_err-taken.ensures.1 (
       λ first bytes stands.
-          feed_halts c.args.checker.now first bytes c.args.rest.now (carry_of g.K.Sink g.N.Sink c.args.self.now c.args.writer.now c.args.notes.now) c.feed.new.self c.in_err-taken.field-0.0 c.requires.ready.limit c.requires.unfailed (c.in_err-taken.ensures.fault c.requires.ready.fine) stands,
+          feed_halts c.args.checker.now first bytes c.args.rest.now (carry_of g.K.Sink g.N.Sink c.args.self.now c.args.writer.now c.args.notes.now) c.feed.new.self c.in_err-taken.field-0.0 c.requires.ready.limit c.requires.unfailed c.requires.due (c.in_err-taken.ensures.fault c.requires.ready.fine) stands,
       open_sound (queues_of g.K.Sink g.N.Sink c.args.self.now.output c.args.writer.now c.args.notes.now) c.requires.unfailed,
     )
 
