@@ -31,12 +31,12 @@ def short(skip):
 
 
 def stopped(bad):
-    return f"fbcheck: stopped after {bad} bad messages"
+    return f"fbcheck: stopped at bad message {bad}"
 
 
 def hinted(bad, file=None):
     """The same as a line of JSON, where it is of a file with its name."""
-    told = {"hint": f"stopped after {bad} bad messages"}
+    told = {"hint": f"stopped at bad message {bad}"}
     return json.dumps(told if file is None else {"file": str(file), **told}, separators=(",", ":"))
 
 
@@ -191,7 +191,7 @@ class Bounds(Case):
                 f"{first}: {nothing(1)}", f"{first}: {nothing(2)}", f"{second}: {good(1)}", f"{second}: {good(2)}"), b"")),
             ("bad ones", ("--max-bad", "1"), Ran(1, lines(
                 f"{first}: {nothing(1)}", f"{second}: {good(1)}", f"{second}: {good(2)}", f"{second}: {nothing(3)}"), lines(
-                    f"fbcheck: {first}: stopped after 1 bad messages", f"fbcheck: {second}: stopped after 1 bad messages"))),
+                    f"fbcheck: {first}: stopped at bad message 1", f"fbcheck: {second}: stopped at bad message 1"))),
             ("skipped bytes", ("--skip", "32"), Ran(3, lines(f"{second}: {good(1)}", f"{second}: {nothing(2)}"), lines(
                 f"fbcheck: {first}: {short(32)}"))),
         ]:

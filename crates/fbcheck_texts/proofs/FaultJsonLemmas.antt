@@ -1,6 +1,6 @@
 -- The lines of faults and hints by their parts, and which of both they are.
-use Rattle.std.proofs.Common.{◌≡◌, ◌∙◌, ◌≢◌, ℕ, suc, Bool, true, false, List, [], ◌∷◌, ◌++◌, Option, Some, None, codes, decimal, drop, get_or, refl, sym, subst, append_assoc, arith, length}
-use Rattle.std.specs.Prelude.{◌==◌, if◌then◌else◌}
+use Rattle.std.proofs.Common.{◌≡◌, ℕ, true, false, List, [], ◌∷◌, ◌++◌, Option, Some, None, codes, decimal, drop, get_or, refl, sym, subst, append_assoc, arith, length}
+use Rattle.std.specs.Prelude.{◌==◌}
 use mathlib.Core.Logic.{inl, inr}
 use Rattle.json.specs.Print.{escape_byte}
 use Rattle.fb_lines.specs.Json.{json_text, text_json}

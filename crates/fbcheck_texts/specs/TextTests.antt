@@ -8,7 +8,7 @@ use Rattle.fb_schema.specs.declared.{fault.Code.TheVariants.BadSlot, fault.Schem
 use Rattle.fb_rules.specs.declared.{fault.Fault.Fault, fault.Reason.TheVariants.TooDeep, fault.Reason.TheVariants.WrongIdentifier}
 use Rattle.fb_lines.specs.{FaultText.fault_text, FaultText.stream_text}
 use Rattle.fb_lines.specs.declared.fault.RunFault.TheVariants as run
-use Rattle.fbcheck_texts.specs.Texts.{ask_text, load_text, of_read, path_text, run_text}
+use Rattle.fbcheck_texts.specs.Texts.{ask_text, load_text, of_read, path_text, run_text, stopped_text}
 use Rattle.fbcheck_texts.specs.declared.fault.AskFault.TheVariants as ask
 
 -- those of a run
@@ -28,6 +28,7 @@ pub record RunTexts : Type 0 where
   pub turns : fault_text run.TooManyTurns ≡ codes "too many reads"
   pub memory : fault_text run.OutOfMemory ≡ codes "out of memory"
   pub too_long : fault_text (run.BareTooLong 31) ≡ codes "input longer than 31 bytes"
+  pub stopped : stopped_text 10 ≡ codes "stopped at bad message 10\n"
   pub too_short : fault_text (run.SkipPastEnd 31) ≡ codes "the input ends before its first 31 bytes are skipped"
 
 -- a schema file with a fault in a field, and one whose rows have one, in a part or in none

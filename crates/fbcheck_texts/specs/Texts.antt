@@ -102,4 +102,4 @@ unsummed_text written = codes "write to standard error failed after " ++ decimal
 
 -- the line that tells that an input ended behind so many bad messages, as many as there may be
 abbrev pub stopped_text : ℕ → List ℕ
-stopped_text bad = codes "stopped after " ++ decimal bad ++ codes " bad messages\n"
+stopped_text bad = codes "stopped at bad message " ++ decimal bad ++ codes "\n"

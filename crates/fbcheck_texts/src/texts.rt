@@ -102,9 +102,9 @@ pub fn stopped_text(bad: u64) -> Line
     ensures text { result ≡ stopped_text bad }
     ensures short { length result ≤ 100 }
 {
-    let mut line = Line::of(" bad messages\n");
+    let mut line = Line::of("\n");
     line.put_number(bad);
-    line.put_text("stopped after ");
+    line.put_text("stopped at bad message ");
     line
 }
 

@@ -1,7 +1,7 @@
 use Rattle.fbcheck_serve.specs.Checking.{RunsAsAsked}
 use Rattle.fb_run.specs.Leave.{noteless}
 use Rattle.fb_lines.specs.Faults.{End}
-use Rattle.std.proofs.Common.{◌≡◌, Err, refl, rules, subst}
+use Rattle.std.proofs.Common.{◌≡◌, Err, rules, subst}
 use Rattle.fbcheck_serve.proofs.check.check.Given.{Over}
 use Rattle.fbcheck_serve.proofs.check.check.Goals as goal
 

@@ -1,5 +1,5 @@
-use Rattle.std.proofs.Common.{◌≡◌, ◌∙◌, [], Err, List, Ok, ap, inl, inr, length, refl, subst, sym, ℕ}
-use Rattle.fb_lines.specs.{Ends.Ends, Ends.with_writer, Ends.writer_of, Job.job_of}
+use Rattle.std.proofs.Common.{◌≡◌, ◌∙◌, [], Err, Ok, ap, inl, inr, length, refl, subst, sym, ℕ}
+use Rattle.fb_lines.specs.{Ends.with_writer, Ends.writer_of, Job.job_of}
 use Rattle.fb_run.specs.Leave.{ends_of}
 use Rattle.fb_run.proofs.RunLemmas.{err_exit}
 use Rattle.fbcheck_texts.specs.declared.fault.AskFault.{AskFault}

@@ -1,9 +1,9 @@
-use Rattle.std.proofs.Common.{◌≡◌, ◌∙◌, Err, List, Ok, ap, inl, inr, map, refl, string_bytes, subst, sym, ℕ}
+use Rattle.std.proofs.Common.{◌∙◌, Err, Ok, ap, inl, inr, map, refl, string_bytes, subst, sym}
 use Rattle.fb_lines.specs.{Ends.with_writer, Ends.writer_of, Job.job_of}
 use Rattle.fb_run.specs.Leave.{ends_of}
 use Rattle.fb_run.proofs.RunLemmas.{err_exit}
 use Rattle.fbcheck_texts.specs.declared.fault.AskFault.{AskFault}
-use Rattle.fbcheck_serve.specs.{Checking.IsServedEach, Checking.LacksJob, Checking.names_in, Heads.IsHeaded, Heads.head_of}
+use Rattle.fbcheck_serve.specs.{Checking.IsServedEach, Checking.LacksJob, Checking.names_in, Heads.head_of}
 use Rattle.fbcheck_serve.proofs.{AskedLemmas.idle, HeadLemmas.is_cut, HeadLemmas.stands}
 use Rattle.fbcheck_serve.specs.Inputs.{IsPromptAmong, MayReadEach, ServesEach, at_first, folder_of, seen_of, stand, with_cause}
 use Rattle.fbcheck_serve.proofs.check.check_files.Goals as goal
