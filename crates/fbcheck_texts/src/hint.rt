@@ -178,11 +178,13 @@ impl Draft {
         file: &[u8],
         fault: LoadFault,
     ) -> Result<Draft, AllocError> {
-        let LoadFault::BadSchema(SchemaFault {
-            code: Code::Unsupported,
-            owner,
-            part: Some(part),
-        }) = fault
+        let LoadFault::BadSchema(
+            SchemaFault {
+                code: Code::Unsupported,
+                owner,
+                part: Some(part),
+            },
+        ) = fault
         else {
             return Ok(self);
         };
@@ -228,7 +230,7 @@ pub fn words_hint(alloc: Global, fault: &WordsFault) -> Result<Hint, AllocError>
     }
 }
 
-/// What is told behind the fault of a schema file that can't be read: its name, and why.
+/// What is told behind the fault of a schema file, or of a list of names, that can't be read: its name, and why.
 pub fn file_hint(
     alloc: Global,
     fault: FileFault,

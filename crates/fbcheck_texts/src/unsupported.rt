@@ -57,7 +57,10 @@ fn field_in<'b>(
     Some(Refused {
         table: text_at(alloc, file, of_table.as_str())?,
         name: text_at(alloc, file, of_name.as_str())?,
-        why: why(at(alloc, file, of_offset.as_str())?, at(alloc, file, of_type.as_str())?),
+        why: why(
+            at(alloc, file, of_offset.as_str())?,
+            at(alloc, file, of_type.as_str())?,
+        ),
     })
 }
 
