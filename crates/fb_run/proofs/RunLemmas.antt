@@ -160,8 +160,8 @@ module _ {job : Job} {first now : Reader} {before : Outs} {here : Carry} {skip :
   takes : Takes before (outs_in here.queues) sofar.stands.text
   takes = takes_all sofar.stands.text before here.queues sofar.stands.puts sofar.unfailed sofar.empty
 
-  part : IsPartial job.limit here.framer.held
-  part = subst (λ (n : ℕ). IsPartial n here.framer.held) sofar.ready.limit sofar.ready.part
+  part : IsPartial (cut_of job) here.framer.held
+  part = subst (λ (u : Cut). IsPartial u here.framer.held) sofar.ready.cut sofar.ready.part
 
   -- all that was read is told
   pub sofar_prompt : IsStreamPrompt job (beside first before) (beside now (outs_in here.queues))
@@ -229,7 +229,7 @@ module _ {job : Job} {first now : Reader} {before : Outs} {here : Carry} {skip :
             rest = gathers.rest;
             text = gathers.text;
             read = reads;
-            splits = subst (λ (l : List ℕ). Splits job.limit l (gathers.done ++ gathers.left) gathers.rest) (sym grown) gathers.splits;
+            splits = subst (λ (l : List ℕ). Splits (cut_of job) l (gathers.done ++ gathers.left) gathers.rest) (sym grown) gathers.splits;
             told = gathers.told;
             takes = takes_all gathers.text before after.queues gathers.puts fine empty;
             stopped = inl full;
@@ -308,7 +308,7 @@ module _ {job : Job} {first now : Reader} {before : Outs} {here : Carry} {skip :
         rest = here.framer.held;
         text = sofar.stands.text;
         read = whole;
-        splits = subst (λ (l : List (List ℕ)). Splits job.limit (checked_in job sofar.bytes) l here.framer.held) (sym (append-nil sofar.stands.messages)) sofar.stands.splits;
+        splits = subst (λ (l : List (List ℕ)). Splits (cut_of job) (checked_in job sofar.bytes) l here.framer.held) (sym (append-nil sofar.stands.messages)) sofar.stands.splits;
         told = sofar.stands.told;
         takes = takes;
         stopped = inr (record { ended = ended; begun = omega (arith, spent, sofar.skips.left); none = refl; whole = empty });
@@ -330,7 +330,7 @@ none_from false job ends = record {
   text = silent;
   read = Consumes-nil ends.reader.left;
   takes = takes_none ends.outs ends.outs (Keeps-refl ends.outs.writer.bytes, Keeps-refl ends.outs.notes.bytes);
-  rests = ([], [], splits_rest job.limit [] (inl (empty_partial job.limit)), ([], [], [], [], splits_rest job.limit [] (inl (empty_partial job.limit)), refl, (refl, refl)));
+  rests = ([], [], splits_rest (cut_of job) [] (inl (empty_partial (cut_of job))), ([], [], [], [], splits_rest (cut_of job) [] (inl (empty_partial (cut_of job))), refl, (refl, refl)));
 }
 
 pub runs_none : (job : Job) (ends : Ends) (ran : Ran) → ran ≡ record { tally = no_tally; end = Err run.OutOfMemory } → IsRunBeside job ends ends ran.tally ran.end

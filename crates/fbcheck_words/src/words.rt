@@ -20,7 +20,8 @@ use std::alloc::{AllocError, Global};
 /// `Usage` where `clap` refuses them, help included, and `BadIdent` where it reads them and the identifier isn't four
 /// bytes long. Then, where they say what doesn't agree, `PathInFilter` for a filter with a path, then `TwoIdents` for
 /// an identifier beside the schema's own, then `TooManyPaths` for more than 16, then `BareDelimited` for a bare buffer
-/// behind its length, then `PlainUnstrict` for plain bytes without strict checks, then `PathTwice` for the same path
+/// behind its length and `BareDelimitedBe` for one behind a big-endian length, then `DelimitedTwice` for both of these
+/// lengths, then `PlainUnstrict` for plain bytes without strict checks, then `PathTwice` for the same path
 /// twice, then `TooManySteps` for more than 1,024 steps of all paths, then `SchemaAsInput` for a stream in a file `.bfbs`
 /// without a schema file, then `NamedTwice` for files beside a file of names, and then of CSV `CsvAsJson`, `CsvInFilter`
 /// and `CsvInQuiet` where it is asked for with one of these, and `CsvPathless` without a path. `OutOfMemory` for want of
@@ -66,6 +67,7 @@ fn said(alloc: Global, matches: &ArgMatches<'_>) -> Result<Settings, SettingsFau
         most_bad: wide_number(matches, "max-bad", 1),
         bare: flag(matches, "bare"),
         delimited: flag(matches, "delimited"),
+        delimited_be: flag(matches, "delimited-be"),
         checks: Checks {
             alignment: !flag(matches, "no-alignment"),
             inline_size: flag(matches, "inline-size"),
@@ -98,6 +100,10 @@ fn contradiction(settings: &Settings) -> Option<SettingsFault>
         Some(SettingsFault::TooManyPaths)
     } else if settings.bare && settings.delimited {
         Some(SettingsFault::BareDelimited)
+    } else if settings.bare && settings.delimited_be {
+        Some(SettingsFault::BareDelimitedBe)
+    } else if settings.delimited && settings.delimited_be {
+        Some(SettingsFault::DelimitedTwice)
     } else if settings.plain_bytes && !settings.strict {
         Some(SettingsFault::PlainUnstrict)
     } else if has_twice(settings.paths.as_slice()) {
