@@ -204,15 +204,7 @@ fn pass_file<F: Files<K, N>, S: Input<K, N> + Explains, K: Sink, N: Sink>(
     );
     *course = course.with(name, &came.what);
     let framing = Framing::of(options.bare, options.prefix);
-    tell_behind(
-        alloc,
-        options.form,
-        name,
-        framing,
-        options.most_bad,
-        &came,
-        notes,
-    )
+    tell_behind(alloc, options.form, name, framing, options.most_bad, &came, notes)
 }
 
 /// Runs over one file, where it can be read.

@@ -178,13 +178,11 @@ impl Draft {
         file: &[u8],
         fault: LoadFault,
     ) -> Result<Draft, AllocError> {
-        let LoadFault::BadSchema(
-            SchemaFault {
-                code: Code::Unsupported,
-                owner,
-                part: Some(part),
-            },
-        ) = fault
+        let LoadFault::BadSchema(SchemaFault {
+            code: Code::Unsupported,
+            owner,
+            part: Some(part),
+        }) = fault
         else {
             return Ok(self);
         };

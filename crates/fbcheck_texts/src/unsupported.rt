@@ -79,7 +79,8 @@ pub fn unsupported<'b>(
         &mut scratch,
     )
     .ok()?;
-    let (Answer::Text(table), Answer::Text(field)) = (get(&verified, &table), get(&verified, &name))
+    let (Answer::Text(table), Answer::Text(field)) =
+        (get(&verified, &table), get(&verified, &name))
     else {
         return None;
     };
