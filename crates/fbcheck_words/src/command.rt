@@ -136,7 +136,7 @@ static CHOICES: [Choice<'static>; 31] = [
         name: "delimited-be",
         letter: None,
         takes: Takes::Nothing,
-        help: "The same where the highest byte of the length comes first, as Java writes it",
+        help: "The same where the highest byte of the length comes first (big-endian)",
     },
     Choice {
         name: "no-alignment",
