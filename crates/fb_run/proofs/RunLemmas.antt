@@ -5,8 +5,9 @@ use Rattle.std.proofs.KnownBytes.{Consumes-kept, Consumes-nil, Consumes-trans, K
 use Rattle.std.proofs.lemmas.List.{drop_all, length-append, length-drop}
 use mathlib.Core.Logic.{inl, inr}
 use Rattle.fb_bytes.specs.Messages.{IsPartial, Splits}
+use Rattle.fb_bytes.specs.declared.cut.Cut.{Cut}
 use Rattle.fb_bytes.specs.declared.stream_fault.StreamFault.TheVariants as stream
-use Rattle.fb_lines.specs.{Ends.Ends, Ends.Outs, Ends.Reader, Ends.Takes, Ends.beside, Job.Job, Job.checked_in, Lines.AreTold, Spot.IsDue, Spot.IsFull, Spot.at_first, Spot.past_all, Sums.count_of, Sums.no_tally}
+use Rattle.fb_lines.specs.{Ends.Ends, Ends.Outs, Ends.Reader, Ends.Takes, Ends.beside, Job.Job, Job.checked_in, Job.cut_of, Lines.AreTold, Spot.IsDue, Spot.IsFull, Spot.at_first, Spot.past_all, Sums.count_of, Sums.no_tally}
 use Rattle.fb_lines.specs.Faults.{End, EndsBeside, IsCaused, IsCausedOut, IsUnfailedOut, end_of, failed}
 use Rattle.fb_lines.specs.Puts.{AreOpen, Queues, all_unused}
 use Rattle.fb_lines.specs.Texts.{Texts, followed, silent, to_notes}
