@@ -68,6 +68,7 @@ pub fn read_whole<A: Allocator, B: Allocator, S: Input<K, N>, K: Sink, N: Sink>(
     ensures reads { ReadsBy checker.now turns (ends_of S.Input K.Sink N.Sink source.old writer.now notes.now)
         (ends_of S.Input K.Sink N.Sink source.new writer.now notes.now) result }
     ensures turns { S.calls source.new ≤ S.calls source.old + turns }
+    ensures short { IfOk result (λ whole. length whole.items < 2 ^ 31) }
 {
     let limit = checker.limit();
     let mut whole = Vec::new(alloc);
