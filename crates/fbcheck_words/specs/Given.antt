@@ -100,13 +100,22 @@ rules_of settings =
     ∷ (settings.plain_bytes && not settings.strict, PlainUnstrict)
     ∷ (has_twice (map string_bytes settings.paths.items), PathTwice)
     ∷ (nat_lt 1024 (steps_of (map string_bytes settings.paths.items)), TooManySteps)
-    ∷ (not (is_some settings.schema) && (not settings.bare && list_any is_bfbs (map string_bytes settings.files.items)), SchemaAsInput)
+    ∷ []
+
+-- what is refused of the files that they name
+abbrev pub rules_of_files : Settings → List (Bool × SettingsFault)
+rules_of_files settings =
+    (not (is_some settings.schema) && (not settings.bare && list_any is_bfbs (map string_bytes settings.files.items)), SchemaAsInput)
     ∷ (is_some settings.names_file && nat_lt 0 (length settings.files.items), NamedTwice)
     ∷ []
 
--- the first of these, those of CSV behind the others
+-- the first of these and of those of CSV
+abbrev pub contradiction_of_files : Settings → Option SettingsFault
+contradiction_of_files settings = first_broken (rules_of_files settings ++ (if settings.csv then rules_of_csv settings else []))
+
+-- the first of all, those of files and of CSV behind the others
 abbrev pub contradiction : Settings → Option SettingsFault
-contradiction settings = first_broken (rules_of settings ++ (if settings.csv then rules_of_csv settings else []))
+contradiction settings = first_broken (rules_of settings ++ (rules_of_files settings ++ (if settings.csv then rules_of_csv settings else [])))
 
 -- the words give these settings, which agree
 pub record AreGiven (given : List Text) (settings : Settings) : Type 0 where

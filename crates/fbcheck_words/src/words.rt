@@ -1,6 +1,6 @@
 ghost use Rattle.std.specs.Prelude.{nat_lt, IfOk, IfErr, IfSome, IsSomeAnd, OnErr, ℕ, ◌≢◌, length, option_map, IsTrue, ◌≡◌, ◌↔◌, List, map, string_bytes, Some, codes};
 ghost use Rattle.clap.specs.Words.{Text, first_value, found_of, one_text};
-ghost use Rattle.fbcheck_words.specs.{Ranges.AreInRange, Given.AreGiven, Given.Say, Given.contradiction, Given.contradiction_of_csv, Given.has_twice, Given.is_among, Given.is_bfbs, Given.is_sign, Given.steps_in, Given.steps_of};
+ghost use Rattle.fbcheck_words.specs.{Ranges.AreInRange, Given.AreGiven, Given.Say, Given.contradiction, Given.contradiction_of_csv, Given.contradiction_of_files, Given.has_twice, Given.is_among, Given.is_bfbs, Given.is_sign, Given.steps_in, Given.steps_of};
 ghost use Rattle.fbcheck_words.specs.{Values.HoldsNumber, Values.HoldsWideNumber, Values.IsNumberIn, Refusal.Refuses};
 ghost use Rattle.std.specs.List.{list_any};
 ghost use Rattle.fbcheck_words.specs.Matched.{IsReadOf, all_values};
@@ -110,7 +110,16 @@ fn contradiction(settings: &Settings) -> Option<SettingsFault>
         Some(SettingsFault::PathTwice)
     } else if are_long(settings.paths.as_slice()) {
         Some(SettingsFault::TooManySteps)
-    } else if settings.schema.is_none() && !settings.bare && has_bfbs(settings.files.as_slice()) {
+    } else {
+        contradiction_of_files(settings)
+    }
+}
+
+/// What is refused of the files that are named, and of CSV.
+fn contradiction_of_files(settings: &Settings) -> Option<SettingsFault>
+    ensures { result ≡ contradiction_of_files settings.now }
+{
+    if settings.schema.is_none() && !settings.bare && has_bfbs(settings.files.as_slice()) {
         Some(SettingsFault::SchemaAsInput)
     } else if settings.names_file.is_some() && !settings.files.is_empty() {
         Some(SettingsFault::NamedTwice)
