@@ -10,7 +10,8 @@ front_number : (order : Endian) (front bytes : List ℕ) → front ≡ take 4 by
 front_number order front bytes first = sym (declared_front order bytes front (sym first))
 
 -- as many bytes as the number in front declares are a message
-pub front_is_message : (cut : Cut) (n : ℕ) (front bytes message : List ℕ) → front ≡ take 4 bytes → n ≡ declared cut.order front + 4 → n ≤ cut.limit → n ≤ length bytes → message ≡ take n bytes → IsMessage cut message
+pub front_is_message : (cut : Cut) (n : ℕ) (front bytes message : List ℕ) → front ≡ take 4 bytes → n ≡ declared cut.order front + 4
+    → n ≤ cut.limit → n ≤ length bytes → message ≡ take n bytes → IsMessage cut message
 front_is_message cut n front bytes message first is within fits at =
     let told : declared cut.order front ≡ declared cut.order bytes = front_number cut.order front bytes first in
     let long : length message ≡ n = ap length at ∙ length-take-le n bytes fits in
@@ -22,7 +23,8 @@ pub front_is_part : (cut : Cut) (bytes : List ℕ) → length bytes < 4 → IsPa
 front_is_part cut bytes few = inl (λ four. absurd (omega (arith, few, four)))
 
 -- a prefix that declares too much, or more than is there
-pub front_is_none : (cut : Cut) (n : ℕ) (front bytes : List ℕ) → front ≡ take 4 bytes → n ≡ declared cut.order front + 4 → 4 ≤ length bytes → (n ≤ cut.limit → length bytes < n) → IsPartial cut bytes ⊎ IsOversize cut bytes
+pub front_is_none : (cut : Cut) (n : ℕ) (front bytes : List ℕ) → front ≡ take 4 bytes → n ≡ declared cut.order front + 4
+    → 4 ≤ length bytes → (n ≤ cut.limit → length bytes < n) → IsPartial cut bytes ⊎ IsOversize cut bytes
 front_is_none cut n front bytes first is four short =
     let told : declared cut.order front ≡ declared cut.order bytes = front_number cut.order front bytes first in
     elim (cases_lt cut.limit n) [
