@@ -1,10 +1,10 @@
 """Bounds of what is checked of an input: `--skip`, `--limit` and `--max-bad`."""
 
-import itertools
+import json
 import random
 
 from tests.support import schemas
-from tests.support.buffers import BY_POST, NOTHING, ORC, POST, SEVEN
+from tests.support.buffers import BY_POST, NOTHING, ODD, ORC, POST, SEVEN
 from tests.support.builder import messages_of, spelled
 from tests.support.cases import Case
 from tests.support.preloaded import counted
@@ -15,6 +15,7 @@ BY_N = ("--schema", FILES["N"])
 BY_M = ("--schema", FILES["M"], "--bare")
 ORC_LINE = "1 ok tables=1 depth=1 reads=8"
 MOST = 2**64 - 1
+MISALIGNED = "each message is misaligned: --delimited is for prefixes outside the buffers"
 
 
 def good(number):
@@ -31,6 +32,12 @@ def short(skip):
 
 def stopped(bad):
     return f"fbcheck: stopped after {bad} bad messages"
+
+
+def hinted(bad, file=None):
+    """The same as a line of JSON, where it is of a file with its name."""
+    told = {"hint": f"stopped after {bad} bad messages"}
+    return json.dumps(told if file is None else {"file": str(file), **told}, separators=(",", ":"))
 
 
 def bounded(messages, rest, skip=0, most=MOST, most_bad=MOST):
@@ -155,6 +162,26 @@ class Bounds(Case):
         ]:
             self.same(name, run(*BY_N, *words, given=stream), want)
         self.same("of good ones", run(*BY_N, "--max-bad", "1", given=SEVEN), Ran(0, lines(good(1)), b""))
+
+    def test_max_bad_in_json(self):
+        """What ends an input is told as an object, with the name of the file where files are named."""
+        first, second = file_of("bounds-3.bin", NOTHING * 3), file_of("bounds-4.bin", SEVEN + ODD * 2)
+        by = (*BY_N, "--json", "--quiet", "--max-bad")
+        for name, words, given, told, want in [
+            ("one", ("1",), SEVEN + NOTHING * 2, 1, [hinted(1)]),
+            ("two", ("2",), SEVEN + NOTHING * 2, 2, [hinted(2)]),
+            ("three", ("3",), SEVEN + NOTHING * 2, 2, []),
+            ("with the name of standard input", ("1", "-H"), NOTHING * 2, 1, [hinted(1)]),
+            ("a hint behind it", ("2",), ODD * 3, 2, [hinted(2), f'{{"hint":"{MISALIGNED}"}}']),
+            ("a summary before it", ("1", "--summary"), NOTHING * 2, 1, [
+                '{"messages":1,"yes":0,"no":1,"V2":1,"bytes":4,"tables":0,"reads":1}', hinted(1)]),
+            ("one of a file", ("1", first), b"", 1, [hinted(1, first)]),
+            ("one of each file", ("1", first, second), b"", 2, [hinted(1, first), hinted(1, second)]),
+            ("two of each file", ("2", first, second), b"", 4, [hinted(2, first), hinted(2, second)]),
+            ("three, which one file has", ("3", first, second), b"", 5, [hinted(3, first)]),
+        ]:
+            ran = run(*by, *words, given=given)
+            self.same(name, (ran.status, ran.out.count(b'"ok":false'), ran.err), (1, told, lines(*want)))
 
     def test_files(self):
         """Each bound holds for each file."""

@@ -8,9 +8,10 @@ use Rattle.fb_schema.specs.Rows.{Rows}
 use mathlib.Core.Logic.{inl}
 use Rattle.fb_lines.specs.{Faults.End, Job.Job, Job.job_of}
 use Rattle.std.specs.declared.io.ErrorKind.{ErrorKind}
-use Rattle.fb_lines.specs.declared.{options.Options.Options, fault.RunFault.RunFault}
+use Rattle.fb_lines.specs.Ends.{Writer}
+use Rattle.fb_lines.specs.declared.{options.Form.Form, options.Options.Options, fault.RunFault.RunFault, tally.Tally.Tally}
 use Rattle.fb_run.specs.declared.run.Ran.{Ran}
-use Rattle.fbcheck_serve.specs.Inputs.{ComesOf, Folder, HaltsAmong, IsMissed, Passes, PassesAll, RunsOpened, Seen, Stand, Tries, is_standard, label_of, with_label, sum_of_counts, sums, are_named}
+use Rattle.fbcheck_serve.specs.Inputs.{ComesOf, Folder, HaltsAmong, IsBehindGood, IsBehindRunSo, IsMissed, Passes, PassesAll, RunsOpened, Seen, Stand, Tries, is_standard, label_of, with_label, sum_of_counts, sums, are_named}
 use Rattle.fbcheck_serve.specs.declared.{inputs.Missed.Missed, inputs.Standard.Standard, inputs.Standard.TheVariants.Unread, inputs.Standard.TheVariants.Spent}
 
 -- the counts up to a place are added; then those up to the next are
@@ -71,6 +72,12 @@ module _ (folder : Folder) where
     passes = passes;
     halts = tries;
   }
+
+-- behind a run that ended well
+pub behind_good : (form : Form) (most : ℕ) (name : List ℕ) (tally : Tally) (ended : End) (cause : Option ErrorKind) (before after : Writer) (end : End)
+    → ((fault : RunFault) → ended ≡ Err fault → ⊥) → IsBehindGood form most name tally before after end → IsBehindRunSo form most name tally ended cause before after end
+behind_good form most name tally (Ok done) cause before after end well good = good
+behind_good form most name tally (Err fault) cause before after end well good = absurd (well fault refl)
 
 -- the texts from the next file on
 pub next_text : {Z : Type 0} (names : List (String Z)) (i : ℕ) (item : String Z) (text : List ℕ) → i < length names → item ≡ get_or names i item → text ≡ string_bytes item

@@ -1,4 +1,4 @@
--- Two texts that are noted one behind the other, and the line that tells a fault.
+-- Two texts that are noted one behind the other, the line that tells a fault, and the one that tells a bound.
 use Rattle.std.proofs.Common.{◌≡◌, ◌∙◌, ℕ, ◌+◌, ◌<◌, ◌≤◌, Bool, true, false, List, ◌++◌, Option, ap, subst, sym, length, take, arith}
 use mathlib.Core.Logic.{inl, inr}
 use Rattle.std.specs.{Io.KnownBytes.Appends, Global.Global, Prelude.String}
@@ -8,11 +8,14 @@ use Rattle.std.proofs.lemmas.List.{length-append}
 use Rattle.fbcheck_texts.specs.declared.causes.Causes.{Causes}
 use Rattle.fb_bytes.specs.Ends.{one_more}
 use Rattle.fb_lines.specs.Ends.{Writer}
-use Rattle.fb_lines.specs.declared.{options.Form.Form, options.Form.TheVariants.Json}
+use Rattle.fb_lines.specs.declared.{options.Form.Form, options.Form.TheVariants.Json, tally.Tally.Tally}
 use Rattle.fbcheck_texts.proofs.FaultJsonLemmas.{object_in, plain_in}
 use Rattle.fbcheck_texts.specs.FaultJson.{fault_object}
-use Rattle.fbcheck_serve.specs.{Inputs.IsNoted, Serving.Complains, Serving.IsBehindStop, Serving.IsStopLine, Serving.TellsStop, Serving.is_quiet, Serving.stop_status, Serving.stop_text}
-use Rattle.fbcheck_serve.specs.declared.stop.Stop.{Stop}
+use Rattle.fbcheck_texts.specs.Texts.{stopped_text}
+use Rattle.fbcheck_texts.specs.declared.framing.Manner.{Manner}
+use Rattle.fbcheck_serve.specs.Inputs.{IsHintLine, IsNoted, IsStopOf}
+use Rattle.fbcheck_serve.specs.Serving.{Complains, IsBehindStop, IsEndLine, IsStopLine, IsStopTold, TellsStop, is_quiet, stop_status, stop_text}
+use Rattle.fbcheck_serve.specs.declared.{stop.Ending.Ending, stop.Ending.TheVariants.Checked, stop.Stop.Stop}
 use Rattle.fbcheck_serve.specs.declared.stop.Stop.TheVariants as stop
 
 -- the first text stands written, and the second whole or in part
@@ -63,3 +66,14 @@ pub kept_quiet : (form : Form) (causes : Causes) (fault : Stop) (before : Writer
     → Complains form causes (Err fault) before before
 kept_quiet form causes fault before quiet is silent =
     subst (λ (b : Bool). TellsStop b form causes fault before before) (sym silent ∙ is) (Keeps-refl before.bytes, refl)
+
+-- where as many messages were bad as may be, the line that was noted says so: of a file, and of the program's input
+pub file_stopped : (form : Form) (most : ℕ) (name : List ℕ) (tally : Tally) (before after : Writer) (text line : List ℕ) → most ≤ tally.no → text ≡ stopped_text most
+    → IsHintLine form name text line → IsNoted line before after → IsStopOf form most name tally before after
+file_stopped form most name tally before after text line many is told noted =
+    (λ few. absurd (omega (arith, few, many)), λ _. (line, subst (λ (t : List ℕ). IsHintLine form name t line) is told, noted))
+
+pub input_stopped : (form : Form) (ending : Ending) (tally : Tally) (manner : Manner) (before after : Writer) (text line : List ℕ) → ending ≡ Checked tally manner
+    → manner.most_bad ≤ tally.no → text ≡ stopped_text manner.most_bad → IsEndLine form text line → IsNoted line before after → IsStopTold form ending before after
+input_stopped form ending tally manner before after text line ends many is told noted =
+    rw ends (λ few. absurd (omega (arith, few, many)), λ _. (line, subst (λ (t : List ℕ). IsEndLine form t line) is told, noted))

@@ -1,6 +1,6 @@
 //! How the program comes to its end: well, or for a cause.
 
-ghost use Rattle.std.specs.Prelude.{Err, IfSome, None, ◌≡◌, ◌++◌, ◌+◌, ◌<◌, ◌≤◌, ◌^◌, codes, length};
+ghost use Rattle.std.specs.Prelude.{Err, IfSome, List, None, ℕ, ◌≡◌, ◌++◌, ◌+◌, ◌<◌, ◌≤◌, ◌^◌, codes, length};
 ghost use Rattle.fb_rules.specs.Reasons.{reason_count};
 ghost use Rattle.fb_lines.specs.Ends.{writer_of};
 ghost use Rattle.fbcheck_serve.specs.Inputs.{IsNoted};

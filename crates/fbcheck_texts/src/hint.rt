@@ -6,7 +6,7 @@ ghost use Rattle.fbcheck_texts.specs.Hints.{IsHint, fault_with};
 
 use crate::causes::reason;
 use crate::fault::{AskFault, FileFault, WordsFault};
-use crate::unsupported::unsupported;
+use crate::unsupported::refused_field;
 use fb_access::{path_hint as pieces_of_path, root_hint as pieces_of_root};
 use fb_bfbs::LoadFault;
 use fb_run::put_bytes;
@@ -186,12 +186,12 @@ impl Draft {
         else {
             return Ok(self);
         };
-        match unsupported(alloc, file, owner, part) {
+        match refused_field(alloc, file, owner, part) {
             Some(found) => self
                 .with(b";")?
                 .with_name(found.table)?
                 .with(b".")?
-                .with(found.field)?
+                .with(found.name)?
                 .with(b" ")?
                 .with(found.why),
             None => Ok(self),

@@ -87,5 +87,7 @@ returns-clause-serves c =
       few = rw (c.in_ok-paths.ensures.count, c.as_slice.ensures.value) c.requires.few;
       least = c.requires.least;
       most = c.requires.most;
+      some_messages = c.requires.some_messages;
+      some_bad = c.requires.some_bad;
       planned = planned c.args.schema_bytes c.in-Ok.loaded.schema c.args.settings.now c.in_ok-plan.plan c.in_ok-plan.ensures.plan;
     })

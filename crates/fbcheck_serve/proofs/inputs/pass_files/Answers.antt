@@ -75,7 +75,16 @@ loop-name-preserved g c =
           (next_text c.args.names.now c.loop-name.name-index c.name-item.result text c.loop-name-test.true c.name-item.is c.as_str-name.ensures.value) passes
           (subst (λ (j : Job). Tries folder j text before after (Ok tt)) asked c.in_default-passed.ensures.tries);
       job = (label_of (are_named (job_of c.args.schema.now c.args.options.now).label texts) text, asked);
-      serves = record { table = serves.table; fits = serves.fits; few = serves.few; least = serves.least; most = serves.most; planned = serves.planned };
+      serves = record {
+        table = serves.table;
+        fits = serves.fits;
+        few = serves.few;
+        least = serves.least;
+        most = serves.most;
+        some_messages = serves.some_messages;
+        some_bad = serves.some_bad;
+        planned = serves.planned;
+      };
       places = c.pass_file-passed.ensures.calls.1;
       unread = λ new. let (then, same) = c.pass_file-passed.ensures.calls.3 new in same ∙ c.loop-name.invariant.unread then;
       turns = turns_on g.S.Input.calls c.loop-name.course.standard c.pass_file-passed.new.course.standard c.args.reader.now c.loop-name.reader c.pass_file-passed.new.reader
