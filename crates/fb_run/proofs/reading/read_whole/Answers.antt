@@ -1,7 +1,6 @@
 use Rattle.std.proofs.Common.{arith, rules, refl, ◌∙◌, sym, ◌≤◌, ◌+◌, ◌<◌, length}
 use mathlib.Core.Logic.{inl}
 use Rattle.std.proofs.KnownBytes.{Keeps-refl}
-use Rattle.fb_lines.specs.Ends.{outs_of}
 use Rattle.fb_run.specs.Leave.{ends_of, reader_of}
 use Rattle.fb_run.proofs.WholeLemmas.{gathered_more, gathered_nothing, gathered_within, long_fails, memory_fails, read_fails, short_fails, spent_fails, whole_read}
 use Rattle.fb_run.proofs.reading.read_whole.Goals as goal
@@ -15,6 +14,5 @@ loop-left-init g c = record {
 pub pull_piece-requires-clause-leave : goal.pull_piece-requires-clause-leave
 pull_piece-requires-clause-leave g c =
     let gathered = c.loop-left.invariant.gathered in
-    let outs = outs_of g.K.Sink g.N.Sink c.args.writer.now c.args.notes.now in
     c.requires.leave (ends_of g.S.Input g.K.Sink g.N.Sink c.loop-left.source c.args.writer.now c.args.notes.now)
-    (gathered.bytes, gathered.read, gathered_within gathered outs, (Keeps-refl _, Keeps-refl _)) gathered.asks
+    (gathered.bytes, gathered.read, gathered_within gathered, (Keeps-refl _, Keeps-refl _, tt)) gathered.asks
