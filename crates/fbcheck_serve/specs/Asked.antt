@@ -86,6 +86,11 @@ abbrev pub prefix_of : Bool → Prefix
 prefix_of true = Apart
 prefix_of false = Part
 
+-- whether bad buffers are kept, by whether a file for them is named
+abbrev pub rejects_of : {A : Type 0} → Option A → Rejects
+rejects_of None = Dropped
+rejects_of (Some name) = Kept
+
 -- what the settings ask of each buffer, from this root, with these paths, this identifier and this plan
 abbrev pub options_of : Settings → ℕ → Vec Wanted Global → Ident → Option Planned → Options
 options_of settings root paths ident plan = record {
@@ -101,6 +106,7 @@ options_of settings root paths ident plan = record {
   bare = settings.bare;
   prefix = prefix_of settings.delimited;
   checks = settings.checks;
+  rejects = rejects_of settings.rejects;
   mode = mode_of settings.csv settings.filter settings.quiet;
   names = places_of settings.names settings.form;
   label = None;

@@ -7,19 +7,21 @@ ghost use Rattle.fbcheck_serve.specs.Checking.{EndsChecked, IsChecked, IsChecked
 ghost use Rattle.fbcheck_serve.specs.Inputs.{folder_of, seen_of};
 ghost use Rattle.fb_lines.specs.Faults.{EndsBeside};
 ghost use Rattle.fb_lines.specs.declared.fault.RunFault.TheVariants.{TooManyTurns};
+ghost use Rattle.fbcheck_serve.specs.declared.check.Unbegun.TheVariants.{Ask};
 ghost use Rattle.fb_run.specs.Leave.{HasLeave, ends_of, noteless};
 
-use crate::asked::asked_of;
-use crate::files::Files;
+use crate::asked::{Asked, asked_of};
+use crate::files::{Files, Makes};
 use crate::head::{head_of, with_head, write_head};
 use crate::inputs::{Passed, pass_files};
 use fb_bytes::Sink;
-use fb_run::{Input, MOST_TURNS, Nowhere, Ran, Tally, run_beside};
+use fb_run::{Input, MOST_TURNS, Nowhere, Ran, Tally, run_keeping};
 use fbcheck_texts::causes::Explains;
 use fbcheck_texts::fault::CheckFault;
 use fbcheck_texts::hint::Unasked;
 use fbcheck_words::Settings;
 use std::alloc::Global;
+use std::io::ErrorKind;
 
 /// Checks the buffers of an input by the schema of a schema file (`.bfbs`), as the settings ask; without a file they
 /// are checked as schema files themselves, by the fixed table.
@@ -62,26 +64,66 @@ pub fn check_beside<S: Input<K, N>, K: Sink, N: Sink>(
 {
     let asked = asked_of(alloc, schema_bytes, settings)?;
     let head = head_of(alloc, &asked.options, &[])?;
-    if let Err(fault) = write_head(writer, head.as_slice()) {
-        return Ok(Ran::none(fault));
+    let mut rejects = Nowhere::new();
+    Ok(run_asked(alloc, &asked, head.as_slice(), reader, writer, notes, &mut rejects))
+}
+
+/// Runs over an input by what is asked, behind this head.
+fn run_asked<S: Input<K, N>, K: Sink, N: Sink, R: Sink>(
+    alloc: Global,
+    asked: &Asked<'_>,
+    head: &[u8],
+    reader: &mut S,
+    writer: &mut K,
+    notes: &mut N,
+    rejects: &mut R,
+) -> Ran {
+    if let Err(fault) = write_head(writer, head) {
+        return Ran::none(fault);
     }
-    let ran = run_beside(
+    let ran = run_keeping(
         alloc,
         reader,
         writer,
         notes,
+        rejects,
         &asked.schema,
         &asked.options,
         MOST_TURNS,
     );
-    Ok(Ran {
+    Ran {
         tally: ran.tally,
-        end: with_head(head.as_slice().len(), ran.end),
-    })
+        end: with_head(head.len(), ran.end),
+    }
 }
 
-/// The same of the files that the settings name, one behind another, as [`pass_files`] says.
-pub fn check_files<F: Files<K, N>, S: Input<K, N> + Explains, K: Sink, N: Sink>(
+/// What a call came to, and why a write of the rejects failed, where one did.
+#[derive(Clone, Copy)]
+pub struct Kept<T> {
+    pub what: T,
+    pub cause: Option<ErrorKind>,
+}
+
+/// Why a call isn't begun.
+#[derive(Drop)]
+pub enum Unbegun {
+    /// There was nothing to check by.
+    Ask(Unasked),
+    /// The file for the rejects can't be made.
+    Unmade(ErrorKind),
+}
+
+impl From<Unasked> for Unbegun {
+    ghost from_gives = { λ unasked unbegun. unbegun ≡ Ask unasked };
+
+    fn from(unasked: Unasked) -> Self {
+        Self::Ask(unasked)
+    }
+}
+
+/// The same where bad buffers go to a file, if the settings name one: it is made once it is known by what buffers are
+/// checked, and before anything is read or written.
+pub fn check_keeping<F: Makes, S: Input<K, N>, K: Sink, N: Sink>(
     alloc: Global,
     files: &F,
     schema_bytes: Option<&[u8]>,
@@ -89,7 +131,34 @@ pub fn check_files<F: Files<K, N>, S: Input<K, N> + Explains, K: Sink, N: Sink>(
     reader: &mut S,
     writer: &mut K,
     notes: &mut N,
-) -> Result<Passed, Unasked>
+) -> Result<Kept<Ran>, Unbegun> {
+    let asked = asked_of(alloc, schema_bytes, settings)?;
+    let head = head_of(alloc, &asked.options, &[])?;
+    let head = head.as_slice();
+    let Some(name) = &settings.rejects else {
+        let mut rejects = Nowhere::new();
+        let what = run_asked(alloc, &asked, head, reader, writer, notes, &mut rejects);
+        return Ok(Kept { what, cause: None });
+    };
+    let mut rejects = match files.make(name.as_str()) {
+        Ok(file) => file,
+        Err(cause) => return Err(Unbegun::Unmade(cause)),
+    };
+    let what = run_asked(alloc, &asked, head, reader, writer, notes, &mut rejects);
+    let cause = rejects.cause();
+    Ok(Kept { what, cause })
+}
+
+/// The same of the files that the settings name, one behind another, as [`pass_files`] says.
+pub fn check_files<F: Files<K, N> + Makes, S: Input<K, N> + Explains, K: Sink, N: Sink>(
+    alloc: Global,
+    files: &F,
+    schema_bytes: Option<&[u8]>,
+    settings: &Settings,
+    reader: &mut S,
+    writer: &mut K,
+    notes: &mut N,
+) -> Result<Kept<Passed>, Unbegun>
     requires ranges { AreInRange settings.now }
     requires few { S.calls reader.old < 2 ^ 64 }
     requires leave { HasLeave S.Input (ends_of S.Input K.Sink N.Sink reader.old writer.old notes.old) (IsPromptAmongAsked (folder_of F.Files F.Opened.Input F.Opened.Explains files.now) schema_bytes settings.now) }
@@ -106,20 +175,51 @@ pub fn check_files<F: Files<K, N>, S: Input<K, N> + Explains, K: Sink, N: Sink>(
     let mut asked = asked_of(alloc, schema_bytes, settings)?;
     let names = settings.files.as_slice();
     let head = head_of(alloc, &asked.options, names)?;
-    if let Err(fault) = write_head(writer, head.as_slice()) {
-        return Ok(Passed::none(fault));
+    let head = head.as_slice();
+    let Some(name) = &settings.rejects else {
+        let mut rejects = Nowhere::new();
+        let what = pass_asked(
+            alloc, files, names, &mut asked, head, reader, writer, notes, &mut rejects,
+        );
+        return Ok(Kept { what, cause: None });
+    };
+    let mut rejects = match files.make(name.as_str()) {
+        Ok(file) => file,
+        Err(cause) => return Err(Unbegun::Unmade(cause)),
+    };
+    let what = pass_asked(
+        alloc, files, names, &mut asked, head, reader, writer, notes, &mut rejects,
+    );
+    let cause = rejects.cause();
+    Ok(Kept { what, cause })
+}
+
+/// Goes through files by what is asked, behind this head.
+fn pass_asked<F: Files<K, N>, S: Input<K, N> + Explains, K: Sink, N: Sink, R: Sink>(
+    alloc: Global,
+    files: &F,
+    names: &[String],
+    asked: &mut Asked<'_>,
+    head: &[u8],
+    reader: &mut S,
+    writer: &mut K,
+    notes: &mut N,
+    rejects: &mut R,
+) -> Passed {
+    if let Err(fault) = write_head(writer, head) {
+        return Passed::none(fault);
     }
-    let lent = &mut asked;
-    Ok(pass_files(
+    pass_files(
         alloc,
         files,
         names,
-        &lent.schema,
-        &mut lent.options,
+        &asked.schema,
+        &mut asked.options,
         reader,
         writer,
         notes,
-    ))
+        rejects,
+    )
 }
 
 /// The same without notes: what would be noted is dropped, and only where messages are filtered or rows are asked for is

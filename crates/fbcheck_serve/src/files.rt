@@ -8,6 +8,7 @@ use fb_bytes::Sink;
 use fb_run::Input;
 use fbcheck_texts::causes::Explains;
 use fbcheck_texts::fault::FileFault;
+use std::io::ErrorKind;
 
 /// Files that are read by their names, beside a writer and notes of these types.
 pub trait Files<K: Sink, N: Sink> {
@@ -32,6 +33,20 @@ pub trait Files<K: Sink, N: Sink> {
         ensures unended { IfOk result (λ file. Self.Opened.ended file ≡ false) }
         ensures bytes { IfOk result (λ file. IfSome (Self.Opened.remaining file) (λ bytes. gives self.now name.now (Ok bytes))) }
         ensures fault { IfErr result (λ fault. gives self.now name.now (Err fault)) };
+}
+
+/// Files that are made by their names.
+pub trait Makes {
+    /// A file that is made.
+    type Made: Sink + Explains + Drop;
+
+    /// What may be made by this name.
+    ghost makes: { Self → List ℕ → Self.Made → Type 0 };
+
+    /// The file of this name, made or emptied, to be written from its start; or why it can't be.
+    fn make(&self, name: &str) -> Result<Self::Made, ErrorKind>
+        ensures made { IfOk result (λ file. makes self.now name.now file) }
+        ensures fresh { IfOk result (λ file. Self.Made.failures file ≡ 0) };
 }
 
 /// The bytes of the schema file, where one is named.

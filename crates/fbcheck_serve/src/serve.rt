@@ -9,16 +9,16 @@ ghost use Rattle.fbcheck_serve.specs.Serving.{ComesAsAsked, ComesTo, EndsFiles, 
 ghost use Rattle.fbcheck_words.specs.Ranges.{AreInRange};
 
 use crate::asked::{by, form, manner};
-use crate::check::{check_beside, check_files};
-use crate::files::{Files, read_schema};
+use crate::check::{Kept, Unbegun, check_files, check_keeping};
+use crate::files::{Files, Makes, read_schema};
 use crate::inputs::Passed;
 use crate::stop::{Ending, Stop, Sums, exit_status, sum_up, tell};
 use clap::Error;
 use fb_bytes::Sink;
-use fb_run::{Form, Input, MOST_TURNS, Ran, Tally, push_all};
+use fb_run::{Form, Input, MOST_TURNS, Ran, RunFault, Tally, push_all};
 use fbcheck_texts::causes::{Causes, Explains};
 use fbcheck_texts::fault::WordsFault;
-use fbcheck_texts::hint::{Unasked, file_hint, words_hint};
+use fbcheck_texts::hint::{file_hint, words_hint};
 use fbcheck_words::{Settings, SettingsFault, settings};
 use std::alloc::{AllocError, Global};
 
@@ -26,7 +26,7 @@ use std::alloc::{AllocError, Global};
 /// name, checks the buffers of the reader by it, and tells of them as [`check_beside`](crate::check::check_beside)
 /// does; or writes help, where it is asked for. Behind what they have the notes get a line of what was counted, where
 /// the words ask for it, and then why it came to rest before the end.
-pub fn serve<F: Files<K, N>, S: Input<K, N> + Explains, K: Sink + Explains, N: Sink>(
+pub fn serve<F: Files<K, N> + Makes, S: Input<K, N> + Explains, K: Sink + Explains, N: Sink>(
     alloc: Global,
     words: Result<Vec<String>, WordsFault>,
     files: &F,
@@ -57,7 +57,7 @@ pub fn serve<F: Files<K, N>, S: Input<K, N> + Explains, K: Sink + Explains, N: S
 }
 
 /// What the program comes to, the numbers of the run, where these are to be told, and the form in which faults are.
-fn come_to<F: Files<K, N>, S: Input<K, N> + Explains, K: Sink, N: Sink>(
+fn come_to<F: Files<K, N> + Makes, S: Input<K, N> + Explains, K: Sink, N: Sink>(
     alloc: Global,
     words: Result<Vec<String>, WordsFault>,
     files: &F,
@@ -103,7 +103,7 @@ fn come_to<F: Files<K, N>, S: Input<K, N> + Explains, K: Sink, N: Sink>(
 }
 
 /// The same by what the words ask for, and by the bytes of the schema file that they name.
-fn check_by<F: Files<K, N>, S: Input<K, N> + Explains, K: Sink, N: Sink>(
+fn check_by<F: Files<K, N> + Makes, S: Input<K, N> + Explains, K: Sink, N: Sink>(
     alloc: Global,
     files: &F,
     file: Option<&[u8]>,
@@ -123,7 +123,7 @@ fn check_by<F: Files<K, N>, S: Input<K, N> + Explains, K: Sink, N: Sink>(
         × Rests (ends_of S.Input K.Sink N.Sink reader.old writer.old notes.old) (ends_of S.Input K.Sink N.Sink reader.new writer.new notes.new) sums.new result }
 {
     if settings.files.as_slice().is_empty() {
-        let ran = check_beside(alloc, file, settings, reader, writer, notes);
+        let ran = check_keeping(alloc, files, file, settings, reader, writer, notes);
         return run_ending(settings, ran, sums);
     }
     let passed = check_files(alloc, files, file, settings, reader, writer, notes);
@@ -133,20 +133,21 @@ fn check_by<F: Files<K, N>, S: Input<K, N> + Explains, K: Sink, N: Sink>(
 /// How the program ends by what a run over an input came to, and the numbers that are told then.
 fn run_ending(
     settings: &Settings,
-    ran: Result<Ran, Unasked>,
+    ran: Result<Kept<Ran>, Unbegun>,
     sums: &mut Option<Sums>,
 ) -> Result<Ending, Stop>
     ensures { EndsRun settings.now ran sums.new result }
 {
     *sums = None;
-    let ran = match ran {
-        Ok(ran) => ran,
-        Err(unasked) => return Err(Stop::Ask(unasked)),
+    let Kept { what: ran, cause } = match ran {
+        Ok(kept) => kept,
+        Err(unbegun) => return Err(Stop::from(unbegun)),
     };
     *sums = summed(settings, ran.tally);
     let manner = manner(settings);
     match ran.end {
         Ok(()) => Ok(Ending::Checked(ran.tally, manner)),
+        Err(RunFault::RejectFault { written }) => Err(Stop::Unkept { written, cause }),
         Err(fault) => Err(Stop::Run(fault, ran.tally, manner)),
     }
 }
@@ -154,19 +155,20 @@ fn run_ending(
 /// The same by what files came to.
 fn files_ending(
     settings: &Settings,
-    passed: Result<Passed, Unasked>,
+    passed: Result<Kept<Passed>, Unbegun>,
     sums: &mut Option<Sums>,
 ) -> Result<Ending, Stop>
     ensures { EndsFiles settings.now passed sums.new result }
 {
     *sums = None;
-    let passed = match passed {
-        Ok(passed) => passed,
-        Err(unasked) => return Err(Stop::Ask(unasked)),
+    let Kept { what: passed, cause } = match passed {
+        Ok(kept) => kept,
+        Err(unbegun) => return Err(Stop::from(unbegun)),
     };
     *sums = summed(settings, passed.course.tally);
     match passed.end {
         Ok(()) => Ok(Ending::Passed(passed.course, by(settings))),
+        Err(RunFault::RejectFault { written }) => Err(Stop::Unkept { written, cause }),
         Err(fault) => Err(Stop::Halted(fault)),
     }
 }
