@@ -1,12 +1,13 @@
 -- What is told of a message by its verdict.
-use Rattle.std.proofs.Common.{◌≡◌, ◌≢◌, ◌⊎◌, inl, inr, ℕ, ◌+◌, ◌++◌, ◌∙◌, List, [], Result, Ok, Err, IsTrue, ap, append-nil, append_assoc, codes, refl, subst, sym}
+use Rattle.std.proofs.Common.{◌≡◌, ◌≢◌, ◌⊎◌, inl, inr, ℕ, ◌+◌, ◌++◌, ◌∙◌, List, [], Result, Ok, Err, IsTrue, ap, append-nil, append_assoc, codes, length, refl, subst, sym, take}
+use Rattle.std.proofs.Math.Seq.{take-append_seam}
 use Rattle.std.specs.Prelude.{map}
 use Rattle.fb_lines.specs.{AnswerText.label_text, Job.IsVerdict, Job.Job, Job.No, Job.Verdict, Job.Yes, Job.buffer_in, Job.is_brief, Sums.tally_with, Wanted.Wanted}
 use Rattle.fb_lines.specs.AnswerText.{answers_text}
 use Rattle.fb_lines.specs.Csv.{IsRow}
 use Rattle.fb_lines.specs.Json.{begin_part, counts_part, following}
 use Rattle.fb_lines.specs.Line.{IsLine, IsLineBy, IsLineIn, IsRest, SaidBy, ToldBy, front_in, rejected, short_line, verdict_line}
-use Rattle.fb_lines.specs.Puts.{Adds, AddsBy, AddsOr, AreSo, Held, Puts, PutsAll, PutsSome, Queue, Queues, Says, Tells, Waits}
+use Rattle.fb_lines.specs.Puts.{Adds, AddsBy, AddsOr, AreSo, Held, Puts, PutsAll, PutsSome, Queue, Queues, Says, Tells, Waits, holding}
 use Rattle.fb_lines.specs.Spot.{Before, spot_of}
 use Rattle.fb_lines.specs.declared.spot.Spot.{Spot}
 use Rattle.fb_lines.specs.Texts.{Texts, silent, spoken, to_notes, to_out}
@@ -165,3 +166,9 @@ module _ (mode : Mode) (P : List ℕ → Type 0) (message : List ℕ) (v : Verdi
     pub note_said : (bad : No) (line : List ℕ) → v ≡ Err bad → (mode ≡ Filter) ⊎ (mode ≡ Csv) → P line → after ≡ before → notes' ≡ notes ++ line → Says mode P message v before after notes notes'
     note_said bad line is (inl filter) holds kept added = record { said = to_notes line; is_said = rw (filter, is) (line, holds, refl); puts = subst (λ q. Puts [] before q) (sym kept) (puts_none before); notes_are = added }
     note_said bad line is (inr csv) holds kept added = record { said = to_notes line; is_said = rw (csv, is) (line, holds, refl); puts = subst (λ q. Puts [] before q) (sym kept) (puts_none before); notes_are = added }
+
+-- a bad message was put behind others, and taken off again
+pub held_again : (notes notes' rejects more rejects' : List ℕ) (n : ℕ) → notes' ≡ notes → n ≡ length rejects → rejects' ≡ take n (rejects ++ more)
+    → holding notes' rejects' ≡ holding notes rejects
+held_again notes notes' rejects more rejects' n same is taken =
+    ap (λ l. holding l rejects') same ∙ ap (λ l. holding notes l) (taken ∙ ap (λ k. take k (rejects ++ more)) is ∙ take-append_seam rejects more)

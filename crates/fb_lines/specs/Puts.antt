@@ -107,8 +107,11 @@ pub record Held : Type 0 where
   pub notes : List ℕ
   pub rejects : List ℕ
 
+abbrev pub holding : List ℕ → List ℕ → Held
+holding notes rejects = record { notes = notes; rejects = rejects }
+
 abbrev pub held_of : {A : Type 0} → Output A → Held
-held_of output = record { notes = output.notes.bytes.items; rejects = output.rejects.bytes.items }
+held_of output = holding output.notes.bytes.items output.rejects.bytes.items
 
 -- what is said of it was put there
 pub record Says (mode : Mode) (IsItsLine : List ℕ → Type 0) (message : List ℕ) (verdict : Verdict) (before after : Queue) (notes notes' : List ℕ) : Type 0 where
