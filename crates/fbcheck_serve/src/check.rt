@@ -1,14 +1,18 @@
 //! A run by a schema file, as the settings of the command line ask.
 
-ghost use Rattle.std.specs.Prelude.{Err, IfErr, IfOk, OnErr, length, ◌≡◌, ◌⊎◌, ◌+◌, ◌<◌, ◌≤◌, ◌^◌};
+ghost use Rattle.std.specs.Prelude.{Err, IfErr, IfOk, OnErr, [], length, map, string_bytes, ◌≡◌, ◌⊎◌, ◌+◌, ◌<◌, ◌≤◌, ◌^◌};
 ghost use Rattle.fb_rules.specs.Reasons.{reason_count};
 ghost use Rattle.fbcheck_words.specs.Ranges.{AreInRange};
-ghost use Rattle.fbcheck_serve.specs.Checking.{EndsChecked, IsChecked, IsCheckedBeside, IsPromptAmongAsked, IsPromptAsAsked, IsServedEach, IsUnasked, MayReadAsked};
-ghost use Rattle.fbcheck_serve.specs.Inputs.{folder_of, seen_of};
+ghost use Rattle.fbcheck_serve.specs.Checking.{EndsChecked, IsChecked, IsCheckedBeside, IsPromptAmongAsked, IsPromptAsAsked, IsUnasked, MayReadAsked};
+ghost use Rattle.fbcheck_serve.specs.Heads.{IsHeaded, RunsBehindHead, ServesBehindHead, head_of};
+ghost use Rattle.fbcheck_serve.specs.Keeping.{IsCheckedKeeping, IsServedKeeping, maker_of};
+ghost use Rattle.fbcheck_serve.specs.Inputs.{IsPromptAmong, MayReadEach, all_seen, folder_of, seen_of};
+ghost use Rattle.fb_lines.specs.{Ends.Ends, Job.Serves, Job.job_of};
+ghost use Rattle.fb_run.specs.Prompt.{IsPrompt};
 ghost use Rattle.fb_lines.specs.Faults.{EndsBeside};
 ghost use Rattle.fb_lines.specs.declared.fault.RunFault.TheVariants.{TooManyTurns};
 ghost use Rattle.fbcheck_serve.specs.declared.check.Unbegun.TheVariants.{Ask};
-ghost use Rattle.fb_run.specs.Leave.{HasLeave, ends_of, noteless};
+ghost use Rattle.fb_run.specs.Leave.{HasLeave, all_ends, ends_of, noteless};
 
 use crate::asked::{Asked, asked_of};
 use crate::files::{Files, Makes};
@@ -77,7 +81,20 @@ fn run_asked<S: Input<K, N>, K: Sink, N: Sink, R: Sink>(
     writer: &mut K,
     notes: &mut N,
     rejects: &mut R,
-) -> Ran {
+) -> Ran
+    requires serves { Serves asked.now.schema asked.now.options }
+    requires few { S.calls reader.old < 2 ^ 64 }
+    requires head { head.now ≡ head_of (job_of asked.now.schema asked.now.options) [] }
+    requires leave { (headed : Ends) → IsHeaded (job_of asked.now.schema asked.now.options) [] (all_ends S.Input K.Sink N.Sink R.Sink reader.old writer.old notes.old rejects.old) headed
+        → HasLeave S.Input headed (IsPrompt (job_of asked.now.schema asked.now.options)) }
+
+    ensures run { RunsBehindHead (job_of asked.now.schema asked.now.options) (all_ends S.Input K.Sink N.Sink R.Sink reader.old writer.old notes.old rejects.old)
+        (all_ends S.Input K.Sink N.Sink R.Sink reader.new writer.new notes.new rejects.new) result.tally result.end }
+    ensures places { length result.tally.reasons ≡ reason_count }
+    ensures end { EndsBeside (all_ends S.Input K.Sink N.Sink R.Sink reader.old writer.old notes.old rejects.old)
+        (all_ends S.Input K.Sink N.Sink R.Sink reader.new writer.new notes.new rejects.new) MOST_TURNS result.end }
+    ensures turns { S.calls reader.new ≤ S.calls reader.old + MOST_TURNS }
+{
     if let Err(fault) = write_head(writer, head) {
         return Ran::none(fault);
     }
@@ -131,7 +148,19 @@ pub fn check_keeping<F: Makes, S: Input<K, N>, K: Sink, N: Sink>(
     reader: &mut S,
     writer: &mut K,
     notes: &mut N,
-) -> Result<Kept<Ran>, Unbegun> {
+) -> Result<Kept<Ran>, Unbegun>
+    requires ranges { AreInRange settings.now }
+    requires few { S.calls reader.old < 2 ^ 64 }
+    requires leave { HasLeave S.Input (ends_of S.Input K.Sink N.Sink reader.old writer.old notes.old) (IsPromptAsAsked schema_bytes settings.now) }
+
+    ensures run { IsCheckedKeeping (maker_of F.Makes F.Made.Sink files.now) schema_bytes.entry settings.now (ends_of S.Input K.Sink N.Sink reader.old writer.old notes.old)
+        (ends_of S.Input K.Sink N.Sink reader.new writer.new notes.new) result }
+    ensures places { IfOk result (λ kept. length kept.what.tally.reasons ≡ reason_count) }
+    ensures unread { OnErr result (reader.new ≡ reader.old) }
+    ensures unwritten { OnErr result (writer.new ≡ writer.old) }
+    ensures unnoted { OnErr result (notes.new ≡ notes.old) }
+    ensures turns { S.calls reader.new ≤ S.calls reader.old + MOST_TURNS }
+{
     let asked = asked_of(alloc, schema_bytes, settings)?;
     let head = head_of(alloc, &asked.options, &[])?;
     let head = head.as_slice();
@@ -164,9 +193,9 @@ pub fn check_files<F: Files<K, N> + Makes, S: Input<K, N> + Explains, K: Sink, N
     requires leave { HasLeave S.Input (ends_of S.Input K.Sink N.Sink reader.old writer.old notes.old) (IsPromptAmongAsked (folder_of F.Files F.Opened.Input F.Opened.Explains files.now) schema_bytes settings.now) }
     requires files { MayReadAsked (folder_of F.Files F.Opened.Input F.Opened.Explains files.now) schema_bytes settings.now (ends_of S.Input K.Sink N.Sink reader.old writer.old notes.old) }
 
-    ensures served { IsServedEach (folder_of F.Files F.Opened.Input F.Opened.Explains files.now) schema_bytes.entry settings.now (seen_of S.Input S.Explains K.Sink N.Sink reader.old writer.old notes.old)
+    ensures served { IsServedKeeping (maker_of F.Makes F.Made.Sink files.now) (folder_of F.Files F.Opened.Input F.Opened.Explains files.now) schema_bytes.entry settings.now (seen_of S.Input S.Explains K.Sink N.Sink reader.old writer.old notes.old)
         (seen_of S.Input S.Explains K.Sink N.Sink reader.new writer.new notes.new) result }
-    ensures places { IfOk result (λ passed. length passed.course.tally.reasons ≡ reason_count) }
+    ensures places { IfOk result (λ kept. length kept.what.course.tally.reasons ≡ reason_count) }
     ensures unread { OnErr result (reader.new ≡ reader.old) }
     ensures unwritten { OnErr result (writer.new ≡ writer.old) }
     ensures unnoted { OnErr result (notes.new ≡ notes.old) }
@@ -205,7 +234,20 @@ fn pass_asked<F: Files<K, N>, S: Input<K, N> + Explains, K: Sink, N: Sink, R: Si
     writer: &mut K,
     notes: &mut N,
     rejects: &mut R,
-) -> Passed {
+) -> Passed
+    requires serves { Serves asked.old.schema asked.old.options }
+    requires few { S.calls reader.old < 2 ^ 64 }
+    requires head { head.now ≡ head_of (job_of asked.old.schema asked.old.options) (map string_bytes names.now) }
+    requires leave { (headed : Ends) → IsHeaded (job_of asked.old.schema asked.old.options) (map string_bytes names.now) (all_ends S.Input K.Sink N.Sink R.Sink reader.old writer.old notes.old rejects.old) headed
+        → HasLeave S.Input headed (IsPromptAmong (folder_of F.Files F.Opened.Input F.Opened.Explains files.now) (job_of asked.old.schema asked.old.options) (map string_bytes names.now)) }
+    requires files { (headed : Ends) → IsHeaded (job_of asked.old.schema asked.old.options) (map string_bytes names.now) (all_ends S.Input K.Sink N.Sink R.Sink reader.old writer.old notes.old rejects.old) headed
+        → MayReadEach (folder_of F.Files F.Opened.Input F.Opened.Explains files.now) (job_of asked.old.schema asked.old.options) (map string_bytes names.now) headed }
+
+    ensures served { ServesBehindHead (folder_of F.Files F.Opened.Input F.Opened.Explains files.now) (job_of asked.old.schema asked.old.options) (map string_bytes names.now)
+        (all_seen S.Input S.Explains K.Sink N.Sink R.Sink reader.old writer.old notes.old rejects.old) (all_seen S.Input S.Explains K.Sink N.Sink R.Sink reader.new writer.new notes.new rejects.new) result.course result.end }
+    ensures places { length result.course.tally.reasons ≡ reason_count }
+    ensures turns { S.calls reader.new ≤ S.calls reader.old + MOST_TURNS }
+{
     if let Err(fault) = write_head(writer, head) {
         return Passed::none(fault);
     }

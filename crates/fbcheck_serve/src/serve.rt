@@ -1,9 +1,9 @@
 //! What the program does, from its words to its exit status.
 
 ghost use Rattle.std.specs.Prelude.{IfOk, ◌≡◌, ◌+◌, ◌<◌, ◌≤◌, ◌^◌, ℕ, string_len};
-ghost use Rattle.fb_lines.specs.Ends.{Reader, Writer, beside, writer_of};
+ghost use Rattle.fb_lines.specs.Ends.{Reader, Writer, beside, nowhere, writer_of};
 ghost use Rattle.fb_run.specs.Leave.{HasLeave, ends_of};
-ghost use Rattle.fbcheck_serve.specs.Inputs.{folder_of, seen_of};
+ghost use Rattle.fbcheck_serve.specs.{Inputs.folder_of, Inputs.seen_of, Keeping.maker_of};
 ghost use Rattle.fbcheck_serve.specs.Checking.{IsPromptOverAsked, MayReadAsked};
 ghost use Rattle.fbcheck_serve.specs.Serving.{ComesAsAsked, ComesTo, EndsFiles, EndsRun, EndsSo, IsPromptAsGiven, IsServed, MayReadAsGiven, Rests, TellsAsGiven, Unserved, summed, words_of};
 ghost use Rattle.fbcheck_words.specs.Ranges.{AreInRange};
@@ -38,7 +38,7 @@ pub fn serve<F: Files<K, N> + Makes, S: Input<K, N> + Explains, K: Sink + Explai
     requires leave { HasLeave S.Input (ends_of S.Input K.Sink N.Sink reader.old writer.old notes.old) (IsPromptAsGiven (folder_of F.Files F.Opened.Input F.Opened.Explains files.now) (words_of words)) }
     requires files { MayReadAsGiven (folder_of F.Files F.Opened.Input F.Opened.Explains files.now) (words_of words) (ends_of S.Input K.Sink N.Sink reader.old writer.old notes.old) }
 
-    ensures served { IsServed (folder_of F.Files F.Opened.Input F.Opened.Explains files.now) (words_of words) (seen_of S.Input S.Explains K.Sink N.Sink reader.old writer.old notes.old)
+    ensures served { IsServed (maker_of F.Makes F.Made.Sink files.now) (folder_of F.Files F.Opened.Input F.Opened.Explains files.now) (words_of words) (seen_of S.Input S.Explains K.Sink N.Sink reader.old writer.old notes.old)
         (seen_of S.Input S.Explains K.Sink N.Sink reader.new writer.new notes.new) (K.Explains.cause writer.new) MOST_TURNS result }
     ensures turns { S.calls reader.new ≤ S.calls reader.old + MOST_TURNS }
 {
@@ -72,7 +72,7 @@ fn come_to<F: Files<K, N> + Makes, S: Input<K, N> + Explains, K: Sink, N: Sink>(
     requires files { MayReadAsGiven (folder_of F.Files F.Opened.Input F.Opened.Explains files.now) (words_of words) (ends_of S.Input K.Sink N.Sink reader.old writer.old notes.old) }
 
     ensures form { TellsAsGiven (words_of words) result told.new }
-    ensures comes { ComesTo (folder_of F.Files F.Opened.Input F.Opened.Explains files.now) (words_of words) (seen_of S.Input S.Explains K.Sink N.Sink reader.old writer.old notes.old)
+    ensures comes { ComesTo (maker_of F.Makes F.Made.Sink files.now) (folder_of F.Files F.Opened.Input F.Opened.Explains files.now) (words_of words) (seen_of S.Input S.Explains K.Sink N.Sink reader.old writer.old notes.old)
         (seen_of S.Input S.Explains K.Sink N.Sink reader.new writer.new notes.new) sums.new result
         × Rests (ends_of S.Input K.Sink N.Sink reader.old writer.old notes.old) (ends_of S.Input K.Sink N.Sink reader.new writer.new notes.new) sums.new result }
 {
@@ -118,7 +118,7 @@ fn check_by<F: Files<K, N> + Makes, S: Input<K, N> + Explains, K: Sink, N: Sink>
     requires leave { HasLeave S.Input (ends_of S.Input K.Sink N.Sink reader.old writer.old notes.old) (IsPromptOverAsked (folder_of F.Files F.Opened.Input F.Opened.Explains files.now) file settings.now) }
     requires files { MayReadAsked (folder_of F.Files F.Opened.Input F.Opened.Explains files.now) file settings.now (ends_of S.Input K.Sink N.Sink reader.old writer.old notes.old) }
 
-    ensures { ComesAsAsked (folder_of F.Files F.Opened.Input F.Opened.Explains files.now) file.entry settings.now (seen_of S.Input S.Explains K.Sink N.Sink reader.old writer.old notes.old)
+    ensures { ComesAsAsked (maker_of F.Makes F.Made.Sink files.now) (folder_of F.Files F.Opened.Input F.Opened.Explains files.now) file.entry settings.now (seen_of S.Input S.Explains K.Sink N.Sink reader.old writer.old notes.old)
         (seen_of S.Input S.Explains K.Sink N.Sink reader.new writer.new notes.new) sums.new result
         × Rests (ends_of S.Input K.Sink N.Sink reader.old writer.old notes.old) (ends_of S.Input K.Sink N.Sink reader.new writer.new notes.new) sums.new result }
 {
@@ -202,8 +202,8 @@ fn without_settings<K: Sink>(
     writer: &mut K,
 ) -> Result<Ending, Stop>
     ensures { Unserved fault (writer_of K.Sink writer.old) (writer_of K.Sink writer.new) result
-        × ((reader : Reader) (notes : Writer) (turns : ℕ) → EndsSo (beside reader (record { writer = writer_of K.Sink writer.old; notes = notes }))
-        (beside reader (record { writer = writer_of K.Sink writer.new; notes = notes })) turns result) }
+        × ((reader : Reader) (notes : Writer) (turns : ℕ) → EndsSo (beside reader (record { writer = writer_of K.Sink writer.old; notes = notes; rejects = nowhere }))
+        (beside reader (record { writer = writer_of K.Sink writer.new; notes = notes; rejects = nowhere })) turns result) }
 {
     let status = fault.status();
     let SettingsFault::Usage(error) = &fault else {
