@@ -8,7 +8,7 @@ use Rattle.std.proofs.Math.Seq.{take-append_seam}
 use Rattle.fb_bytes.specs.declared.ends.Sink as sink
 use Rattle.fb_lines.specs.declared.output.Output.{Output}
 use Rattle.fb_lines.specs.Ends.{Outs, Reader, all_outs, beside}
-use Rattle.fb_lines.specs.{Job.Job, Job.Verdict, Job.checked_in, Line.IsLine, Line.SaidBy, Spot.at_first, Spot.past_all, Spot.spot_of, Sums.no_tally}
+use Rattle.fb_lines.specs.{Job.Job, Job.Verdict, Job.checked_in, Line.IsLine, Line.SaidBy, Spot.Before, Spot.at_first, Spot.past_all, Spot.spot_of, Sums.no_tally}
 use Rattle.fb_lines.specs.Faults.{End, EndsBeside}
 use Rattle.fb_lines.specs.Lines.{ComesBehind, TakesFront, WritesFront, WritesFronts}
 use Rattle.fb_lines.specs.Puts.{Adds, AddsBy, AreCut, AreSo, IsUnused, PutsAll, Queues, all_unused, queues_of}
@@ -29,7 +29,10 @@ unused_queues k n r output writer notes rejects ((none, out), (no_notes, noted),
 pub begun : (job : Job) (bytes : List ℕ) (first : Outs) (before now : Queues) (tally tally' : Tally) (end : End) → before ≡ all_unused first → tally ≡ no_tally
     → AddsBy job (past_all job tally) bytes before now tally tally' end → AddsBy job (at_first job) bytes (all_unused first) now no_tally tally' end
 begun job bytes first before now tally tally' end unused counted adds =
-    subst (λ (q : Queues). AddsBy job (at_first job) bytes q now no_tally tally' end) unused (subst (λ (t : Tally). AddsBy job (past_all job t) bytes before now t tally' end) counted adds)
+    let here : past_all job no_tally ≡ at_first job = grind arith in
+    subst (λ (q : Queues). AddsBy job (at_first job) bytes q now no_tally tally' end) unused
+    (subst (λ (b : Before). AddsBy job b bytes before now no_tally tally' end) here
+    (subst (λ (t : Tally). AddsBy job (past_all job t) bytes before now t tally' end) counted adds))
 
 -- what holds where it went well
 pub on_ok : {P : Type 0} (end : End) → OnOk end P → end ≡ Ok tt → P

@@ -1,8 +1,8 @@
 -- Lines after lines.
-use Rattle.std.proofs.Common.{◌≡◌, ℕ, ◌+◌, List, [], ◌∷◌, ◌++◌, length, refl, sym, ap, subst, ◌∙◌, arith}
+use Rattle.std.proofs.Common.{◌≡◌, ℕ, ◌+◌, List, [], ◌∷◌, ◌++◌, refl, sym, ap, subst, ◌∙◌, arith}
 use Rattle.fb_lines.specs.{Job.Job, Job.Verdict, Line.IsTold, Lines.AreTold, Spot.Before, Spot.IsDue, Spot.at_first, Spot.past, Spot.past_all, Sums.tally_with, Texts.Texts, Texts.followed, Texts.silent}
 use Rattle.fb_lines.specs.declared.tally.Tally.{Tally}
-use Rattle.fb_lines.proofs.SumsLemmas.{counts_one, with_both}
+use Rattle.fb_lines.proofs.SumsLemmas.{with_both}
 use Rattle.fb_run.proofs.TextsLemmas.{followed_assoc, followed_silent}
 
 -- what stands before so many messages, and then behind these

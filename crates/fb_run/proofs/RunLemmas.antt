@@ -2,9 +2,9 @@
 use Rattle.std.proofs.Common.{◌≡◌, ℕ, ◌+◌, ◌-◌, ◌*◌, ◌<◌, ◌≤◌, Bool, true, false, List, [], ◌++◌, length, take, drop, refl, sym, ap, subst, ◌∙◌, arith, append-nil, length-take-le, take-append-drop, Result, Ok, Err, IsErrAnd}
 use Rattle.std.specs.Io.KnownBytes.{Consumes, Keeps}
 use Rattle.std.proofs.KnownBytes.{Consumes-kept, Consumes-nil, Consumes-trans, Keeps-refl}
-use Rattle.std.proofs.lemmas.List.{drop_all, length-append, length-drop}
-use mathlib.Core.Logic.{inl, inr}
-use Rattle.fb_bytes.specs.Messages.{IsPartial, Splits}
+use Rattle.std.proofs.lemmas.List.{drop_all, length-drop}
+use mathlib.Core.Logic.{◌⊎◌, inl, inr}
+use Rattle.fb_bytes.specs.Messages.{IsMessage, IsPartial, Splits}
 use Rattle.fb_bytes.specs.declared.stream_fault.StreamFault.TheVariants as stream
 use Rattle.fb_lines.specs.{Ends.Ends, Ends.Outs, Ends.Reader, Ends.Takes, Ends.beside, Job.Job, Job.checked_in, Lines.AreTold, Spot.IsDue, Spot.IsFull, Spot.at_first, Spot.past_all, Sums.count_of, Sums.no_tally}
 use Rattle.fb_lines.specs.Faults.{End, EndsBeside, IsCaused, IsCausedOut, IsUnfailedOut, end_of, failed}
@@ -340,23 +340,25 @@ module _ {job : Job} {first now : Reader} {before : Outs} {here : Carry} {skip :
     }
 
     -- with a message
-    pub passes_end : skip.left ≡ 0 → here.framer.held ≡ [] → Runs false job (beside first before) (beside reader (outs_in here.queues)) turns here.tally (Ok tt)
-    passes_end spent empty = record {
-      run = record {
-        bytes = sofar.bytes;
-        done = sofar.stands.messages;
-        left = [];
-        rest = here.framer.held;
-        text = sofar.stands.text;
-        read = whole;
-        splits = subst (λ (l : List (List ℕ)). Splits job.limit (checked_in job sofar.bytes) l here.framer.held) (sym (append-nil sofar.stands.messages)) sofar.stands.splits;
-        told = sofar.stands.told;
-        takes = takes;
-        stopped = inr (record { ended = ended; begun = omega (arith, spent, sofar.skips.left); none = refl; whole = empty });
-      };
-      end_is = (same ∙ sofar.asks.0, none.0, none.1, none.2);
-      turns_are = omega (arith, some, called, sofar.calls);
-    }
+    pub passes_end : skip.left ≡ 0 → (here.framer.held ≡ []) ⊎ IsMessage here.framer.limit here.framer.held → Runs false job (beside first before) (beside reader (outs_in here.queues)) turns here.tally (Ok tt)
+    passes_end spent held =
+        let empty : here.framer.held ≡ [] = elim held [ inl none ↦ none | inr message ↦ absurd (omega (arith, message.whole, (sofar.ready.part message.prefixed).0)) ] in
+        record {
+          run = record {
+            bytes = sofar.bytes;
+            done = sofar.stands.messages;
+            left = [];
+            rest = here.framer.held;
+            text = sofar.stands.text;
+            read = whole;
+            splits = subst (λ (l : List (List ℕ)). Splits job.limit (checked_in job sofar.bytes) l here.framer.held) (sym (append-nil sofar.stands.messages)) sofar.stands.splits;
+            told = sofar.stands.told;
+            takes = takes;
+            stopped = inr (record { ended = ended; begun = omega (arith, spent, sofar.skips.left); none = refl; whole = empty });
+          };
+          end_is = (same ∙ sofar.asks.0, none.0, none.1, none.2);
+          turns_are = omega (arith, some, called, sofar.calls);
+        }
 
 -- over a stream that is all a run is asked for
 pub prompt_from : {job : Job} {before now : Ends} → job.bare ≡ false → IsStreamPrompt job before now → IsPrompt job before now
@@ -365,14 +367,17 @@ prompt_from {job} {before} {now} is prompt = subst (λ b. IsPromptFrom b job bef
 -- without memory nothing is read or written, whatever the input is
 none_from : (from : Bool) (job : Job) (ends : Ends) → IsRunFrom from job ends ends no_tally (Err run.OutOfMemory)
 none_from true job ends =
-    ([], Consumes-nil ends.reader.left, (rw (drop_all job.begin [] (omega arith)) (omega arith), ((Keeps-refl ends.outs.writer.bytes, Keeps-refl ends.outs.notes.bytes, Keeps-refl ends.outs.rejects.bytes), refl)))
-none_from false job ends = record {
-  bytes = [];
-  text = silent;
-  read = Consumes-nil ends.reader.left;
-  takes = takes_none ends.outs ends.outs (Keeps-refl ends.outs.writer.bytes, Keeps-refl ends.outs.notes.bytes, Keeps-refl ends.outs.rejects.bytes);
-  rests = ([], [], splits_rest job.limit [] (inl (empty_partial job.limit)), ([], [], [], [], splits_rest job.limit [] (inl (empty_partial job.limit)), refl, (refl, refl)));
-}
+    ([], Consumes-nil ends.reader.left, (rw (drop_all {X = ℕ} job.begin [] (omega arith)) (omega arith), ((Keeps-refl ends.outs.writer.bytes, Keeps-refl ends.outs.notes.bytes, Keeps-refl ends.outs.rejects.bytes), refl)))
+none_from false job ends =
+    let nothing : Splits job.limit (checked_in job []) [] [] =
+    subst (λ (l : List ℕ). Splits job.limit l [] []) (sym (drop_all job.begin [] (omega arith))) (splits_rest job.limit [] (inl (empty_partial job.limit))) in
+    record {
+      bytes = [];
+      text = silent;
+      read = Consumes-nil ends.reader.left;
+      takes = takes_none ends.outs ends.outs (Keeps-refl ends.outs.writer.bytes, Keeps-refl ends.outs.notes.bytes, Keeps-refl ends.outs.rejects.bytes);
+      rests = ([], [], nothing, ([], [], [], [], nothing, refl, (refl, refl)));
+    }
 
 pub runs_none : (job : Job) (ends : Ends) (ran : Ran) → ran ≡ record { tally = no_tally; end = Err run.OutOfMemory } → IsRunBeside job ends ends ran.tally ran.end
 runs_none job ends ran is = subst (λ (t : Ran). IsRunBeside job ends ends t.tally t.end) (sym is) (none_from job.bare job ends)

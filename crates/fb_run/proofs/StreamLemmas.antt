@@ -1,5 +1,5 @@
 -- What was read and told, and then more of the stream.
-use Rattle.std.proofs.Common.{◌≡◌, ◌⊎◌, ℕ, ◌+◌, ◌-◌, ◌<◌, Bool, true≢false, List, [], ◌∷◌, ◌++◌, take, drop, refl, sym, ap, subst, ◌∙◌, arith, Result, Ok, Err, append-nil, append_assoc, length-append}
+use Rattle.std.proofs.Common.{◌≡◌, ◌⊎◌, ℕ, ◌-◌, ◌<◌, Bool, true≢false, List, [], ◌∷◌, ◌++◌, take, drop, refl, sym, ap, subst, ◌∙◌, arith, Result, Ok, Err, append-nil, append_assoc, length-append}
 use mathlib.Core.Logic.{inl, inr}
 use Rattle.fb_bytes.specs.Messages.{IsMessage, IsOversize, IsPartial, Splits}
 use Rattle.fb_bytes.specs.Framing.{Framing, Feeds, FeedFails}

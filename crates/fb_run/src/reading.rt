@@ -67,6 +67,7 @@ pub fn read_whole<A: Allocator, B: Allocator, S: Input<K, N>, K: Sink, N: Sink>(
     requires leave { HasLeave S.Input (ends_of S.Input K.Sink N.Sink source.old writer.now notes.now) (IsBarePrompt checker.now) }
     ensures reads { ReadsBy checker.now turns (reader_of S.Input source.old) (reader_of S.Input source.new) result }
     ensures turns { S.calls source.new ≤ S.calls source.old + turns }
+    ensures short { IfOk result (λ whole. length whole.items < 2 ^ 31) }
 {
     let limit = checker.limit();
     let mut whole = Vec::new(alloc);

@@ -1,8 +1,8 @@
-use Rattle.std.proofs.Common.{arith, rules, sym, ◌∙◌}
+use Rattle.std.proofs.Common.{arith, rules, sym, ◌≡◌, ◌∙◌}
 use Rattle.fb_lines.specs.Ends.{all_outs}
 use Rattle.fb_run.specs.{Leave.all_ends, Leave.reader_of, Pieces.carry_of}
 use Rattle.fb_run.proofs.BareLemmas.{unused_queues}
-use Rattle.fb_run.proofs.RunLemmas.{err_is, fails_piece, fails_read, fails_short, fails_turns, full_piece, passes_end, runs_from, sofar_nothing, sofar_piece, prompt_from, sofar_prompt}
+use Rattle.fb_run.proofs.RunLemmas.{err_is, fails_piece, fails_read, fails_turns, full_piece, passes_end, runs_from, sofar_nothing, sofar_piece, prompt_from, sofar_prompt}
 use Rattle.fb_run.proofs.StreamLemmas.{due_next}
 use Rattle.fb_run.proofs.stream.Carried.pass_all.Goals as goal
 
@@ -36,3 +36,35 @@ returns-in_err-pass_piece g c =
     rw (err_is _ _ c.from_residual-in_err-pass_piece.ensures.1)
     (runs_from (sym c.if-is_bare.false ∙ c.is_bare.ensures) (fails_piece c.loop-left.invariant.sofar _ _ _ (reader_of g.S.Input c.pull_piece.new.source) c.loop-left-test.true read.ok read.counted (omega (arith, read.failure)) behind
     (carry_of g.K.Sink g.N.Sink g.R.Sink c.pass_piece.new.self c.pass_piece.new.writer c.pass_piece.new.notes c.pass_piece.new.rejects) _ c.in_err-pass_piece.ensures))
+
+pub loop-left-preserved : goal.loop-left-preserved
+loop-left-preserved g c =
+    let read = c.in-Ok.ensures in
+    let before = c.loop-left.invariant in
+    let behind = rw c.as_slice.ensures.value at c.behind-more.ensures.rest in
+    record {
+      room = read.room ∙ before.room;
+      sofar = sofar_piece before.sofar _ _ _ (reader_of g.S.Input c.pull_piece.new.source) c.loop-left-test.true read.ok read.counted (omega (arith, read.failure)) behind (omega (arith, read.room, before.room)) read.fits (search rules)
+          c.behind-more.ensures.all (rw c.as_slice.ensures.value at c.behind-more.ensures.left) (due_next c.args.checker.now _ c.due.result (search rules) c.due.ensures.due) c.in_ok-pass_piece.ensures;
+    }
+
+pub returns-then-due-eq0 : goal.returns-then-due-eq0
+returns-then-due-eq0 g c =
+    let read = c.in-Ok.ensures in
+    let behind = rw c.as_slice.ensures.value at c.behind-more.ensures.rest in
+    runs_from (sym c.if-is_bare.false ∙ c.is_bare.ensures) (full_piece c.loop-left.invariant.sofar _ _ _ (reader_of g.S.Input c.pull_piece.new.source) c.loop-left-test.true read.ok read.counted (omega (arith, read.failure)) behind
+    (carry_of g.K.Sink g.N.Sink g.R.Sink c.pass_piece.new.self c.pass_piece.new.writer c.pass_piece.new.notes c.pass_piece.new.rejects) (c.due.ensures.full (search rules)) c.in_ok-pass_piece.ensures)
+
+pub returns-in-Err : goal.returns-in-Err
+returns-in-Err g c =
+    runs_from (sym c.if-is_bare.false ∙ c.is_bare.ensures) (fails_read c.loop-left.invariant.sofar (reader_of g.S.Input c.pull_piece.new.source) c.loop-left-test.true c.in-Err.ensures.err c.in-Err.ensures.counted (omega (arith, c.in-Err.ensures.failure)))
+
+pub returns : goal.returns
+returns g c = runs_from (sym c.if-is_bare.false ∙ c.is_bare.ensures) (fails_turns c.loop-left.invariant.sofar (omega (arith, c.loop-left-test.false)))
+
+pub returns-in-Ok-eq0 : goal.returns-in-Ok-eq0
+returns-in-Ok-eq0 g c =
+    let read = c.in-Ok-eq0.ensures in
+    let none : c.in-Ok-eq0.field-0 ≡ 0 = search rules in
+    runs_from (sym c.if-is_bare.false ∙ c.is_bare.ensures) (passes_end c.loop-left.invariant.sofar (reader_of g.S.Input c.pull_piece.new.source) c.loop-left-test.true (rw none at read.ok) read.counted (omega (arith, read.failure)) (read.end none)
+    c.in_ok-end-in-Ok-eq0.ensures.ok c.in_ok-finish-in-Ok-eq0.ensures.ok.2)
