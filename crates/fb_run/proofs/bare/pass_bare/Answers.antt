@@ -5,8 +5,9 @@ use Rattle.fb_run.proofs.{BareLemmas.bare_ends, BareLemmas.bare_stops, BareLemma
 use Rattle.fb_run.proofs.bare.pass_bare.Goals as goal
 
 pub read_whole-requires-clause-leave : goal.read_whole-requires-clause-leave
-read_whole-requires-clause-leave g c now (bytes, read, within, (unwritten, unnoted, same)) unended =
-    c.requires.leave (with_rejects now (writer_of g.R.Sink c.args.rejects.now)) (bytes, read, within, (unwritten, unnoted, Keeps-refl _)) unended
+read_whole-requires-clause-leave g c now prompt unended =
+    let (bytes, read, within, kept) = prompt in
+    c.requires.leave (with_rejects now (writer_of g.R.Sink c.args.rejects.now)) (bytes, read, within, (kept.0, kept.1, Keeps-refl _)) unended
 
 pub returns-in_err-whole : goal.returns-in_err-whole
 returns-in_err-whole g c =
