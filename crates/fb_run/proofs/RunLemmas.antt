@@ -132,7 +132,7 @@ halts_fails job first reader before bytes tally queues (run.RejectFault written)
     let gone : Texts = record { out = some.text.out; notes = some.text.notes; rejects = take front.taken some.text.rejects } in
     let more = drop front.taken some.text.rejects in
     let whole : some.text ≡ followed gone (to_rejects more) =
-        same_texts _ _ _ _ _ _ (sym (append-nil some.text.out)) (sym (append-nil some.text.notes)) (sym (take-append-drop front.taken some.text.rejects)) in
+    same_texts _ _ _ _ _ _ (sym (append-nil some.text.out)) (sym (append-nil some.text.notes)) (sym (take-append-drop front.taken some.text.rejects)) in
     let long : length gone.rejects ≡ front.taken = length-take-le front.taken some.text.rejects (omega (arith, front.within)) in
     record {
       bytes = bytes;

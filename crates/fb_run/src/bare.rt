@@ -11,7 +11,15 @@ use fb_lines::{Checker, Output, Room, RunFault};
 use std::alloc::Allocator;
 
 /// Reads the whole input, writes what is told of the buffer behind the bytes that are left out, and counts its verdict.
-pub fn pass_bare<A: Allocator, B: Allocator, C: Allocator, S: Input<K, N>, K: Sink, N: Sink, R: Sink>(
+pub fn pass_bare<
+    A: Allocator,
+    B: Allocator,
+    C: Allocator,
+    S: Input<K, N>,
+    K: Sink,
+    N: Sink,
+    R: Sink,
+>(
     alloc: B,
     output: &mut Output<A>,
     room: &mut Room<A>,

@@ -11,8 +11,8 @@ mod skip;
 mod stream;
 
 pub use fb_lines::{
-    AskedPath, Form, Line, MOST_PATHS, Mode, Nowhere, Options, Places, Prefix, Rejects, RunFault, Tally,
-    laws, push_all, put_bytes, put_head, status, summary,
+    AskedPath, Form, Line, MOST_PATHS, Mode, Nowhere, Options, Places, Prefix, Rejects, RunFault,
+    Tally, laws, push_all, put_bytes, put_head, status, summary,
 };
 pub use input::Input;
 pub use reading::MOST_TURNS;

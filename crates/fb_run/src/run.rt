@@ -97,7 +97,9 @@ pub fn run_keeping<A: Allocator, S: Input<K, N>, K: Sink, N: Sink, R: Sink>(
     let Ok(mut carried) = Carried::new(&alloc, &checker) else {
         return Ran::none(RunFault::OutOfMemory);
     };
-    let end = carried.pass_all(&alloc, &mut piece, reader, writer, notes, rejects, &checker, turns);
+    let end = carried.pass_all(
+        &alloc, &mut piece, reader, writer, notes, rejects, &checker, turns,
+    );
     let tally = carried.output.tally();
     Ran { tally, end }
 }
@@ -123,7 +125,16 @@ pub fn run_beside<A: Allocator, S: Input<K, N>, K: Sink, N: Sink>(
     ensures turns { S.calls reader.new ≤ S.calls reader.old + turns }
 {
     let mut rejects = Nowhere::new();
-    run_keeping(alloc, reader, writer, notes, &mut rejects, schema, options, turns)
+    run_keeping(
+        alloc,
+        reader,
+        writer,
+        notes,
+        &mut rejects,
+        schema,
+        options,
+        turns,
+    )
 }
 
 /// The same without notes too: what would be noted is dropped, and only [`Filter`](crate::Mode::Filter) and

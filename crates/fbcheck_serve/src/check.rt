@@ -69,7 +69,15 @@ pub fn check_beside<S: Input<K, N>, K: Sink, N: Sink>(
     let asked = asked_of(alloc, schema_bytes, settings)?;
     let head = head_of(alloc, &asked.options, &[])?;
     let mut rejects = Nowhere::new();
-    Ok(run_asked(alloc, &asked, head.as_slice(), reader, writer, notes, &mut rejects))
+    Ok(run_asked(
+        alloc,
+        &asked,
+        head.as_slice(),
+        reader,
+        writer,
+        notes,
+        &mut rejects,
+    ))
 }
 
 /// Runs over an input by what is asked, behind this head.
@@ -208,7 +216,15 @@ pub fn check_files<F: Files<K, N> + Makes, S: Input<K, N> + Explains, K: Sink, N
     let Some(name) = &settings.rejects else {
         let mut rejects = Nowhere::new();
         let what = pass_asked(
-            alloc, files, names, &mut asked, head, reader, writer, notes, &mut rejects,
+            alloc,
+            files,
+            names,
+            &mut asked,
+            head,
+            reader,
+            writer,
+            notes,
+            &mut rejects,
         );
         return Ok(Kept { what, cause: None });
     };
@@ -217,7 +233,15 @@ pub fn check_files<F: Files<K, N> + Makes, S: Input<K, N> + Explains, K: Sink, N
         Err(cause) => return Err(Unbegun::Unmade(cause)),
     };
     let what = pass_asked(
-        alloc, files, names, &mut asked, head, reader, writer, notes, &mut rejects,
+        alloc,
+        files,
+        names,
+        &mut asked,
+        head,
+        reader,
+        writer,
+        notes,
+        &mut rejects,
     );
     let cause = rejects.cause();
     Ok(Kept { what, cause })

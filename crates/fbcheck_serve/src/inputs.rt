@@ -14,7 +14,8 @@ use crate::files::Files;
 use crate::stop::note;
 use fb_bytes::Sink;
 use fb_run::{
-    Form, Input, MOST_TURNS, Options, Ran, RunFault, Tally, push_all, put_bytes, run_keeping, status,
+    Form, Input, MOST_TURNS, Options, Ran, RunFault, Tally, push_all, put_bytes, run_keeping,
+    status,
 };
 use fb_schema::Schema;
 use fb_verify::REASONS;
@@ -207,7 +208,15 @@ fn pass_file<F: Files<K, N>, S: Input<K, N> + Explains, K: Sink, N: Sink, R: Sin
     );
     *course = course.with(name, &came.what);
     let framing = Framing::of(options.bare, options.prefix);
-    tell_behind(alloc, options.form, name, framing, options.most_bad, &came, notes)
+    tell_behind(
+        alloc,
+        options.form,
+        name,
+        framing,
+        options.most_bad,
+        &came,
+        notes,
+    )
 }
 
 /// Runs over one file, where it can be read.
@@ -235,7 +244,9 @@ fn run_file<F: Files<K, N>, S: Input<K, N> + Explains, K: Sink, N: Sink, R: Sink
     if name == STANDARD {
         return match standard {
             Standard::Unread => {
-                let ran = run_keeping(alloc, reader, writer, notes, rejects, schema, options, MOST_TURNS);
+                let ran = run_keeping(
+                    alloc, reader, writer, notes, rejects, schema, options, MOST_TURNS,
+                );
                 Came::by(ran, reader)
             }
             Standard::Spent => Came::missed(Missed::Again),
@@ -243,7 +254,9 @@ fn run_file<F: Files<K, N>, S: Input<K, N> + Explains, K: Sink, N: Sink, R: Sink
     }
     match files.open(name) {
         Ok(mut file) => {
-            let ran = run_keeping(alloc, &mut file, writer, notes, rejects, schema, options, MOST_TURNS);
+            let ran = run_keeping(
+                alloc, &mut file, writer, notes, rejects, schema, options, MOST_TURNS,
+            );
             Came::by(ran, &file)
         }
         Err(fault) => Came::missed(Missed::File(fault)),

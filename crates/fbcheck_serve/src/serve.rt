@@ -161,7 +161,10 @@ fn files_ending(
     ensures { EndsFiles settings.now passed sums.new result }
 {
     *sums = None;
-    let Kept { what: passed, cause } = match passed {
+    let Kept {
+        what: passed,
+        cause,
+    } = match passed {
         Ok(kept) => kept,
         Err(unbegun) => return Err(Stop::from(unbegun)),
     };

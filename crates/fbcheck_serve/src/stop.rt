@@ -21,8 +21,8 @@ use fbcheck_texts::fault_json::{fault_object, hint_object};
 use fbcheck_texts::framing::{By, Manner, by_hint, end_hint, run_hint};
 use fbcheck_texts::hint::{Hint, Unasked};
 use fbcheck_texts::texts::{
-    ask_text, failed_write, file_text, run_text, stopped_text, unkept_text, unmade_text, unsummed_text,
-    words_text,
+    ask_text, failed_write, file_text, run_text, stopped_text, unkept_text, unmade_text,
+    unsummed_text, words_text,
 };
 use fbcheck_words::SettingsFault;
 use std::alloc::{AllocError, Global};
@@ -61,7 +61,9 @@ pub enum Stop {
     /// The words give no settings for another cause.
     Settings(SettingsFault),
     /// Help was asked for, and the writer took only its first `written` bytes.
-    CutOff { written: usize },
+    CutOff {
+        written: usize,
+    },
     /// The rejects took only their first `written` bytes, for this cause where it is known.
     Unkept {
         written: u128,
@@ -70,7 +72,9 @@ pub enum Stop {
     /// The file for the rejects can't be made.
     Unmade(ErrorKind),
     /// The run came to its end, and of its summary only the first `written` bytes were taken.
-    Unsummed { written: usize },
+    Unsummed {
+        written: usize,
+    },
     /// The schema file can't be read, and this is told behind the cause.
     File(FileFault, Hint),
     /// There was nothing to check by.
@@ -173,7 +177,8 @@ impl Stop {
             Stop::Words(WordsFault::OutOfMemory, _) => 3,
             Stop::File(FileFault::Unreadable(_), _) => 2,
             Stop::File(FileFault::OutOfMemory, _) => 3,
-            Stop::CutOff { .. } | Stop::Unsummed { .. } | Stop::Unkept { .. } | Stop::Unmade(_) => 3,
+            Stop::CutOff { .. } | Stop::Unsummed { .. } | Stop::Unkept { .. } | Stop::Unmade(_) =>
+                3,
             Stop::Settings(fault) => fault.status(),
             Stop::Ask(unasked) => unasked.fault.status(),
             Stop::Run(fault, ..) | Stop::Halted(fault) => status(&Err(*fault)),
