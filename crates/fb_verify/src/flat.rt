@@ -122,6 +122,31 @@ pub fn pass_steps(
     }
 }
 
+/// The same by the published checks, which are constants here. It stands apart, so that a walk in which a root is passed
+/// stays small enough to be inlined.
+#[inline(never)]
+pub fn pass_published(
+    reads: &mut Reads<'_>,
+    schema: &Schema<'_>,
+    table: Table,
+    steps: &[Step],
+    next: &mut u32,
+    at: &mut u64,
+) -> Result<bool, Reason>
+    ghost of: { Passage }
+    requires between { IsBetween of.walk reads.old of.under of.top }
+    requires room { HasRoom of.walk reads.old of.top }
+    requires same { record { alignment = true; inline_size = false } ≡ of.walk.checks }
+    requires schema { schema.now ≡ of.walk.schema.now }
+    requires table { table ≡ of.top.table }
+    requires next { next.old ≡ of.top.next }
+    requires steps { steps.now ≡ map step_of (live_fields of.walk.schema.now table.object) }
+    requires few { length steps.now < 2 ^ 32 }
+    ensures { PassesOn of.walk reads.old reads.new of.under of.top (record of.top { next = next.new }) at.new result }
+{
+    pass_steps(reads, PUBLISHED, schema, table, steps, next, at)
+}
+
 /// Passes the table at a position, of an object whose fields lead to no table: its head, and its fields by their steps.
 /// Where one fails, the position is moved to where it does, and its number is written, or that of the head. The budget
 /// allows whatever the table may cost.

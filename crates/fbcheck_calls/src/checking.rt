@@ -1,7 +1,8 @@
 //! The checks of buffers by a schema.
 
 ghost use Rattle.std.specs.Prelude.{◌≡◌, ◌<◌, ◌≤◌, ◌^◌, IfOk, MatchResult, length};
-ghost use Rattle.fb_rules.specs.declared.fault.{Fault.Fault, Report.Report};
+ghost use Rattle.fb_rules.specs.declared.{fault.Fault.Fault, fault.Report.Report, site.Stop.Stop};
+ghost use Rattle.fb_rules.specs.Told.{stopped};
 ghost use Rattle.fb_verify.specs.Sealed.{Sealed};
 ghost use Rattle.fbcheck_calls.specs.Answered.{Begins, IfSchema, IsChecked, IsPriced, IsTold, IsUnchecked, IsUnservedBy, Starts, levels};
 ghost use Rattle.fbcheck_calls.specs.{Steps.AllFit, Told.found_by, Told.told, Values.AreValues};
@@ -24,8 +25,8 @@ use fb_bfbs::Loaded;
 use fb_bytes::Meter;
 use fb_strict::most_reads_strictly;
 use fb_verify::{
-    Checks, Fault, Ident, Limits, Report, Start, Verified, most_reads, verify, verify_shallow,
-    walk, walk_shallow,
+    Checks, Fault, Ident, Limits, NO_REPORT, Report, Start, Stop, Verified, most_reads, verify,
+    verify_shallow, walk_into, walk_shallow_into,
 };
 use std::alloc::Global;
 
@@ -117,16 +118,63 @@ pub fn metered(buffer: &[u8]) -> Meter<'_>
     }
 }
 
-/// Writes what a check found, and answers the status.
+/// Writes what a check found in a buffer that was metered so, and answers the status.
 #[inline(always)]
-fn tell_found(found: Result<Report, Fault>, verdict: &mut Verdict) -> u32
-    ensures told { verdict.new ≡ told (found_by (λ (r : Report). r) (λ (f : Fault). f) found) }
+fn tell_found(
+    found: Result<(), Stop>,
+    report: Report,
+    meter: &Meter<'_>,
+    verdict: &mut Verdict,
+) -> u32
+    ensures told { verdict.new ≡ told (found_by (λ _. report) (λ (s : Stop). stopped s meter.now.count) found) }
     ensures status { result ≡ verdict.new.status }
 {
     match found {
-        Ok(report) => tell_good(report, verdict),
-        Err(fault) => tell_bad(fault, verdict),
+        Ok(()) => tell_good(report, verdict),
+        Err(stop) => tell_bad(stop.fault(meter), verdict),
     }
+}
+
+/// Checks a buffer by a schema as options without demands ask, in room on the call's own stack.
+#[inline(always)]
+fn check_shallow(basis: &Basis, verdict: &mut Verdict, options: &Options, buffer: &[u8]) -> u32
+    requires { options.now.demands ≡ 0 }
+    ensures told { (a : Answer) × (verdict.new ≡ told a) × IsChecked basis.now 64 options.now buffer.now a }
+    ensures status { result ≡ verdict.new.status }
+{
+    let begun = match prepare(basis, SHALLOW, options, buffer, verdict) {
+        Ok(begun) => begun,
+        Err(status) => return status,
+    };
+    let mut meter = metered(buffer);
+    let mut report = NO_REPORT;
+    let found = walk_shallow_into(
+        &mut meter,
+        &basis.loaded().schema,
+        begun.root,
+        begun.start,
+        begun.ident,
+        begun.limits,
+        begun.checks,
+        &mut report,
+    );
+    tell_found(found, report, &meter, verdict)
+}
+
+/// The same apart, for checks that aren't the published ones, which are constants beside it.
+#[cold]
+#[inline(never)]
+fn check_shallow_apart(
+    basis: &Basis,
+    verdict: &mut Verdict,
+    options: &Options,
+    buffer: &[u8],
+) -> u32
+    requires { options.now.demands ≡ 0 }
+    ensures told { (a : Answer) × (verdict.new ≡ told a) × IsChecked basis.now 64 options.now buffer.now a }
+    ensures status { result ≡ verdict.new.status }
+{
+    check_shallow(basis, verdict, options, buffer)
 }
 
 /// Checks a buffer by a schema as the options ask, in room on the call's own stack. Writes the verdict, and answers its
@@ -142,20 +190,63 @@ pub fn check_alone(held: &Held, verdict: &mut Verdict, options: &Options, buffer
     if options.demands != 0 {
         return check_alone_strictly(basis, verdict, options, buffer);
     }
-    let begun = match prepare(basis, SHALLOW, options, buffer, verdict) {
+    if options.are_usual() {
+        check_shallow(basis, verdict, options, buffer)
+    } else {
+        check_shallow_apart(basis, verdict, options, buffer)
+    }
+}
+
+/// The same in the room that is given, for options without demands.
+#[inline(always)]
+fn check_in(
+    basis: &Basis,
+    room: &mut Room,
+    verdict: &mut Verdict,
+    options: &Options,
+    buffer: &[u8],
+) -> u32
+    requires { options.now.demands ≡ 0 }
+    ensures told { (a : Answer) × (verdict.new ≡ told a) × IsChecked basis.now room.old options.now buffer.now a }
+    ensures status { result ≡ verdict.new.status }
+    ensures kept { room.new ≡ room.old }
+{
+    let begun = match prepare(basis, room.levels(), options, buffer, verdict) {
         Ok(begun) => begun,
         Err(status) => return status,
     };
-    let found = walk_shallow(
-        &mut metered(buffer),
+    let mut meter = metered(buffer);
+    let mut report = NO_REPORT;
+    let found = walk_into(
+        &mut meter,
         &basis.loaded().schema,
         begun.root,
         begun.start,
         begun.ident,
         begun.limits,
         begun.checks,
+        &mut room.scratch,
+        &mut report,
     );
-    tell_found(found, verdict)
+    tell_found(found, report, &meter, verdict)
+}
+
+/// The same apart, for checks that aren't the published ones.
+#[cold]
+#[inline(never)]
+fn check_in_apart(
+    basis: &Basis,
+    room: &mut Room,
+    verdict: &mut Verdict,
+    options: &Options,
+    buffer: &[u8],
+) -> u32
+    requires { options.now.demands ≡ 0 }
+    ensures told { (a : Answer) × (verdict.new ≡ told a) × IsChecked basis.now room.old options.now buffer.now a }
+    ensures status { result ≡ verdict.new.status }
+    ensures kept { room.new ≡ room.old }
+{
+    check_in(basis, room, verdict, options, buffer)
 }
 
 /// The same in the room that is given.
@@ -177,21 +268,11 @@ fn check_within(
     if options.demands != 0 {
         return check_within_strictly(basis, room, verdict, options, buffer);
     }
-    let begun = match prepare(basis, room.levels(), options, buffer, verdict) {
-        Ok(begun) => begun,
-        Err(status) => return status,
-    };
-    let found = walk(
-        &mut metered(buffer),
-        &basis.loaded().schema,
-        begun.root,
-        begun.start,
-        begun.ident,
-        begun.limits,
-        begun.checks,
-        &mut room.scratch,
-    );
-    tell_found(found, verdict)
+    if options.are_usual() {
+        check_in(basis, room, verdict, options, buffer)
+    } else {
+        check_in_apart(basis, room, verdict, options, buffer)
+    }
 }
 
 /// Checks a buffer by a schema: in the room of a handle, or on the call's own stack where it holds none. Writes the

@@ -1,6 +1,6 @@
 //! What a caller in C asks of a buffer.
 
-ghost use Rattle.std.specs.Prelude.{◌≡◌, ◌≤◌, IsTrue, ◌↔◌, MatchResult};
+ghost use Rattle.std.specs.Prelude.{◌≡◌, ◌≤◌, IsTrue, ◌↔◌, MatchResult, true, false};
 ghost use Rattle.fb_schema.specs.Rows.{is_table};
 ghost use Rattle.std.specs.Prelude.{IfSome};
 ghost use Rattle.fbcheck_calls.specs.Asked.{AreKnown, HasLimits, LimitsFail, asks_marks, checks_asked, demands_of, ident_asked, if_table, known_demands, limits_of, published, root_asked, start_asked};
@@ -202,6 +202,14 @@ impl Options {
         } else {
             Start::Prefixed
         }
+    }
+
+    /// Whether the published tests are made, and no other.
+    #[inline(always)]
+    pub fn are_usual(&self) -> bool
+        ensures { IsTrue result ↔ (checks_asked self.now ≡ record { alignment = true; inline_size = false }) }
+    {
+        self.no_alignment == 0 && self.inline_size == 0
     }
 
     /// Which tests are made.

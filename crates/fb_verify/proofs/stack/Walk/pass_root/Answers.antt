@@ -17,23 +17,23 @@ root_over w m new under table next at none plain false p = went_over under _ ref
 
 pub returns-in-Ok : goal.returns-in-Ok
 returns-in-Ok g c =
-    let p = rw (c.lend-reads.ensures.lent, c.requires.0, c.in-Ok.is) at c.pass_steps-passed.ensures in
-    let new = c.pass_steps-passed.new in
+    let p = rw (c.lend-reads.ensures.lent, c.requires.0, c.in-Ok.is) at c.pass_published-passed.ensures in
+    let new = c.pass_published-passed.new in
     let o = root_over c.args.self.now _ new.reads (g.going).under c.args.table new.next new.at c.requires.1.1.0 c.requires.1.1.1 c.in-Ok.field-0 p in
     rw c.settle.ensures (record { same = refl; over = o.over; within = o.within; shallow = o.shallow; reads = o.reads; bytes = o.bytes })
 
 pub returns-in-Err : goal.returns-in-Err
 returns-in-Err g c =
-    let p = rw (c.lend-reads.ensures.lent, c.requires.0, c.in-Err.is) at c.pass_steps-passed.ensures in
-    let e = c.stop_in_field.ensures in
-    let stops = (p.comes).err (c.stop_in_field.new.self.halt).stop (record { refusal = e.refusal; object = e.object; field = e.field }) in
-    rw (e.turn, c.settle.ensures) (
+    let p = rw (c.lend-reads.ensures.lent, c.requires.0, c.in-Err.is) at c.pass_published-passed.ensures in
+    let e = c.stop_by-stop.ensures in
+    let stops = (p.comes).err c.stop_by-stop.result (record { refusal = e.refusal; object = e.object; field = e.field }) in
+    rw (c.halt-self.ensures, c.settle.ensures) (
       record {
-        deep = rw (e.links, e.last) (omega (arith, (c.requires.1.0).links));
-        err = rw (e.links, e.last) (rw c.requires.1.1.0 at stops);
+        deep = omega (arith, (c.requires.1.0).links);
+        err = rw c.requires.1.1.0 at stops;
         bytes = p.bytes;
       },
-      e.links,
+      refl,
     )
 
 -- the walk is between two fields of the root table, of which the budget allows whatever they cost
@@ -46,8 +46,8 @@ module _ (w v : Walk) (m n : Lent) (walk : v ≡ w) (count : n.count ≡ m.count
       let long : r + k ≡ n.count + 6 * fields_left w.schema.now (opened table) = omega (arith, same, most, count, ap length its, length_map step_of (live_fields w.schema.now table.object)) in
       rw walk (record { allowed = subst (λ (x : ℕ). AreAllowed (w.limits).reads x) long allowed; short = rw long at short })
 
-pub pass_steps-passed-requires : goal.pass_steps-passed-requires
-pass_steps-passed-requires g c =
+pub pass_published-passed-requires : goal.pass_published-passed-requires
+pass_published-passed-requires g c =
     let w = c.args.self.now in
     let walk = c.requires.0 in
     let lent = c.lend-reads.ensures.lent in
@@ -65,5 +65,5 @@ pass_steps-passed-requires g c =
       ),
     )
 
-pub stop_in_field-requires-clause-next : goal.stop_in_field-requires-clause-next
-stop_in_field-requires-clause-next g c = rw c.requires.0 at (c.in-Err.ensures.comes).next
+pub stop_by-stop-requires-clause-next : goal.stop_by-stop-requires-clause-next
+stop_by-stop-requires-clause-next g c = rw c.requires.0 at (c.in-Err.ensures.comes).next
