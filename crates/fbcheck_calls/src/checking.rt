@@ -62,7 +62,7 @@ fn begin(basis: &Basis, levels: u32, options: &Options, length: u64) -> Result<B
     if !basis.serves(options) {
         return Err(21);
     }
-    let Some(table) = options.root(basis.loaded()) else {
+    let Some(table) = basis.root(options) else {
         return Err(6);
     };
     let Some(ident) = options.ident(basis.loaded()) else {
@@ -250,7 +250,7 @@ fn check_in_apart(
 }
 
 /// The same in the room that is given.
-#[inline(never)]
+#[inline(always)]
 fn check_within(
     held: &Held,
     room: &mut Room,

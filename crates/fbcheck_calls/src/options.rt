@@ -169,6 +169,14 @@ impl Options {
         }
     }
 
+    /// Whether the schema's own root table is asked for.
+    #[inline(always)]
+    pub fn asks_own_root(&self) -> bool
+        ensures { IsTrue result ↔ (self.now.root ≡ 4294967295) }
+    {
+        self.root == OWN_ROOT
+    }
+
     /// The root table that is asked of a schema, if there is one.
     pub fn root(&self, loaded: &Loaded<'_>) -> Option<u32>
         ensures root { result ≡ root_asked loaded.now self.now }
