@@ -81,6 +81,7 @@ Options:
   -j, --json                Write each line as a JSON object
       --csv                 Write the values of good buffers as CSV, and lines of bad ones to standard error
   -H, --with-filename       Begin lines with the file's name, also where there is one file alone
+      --files0-from <F>     Read the names of the files from F, each ended by a zero byte; - for standard input
   -h, --help                Print help
   -V, --version             Print version
 """

@@ -84,7 +84,7 @@ contradicted words settings fault said is =
     let P = λ (f : SettingsFault). contradiction settings ≡ Some f → Refuses words f in
     let csv : Each P (rules_of_csv settings) = ((λ e. (settings, said, e)), ((λ e. (settings, said, e)), ((λ e. (settings, said, e)), ((λ e. (settings, said, e)), tt)))) in
     one_of_all P (rules_of settings ++ (if settings.csv then rules_of_csv settings else [])) fault is
-    ((λ e. (settings, said, e)), ((λ e. (settings, said, e)), ((λ e. (settings, said, e)), ((λ e. (settings, said, e)), ((λ e. (settings, said, e)), ((λ e. (settings, said, e)), ((λ e. (settings, said, e)), ((λ e. (settings, said, e)), each_if P settings.csv (rules_of_csv settings) csv)))))))) is
+    ((λ e. (settings, said, e)), ((λ e. (settings, said, e)), ((λ e. (settings, said, e)), ((λ e. (settings, said, e)), ((λ e. (settings, said, e)), ((λ e. (settings, said, e)), ((λ e. (settings, said, e)), ((λ e. (settings, said, e)), ((λ e. (settings, said, e)), each_if P settings.csv (rules_of_csv settings) csv))))))))) is
 
 -- where none is broken, that at place k isn't
 unbroken : (rules : List (Bool × SettingsFault)) (k : ℕ) (d : Bool × SettingsFault) → first_broken rules ≡ None → k < length rules → (slice_index_or rules k d).0 ≡ false

@@ -98,5 +98,5 @@ outputs = with_rule (with_rule (with_rule (with_rule (with_rule demands (by_lett
     (by_letter (codes "j") (flag_rule (codes "json")))
 
 abbrev pub program : App
-program = with_rule (with_rule (with_rule outputs (flag_rule (codes "csv"))) (by_letter (codes "H") (flag_rule (codes "with-filename"))))
-    (words_rule (codes "files"))
+program = with_rule (with_rule (with_rule (with_rule outputs (flag_rule (codes "csv"))) (by_letter (codes "H") (flag_rule (codes "with-filename"))))
+    (text_rule (codes "files0-from"))) (words_rule (codes "files"))

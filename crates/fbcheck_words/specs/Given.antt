@@ -5,7 +5,7 @@ use Rattle.clap.specs.{Walk.Text, Faults.fault_of}
 use Rattle.fbcheck_words.specs.CommandLine.{program}
 use Rattle.fbcheck_words.specs.Values.{IsGiven, IsNumberOf, text_of, texts_of}
 use Rattle.fbcheck_words.specs.declared.{choices.Form.Form, choices.Form.TheVariants.Json, choices.Form.TheVariants.Plain, choices.Settings.Settings, choices.SettingsFault.SettingsFault}
-use Rattle.fbcheck_words.specs.declared.choices.SettingsFault.TheVariants.{PathInFilter, TwoIdents, TooManyPaths, BareDelimited, PlainUnstrict, PathTwice, TooManySteps, SchemaAsInput, CsvAsJson, CsvInFilter, CsvInQuiet, CsvPathless}
+use Rattle.fbcheck_words.specs.declared.choices.SettingsFault.TheVariants.{PathInFilter, TwoIdents, TooManyPaths, BareDelimited, PlainUnstrict, PathTwice, TooManySteps, SchemaAsInput, CsvAsJson, CsvInFilter, CsvInQuiet, CsvPathless, NamedTwice}
 
 -- the words say these settings
 pub record Say (given : List Text) (settings : Settings) : Type 0 where
@@ -39,6 +39,7 @@ pub record Say (given : List Text) (settings : Settings) : Type 0 where
   pub json : (settings.form ≡ Json) ↔ IsGiven (codes "json") given
   pub csv : IsTrue settings.csv ↔ IsGiven (codes "csv") given
   pub with_filename : IsTrue settings.with_filename ↔ IsGiven (codes "with-filename") given
+  pub names_file : option_map string_bytes settings.names_file ≡ text_of (codes "files0-from") given
   pub files : map string_bytes settings.files.items ≡ texts_of (codes "files") given
 
 -- whether a text stands among these; and whether one of them stands there twice
@@ -97,6 +98,7 @@ rules_of settings =
     ∷ (has_twice (map string_bytes settings.paths.items), PathTwice)
     ∷ (nat_lt 1024 (steps_of (map string_bytes settings.paths.items)), TooManySteps)
     ∷ (not (is_some settings.schema) && (not settings.bare && list_any is_bfbs (map string_bytes settings.files.items)), SchemaAsInput)
+    ∷ (is_some settings.names_file && nat_lt 0 (length settings.files.items), NamedTwice)
     ∷ []
 
 -- the first of these, those of CSV behind the others

@@ -5,7 +5,7 @@ use Rattle.clap.specs.declared.error.kind.ErrorKind.{ErrorKind}
 use Rattle.clap.specs.declared.error.kind.ErrorKind.TheVariants as kind
 use Rattle.fbcheck_words.specs.{CommandLine.program, Given.Say, Given.contradiction, Values.text_of}
 use Rattle.fbcheck_words.specs.declared.{choices.Settings.Settings, choices.SettingsFault.SettingsFault}
-use Rattle.fbcheck_words.specs.declared.choices.SettingsFault.TheVariants.{Usage, BadIdent, PathInFilter, TwoIdents, TooManyPaths, BareDelimited, PlainUnstrict, PathTwice, TooManySteps, SchemaAsInput, CsvAsJson, CsvInFilter, CsvInQuiet, CsvPathless, OutOfMemory}
+use Rattle.fbcheck_words.specs.declared.choices.SettingsFault.TheVariants.{Usage, BadIdent, PathInFilter, TwoIdents, TooManyPaths, BareDelimited, PlainUnstrict, PathTwice, TooManySteps, SchemaAsInput, CsvAsJson, CsvInFilter, CsvInQuiet, CsvPathless, NamedTwice, OutOfMemory}
 
 -- `clap` refuses the words by an error of that kind; or it reads them, and the identifier isn't four bytes long; or they
 -- say settings that don't agree; or there was no memory
@@ -43,4 +43,5 @@ refusal_text CsvAsJson = codes "csv and json exclude each other"
 refusal_text CsvInFilter = codes "csv and filter exclude each other"
 refusal_text CsvInQuiet = codes "csv and quiet exclude each other"
 refusal_text CsvPathless = codes "csv needs a path"
+refusal_text NamedTwice = codes "files0-from takes no files beside it"
 refusal_text OutOfMemory = codes "out of memory"

@@ -83,6 +83,8 @@ pub struct Settings {
     pub csv: bool,
     /// Whether each line begins with the name of its file, also where that is the only one (`-H`, `--with-filename`).
     pub with_filename: bool,
+    /// The file with the names of the files to be read (`--files0-from`); `files` is empty then.
+    pub names_file: Option<String>,
     /// The files to be read, one behind another, of which `-` is standard input (`FILE`); none stands for that alone.
     pub files: Vec<String>,
 }
@@ -120,6 +122,8 @@ pub enum SettingsFault {
     CsvInQuiet,
     /// The words are read, and ask for CSV without a path.
     CsvPathless,
+    /// The words are read, and name files beside a file of names.
+    NamedTwice,
     /// No memory was to be had.
     OutOfMemory,
 }
@@ -145,7 +149,8 @@ impl SettingsFault {
             | SettingsFault::CsvAsJson
             | SettingsFault::CsvInFilter
             | SettingsFault::CsvInQuiet
-            | SettingsFault::CsvPathless => 2,
+            | SettingsFault::CsvPathless
+            | SettingsFault::NamedTwice => 2,
             SettingsFault::OutOfMemory => 3,
         }
     }
@@ -171,6 +176,7 @@ impl SettingsFault {
             SettingsFault::CsvInFilter => "csv and filter exclude each other",
             SettingsFault::CsvInQuiet => "csv and quiet exclude each other",
             SettingsFault::CsvPathless => "csv needs a path",
+            SettingsFault::NamedTwice => "files0-from takes no files beside it",
             SettingsFault::OutOfMemory => "out of memory",
         }
     }

@@ -41,7 +41,7 @@ struct Choice<'a> {
 
 /// All options, in the order of help. As a constant they would be built anew in the loop's function, text by text,
 /// which is dear to prove.
-static CHOICES: [Choice<'static>; 29] = [
+static CHOICES: [Choice<'static>; 30] = [
     Choice {
         name: "schema",
         letter: Some('s'),
@@ -209,6 +209,12 @@ static CHOICES: [Choice<'static>; 29] = [
         letter: Some('H'),
         takes: Takes::Nothing,
         help: "Begin lines with the file's name, also where there is one file alone",
+    },
+    Choice {
+        name: "files0-from",
+        letter: None,
+        takes: Takes::Text("F"),
+        help: "Read the names of the files from F, each ended by a zero byte; - for standard input",
     },
     Choice {
         name: "files",

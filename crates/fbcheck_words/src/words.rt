@@ -22,8 +22,9 @@ use std::alloc::{AllocError, Global};
 /// an identifier beside the schema's own, then `TooManyPaths` for more than 16, then `BareDelimited` for a bare buffer
 /// behind its length, then `PlainUnstrict` for plain bytes without strict checks, then `PathTwice` for the same path
 /// twice, then `TooManySteps` for more than 1,024 steps of all paths, then `SchemaAsInput` for a stream in a file `.bfbs`
-/// without a schema file, and then of CSV `CsvAsJson`, `CsvInFilter` and `CsvInQuiet` where it is asked for with one of
-/// these, and `CsvPathless` without a path. `OutOfMemory` for want of memory.
+/// without a schema file, then `NamedTwice` for files beside a file of names, and then of CSV `CsvAsJson`, `CsvInFilter`
+/// and `CsvInQuiet` where it is asked for with one of these, and `CsvPathless` without a path. `OutOfMemory` for want of
+/// memory.
 pub fn settings(alloc: Global, words: &[String]) -> Result<Settings, SettingsFault>
     ensures given { IfOk result (AreGiven (map string_bytes words.now)) }
     ensures ranges { IfOk result AreInRange }
@@ -49,6 +50,7 @@ fn said(alloc: Global, matches: &ArgMatches<'_>) -> Result<Settings, SettingsFau
     let schema = copied(alloc, matches, "schema")?;
     let root = copied(alloc, matches, "root")?;
     let paths = all_copied(alloc, matches, "path")?;
+    let names_file = copied(alloc, matches, "files0-from")?;
     let files = all_copied(alloc, matches, "files")?;
     Ok(Settings {
         schema,
@@ -79,6 +81,7 @@ fn said(alloc: Global, matches: &ArgMatches<'_>) -> Result<Settings, SettingsFau
         form: form(matches),
         csv: flag(matches, "csv"),
         with_filename: flag(matches, "with-filename"),
+        names_file,
         files,
     })
 }
@@ -103,6 +106,8 @@ fn contradiction(settings: &Settings) -> Option<SettingsFault>
         Some(SettingsFault::TooManySteps)
     } else if settings.schema.is_none() && !settings.bare && has_bfbs(settings.files.as_slice()) {
         Some(SettingsFault::SchemaAsInput)
+    } else if settings.names_file.is_some() && !settings.files.is_empty() {
+        Some(SettingsFault::NamedTwice)
     } else if settings.csv {
         contradiction_of_csv(settings)
     } else {

@@ -64,5 +64,6 @@ returns-clause-says c words read = record {
   json = given_by_words _ _ (codes "json") _ read c.form.ensures;
   csv = given_by_words _ _ (codes "csv") _ read c.flag-14.ensures;
   with_filename = given_by_words _ _ (codes "with-filename") _ read c.flag-15.ensures;
+  names_file = c.in_ok-names_file.ensures ∙ text_of_words _ _ (codes "files0-from") read;
   files = c.in_ok-files.ensures ∙ texts_of_words _ _ (codes "files") read;
 }
