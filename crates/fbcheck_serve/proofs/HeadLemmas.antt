@@ -3,6 +3,7 @@ use Rattle.std.proofs.Common.{◌≡◌, ℕ, ◌+◌, ◌-◌, Err, List, Ok, a
 use Rattle.fb_lines.specs.{Ends.Ends, Ends.Writer, Ends.with_writer, Faults.End, Faults.EndsBeside, Faults.EndsWith, Faults.Failures, Faults.failures_of, Job.Job}
 use Rattle.fb_lines.specs.declared.fault.RunFault.{RunFault}
 use Rattle.fb_lines.specs.declared.fault.RunFault.TheVariants as run
+use Rattle.fbcheck_serve.specs.Names.{Named}
 use Rattle.fbcheck_serve.specs.Heads.{IsCut, IsHeadPut, IsHeaded, head_of, with_head}
 
 -- the calls that failed, with so many of the writer
@@ -29,7 +30,7 @@ pub ends_cut : (before : Ends) (writer : Writer) (turns : ℕ) (head : List ℕ)
 ends_cut before writer turns head (run.WriteFault written) put = (refl, put.1, refl)
 ends_cut before writer turns head _ put = absurd put
 
-module _ (job : Job) (names : List (List ℕ)) (before : Ends) (head : List ℕ) (writer : Writer) (end : End) (is : head ≡ head_of job names) (put : IsHeadPut head before.outs.writer writer end) where
+module _ (job : Job) (names : List Named) (before : Ends) (head : List ℕ) (writer : Writer) (end : End) (is : head ≡ head_of job names) (put : IsHeadPut head before.outs.writer writer end) where
   as_job : IsHeadPut (head_of job names) before.outs.writer writer end
   as_job = subst (λ (h : List ℕ). IsHeadPut h before.outs.writer writer end) is put
 

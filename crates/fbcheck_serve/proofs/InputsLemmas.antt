@@ -10,7 +10,8 @@ use Rattle.fb_lines.specs.{Faults.End, Job.Job, Job.job_of}
 use Rattle.std.specs.declared.io.ErrorKind.{ErrorKind}
 use Rattle.fb_lines.specs.declared.{options.Options.Options, fault.RunFault.RunFault}
 use Rattle.fb_run.specs.declared.run.Ran.{Ran}
-use Rattle.fbcheck_serve.specs.Inputs.{ComesOf, Folder, HaltsAmong, IsMissed, Passes, PassesAll, RunsOpened, Seen, Stand, Tries, is_standard, label_of, with_label, sum_of_counts, sums, are_named}
+use Rattle.fbcheck_serve.specs.Inputs.{ComesOf, Folder, HaltsAmong, IsMissed, Passes, PassesAll, RunsOpened, Seen, Stand, Tries, label_of, with_label, sum_of_counts, sums, are_named}
+use Rattle.fbcheck_serve.specs.Names.{Named, is_standard}
 use Rattle.fbcheck_serve.specs.declared.{inputs.Missed.Missed, inputs.Standard.Standard, inputs.Standard.TheVariants.Unread, inputs.Standard.TheVariants.Spent}
 
 -- the counts up to a place are added; then those up to the next are
@@ -36,31 +37,31 @@ sums_length (a ∷ some) (b ∷ more) = ap (λ n. suc n) (sums_length some more)
 
 module _ (folder : Folder) where
   -- what came behind a file is how it was gone through
-  pub tries_of : (job : Job) (name : List ℕ) (before after : Stand) (end : End) → Passes folder job name before after end → Tries folder job name before after end
+  pub tries_of : (job : Job) (name : Named) (before after : Stand) (end : End) → Passes folder job name before after end → Tries folder job name before after end
   tries_of job name before after (Ok done) passes = passes
   tries_of job name before after (Err fault) passes = inl passes
 
   -- one file more behind those that were gone through
-  pub passes_more : (job : Job) (several : Bool) (names : List (List ℕ)) (name : List ℕ) (a b c : Stand) → PassesAll folder job several names a b
-      → Tries folder (with_label (label_of several name) job) name b c (Ok tt) → PassesAll folder job several (names ++ (name ∷ [])) a c
-  passes_more job several [] name a b c is tries = (c, subst (λ (s : Stand). Tries folder (with_label (label_of several name) job) name s c (Ok tt)) is tries, refl)
+  pub passes_more : (job : Job) (several : Bool) (names : List Named) (name : Named) (a b c : Stand) → PassesAll folder job several names a b
+      → Tries folder (with_label (label_of several name.bytes) job) name b c (Ok tt) → PassesAll folder job several (names ++ (name ∷ [])) a c
+  passes_more job several [] name a b c is tries = (c, subst (λ (s : Stand). Tries folder (with_label (label_of several name.bytes) job) name s c (Ok tt)) is tries, refl)
   passes_more job several (first ∷ names) name a b c (mid, one, rest) tries = (mid, one, passes_more job several names name mid b c rest tries)
 
   -- the same behind a front of the names
-  pub front_more : (job : Job) (several : Bool) (names front left rest : List (List ℕ)) (name : List ℕ) (a b c : Stand) → names ≡ front ++ left → left ≡ name ∷ rest
-      → PassesAll folder job several front a b → Tries folder (with_label (label_of several name) job) name b c (Ok tt)
-      → (more : List (List ℕ)) × (names ≡ more ++ rest) × PassesAll folder job several more a c
+  pub front_more : (job : Job) (several : Bool) (names front left rest : List Named) (name : Named) (a b c : Stand) → names ≡ front ++ left → left ≡ name ∷ rest
+      → PassesAll folder job several front a b → Tries folder (with_label (label_of several name.bytes) job) name b c (Ok tt)
+      → (more : List Named) × (names ≡ more ++ rest) × PassesAll folder job several more a c
   front_more job several names front left rest name a b c are next passes tries =
       (front ++ (name ∷ []), rw (are, next, append_assoc) refl, passes_more job several front name a b c passes tries)
 
   -- all of them
-  pub front_all : (job : Job) (several : Bool) (names front left : List (List ℕ)) (a b : Stand) → names ≡ front ++ left → left ≡ [] → PassesAll folder job several front a b
+  pub front_all : (job : Job) (several : Bool) (names front left : List Named) (a b : Stand) → names ≡ front ++ left → left ≡ [] → PassesAll folder job several front a b
       → PassesAll folder job several names a b
   front_all job several names front left a b are none passes = rw (are, none, append-nil front) passes
 
   -- one of them ended it all
-  pub halts_among : (job : Job) (names front left rest : List (List ℕ)) (name : List ℕ) (a b c : Stand) (fault : RunFault) → names ≡ front ++ left → left ≡ name ∷ rest
-      → PassesAll folder job (are_named job.label names) front a b → Tries folder (with_label (label_of (are_named job.label names) name) job) name b c (Err fault)
+  pub halts_among : (job : Job) (names front left rest : List Named) (name : Named) (a b c : Stand) (fault : RunFault) → names ≡ front ++ left → left ≡ name ∷ rest
+      → PassesAll folder job (are_named job.label names) front a b → Tries folder (with_label (label_of (are_named job.label names) name.bytes) job) name b c (Err fault)
       → HaltsAmong folder job names a c fault
   halts_among job names front left rest name a b c fault are next passes tries = record {
     front = front;
@@ -72,10 +73,13 @@ module _ (folder : Folder) where
     halts = tries;
   }
 
--- the texts from the next file on
-pub next_text : {Z : Type 0} (names : List (String Z)) (i : ℕ) (item : String Z) (text : List ℕ) → i < length names → item ≡ get_or names i item → text ≡ string_bytes item
-    → map string_bytes (drop i names) ≡ text ∷ map string_bytes (drop (i + 1) names)
-next_text names i item text within is same = rw (add-one, drop-cons names i item within, ← is, same) refl
+-- the names from the next file on
+pub next_name : (names : List Named) (i : ℕ) (name : Named) → i < length names → name ≡ get_or names i name → drop i names ≡ name ∷ drop (i + 1) names
+next_name names i name within is = rw (add-one, drop-cons names i name within, ← is) refl
+
+-- the label of a name, by what is asked of it
+pub label_by : (named other : Bool) (text bytes : List ℕ) (label : Option (List ℕ)) → label ≡ label_of named text → named ≡ other → text ≡ bytes → label ≡ label_of other bytes
+label_by named other text bytes label is same are = rw (is, same, are) refl
 
 -- no calls are no more than may be made
 pub no_more : (n more : ℕ) → n ≤ n + more
@@ -101,10 +105,10 @@ relabelled rows options job label old text is same =
     ap (λ (j : Job). with_label (option_map vec_items label) j) is ∙ ap (λ (t : Option (List ℕ)). with_label t job) same
 
 -- what a file came to: a run over what was opened, or none
-pub comes_opened : (folder : Folder) (job : Job) (name : List ℕ) (standard : Standard) (before after : Seen) (what : Result Ran Missed) (cause : Option ErrorKind) (ran : Ran) → what ≡ Ok ran
+pub comes_opened : (folder : Folder) (job : Job) (name : Named) (standard : Standard) (before after : Seen) (what : Result Ran Missed) (cause : Option ErrorKind) (ran : Ran) → what ≡ Ok ran
     → is_standard name ≡ false → RunsOpened folder job name before after ran cause → ComesOf folder job name standard before after what cause
 comes_opened folder job name standard before after what cause ran is other runs = subst (λ w. ComesOf folder job name standard before after w cause) (sym is) (rw other runs)
 
-pub comes_missed : (folder : Folder) (job : Job) (name : List ℕ) (standard : Standard) (seen : Seen) (what : Result Ran Missed) (cause : Option ErrorKind) (missed : Missed) → what ≡ Err missed
+pub comes_missed : (folder : Folder) (job : Job) (name : Named) (standard : Standard) (seen : Seen) (what : Result Ran Missed) (cause : Option ErrorKind) (missed : Missed) → what ≡ Err missed
     → IsMissed folder name standard missed → ComesOf folder job name standard seen seen what cause
 comes_missed folder job name standard seen what cause missed is why = subst (λ w. ComesOf folder job name standard seen seen w cause) (sym is) (why, refl)

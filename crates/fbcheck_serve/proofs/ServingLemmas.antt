@@ -8,14 +8,15 @@ use Rattle.std.proofs.{KnownBytes.Keeps-refl, Math.Seq.take-length}
 use Rattle.std.proofs.lemmas.{Bool.eq-eqb, Bool.eqb-true, List.length-map, List.nil_from_length}
 use Rattle.clap.specs.{Faults.fault_of, Walk.Text}
 use Rattle.fbcheck_words.specs.{CommandLine.program, Given.AreGiven, Refusal.Refuses, Values.text_of}
-use Rattle.fbcheck_serve.specs.Checking.{IsPromptAmongAsked, IsPromptAsAsked, IsPromptOverAsked, IsCheckedBeside, IsServedEach, MayReadAsked, names_in}
+use Rattle.fbcheck_serve.specs.Checking.{IsPromptAmongAsked, IsPromptAsAsked, IsPromptOverAsked, IsCheckedBeside, IsServedEach, MayReadAsked}
 use Rattle.fbcheck_texts.specs.Faults.{IsFile, HasFileFault}
 use Rattle.fbcheck_texts.specs.declared.{fault.FileFault.FileFault, fault.WordsFault.WordsFault, framing.By.By, framing.Manner.Manner, hint.Unasked.Unasked}
-use Rattle.fbcheck_serve.specs.Heads.{IsHeaded}
+use Rattle.fbcheck_serve.specs.Lists.{AreNamed, HasListFault, IsList, named_by}
+use Rattle.fbcheck_serve.specs.Names.{Named, listed_names, word_names}
 use Rattle.fbcheck_serve.specs.Inputs.{Folder, IsPromptAmong, IsPromptOver, Seen, with_cause}
 use Rattle.fb_lines.specs.{Job.Job, Faults.End, Faults.EndsBeside, JsonSums.summary_in}
 use Rattle.fb_lines.specs.Ends.{Ends, Reader, Writer, beside}
-use Rattle.fbcheck_serve.specs.Serving.{ChecksAsAsked, ComesAsAsked, ComesBy, ComesTo, EndsFiles, EndsRun, EndsSo, HoldsAsGiven, IsPromptAsGiven, MayReadAsGiven, PassesAsAsked, Rests, SumsUp, TellsAsGiven, TellsIn, IsFormOf, Unserved}
+use Rattle.fbcheck_serve.specs.Serving.{ChecksAsAsked, ComesAsAsked, ComesBy, ComesTo, IsAlone, IsNameless, EndsFiles, EndsRun, EndsSo, HoldsAsGiven, IsPromptAsGiven, MayReadAsGiven, PassesAsAsked, Rests, SumsUp, TellsAsGiven, TellsIn, IsFormOf, Unserved}
 use Rattle.fbcheck_serve.specs.Serving.{files_ending, hinted_stop, is_set, lent_bytes, run_ending, summed, words_of}
 use Rattle.fbcheck_serve.proofs.AskedLemmas.{idle}
 use Rattle.fbcheck_serve.specs.declared.inputs.Passed as inputs
@@ -56,10 +57,12 @@ module _ (folder : Folder) where
   pub comes_asked : (given : List Text) (before after : Seen) (sums : Option Sums) (outcome : Result Ending Stop)
       → HoldsAsGiven folder given (λ file settings. ComesAsAsked folder file settings before after sums outcome) → ComesBy folder given before after sums outcome
   comes_asked given before after sums (Ok Helped) never = absurd never.holds
-  comes_asked given before after sums (Err (stop.Usage text)) never = absurd never.holds
-  comes_asked given before after sums (Err (stop.Settings fault)) never = absurd never.holds
-  comes_asked given before after sums (Err (stop.CutOff written)) never = absurd never.holds
-  comes_asked given before after sums (Err (stop.File fault hint)) never = absurd never.holds
+  comes_asked given before after sums (Err (stop.Usage text)) never = absurd never.holds.0
+  comes_asked given before after sums (Err (stop.Settings refusal.OutOfMemory)) holds =
+      let (nameless, (read, (wrote, noted)), none) = holds.holds in ((refusal.OutOfMemory, tt, read, wrote, noted), none)
+  comes_asked given before after sums (Err (stop.Settings fault)) never = absurd never.holds.0
+  comes_asked given before after sums (Err (stop.CutOff written)) never = absurd never.holds.0
+  comes_asked given before after sums (Err (stop.File fault hint)) never = absurd never.holds.0
   comes_asked given before after sums _ holds = holds
 
   module _ (file : Option (Bor (List ℕ))) (settings : Settings) (before after : Seen) (sums : Option Sums) (outcome : Result Ending Stop) where
@@ -69,7 +72,7 @@ module _ (folder : Folder) where
     comes_ended manner tally (Ok done) bound is checks = rw is (checks, bound)
     comes_ended manner tally (Err fault) bound is checks = rw is checks
 
-    pub comes_run : (ran : Result Ran Unasked) → names_in settings ≡ [] → IsCheckedBeside file settings before.ends after.ends ran → EndsRun settings ran sums outcome
+    pub comes_run : (ran : Result Ran Unasked) → IsAlone settings → IsCheckedBeside file settings before.ends after.ends ran → EndsRun settings ran sums outcome
         → ComesAsAsked folder file settings before after sums outcome
     comes_run (Ok ran) none checked (told, manner, bound, is) = comes_ended manner ran.tally ran.end bound is (none, checked, told)
     comes_run (Err unasked) none checked (told, is) = rw is (checked.0, checked.1, told)
@@ -79,29 +82,19 @@ module _ (folder : Folder) where
     comes_passed by course (Ok done) is passes = rw is passes
     comes_passed by course (Err fault) is passes = rw is (course, passes)
 
-    pub comes_files : (passed : Result inputs.Passed Unasked) → names_in settings ≢ [] → IsServedEach folder file settings before after passed → EndsFiles settings passed sums outcome
-        → ComesAsAsked folder file settings before after sums outcome
-    comes_files (Ok passed) some served (told, by, is) = comes_passed by passed.course passed.end is (some, served, told)
-    comes_files (Err unasked) some served (told, is) = rw is (served.0, served.1, told)
+    pub comes_files : (names : List Named) (passed : Result inputs.Passed Unasked) → AreNamed folder.gives settings (Some names) → IsServedEach folder file settings names before after passed
+        → EndsFiles settings passed sums outcome → ComesAsAsked folder file settings before after sums outcome
+    comes_files names (Ok passed) are served (told, by, is) = comes_passed by passed.course passed.end is (names, are, served, told)
+    comes_files names (Err unasked) are served (told, is) = rw is (served.0, served.1, told)
 
   -- all that was read is told, where no file is named, and among files
-  pub prompt_alone : (file : Option (Bor (List ℕ))) (settings : Settings) (before now : Ends) → names_in settings ≡ [] → IsPromptAsAsked file settings before now
+  pub prompt_alone : (file : Option (Bor (List ℕ))) (settings : Settings) (before now : Ends) → IsAlone settings → IsPromptAsAsked file settings before now
       → IsPromptOverAsked folder file settings before now
-  prompt_alone file settings before now none (job, asks, headed, head, prompt) = (
-    job,
-    asks,
-    headed,
-    subst (λ (names : List Text). IsHeaded job names before headed) (sym none) head,
-    subst (λ (names : List Text). IsPromptOver folder job names headed now) (sym none) prompt,
-  )
+  prompt_alone file settings before now (unlisted, none) (job, asks, headed, head, prompt) = (None, job, rw (unlisted, none) refl, asks, headed, head, prompt)
 
-  over_some : (job : Job) (names : List Text) (before now : Ends) → names ≢ [] → IsPromptAmong folder job names before now → IsPromptOver folder job names before now
-  over_some job [] before now some among = absurd (some refl)
-  over_some job (name ∷ names) before now some among = among
-
-  pub prompt_among : (file : Option (Bor (List ℕ))) (settings : Settings) (before now : Ends) → names_in settings ≢ [] → IsPromptAmongAsked folder file settings before now
-      → IsPromptOverAsked folder file settings before now
-  prompt_among file settings before now some (job, asks, headed, head, among) = (job, asks, headed, head, over_some job (names_in settings) headed now some among)
+  pub prompt_among : (file : Option (Bor (List ℕ))) (settings : Settings) (names : List Named) (before now : Ends) → AreNamed folder.gives settings (Some names)
+      → IsPromptAmongAsked folder file settings names before now → IsPromptOverAsked folder file settings before now
+  prompt_among file settings names before now are (job, asks, headed, head, among) = (Some names, job, are, asks, headed, head, among)
 
   -- the words could be read
   pub comes_read : {A B : Type 0} (given : Result (Vec (String A) B) WordsFault) (words : Vec (String A) B) (slice : List (String A)) (before after : Seen) (sums : Option Sums) (outcome : Result Ending Stop)
@@ -136,6 +129,37 @@ some_named files slice empty same is named none =
     let zero : length slice ≡ 0 = ap length same ∙ sym (length-map files string_bytes) ∙ ap length none in
     true≢false (sym (eq-eqb (length slice) 0 zero) ∙ sym is ∙ named)
 
+-- the names that are words, where there are some
+some_words : (texts : List Text) → texts ≢ [] → named_by texts ≡ Some (word_names texts)
+some_words [] some = absurd (some refl)
+some_words (text ∷ texts) some = refl
+
+pub named_by_words : (gives : List ℕ → Result (List ℕ) FileFault → Type 0) (settings : Settings) (names : List Named) → option_map string_bytes settings.names_file ≡ None
+    → (IsAlone settings → ⊥) → names ≡ word_names (map string_bytes settings.files.items) → AreNamed gives settings (Some names)
+named_by_words gives settings names unlisted others are =
+    rw unlisted (ap (λ l. Some l) are ∙ sym (some_words (map string_bytes settings.files.items) (λ none. others (unlisted, none))))
+
+pub named_by_list : (gives : List ℕ → Result (List ℕ) FileFault → Type 0) (settings : Settings) (names : List Named) (name list : List ℕ) → option_map string_bytes settings.names_file ≡ Some name
+    → IsList gives name list → names ≡ listed_names list → AreNamed gives settings (Some names)
+named_by_list gives settings names name list listed is are = rw listed (list, is, ap (λ l. Some l) are)
+
+-- there are no names
+pub listless : (gives : List ℕ → Result (List ℕ) FileFault → Type 0) (settings : Settings) (name : List ℕ) (fault : FileFault) (hint : Result (List ℕ) AllocError) (cause : Stop)
+    → option_map string_bytes settings.names_file ≡ Some name → HasListFault gives name fault → cause ≡ hinted_stop (stop.List fault) hint → IsNameless gives settings cause
+listless gives settings name fault (Ok hint) cause listed has is = rw is (name, listed, has)
+listless gives settings name fault (Err none) cause listed has is = rw is tt
+
+-- the words or the schema file couldn't be read, or the words give no settings
+pub early : (before after : Ends) (outcome : Result Ending Stop) → EndsSo before after 4294967296 outcome → after.reader ≡ before.reader → Rests before after None outcome
+early before after outcome ends same = record { places = tt; ends = ends; turns = rw same (omega arith) }
+
+-- so none is begun
+pub nameless : (folder : Folder) (file : Option (Bor (List ℕ))) (settings : Settings) (seen : Seen) (cause : Stop) → IsNameless folder.gives settings cause
+    → ComesAsAsked folder file settings seen seen None (Err cause) × Rests seen.ends seen.ends None (Err cause)
+nameless folder file settings seen (stop.List fault hint) is = ((is, idle seen.ends, refl), early seen.ends seen.ends _ (refl, refl, refl) refl)
+nameless folder file settings seen (stop.Settings refusal.OutOfMemory) is = ((is, idle seen.ends, refl), early seen.ends seen.ends _ (refl, refl, refl) refl)
+nameless folder file settings seen _ never = absurd never
+
 -- a summary was noted whole, or in part
 pub sums_noted : (sums : Option Sums) (told : Sums) (before after : Writer) (outcome : Result Ending Stop) (line : List ℕ) (written : ℕ)
     → sums ≡ Some told → line ≡ summary_in told.form told.tally → written ≡ length line → Appends before.bytes after.bytes (take written line) → after.failures ≡ before.failures
@@ -143,10 +167,6 @@ pub sums_noted : (sums : Option Sums) (told : Sums) (before after : Writer) (out
 sums_noted sums told before after outcome line written some is all wrote same =
     subst (λ (o : Option Sums). SumsUp o before after outcome outcome) (sym some)
     (inl (subst (Appends before.bytes after.bytes) (ap (λ (m : ℕ). take m line) all ∙ take-length line ∙ is) wrote, same, refl))
-
--- the words or the schema file couldn't be read, or the words give no settings
-pub early : (before after : Ends) (outcome : Result Ending Stop) → EndsSo before after 4294967296 outcome → after.reader ≡ before.reader → Rests before after None outcome
-early before after outcome ends same = record { places = tt; ends = ends; turns = rw same (omega arith) }
 
 pub wordless : {A B : Type 0} (folder : Folder) (given : Result (Vec (String A) B) WordsFault) (seen : Seen) (fault : WordsFault) (hint : Result (List ℕ) AllocError) (cause : Stop)
     → given ≡ Err fault → cause ≡ hinted_stop (stop.Words fault) hint

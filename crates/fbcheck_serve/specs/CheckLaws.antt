@@ -1,11 +1,13 @@
 -- The laws of what a schema file and the settings ask.
-use Rattle.std.specs.Prelude.{◌≡◌, ℕ, List, Option, Result, length}
+use Rattle.std.specs.Prelude.{◌≡◌, ◌≢◌, ℕ, List, [], ◌∷◌, ◌++◌, Option, Result, length, map}
+use Rattle.std.specs.List.{AllByRecursion}
 use Rattle.std.specs.Borrow.{Bor}
 use Rattle.fb_access.specs.Resolving.{Resolves}
 use Rattle.fb_access.specs.declared.step.Step.{Step}
 use Rattle.fb_lines.specs.Job.{Job}
 use Rattle.fb_schema.specs.Rows.{Rows}
 use Rattle.fbcheck_serve.specs.Checking.{Asks}
+use Rattle.fbcheck_serve.specs.Names.{last_name, listed_name, listed_names}
 use Rattle.fbcheck_words.specs.Given.{steps_in}
 use Rattle.fbcheck_words.specs.declared.choices.Settings.{Settings}
 use Rattle.fbcheck_texts.specs.declared.fault.AskFault.{AskFault}
@@ -17,3 +19,19 @@ AsksOnce = (file : Option (Bor (List ℕ))) (settings : Settings) (x y : Result 
 -- a path has as many steps as are counted in its text
 abbrev pub AreStepsAsWritten : Type 0
 AreStepsAsWritten = (rows : Rows) (root : ℕ) (text : List ℕ) (steps : List Step) → Resolves rows root text steps → length steps ≡ steps_in text
+
+-- names as they stand in a list, each ended by a zero byte
+abbrev pub spelled : List (List ℕ) → List ℕ
+spelled [] = []
+spelled (name ∷ names) = name ++ (0 ∷ spelled names)
+
+-- a name without a zero byte
+abbrev pub IsUnbroken : List ℕ → Type 0
+IsUnbroken name = AllByRecursion (λ b. b ≢ 0) name
+
+-- names that stand so in a list are those that are read from it; and behind them one that isn't ended, unless it has no
+-- bytes
+abbrev pub AreNamesAsWritten : Type 0
+AreNamesAsWritten =
+    (names : List (List ℕ)) (last : List ℕ) → AllByRecursion IsUnbroken names → IsUnbroken last
+    → listed_names (spelled names ++ last) ≡ map listed_name names ++ last_name last

@@ -12,6 +12,7 @@ use Rattle.fb_strict.specs.Planned.{IsPlan, Planned}
 use Rattle.fbcheck_serve.specs.{ByteFields.AreTold, ByteFields.LacksTable, ByteFields.Misses, FileMarks.IsMarkedFile, FileMarks.schema_limits}
 use Rattle.fbcheck_serve.specs.Asked.{AsksBy, IsPathFault, Own, demanded_by}
 use Rattle.fbcheck_serve.specs.Heads.{IsHeaded, RunsBehindHead, ServesBehindHead}
+use Rattle.fbcheck_serve.specs.{Lists.AreNamed, Names.Named, Names.all_named}
 use Rattle.fbcheck_serve.specs.Inputs.{Folder, IsPromptAmong, IsPromptOver, MayReadEach, Seen}
 use Rattle.fb_lines.specs.{Ends.Ends, Ends.Unwritten, Job.Job}
 use Rattle.fb_run.specs.Prompt.{IsPrompt}
@@ -128,19 +129,15 @@ IsChecked file settings before after (Ok tally) = RunsAsAsked file settings befo
 IsChecked file settings before after (Err (check.Run fault)) = (tally : Tally) × RunsAsAsked file settings before after tally (Err fault)
 IsChecked file settings before after (Err (check.Ask fault)) = LacksJob file settings fault × IsIdle before after
 
--- the names of the files that the settings ask for
-abbrev pub names_in : Settings → List (List ℕ)
-names_in settings = map string_bytes settings.files.items
-
 -- what came of these files, gone through as was asked for, behind their head, and what was read, written and noted
-abbrev pub ServesAsAsked : Folder → Option (Bor (List ℕ)) → Settings → Seen → Seen → Course → End → Type 0
-ServesAsAsked folder file settings before after course end =
-    (job : Job) × Asks file settings (Ok job) × ServesBehindHead folder job (names_in settings) before after course end
+abbrev pub ServesAsAsked : Folder → Option (Bor (List ℕ)) → Settings → List Named → Seen → Seen → Course → End → Type 0
+ServesAsAsked folder file settings names before after course end =
+    (job : Job) × Asks file settings (Ok job) × ServesBehindHead folder job names before after course end
 
 -- the same where it may be that none was begun
-abbrev pub IsServedEach : Folder → Option (Bor (List ℕ)) → Settings → Seen → Seen → Result Passed Unasked → Type 0
-IsServedEach folder file settings before after (Ok passed) = ServesAsAsked folder file settings before after passed.course passed.end
-IsServedEach folder file settings before after (Err unasked) = LacksJob file settings unasked.fault × IsIdle before.ends after.ends
+abbrev pub IsServedEach : Folder → Option (Bor (List ℕ)) → Settings → List Named → Seen → Seen → Result Passed Unasked → Type 0
+IsServedEach folder file settings names before after (Ok passed) = ServesAsAsked folder file settings names before after passed.course passed.end
+IsServedEach folder file settings names before after (Err unasked) = LacksJob file settings unasked.fault × IsIdle before.ends after.ends
 
 -- there was nothing to check by
 abbrev pub IsUnasked : CheckFault → Type 0
@@ -158,20 +155,22 @@ abbrev pub IsPromptAsAsked : Option (Bor (List ℕ)) → Settings → Ends → E
 IsPromptAsAsked file settings before now =
     (job : Job) × Asks file settings (Ok job) × (headed : Ends) × IsHeaded job [] before headed × IsPrompt job headed now
 
--- the same where files are gone through
-abbrev pub IsPromptAmongAsked : Folder → Option (Bor (List ℕ)) → Settings → Ends → Ends → Type 0
-IsPromptAmongAsked folder file settings before now =
-    (job : Job) × Asks file settings (Ok job) × (headed : Ends) × IsHeaded job (names_in settings) before headed
-    × IsPromptAmong folder job (names_in settings) headed now
+-- the same where these files are gone through
+abbrev pub IsPromptAmongAsked : Folder → Option (Bor (List ℕ)) → Settings → List Named → Ends → Ends → Type 0
+IsPromptAmongAsked folder file settings names before now =
+    (job : Job) × Asks file settings (Ok job) × (headed : Ends) × IsHeaded job names before headed × IsPromptAmong folder job names headed now
 
--- and whether or not they are
+-- and whether or not some are
 abbrev pub IsPromptOverAsked : Folder → Option (Bor (List ℕ)) → Settings → Ends → Ends → Type 0
 IsPromptOverAsked folder file settings before now =
-    (job : Job) × Asks file settings (Ok job) × (headed : Ends) × IsHeaded job (names_in settings) before headed
-    × IsPromptOver folder job (names_in settings) headed now
+    (names : Option (List Named)) × (job : Job) × AreNamed folder.gives settings names × Asks file settings (Ok job)
+    × (headed : Ends) × IsHeaded job (all_named names) before headed × IsPromptOver folder job names headed now
 
--- the files that are named may be read so, behind the head
+-- these files may be read so, behind the head; and those that are asked for
+abbrev pub MayReadNamed : Folder → Option (Bor (List ℕ)) → Settings → List Named → Ends → Type 0
+MayReadNamed folder file settings names before =
+    (job : Job) (headed : Ends) → Asks file settings (Ok job) → IsHeaded job names before headed → MayReadEach folder job names headed
+
 abbrev pub MayReadAsked : Folder → Option (Bor (List ℕ)) → Settings → Ends → Type 0
 MayReadAsked folder file settings before =
-    (job : Job) (headed : Ends) → Asks file settings (Ok job) → IsHeaded job (names_in settings) before headed
-    → MayReadEach folder job (names_in settings) headed
+    (names : List Named) → AreNamed folder.gives settings (Some names) → MayReadNamed folder file settings names before

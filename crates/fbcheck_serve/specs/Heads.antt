@@ -5,11 +5,12 @@ use Rattle.fb_bytes.specs.Ends.{one_more}
 use Rattle.fb_lines.specs.{Csv.head_in, Ends.Ends, Ends.Writer, Ends.with_writer, Faults.End, Job.Job, Lines.WritesFront, Sums.no_tally}
 use Rattle.fb_lines.specs.declared.{fault.RunFault.TheVariants.WriteFault, tally.Tally.Tally}
 use Rattle.fb_run.specs.Run.{IsRunBeside}
+use Rattle.fbcheck_serve.specs.Names.{Named}
 use Rattle.fbcheck_serve.specs.Inputs.{Folder, Seen, ServesEach, are_named, at_first, no_course, stand, sum_of_bytes, with_cause}
 use Rattle.fbcheck_serve.specs.declared.inputs.Course.{Course}
 
 -- what a job has written above all else, over the files of these names: a head where it asks for rows, and else nothing
-abbrev pub head_of : Job → List (List ℕ) → List ℕ
+abbrev pub head_of : Job → List Named → List ℕ
 head_of job names = head_in job.mode (are_named job.label names) job.paths
 
 -- it was written, or in a write that failed a front of it
@@ -19,7 +20,7 @@ IsHeadPut head before after (Err (WriteFault written)) = WritesFront head before
 IsHeadPut head before after (Err _) = ⊥
 
 -- it stands written, and nothing else was done
-abbrev pub IsHeaded : Job → List (List ℕ) → Ends → Ends → Type 0
+abbrev pub IsHeaded : Job → List Named → Ends → Ends → Type 0
 IsHeaded job names before headed =
     (writer : Writer) × IsHeadPut (head_of job names) before.outs.writer writer (Ok tt) × (headed ≡ with_writer before writer)
 
@@ -40,7 +41,7 @@ RunsBehindHead job before after tally end =
     ⊎ (IsCut (head_of job []) before after end × (tally ≡ no_tally))
 
 -- the same of files
-abbrev pub ServesBehindHead : Folder → Job → List (List ℕ) → Seen → Seen → Course → End → Type 0
+abbrev pub ServesBehindHead : Folder → Job → List Named → Seen → Seen → Course → End → Type 0
 ServesBehindHead folder job names before after course end =
     ((headed : Ends) × IsHeaded job names before.ends headed × ServesEach folder job names (at_first (with_cause headed before.cause)) (stand after course) end)
     ⊎ (IsCut (head_of job names) before.ends after.ends end × (after.cause ≡ before.cause) × (course ≡ no_course))

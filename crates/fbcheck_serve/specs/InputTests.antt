@@ -5,6 +5,8 @@ use Rattle.fb_lines.specs.Sums.{no_tally}
 use Rattle.fb_lines.specs.declared.fault.RunFault.TheVariants.{ReadFault, WriteFault, NoteFault, Stream, TooManyTurns, OutOfMemory, BareTooLong, SkipPastEnd}
 use Rattle.fb_run.specs.declared.run.Ran.{Ran}
 use Rattle.fbcheck_serve.specs.Inputs.{are_named, course_with, fault_line, is_final, label_of}
+use Rattle.fbcheck_serve.specs.Names.{listed_name, listed_names, misnomer_text, word_name, wrong_name}
+use Rattle.fbcheck_serve.specs.declared.names.Misnomer.TheVariants.{Empty, NotText}
 use Rattle.fbcheck_serve.specs.declared.{inputs.Course.Course, inputs.Standard.TheVariants.Unread, inputs.Standard.TheVariants.Spent}
 use Rattle.fbcheck_serve.specs.declared.inputs.Missed.TheVariants.{Again}
 
@@ -24,12 +26,12 @@ cut = record { tally = no_tally; end = Err ReadFault }
 
 -- two files come to the greater of their statuses, whichever is the last, and to the sums of their numbers
 pub record Courses : Type 0 where
-  pub first_bad : (course_with (codes "b") (Ok good) (course_with (codes "a") (Ok bad) none)).status ≡ 1
-  pub last_bad : (course_with (codes "b") (Ok bad) (course_with (codes "a") (Ok good) none)).status ≡ 1
-  pub first_cut : (course_with (codes "b") (Ok bad) (course_with (codes "a") (Ok cut) none)).status ≡ 3
-  pub read_twice : (course_with (codes "-") (Err Again) (course_with (codes "-") (Ok good) none)).status ≡ 3
-  pub both : (course_with (codes "b") (Ok good) (course_with (codes "a") (Ok bad) none)).tally ≡ record no_tally { yes = 2; no = 1; bytes = 92 }
-  pub spent : (course_with (codes "a") (Ok good) (course_with (codes "-") (Ok bad) none)).standard ≡ Spent
+  pub first_bad : (course_with (word_name (codes "b")) (Ok good) (course_with (word_name (codes "a")) (Ok bad) none)).status ≡ 1
+  pub last_bad : (course_with (word_name (codes "b")) (Ok bad) (course_with (word_name (codes "a")) (Ok good) none)).status ≡ 1
+  pub first_cut : (course_with (word_name (codes "b")) (Ok bad) (course_with (word_name (codes "a")) (Ok cut) none)).status ≡ 3
+  pub read_twice : (course_with (word_name (codes "-")) (Err Again) (course_with (word_name (codes "-")) (Ok good) none)).status ≡ 3
+  pub both : (course_with (word_name (codes "b")) (Ok good) (course_with (word_name (codes "a")) (Ok bad) none)).tally ≡ record no_tally { yes = 2; no = 1; bytes = 92 }
+  pub spent : (course_with (word_name (codes "a")) (Ok good) (course_with (word_name (codes "-")) (Ok bad) none)).standard ≡ Spent
 
 -- what ends it all, whatever files are left: a failed write or note, and want of memory; and what ends one file alone
 pub record Finals : Type 0 where
@@ -48,3 +50,16 @@ pub record Labels : Type 0 where
   pub of_one : label_of (are_named None (codes "a" ∷ [])) (codes "a") ≡ None
   pub of_one_named : label_of (are_named (Some (codes "-")) (codes "a" ∷ [])) (codes "a") ≡ Some (codes "a")
   pub of_a_fault : fault_line (codes "a.bin") (codes "no such file") (codes "\n") ≡ codes "fbcheck: a.bin: no such file\n"
+
+-- names in a list stand in its order, each up to a zero byte, or the last up to the end; and which are those of no file
+pub record Listed : Type 0 where
+  pub none : listed_names [] ≡ []
+  pub two : listed_names (98 ∷ 0 ∷ 97 ∷ 0 ∷ []) ≡ listed_name (codes "b") ∷ listed_name (codes "a") ∷ []
+  pub unended : listed_names (98 ∷ 0 ∷ 97 ∷ []) ≡ listed_name (codes "b") ∷ listed_name (codes "a") ∷ []
+  pub empty : listed_names (0 ∷ 97 ∷ 0 ∷ 0 ∷ []) ≡ listed_name [] ∷ listed_name (codes "a") ∷ listed_name [] ∷ []
+  pub without_bytes : wrong_name (listed_name []) ≡ Some Empty
+  pub word_without_bytes : wrong_name (word_name []) ≡ None
+  pub no_text : wrong_name (listed_name (97 ∷ 195 ∷ [])) ≡ Some NotText
+  pub a_text : wrong_name (listed_name (codes "a/b.bin")) ≡ None
+  pub empty_text : misnomer_text Empty ≡ codes "invalid zero-length file name"
+  pub no_text_text : misnomer_text NotText ≡ codes "file name isn't UTF-8"

@@ -1,5 +1,5 @@
 -- Files as inputs, one behind another.
-use Rattle.std.specs.Prelude.{◌≡◌, ◌<◌, ◌≤◌, ℕ, ◌+◌, ◌⊎◌, Bool, true, false, ◌||◌, is_some, min, max, nat_lt, length, List, [], ◌∷◌, ◌++◌, IfSome, Option, Some, None, Result, Ok, Err, bytes_eq, codes}
+use Rattle.std.specs.Prelude.{◌≡◌, ◌<◌, ◌≤◌, ℕ, ◌+◌, ◌⊎◌, Bool, true, false, ◌||◌, is_some, min, max, nat_lt, length, List, [], ◌∷◌, ◌++◌, IfSome, Option, Some, None, Result, Ok, Err, codes}
 use Rattle.std.specs.{List.flat_map, Io.KnownBytes.Appends}
 use Rattle.fb_lines.specs.{AnswerText.byte_text, Faults.End, Faults.EndsBeside, Faults.status_of}
 use Rattle.fb_lines.specs.Ends.{Ends, Outs, Reader, Writer, beside, with_notes}
@@ -14,6 +14,7 @@ use Rattle.fb_run.specs.declared.run.Ran.{Ran}
 use Rattle.fb_lines.specs.declared.fault.RunFault.TheVariants.{WriteFault, NoteFault, OutOfMemory}
 use Rattle.std.specs.declared.io.ErrorKind.{ErrorKind}
 use Rattle.fbcheck_texts.specs.{Causes.reason_text, FaultJson.IsLineIn, FaultJson.fault_object, FaultJson.hint_object, Hints.IsHint, Hints.IsRunHint, Texts.of_read, Texts.run_text, Texts.stopped_text}
+use Rattle.fbcheck_serve.specs.Names.{Named, is_standard, misnomer_text, wrong_name}
 use Rattle.fbcheck_serve.specs.declared.files.Files as files
 use Rattle.fbcheck_texts.specs.declared.causes.Explains as explains
 use Rattle.fbcheck_texts.specs.declared.fault.FileFault.{FileFault}
@@ -46,10 +47,6 @@ sum_of some more = record {
   tables = sum_of_bytes some.tables more.tables;
   reads = sum_of_bytes some.reads more.reads;
 }
-
--- standard input, by its name
-abbrev pub is_standard : List ℕ → Bool
-is_standard name = bytes_eq name (codes "-")
 
 -- whether there are several
 abbrev pub are_several : {A : Type 0} → List A → Bool
@@ -110,12 +107,13 @@ IsFresh reader = (reader.calls ≡ 0) × (reader.ended ≡ false)
 
 -- a run over what was opened by a name, from its start, how it ended, and the cause that it tells; where its bytes are
 -- known, a read of the file of that name may give them
-pub record RunsOpened (folder : Folder) (job : Job) (name : List ℕ) (before after : Seen) (ran : Ran) (cause : Option ErrorKind) : Type 0 where
+pub record RunsOpened (folder : Folder) (job : Job) (name : Named) (before after : Seen) (ran : Ran) (cause : Option ErrorKind) : Type 0 where
   pub from : folder.Opened
   pub to : folder.Opened
-  pub opened : folder.opens name from
+  pub named : wrong_name name ≡ None
+  pub opened : folder.opens name.bytes from
   pub fresh : IsFresh (folder.reader from)
-  pub bytes : IfSome (folder.reader from).left (λ bytes. folder.gives name (Ok bytes))
+  pub bytes : IfSome (folder.reader from).left (λ bytes. folder.gives name.bytes (Ok bytes))
   pub run : IsRunBeside job (beside (folder.reader from) before.ends.outs) (beside (folder.reader to) after.ends.outs) ran.tally ran.end
   pub end : EndsBeside (beside (folder.reader from) before.ends.outs) (beside (folder.reader to) after.ends.outs) 4294967296 ran.end
   pub turns : (folder.reader to).calls ≤ 4294967296
@@ -131,17 +129,19 @@ pub record RunsStandard (job : Job) (standard : Standard) (before after : Seen) 
   pub cause_is : cause ≡ after.cause
 
 -- the one of both that the name says
-abbrev pub RunsOver : Bool → Folder → Job → List ℕ → Standard → Seen → Seen → Ran → Option ErrorKind → Type 0
+abbrev pub RunsOver : Bool → Folder → Job → Named → Standard → Seen → Seen → Ran → Option ErrorKind → Type 0
 RunsOver true folder job name standard before after ran cause = RunsStandard job standard before after ran cause
 RunsOver false folder job name standard before after ran cause = RunsOpened folder job name before after ran cause
 
--- why there is no run over a file: it can't be opened, or it is standard input, which was read before
-abbrev pub IsMissed : Folder → List ℕ → Standard → Missed → Type 0
-IsMissed folder name standard (missed.File fault) = (is_standard name ≡ false) × folder.gives name (Err fault)
+-- why there is no run over a file: it can't be opened, its name is that of none, or it is standard input, which was read
+-- before
+abbrev pub IsMissed : Folder → Named → Standard → Missed → Type 0
+IsMissed folder name standard (missed.File fault) = (is_standard name ≡ false) × (wrong_name name ≡ None) × folder.gives name.bytes (Err fault)
+IsMissed folder name standard (missed.Name why) = (is_standard name ≡ false) × (wrong_name name ≡ Some why)
 IsMissed folder name standard missed.Again = (is_standard name ≡ true) × (standard ≡ Spent)
 
 -- what a file came to, and what was read, written and noted by then, with the cause that its reader tells
-abbrev pub ComesOf : Folder → Job → List ℕ → Standard → Seen → Seen → Result Ran Missed → Option ErrorKind → Type 0
+abbrev pub ComesOf : Folder → Job → Named → Standard → Seen → Seen → Result Ran Missed → Option ErrorKind → Type 0
 ComesOf folder job name standard before after (Ok ran) cause = RunsOver (is_standard name) folder job name standard before after ran cause
 ComesOf folder job name standard before after (Err missed) cause = IsMissed folder name standard missed × (after ≡ before)
 
@@ -223,6 +223,7 @@ abbrev pub IsBehind : Form → ℕ → List ℕ → Result Ran Missed → Option
 IsBehind form most name (Ok ran) cause before after end = IsBehindRun form most name ran cause before after end
 IsBehind form most name (Err (missed.File file.OutOfMemory)) cause before after end = (end ≡ Err OutOfMemory) × (after ≡ before)
 IsBehind form most name (Err (missed.File (file.Unreadable why))) cause before after end = TellsFault form name (reason_text why) (codes "\n") before after end
+IsBehind form most name (Err (missed.Name why)) cause before after end = TellsFault form name (misnomer_text why) (codes "\n") before after end
 IsBehind form most name (Err missed.Again) cause before after end = TellsFault form name (codes "standard input was read before") (codes "\n") before after end
 
 -- standard input once this file was gone through
@@ -231,7 +232,7 @@ standard_after true standard = Spent
 standard_after false standard = standard
 
 -- what the files came to with this one: the sum of the numbers, and the greatest status
-abbrev pub course_with : List ℕ → Result Ran Missed → Course → Course
+abbrev pub course_with : Named → Result Ran Missed → Course → Course
 course_with name (Ok ran) course = record {
   tally = sum_of course.tally ran.tally;
   status = max course.status (status_of (answer_by ran.tally ran.end));
@@ -259,12 +260,12 @@ abbrev pub stand : Seen → Course → Stand
 stand now course = record { seen = now; course = course }
 
 -- a file was gone through: it goes on behind it, or that ended it all
-pub record Passes (folder : Folder) (job : Job) (name : List ℕ) (before after : Stand) (end : End) : Type 0 where
+pub record Passes (folder : Folder) (job : Job) (name : Named) (before after : Stand) (end : End) : Type 0 where
   pub came : Result Ran Missed
   pub cause : Option ErrorKind
   pub between : Seen
   pub comes : ComesOf folder job name before.course.standard before.seen between came cause
-  pub told : IsBehind job.form job.most_bad name came cause between.ends.outs.notes after.seen.ends.outs.notes end
+  pub told : IsBehind job.form job.most_bad name.bytes came cause between.ends.outs.notes after.seen.ends.outs.notes end
   pub others : after.seen ≡ renoted between after.seen.ends.outs.notes
   pub course_is : after.course ≡ course_with name came before.course
 
@@ -274,58 +275,58 @@ IsUnbegun OutOfMemory = Unit {0}
 IsUnbegun _ = ⊥
 
 -- a file was gone through, or wasn't begun
-abbrev pub Tries : Folder → Job → List ℕ → Stand → Stand → End → Type 0
+abbrev pub Tries : Folder → Job → Named → Stand → Stand → End → Type 0
 Tries folder job name before after (Ok done) = Passes folder job name before after (Ok tt)
 Tries folder job name before after (Err fault) = Passes folder job name before after (Err fault) ⊎ (IsUnbegun fault × (after ≡ before))
 
 -- all these files were gone through, in their order
-abbrev pub PassesAll : Folder → Job → Bool → List (List ℕ) → Stand → Stand → Type 0
+abbrev pub PassesAll : Folder → Job → Bool → List Named → Stand → Stand → Type 0
 PassesAll folder job several [] before after = after ≡ before
 PassesAll folder job several (name ∷ names) before after =
-    (mid : Stand) × Tries folder (with_label (label_of several name) job) name before mid (Ok tt) × PassesAll folder job several names mid after
+    (mid : Stand) × Tries folder (with_label (label_of several name.bytes) job) name before mid (Ok tt) × PassesAll folder job several names mid after
 
 -- one of the files ended it all, behind those before it
-pub record HaltsAmong (folder : Folder) (job : Job) (names : List (List ℕ)) (before after : Stand) (fault : RunFault) : Type 0 where
-  pub front : List (List ℕ)
-  pub name : List ℕ
-  pub rest : List (List ℕ)
+pub record HaltsAmong (folder : Folder) (job : Job) (names : List Named) (before after : Stand) (fault : RunFault) : Type 0 where
+  pub front : List Named
+  pub name : Named
+  pub rest : List Named
   pub names_are : names ≡ front ++ (name ∷ rest)
   pub mid : Stand
   pub passes : PassesAll folder job (are_named job.label names) front before mid
-  pub halts : Tries folder (with_label (label_of (are_named job.label names) name) job) name mid after (Err fault)
+  pub halts : Tries folder (with_label (label_of (are_named job.label names) name.bytes) job) name mid after (Err fault)
 
 -- the files were gone through, all of them or up to one that ended it all
-abbrev pub ServesEach : Folder → Job → List (List ℕ) → Stand → Stand → End → Type 0
+abbrev pub ServesEach : Folder → Job → List Named → Stand → Stand → End → Type 0
 ServesEach folder job names before after (Ok done) = PassesAll folder job (are_named job.label names) names before after
 ServesEach folder job names before after (Err fault) = HaltsAmong folder job names before after fault
 
 -- beside these outputs each file that is opened by this name may be asked wherever no read of it failed or told its end
 -- and all that was read of it is told
-abbrev pub MayRead : Folder → Job → List ℕ → Outs → Type 0
+abbrev pub MayRead : Folder → Job → Named → Outs → Type 0
 MayRead folder job name outs =
-    (file : folder.Opened) (now : Ends) → folder.opens name file → IsPrompt job (beside (folder.reader file) outs) now → IsUnended (folder.reader file) now.reader → folder.may_ask now
+    (file : folder.Opened) (now : Ends) → folder.opens name.bytes file → IsPrompt job (beside (folder.reader file) outs) now → IsUnended (folder.reader file) now.reader → folder.may_ask now
 
 -- so may each of these files that isn't standard input, once those before it were gone through
-abbrev pub MayReadEach : Folder → Job → List (List ℕ) → Ends → Type 0
+abbrev pub MayReadEach : Folder → Job → List Named → Ends → Type 0
 MayReadEach folder job names before =
-    (front rest : List (List ℕ)) (name : List ℕ) (cause : Option ErrorKind) (mid : Stand) → names ≡ front ++ (name ∷ rest) → is_standard name ≡ false
+    (front rest : List Named) (name : Named) (cause : Option ErrorKind) (mid : Stand) → names ≡ front ++ (name ∷ rest) → is_standard name ≡ false
     → PassesAll folder job (are_named job.label names) front (at_first (with_cause before cause)) mid
-    → MayRead folder (with_label (label_of (are_named job.label names) name) job) name mid.seen.ends.outs
+    → MayRead folder (with_label (label_of (are_named job.label names) name.bytes) job) name mid.seen.ends.outs
 
 -- all that was read by now is told, where standard input is read among these files: of those before it, and then of it
-pub record IsPromptAmong (folder : Folder) (job : Job) (names : List (List ℕ)) (before now : Ends) : Type 0 where
-  pub front : List (List ℕ)
-  pub name : List ℕ
-  pub rest : List (List ℕ)
+pub record IsPromptAmong (folder : Folder) (job : Job) (names : List Named) (before now : Ends) : Type 0 where
+  pub front : List Named
+  pub name : Named
+  pub rest : List Named
   pub names_are : names ≡ front ++ (name ∷ rest)
   pub standard : is_standard name ≡ true
   pub cause : Option ErrorKind
   pub mid : Stand
   pub passes : PassesAll folder job (are_named job.label names) front (at_first (with_cause before cause)) mid
   pub unread : mid.course.standard ≡ Unread
-  pub prompt : IsPrompt (with_label (label_of (are_named job.label names) name) job) mid.seen.ends now
+  pub prompt : IsPrompt (with_label (label_of (are_named job.label names) name.bytes) job) mid.seen.ends now
 
--- the same where none may be named, and standard input is all
-abbrev pub IsPromptOver : Folder → Job → List (List ℕ) → Ends → Ends → Type 0
-IsPromptOver folder job [] before now = IsPrompt job before now
-IsPromptOver folder job (name ∷ names) before now = IsPromptAmong folder job (name ∷ names) before now
+-- the same where no names are asked for, and standard input is all
+abbrev pub IsPromptOver : Folder → Job → Option (List Named) → Ends → Ends → Type 0
+IsPromptOver folder job None before now = IsPrompt job before now
+IsPromptOver folder job (Some names) before now = IsPromptAmong folder job names before now

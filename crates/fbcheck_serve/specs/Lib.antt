@@ -1,6 +1,8 @@
 -- What public contracts say, in reading order.
 pub mod ByteFields
 pub mod FileMarks
+pub mod Names
+pub mod Lists
 pub mod Asked
 pub mod Inputs
 pub mod Heads

@@ -5,16 +5,18 @@ use Rattle.fb_rules.specs.Reasons.{reason_count}
 use Rattle.std.specs.{Borrow.Bor, Io.KnownBytes.Appends, Io.KnownBytes.Keeps, declared.alloc.AllocError.AllocError, declared.io.ErrorKind.ErrorKind}
 use Rattle.clap.specs.{Walk.Text, Faults.fault_of}
 use Rattle.fbcheck_serve.specs.Asked.{form_of}
-use Rattle.fbcheck_serve.specs.Checking.{IsIdle, IsPromptOverAsked, LacksJob, MayReadAsked, RunsAsAsked, ServesAsAsked, names_in}
+use Rattle.fbcheck_serve.specs.Checking.{IsIdle, IsPromptOverAsked, LacksJob, MayReadAsked, RunsAsAsked, ServesAsAsked}
 use Rattle.fbcheck_texts.specs.{Causes.is_unread, FaultJson.IsLineIn, FaultJson.fault_object, FaultJson.hint_object, Hints.IsHint, Hints.IsRunHint, Faults.HasFileFault, Faults.IsFile, Faults.ask_status}
-use Rattle.fbcheck_texts.specs.Texts.{ask_text, file_text, run_text, stopped_text, unsummed_text, words_text}
+use Rattle.fbcheck_texts.specs.Texts.{ask_text, file_text, list_text, run_text, stopped_text, unsummed_text, words_text}
 use Rattle.fbcheck_texts.specs.declared.{framing.By.By, framing.Manner.Manner, hint.Unasked.Unasked}
+use Rattle.fbcheck_serve.specs.{Lists.AreNamed, Lists.LacksList, Names.Named}
 use Rattle.fbcheck_serve.specs.Inputs.{Folder, IsNoted, Seen, renoted}
 use Rattle.fbcheck_words.specs.{CommandLine.program, Refusal.Refuses, Refusal.refusal_status, Refusal.refusal_text, Given.AreGiven, Values.text_of}
 use Rattle.fb_lines.specs.{Ends.Ends, Ends.Writer, Ends.with_notes, Lines.WritesFront, JsonSums.summary_in}
 use Rattle.fb_lines.specs.Faults.{End, EndsBeside, IsUnfailed, failures_of, status_of}
 use Rattle.fbcheck_words.specs.declared.{choices.Settings.Settings, choices.SettingsFault.SettingsFault}
 use Rattle.fbcheck_words.specs.declared.choices.SettingsFault.TheVariants as refusal
+use Rattle.fbcheck_texts.specs.declared.fault.FileFault.{FileFault}
 use Rattle.fbcheck_texts.specs.declared.fault.FileFault.TheVariants as file_fault
 use Rattle.fb_run.specs.declared.run.Ran.{Ran}
 use Rattle.fbcheck_serve.specs.declared.inputs.Passed as inputs
@@ -48,15 +50,25 @@ pub record HoldsAsGiven (folder : Folder) (given : List Text) (Holds : Option (B
 abbrev pub summed : Settings → Tally → Option Sums
 summed settings tally = if settings.summary then Some (record { form = form_of settings.form; tally = tally }) else None
 
+-- the settings name no files, and no list of names: so standard input is all
+abbrev pub IsAlone : Settings → Type 0
+IsAlone settings = (option_map string_bytes settings.names_file ≡ None) × (map string_bytes settings.files.items ≡ [])
+
 -- the buffers of standard input were checked as the settings ask, which name no files, this was counted, and these
 -- numbers are to be told
 abbrev pub ChecksAsAsked : Option (Bor (List ℕ)) → Settings → Ends → Ends → Option Sums → Tally → End → Type 0
-ChecksAsAsked file settings before after sums tally end = (names_in settings ≡ []) × RunsAsAsked file settings before after tally end × (sums ≡ summed settings tally)
+ChecksAsAsked file settings before after sums tally end = IsAlone settings × RunsAsAsked file settings before after tally end × (sums ≡ summed settings tally)
 
 -- files were gone through as the settings ask, they came to this, and these numbers are to be told
 abbrev pub PassesAsAsked : Folder → Option (Bor (List ℕ)) → Settings → Seen → Seen → Option Sums → Course → End → Type 0
 PassesAsAsked folder file settings before after sums course end =
-    (names_in settings ≢ []) × ServesAsAsked folder file settings before after course end × (sums ≡ summed settings course.tally)
+    (names : List Named) × AreNamed folder.gives settings (Some names) × ServesAsAsked folder file settings names before after course end × (sums ≡ summed settings course.tally)
+
+-- the list of names can't be read, or there was no memory for names
+abbrev pub IsNameless : (List ℕ → Result (List ℕ) FileFault → Type 0) → Settings → Stop → Type 0
+IsNameless gives settings (stop.List fault hint) = LacksList gives settings fault
+IsNameless gives settings (stop.Settings refusal.OutOfMemory) = Unit {0}
+IsNameless gives settings _ = ⊥
 
 -- what the program came to by these settings and this schema file
 abbrev pub ComesAsAsked : Folder → Option (Bor (List ℕ)) → Settings → Seen → Seen → Option Sums → Result Ending Stop → Type 0
@@ -65,7 +77,8 @@ ComesAsAsked folder file settings before after sums (Err (stop.Run fault tally m
 ComesAsAsked folder file settings before after sums (Ok (Passed course by)) = PassesAsAsked folder file settings before after sums course (Ok tt)
 ComesAsAsked folder file settings before after sums (Err (stop.Halted fault)) = (course : Course) × PassesAsAsked folder file settings before after sums course (Err fault)
 ComesAsAsked folder file settings before after sums (Err (stop.Ask unasked)) = LacksJob file settings unasked.fault × IsIdle before.ends after.ends × (sums ≡ None)
-ComesAsAsked folder file settings before after sums _ = ⊥
+ComesAsAsked folder file settings before after sums (Ok Helped) = ⊥
+ComesAsAsked folder file settings before after sums (Err fault) = IsNameless folder.gives settings fault × IsIdle before.ends after.ends × (sums ≡ None)
 
 -- how the program ends by the end of a run, and of files
 abbrev pub run_ending : Manner → Tally → End → Result Ending Stop
@@ -182,6 +195,7 @@ stop_text causes (stop.Settings fault) = refusal_text fault
 stop_text causes (stop.CutOff written) = run_text causes (WriteFault written)
 stop_text causes (stop.Unsummed written) = unsummed_text written
 stop_text causes (stop.File fault hint) = file_text fault
+stop_text causes (stop.List fault hint) = list_text fault
 stop_text causes (stop.Ask unasked) = ask_text unasked.fault
 stop_text causes (stop.Run fault tally manner) = run_text causes fault
 stop_text causes (stop.Halted fault) = run_text causes fault
@@ -190,6 +204,7 @@ stop_text causes (stop.Halted fault) = run_text causes fault
 abbrev pub IsBehindStop : Stop → List ℕ → Type 0
 IsBehindStop (stop.Words fault told) text = IsHint text
 IsBehindStop (stop.File fault told) text = IsHint text
+IsBehindStop (stop.List fault told) text = IsHint text
 IsBehindStop (stop.Ask unasked) text = IsHint text
 IsBehindStop (stop.Run fault tally manner) text = IsRunHint fault text
 IsBehindStop _ text = text ≡ codes "\n"
@@ -204,6 +219,8 @@ stop_status (stop.CutOff written) = 3
 stop_status (stop.Unsummed written) = 3
 stop_status (stop.File (file_fault.Unreadable cause) hint) = 2
 stop_status (stop.File file_fault.OutOfMemory hint) = 3
+stop_status (stop.List (file_fault.Unreadable cause) hint) = 2
+stop_status (stop.List file_fault.OutOfMemory hint) = 3
 stop_status (stop.Ask unasked) = ask_status unasked.fault
 stop_status (stop.Run fault tally manner) = status_of (Err fault)
 stop_status (stop.Halted fault) = status_of (Err fault)

@@ -11,8 +11,9 @@ ghost use Rattle.fb_lines.specs.Job.{PathsFit, Serves, job_of};
 ghost use Rattle.fb_access.specs.Fitting.{StepsFit};
 ghost use Rattle.fb_schema.specs.declared.kinds.Kind.TheVariants.{Table};
 
-use crate::inputs::{STANDARD, label};
+use crate::inputs::label;
 use crate::limits::schema_limits;
+use crate::names::STANDARD;
 use crate::strict::plan_of;
 use fb_access::Path;
 use fb_bfbs::{Loaded, load, own_ident, reflection};
@@ -292,7 +293,7 @@ pub fn asked_of<'b>(
         return Err(Unasked::plain(AskFault::NoIdent));
     };
     let plan = plan_of(alloc, &schema, schema_bytes, settings)?;
-    let Ok(label) = label(alloc, settings.with_filename, STANDARD) else {
+    let Ok(label) = label(alloc, settings.with_filename, STANDARD.as_bytes()) else {
         return Err(Unasked::plain(AskFault::OutOfMemory));
     };
     let options = options(settings, root, paths, ident, plan, label);

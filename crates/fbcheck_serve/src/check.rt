@@ -3,7 +3,7 @@
 ghost use Rattle.std.specs.Prelude.{Err, IfErr, IfOk, OnErr, length, ◌≡◌, ◌⊎◌, ◌+◌, ◌<◌, ◌≤◌, ◌^◌};
 ghost use Rattle.fb_rules.specs.Reasons.{reason_count};
 ghost use Rattle.fbcheck_words.specs.Ranges.{AreInRange};
-ghost use Rattle.fbcheck_serve.specs.Checking.{EndsChecked, IsChecked, IsCheckedBeside, IsPromptAmongAsked, IsPromptAsAsked, IsServedEach, IsUnasked, MayReadAsked};
+ghost use Rattle.fbcheck_serve.specs.Checking.{EndsChecked, IsChecked, IsCheckedBeside, IsPromptAmongAsked, IsPromptAsAsked, IsServedEach, IsUnasked, MayReadNamed};
 ghost use Rattle.fbcheck_serve.specs.Inputs.{folder_of, seen_of};
 ghost use Rattle.fb_lines.specs.Faults.{EndsBeside};
 ghost use Rattle.fb_lines.specs.declared.fault.RunFault.TheVariants.{TooManyTurns};
@@ -13,6 +13,7 @@ use crate::asked::asked_of;
 use crate::files::Files;
 use crate::head::{head_of, with_head, write_head};
 use crate::inputs::{Passed, pass_files};
+use crate::names::Name;
 use fb_bytes::Sink;
 use fb_run::{Input, MOST_TURNS, Nowhere, Ran, Tally, run_beside};
 use fbcheck_texts::causes::Explains;
@@ -80,22 +81,23 @@ pub fn check_beside<S: Input<K, N>, K: Sink, N: Sink>(
     })
 }
 
-/// The same of the files that the settings name, one behind another, as [`pass_files`] says.
+/// The same of the files of these names, one behind another, as [`pass_files`] says.
 pub fn check_files<F: Files<K, N>, S: Input<K, N> + Explains, K: Sink, N: Sink>(
     alloc: Global,
     files: &F,
     schema_bytes: Option<&[u8]>,
     settings: &Settings,
+    names: &[Name],
     reader: &mut S,
     writer: &mut K,
     notes: &mut N,
 ) -> Result<Passed, Unasked>
     requires ranges { AreInRange settings.now }
     requires few { S.calls reader.old < 2 ^ 64 }
-    requires leave { HasLeave S.Input (ends_of S.Input K.Sink N.Sink reader.old writer.old notes.old) (IsPromptAmongAsked (folder_of F.Files F.Opened.Input F.Opened.Explains files.now) schema_bytes settings.now) }
-    requires files { MayReadAsked (folder_of F.Files F.Opened.Input F.Opened.Explains files.now) schema_bytes settings.now (ends_of S.Input K.Sink N.Sink reader.old writer.old notes.old) }
+    requires leave { HasLeave S.Input (ends_of S.Input K.Sink N.Sink reader.old writer.old notes.old) (IsPromptAmongAsked (folder_of F.Files F.Opened.Input F.Opened.Explains files.now) schema_bytes settings.now names.now) }
+    requires files { MayReadNamed (folder_of F.Files F.Opened.Input F.Opened.Explains files.now) schema_bytes settings.now names.now (ends_of S.Input K.Sink N.Sink reader.old writer.old notes.old) }
 
-    ensures served { IsServedEach (folder_of F.Files F.Opened.Input F.Opened.Explains files.now) schema_bytes.entry settings.now (seen_of S.Input S.Explains K.Sink N.Sink reader.old writer.old notes.old)
+    ensures served { IsServedEach (folder_of F.Files F.Opened.Input F.Opened.Explains files.now) schema_bytes.entry settings.now names.now (seen_of S.Input S.Explains K.Sink N.Sink reader.old writer.old notes.old)
         (seen_of S.Input S.Explains K.Sink N.Sink reader.new writer.new notes.new) result }
     ensures places { IfOk result (λ passed. length passed.course.tally.reasons ≡ reason_count) }
     ensures unread { OnErr result (reader.new ≡ reader.old) }
@@ -104,7 +106,6 @@ pub fn check_files<F: Files<K, N>, S: Input<K, N> + Explains, K: Sink, N: Sink>(
     ensures turns { S.calls reader.new ≤ S.calls reader.old + MOST_TURNS }
 {
     let mut asked = asked_of(alloc, schema_bytes, settings)?;
-    let names = settings.files.as_slice();
     let head = head_of(alloc, &asked.options, names)?;
     if let Err(fault) = write_head(writer, head.as_slice()) {
         return Ok(Passed::none(fault));

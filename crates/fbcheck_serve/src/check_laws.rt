@@ -1,7 +1,7 @@
 //! What follows from the definitions of what is asked, of files one behind another and of texts alone. These functions
 //! have no body: their contracts are the theorems.
 
-ghost use Rattle.fbcheck_serve.specs.{CheckLaws.AreStepsAsWritten, CheckLaws.AsksOnce, InputTests.Courses, InputTests.Finals, InputTests.Labels, StopTests.StopTexts};
+ghost use Rattle.fbcheck_serve.specs.{CheckLaws.AreStepsAsWritten, CheckLaws.AreNamesAsWritten, CheckLaws.AsksOnce, InputTests.Courses, InputTests.Finals, InputTests.Labels, InputTests.Listed, StopTests.StopTexts};
 ghost use Rattle.fbcheck_texts.specs.TextTests.{AskTexts, LoadTexts, RunTexts};
 
 /// A schema file, or none, and the settings ask at most one thing: that the buffers are checked by one job, or that
@@ -21,12 +21,19 @@ pub fn steps_are_as_written()
     ensures { AreStepsAsWritten }
 {}
 
-/// What two files come to, by example, which name stands in a line, and which faults end it all.
-#[tactic(auto, using(crate::proofs::ShownInputs::courses_shown, crate::proofs::ShownInputs::finals_shown, crate::proofs::ShownInputs::labels_shown))]
+/// Names without a zero byte are read from a list as they stand there, each ended by one, which the last may lack.
+#[tactic(auto, using(crate::proofs::NamesLemmas::names_as_written))]
+pub fn names_are_as_written()
+    ensures { AreNamesAsWritten }
+{}
+
+/// What two files come to, by example, which name stands in a line, which faults end it all, and which names a list has.
+#[tactic(auto, using(crate::proofs::ShownInputs::courses_shown, crate::proofs::ShownInputs::finals_shown, crate::proofs::ShownInputs::labels_shown, crate::proofs::ShownInputs::listed_shown))]
 pub fn files()
     ensures courses { Courses }
     ensures labels { Labels }
     ensures finals { Finals }
+    ensures listed { Listed }
 {}
 
 /// The texts of faults, by example.

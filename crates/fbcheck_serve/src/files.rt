@@ -3,11 +3,14 @@
 ghost use Rattle.std.specs.Prelude.{◌≡◌, IfOk, IfErr, IfSome, Ok, Err, ℕ, List, Option, Result, false, option_map, string_bytes, vec_items};
 ghost use Rattle.fbcheck_texts.specs.Faults.{HasFileFault, IsFile};
 ghost use Rattle.fbcheck_texts.specs.declared.fault.FileFault.{FileFault};
+ghost use Rattle.fbcheck_serve.specs.Lists.{HasListFault, IsList, list_file};
 
+use crate::names::STANDARD;
 use fb_bytes::Sink;
 use fb_run::Input;
 use fbcheck_texts::causes::Explains;
 use fbcheck_texts::fault::FileFault;
+use std::io::ErrorKind;
 
 /// Files that are read by their names, beside a writer and notes of these types.
 pub trait Files<K: Sink, N: Sink> {
@@ -45,5 +48,37 @@ pub fn read_schema<F: Files<K, N>, K: Sink, N: Sink>(
     match name {
         Some(name) => Ok(Some(files.read(name.as_str())?)),
         None => Ok(None),
+    }
+}
+
+/// How many bytes of a list of names are too many.
+const TOO_LONG: usize = 0x8000_0000;
+
+/// The file that is standard input.
+const STANDARD_INPUT: &str = "/dev/stdin";
+
+/// The bytes of a list of names, of which `-` is standard input; one of 2^31 bytes is too long.
+pub fn read_list<F: Files<K, N>, K: Sink, N: Sink>(
+    files: &F,
+    name: &str,
+) -> Result<Vec<u8>, FileFault>
+    ensures list { IfOk result (λ list. IsList (F.gives files.now) name.now list.items) }
+    ensures fault { IfErr result (HasListFault (F.gives files.now) name.now) }
+{
+    let list = files.read(list_file(name))?;
+    if list.len() >= TOO_LONG {
+        return Err(FileFault::Unreadable(ErrorKind::FileTooLarge));
+    }
+    Ok(list)
+}
+
+/// The file that a list of this name is read from.
+fn list_file(name: &str) -> &str
+    ensures { result.now ≡ list_file name.now }
+{
+    if name == STANDARD {
+        STANDARD_INPUT
+    } else {
+        name
     }
 }

@@ -1,12 +1,13 @@
 //! The head of a table, which is written above all that is told of messages.
 
-ghost use Rattle.std.specs.Prelude.{IfErr, IfOk, ◌≡◌, map, string_bytes};
+ghost use Rattle.std.specs.Prelude.{IfErr, IfOk, ◌≡◌};
 ghost use Rattle.fb_schema.specs.Rows.{Rows};
 ghost use Rattle.fb_lines.specs.{Ends.writer_of, Job.job_of};
 ghost use Rattle.fbcheck_serve.specs.Heads.{IsHeadPut, head_of, with_head};
 ghost use Rattle.fbcheck_texts.specs.declared.fault.AskFault.TheVariants.{OutOfMemory};
 
 use crate::inputs::are_named;
+use crate::names::Name;
 use fb_bytes::Sink;
 use fb_run::{Options, RunFault, push_all, put_head};
 use fbcheck_texts::fault::AskFault;
@@ -15,8 +16,8 @@ use std::alloc::Global;
 
 /// What these options have written above all else, over the files of these names: the head of a table, where they ask
 /// for rows.
-pub fn head_of(alloc: Global, options: &Options, names: &[String]) -> Result<Vec<u8>, Unasked>
-    ensures head { IfOk result (λ head. (rows : Rows) → head.items ≡ head_of (job_of rows options.now) (map string_bytes names.now)) }
+pub fn head_of(alloc: Global, options: &Options, names: &[Name]) -> Result<Vec<u8>, Unasked>
+    ensures head { IfOk result (λ head. (rows : Rows) → head.items ≡ head_of (job_of rows options.now) names.now) }
     ensures none { IfErr result (λ unasked. unasked.fault ≡ OutOfMemory) }
 {
     let mut head = Vec::new(alloc);

@@ -6,11 +6,13 @@ ghost use Rattle.fb_lines.specs.Ends.{outs_of, writer_of};
 ghost use Rattle.fb_run.specs.Leave.{HasLeave, ends_of};
 ghost use Rattle.fb_lines.specs.{Job.Serves, Job.job_of};
 ghost use Rattle.fb_run.specs.Prompt.{IsPrompt};
-ghost use Rattle.fbcheck_serve.specs.Inputs.{ComesOf, IsBehind, IsBehindEnd, IsBehindRun, IsFaultLine, IsHintLine, IsStopOf, IsPromptAmong, MayRead, MayReadEach, ServesEach, TellsFault, Tries, at_first, course_with, fault_line, no_course, folder_of, is_final, is_standard, label_of, seen_of, stand, standard_after, sum_of, sums, are_named};
+ghost use Rattle.fbcheck_serve.specs.Inputs.{ComesOf, IsBehind, IsBehindEnd, IsBehindRun, IsFaultLine, IsHintLine, IsStopOf, IsPromptAmong, MayRead, MayReadEach, ServesEach, TellsFault, Tries, at_first, course_with, fault_line, no_course, folder_of, is_final, label_of, seen_of, stand, standard_after, sum_of, sums, are_named};
+ghost use Rattle.fbcheck_serve.specs.Names.{is_standard};
 ghost use Rattle.fbcheck_serve.specs.declared.inputs.Standard.TheVariants.{Unread, Spent};
 ghost use Rattle.fbcheck_texts.specs.Hints.{IsHint};
 
 use crate::files::Files;
+use crate::names::{Misnomer, Name};
 use crate::stop::note;
 use fb_bytes::Sink;
 use fb_run::{
@@ -25,9 +27,6 @@ use fbcheck_texts::framing::{By, Framing, end_hint, run_hint};
 use fbcheck_texts::texts::{run_text, stopped_text};
 use std::alloc::{AllocError, Global};
 use std::io::ErrorKind;
-
-/// The name of standard input.
-pub const STANDARD: &str = "-";
 
 /// The exit status where a file isn't checked to its end.
 const UNCHECKED: u8 = 3;
@@ -48,6 +47,8 @@ pub enum Missed {
     File(FileFault),
     /// It is standard input, which was among the files before.
     Again,
+    /// Its name is that of no file.
+    Name(Misnomer),
 }
 
 /// What one file came to, and why a read of it failed, where one did.
@@ -103,7 +104,7 @@ impl Passed {
 pub fn pass_files<F: Files<K, N>, S: Input<K, N> + Explains, K: Sink, N: Sink>(
     alloc: Global,
     files: &F,
-    names: &[String],
+    names: &[Name],
     schema: &Schema<'_>,
     options: &mut Options,
     reader: &mut S,
@@ -112,10 +113,10 @@ pub fn pass_files<F: Files<K, N>, S: Input<K, N> + Explains, K: Sink, N: Sink>(
 ) -> Passed
     requires serves { Serves schema.now options.old }
     requires few { S.calls reader.old < 2 ^ 64 }
-    requires leave { HasLeave S.Input (ends_of S.Input K.Sink N.Sink reader.old writer.old notes.old) (IsPromptAmong (folder_of F.Files F.Opened.Input F.Opened.Explains files.now) (job_of schema.now options.old) (map string_bytes names.now)) }
-    requires files { MayReadEach (folder_of F.Files F.Opened.Input F.Opened.Explains files.now) (job_of schema.now options.old) (map string_bytes names.now) (ends_of S.Input K.Sink N.Sink reader.old writer.old notes.old) }
+    requires leave { HasLeave S.Input (ends_of S.Input K.Sink N.Sink reader.old writer.old notes.old) (IsPromptAmong (folder_of F.Files F.Opened.Input F.Opened.Explains files.now) (job_of schema.now options.old) names.now) }
+    requires files { MayReadEach (folder_of F.Files F.Opened.Input F.Opened.Explains files.now) (job_of schema.now options.old) names.now (ends_of S.Input K.Sink N.Sink reader.old writer.old notes.old) }
 
-    ensures serves { ServesEach (folder_of F.Files F.Opened.Input F.Opened.Explains files.now) (job_of schema.now options.old) (map string_bytes names.now)
+    ensures serves { ServesEach (folder_of F.Files F.Opened.Input F.Opened.Explains files.now) (job_of schema.now options.old) names.now
         (at_first (seen_of S.Input S.Explains K.Sink N.Sink reader.old writer.old notes.old)) (stand (seen_of S.Input S.Explains K.Sink N.Sink reader.new writer.new notes.new) result.course) result.end }
     ensures places { length result.course.tally.reasons ≡ reason_count }
     ensures turns { S.calls reader.new ≤ S.calls reader.old + MOST_TURNS }
@@ -123,8 +124,7 @@ pub fn pass_files<F: Files<K, N>, S: Input<K, N> + Explains, K: Sink, N: Sink>(
     let named = are_named(options, names);
     let mut course = Course::new();
     for name in names {
-        let name = name.as_str();
-        let Ok(label) = label(alloc, named, name) else {
+        let Ok(label) = label(alloc, named, name.bytes()) else {
             return Passed {
                 course,
                 end: Err(RunFault::OutOfMemory),
@@ -156,21 +156,21 @@ pub fn pass_files<F: Files<K, N>, S: Input<K, N> + Explains, K: Sink, N: Sink>(
 }
 
 /// Whether lines tell of which file they are: where there are several, or lines of standard input do by themselves.
-pub fn are_named(options: &Options, names: &[String]) -> bool
-    ensures { result ≡ are_named (option_map vec_items options.now.label) (map string_bytes names.now) }
+pub fn are_named(options: &Options, names: &[Name]) -> bool
+    ensures { result ≡ are_named (option_map vec_items options.now.label) names.now }
 {
     options.label.is_some() || names.len() > 1
 }
 
 /// The name that each line begins with, where lines tell it.
-pub fn label(alloc: Global, named: bool, name: &str) -> Result<Option<Vec<u8>>, AllocError>
+pub fn label(alloc: Global, named: bool, name: &[u8]) -> Result<Option<Vec<u8>>, AllocError>
     ensures { IfOk result (λ label. option_map vec_items label ≡ label_of named name.now) }
 {
     if !named {
         return Ok(None);
     }
     let mut label = Vec::new(alloc);
-    label.extend_from_slice(name.as_bytes())?;
+    label.extend_from_slice(name)?;
     Ok(Some(label))
 }
 
@@ -178,7 +178,7 @@ pub fn label(alloc: Global, named: bool, name: &str) -> Result<Option<Vec<u8>>, 
 fn pass_file<F: Files<K, N>, S: Input<K, N> + Explains, K: Sink, N: Sink>(
     alloc: Global,
     files: &F,
-    name: &str,
+    name: &Name,
     schema: &Schema<'_>,
     options: &Options,
     course: &mut Course,
@@ -207,7 +207,7 @@ fn pass_file<F: Files<K, N>, S: Input<K, N> + Explains, K: Sink, N: Sink>(
     tell_behind(
         alloc,
         options.form,
-        name,
+        name.bytes(),
         framing,
         options.most_bad,
         &came,
@@ -219,7 +219,7 @@ fn pass_file<F: Files<K, N>, S: Input<K, N> + Explains, K: Sink, N: Sink>(
 fn run_file<F: Files<K, N>, S: Input<K, N> + Explains, K: Sink, N: Sink>(
     alloc: Global,
     files: &F,
-    name: &str,
+    name: &Name,
     schema: &Schema<'_>,
     options: &Options,
     standard: Standard,
@@ -236,7 +236,7 @@ fn run_file<F: Files<K, N>, S: Input<K, N> + Explains, K: Sink, N: Sink>(
     ensures calls { (S.calls reader.new ≤ S.calls reader.old + MOST_TURNS)
         × IfOk result.what (λ ran. length ran.tally.reasons ≡ reason_count) × (is_standard name.now ≡ false → reader.new ≡ reader.old) × (standard ≡ Spent → reader.new ≡ reader.old) }
 {
-    if name == STANDARD {
+    if name.is_standard() {
         return match standard {
             Standard::Unread => {
                 let ran = run_beside(alloc, reader, writer, notes, schema, options, MOST_TURNS);
@@ -245,7 +245,11 @@ fn run_file<F: Files<K, N>, S: Input<K, N> + Explains, K: Sink, N: Sink>(
             Standard::Spent => Came::missed(Missed::Again),
         };
     }
-    match files.open(name) {
+    let text = match name.text() {
+        Ok(text) => text,
+        Err(why) => return Came::missed(Missed::Name(why)),
+    };
+    match files.open(text) {
         Ok(mut file) => {
             let ran = run_beside(alloc, &mut file, writer, notes, schema, options, MOST_TURNS);
             Came::by(ran, &file)
@@ -290,7 +294,7 @@ impl Course {
     }
 
     /// With what this file came to.
-    fn with(self, name: &str, came: &Result<Ran, Missed>) -> Course
+    fn with(self, name: &Name, came: &Result<Ran, Missed>) -> Course
         requires places { length self.tally.reasons ≡ reason_count }
         requires more { IfOk came.now (λ ran. length ran.tally.reasons ≡ reason_count) }
         ensures course { result ≡ course_with name.now came.now self }
@@ -315,12 +319,12 @@ impl Course {
 }
 
 /// Standard input once this file was gone through.
-fn standard_after(name: &str, standard: Standard) -> Standard
+fn standard_after(name: &Name, standard: Standard) -> Standard
     ensures after { result ≡ standard_after (is_standard name.now) standard }
     ensures unread { result ≡ Unread → (is_standard name.now ≡ false) × (standard ≡ Unread) }
     ensures spent { standard ≡ Spent → result ≡ Spent }
 {
-    if name == STANDARD {
+    if name.is_standard() {
         Standard::Spent
     } else {
         standard
@@ -362,7 +366,7 @@ fn sums(some: &[u64; REASONS], more: &[u64; REASONS]) -> [u64; REASONS]
 fn tell_behind<N: Sink>(
     alloc: Global,
     form: Form,
-    name: &str,
+    name: &[u8],
     framing: Framing,
     most_bad: u64,
     came: &Came,
@@ -376,6 +380,9 @@ fn tell_behind<N: Sink>(
         Err(Missed::File(FileFault::Unreadable(cause))) => {
             tell_fault(alloc, form, name, reason(*cause).as_bytes(), b"\n", notes)
         }
+        Err(Missed::Name(wrong)) => {
+            tell_fault(alloc, form, name, wrong.why().as_bytes(), b"\n", notes)
+        }
         Err(Missed::Again) => {
             let why = b"standard input was read before";
             tell_fault(alloc, form, name, why, b"\n", notes)
@@ -387,7 +394,7 @@ fn tell_behind<N: Sink>(
 fn tell_run<N: Sink>(
     alloc: Global,
     form: Form,
-    name: &str,
+    name: &[u8],
     framing: Framing,
     most_bad: u64,
     ran: &Ran,
@@ -414,7 +421,7 @@ fn tell_run<N: Sink>(
 fn tell_stop<N: Sink>(
     alloc: Global,
     form: Form,
-    name: &str,
+    name: &[u8],
     most_bad: u64,
     tally: &Tally,
     notes: &mut N,
@@ -435,7 +442,7 @@ fn tell_stop<N: Sink>(
 fn tell_end<N: Sink>(
     alloc: Global,
     form: Form,
-    name: &str,
+    name: &[u8],
     hint: Option<&[u8]>,
     notes: &mut N,
 ) -> Result<(), RunFault>
@@ -464,7 +471,7 @@ fn is_final(fault: &RunFault) -> bool
 fn tell_fault<N: Sink>(
     alloc: Global,
     form: Form,
-    name: &str,
+    name: &[u8],
     why: &[u8],
     behind: &[u8],
     notes: &mut N,
@@ -485,35 +492,35 @@ fn tell_fault<N: Sink>(
 fn told_line(
     alloc: Global,
     form: Form,
-    name: &str,
+    name: &[u8],
     why: &[u8],
     behind: &[u8],
 ) -> Result<Vec<u8>, AllocError>
     ensures { IfOk result (λ line. IsFaultLine form name.now why.now behind.now line.items) }
 {
-    match fault_object(alloc, form, Some(name.as_bytes()), why, behind, UNCHECKED) {
+    match fault_object(alloc, form, Some(name), why, behind, UNCHECKED) {
         Some(line) => Ok(line),
         None => fault_line(alloc, name, why, behind),
     }
 }
 
 /// The same of a hint.
-fn hint_line(alloc: Global, form: Form, name: &str, hint: &[u8]) -> Result<Vec<u8>, AllocError>
+fn hint_line(alloc: Global, form: Form, name: &[u8], hint: &[u8]) -> Result<Vec<u8>, AllocError>
     ensures { IfOk result (λ line. IsHintLine form name.now hint.now line.items) }
 {
-    match hint_object(alloc, form, Some(name.as_bytes()), hint) {
+    match hint_object(alloc, form, Some(name), hint) {
         Some(line) => Ok(line),
         None => fault_line(alloc, name, hint, b""),
     }
 }
 
 /// The plain line.
-fn fault_line(alloc: Global, name: &str, why: &[u8], behind: &[u8]) -> Result<Vec<u8>, AllocError>
+fn fault_line(alloc: Global, name: &[u8], why: &[u8], behind: &[u8]) -> Result<Vec<u8>, AllocError>
     ensures { IfOk result (λ line. line.items ≡ fault_line name.now why.now behind.now) }
 {
     let mut line = Vec::new(alloc);
     line.extend_from_slice(b"fbcheck: ")?;
-    put_bytes(&mut line, name.as_bytes())?;
+    put_bytes(&mut line, name)?;
     line.extend_from_slice(b": ")?;
     line.extend_from_slice(why)?;
     line.extend_from_slice(behind)?;

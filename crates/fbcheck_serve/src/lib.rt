@@ -12,6 +12,7 @@ mod files;
 mod head;
 mod inputs;
 mod limits;
+mod names;
 pub mod serve;
 mod stop;
 mod strict;

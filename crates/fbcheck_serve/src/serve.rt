@@ -1,17 +1,19 @@
 //! What the program does, from its words to its exit status.
 
-ghost use Rattle.std.specs.Prelude.{IfOk, ◌≡◌, ◌+◌, ◌<◌, ◌≤◌, ◌^◌, ℕ, string_len};
+ghost use Rattle.std.specs.Prelude.{IfErr, IfOk, Some, true, false, ◌≡◌, ◌+◌, ◌<◌, ◌≤◌, ◌^◌, ℕ, string_len};
 ghost use Rattle.fb_lines.specs.Ends.{Reader, Writer, beside, writer_of};
 ghost use Rattle.fb_run.specs.Leave.{HasLeave, ends_of};
 ghost use Rattle.fbcheck_serve.specs.Inputs.{folder_of, seen_of};
 ghost use Rattle.fbcheck_serve.specs.Checking.{IsPromptOverAsked, MayReadAsked};
-ghost use Rattle.fbcheck_serve.specs.Serving.{ComesAsAsked, ComesTo, EndsFiles, EndsRun, EndsSo, IsPromptAsGiven, IsServed, MayReadAsGiven, Rests, TellsAsGiven, Unserved, summed, words_of};
+ghost use Rattle.fbcheck_serve.specs.Lists.{AreNamed};
+ghost use Rattle.fbcheck_serve.specs.Serving.{IsAlone, IsNameless, ComesAsAsked, ComesTo, EndsFiles, EndsRun, EndsSo, IsPromptAsGiven, IsServed, MayReadAsGiven, Rests, TellsAsGiven, Unserved, summed, words_of};
 ghost use Rattle.fbcheck_words.specs.Ranges.{AreInRange};
 
 use crate::asked::{by, form, manner};
 use crate::check::{check_beside, check_files};
-use crate::files::{Files, read_schema};
+use crate::files::{Files, read_list, read_schema};
 use crate::inputs::Passed;
+use crate::names::{Name, listed_names, word_names};
 use crate::stop::{Ending, Stop, Sums, exit_status, sum_up, tell};
 use clap::Error;
 use fb_bytes::Sink;
@@ -122,12 +124,56 @@ fn check_by<F: Files<K, N>, S: Input<K, N> + Explains, K: Sink, N: Sink>(
         (seen_of S.Input S.Explains K.Sink N.Sink reader.new writer.new notes.new) sums.new result
         × Rests (ends_of S.Input K.Sink N.Sink reader.old writer.old notes.old) (ends_of S.Input K.Sink N.Sink reader.new writer.new notes.new) sums.new result }
 {
-    if settings.files.as_slice().is_empty() {
+    *sums = None;
+    if is_alone(settings) {
         let ran = check_beside(alloc, file, settings, reader, writer, notes);
         return run_ending(settings, ran, sums);
     }
-    let passed = check_files(alloc, files, file, settings, reader, writer, notes);
+    let names = names_of(alloc, files, settings)?;
+    let passed = check_files(
+        alloc,
+        files,
+        file,
+        settings,
+        names.as_slice(),
+        reader,
+        writer,
+        notes,
+    );
     files_ending(settings, passed, sums)
+}
+
+/// Whether the settings name no files, and no list of names: so standard input is all.
+fn is_alone(settings: &Settings) -> bool
+    ensures alone { result ≡ true → IsAlone settings.now }
+    ensures others { result ≡ false → IsAlone settings.now → ⊥ }
+{
+    match &settings.names_file {
+        Some(_) => false,
+        None => settings.files.as_slice().is_empty(),
+    }
+}
+
+/// The names of the files that the settings ask for: those in the list that they name, or else their own.
+fn names_of<F: Files<K, N>, K: Sink, N: Sink>(
+    alloc: Global,
+    files: &F,
+    settings: &Settings,
+) -> Result<Vec<Name>, Stop>
+    requires some { IsAlone settings.now → ⊥ }
+    ensures names { IfOk result (λ names. AreNamed (F.gives files.now) settings.now (Some names.items)) }
+    ensures none { IfErr result (IsNameless (F.gives files.now) settings.now) }
+{
+    let Some(list) = &settings.names_file else {
+        return Ok(word_names(alloc, settings.files.as_slice())?);
+    };
+    match read_list(files, list.as_str()) {
+        Ok(bytes) => Ok(listed_names(alloc, bytes.as_slice())?),
+        Err(fault) => {
+            let hint = file_hint(alloc, fault, &settings.names_file);
+            Err(Stop::list(fault, hint))
+        }
+    }
 }
 
 /// How the program ends by what a run over an input came to, and the numbers that are told then.

@@ -20,7 +20,7 @@ use fbcheck_texts::fault_json::{fault_object, hint_object};
 use fbcheck_texts::framing::{By, Manner, by_hint, end_hint, run_hint};
 use fbcheck_texts::hint::{Hint, Unasked};
 use fbcheck_texts::texts::{
-    ask_text, failed_write, file_text, run_text, stopped_text, unsummed_text, words_text,
+    ask_text, failed_write, file_text, list_text, run_text, stopped_text, unsummed_text, words_text,
 };
 use fbcheck_words::SettingsFault;
 use std::alloc::{AllocError, Global};
@@ -63,6 +63,8 @@ pub enum Stop {
     Unsummed { written: usize },
     /// The schema file can't be read, and this is told behind the cause.
     File(FileFault, Hint),
+    /// The list of names can't be read, and this is told behind the cause.
+    List(FileFault, Hint),
     /// There was nothing to check by.
     Ask(Unasked),
     /// The run came to rest, with these counts, over an input that was checked in this manner.
@@ -142,7 +144,17 @@ impl Stop {
         }
     }
 
-    /// The exit status: 2 where the words, the schema file, the root, the path or the schema's own identifier are
+    /// That the list of names can't be read.
+    pub fn list(fault: FileFault, hint: Result<Hint, AllocError>) -> Stop
+        ensures { result ≡ hinted_stop (stop.List fault) hint }
+    {
+        match hint {
+            Ok(hint) => Stop::List(fault, hint),
+            Err(_) => Stop::Settings(SettingsFault::OutOfMemory),
+        }
+    }
+
+    /// The exit status: 2 where the words, the schema file, the list of names, the root, the path or the schema's own identifier are
     /// wrong, and 3 after any other fault.
     fn status(&self) -> u8
         ensures { result ≡ stop_status self.now }
@@ -150,8 +162,8 @@ impl Stop {
         match self {
             Stop::Words(WordsFault::NotText(_), _) | Stop::Usage(_) => 2,
             Stop::Words(WordsFault::OutOfMemory, _) => 3,
-            Stop::File(FileFault::Unreadable(_), _) => 2,
-            Stop::File(FileFault::OutOfMemory, _) => 3,
+            Stop::File(FileFault::Unreadable(_), _) | Stop::List(FileFault::Unreadable(_), _) => 2,
+            Stop::File(FileFault::OutOfMemory, _) | Stop::List(FileFault::OutOfMemory, _) => 3,
             Stop::CutOff { .. } | Stop::Unsummed { .. } => 3,
             Stop::Settings(fault) => fault.status(),
             Stop::Ask(unasked) => unasked.fault.status(),
@@ -164,7 +176,7 @@ impl Stop {
         ensures { IsBehindStop self.now result.now }
     {
         match self {
-            Stop::Words(_, hint) | Stop::File(_, hint) => hint.bytes(),
+            Stop::Words(_, hint) | Stop::File(_, hint) | Stop::List(_, hint) => hint.bytes(),
             Stop::Ask(unasked) => unasked.hint(),
             Stop::Run(fault, tally, manner) => run_hint(manner.framing, fault, tally),
             Stop::Usage(_) | Stop::Settings(_) | Stop::Halted(_) => b"\n",
@@ -184,6 +196,7 @@ impl Stop {
             Stop::CutOff { written } => failed_write(*written as u128, causes.write),
             Stop::Unsummed { written } => unsummed_text(*written),
             Stop::File(fault, _) => file_text(fault),
+            Stop::List(fault, _) => list_text(fault),
             Stop::Ask(unasked) => ask_text(&unasked.fault),
             Stop::Run(fault, ..) | Stop::Halted(fault) => run_text(fault, causes),
         }

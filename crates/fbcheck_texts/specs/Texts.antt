@@ -87,6 +87,11 @@ abbrev pub file_text : FileFault → List ℕ
 file_text (file.Unreadable cause) = codes "cannot read schema"
 file_text file.OutOfMemory = codes "out of memory"
 
+-- why a list of names can't be read
+abbrev pub list_text : FileFault → List ℕ
+list_text (file.Unreadable cause) = codes "cannot read names"
+list_text file.OutOfMemory = codes "out of memory"
+
 -- which word is no text, by its number, 0 being the program's own name
 abbrev pub word_text : ℕ → List ℕ
 word_text number = if number == 0 then codes "the program's own name is not UTF-8" else codes "a word is not UTF-8: number " ++ decimal number

@@ -230,7 +230,7 @@ pub fn words_hint(alloc: Global, fault: &WordsFault) -> Result<Hint, AllocError>
     }
 }
 
-/// What is told behind the fault of a schema file that can't be read: its name, and why.
+/// What is told behind the fault of a schema file, or of a list of names, that can't be read: its name, and why.
 pub fn file_hint(
     alloc: Global,
     fault: FileFault,

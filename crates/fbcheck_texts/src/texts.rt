@@ -3,7 +3,7 @@
 ghost use Rattle.std.specs.Prelude.{◌≡◌, ◌≤◌, ◌++◌, codes, decimal, length};
 ghost use Rattle.fb_lines.specs.{FaultText.fault_text, Line.field_text};
 ghost use Rattle.fb_lines.specs.declared.fault.RunFault.TheVariants.{WriteFault};
-ghost use Rattle.fbcheck_texts.specs.Texts.{ask_text, cause_text, file_text, ill_text, load_text, path_text, rows_text, run_text, step_text, stopped_text, unsummed_text, word_text, words_text};
+ghost use Rattle.fbcheck_texts.specs.Texts.{ask_text, cause_text, file_text, ill_text, list_text, load_text, path_text, rows_text, run_text, step_text, stopped_text, unsummed_text, word_text, words_text};
 
 use crate::causes::{Causes, known_reason};
 use crate::fault::{AskFault, FileFault, WordsFault};
@@ -227,6 +227,17 @@ pub fn file_text(fault: &FileFault) -> Line
 {
     match fault {
         FileFault::Unreadable(_) => Line::of("cannot read schema"),
+        FileFault::OutOfMemory => Line::of("out of memory"),
+    }
+}
+
+/// Why a list of names can't be read.
+pub fn list_text(fault: &FileFault) -> Line
+    ensures text { result ≡ list_text fault.now }
+    ensures short { length result ≤ 200 }
+{
+    match fault {
+        FileFault::Unreadable(_) => Line::of("cannot read names"),
         FileFault::OutOfMemory => Line::of("out of memory"),
     }
 }

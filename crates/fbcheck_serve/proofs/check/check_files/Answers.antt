@@ -3,9 +3,9 @@ use Rattle.fb_lines.specs.{Ends.with_writer, Ends.writer_of, Job.job_of}
 use Rattle.fb_run.specs.Leave.{ends_of}
 use Rattle.fb_run.proofs.RunLemmas.{err_exit}
 use Rattle.fbcheck_texts.specs.declared.fault.AskFault.{AskFault}
-use Rattle.fbcheck_serve.specs.{Checking.IsServedEach, Checking.LacksJob, Checking.names_in, Heads.head_of}
+use Rattle.fbcheck_serve.specs.{Checking.IsServedEach, Checking.LacksJob}
 use Rattle.fbcheck_serve.proofs.{AskedLemmas.idle, HeadLemmas.is_cut, HeadLemmas.stands}
-use Rattle.fbcheck_serve.specs.Inputs.{IsPromptAmong, MayReadEach, ServesEach, at_first, folder_of, seen_of, stand, with_cause}
+use Rattle.fbcheck_serve.specs.Inputs.{folder_of, seen_of}
 use Rattle.fbcheck_serve.proofs.check.check_files.Goals as goal
 
 pub returns-clause-served : goal.returns-clause-served
@@ -15,15 +15,14 @@ returns-clause-served g c =
     let after = seen_of g.S.Input g.S.Explains g.K.Sink g.N.Sink c.pass_files.new.reader c.pass_files.new.writer c.pass_files.new.notes in
     let writer = writer_of g.K.Sink c.write_head.new.writer in
     let headed = with_writer before.ends writer in
-    let names = names_in c.args.settings.now in
-    let head_is = c.as_slice.ensures.value ∙ c.in_ok-head.ensures.head c.in_ok-asked.asked.schema ∙ ap (λ l. head_of job (map string_bytes l)) c.as_slice-names.ensures.value in (
+    let names = c.args.names.now in
+    let head_is = c.as_slice.ensures.value ∙ c.in_ok-head.ensures.head c.in_ok-asked.asked.schema in (
       job,
       c.in_ok-asked.ensures.job,
       inl (
         headed,
         stands job names before.ends c.as_slice.result.now writer (Ok tt) head_is c.in_default.ensures refl,
-        subst (λ l. ServesEach (folder_of g.F.Files g.F.Opened.Input g.F.Opened.Explains c.args.files.now) job (map string_bytes l) (at_first (with_cause headed before.cause)) (stand after c.pass_files.result.course) c.pass_files.result.end)
-            c.as_slice-names.ensures.value c.pass_files.ensures.serves,
+        c.pass_files.ensures.serves,
       ),
     )
 
@@ -31,11 +30,11 @@ pub returns-in-Err-clause-served : goal.returns-in-Err-clause-served
 returns-in-Err-clause-served g c =
     let job = job_of c.in_ok-asked.asked.schema c.in_ok-asked.asked.options in
     let before = ends_of g.S.Input g.K.Sink g.N.Sink c.args.reader.now c.args.writer.now c.args.notes.now in
-    let head_is = c.as_slice.ensures.value ∙ c.in_ok-head.ensures.head c.in_ok-asked.asked.schema ∙ ap (λ l. head_of job (map string_bytes l)) c.as_slice-names.ensures.value in
+    let head_is = c.as_slice.ensures.value ∙ c.in_ok-head.ensures.head c.in_ok-asked.asked.schema in
     rw (c.none.ensures.course, c.none.ensures.end) (
       job,
       c.in_ok-asked.ensures.job,
-      inr (is_cut job (names_in c.args.settings.now) before c.as_slice.result.now (writer_of g.K.Sink c.write_head.new.writer) (Err c.in-Err.fault) head_is c.in-Err.ensures c.in-Err.fault refl, refl, refl),
+      inr (is_cut job c.args.names.now before c.as_slice.result.now (writer_of g.K.Sink c.write_head.new.writer) (Err c.in-Err.fault) head_is c.in-Err.ensures c.in-Err.fault refl, refl, refl),
     )
 
 pub pass_files-requires-clause-leave : goal.pass_files-requires-clause-leave
@@ -43,13 +42,13 @@ pass_files-requires-clause-leave g c now prompt unended =
     let job = job_of c.in_ok-asked.asked.schema c.in_ok-asked.asked.options in
     let before = ends_of g.S.Input g.K.Sink g.N.Sink c.args.reader.now c.args.writer.now c.args.notes.now in
     let writer = writer_of g.K.Sink c.write_head.new.writer in
-    let head_is = c.as_slice.ensures.value ∙ c.in_ok-head.ensures.head c.in_ok-asked.asked.schema ∙ ap (λ l. head_of job (map string_bytes l)) c.as_slice-names.ensures.value in
+    let head_is = c.as_slice.ensures.value ∙ c.in_ok-head.ensures.head c.in_ok-asked.asked.schema in
     c.requires.leave now (
       job,
       c.in_ok-asked.ensures.job,
       with_writer before writer,
-      stands job (names_in c.args.settings.now) before c.as_slice.result.now writer (Ok tt) head_is c.in_default.ensures refl,
-      subst (λ l. IsPromptAmong (folder_of g.F.Files g.F.Opened.Input g.F.Opened.Explains c.args.files.now) job (map string_bytes l) (with_writer before writer) now) c.as_slice-names.ensures.value prompt,
+      stands job c.args.names.now before c.as_slice.result.now writer (Ok tt) head_is c.in_default.ensures refl,
+      prompt,
     ) unended
 
 pub pass_files-requires-clause-files : goal.pass_files-requires-clause-files
@@ -57,21 +56,20 @@ pass_files-requires-clause-files g c =
     let job = job_of c.in_ok-asked.asked.schema c.in_ok-asked.asked.options in
     let before = ends_of g.S.Input g.K.Sink g.N.Sink c.args.reader.now c.args.writer.now c.args.notes.now in
     let writer = writer_of g.K.Sink c.write_head.new.writer in
-    let head_is = c.as_slice.ensures.value ∙ c.in_ok-head.ensures.head c.in_ok-asked.asked.schema ∙ ap (λ l. head_of job (map string_bytes l)) c.as_slice-names.ensures.value in
-    subst (λ l. MayReadEach (folder_of g.F.Files g.F.Opened.Input g.F.Opened.Explains c.args.files.now) job (map string_bytes l) (with_writer before writer)) (sym c.as_slice-names.ensures.value)
-    (c.requires.files job (with_writer before writer) c.in_ok-asked.ensures.job (stands job (names_in c.args.settings.now) before c.as_slice.result.now writer (Ok tt) head_is c.in_default.ensures refl))
+    let head_is = c.as_slice.ensures.value ∙ c.in_ok-head.ensures.head c.in_ok-asked.asked.schema in
+    c.requires.files job (with_writer before writer) c.in_ok-asked.ensures.job (stands job c.args.names.now before c.as_slice.result.now writer (Ok tt) head_is c.in_default.ensures refl)
 
 pub returns-in_err-asked-clause-served : goal.returns-in_err-asked-clause-served
 returns-in_err-asked-clause-served g c =
     let seen = seen_of g.S.Input g.S.Explains g.K.Sink g.N.Sink c.args.reader.now c.args.writer.now c.args.notes.now in
-    err_exit c.from_residual.result _ (IsServedEach (folder_of g.F.Files g.F.Opened.Input g.F.Opened.Explains c.args.files.now) c.args.schema_bytes c.args.settings.now seen seen)
+    err_exit c.from_residual.result _ (IsServedEach (folder_of g.F.Files g.F.Opened.Input g.F.Opened.Explains c.args.files.now) c.args.schema_bytes c.args.settings.now c.args.names.now seen seen)
     c.from_residual.ensures.1 (c.in_err-asked.ensures.none, idle seen.ends)
 
 pub returns-in_err-head-clause-served : goal.returns-in_err-head-clause-served
 returns-in_err-head-clause-served g c =
     let seen = seen_of g.S.Input g.S.Explains g.K.Sink g.N.Sink c.args.reader.now c.args.writer.now c.args.notes.now in
     let lacks = subst (λ (f : AskFault). LacksJob c.args.schema_bytes c.args.settings.now f) (sym c.in_err-head.ensures.none) tt in
-    err_exit c.from_residual-in_err-head.result _ (IsServedEach (folder_of g.F.Files g.F.Opened.Input g.F.Opened.Explains c.args.files.now) c.args.schema_bytes c.args.settings.now seen seen)
+    err_exit c.from_residual-in_err-head.result _ (IsServedEach (folder_of g.F.Files g.F.Opened.Input g.F.Opened.Explains c.args.files.now) c.args.schema_bytes c.args.settings.now c.args.names.now seen seen)
     c.from_residual-in_err-head.ensures.1 (lacks, idle seen.ends)
 
 pub returns-clause-places : goal.returns-clause-places

@@ -1,6 +1,5 @@
-use Rattle.std.proofs.Common.{◌≡◌, ap, false, rules, sym, Bool, List, Option, ℕ}
-use Rattle.std.specs.Prelude.{is_some, map, nat_lt, option_map, string_bytes, vec_items}
-use Rattle.std.proofs.lemmas.List.{length-map}
+use Rattle.std.proofs.Common.{◌≡◌, false, refl, rules, Bool, List, Option, ℕ}
+use Rattle.std.specs.Prelude.{is_some, option_map, vec_items}
 use Rattle.fbcheck_serve.specs.Inputs.{are_named, are_several}
 use Rattle.fbcheck_serve.proofs.inputs.are_named.Goals as goal
 
@@ -10,4 +9,4 @@ several_named label names named none is = rw none is
 
 pub returns-else-is_some : goal.returns-else-is_some
 returns-else-is_some c =
-    several_named (option_map vec_items c.args.options.now.label) (map string_bytes c.args.names.now) _ (search rules) (ap (λ n. nat_lt 1 n) (sym (length-map c.args.names.now string_bytes)))
+    several_named (option_map vec_items c.args.options.now.label) c.args.names.now _ (search rules) refl

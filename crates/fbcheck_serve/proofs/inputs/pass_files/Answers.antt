@@ -1,11 +1,11 @@
-use Rattle.std.proofs.Common.{◌≡◌, ◌∙◌, ◌+◌, ◌++◌, [], length, Ok, Err, ap, drop, map, refl, rules, string_bytes, subst, sym}
+use Rattle.std.proofs.Common.{◌≡◌, ◌∙◌, ◌+◌, ◌++◌, [], length, Ok, Err, ap, drop, refl, rules, subst, sym}
 use mathlib.Core.Logic.{inr}
 use Rattle.std.proofs.Math.ListN.{drop_of_length-le}
 use Rattle.fb_lines.specs.{Ends.outs_of, Job.Job, Job.job_of}
 use Rattle.fb_run.specs.{Leave.IsUnended, Leave.reader_of, Prompt.IsPrompt}
 use Rattle.fbcheck_serve.specs.Inputs.{MayRead, Tries, folder_of, label_of, seen_of, stand, are_named}
 use Rattle.fbcheck_serve.specs.declared.inputs.Course.{Course}
-use Rattle.fbcheck_serve.proofs.InputsLemmas.{front_all, front_more, halts_among, next_text, relabelled, turns_on}
+use Rattle.fbcheck_serve.proofs.InputsLemmas.{front_all, front_more, halts_among, label_by, next_name, relabelled, turns_on}
 use Rattle.fbcheck_serve.proofs.inputs.pass_files.Goals as goal
 
 pub loop-name-init : goal.loop-name-init
@@ -22,19 +22,19 @@ loop-name-init g c =
 
 pub pass_file-passed-requires-clause-leave : goal.pass_file-passed-requires-clause-leave
 pass_file-passed-requires-clause-leave g c standard unread now prompt unended =
-    let texts = map string_bytes c.args.names.now in
-    let text = c.as_str-name.result.now in
+    let texts = c.args.names.now in
+    let name = c.name-item.result in
     let before = seen_of g.S.Input g.S.Explains g.K.Sink g.N.Sink c.loop-name.reader c.loop-name.writer c.loop-name.notes in
     let (front, are, passes) = c.loop-name.invariant.passes in
     let (old, is) = c.loop-name.invariant.job in
     let named : c.are_named-named.result ≡ are_named (job_of c.args.schema.now c.args.options.now).label texts = c.are_named-named.ensures in
-    let asked = relabelled c.args.schema.now c.loop-name.options (job_of c.args.schema.now c.args.options.now) c.in-Ok.label old (label_of (are_named (job_of c.args.schema.now c.args.options.now).label texts) text) is
-    (◌∙◌ {b = label_of c.are_named-named.result text} c.in-Ok.ensures (ap (λ b. label_of b text) named)) in
+    let asked = relabelled c.args.schema.now c.loop-name.options (job_of c.args.schema.now c.args.options.now) c.in-Ok.label old (label_of (are_named (job_of c.args.schema.now c.args.options.now).label texts) name.bytes) is
+    (label_by _ _ _ _ _ c.in-Ok.ensures named c.bytes.ensures) in
     c.requires.leave now (record {
       front = front;
-      name = text;
-      rest = map string_bytes (drop (c.loop-name.name-index + 1) c.args.names.now);
-      names_are = are ∙ ap (λ l. front ++ l) (next_text c.args.names.now c.loop-name.name-index c.name-item.result text c.loop-name-test.true c.name-item.is c.as_str-name.ensures.value);
+      name = name;
+      rest = drop (c.loop-name.name-index + 1) c.args.names.now;
+      names_are = are ∙ ap (λ l. front ++ l) (next_name c.args.names.now c.loop-name.name-index name c.loop-name-test.true c.name-item.is);
       standard = standard;
       cause = g.S.Explains.cause c.args.reader.now;
       mid = stand before c.loop-name.course;
@@ -46,22 +46,22 @@ pass_file-passed-requires-clause-leave g c standard unread now prompt unended =
 pub pass_file-passed-requires-clause-files : goal.pass_file-passed-requires-clause-files
 pass_file-passed-requires-clause-files g c other =
     let folder = folder_of g.F.Files g.F.Opened.Input g.F.Opened.Explains c.args.files.now in
-    let texts = map string_bytes c.args.names.now in
-    let text = c.as_str-name.result.now in
+    let texts = c.args.names.now in
+    let name = c.name-item.result in
     let job = job_of c.args.schema.now c.args.options.now in
     let (front, are, passes) = c.loop-name.invariant.passes in
     let (old, is) = c.loop-name.invariant.job in
     let named : c.are_named-named.result ≡ are_named job.label texts = c.are_named-named.ensures in
-    let asked = relabelled c.args.schema.now c.loop-name.options job c.in-Ok.label old (label_of (are_named job.label texts) text) is (◌∙◌ {b = label_of c.are_named-named.result text} c.in-Ok.ensures (ap (λ b. label_of b text) named)) in
-    let next = next_text c.args.names.now c.loop-name.name-index c.name-item.result text c.loop-name-test.true c.name-item.is c.as_str-name.ensures.value in
-    subst (λ (j : Job). MayRead folder j text (outs_of g.K.Sink g.N.Sink c.loop-name.writer c.loop-name.notes)) (sym asked)
-    (c.requires.files front _ text (g.S.Explains.cause c.args.reader.now) _ (are ∙ ap (λ l. front ++ l) next) other passes)
+    let asked = relabelled c.args.schema.now c.loop-name.options job c.in-Ok.label old (label_of (are_named job.label texts) name.bytes) is (label_by _ _ _ _ _ c.in-Ok.ensures named c.bytes.ensures) in
+    let next = next_name c.args.names.now c.loop-name.name-index name c.loop-name-test.true c.name-item.is in
+    subst (λ (j : Job). MayRead folder j name (outs_of g.K.Sink g.N.Sink c.loop-name.writer c.loop-name.notes)) (sym asked)
+    (c.requires.files front _ name (g.S.Explains.cause c.args.reader.now) _ (are ∙ ap (λ l. front ++ l) next) other passes)
 
 pub loop-name-preserved : goal.loop-name-preserved
 loop-name-preserved g c =
     let folder = folder_of g.F.Files g.F.Opened.Input g.F.Opened.Explains c.args.files.now in
-    let texts = map string_bytes c.args.names.now in
-    let text = c.as_str-name.result.now in
+    let texts = c.args.names.now in
+    let name = c.name-item.result in
     let job = job_of c.args.schema.now c.args.options.now in
     let before = stand (seen_of g.S.Input g.S.Explains g.K.Sink g.N.Sink c.loop-name.reader c.loop-name.writer c.loop-name.notes) c.loop-name.course in
     let after = stand (seen_of g.S.Input g.S.Explains g.K.Sink g.N.Sink c.pass_file-passed.new.reader c.pass_file-passed.new.writer c.pass_file-passed.new.notes) c.pass_file-passed.new.course in
@@ -69,12 +69,12 @@ loop-name-preserved g c =
     let (old, is) = c.loop-name.invariant.job in
     let serves = c.loop-name.invariant.serves in
     let named : c.are_named-named.result ≡ are_named (job_of c.args.schema.now c.args.options.now).label texts = c.are_named-named.ensures in
-    let asked = relabelled c.args.schema.now c.loop-name.options job c.in-Ok.label old (label_of (are_named (job_of c.args.schema.now c.args.options.now).label texts) text) is (◌∙◌ {b = label_of c.are_named-named.result text} c.in-Ok.ensures (ap (λ b. label_of b text) named)) in
+    let asked = relabelled c.args.schema.now c.loop-name.options job c.in-Ok.label old (label_of (are_named (job_of c.args.schema.now c.args.options.now).label texts) name.bytes) is (label_by _ _ _ _ _ c.in-Ok.ensures named c.bytes.ensures) in
     record {
-      passes = front_more folder job (are_named (job_of c.args.schema.now c.args.options.now).label texts) texts front _ _ text _ before after are
-          (next_text c.args.names.now c.loop-name.name-index c.name-item.result text c.loop-name-test.true c.name-item.is c.as_str-name.ensures.value) passes
-          (subst (λ (j : Job). Tries folder j text before after (Ok tt)) asked c.in_default-passed.ensures.tries);
-      job = (label_of (are_named (job_of c.args.schema.now c.args.options.now).label texts) text, asked);
+      passes = front_more folder job (are_named (job_of c.args.schema.now c.args.options.now).label texts) texts front _ _ name _ before after are
+          (next_name c.args.names.now c.loop-name.name-index name c.loop-name-test.true c.name-item.is) passes
+          (subst (λ (j : Job). Tries folder j name before after (Ok tt)) asked c.in_default-passed.ensures.tries);
+      job = (label_of (are_named (job_of c.args.schema.now c.args.options.now).label texts) name.bytes, asked);
       serves = record {
         table = serves.table;
         fits = serves.fits;
@@ -93,33 +93,33 @@ loop-name-preserved g c =
 
 pub returns-in_default-clause-serves : goal.returns-in_default-clause-serves
 returns-in_default-clause-serves g c =
-    let text = c.as_str-name.result.now in
+    let name = c.name-item.result in
     let now = stand (seen_of g.S.Input g.S.Explains g.K.Sink g.N.Sink c.loop-name.reader c.loop-name.writer c.loop-name.notes) c.loop-name.course in
     let (front, are, passes) = c.loop-name.invariant.passes in
-    halts_among (folder_of g.F.Files g.F.Opened.Input g.F.Opened.Explains c.args.files.now) (job_of c.args.schema.now c.args.options.now) (map string_bytes c.args.names.now) front _ _ text _ now now _ are
-    (next_text c.args.names.now c.loop-name.name-index c.name-item.result text c.loop-name-test.true c.name-item.is c.as_str-name.ensures.value) passes (inr (tt, refl))
+    halts_among (folder_of g.F.Files g.F.Opened.Input g.F.Opened.Explains c.args.files.now) (job_of c.args.schema.now c.args.options.now) c.args.names.now front _ _ name _ now now _ are
+    (next_name c.args.names.now c.loop-name.name-index name c.loop-name-test.true c.name-item.is) passes (inr (tt, refl))
 
 pub returns-in-Err-clause-serves : goal.returns-in-Err-clause-serves
 returns-in-Err-clause-serves g c =
     let folder = folder_of g.F.Files g.F.Opened.Input g.F.Opened.Explains c.args.files.now in
-    let texts = map string_bytes c.args.names.now in
-    let text = c.as_str-name.result.now in
+    let texts = c.args.names.now in
+    let name = c.name-item.result in
     let job = job_of c.args.schema.now c.args.options.now in
     let before = stand (seen_of g.S.Input g.S.Explains g.K.Sink g.N.Sink c.loop-name.reader c.loop-name.writer c.loop-name.notes) c.loop-name.course in
     let after = stand (seen_of g.S.Input g.S.Explains g.K.Sink g.N.Sink c.pass_file-passed.new.reader c.pass_file-passed.new.writer c.pass_file-passed.new.notes) c.pass_file-passed.new.course in
     let (front, are, passes) = c.loop-name.invariant.passes in
     let (old, is) = c.loop-name.invariant.job in
     let named : c.are_named-named.result ≡ are_named (job_of c.args.schema.now c.args.options.now).label texts = c.are_named-named.ensures in
-    let asked = relabelled c.args.schema.now c.loop-name.options job c.in-Ok.label old (label_of (are_named (job_of c.args.schema.now c.args.options.now).label texts) text) is (◌∙◌ {b = label_of c.are_named-named.result text} c.in-Ok.ensures (ap (λ b. label_of b text) named)) in
-    halts_among folder job texts front _ _ text _ before after c.in-Err.fault are
-    (next_text c.args.names.now c.loop-name.name-index c.name-item.result text c.loop-name-test.true c.name-item.is c.as_str-name.ensures.value) passes
-    (subst (λ (j : Job). Tries folder j text before after (Err c.in-Err.fault)) asked c.in-Err.ensures.tries)
+    let asked = relabelled c.args.schema.now c.loop-name.options job c.in-Ok.label old (label_of (are_named (job_of c.args.schema.now c.args.options.now).label texts) name.bytes) is (label_by _ _ _ _ _ c.in-Ok.ensures named c.bytes.ensures) in
+    halts_among folder job texts front _ _ name _ before after c.in-Err.fault are
+    (next_name c.args.names.now c.loop-name.name-index name c.loop-name-test.true c.name-item.is) passes
+    (subst (λ (j : Job). Tries folder j name before after (Err c.in-Err.fault)) asked c.in-Err.ensures.tries)
 
 pub returns-clause-serves : goal.returns-clause-serves
 returns-clause-serves g c =
     let (front, are, passes) = c.loop-name.invariant.passes in
-    front_all (folder_of g.F.Files g.F.Opened.Input g.F.Opened.Explains c.args.files.now) (job_of c.args.schema.now c.args.options.now) _ (map string_bytes c.args.names.now) front _ _ _ are
-    (ap (λ l. map string_bytes l) (drop_of_length-le c.args.names.now c.loop-name-test.false)) passes
+    front_all (folder_of g.F.Files g.F.Opened.Input g.F.Opened.Explains c.args.files.now) (job_of c.args.schema.now c.args.options.now) _ c.args.names.now front _ _ _ are
+    (drop_of_length-le c.args.names.now c.loop-name-test.false) passes
 
 pub returns-in-Err-clause-places : goal.returns-in-Err-clause-places
 returns-in-Err-clause-places g c = c.pass_file-passed.ensures.calls.1
