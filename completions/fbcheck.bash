@@ -17,8 +17,9 @@ _fbcheck_left() { # WORD..
         --ident) left=${left/ --schema-ident / } ;;&
         --schema-ident) left=${left/ --ident / } ;;&
         --path) left=${left/ --filter / } ;;
-        --bare) left=${left/ --delimited / } ;;&
-        --delimited) left=${left/ --bare / } ;;&
+        --bare) left=${left/ --delimited / } left=${left/ --delimited-be / } ;;&
+        --delimited) left=${left/ --bare / } left=${left/ --delimited-be / } ;;&
+        --delimited-be) left=${left/ --bare / } left=${left/ --delimited / } ;;&
         --quiet) left=${left/ --csv / } ;;&
         --filter) left=${left/ --path / } left=${left/ --csv / } ;;&
         --json) left=${left/ --csv / } ;;&
@@ -31,8 +32,9 @@ _fbcheck_left() { # WORD..
 _fbcheck() {
     local word=${COMP_WORDS[COMP_CWORD]} before=${COMP_WORDS[COMP_CWORD - 1]}
     local left=" --schema --root --ident --schema-ident --path --max-depth --max-tables --max-reads --reads-per-byte \
---max-bytes --skip --limit --max-bad --bare --delimited --no-alignment --inline-size --strict --plain-bytes \
---known-fields --utf8 --quiet --filter --summary --names --json --csv --with-filename --files0-from --help --version "
+--max-bytes --skip --limit --max-bad --bare --delimited --delimited-be --no-alignment --inline-size --strict \
+--plain-bytes --known-fields --utf8 --quiet --filter --summary --names --json --csv --with-filename --files0-from \
+--help --version "
     COMPREPLY=()
     # An equals sign is a word of its own.
     [ "$before" != = ] || before=${COMP_WORDS[COMP_CWORD - 2]}

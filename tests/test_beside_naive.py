@@ -7,6 +7,7 @@ as one stream, and each line, also as JSON, is held against what the walk says o
 import collections
 import json
 import random
+import struct
 
 from tests.support import buffers, schemas
 from tests.support.builder import buffer, prefixed
@@ -60,6 +61,11 @@ def told_behind(by, wants):
     good."""
     none = "--schema" not in by and not any(want.startswith("ok") for want in wants)
     return [f"fbcheck: no message was good: {UNSCHEMED}"] if none else []
+
+
+def sent(data):
+    """The buffer behind its length in the order of bytes of networks."""
+    return struct.pack(">I", len(data)) + data
 
 
 def spans_in(given):
@@ -224,16 +230,21 @@ class BesideNaive(Case):
         for options in OPTIONS:
             asked = {"tables": 500, **options}
             ran = run(*BY_ALL, "--delimited", *words_of(asked), given=b"".join(map(prefixed, given)))
+            turned = run(*BY_ALL, "--delimited-be", *words_of(asked), given=b"".join(map(sent, given)))
             ident = asked.pop("ident", None)
             walks = [Walk(ALL, 0, data, **asked) for data in given]
             told = [walk.verdict(ident, prefix=False) for walk in walks]
             wants = [f"{number} {want}" for number, want in enumerate(told, 1)]
             differing = [pair for pair in zip(ran.out.decode().splitlines(), wants) if pair[0] != pair[1]]
             self.same(f"delimited, {options}", (ran.out.count(b"\n"), differing[:5]), (len(given), []))
+            differing = [pair for pair in zip(turned.out.decode().splitlines(), wants) if pair[0] != pair[1]]
+            self.same(f"big-endian, {options}", (turned.out.count(b"\n"), differing[:5]), (len(given), []))
             words = {"tables": 500, **options}
             ran = run(*BY_ALL, "--delimited", "--json", *words_of(words), given=b"".join(map(prefixed, given)))
             placed = [want + (walk.place() if want.startswith("bad") else "") for walk, want in zip(walks, told)]
             self.as_json(f"delimited, {options}", ALL, spans_in(given), ran, placed)
+            ran = run(*BY_ALL, "--delimited-be", "--json", *words_of(words), given=b"".join(map(sent, given)))
+            self.as_json(f"big-endian, {options}", ALL, spans_in(given), ran, placed)
 
     def test_schema_files_without_a_schema(self):
         """By the table that is built in."""

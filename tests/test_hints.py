@@ -18,6 +18,7 @@ BARE = SCHEMA.read_bytes()
 FIRST = POST[:512]
 BY_POST = ("--schema", SCHEMA)
 DELIMITED = (*BY_POST, "--delimited")
+TURNED = (*BY_POST, "--delimited-be")
 MOST = 1_048_576  # bytes of a hint, with the newline that ends it
 
 
@@ -149,11 +150,25 @@ STREAMS = [(name, words, given, f"stream: {text}", hint) for name, words, given,
     ("another text", DELIMITED, b"table", "S1 Oversize declared=1818386804", "; the input looks like text"),
     ("gzip", BY_POST, declared(134_777_631), "S1 Oversize declared=134777631", "; the input looks like gzip"),
     ("a big-endian length", BY_POST, b"\0\0\1\xb8", "S1 Oversize declared=3087073280",
-     f"; the length may be big-endian{STRAY}, {TO_PARTS}"),
+     f"; the length may be big-endian, which --delimited-be reads{STRAY}, {TO_PARTS}"),
     ("a big-endian length, delimited", DELIMITED, b"\0\0\1\xb8", "S1 Oversize declared=3087073280",
-     f"; the length may be big-endian{STRAY}"),
-    ("one that isn't big-endian", DELIMITED, b"\0\1\0\4", "S1 Oversize declared=67109120",
+     f"; the length may be big-endian, which --delimited-be reads{STRAY}"),
+    ("the greatest that may be", DELIMITED, b"\3\xff\xff\xfc", "S1 Oversize declared=4244635395",
+     f"; the length may be big-endian, which --delimited-be reads{STRAY}"),
+    ("one that isn't big-endian", DELIMITED, b"\3\xff\xff\xfd", "S1 Oversize declared=4261412611", STRAY),
+    ("one that is less than it is turned round", (*DELIMITED, "--max-bytes", "511"), FIRST, "S1 Oversize declared=508",
      f"{STRAY}, --max-bytes for longer messages"),
+    ("a big-endian length behind a bad message", DELIMITED, FIRST + b"\0\0\1\xb8", "S1 Oversize declared=3087073280",
+     STRAY),
+    ("a little-endian length", TURNED, FIRST, "S1 Oversize declared=4227923968",
+     f"; the length may be little-endian, which --delimited reads{STRAY}"),
+    ("one that isn't little-endian", TURNED, b"\5\0\0\4", "S1 Oversize declared=83886084",
+     f"{STRAY}, --max-bytes for longer messages"),
+    ("a cut stream of big-endian lengths", TURNED, b"\0\0\1\xb8", "S2 Truncated held=4", STRAY),
+    ("JSON for them", TURNED, b'{"id": 1}', "S1 Oversize declared=2065852772",
+     "; the input looks like JSON, of which flatc --binary makes buffers (--size-prefixed: messages)"),
+    ("another text for them", TURNED, b"\ntable", "S1 Oversize declared=175399266", "; the input looks like text"),
+    ("gzip for them", TURNED, b"\x1f\x8b\x08\x08", "S1 Oversize declared=529205256", "; the input looks like gzip"),
 ]]
 LONG_INPUT = [("a long bare input", [*BY_POST, "--bare", "--max-bytes", "511"], FIRST, "input longer than 511 bytes",
                "; --max-bytes allows longer ones")]

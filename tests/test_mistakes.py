@@ -155,6 +155,7 @@ class Mistakes(Case):
             ("what the recipe makes of big-endian prefixes", BY_POST, recipe(turned(FIRST + SECOND)), 0),
             ("of those outside the buffers, with --delimited", ["--delimited"], recipe(turned(prefixed(BARE))), 0),
             ("of these without a recipe", ["--delimited"], turned(prefixed(BARE)), 3),
+            ("with --delimited-be", ["--delimited-be"], turned(prefixed(BARE)), 0),
         ]:
             ran = run(*words, given=stream)
             self.same(name, ran.status, want)

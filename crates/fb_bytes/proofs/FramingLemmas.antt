@@ -5,6 +5,7 @@ use Rattle.std.specs.{Bool.◌==◌, Result.OnErr}
 use Rattle.std.proofs.lemmas.Bool.Decides.{eqb_tells}
 use Rattle.std.proofs.Math.Seq.{take-add}
 use Rattle.std.proofs.lemmas.List.{take-append-le, drop-take}
+use Rattle.fb_bytes.specs.declared.{cut.Cut.Cut, cut.Endian.Endian}
 use Rattle.fb_bytes.specs.{Messages.declared, Messages.IsMessage, Messages.IsOversize, Framing.Framing, Framing.Feeds, Framing.IsFramed, Framing.held_bytes}
 use Rattle.fb_bytes.proofs.MessageLemmas.{declared_append}
 
@@ -61,12 +62,12 @@ completed-stream prefix prefix' body piece filled used w =
     ∙ completed-front prefix prefix' body piece filled used w
 
 -- a prefix that tells too much was not whole before, so nothing else is held
-pub completed-oversize : (limit : ℕ) (prefix prefix' body piece : List ℕ) (filled used : ℕ) → Completes prefix prefix' body piece filled used
-    → (filled ≡ 4 → 4 + declared prefix ≤ limit) → limit < 4 + declared prefix' → held_bytes prefix' (filled + used) body ≡ prefix'
-completed-oversize limit prefix prefix' [] piece filled used w within over = ap (λ n. take n prefix') w.sum ∙ take_all 4 prefix' (omega (arith, w.four'))
-completed-oversize limit prefix prefix' (x ∷ xs) piece filled used w within over =
+pub completed-oversize : (cut : Cut) (prefix prefix' body piece : List ℕ) (filled used : ℕ) → Completes prefix prefix' body piece filled used
+    → (filled ≡ 4 → 4 + declared cut.order prefix ≤ cut.limit) → cut.limit < 4 + declared cut.order prefix' → held_bytes prefix' (filled + used) body ≡ prefix'
+completed-oversize cut prefix prefix' [] piece filled used w within over = ap (λ n. take n prefix') w.sum ∙ take_all 4 prefix' (omega (arith, w.four'))
+completed-oversize cut prefix prefix' (x ∷ xs) piece filled used w within over =
     let all : filled ≡ 4 = w.full (omega arith) in
-    let same : declared prefix' ≡ declared prefix = ap declared (same-prefix prefix prefix' (x ∷ xs) piece filled used w all) in
+    let same : declared cut.order prefix' ≡ declared cut.order prefix = ap (declared cut.order) (same-prefix prefix prefix' (x ∷ xs) piece filled used w all) in
     let fits = within all in
     absurd (omega arith)
 
@@ -83,19 +84,19 @@ completed-grown prefix prefix' body body' piece filled used more w grown =
       ap (take 4) at4 ∙ take-append-le 4 before next (completed-long prefix prefix' body piece filled used w) ∙ completed-front prefix prefix' body piece filled used w,
     )
 
-framed-long : (prefix prefix' body piece : List ℕ) (filled used : ℕ) → Completes prefix prefix' body piece filled used → (0 < length body → length body ≤ 4 + declared prefix) → length (held_bytes prefix' 4 body) ≤ 4 + declared prefix'
-framed-long prefix prefix' [] piece filled used w fits = omega (arith, length-take 4 prefix', w.four')
-framed-long prefix prefix' (x ∷ xs) piece filled used w fits =
-    omega (arith, fits (omega arith), ap declared (same-prefix prefix prefix' (x ∷ xs) piece filled used w (w.full (omega arith))))
+framed-long : (order : Endian) (prefix prefix' body piece : List ℕ) (filled used : ℕ) → Completes prefix prefix' body piece filled used → (0 < length body → length body ≤ 4 + declared order prefix) → length (held_bytes prefix' 4 body) ≤ 4 + declared order prefix'
+framed-long order prefix prefix' [] piece filled used w fits = omega (arith, length-take 4 prefix', w.four')
+framed-long order prefix prefix' (x ∷ xs) piece filled used w fits =
+    omega (arith, fits (omega arith), ap (declared order) (same-prefix prefix prefix' (x ∷ xs) piece filled used w (w.full (omega arith))))
 
 -- What the framer's fields keep then.
-module _ (limit : ℕ) (prefix prefix' body piece : List ℕ) (filled used : ℕ) (failed : Bool) (w : Completes prefix prefix' body piece filled used) (h : IsFramed limit filled prefix body failed) where
+module _ (cut : Cut) (prefix prefix' body piece : List ℕ) (filled used : ℕ) (failed : Bool) (w : Completes prefix prefix' body piece filled used) (h : IsFramed cut filled prefix body failed) where
   -- what is held is no longer than the prefix tells
-  pub framed-room : length (held_bytes prefix' 4 body) ≤ 4 + declared prefix'
-  framed-room = framed-long prefix prefix' body piece filled used w h.fits
+  pub framed-room : length (held_bytes prefix' 4 body) ≤ 4 + declared cut.order prefix'
+  framed-room = framed-long cut.order prefix prefix' body piece filled used w h.fits
 
   -- with a body within the limit behind that prefix
-  pub framed-within : (body' : List ℕ) (failed' : Bool) → declared prefix' ≤ limit - 4 → take 4 (held_bytes prefix' 4 body') ≡ prefix' → length (held_bytes prefix' 4 body') ≤ 4 + declared prefix' → IsFramed limit (filled + used) prefix' body' failed'
+  pub framed-within : (body' : List ℕ) (failed' : Bool) → declared cut.order prefix' ≤ cut.limit - 4 → take 4 (held_bytes prefix' 4 body') ≡ prefix' → length (held_bytes prefix' 4 body') ≤ 4 + declared cut.order prefix' → IsFramed cut (filled + used) prefix' body' failed'
   framed-within body' failed' all front fits = record {
     low = h.low;
     high = h.high;
@@ -109,9 +110,9 @@ module _ (limit : ℕ) (prefix prefix' body piece : List ℕ) (filled used : ℕ
   }
 
   -- where that prefix tells too much
-  pub framed-over : failed ≡ false → limit < 4 + declared prefix' → IsFramed limit (filled + used) prefix' body true
+  pub framed-over : failed ≡ false → cut.limit < 4 + declared cut.order prefix' → IsFramed cut (filled + used) prefix' body true
   framed-over fine over =
-      let alone : held_bytes prefix' (filled + used) body ≡ prefix' = completed-oversize limit prefix prefix' body piece filled used w (h.within fine) over in
+      let alone : held_bytes prefix' (filled + used) body ≡ prefix' = completed-oversize cut prefix prefix' body piece filled used w (h.within fine) over in
       record {
         low = h.low;
         high = h.high;
@@ -125,22 +126,26 @@ module _ (limit : ℕ) (prefix prefix' body piece : List ℕ) (filled used : ℕ
       }
 
 -- what is shorter than its prefix tells was no message before
-pub completed-unfinished : (limit : ℕ) (held piece : List ℕ) (used : ℕ) → length (held ++ take used piece) < 4 + declared (held ++ piece) → IsMessage limit held → ⊥
-completed-unfinished limit held piece used short is =
-    omega (arith, is.whole, declared_append held piece is.prefixed, length-append held (take used piece))
+pub completed-unfinished : (cut : Cut) (held piece : List ℕ) (used : ℕ) → length (held ++ take used piece) < 4 + declared cut.order (held ++ piece) → IsMessage cut held → ⊥
+completed-unfinished cut held piece used short is =
+    omega (arith, is.whole, declared_append cut.order held piece is.prefixed, length-append held (take used piece))
 
 -- a piece that was taken holds no prefix that tells too much
-pub fed-fits : (old new : Framing) (piece : List ℕ) (used : ℕ) (whole : Bool) → Feeds old new piece used whole → IsOversize old.limit (old.held ++ piece) → ⊥
+pub fed-fits : (old new : Framing) (piece : List ℕ) (used : ℕ) (whole : Bool) → Feeds old new piece used whole → IsOversize old.cut (old.held ++ piece) → ⊥
 fed-fits old new piece used true fed over =
     let is = fed.message refl in
     let parts : old.held ++ piece ≡ new.held ++ drop used piece = ap (λ l. old.held ++ l) (sym (take-append-drop used piece))
     ∙ sym (append_assoc old.held (take used piece) (drop used piece)) ∙ ap (λ l. l ++ drop used piece) (sym fed.held) in
-    omega (arith, is.whole, is.within, over.1, fed.limit, ap declared parts, declared_append new.held (drop used piece) is.prefixed)
+    let limit = ap (λ (c : Cut). c.limit) fed.cut in
+    let number = ap (λ (c : Cut). declared c.order new.held) fed.cut in
+    omega (arith, is.whole, is.within, over.1, limit, number, ap (declared old.cut.order) parts, declared_append old.cut.order new.held (drop used piece) is.prefixed)
 fed-fits old new piece used false fed over =
     let part = fed.partial refl in
     let all : new.held ≡ old.held ++ piece = fed.held ∙ ap (λ l. old.held ++ l) (take_all used piece (omega (arith, part.1))) in
     let fits = part.0 (omega (arith, over.0, ap length all)) in
-    omega (arith, fits.1, over.1, fed.limit, ap declared all)
+    let limit = ap (λ (c : Cut). c.limit) fed.cut in
+    let number = ap (λ (c : Cut). declared c.order new.held) fed.cut in
+    omega (arith, fits.1, over.1, limit, number, ap (declared old.cut.order) all)
 
 -- a prefix and what follows it
 pub front_rest : (bytes prefix : List ℕ) → take 4 bytes ≡ prefix → bytes ≡ prefix ++ drop 4 bytes

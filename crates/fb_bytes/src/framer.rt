@@ -1,9 +1,10 @@
 //! A framer holds the message that is coming, however the stream is cut into pieces.
 
 ghost use Rattle.std.specs.Prelude.{IfOk, IfErr, MatchResult, IfSome, IsSome, OnOk, OnErr, IsOk, IsTrue, IsErrOf, Ok, Err, ◌≡◌, ◌↔◌, ◌⊎◌, ◌+◌, ◌-◌, ◌<◌, ◌≤◌, ℕ, true, false, [], ◌++◌, length, take, drop, min};
-ghost use Rattle.fb_bytes.specs.Messages.{declared, IsMessage, IsOversize};
+ghost use Rattle.fb_bytes.specs.Messages.{declared, little, IsMessage, IsOversize};
 ghost use Rattle.fb_bytes.specs.Framing.{Framing, IsHeld, Feeds, FeedFails, held_bytes};
 
+use super::cut::{Cut, Endian};
 use super::stream_fault::{LimitOutOfRange, StreamFault};
 use std::alloc::{AllocError, Allocator};
 use std::marker::Model;
@@ -23,11 +24,12 @@ pub struct Taken {
 
 /// At most one message of a stream of size-prefixed buffers, which comes in pieces of any size.
 ///
-/// A message is a little-endian `u32` and as many bytes as that number says (FlatBuffers
-/// Internals, "size prefixed buffers"). The memory of one message serves the next.
+/// A message is a `u32` and as many bytes as that number says (FlatBuffers Internals, "size
+/// prefixed buffers"); the number is little-endian, or as the framer is told. The memory of one
+/// message serves the next.
 #[derive(Drop)]
 pub struct Framer<A: Allocator> {
-    limit: u32,
+    cut: Cut,
     filled: usize,
     prefix: [u8; 4],
     body: Vec<u8, A>,
@@ -39,9 +41,9 @@ impl<A: Allocator> Model for Framer<A> {
 
     ghost Value = { Framing };
 
-    ghost view = { λ f. record { limit = f.limit; held = held_bytes f.prefix f.filled f.body.items; failed = f.failed } };
+    ghost view = { λ f. record { cut = f.cut; held = held_bytes f.prefix f.filled f.body.items; failed = f.failed } };
 
-    ghost invariant = { λ f. IsFramed f.limit f.filled f.prefix f.body.items f.failed };
+    ghost invariant = { λ f. IsFramed f.cut f.filled f.prefix f.body.items f.failed };
 }
 
 impl<A: Allocator> Framer<A> {
@@ -50,13 +52,27 @@ impl<A: Allocator> Framer<A> {
     /// The limit is 8 to 2,147,483,647. No memory is taken yet.
     pub fn new(alloc: A, limit: u32) -> Result<Framer<A>, LimitOutOfRange>
         ensures range { IsOk result ↔ ((8 ≤ limit) × (limit ≤ 2147483647)) }
-        ensures empty { IfOk result (λ f. f ≡ record { limit = limit; held = []; failed = false }) }
+        ensures empty { IfOk result (λ f. f ≡ record { cut = little limit; held = []; failed = false }) }
     {
-        if limit < LEAST_LIMIT || limit > MOST_LIMIT {
+        Framer::of(
+            alloc,
+            Cut {
+                limit,
+                order: Endian::Little,
+            },
+        )
+    }
+
+    /// The same for a stream that is cut so: its limit is that of messages, prefix included.
+    pub fn of(alloc: A, cut: Cut) -> Result<Framer<A>, LimitOutOfRange>
+        ensures range { IsOk result ↔ ((8 ≤ cut.limit) × (cut.limit ≤ 2147483647)) }
+        ensures empty { IfOk result (λ f. f ≡ record { cut = cut; held = []; failed = false }) }
+    {
+        if cut.limit < LEAST_LIMIT || cut.limit > MOST_LIMIT {
             return Err(LimitOutOfRange);
         }
         Ok(Framer {
-            limit,
+            cut,
             filled: 0,
             prefix: [0; 4],
             body: Vec::new(alloc),
@@ -72,8 +88,8 @@ impl<A: Allocator> Framer<A> {
     pub fn feed(&mut self, piece: &[u8]) -> Result<Taken, StreamFault>
         ensures ok { IfOk result (λ t. Feeds self.old self.new piece.now t.used t.whole) }
         ensures fault { IfErr result (λ e. self.old.failed ≡ false → FeedFails self.old self.new piece.now e) }
-        ensures oversize { self.old.failed ≡ false → IsOversize self.old.limit (self.old.held ++ piece.now)
-            → IsErrOf result (StreamFault.Oversize (declared (self.old.held ++ piece.now))) }
+        ensures oversize { self.old.failed ≡ false → IsOversize self.old.cut (self.old.held ++ piece.now)
+            → IsErrOf result (StreamFault.Oversize (declared self.old.cut.order (self.old.held ++ piece.now))) }
         ensures failed { self.old.failed ≡ true → (self.new ≡ self.old) × IsErrOf result StreamFault.Failed }
     {
         if self.failed {
@@ -84,8 +100,8 @@ impl<A: Allocator> Framer<A> {
         if self.filled < 4 {
             return Ok(Taken { used, whole: false });
         }
-        let declared = number_in(self.prefix);
-        if declared > self.limit - 4 {
+        let declared = self.cut.order.number_in(self.prefix);
+        if declared > self.cut.limit - 4 {
             self.failed = true;
             return Err(StreamFault::Oversize { declared });
         }
@@ -103,7 +119,7 @@ impl<A: Allocator> Framer<A> {
 
     /// The whole message that is held, with its prefix.
     pub fn message(&self) -> Option<&[u8]>
-        ensures whole { IsSome result ↔ ((self.now.failed ≡ false) × IsMessage self.now.limit self.now.held) }
+        ensures whole { IsSome result ↔ ((self.now.failed ≡ false) × IsMessage self.now.cut self.now.held) }
         ensures bytes { IfSome result (λ m. m.now ≡ self.now.held) }
     {
         if self.is_whole() {
@@ -115,9 +131,9 @@ impl<A: Allocator> Framer<A> {
 
     /// Gives up the whole message that is held; where none is, nothing changes.
     pub fn next(&mut self)
-        ensures whole { (self.old.failed ≡ false) × IsMessage self.old.limit self.old.held
+        ensures whole { (self.old.failed ≡ false) × IsMessage self.old.cut self.old.held
             → self.new ≡ record self.old { held = [] } }
-        ensures other { ((self.old.failed ≡ false) × IsMessage self.old.limit self.old.held → ⊥)
+        ensures other { ((self.old.failed ≡ false) × IsMessage self.old.cut self.old.held → ⊥)
             → self.new ≡ self.old }
     {
         if self.is_whole() {
@@ -131,9 +147,9 @@ impl<A: Allocator> Framer<A> {
     /// S2 where a part of a message is held, S4 where this framer has failed before.
     pub fn finish(&mut self) -> Result<(), StreamFault>
         ensures ok { OnOk result ((self.old.failed ≡ false) × (self.new ≡ self.old)
-            × ((self.old.held ≡ []) ⊎ IsMessage self.old.limit self.old.held)) }
+            × ((self.old.held ≡ []) ⊎ IsMessage self.old.cut self.old.held)) }
         ensures truncated { self.old.failed ≡ false → OnErr result ((self.new ≡ record self.old { failed = true })
-            × (0 < length self.old.held) × (IsMessage self.old.limit self.old.held → ⊥)
+            × (0 < length self.old.held) × (IsMessage self.old.cut self.old.held → ⊥)
             × IsErrOf result (StreamFault.Truncated (length self.old.held))) }
         ensures failed { self.old.failed ≡ true → (self.new ≡ self.old) × IsErrOf result StreamFault.Failed }
     {
@@ -151,8 +167,8 @@ impl<A: Allocator> Framer<A> {
     /// How many bytes are held, which is never more than the limit.
     pub fn held(&self) -> u64
         ensures value { result ≡ length self.now.held }
-        ensures within { result ≤ self.now.limit }
-        ensures sound { self.now.failed ≡ false → IsHeld self.now.limit self.now.held }
+        ensures within { result ≤ self.now.cut.limit }
+        ensures sound { self.now.failed ≡ false → IsHeld self.now.cut self.now.held }
     {
         self.bytes().len() as u64
     }
@@ -160,8 +176,8 @@ impl<A: Allocator> Framer<A> {
     #[tactic(auto, using(crate::proofs::MessageLemmas::declared_front))]
     fn bytes(&self) -> &[u8]
         ensures value { result.now ≡ self.now.held }
-        ensures within { length self.now.held ≤ self.now.limit }
-        ensures sound { self.now.failed ≡ false → IsHeld self.now.limit self.now.held }
+        ensures within { length self.now.held ≤ self.now.cut.limit }
+        ensures sound { self.now.failed ≡ false → IsHeld self.now.cut self.now.held }
     {
         if self.body.is_empty() {
             &self.prefix[..self.filled]
@@ -172,21 +188,13 @@ impl<A: Allocator> Framer<A> {
 
     #[tactic(auto, using(crate::proofs::MessageLemmas::declared_front))]
     fn is_whole(&self) -> bool
-        ensures { IsTrue result ↔ ((self.now.failed ≡ false) × IsMessage self.now.limit self.now.held) }
+        ensures { IsTrue result ↔ ((self.now.failed ≡ false) × IsMessage self.now.cut self.now.held) }
     {
         if self.failed || self.filled < 4 {
             return false;
         }
-        self.bytes().len() == number_in(self.prefix) as usize + 4
+        self.bytes().len() == self.cut.order.number_in(self.prefix) as usize + 4
     }
-}
-
-/// The number that a prefix tells.
-#[tactic(auto, using(crate::proofs::MessageLemmas::declared_le_bytes))]
-fn number_in(prefix: [u8; 4]) -> u32
-    ensures { result ≡ declared prefix }
-{
-    u32::from_le_bytes(prefix)
 }
 
 /// Copies what the prefix lacks from the front of the piece, and answers how many bytes that were.

@@ -8,6 +8,7 @@
 #![tactic(auto)]
 
 pub mod counted;
+pub mod cut;
 pub mod ends;
 pub mod framer;
 pub mod loan;
@@ -18,6 +19,7 @@ pub mod stream_fault;
 pub mod window;
 
 pub use counted::Counted;
+pub use cut::{Cut, Endian};
 pub use ends::{Sink, Source};
 pub use framer::{Framer, Taken};
 pub use loan::Loan;

@@ -8,7 +8,7 @@ use Rattle.fb_lines.specs.LineTests.{Lines, Names, Values, Texts}
 use Rattle.fb_lines.specs.declared.options.Options.{Options}
 
 pub buffers_shown : (rows : Rows) (options : Options) → Buffers rows options
-buffers_shown rows options = record { part = λ stream prefix. rw (stream, prefix) (refl, refl); apart = λ stream prefix. rw (stream, prefix) (refl, refl) }
+buffers_shown rows options = record { part = λ stream prefix. rw (stream, prefix) (refl, refl, refl); apart = λ order stream prefix. rw (stream, prefix) (refl, refl, refl) }
 
 pub lines_shown : Lines
 unfolding digits

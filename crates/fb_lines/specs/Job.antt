@@ -1,6 +1,7 @@
 -- What the buffers of a run are checked by, and what a verdict on one of them says.
 use Rattle.std.specs.Prelude.{◌≡◌, ℕ, ◌<◌, ◌≤◌, ◌^◌, All, IsTrue, Bool, true, false, List, [], drop, length, map, IfSome, Option, Some, None, Result, Ok, Err, option_map}
 use Rattle.std.specs.{Borrow.Bor, List.AllZip, declared.alloc.AllocError.AllocError}
+use Rattle.fb_bytes.specs.declared.{cut.Cut.Cut, cut.Endian.Endian, cut.Endian.TheVariants.Little}
 use Rattle.fb_schema.specs.Rows.{Rows, is_table}
 use Rattle.fb_rules.specs.{Bounds.Bounds, Bounds.limits_of_length, Question.Question, Question.question}
 use Rattle.fb_strict.specs.{Planned.Planned, Planned.IsPlan, AsAsked.ReportsBy, AsAsked.StopsBy, AsAsked.StopsAlongBy}
@@ -18,7 +19,7 @@ use Rattle.fb_lines.specs.declared.{options.Prefix.TheVariants.Part, options.Pre
 -- a schema with its root, how many bytes at the beginning of an input are left out, how many messages and how many bad
 -- ones of it are told at most, whether the input is one bare buffer, how many bytes of a message stand before the buffer,
 -- how the buffer starts, the identifier, the limits, the reads that each byte of a buffer allows, the checks, the values
--- that are asked for, the most bytes that a message may have, what is told of messages, how of the places of faults,
+-- that are asked for, the most bytes that a message may have, the order of the bytes of its length, what is told of messages, how of the places of faults,
 -- the name of the input, where lines tell it, how they are written, and the plan by which buffers are to be strict, if
 -- they are
 pub record Job : Type 0 where
@@ -36,11 +37,16 @@ pub record Job : Type 0 where
   pub checks : Checks
   pub paths : List Wanted
   pub limit : ℕ
+  pub order : Endian
   pub mode : Mode
   pub names : Places
   pub label : Option (List ℕ)
   pub form : Form
   pub plan : Option Planned
+
+-- how a stream is cut into messages
+abbrev pub cut_of : Job → Cut
+cut_of job = record { limit = job.limit; order = job.order }
 
 -- what is checked of an input: all but the bytes at its beginning that are left out
 abbrev pub checked_in : Job → List ℕ → List ℕ
@@ -155,8 +161,13 @@ start_of _ _ = Bare
 
 -- how many bytes of a message stand before the buffer
 abbrev pub skip_of : Bool → Prefix → ℕ
-skip_of false Apart = 4
+skip_of false (Apart order) = 4
 skip_of _ _ = 0
+
+-- in which order the bytes of a message's length stand: in the lengths of FlatBuffers the lowest is first
+abbrev pub order_of : Prefix → Endian
+order_of (Apart order) = order
+order_of Part = Little
 
 -- what the options of a run ask of each buffer
 abbrev pub job_of : Rows → Options → Job
@@ -175,6 +186,7 @@ job_of rows options = record {
   checks = options.checks;
   paths = options.paths.items;
   limit = options.max_bytes;
+  order = order_of options.prefix;
   mode = options.mode;
   names = options.names;
   label = option_map (λ name. name.items) options.label;

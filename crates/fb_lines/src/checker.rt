@@ -4,7 +4,7 @@ ghost use Rattle.std.specs.Prelude.{IfOk, IfErr, IfSome, None, OnOk, IsTrue, ◌
 ghost use Rattle.fb_access.specs.Denotes.{shown};
 ghost use Rattle.fb_lines.specs.declared.options.Places.TheVariants.{Words};
 ghost use Rattle.fb_lines.specs.declared.checker.Course.TheVariants.{Brief, BriefStrictly};
-ghost use Rattle.fb_lines.specs.Job.{AreAnswers, HasRoom, IsChecked, IsVerdict, PathsFit, Serves, Verdict, VerifiesBy, asked_of, brief_verdict, buffer_in, course_by, course_of, is_brief, job_of, limits_for, place_told, skip_of, start_of, verdict_beside, verdict_of};
+ghost use Rattle.fb_lines.specs.Job.{AreAnswers, HasRoom, IsChecked, IsVerdict, PathsFit, Serves, Verdict, VerifiesBy, asked_of, brief_verdict, buffer_in, course_by, course_of, cut_of, is_brief, job_of, limits_for, order_of, place_told, skip_of, start_of, verdict_beside, verdict_of};
 ghost use Rattle.fb_strict.specs.AsAsked.{StopsBy, StopsAlongBy};
 ghost use Rattle.fb_schema.specs.Rows.{Rows};
 ghost use Rattle.fb_lines.specs.{Line.front_in, Spot.IsDue, Spot.at_first};
@@ -16,7 +16,7 @@ use crate::options::{AskedPath, Form, Mode, Options, Places, Prefix};
 use crate::room::Room;
 use crate::spot::Spot;
 use fb_access::{get, place_of, put_location};
-use fb_bytes::Meter;
+use fb_bytes::{Cut, Endian, Meter};
 use fb_schema::Schema;
 use fb_strict::{Room as PassRoom, VerifiedStrictly, verify_strictly, verify_strictly_and_locate};
 use fb_verify::{
@@ -81,8 +81,9 @@ pub struct Wrong<'t> {
 pub struct Checker<'s, 'n, 'o> {
     schema: &'s Schema<'n>,
     options: &'o Options,
-    /// What the options say for every buffer, asked once: how it begins, how many bytes of its message stand before it,
-    /// and by which course it is checked.
+    /// What the options say for every buffer, asked once: how a stream is cut into messages, how a buffer begins, how
+    /// many bytes of its message stand before it, and by which course it is checked.
+    cut: Cut,
     start: Start,
     skip: usize,
     course: Course,
@@ -90,14 +91,14 @@ pub struct Checker<'s, 'n, 'o> {
 
 impl<'s, 'n, 'o> Model for Checker<'s, 'n, 'o> {
     ghost use Rattle.std.specs.Prelude.{◌≡◌};
-    ghost use Rattle.fb_lines.specs.Job.{Job, Serves, course_of, job_of, skip_of, start_of};
+    ghost use Rattle.fb_lines.specs.Job.{Job, Serves, course_of, cut_of, job_of, skip_of, start_of};
 
     ghost Value = { Job };
 
     ghost view = { λ c. job_of c.schema.now c.options.now };
 
     ghost invariant = { λ c. Serves c.schema.now c.options.now × (c.start ≡ start_of c.options.now.bare c.options.now.prefix)
-        × (c.skip ≡ skip_of c.options.now.bare c.options.now.prefix) × (c.course ≡ course_of (job_of c.schema.now c.options.now)) };
+        × (c.skip ≡ skip_of c.options.now.bare c.options.now.prefix) × (c.course ≡ course_of (job_of c.schema.now c.options.now)) × (c.cut ≡ cut_of (job_of c.schema.now c.options.now)) };
 }
 
 impl<'s, 'n, 'o> Checker<'s, 'n, 'o> {
@@ -109,6 +110,10 @@ impl<'s, 'n, 'o> Checker<'s, 'n, 'o> {
         Checker {
             schema,
             options,
+            cut: Cut {
+                limit: options.max_bytes,
+                order: order(options),
+            },
             start: start(options),
             skip: skip(options),
             course: course_by(options),
@@ -122,6 +127,15 @@ impl<'s, 'n, 'o> Checker<'s, 'n, 'o> {
         ensures most { self.now.limit < 2 ^ 31 }
     {
         self.options.max_bytes
+    }
+
+    /// How a stream is cut into messages.
+    pub fn cut(&self) -> Cut
+        ensures value { result ≡ cut_of self.now }
+        ensures least { 8 ≤ self.now.limit }
+        ensures most { self.now.limit < 2 ^ 31 }
+    {
+        self.cut
     }
 
     /// How many bytes at the beginning of the input are left out. The first message behind them is told.
@@ -489,8 +503,18 @@ fn skip(options: &Options) -> usize
     ensures { result ≡ skip_of options.now.bare options.now.prefix }
 {
     match options.prefix {
-        Prefix::Apart if !options.bare => PREFIX,
+        Prefix::Apart(_) if !options.bare => PREFIX,
         _ => 0,
+    }
+}
+
+/// In which order the bytes of a message's length stand.
+fn order(options: &Options) -> Endian
+    ensures { result ≡ order_of options.now.prefix }
+{
+    match options.prefix {
+        Prefix::Apart(order) => order,
+        Prefix::Part => Endian::Little,
     }
 }
 

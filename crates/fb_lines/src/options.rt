@@ -3,6 +3,7 @@
 ghost use Rattle.std.specs.Prelude.{◌≡◌};
 
 use fb_access::Path;
+use fb_bytes::Endian;
 use fb_strict::Plan;
 use fb_verify::{Checks, Ident, Limits};
 use std::marker::Model;
@@ -83,8 +84,8 @@ impl AskedPath {
 pub enum Prefix {
     /// A part of the buffer, which is size-prefixed.
     Part,
-    /// No part of the buffer, which stands behind them and is a bare one.
-    Apart,
+    /// No part of the buffer, which stands behind them and is a bare one. They stand in this order.
+    Apart(Endian),
 }
 
 /// How the buffers of a run are checked, and what is told of them.

@@ -5,8 +5,9 @@ use Rattle.std.proofs.KnownBytes.{Consumes-kept, Consumes-nil, Consumes-trans, K
 use Rattle.std.proofs.lemmas.List.{drop_all, length-drop}
 use mathlib.Core.Logic.{◌⊎◌, inl, inr}
 use Rattle.fb_bytes.specs.Messages.{IsMessage, IsPartial, Splits}
+use Rattle.fb_bytes.specs.declared.cut.Cut.{Cut}
 use Rattle.fb_bytes.specs.declared.stream_fault.StreamFault.TheVariants as stream
-use Rattle.fb_lines.specs.{Ends.Ends, Ends.Outs, Ends.Reader, Ends.Takes, Ends.beside, Job.Job, Job.checked_in, Lines.AreTold, Spot.IsDue, Spot.IsFull, Spot.at_first, Spot.past_all, Sums.count_of, Sums.no_tally}
+use Rattle.fb_lines.specs.{Ends.Ends, Ends.Outs, Ends.Reader, Ends.Takes, Ends.beside, Job.Job, Job.checked_in, Job.cut_of, Lines.AreTold, Spot.IsDue, Spot.IsFull, Spot.at_first, Spot.past_all, Sums.count_of, Sums.no_tally}
 use Rattle.fb_lines.specs.Faults.{End, EndsBeside, IsCaused, IsCausedOut, IsUnfailedOut, end_of, failed}
 use Rattle.fb_lines.specs.Puts.{AreOpen, Queues, all_unused}
 use Rattle.fb_lines.specs.Texts.{Texts, followed, silent, to_notes}
@@ -160,8 +161,8 @@ module _ {job : Job} {first now : Reader} {before : Outs} {here : Carry} {skip :
   takes : Takes before (outs_in here.queues) sofar.stands.text
   takes = takes_all sofar.stands.text before here.queues sofar.stands.puts sofar.unfailed sofar.empty
 
-  part : IsPartial job.limit here.framer.held
-  part = subst (λ (n : ℕ). IsPartial n here.framer.held) sofar.ready.limit sofar.ready.part
+  part : IsPartial (cut_of job) here.framer.held
+  part = subst (λ (u : Cut). IsPartial u here.framer.held) sofar.ready.cut sofar.ready.part
 
   -- all that was read is told
   pub sofar_prompt : IsStreamPrompt job (beside first before) (beside now (outs_in here.queues))
@@ -229,7 +230,7 @@ module _ {job : Job} {first now : Reader} {before : Outs} {here : Carry} {skip :
             rest = gathers.rest;
             text = gathers.text;
             read = reads;
-            splits = subst (λ (l : List ℕ). Splits job.limit l (gathers.done ++ gathers.left) gathers.rest) (sym grown) gathers.splits;
+            splits = subst (λ (l : List ℕ). Splits (cut_of job) l (gathers.done ++ gathers.left) gathers.rest) (sym grown) gathers.splits;
             told = gathers.told;
             takes = takes_all gathers.text before after.queues gathers.puts fine empty;
             stopped = inl full;
@@ -299,7 +300,7 @@ module _ {job : Job} {first now : Reader} {before : Outs} {here : Carry} {skip :
     }
 
     -- with a message
-    pub passes_end : skip.left ≡ 0 → (here.framer.held ≡ []) ⊎ IsMessage here.framer.limit here.framer.held
+    pub passes_end : skip.left ≡ 0 → (here.framer.held ≡ []) ⊎ IsMessage here.framer.cut here.framer.held
         → Runs false job (beside first before) (beside reader (outs_in here.queues)) turns here.tally (Ok tt)
     passes_end spent held =
         let empty : here.framer.held ≡ [] = elim held [ inl none ↦ none | inr message ↦ absurd (omega (arith, message.whole, (sofar.ready.part message.prefixed).0)) ] in
@@ -311,7 +312,7 @@ module _ {job : Job} {first now : Reader} {before : Outs} {here : Carry} {skip :
             rest = here.framer.held;
             text = sofar.stands.text;
             read = whole;
-            splits = subst (λ (l : List (List ℕ)). Splits job.limit (checked_in job sofar.bytes) l here.framer.held) (sym (append-nil sofar.stands.messages)) sofar.stands.splits;
+            splits = subst (λ (l : List (List ℕ)). Splits (cut_of job) (checked_in job sofar.bytes) l here.framer.held) (sym (append-nil sofar.stands.messages)) sofar.stands.splits;
             told = sofar.stands.told;
             takes = takes;
             stopped = inr (record { ended = ended; begun = omega (arith, spent, sofar.skips.left); none = refl; whole = empty });
@@ -329,8 +330,8 @@ none_from : (from : Bool) (job : Job) (ends : Ends) → IsRunFrom from job ends 
 none_from true job ends =
     ([], Consumes-nil ends.reader.left, (rw (drop_all {X = ℕ} job.begin [] (omega arith)) (omega arith), ((Keeps-refl ends.outs.writer.bytes, Keeps-refl ends.outs.notes.bytes), refl)))
 none_from false job ends =
-    let nothing : Splits job.limit (checked_in job []) [] [] =
-    subst (λ (l : List ℕ). Splits job.limit l [] []) (sym (drop_all job.begin [] (omega arith))) (splits_rest job.limit [] (inl (empty_partial job.limit))) in
+    let nothing : Splits (cut_of job) (checked_in job []) [] [] =
+    subst (λ (l : List ℕ). Splits (cut_of job) l [] []) (sym (drop_all job.begin [] (omega arith))) (splits_rest (cut_of job) [] (inl (empty_partial (cut_of job)))) in
     record {
       bytes = [];
       text = silent;

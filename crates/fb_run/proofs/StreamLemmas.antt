@@ -1,12 +1,12 @@
 -- What was read and told, and then more of the stream.
 use Rattle.std.proofs.Common.{◌≡◌, ◌⊎◌, ℕ, ◌-◌, ◌<◌, Bool, true≢false, List, [], ◌∷◌, ◌++◌, take, drop, refl, sym, ap, subst, ◌∙◌, arith, Result, Ok, Err, append-nil, append_assoc, length-append}
 use mathlib.Core.Logic.{inl, inr}
-use Rattle.fb_bytes.specs.Messages.{IsMessage, IsOversize, IsPartial, Splits}
+use Rattle.fb_bytes.specs.Messages.{declared, IsMessage, IsOversize, IsPartial, Splits}
 use Rattle.fb_bytes.specs.Framing.{Framing, Feeds, FeedFails}
-use Rattle.fb_bytes.specs.declared.stream_fault.StreamFault.{StreamFault}
+use Rattle.fb_bytes.specs.declared.{cut.Cut.Cut, stream_fault.StreamFault.StreamFault}
 use Rattle.fb_bytes.specs.declared.stream_fault.StreamFault.TheVariants as stream
 use Rattle.fb_bytes.proofs.MessageLemmas.{readings_some}
-use Rattle.fb_lines.specs.{Ends.Outs, Faults.feed_fault, Job.Beside, Job.HasRoom, Job.Job, Spot.Before, Spot.HasDue, Spot.IsDue, Spot.IsFull, Spot.past_all, Texts.Texts, Texts.followed, Texts.silent, Job.Verdict, Sums.no_tally, Sums.tally_with}
+use Rattle.fb_lines.specs.{Ends.Outs, Faults.feed_fault, Job.Beside, Job.HasRoom, Job.Job, Job.cut_of, Spot.Before, Spot.HasDue, Spot.IsDue, Spot.IsFull, Spot.past_all, Texts.Texts, Texts.followed, Texts.silent, Job.Verdict, Sums.no_tally, Sums.tally_with}
 use Rattle.fb_lines.specs.Puts.{Adds, AddsBy, AreCut, AreOpen, AreSound, PutsBoth, Queues, all_unused, unused}
 use Rattle.fb_run.specs.Stream.{TellsMore}
 use Rattle.fb_run.specs.Pieces.{AreEmpty, AreSettled, Carry, Gathers, GoesOn, Halts, IsReady, Passes, PassesAllBy, PassesFront, Stands, Stops, TellsOne, WritesBy}
@@ -22,20 +22,20 @@ module _ (job : Job) (first : Outs) where
   stands_first now unused counted none = record {
     messages = [];
     text = silent;
-    splits = rw none (splits_rest job.limit [] (inl (empty_partial job.limit)));
+    splits = rw none (splits_rest (cut_of job) [] (inl (empty_partial (cut_of job))));
     told = rw counted (refl, refl);
     puts = subst (PutsBoth silent (all_unused first)) (sym unused) (puts_none (all_unused first).out, puts_none (all_unused first).notes);
   }
 
   -- a message was whole, and what is told of it was put
-  pub message_stands : (bytes more message : List ℕ) (before after : Carry) → message ≡ before.framer.held ++ more → IsMessage job.limit message → after.framer.held ≡ [] → IsDue job (past_all job before.tally)
+  pub message_stands : (bytes more message : List ℕ) (before after : Carry) → message ≡ before.framer.held ++ more → IsMessage (cut_of job) message → after.framer.held ≡ [] → IsDue job (past_all job before.tally)
       → Adds job (past_all job before.tally) message before.queues after.queues before.tally after.tally → Stands job first bytes before → Stands job first (bytes ++ more) after
   message_stands bytes more message before after at is gone due adds stands =
-      let one : Splits job.limit (before.framer.held ++ more) (message ∷ []) [] = rw (← at) (splits_one job.limit message is) in
+      let one : Splits (cut_of job) (before.framer.held ++ more) (message ∷ []) [] = rw (← at) (splits_one (cut_of job) message is) in
       record {
         messages = stands.messages ++ message ∷ [];
         text = followed stands.text adds.told;
-        splits = rw gone (splits_then job.limit bytes more before.framer.held [] stands.messages (message ∷ []) stands.splits one);
+        splits = rw gone (splits_then (cut_of job) bytes more before.framer.held [] stands.messages (message ∷ []) stands.splits one);
         told = lines_more job stands.messages message stands.text adds.told before.tally after.tally adds.verdict adds.tally_is stands.told due adds.is_told;
         puts = (
           puts_then stands.text.out adds.told.out (unused first.writer) before.queues.out after.queues.out stands.puts.0 adds.puts.0,
@@ -44,16 +44,16 @@ module _ (job : Job) (first : Outs) where
       }
 
   -- or more of a part is held
-  pub held_stands : (bytes piece : List ℕ) (used : ℕ) (whole : Bool) (before : Carry) (framer : Framing) → before.framer.limit ≡ job.limit → Feeds before.framer framer piece used whole
-      → IsPartial framer.limit framer.held → Stands job first bytes before → Stands job first (bytes ++ take used piece) (record before { framer = framer })
-  held_stands bytes piece used whole before framer limit feeds part stands =
-      let one : Splits job.limit (before.framer.held ++ take used piece) [] framer.held =
-      subst (λ (l : List ℕ). Splits job.limit l [] framer.held) feeds.held
-      (splits_rest job.limit framer.held (inl (subst (λ (n : ℕ). IsPartial n framer.held) (feeds.limit ∙ limit) part))) in
+  pub held_stands : (bytes piece : List ℕ) (used : ℕ) (whole : Bool) (before : Carry) (framer : Framing) → before.framer.cut ≡ cut_of job → Feeds before.framer framer piece used whole
+      → IsPartial framer.cut framer.held → Stands job first bytes before → Stands job first (bytes ++ take used piece) (record before { framer = framer })
+  held_stands bytes piece used whole before framer cut feeds part stands =
+      let one : Splits (cut_of job) (before.framer.held ++ take used piece) [] framer.held =
+      subst (λ (l : List ℕ). Splits (cut_of job) l [] framer.held) feeds.held
+      (splits_rest (cut_of job) framer.held (inl (subst (λ (u : Cut). IsPartial u framer.held) (feeds.cut ∙ cut) part))) in
       record {
         messages = stands.messages;
         text = stands.text;
-        splits = rw (append-nil stands.messages) at (splits_then job.limit bytes (take used piece) before.framer.held framer.held stands.messages [] stands.splits one);
+        splits = rw (append-nil stands.messages) at (splits_then (cut_of job) bytes (take used piece) before.framer.held framer.held stands.messages [] stands.splits one);
         told = stands.told;
         puts = stands.puts;
       }
@@ -61,41 +61,41 @@ module _ (job : Job) (first : Outs) where
   -- what was told is that of the first messages, whatever comes
   gathers_more : (bytes more : List ℕ) (now : Carry) → Stands job first bytes now → Gathers job first (bytes ++ more) now.tally now.queues
   gathers_more bytes more now stands =
-      let further = readings_some job.limit (now.framer.held ++ more) in
+      let further = readings_some (cut_of job) (now.framer.held ++ more) in
       record {
         done = stands.messages;
         left = further.0;
         rest = further.1;
         text = stands.text;
-        splits = splits_then job.limit bytes more now.framer.held further.1 stands.messages further.0 stands.splits further.2;
+        splits = splits_then (cut_of job) bytes more now.framer.held further.1 stands.messages further.0 stands.splits further.2;
         told = stands.told;
         puts = stands.puts;
       }
 
   -- the framer failed at a piece
-  pub feed_halts : (bytes piece : List ℕ) (before : Carry) (framer : Framing) (fault : StreamFault) → before.framer.limit ≡ job.limit → AreOpen before.queues → TellsMore job before.tally
+  pub feed_halts : (bytes piece : List ℕ) (before : Carry) (framer : Framing) (fault : StreamFault) → before.framer.cut ≡ cut_of job → AreOpen before.queues → TellsMore job before.tally
       → FeedFails before.framer framer piece fault
       → Stands job first bytes before → Halts job first (bytes ++ piece) before.tally before.queues (feed_fault fault)
-  feed_halts bytes piece before framer (stream.Oversize number) limit fine due refused stands =
+  feed_halts bytes piece before framer (stream.Oversize number) cut fine due refused stands =
       let held = before.framer.held in
-      let over : IsOversize job.limit (held ++ piece) = rw limit at refused.oversize in (
+      let over : IsOversize (cut_of job) (held ++ piece) = subst (λ (u : Cut). IsOversize u (held ++ piece)) cut refused.oversize in (
         record {
           done = stands.messages;
           left = [];
           rest = held ++ piece;
           text = stands.text;
-          splits = splits_then job.limit bytes piece held (held ++ piece) stands.messages [] stands.splits (splits_rest job.limit (held ++ piece) (inr over));
+          splits = splits_then (cut_of job) bytes piece held (held ++ piece) stands.messages [] stands.splits (splits_rest (cut_of job) (held ++ piece) (inr over));
           told = stands.told;
           puts = stands.puts;
         },
-        (due, fine, refl, over, refused.number),
+        (due, fine, refl, over, refused.number ∙ ap (λ (u : Cut). declared u.order (held ++ piece)) cut),
       )
-  feed_halts bytes piece before framer stream.OutOfMemory limit fine due starved stands = (gathers_more bytes piece before stands, fine)
-  feed_halts bytes piece before framer _ limit fine due never stands = absurd never
+  feed_halts bytes piece before framer stream.OutOfMemory cut fine due starved stands = (gathers_more bytes piece before stands, fine)
+  feed_halts bytes piece before framer _ cut fine due never stands = absurd never
 
   -- a message was whole at the front of a piece, and a write failed or there was no memory
   pub add_halts : (bytes front tail piece message : List ℕ) (before : Carry) (queues : Queues) (tally : Tally) (fault : RunFault) → piece ≡ front ++ tail → message ≡ before.framer.held ++ front
-      → IsMessage job.limit message → AreOpen before.queues → IsDue job (past_all job before.tally)
+      → IsMessage (cut_of job) message → AreOpen before.queues → IsDue job (past_all job before.tally)
       → AddsBy job (past_all job before.tally) message before.queues queues before.tally tally (Err fault) → Stands job first bytes before → Halts job first (bytes ++ piece) tally queues fault
   add_halts bytes front tail piece message before queues tally fault whole at is fine due adds stands = by fault adds
     where
@@ -240,7 +240,7 @@ flushed job piece before mid queues (Err fault) (stops, sound) none fine empty =
 
 -- the room was used, and is as large
 pub still_ready : {job : Job} {framer : Framing} {room room' : Beside} → IsReady job framer room → HasRoom job room' → IsReady job framer room'
-still_ready ready fits = record { fits = fits; fine = ready.fine; limit = ready.limit; short = ready.short; part = ready.part }
+still_ready ready fits = record { fits = fits; fine = ready.fine; cut = ready.cut; short = ready.short; part = ready.part }
 
 -- no byte was passed
 pub goes_none : (job : Job) (now : Carry) → IsReady job now.framer now.room → AreOpen now.queues → GoesOn job [] now now

@@ -3,7 +3,7 @@ use Rattle.std.specs.Prelude.{◌≡◌, ℕ, ◌+◌, ◌<◌, ◌≤◌, ◌^�
 use Rattle.fb_bytes.specs.{Framing.Framing, Messages.declared, Messages.IsOversize, Messages.IsPartial, Messages.Splits}
 use Rattle.fb_bytes.specs.declared.ends.Sink as sink
 use Rattle.fb_bytes.specs.declared.stream_fault.StreamFault.TheVariants as stream
-use Rattle.fb_lines.specs.{Ends.Outs, Job.Beside, Job.HasRoom, Job.Job, Lines.AreTold, Spot.IsFull, Spot.at_first, Spot.past_all, Sums.count_of, Sums.no_tally, Texts.Texts}
+use Rattle.fb_lines.specs.{Ends.Outs, Job.Beside, Job.HasRoom, Job.Job, Job.cut_of, Lines.AreTold, Spot.IsFull, Spot.at_first, Spot.past_all, Sums.count_of, Sums.no_tally, Texts.Texts}
 use Rattle.fb_lines.specs.Puts.{AreCut, AreOpen, AreSound, IsUnused, PutsBoth, Queues, all_unused, queues_of}
 use Rattle.fb_lines.specs.declared.{fault.RunFault.RunFault, tally.Tally.Tally}
 use Rattle.fb_lines.specs.declared.fault.RunFault.TheVariants.{WriteFault, NoteFault, Stream, OutOfMemory}
@@ -33,15 +33,15 @@ IsFirst carried = IsUnused carried.output × (carried.output.counter ≡ no_tall
 pub record IsReady (job : Job) (framer : Framing) (room : Beside) : Type 0 where
   pub fits : HasRoom job room
   pub fine : framer.failed ≡ false
-  pub limit : framer.limit ≡ job.limit
-  pub short : framer.limit < 2 ^ 31
-  pub part : IsPartial framer.limit framer.held
+  pub cut : framer.cut ≡ cut_of job
+  pub short : framer.cut.limit < 2 ^ 31
+  pub part : IsPartial framer.cut framer.held
 
 -- these bytes are whole messages and what is held, and what is told of those was put behind these ends
 pub record Stands (job : Job) (first : Outs) (bytes : List ℕ) (now : Carry) : Type 0 where
   pub messages : List (List ℕ)
   pub text : Texts
-  pub splits : Splits job.limit bytes messages now.framer.held
+  pub splits : Splits (cut_of job) bytes messages now.framer.held
   pub told : AreTold job (at_first job) messages text now.tally
   pub puts : PutsBoth text (all_unused first) now.queues
 
@@ -51,13 +51,13 @@ pub record Gathers (job : Job) (first : Outs) (bytes : List ℕ) (tally : Tally)
   pub left : List (List ℕ)
   pub rest : List ℕ
   pub text : Texts
-  pub splits : Splits job.limit bytes (done ++ left) rest
+  pub splits : Splits (cut_of job) bytes (done ++ left) rest
   pub told : AreTold job (at_first job) done text tally
   pub puts : PutsBoth text (all_unused first) queues
 
 -- why a run came to rest in them
 abbrev pub Why : Job → Tally → List (List ℕ) → List ℕ → Queues → RunFault → Type 0
-Why job tally left rest queues (Stream (stream.Oversize number)) = TellsMore job tally × AreOpen queues × (left ≡ []) × IsOversize job.limit rest × (number ≡ declared rest)
+Why job tally left rest queues (Stream (stream.Oversize number)) = TellsMore job tally × AreOpen queues × (left ≡ []) × IsOversize (cut_of job) rest × (number ≡ declared job.order rest)
 Why job tally left rest queues OutOfMemory = AreOpen queues
 Why job tally left rest queues fault = AreCut queues fault
 

@@ -2,7 +2,7 @@
 use Rattle.std.specs.Prelude.{ℕ, ◌≤◌, Bool, true, false, List, length}
 use Rattle.std.specs.Io.KnownBytes.{Consumes}
 use Rattle.fb_bytes.specs.Messages.{IsPartial, Splits}
-use Rattle.fb_lines.specs.{Ends.Ends, Ends.Takes, Ends.Unwritten, Job.Job, Job.checked_in, Lines.AreTold, Spot.IsDue, Spot.at_first, Spot.past_all, Texts.Texts}
+use Rattle.fb_lines.specs.{Ends.Ends, Ends.Takes, Ends.Unwritten, Job.Job, Job.checked_in, Job.cut_of, Lines.AreTold, Spot.IsDue, Spot.at_first, Spot.past_all, Texts.Texts}
 use Rattle.fb_lines.specs.declared.tally.Tally.{Tally}
 
 -- over a stream: messages and the part of one were read behind the bytes that are left out, what is told of all these
@@ -14,8 +14,8 @@ pub record IsStreamPrompt (job : Job) (before now : Ends) : Type 0 where
   pub text : Texts
   pub tally : Tally
   pub read : Consumes before.reader.left now.reader.left bytes
-  pub splits : Splits job.limit (checked_in job bytes) messages rest
-  pub partial : IsPartial job.limit rest
+  pub splits : Splits (cut_of job) (checked_in job bytes) messages rest
+  pub partial : IsPartial (cut_of job) rest
   pub told : AreTold job (at_first job) messages text tally
   pub due : IsDue job (past_all job tally)
   pub takes : Takes before.outs now.outs text

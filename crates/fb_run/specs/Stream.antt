@@ -3,7 +3,7 @@ use Rattle.std.specs.Prelude.{◌≡◌, ℕ, ◌<◌, ◌≤◌, ◌⊎◌, tru
 use Rattle.std.specs.Io.KnownBytes.{Consumes}
 use Rattle.fb_bytes.specs.Messages.{declared, IsPartial, IsOversize, Splits}
 use Rattle.fb_bytes.specs.declared.stream_fault.StreamFault.TheVariants as stream
-use Rattle.fb_lines.specs.{Ends.Ends, Ends.Reader, Ends.Takes, Job.Job, Job.checked_in, Lines.AreTold, Spot.IsDue, Spot.IsFull, Spot.at_first, Spot.past_all}
+use Rattle.fb_lines.specs.{Ends.Ends, Ends.Reader, Ends.Takes, Job.Job, Job.checked_in, Job.cut_of, Lines.AreTold, Spot.IsDue, Spot.IsFull, Spot.at_first, Spot.past_all}
 use Rattle.fb_lines.specs.Texts.{IsCounted, Texts, followed, to_notes}
 use Rattle.fb_lines.specs.declared.{tally.Tally.Tally, fault.RunFault.RunFault}
 use Rattle.fb_lines.specs.declared.fault.RunFault.TheVariants.{ReadFault, WriteFault, NoteFault, Stream, TooManyTurns, OutOfMemory, BareTooLong, SkipPastEnd}
@@ -12,7 +12,7 @@ use Rattle.fb_lines.specs.declared.fault.RunFault.TheVariants.{ReadFault, WriteF
 abbrev pub TellsSome : Job → List ℕ → Texts → Tally → Type 0
 TellsSome job bytes text tally =
     (messages : List (List ℕ)) × (rest : List ℕ) × (done : List (List ℕ)) × (left : List (List ℕ))
-    × Splits job.limit (checked_in job bytes) messages rest × (messages ≡ done ++ left) × AreTold job (at_first job) done text tally
+    × Splits (cut_of job) (checked_in job bytes) messages rest × (messages ≡ done ++ left) × AreTold job (at_first job) done text tally
 
 -- a message more would be told: no bound of the job is reached
 abbrev pub TellsMore : Job → Tally → Type 0
@@ -21,12 +21,12 @@ TellsMore job tally = IsDue job (past_all job tally)
 -- why a run came to rest that has read these messages and the rest, written this text and counted this; at a bound of the
 -- job it doesn't, but ends well
 abbrev pub WhyStream : Job → List ℕ → List (List ℕ) → List ℕ → Texts → Tally → RunFault → Type 0
-WhyStream job bytes messages rest text tally ReadFault = TellsMore job tally × IsPartial job.limit rest × AreTold job (at_first job) messages text tally
-WhyStream job bytes messages rest text tally TooManyTurns = TellsMore job tally × IsPartial job.limit rest × AreTold job (at_first job) messages text tally
+WhyStream job bytes messages rest text tally ReadFault = TellsMore job tally × IsPartial (cut_of job) rest × AreTold job (at_first job) messages text tally
+WhyStream job bytes messages rest text tally TooManyTurns = TellsMore job tally × IsPartial (cut_of job) rest × AreTold job (at_first job) messages text tally
 WhyStream job bytes messages rest text tally (Stream (stream.Oversize number)) =
-    TellsMore job tally × IsOversize job.limit rest × (number ≡ declared rest) × AreTold job (at_first job) messages text tally
+    TellsMore job tally × IsOversize (cut_of job) rest × (number ≡ declared job.order rest) × AreTold job (at_first job) messages text tally
 WhyStream job bytes messages rest text tally (Stream (stream.Truncated held)) =
-    TellsMore job tally × IsPartial job.limit rest × (held ≡ length rest) × (0 < held) × AreTold job (at_first job) messages text tally
+    TellsMore job tally × IsPartial (cut_of job) rest × (held ≡ length rest) × (0 < held) × AreTold job (at_first job) messages text tally
 WhyStream job bytes messages rest text tally (Stream fault) = ⊥
 WhyStream job bytes messages rest text tally OutOfMemory = TellsSome job bytes text tally
 WhyStream job bytes messages rest text tally (WriteFault written) = IsCounted (length text.out) written × ((more : Texts) × TellsSome job bytes (followed text more) tally)
@@ -37,7 +37,7 @@ WhyStream job bytes messages rest text tally (BareTooLong most) = ⊥
 -- a run over these bytes came to rest so
 abbrev pub Rests : Job → List ℕ → Texts → Tally → RunFault → Type 0
 Rests job bytes text tally fault =
-    (messages : List (List ℕ)) × (rest : List ℕ) × Splits job.limit (checked_in job bytes) messages rest × WhyStream job bytes messages rest text tally fault
+    (messages : List (List ℕ)) × (rest : List ℕ) × Splits (cut_of job) (checked_in job bytes) messages rest × WhyStream job bytes messages rest text tally fault
 
 -- the input ended, behind the bytes that are left out, with a message: none of these messages and no rest is left
 pub record IsEnded (job : Job) (reader : Reader) (bytes : List ℕ) (left : List (List ℕ)) (rest : List ℕ) : Type 0 where
@@ -54,7 +54,7 @@ pub record PassesStream (job : Job) (before after : Ends) (tally : Tally) : Type
   pub rest : List ℕ
   pub text : Texts
   pub read : Consumes before.reader.left after.reader.left bytes
-  pub splits : Splits job.limit (checked_in job bytes) (done ++ left) rest
+  pub splits : Splits (cut_of job) (checked_in job bytes) (done ++ left) rest
   pub told : AreTold job (at_first job) done text tally
   pub takes : Takes before.outs after.outs text
   pub stopped : IsFull job (past_all job tally) ⊎ IsEnded job after.reader bytes left rest

@@ -29,7 +29,7 @@ impl<'a, A: Allocator> Carried<&'a A> {
         ensures first { IfOk result IsFirst }
     {
         let room = checker.room(alloc)?;
-        let Ok(framer) = Framer::new(alloc, checker.limit()) else {
+        let Ok(framer) = Framer::of(alloc, checker.cut()) else {
             unreachable!()
         };
         let output = Output::new(alloc);
@@ -174,7 +174,7 @@ impl<A: Allocator> Carried<A> {
         ensures { PassesBy checker.now rest.now (carry_of K.Sink N.Sink self.old writer.old notes.old) (carry_of K.Sink N.Sink self.new writer.new notes.new) result }
     {
         if self.framer.held() == 0 {
-            if let Some(message) = front_message(rest, checker.limit()) {
+            if let Some(message) = front_message(rest, checker.cut()) {
                 self.output
                     .add(checker, &mut self.room, message, writer, notes)?;
                 return Ok(message.len());

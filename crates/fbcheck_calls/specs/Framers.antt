@@ -1,6 +1,6 @@
 -- What a framer of a caller in C holds, and what its calls do.
 use Rattle.std.specs.Prelude.{◌≡◌, ℕ, ◌+◌, ◌-◌, ◌<◌, ◌≤◌, ◌==◌, ◌⊎◌, min, not, true, false, List, [], ◌++◌, length, take, Result, Ok, Err, if◌then◌else◌}
-use Rattle.fb_bytes.specs.Messages.{IsMessage}
+use Rattle.fb_bytes.specs.Messages.{IsMessage, little}
 use Rattle.fb_bytes.specs.Framing.{Framing, IsHeld, Feeds, IsRefused}
 use Rattle.fb_bytes.specs.declared.{framer.Taken.Taken, stream_fault.StreamFault.StreamFault}
 use Rattle.fb_bytes.specs.declared.stream_fault.StreamFault.TheVariants.{Oversize, Truncated, Failed}
@@ -13,14 +13,14 @@ use Rattle.fbcheck_calls.specs.Told.{told}
 abbrev pub IsRoom : ℕ → Type 0
 IsRoom size = (8 ≤ size) × (size ≤ 2147483647)
 
--- what is held at the front of the room: the limit is all of the room
+-- what is held at the front of the room: the limit is all of the room, and lengths are little-endian
 abbrev pub framing : List ℕ → Framer → Framing
-framing room f = record { limit = length room; held = take f.held room; failed = not (f.failed == 0) }
+framing room f = record { cut = little (length room); held = take f.held room; failed = not (f.failed == 0) }
 
 -- what C keeps is as the calls left it: the room has what is held, and this is a message or the part of one
 pub record IsKept (room : List ℕ) (f : Framer) : Type 0 where
   pub within : f.held ≤ length room
-  pub held : f.failed ≡ 0 → IsHeld (length room) (take f.held room)
+  pub held : f.failed ≡ 0 → IsHeld (little (length room)) (take f.held room)
 
 -- so many bytes of a piece stand behind the first h of the room, until these are the goal, as far as the piece goes
 pub record IsFilled (room room' piece : List ℕ) (h goal count : ℕ) : Type 0 where
@@ -48,7 +48,7 @@ IsFed room f piece room' f' (Err _) = ⊥
 
 -- a framer goes on, and a whole message is held
 abbrev pub IsWhole : Framing → Type 0
-IsWhole v = (v.failed ≡ false) × IsMessage v.limit v.held
+IsWhole v = (v.failed ≡ false) × IsMessage v.cut v.held
 
 -- a whole message is given up; where none is held, nothing changes
 pub record Passes (old new : Framing) : Type 0 where
@@ -64,14 +64,14 @@ IsNext room f f' _ = ⊥
 pub record Ends (old new : Framing) : Type 0 where
   pub fine : old.failed ≡ false
   pub same : new ≡ old
-  pub held : (old.held ≡ []) ⊎ IsMessage old.limit old.held
+  pub held : (old.held ≡ []) ⊎ IsMessage old.cut old.held
 
 -- it ended inside one
 pub record BreaksOff (old new : Framing) (held : ℕ) : Type 0 where
   pub fine : old.failed ≡ false
   pub after : new ≡ record old { failed = true }
   pub some : 0 < length old.held
-  pub part : IsMessage old.limit old.held → ⊥
+  pub part : IsMessage old.cut old.held → ⊥
   pub count : held ≡ length old.held
 
 -- what the end of the stream does to a framer that answers a fault

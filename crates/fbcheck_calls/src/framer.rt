@@ -1,7 +1,8 @@
 //! The messages of a stream that comes in pieces, each in room that the caller gives.
 
 ghost use Rattle.std.specs.Prelude.{◌≡◌, ◌+◌, ◌↔◌, ◌≤◌, ◌<◌, ◌^◌, IsTrue, length};
-ghost use Rattle.fb_bytes.specs.Messages.{IsMessage, declared};
+ghost use Rattle.fb_bytes.specs.Messages.{IsMessage, declared, little};
+ghost use Rattle.fb_bytes.specs.declared.cut.Endian.TheVariants.{Little};
 ghost use Rattle.fbcheck_calls.specs.Framers.{IsFed, IsFilled, IsFinished, IsKept, IsNext, IsRoom, KeepsNumber, framing};
 
 use crate::answer::Answer;
@@ -40,7 +41,7 @@ fn is_room(size: usize) -> bool
 fn declared(room: &[u8]) -> u32
     requires four { 4 ≤ length room.now }
     requires short { length room.now < 2 ^ 31 }
-    ensures { result ≡ declared room.now }
+    ensures { result ≡ declared Little room.now }
 {
     let Ok(meter) = Meter::new(room) else {
         unreachable!()
@@ -104,7 +105,7 @@ impl Framer {
     /// Whether a whole message is held, where the framer hasn't failed.
     fn is_whole(&self, room: &[u8]) -> bool
         requires { IsRoom (length room.now) }
-        ensures { IsKept room.now self.now → IsTrue result ↔ ((self.now.failed ≡ 0) × IsMessage (length room.now) (framing room.now self.now).held) }
+        ensures { IsKept room.now self.now → IsTrue result ↔ ((self.now.failed ≡ 0) × IsMessage (little (length room.now)) (framing room.now self.now).held) }
     {
         if self.failed != 0 || self.held < 4 || self.held > room.len() {
             return false;

@@ -1,6 +1,7 @@
 -- What the settings ask, by a schema that has a root table of its own, or none.
 use Rattle.std.specs.Prelude.{◌≡◌, ℕ, ◌&&◌, ◌||◌, not, Bool, IsTrue, true, false, List, Option, Some, None, Result, Ok, Err, Vec, option_map, map, string_bytes, [], ◌∷◌, ◌⊎◌, codes, if◌then◌else◌}
 use Rattle.std.specs.{Borrow.Bor, Global.Global, List.AllZip}
+use Rattle.fb_bytes.specs.declared.cut.Endian.TheVariants.{Little, Big}
 use Rattle.fb_schema.specs.Rows.{Rows, table_named}
 use Rattle.fb_access.specs.declared.{step.Step.Step, path_fault.PathFault.PathFault}
 use Rattle.fb_access.specs.Resolving.{Resolves, IsFault}
@@ -81,10 +82,11 @@ places_of true form = Words
 places_of false words.Json = Words
 places_of false words.Plain = Numbers
 
--- what a message's prefix is, by whether messages are delimited
-abbrev pub prefix_of : Bool → Prefix
-prefix_of true = Apart
-prefix_of false = Part
+-- what a message's prefix is, by whether messages are delimited, and whether they are by big-endian lengths
+abbrev pub prefix_of : Bool → Bool → Prefix
+prefix_of true turned = Apart Little
+prefix_of false true = Apart Big
+prefix_of false false = Part
 
 -- what the settings ask of each buffer, from this root, with these paths, this identifier and this plan
 abbrev pub options_of : Settings → ℕ → Vec Wanted Global → Ident → Option Planned → Options
@@ -99,7 +101,7 @@ options_of settings root paths ident plan = record {
   most_messages = settings.most_messages;
   most_bad = settings.most_bad;
   bare = settings.bare;
-  prefix = prefix_of settings.delimited;
+  prefix = prefix_of settings.delimited settings.delimited_be;
   checks = settings.checks;
   mode = mode_of settings.csv settings.filter settings.quiet;
   names = places_of settings.names settings.form;

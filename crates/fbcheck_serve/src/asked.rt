@@ -17,6 +17,7 @@ use crate::names::STANDARD;
 use crate::strict::plan_of;
 use fb_access::Path;
 use fb_bfbs::{Loaded, load, own_ident, reflection};
+use fb_bytes::Endian;
 use fb_run::{AskedPath, Form, Mode, Options, Places, Prefix};
 use fb_schema::Schema;
 use fb_strict::Plan;
@@ -167,10 +168,12 @@ fn places(settings: &Settings) -> Places
 
 /// What a message's prefix is.
 fn prefix(settings: &Settings) -> Prefix
-    ensures { result ≡ prefix_of settings.now.delimited }
+    ensures { result ≡ prefix_of settings.now.delimited settings.now.delimited_be }
 {
     if settings.delimited {
-        Prefix::Apart
+        Prefix::Apart(Endian::Little)
+    } else if settings.delimited_be {
+        Prefix::Apart(Endian::Big)
     } else {
         Prefix::Part
     }

@@ -4,7 +4,7 @@ ghost use Rattle.std.specs.Prelude.{IfSome};
 ghost use Rattle.fbcheck_texts.specs.Hints.{IsHint, IsRunHint};
 
 use crate::hint::{are_plain, opens, past_blanks};
-use fb_bytes::StreamFault;
+use fb_bytes::{Endian, StreamFault};
 use fb_run::{Prefix, RunFault, Tally};
 
 /// At which place among the counts of reasons misaligned ones are counted.
@@ -13,13 +13,16 @@ const MISALIGNED: usize = 2;
 /// The most that `--max-bytes` allows, a prefix included.
 const MOST_BYTES: u32 = 2_147_483_647;
 
+/// The longest message without `--max-bytes`, its prefix not included.
+const USUAL_BYTES: u32 = 67_108_860;
+
 /// How messages stand in an input.
 #[derive(Clone, Copy)]
 pub enum Framing {
     /// It is one bare buffer.
     Bare,
-    /// A stream of bare buffers, each behind its length.
-    Delimited,
+    /// A stream of bare buffers, each behind its length, of which the bytes stand in this order.
+    Delimited(Endian),
     /// A stream of size-prefixed buffers.
     Prefixed,
 }
@@ -49,7 +52,7 @@ impl Framing {
     pub fn of(bare: bool, prefix: Prefix) -> Framing {
         match prefix {
             _ if bare => Framing::Bare,
-            Prefix::Apart => Framing::Delimited,
+            Prefix::Apart(order) => Framing::Delimited(order),
             Prefix::Part => Framing::Prefixed,
         }
     }
@@ -60,7 +63,7 @@ impl Framing {
     {
         match self {
             Framing::Bare => b"\n",
-            Framing::Delimited =>
+            Framing::Delimited(_) =>
                 b"; no good message came before: --bare is for a buffer without a prefix\n",
             Framing::Prefixed =>
                 b"; no good message came before: --bare is for a buffer without a prefix, --delimited for prefixes outside the buffers\n",
@@ -73,7 +76,7 @@ impl Framing {
     {
         match self {
             Framing::Bare => b"\n",
-            Framing::Delimited =>
+            Framing::Delimited(_) =>
                 b"; no good message came before: --bare is for a buffer without a prefix, --max-bytes for longer messages\n",
             Framing::Prefixed =>
                 b"; no good message came before: --bare is for a buffer without a prefix, --delimited for prefixes outside the buffers, --max-bytes for longer messages\n",
@@ -86,10 +89,12 @@ impl Framing {
     {
         match self {
             Framing::Bare => b"\n",
-            Framing::Delimited =>
-                b"; the length may be big-endian; no good message came before: --bare is for a buffer without a prefix\n",
+            Framing::Delimited(Endian::Little) =>
+                b"; the length may be big-endian, which --delimited-be reads; no good message came before: --bare is for a buffer without a prefix\n",
+            Framing::Delimited(Endian::Big) =>
+                b"; the length may be little-endian, which --delimited reads; no good message came before: --bare is for a buffer without a prefix\n",
             Framing::Prefixed =>
-                b"; the length may be big-endian; no good message came before: --bare is for a buffer without a prefix, --delimited for prefixes outside the buffers\n",
+                b"; the length may be big-endian, which --delimited-be reads; no good message came before: --bare is for a buffer without a prefix, --delimited for prefixes outside the buffers\n",
         }
     }
 
@@ -104,16 +109,25 @@ impl Framing {
         }
     }
 
+    /// The four bytes that tell this length.
+    fn front(self, declared: u32) -> [u8; 4] {
+        match self {
+            Framing::Delimited(Endian::Big) => declared.to_be_bytes(),
+            Framing::Bare | Framing::Delimited(Endian::Little) | Framing::Prefixed =>
+                declared.to_le_bytes(),
+        }
+    }
+
     /// What an input is by its first four bytes, where they are no length.
     fn misread(self, declared: u32) -> Option<&'static [u8]>
         ensures { IfSome result (λ t. IsHint t.now) }
     {
-        let front = declared.to_le_bytes();
+        let front = self.front(declared);
         if are_plain(&front) {
             Some(text_look(past_blanks(&front)))
         } else if front[0] == 31 && front[1] == 139 {
             Some(b"; the input looks like gzip\n")
-        } else if front[0] == 0 && front[1] == 0 {
+        } else if is_turned(declared) {
             Some(self.turned_stray())
         } else {
             None
@@ -125,14 +139,14 @@ impl Framing {
         ensures { IfSome result (λ t. IsHint t.now) }
     {
         match (self, by) {
-            (Framing::Bare, _) => None,
-            (Framing::Delimited, By::Named) => Some(
+            (Framing::Bare | Framing::Delimited(Endian::Big), _) => None,
+            (Framing::Delimited(Endian::Little), By::Named) => Some(
                 b"each message is misaligned: without --delimited prefixes are part of the buffers\n",
             ),
             (Framing::Prefixed, By::Named) => Some(
                 b"each message is misaligned: --delimited is for prefixes outside the buffers\n",
             ),
-            (Framing::Delimited, By::Fixed) => Some(
+            (Framing::Delimited(Endian::Little), By::Fixed) => Some(
                 b"each message is misaligned: without --delimited prefixes are part of the buffers; without --schema the tables are those of schema files\n",
             ),
             (Framing::Prefixed, By::Fixed) => Some(
@@ -156,6 +170,12 @@ fn text_look(text: &[u8]) -> &'static [u8]
 /// Whether some limit allows messages of this length, and it isn't four characters.
 fn is_length(declared: u32) -> bool {
     declared <= MOST_BYTES - 4 && !are_plain(&declared.to_le_bytes())
+}
+
+/// Whether a length that is too great is one that is allowed where its bytes are read the other way round.
+fn is_turned(declared: u32) -> bool {
+    let turned = declared.swap_bytes();
+    turned < declared && turned <= USUAL_BYTES
 }
 
 /// What is told behind a length that is too great, in a run that came to this.

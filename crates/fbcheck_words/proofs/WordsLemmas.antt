@@ -8,7 +8,7 @@ use Rattle.clap.specs.Faults.{fault_of, is_simple_and_free}
 use Rattle.clap.specs.Simple.{App, HasMatchesOf, app_of, is_simple, matches_of}
 use Rattle.clap.specs.declared.{builder.command.Command.Command, error.Error.Error, parser.matches.ArgMatches.ArgMatches}
 use Rattle.clap.proofs.{OnLiterals.clap_on_literals, WalkLemmas.first_value-rows, WalkLemmas.one_text-rows, WalkLemmas.raw_values-rows}
-use Rattle.fbcheck_words.specs.{CommandLine.program, Given.Say, Given.contradiction, Given.first_broken, Given.rules_of, Given.rules_of_csv, Given.steps_of, Matched.IsReadOf, Matched.all_values, Refusal.Refuses}
+use Rattle.fbcheck_words.specs.{CommandLine.program, Given.Say, Given.contradiction, Given.first_broken, Given.rules_of, Given.rules_of_csv, Given.rules_of_files, Given.steps_of, Matched.IsReadOf, Matched.all_values, Refusal.Refuses}
 use Rattle.std.proofs.lemmas.Bool.{ltb-false}
 use Rattle.fbcheck_words.specs.Ranges.{AreInRange}
 use Rattle.fbcheck_words.specs.Values.{IsGiven, IsNumberIn, IsNumberOf, text_of, texts_of}
@@ -83,8 +83,8 @@ pub contradicted : (words : List Text) (settings : Settings) (fault : SettingsFa
 contradicted words settings fault said is =
     let P = λ (f : SettingsFault). contradiction settings ≡ Some f → Refuses words f in
     let csv : Each P (rules_of_csv settings) = ((λ e. (settings, said, e)), ((λ e. (settings, said, e)), ((λ e. (settings, said, e)), ((λ e. (settings, said, e)), tt)))) in
-    one_of_all P (rules_of settings ++ (if settings.csv then rules_of_csv settings else [])) fault is
-    ((λ e. (settings, said, e)), ((λ e. (settings, said, e)), ((λ e. (settings, said, e)), ((λ e. (settings, said, e)), ((λ e. (settings, said, e)), ((λ e. (settings, said, e)), ((λ e. (settings, said, e)), ((λ e. (settings, said, e)), ((λ e. (settings, said, e)), each_if P settings.csv (rules_of_csv settings) csv))))))))) is
+    one_of_all P (rules_of settings ++ (rules_of_files settings ++ (if settings.csv then rules_of_csv settings else []))) fault is
+    ((λ e. (settings, said, e)), ((λ e. (settings, said, e)), ((λ e. (settings, said, e)), ((λ e. (settings, said, e)), ((λ e. (settings, said, e)), ((λ e. (settings, said, e)), ((λ e. (settings, said, e)), ((λ e. (settings, said, e)), ((λ e. (settings, said, e)), ((λ e. (settings, said, e)), ((λ e. (settings, said, e)), each_if P settings.csv (rules_of_csv settings) csv))))))))))) is
 
 -- where none is broken, that at place k isn't
 unbroken : (rules : List (Bool × SettingsFault)) (k : ℕ) (d : Bool × SettingsFault) → first_broken rules ≡ None → k < length rules → (slice_index_or rules k d).0 ≡ false
@@ -95,14 +95,14 @@ unbroken ((false, fault) ∷ rules) (suc k) d none at = unbroken rules k d none 
 
 pub in_range : (words : List Text) (settings : Settings) → Say words settings → contradiction settings ≡ None → AreInRange settings
 in_range words settings said agree =
-    let rules = rules_of settings ++ (if settings.csv then rules_of_csv settings else []) in
+    let rules = rules_of settings ++ (rules_of_files settings ++ (if settings.csv then rules_of_csv settings else [])) in
     record {
       least = said.bytes.1;
       most = omega (arith, said.bytes.2);
       some_messages = said.most_messages.1;
       some_bad = said.most_bad.1;
       few = ltb-false 16 (length settings.paths.items) (unbroken rules 2 (false, OutOfMemory) agree (omega arith));
-      few_steps = ltb-false 1024 (steps_of (map string_bytes settings.paths.items)) (unbroken rules 6 (false, OutOfMemory) agree (omega arith));
+      few_steps = ltb-false 1024 (steps_of (map string_bytes settings.paths.items)) (unbroken rules 8 (false, OutOfMemory) agree (omega arith));
     }
 
 -- a flag that is turned round

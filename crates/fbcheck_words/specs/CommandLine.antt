@@ -88,10 +88,13 @@ abbrev pub portions : App
 portions = with_rule (with_rule (with_rule numbers skip_rule) (most_rule (codes "limit"))) (most_rule (codes "max-bad"))
 
 abbrev pub inputs : App
-inputs = with_rule (with_rule (with_rule (with_rule portions (flag_rule (codes "bare"))) (flag_rule (codes "delimited"))) (flag_rule (codes "no-alignment"))) (flag_rule (codes "inline-size"))
+inputs = with_rule (with_rule (with_rule portions (flag_rule (codes "bare"))) (flag_rule (codes "delimited"))) (flag_rule (codes "delimited-be"))
+
+abbrev pub checks : App
+checks = with_rule (with_rule inputs (flag_rule (codes "no-alignment"))) (flag_rule (codes "inline-size"))
 
 abbrev pub demands : App
-demands = with_rule (with_rule (with_rule (with_rule inputs (flag_rule (codes "strict"))) (flag_rule (codes "plain-bytes"))) (flag_rule (codes "known-fields"))) (flag_rule (codes "utf8"))
+demands = with_rule (with_rule (with_rule (with_rule checks (flag_rule (codes "strict"))) (flag_rule (codes "plain-bytes"))) (flag_rule (codes "known-fields"))) (flag_rule (codes "utf8"))
 
 abbrev pub outputs : App
 outputs = with_rule (with_rule (with_rule (with_rule (with_rule demands (by_letter (codes "q") (flag_rule (codes "quiet")))) (flag_rule (codes "filter"))) (flag_rule (codes "summary"))) (flag_rule (codes "names")))

@@ -5,7 +5,7 @@ use Rattle.clap.specs.{Walk.Text, Faults.fault_of}
 use Rattle.fbcheck_words.specs.CommandLine.{program}
 use Rattle.fbcheck_words.specs.Values.{IsGiven, IsNumberOf, text_of, texts_of}
 use Rattle.fbcheck_words.specs.declared.{choices.Form.Form, choices.Form.TheVariants.Json, choices.Form.TheVariants.Plain, choices.Settings.Settings, choices.SettingsFault.SettingsFault}
-use Rattle.fbcheck_words.specs.declared.choices.SettingsFault.TheVariants.{PathInFilter, TwoIdents, TooManyPaths, BareDelimited, PlainUnstrict, PathTwice, TooManySteps, SchemaAsInput, CsvAsJson, CsvInFilter, CsvInQuiet, CsvPathless, NamedTwice}
+use Rattle.fbcheck_words.specs.declared.choices.SettingsFault.TheVariants.{PathInFilter, TwoIdents, TooManyPaths, BareDelimited, BareDelimitedBe, DelimitedTwice, PlainUnstrict, PathTwice, TooManySteps, SchemaAsInput, CsvAsJson, CsvInFilter, CsvInQuiet, CsvPathless, NamedTwice}
 
 -- the words say these settings
 pub record Say (given : List Text) (settings : Settings) : Type 0 where
@@ -26,6 +26,7 @@ pub record Say (given : List Text) (settings : Settings) : Type 0 where
   pub most_bad : IsNumberOf (codes "max-bad") 1 18446744073709551615 given settings.most_bad
   pub bare : IsTrue settings.bare ↔ IsGiven (codes "bare") given
   pub delimited : IsTrue settings.delimited ↔ IsGiven (codes "delimited") given
+  pub delimited_be : IsTrue settings.delimited_be ↔ IsGiven (codes "delimited-be") given
   pub alignment : (settings.checks.alignment ≡ false) ↔ IsGiven (codes "no-alignment") given
   pub inline_size : IsTrue settings.checks.inline_size ↔ IsGiven (codes "inline-size") given
   pub strict : IsTrue settings.strict ↔ IsGiven (codes "strict") given
@@ -94,16 +95,27 @@ rules_of settings =
     ∷ (settings.schema_ident && is_some settings.ident, TwoIdents)
     ∷ (nat_lt 16 (length settings.paths.items), TooManyPaths)
     ∷ (settings.bare && settings.delimited, BareDelimited)
+    ∷ (settings.bare && settings.delimited_be, BareDelimitedBe)
+    ∷ (settings.delimited && settings.delimited_be, DelimitedTwice)
     ∷ (settings.plain_bytes && not settings.strict, PlainUnstrict)
     ∷ (has_twice (map string_bytes settings.paths.items), PathTwice)
     ∷ (nat_lt 1024 (steps_of (map string_bytes settings.paths.items)), TooManySteps)
-    ∷ (not (is_some settings.schema) && (not settings.bare && list_any is_bfbs (map string_bytes settings.files.items)), SchemaAsInput)
+    ∷ []
+
+-- what is refused of the files that they name
+abbrev pub rules_of_files : Settings → List (Bool × SettingsFault)
+rules_of_files settings =
+    (not (is_some settings.schema) && (not settings.bare && list_any is_bfbs (map string_bytes settings.files.items)), SchemaAsInput)
     ∷ (is_some settings.names_file && nat_lt 0 (length settings.files.items), NamedTwice)
     ∷ []
 
--- the first of these, those of CSV behind the others
+-- the first of these and of those of CSV
+abbrev pub contradiction_of_files : Settings → Option SettingsFault
+contradiction_of_files settings = first_broken (rules_of_files settings ++ (if settings.csv then rules_of_csv settings else []))
+
+-- the first of all, those of files and of CSV behind the others
 abbrev pub contradiction : Settings → Option SettingsFault
-contradiction settings = first_broken (rules_of settings ++ (if settings.csv then rules_of_csv settings else []))
+contradiction settings = first_broken (rules_of settings ++ (rules_of_files settings ++ (if settings.csv then rules_of_csv settings else [])))
 
 -- the words give these settings, which agree
 pub record AreGiven (given : List Text) (settings : Settings) : Type 0 where

@@ -5,7 +5,7 @@ use Rattle.clap.specs.declared.error.kind.ErrorKind.{ErrorKind}
 use Rattle.clap.specs.declared.error.kind.ErrorKind.TheVariants as kind
 use Rattle.fbcheck_words.specs.{CommandLine.program, Given.Say, Given.contradiction, Values.text_of}
 use Rattle.fbcheck_words.specs.declared.{choices.Settings.Settings, choices.SettingsFault.SettingsFault}
-use Rattle.fbcheck_words.specs.declared.choices.SettingsFault.TheVariants.{Usage, BadIdent, PathInFilter, TwoIdents, TooManyPaths, BareDelimited, PlainUnstrict, PathTwice, TooManySteps, SchemaAsInput, CsvAsJson, CsvInFilter, CsvInQuiet, CsvPathless, NamedTwice, OutOfMemory}
+use Rattle.fbcheck_words.specs.declared.choices.SettingsFault.TheVariants.{Usage, BadIdent, PathInFilter, TwoIdents, TooManyPaths, BareDelimited, BareDelimitedBe, DelimitedTwice, PlainUnstrict, PathTwice, TooManySteps, SchemaAsInput, CsvAsJson, CsvInFilter, CsvInQuiet, CsvPathless, NamedTwice, OutOfMemory}
 
 -- `clap` refuses the words by an error of that kind; or it reads them, and the identifier isn't four bytes long; or they
 -- say settings that don't agree; or there was no memory
@@ -35,6 +35,8 @@ refusal_text PathInFilter = codes "a filter takes no path"
 refusal_text TwoIdents = codes "ident and schema-ident exclude each other"
 refusal_text TooManyPaths = codes "more than 16 paths"
 refusal_text BareDelimited = codes "bare and delimited exclude each other"
+refusal_text BareDelimitedBe = codes "bare and delimited-be exclude each other"
+refusal_text DelimitedTwice = codes "delimited and delimited-be exclude each other"
 refusal_text PlainUnstrict = codes "plain-bytes needs strict"
 refusal_text PathTwice = codes "the same path twice"
 refusal_text TooManySteps = codes "more than 1024 steps in all paths"

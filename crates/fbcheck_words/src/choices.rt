@@ -56,6 +56,9 @@ pub struct Settings {
     pub bare: bool,
     /// Whether the prefix with a message's length is no part of the buffer (`--delimited`); `bare` is false then.
     pub delimited: bool,
+    /// The same where the highest byte of the length comes first (`--delimited-be`); `bare` and `delimited` are false
+    /// then.
+    pub delimited_be: bool,
     /// Whether alignment is checked (not with `--no-alignment`), and whether fields are held against their table's
     /// inline size (`--inline-size`).
     pub checks: Checks,
@@ -106,6 +109,10 @@ pub enum SettingsFault {
     TooManyPaths,
     /// The words are read, and ask for a bare buffer and for messages behind their lengths.
     BareDelimited,
+    /// The words are read, and ask for a bare buffer and for messages behind their lengths, highest byte first.
+    BareDelimitedBe,
+    /// The words are read, and ask for lengths lowest byte first and highest byte first.
+    DelimitedTwice,
     /// The words are read, and ask for plain bytes without strict checks.
     PlainUnstrict,
     /// The words are read, and ask for the same path twice.
@@ -142,6 +149,8 @@ impl SettingsFault {
             | SettingsFault::TwoIdents
             | SettingsFault::TooManyPaths
             | SettingsFault::BareDelimited
+            | SettingsFault::BareDelimitedBe
+            | SettingsFault::DelimitedTwice
             | SettingsFault::PlainUnstrict
             | SettingsFault::PathTwice
             | SettingsFault::TooManySteps
@@ -167,6 +176,8 @@ impl SettingsFault {
             SettingsFault::TwoIdents => "ident and schema-ident exclude each other",
             SettingsFault::TooManyPaths => "more than 16 paths",
             SettingsFault::BareDelimited => "bare and delimited exclude each other",
+            SettingsFault::BareDelimitedBe => "bare and delimited-be exclude each other",
+            SettingsFault::DelimitedTwice => "delimited and delimited-be exclude each other",
             SettingsFault::PlainUnstrict => "plain-bytes needs strict",
             SettingsFault::PathTwice => "the same path twice",
             SettingsFault::TooManySteps => "more than 1024 steps in all paths",

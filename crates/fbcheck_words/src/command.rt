@@ -41,7 +41,7 @@ struct Choice<'a> {
 
 /// All options, in the order of help. As a constant they would be built anew in the loop's function, text by text,
 /// which is dear to prove.
-static CHOICES: [Choice<'static>; 30] = [
+static CHOICES: [Choice<'static>; 31] = [
     Choice {
         name: "schema",
         letter: Some('s'),
@@ -131,6 +131,12 @@ static CHOICES: [Choice<'static>; 30] = [
         letter: None,
         takes: Takes::Nothing,
         help: "The four bytes with a message's length are no part of the buffer, which is a bare one",
+    },
+    Choice {
+        name: "delimited-be",
+        letter: None,
+        takes: Takes::Nothing,
+        help: "The same where the highest byte of the length comes first (big-endian)",
     },
     Choice {
         name: "no-alignment",

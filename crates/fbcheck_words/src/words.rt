@@ -1,6 +1,6 @@
 ghost use Rattle.std.specs.Prelude.{nat_lt, IfOk, IfErr, IfSome, IsSomeAnd, OnErr, ℕ, ◌≢◌, length, option_map, IsTrue, ◌≡◌, ◌↔◌, List, map, string_bytes, Some, codes};
 ghost use Rattle.clap.specs.Words.{Text, first_value, found_of, one_text};
-ghost use Rattle.fbcheck_words.specs.{Ranges.AreInRange, Given.AreGiven, Given.Say, Given.contradiction, Given.contradiction_of_csv, Given.has_twice, Given.is_among, Given.is_bfbs, Given.is_sign, Given.steps_in, Given.steps_of};
+ghost use Rattle.fbcheck_words.specs.{Ranges.AreInRange, Given.AreGiven, Given.Say, Given.contradiction, Given.contradiction_of_csv, Given.contradiction_of_files, Given.has_twice, Given.is_among, Given.is_bfbs, Given.is_sign, Given.steps_in, Given.steps_of};
 ghost use Rattle.fbcheck_words.specs.{Values.HoldsNumber, Values.HoldsWideNumber, Values.IsNumberIn, Refusal.Refuses};
 ghost use Rattle.std.specs.List.{list_any};
 ghost use Rattle.fbcheck_words.specs.Matched.{IsReadOf, all_values};
@@ -20,7 +20,8 @@ use std::alloc::{AllocError, Global};
 /// `Usage` where `clap` refuses them, help included, and `BadIdent` where it reads them and the identifier isn't four
 /// bytes long. Then, where they say what doesn't agree, `PathInFilter` for a filter with a path, then `TwoIdents` for
 /// an identifier beside the schema's own, then `TooManyPaths` for more than 16, then `BareDelimited` for a bare buffer
-/// behind its length, then `PlainUnstrict` for plain bytes without strict checks, then `PathTwice` for the same path
+/// behind its length and `BareDelimitedBe` for one behind a big-endian length, then `DelimitedTwice` for both of these
+/// lengths, then `PlainUnstrict` for plain bytes without strict checks, then `PathTwice` for the same path
 /// twice, then `TooManySteps` for more than 1,024 steps of all paths, then `SchemaAsInput` for a stream in a file `.bfbs`
 /// without a schema file, then `NamedTwice` for files beside a file of names, and then of CSV `CsvAsJson`, `CsvInFilter`
 /// and `CsvInQuiet` where it is asked for with one of these, and `CsvPathless` without a path. `OutOfMemory` for want of
@@ -66,6 +67,7 @@ fn said(alloc: Global, matches: &ArgMatches<'_>) -> Result<Settings, SettingsFau
         most_bad: wide_number(matches, "max-bad", 1),
         bare: flag(matches, "bare"),
         delimited: flag(matches, "delimited"),
+        delimited_be: flag(matches, "delimited-be"),
         checks: Checks {
             alignment: !flag(matches, "no-alignment"),
             inline_size: flag(matches, "inline-size"),
@@ -98,13 +100,26 @@ fn contradiction(settings: &Settings) -> Option<SettingsFault>
         Some(SettingsFault::TooManyPaths)
     } else if settings.bare && settings.delimited {
         Some(SettingsFault::BareDelimited)
+    } else if settings.bare && settings.delimited_be {
+        Some(SettingsFault::BareDelimitedBe)
+    } else if settings.delimited && settings.delimited_be {
+        Some(SettingsFault::DelimitedTwice)
     } else if settings.plain_bytes && !settings.strict {
         Some(SettingsFault::PlainUnstrict)
     } else if has_twice(settings.paths.as_slice()) {
         Some(SettingsFault::PathTwice)
     } else if are_long(settings.paths.as_slice()) {
         Some(SettingsFault::TooManySteps)
-    } else if settings.schema.is_none() && !settings.bare && has_bfbs(settings.files.as_slice()) {
+    } else {
+        contradiction_of_files(settings)
+    }
+}
+
+/// What is refused of the files that are named, and of CSV.
+fn contradiction_of_files(settings: &Settings) -> Option<SettingsFault>
+    ensures { result ≡ contradiction_of_files settings.now }
+{
+    if settings.schema.is_none() && !settings.bare && has_bfbs(settings.files.as_slice()) {
         Some(SettingsFault::SchemaAsInput)
     } else if settings.names_file.is_some() && !settings.files.is_empty() {
         Some(SettingsFault::NamedTwice)

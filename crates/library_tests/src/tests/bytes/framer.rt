@@ -2,7 +2,7 @@
 //! (`tests/test_refused_memory.py`, `tests/test_ends.py`).
 
 use crate::tests::compare::same;
-use fb_bytes::{Framer, StreamFault, Taken};
+use fb_bytes::{Cut, Endian, Framer, StreamFault, Taken};
 use std::alloc::Global;
 
 /// The longest message within the limit, and two of them.
@@ -87,6 +87,32 @@ static CALLS: [(&str, &[Call]); 6] = [
     ),
 ];
 
+/// What is shown, and what one for big-endian lengths with the same limit is asked for it.
+static BIG_ENDIAN: [(&str, &[Call]); 2] = [
+    (
+        "it reads a big-endian length",
+        &[
+            Call::Feed(&[0, 0, 0], 3, false),
+            Call::Feed(b"\x04abcd\0", 5, true),
+            Call::Message(Some(b"\0\0\0\x04abcd")),
+            Call::Next,
+            Call::Finish(Ok(())),
+        ],
+    ),
+    (
+        "a big-endian length past the limit is oversize",
+        &[
+            Call::Refuse(
+                &[4, 0, 0, 0],
+                StreamFault::Oversize {
+                    declared: 67_108_864,
+                },
+            ),
+            Call::Held(4),
+        ],
+    ),
+];
+
 /// Whether the framer answers this call so.
 fn answers(framer: &mut Framer<Global>, call: Call) -> bool {
     match call {
@@ -106,6 +132,20 @@ fn answers(framer: &mut Framer<Global>, call: Call) -> bool {
 fn a_framer_answers_each_call(rt: HostRuntime) {
     for (shows, calls) in &CALLS {
         let mut framer = Framer::new(rt.alloc(), 8).unwrap();
+        for call in *calls {
+            same(&rt, (*shows, answers(&mut framer, *call)), (*shows, true));
+        }
+    }
+}
+
+#[test]
+fn a_framer_of_big_endian_lengths_answers_each_call(rt: HostRuntime) {
+    let cut = Cut {
+        limit: 8,
+        order: Endian::Big,
+    };
+    for (shows, calls) in &BIG_ENDIAN {
+        let mut framer = Framer::of(rt.alloc(), cut).unwrap();
         for call in *calls {
             same(&rt, (*shows, answers(&mut framer, *call)), (*shows, true));
         }

@@ -1,4 +1,5 @@
 use Rattle.std.proofs.Common.{rules, ◌≡◌, ℕ, List, min, ◌+◌, ◌-◌, ◌<◌, ◌≤◌, true, Err, ◌++◌, length, take, drop, sym, ap, ap₂, ◌∙◌, refl, arith, true≢false, length-append, length-drop, length-take}
+use Rattle.fb_bytes.specs.declared.cut.{Cut.Cut, Endian.Endian}
 use Rattle.fb_bytes.specs.declared.stream_fault.StreamFault.TheVariants.{Oversize}
 use Rattle.fb_bytes.specs.{Messages.declared, Messages.IsMessage, Framing.Framing, Framing.held_bytes}
 use Rattle.fb_bytes.proofs.MessageLemmas.{declared_front}
@@ -21,23 +22,26 @@ completes g c = record {
 held_before : (g : _) (c : After-number_in-declared g) → held_bytes c.self.inside.prefix c.self.inside.filled c.self.inside.body.items ≡ c.args.self.now.held
 held_before g c = ap (λ (v : Framing). v.held) c.self.view_is
 
-limit_before : (g : _) (c : After-number_in-declared g) → c.self.inside.limit ≡ c.args.self.now.limit
-limit_before g c = ap (λ (v : Framing). v.limit) c.self.view_is
+cut_before : (g : _) (c : After-number_in-declared g) → c.self.inside.cut ≡ c.args.self.now.cut
+cut_before g c = ap (λ (v : Framing). v.cut) c.self.view_is
+
+limit_before : (g : _) (c : After-number_in-declared g) → c.self.inside.cut.limit ≡ c.args.self.now.cut.limit
+limit_before g c = ap (λ (u : Cut). u.limit) (cut_before g c)
 
 -- On numbers, and what is as long as its prefix tells.
 
 no_more : (more room used n : ℕ) → more ≡ min room (n - used) → used ≤ n → used + more ≤ n
 no_more more room used n e h = omega arith
 
-whole_message : (limit told : ℕ) (bytes prefix : List ℕ) → length bytes ≡ 4 + told → told ≡ declared prefix → declared bytes ≡ declared prefix → declared prefix ≤ limit - 4 → 8 ≤ limit → IsMessage limit bytes
-whole_message limit told bytes prefix long is number all low = record { prefixed = omega arith; whole = omega arith; within = omega arith }
+whole_message : (cut : Cut) (told : ℕ) (bytes prefix : List ℕ) → length bytes ≡ 4 + told → told ≡ declared cut.order prefix → declared cut.order bytes ≡ declared cut.order prefix → declared cut.order prefix ≤ cut.limit - 4 → 8 ≤ cut.limit → IsMessage cut bytes
+whole_message cut told bytes prefix long is number all low = record { prefixed = omega arith; whole = omega arith; within = omega arith }
 
 -- the stream begins with that prefix, and tells its number
 front_of : (g : _) (c : After-number_in-declared g) → take 4 (c.args.self.now.held ++ c.args.piece.now) ≡ c.fill_prefix-used.new.prefix
 front_of g c = ap (λ l. take 4 (l ++ c.args.piece.now)) (sym (held_before g c)) ∙ completed-stream _ _ _ _ _ _ (completes g c)
 
-number_of : (g : _) (c : After-number_in-declared g) → declared (c.args.self.now.held ++ c.args.piece.now) ≡ declared c.fill_prefix-used.new.prefix
-number_of g c = declared_front _ _ (front_of g c)
+number_of : (g : _) (c : After-number_in-declared g) → declared c.args.self.now.cut.order (c.args.self.now.held ++ c.args.piece.now) ≡ declared c.self.inside.cut.order c.fill_prefix-used.new.prefix
+number_of g c = declared_front _ _ _ (front_of g c) ∙ ap (λ (u : Cut). declared u.order c.fill_prefix-used.new.prefix) (sym (cut_before g c))
 
 pub returns-then-declared-self-clause-fault : goal.returns-then-declared-self-clause-fault
 returns-then-declared-self-clause-fault g c = λ fine.
@@ -48,16 +52,17 @@ returns-then-declared-self-clause-fault g c = λ fine.
     let piece = c.args.piece.now in
     let d = (goal.at.returns-then-declared-self-clause-fault g c).After-number_in-declared in
     let w = completes g d in
+    let cut = cut_before g d in
     let limit = limit_before g d in
     let front = front_of g d in
     let number = number_of g d in
-    let told : c.number_in-declared.result ≡ declared prefix' = c.number_in-declared.ensures in
-    let over : f.limit < 4 + declared prefix' = search rules in
-    let alone = completed-oversize f.limit f.prefix prefix' body piece f.filled used w (c.self.invariant.within (search rules)) over in
+    let told : c.number_in-declared.result ≡ declared f.cut.order prefix' = c.number_in-declared.ensures in
+    let over : f.cut.limit < 4 + declared f.cut.order prefix' = search rules in
+    let alone = completed-oversize f.cut f.prefix prefix' body piece f.filled used w (c.self.invariant.within (search rules)) over in
     record {
       oversize = (omega (arith, length-take 4 (c.args.self.now.held ++ piece), ap length front, w.four'), omega arith);
       number = told ∙ sym number;
-      after = ap₂ (λ l h. record { limit = l; held = h; failed = true }) limit (alone ∙ sym front);
+      after = ap₂ (λ c h. record { cut = c; held = h; failed = true }) cut (alone ∙ sym front);
     }
 
 pub returns-then-declared-self-clause-oversize : goal.returns-then-declared-self-clause-oversize
@@ -77,15 +82,15 @@ returns-in-Ok-clause-ok g c =
     let d = (goal.at.returns-in-Ok-clause-ok g c).After-number_in-declared in
     let w = completes g d in
     let held = held_before g d in
-    let limit = limit_before g d in
+    let cut = cut_before g d in
     let grown = completed-grown f.prefix prefix' body body' piece f.filled used more w c.in-Ok.ensures.held in
     let at4 : length now ≡ length (held_bytes prefix' 4 body') = ap (λ n. length (held_bytes prefix' n body')) w.sum in
-    let number : declared now ≡ declared prefix' = declared_front now prefix' grown.1 in
-    let told : c.number_in-declared.result ≡ declared prefix' = c.number_in-declared.ensures in
-    let all : declared prefix' ≤ f.limit - 4 = rw (← told) c.if-declared-self.false in
+    let number : declared f.cut.order now ≡ declared f.cut.order prefix' = declared_front f.cut.order now prefix' grown.1 in
+    let told : c.number_in-declared.result ≡ declared f.cut.order prefix' = c.number_in-declared.ensures in
+    let all : declared f.cut.order prefix' ≤ f.cut.limit - 4 = rw (← told) c.if-declared-self.false in
     let low = c.self.invariant.low in
     record {
-      limit = limit;
+      cut = cut;
       fine = (sym (ap (λ (v : Framing). v.failed) c.self.view_is) ∙ c.if-self.false, c.if-self.false);
       within = no_more _ _ _ _ c.in-Ok.ensures.used w.within;
       held = grown.0 ∙ ap (λ l. l ++ take (used + more) piece) held;
@@ -116,25 +121,26 @@ returns-in-Err-clause-fault g c = λ fine.
     let d = (goal.at.returns-in-Err-clause-fault g c).After-number_in-declared in
     let w = completes g d in
     let held = held_before g d in
+    let cut = cut_before g d in
     let limit = limit_before g d in
     let front = front_of g d in
     let number = number_of g d in
-    let told : c.number_in-declared.result ≡ declared prefix' = c.number_in-declared.ensures in
+    let told : c.number_in-declared.result ≡ declared f.cut.order prefix' = c.number_in-declared.ensures in
     let was : before ≡ c.args.self.now.held ++ take used piece = completed-held f.prefix prefix' body piece f.filled used w ∙ ap (λ l. l ++ take used piece) held in
-    let short : length before < 4 + declared (c.args.self.now.held ++ piece) = omega (arith, c.in-Err.ensures.short) in
+    let short : length before < 4 + declared c.args.self.now.cut.order (c.args.self.now.held ++ piece) = omega (arith, c.in-Err.ensures.short) in
     let long = completed-long f.prefix prefix' body piece f.filled used w in
     let same = ap (λ n. held_bytes prefix' n c.grow.new.body.items) w.sum ∙ c.in-Err.ensures.err in
-    let begun : declared before ≡ declared prefix' = declared_front before prefix' (completed-front f.prefix prefix' body piece f.filled used w) in
-    let all : declared prefix' ≤ f.limit - 4 = search rules in
+    let begun : declared f.cut.order before ≡ declared f.cut.order prefix' = declared_front f.cut.order before prefix' (completed-front f.prefix prefix' body piece f.filled used w) in
+    let all : declared f.cut.order prefix' ≤ f.cut.limit - 4 = search rules in
     let low = c.self.invariant.low in
     record {
-      unfinished = completed-unfinished c.args.self.now.limit c.args.self.now.held piece used (omega (arith, ap length was));
+      unfinished = completed-unfinished c.args.self.now.cut c.args.self.now.held piece used (omega (arith, ap length was));
       prefixed = omega (arith, length-take 4 (c.args.self.now.held ++ piece), ap length front, w.four');
       some = omega arith;
       fits = omega arith;
       held = (used, w.within, same ∙ was);
-      part = λ four. (omega (arith, ap length same, ap declared same), omega (arith, ap declared same));
-      limit = limit;
+      part = λ four. (omega (arith, ap length same, ap (declared f.cut.order) same), omega (arith, ap (declared f.cut.order) same));
+      cut = cut;
       failed = refl;
     }
 
@@ -151,10 +157,10 @@ invariant_of-self-in-Ok g c =
     let used = c.fill_prefix-used.result in
     let prefix' = c.fill_prefix-used.new.prefix in
     let w = completes g (goal.at.invariant_of-self-in-Ok g c).After-number_in-declared in
-    let told : c.number_in-declared.result ≡ declared prefix' = c.number_in-declared.ensures in
+    let told : c.number_in-declared.result ≡ declared f.cut.order prefix' = c.number_in-declared.ensures in
     let grown = completed-grown f.prefix prefix' f.body.items c.grow.new.body.items c.args.piece.now f.filled used c.in-Ok.more.used w c.in-Ok.ensures.held in
     let front = ap (λ n. take 4 (held_bytes prefix' n c.grow.new.body.items)) (sym w.sum) ∙ grown.1 in
-    framed-within f.limit f.prefix prefix' f.body.items c.args.piece.now f.filled used f.failed w c.self.invariant c.grow.new.body.items _ (omega (arith, told, c.if-declared-self.false)) front (omega (arith, told, c.in-Ok.ensures.fits))
+    framed-within f.cut f.prefix prefix' f.body.items c.args.piece.now f.filled used f.failed w c.self.invariant c.grow.new.body.items _ (omega (arith, told, c.if-declared-self.false)) front (omega (arith, told, c.in-Ok.ensures.fits))
 
 pub invariant_of-self-in-Err : goal.invariant_of-self-in-Err
 invariant_of-self-in-Err g c =
@@ -162,23 +168,23 @@ invariant_of-self-in-Err g c =
     let used = c.fill_prefix-used.result in
     let prefix' = c.fill_prefix-used.new.prefix in
     let w = completes g (goal.at.invariant_of-self-in-Err g c).After-number_in-declared in
-    let told : c.number_in-declared.result ≡ declared prefix' = c.number_in-declared.ensures in
+    let told : c.number_in-declared.result ≡ declared f.cut.order prefix' = c.number_in-declared.ensures in
     let same = c.in-Err.ensures.err in
     let front = ap (take 4) same ∙ completed-front f.prefix prefix' f.body.items c.args.piece.now f.filled used w in
-    framed-within f.limit f.prefix prefix' f.body.items c.args.piece.now f.filled used f.failed w c.self.invariant c.grow.new.body.items _ (omega (arith, told, c.if-declared-self.false)) front (omega (arith, told, ap length same, c.in-Err.ensures.short))
+    framed-within f.cut f.prefix prefix' f.body.items c.args.piece.now f.filled used f.failed w c.self.invariant c.grow.new.body.items _ (omega (arith, told, c.if-declared-self.false)) front (omega (arith, told, ap length same, c.in-Err.ensures.short))
 
 pub invariant_of-self-then-declared-self : goal.invariant_of-self-then-declared-self
 invariant_of-self-then-declared-self g c =
     let f = c.self.inside in
     let prefix' = c.fill_prefix-used.new.prefix in
     let w = completes g (goal.at.invariant_of-self-then-declared-self g c).After-number_in-declared in
-    let told : c.number_in-declared.result ≡ declared prefix' = c.number_in-declared.ensures in
-    framed-over f.limit f.prefix prefix' f.body.items c.args.piece.now f.filled c.fill_prefix-used.result f.failed w c.self.invariant c.if-self.false (omega (arith, told, c.if-declared-self.true))
+    let told : c.number_in-declared.result ≡ declared f.cut.order prefix' = c.number_in-declared.ensures in
+    framed-over f.cut f.prefix prefix' f.body.items c.args.piece.now f.filled c.fill_prefix-used.result f.failed w c.self.invariant c.if-self.false (omega (arith, told, c.if-declared-self.true))
 
 pub grow-requires-clause-fits : goal.grow-requires-clause-fits
 grow-requires-clause-fits g c =
     let f = c.self.inside in
     let prefix' = c.fill_prefix-used.new.prefix in
     let w = completes g (goal.at.grow-requires-clause-fits g c).After-number_in-declared in
-    let told : c.number_in-declared.result ≡ declared prefix' = c.number_in-declared.ensures in
-    omega (arith, told, framed-room f.limit f.prefix prefix' f.body.items c.args.piece.now f.filled c.fill_prefix-used.result f.failed w c.self.invariant)
+    let told : c.number_in-declared.result ≡ declared f.cut.order prefix' = c.number_in-declared.ensures in
+    omega (arith, told, framed-room f.cut f.prefix prefix' f.body.items c.args.piece.now f.filled c.fill_prefix-used.result f.failed w c.self.invariant)

@@ -1,6 +1,6 @@
 use Rattle.std.proofs.Common.{◌≡◌, ◌<◌, ◌++◌, ◌∙◌, ℕ, List, [], arith, rules, ap, drop, length, length-take-le, refl, subst, sym, take, take-append-drop}
 use Rattle.std.proofs.lemmas.List.{nil_from_length}
-use Rattle.fb_bytes.specs.{Framing.Framing, Messages.IsMessage, Messages.IsPartial}
+use Rattle.fb_bytes.specs.{Framing.Framing, Messages.IsMessage, Messages.IsPartial, declared.cut.Cut.Cut}
 use Rattle.fb_lines.specs.Puts.{queues_of}
 use Rattle.fb_run.specs.Pieces.{PassesBy, carry_of}
 use Rattle.fb_run.proofs.RunLemmas.{err_exit}
@@ -16,7 +16,7 @@ returns-in_err-add g c =
     err_exit _ _ (PassesBy _ _ _ _) c.from_residual.ensures.1 (
       λ first bytes stands.
           add_halts c.args.checker.now first bytes (take n rest) (drop n rest) rest message (carry_of g.K.Sink g.N.Sink c.args.self.now c.args.writer.now c.args.notes.now) (queues_of g.K.Sink g.N.Sink c.add.new.self c.add.new.writer c.add.new.notes) c.add.new.self.counter c.in_err-add.field-0.0
-          (sym (take-append-drop n rest)) (c.in-Some.ensures.front ∙ ap (λ (l : List ℕ). l ++ take n rest) (sym none)) (subst (λ (k : ℕ). IsMessage k message) c.limit.ensures.value c.in-Some.ensures.whole)
+          (sym (take-append-drop n rest)) (c.in-Some.ensures.front ∙ ap (λ (l : List ℕ). l ++ take n rest) (sym none)) (subst (λ (u : Cut). IsMessage u message) c.cut.ensures.value c.in-Some.ensures.whole)
           c.requires.unfailed c.requires.due c.in_err-add.ensures.told stands,
       added_sound c.args.checker.now _ message (queues_of g.K.Sink g.N.Sink c.args.self.now.output c.args.writer.now c.args.notes.now) (queues_of g.K.Sink g.N.Sink c.add.new.self c.add.new.writer c.add.new.notes) c.args.self.now.output.counter c.add.new.self.counter c.in_err-add.field-0.0 c.requires.unfailed c.in_err-add.ensures.told,
     )
@@ -33,7 +33,7 @@ returns-in-Some g c =
       some = c.in-Some.ensures.some;
       goes_on = record {
         onward = λ first bytes stands. message_stands c.args.checker.now first bytes (take n rest) message (carry_of g.K.Sink g.N.Sink c.args.self.now c.args.writer.now c.args.notes.now) (carry_of g.K.Sink g.N.Sink (record c.args.self.now { room = c.add.new.room; output = c.add.new.self }) c.add.new.writer c.add.new.notes)
-            (c.in-Some.ensures.front ∙ ap (λ (l : List ℕ). l ++ take n rest) (sym none)) (subst (λ (k : ℕ). IsMessage k message) c.limit.ensures.value c.in-Some.ensures.whole) none c.requires.due added.0 stands;
+            (c.in-Some.ensures.front ∙ ap (λ (l : List ℕ). l ++ take n rest) (sym none)) (subst (λ (u : Cut). IsMessage u message) c.cut.ensures.value c.in-Some.ensures.whole) none c.requires.due added.0 stands;
         ready = still_ready c.requires.ready c.add.ensures.room;
         unfailed = added.1;
         few = omega (arith, c.in_ok-add.ensures.one, c.in-Some.ensures.some, length-take-le n rest c.in-Some.ensures.within);
@@ -45,20 +45,20 @@ pub returns-in_err-taken : goal.returns-in_err-taken
 returns-in_err-taken g c =
     err_exit _ _ (PassesBy _ _ _ _) c.from_residual-in_err-taken.ensures.1 (
       λ first bytes stands.
-          feed_halts c.args.checker.now first bytes c.args.rest.now (carry_of g.K.Sink g.N.Sink c.args.self.now c.args.writer.now c.args.notes.now) c.feed.new.self c.in_err-taken.field-0.0 c.requires.ready.limit c.requires.unfailed c.requires.due (c.in_err-taken.ensures.fault c.requires.ready.fine) stands,
+          feed_halts c.args.checker.now first bytes c.args.rest.now (carry_of g.K.Sink g.N.Sink c.args.self.now c.args.writer.now c.args.notes.now) c.feed.new.self c.in_err-taken.field-0.0 c.requires.ready.cut c.requires.unfailed c.requires.due (c.in_err-taken.ensures.fault c.requires.ready.fine) stands,
       open_sound (queues_of g.K.Sink g.N.Sink c.args.self.now.output c.args.writer.now c.args.notes.now) c.requires.unfailed,
     )
 
 pub returns-in_default-message : goal.returns-in_default-message
 returns-in_default-message g c =
     let feeds = c.in_ok-taken.ensures.ok in
-    let part : IsPartial c.feed.new.self.limit c.feed.new.self.held = search rules in
+    let part : IsPartial c.feed.new.self.cut c.feed.new.self.held = search rules in
     record {
       within = feeds.within;
       some = search rules;
       goes_on = record {
-        onward = λ first bytes stands. held_stands c.args.checker.now first bytes c.args.rest.now c.in_ok-taken.taken.used c.in_ok-taken.taken.whole (carry_of g.K.Sink g.N.Sink c.args.self.now c.args.writer.now c.args.notes.now) c.feed.new.self c.requires.ready.limit feeds part stands;
-        ready = record { fits = c.requires.ready.fits; fine = feeds.fine.1; limit = feeds.limit ∙ c.requires.ready.limit; short = rw feeds.limit c.requires.ready.short; part = part };
+        onward = λ first bytes stands. held_stands c.args.checker.now first bytes c.args.rest.now c.in_ok-taken.taken.used c.in_ok-taken.taken.whole (carry_of g.K.Sink g.N.Sink c.args.self.now c.args.writer.now c.args.notes.now) c.feed.new.self c.requires.ready.cut feeds part stands;
+        ready = record { fits = c.requires.ready.fits; fine = feeds.fine.1; cut = feeds.cut ∙ c.requires.ready.cut; short = rw feeds.cut c.requires.ready.short; part = part };
         unfailed = c.requires.unfailed;
         few = omega arith;
       };
@@ -76,7 +76,7 @@ returns-in_err-add-2 g c =
       λ first bytes stands.
           add_halts c.args.checker.now first bytes (take used rest) (drop used rest) rest c.in-Some-message.message.now (carry_of g.K.Sink g.N.Sink c.args.self.now c.args.writer.now c.args.notes.now) (queues_of g.K.Sink g.N.Sink c.add-2.new.self c.add-2.new.writer c.add-2.new.notes) c.add-2.new.self.counter
           c.in_err-add-2.field-0.0 (sym (take-append-drop used rest)) (bytes_are ∙ feeds.held)
-          (subst (λ (n : ℕ). IsMessage n c.in-Some-message.message.now) (feeds.limit ∙ c.requires.ready.limit) (subst (IsMessage c.feed.new.self.limit) (sym bytes_are) message.1))
+          (subst (λ (u : Cut). IsMessage u c.in-Some-message.message.now) (feeds.cut ∙ c.requires.ready.cut) (subst (IsMessage c.feed.new.self.cut) (sym bytes_are) message.1))
           c.requires.unfailed c.requires.due c.in_err-add-2.ensures.told stands,
       added_sound c.args.checker.now _ c.in-Some-message.message.now (queues_of g.K.Sink g.N.Sink c.args.self.now.output c.args.writer.now c.args.notes.now) (queues_of g.K.Sink g.N.Sink c.add-2.new.self c.add-2.new.writer c.add-2.new.notes) c.args.self.now.output.counter c.add-2.new.self.counter c.in_err-add-2.field-0.0 c.requires.unfailed c.in_err-add-2.ensures.told,
     )
@@ -97,7 +97,7 @@ returns g c =
         onward = λ first bytes stands. message_stands c.args.checker.now first bytes (take used rest) c.in-Some-message.message.now (carry_of g.K.Sink g.N.Sink c.args.self.now c.args.writer.now c.args.notes.now)
             (carry_of g.K.Sink g.N.Sink (record c.args.self.now { room = c.add-2.new.room; framer = c.next.new.self; output = c.add-2.new.self }) c.add-2.new.writer c.add-2.new.notes)
             (bytes_are ∙ feeds.held)
-            (subst (λ (n : ℕ). IsMessage n c.in-Some-message.message.now) (feeds.limit ∙ c.requires.ready.limit) (subst (IsMessage c.feed.new.self.limit) (sym bytes_are) message.1)) (ap (λ (f : Framing). f.held) (c.next.ensures.whole message)) c.requires.due added.0 stands;
+            (subst (λ (u : Cut). IsMessage u c.in-Some-message.message.now) (feeds.cut ∙ c.requires.ready.cut) (subst (IsMessage c.feed.new.self.cut) (sym bytes_are) message.1)) (ap (λ (f : Framing). f.held) (c.next.ensures.whole message)) c.requires.due added.0 stands;
         ready = search rules;
         unfailed = added.1;
         few = omega (arith, c.in_ok-add-2.ensures.one, some, length-take-le used rest feeds.within);
