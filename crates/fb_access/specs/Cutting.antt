@@ -2,7 +2,8 @@
 use Rattle.std.specs.Prelude.{◌≡◌, ℕ, ◌+◌, ◌-◌, ◌*◌, ◌==◌, ◌&&◌, not, nat_le, IsTrue, false, if◌then◌else◌, List, [], ◌∷◌, ◌++◌, Option, Some, None}
 use Rattle.std.specs.Borrow.{Bor}
 use Rattle.std.specs.List.{AllByRecursion}
-use Rattle.fb_access.specs.declared.{pieces.Piece.Piece, pieces.Piece.TheVariants.Field, pieces.Piece.TheVariants.Element, pieces.Piece.TheVariants.Member, pieces.Next.Next, pieces.Next.TheVariants.Part as APart, pieces.Next.TheVariants.End, pieces.Next.TheVariants.Wrong}
+use Rattle.fb_access.specs.declared.{pieces.Piece.Piece, pieces.Piece.TheVariants.Field, pieces.Piece.TheVariants.Element, pieces.Piece.TheVariants.Member}
+use Rattle.fb_access.specs.declared.{pieces.Next.Next, pieces.Next.TheVariants.Part as APart, pieces.Next.TheVariants.End, pieces.Next.TheVariants.Wrong}
 use Rattle.fb_access.specs.Grammar.{Part, field, element, member, is_digit, begins_name, goes_on, number_of, IsName, IsNumber, IsPart, spelling}
 
 -- letters, digits and `_`

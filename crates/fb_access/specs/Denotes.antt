@@ -7,7 +7,8 @@ use Rattle.fb_schema.specs.declared.kinds.Scalar.TheVariants.{Bool as AsBool, By
 use Rattle.fb_schema.specs.{Rows.Rows, Kinds.scalar_size, Kinds.struct_size, declared.kinds.Scalar.Scalar, declared.kinds.Kind.Kind}
 use Rattle.fb_rules.specs.{Places.target, WellFormed.base, declared.start.Start.Start}
 use Rattle.fb_access.specs.declared.{step.Step.Step, step.Step.TheVariants.Field, step.Step.TheVariants.Element, step.Step.TheVariants.Member, spot.Spot.Spot, answer.Answer.Answer}
-use Rattle.fb_access.specs.declared.spot.Spot.TheVariants.{AtTable, AtInline, AtStruct, AtText, AtScalars, AtStructs, AtScalarArray, AtStructArray, AtTexts, AtTables, AtUnions, AtUnion, AtDefault, AtAbsent, AtNoElement, AtOtherMember}
+use Rattle.fb_access.specs.declared.spot.Spot.TheVariants.{AtTable, AtInline, AtStruct, AtText, AtScalars, AtStructs, AtScalarArray, AtStructArray}
+use Rattle.fb_access.specs.declared.spot.Spot.TheVariants.{AtTexts, AtTables, AtUnions, AtUnion, AtDefault, AtAbsent, AtNoElement, AtOtherMember}
 use Rattle.fb_access.specs.declared.answer.Answer.TheVariants as answer
 use Rattle.fb_access.specs.Fitting.{next_kind}
 use Rattle.fb_access.specs.Spots.{kind_at, spot_of_field, spot_of_element, spot_of_member}

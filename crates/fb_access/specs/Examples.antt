@@ -6,7 +6,8 @@ use Rattle.fb_rules.specs.Samples.{monsters, monster, open_name}
 use Rattle.fb_rules.specs.Examples.{Counts, one_table, one_leaf, kids_of}
 use Rattle.fb_access.specs.declared.{step.Step.Step, step.Step.TheVariants.Field, step.Step.TheVariants.Element, step.Step.TheVariants.Member}
 use Rattle.fb_access.specs.declared.spot.Spot.TheVariants.{AtTable, AtStruct, AtText, AtUnion}
-use Rattle.fb_access.specs.Denotes.{next_spot, Shown, nothing, no_element, other_member, truth, signed, unsigned, float, default_float, default_double, text, structure, vector, table, union, Denotes, nearest_single}
+use Rattle.fb_access.specs.Denotes.{next_spot, Shown, nothing, no_element, other_member, truth, signed, unsigned, float}
+use Rattle.fb_access.specs.Denotes.{default_float, default_double, text, structure, vector, table, union, Denotes, nearest_single}
 use Rattle.fb_access.specs.{Inside.LiesInside, Samples.rows, Samples.bytes, Samples.prefixed_monster}
 
 -- in the sample these steps from the root table lead to this value
@@ -133,7 +134,8 @@ empty_tree = node 2 340 none_below
 -- what the fields of the root table lead to
 abbrev pub root_kids : Kids
 root_kids =
-    kids_of (no_elements ∷ one_leaf ∷ no_elements ∷ one_table scalars_tree ∷ no_elements ∷ one_leaf ∷ no_elements ∷ no_elements ∷ element leaf one_leaf ∷ element (a_table scalars_tree) (one_table empty_tree) ∷ no_elements ∷ element leaf (element leaf (element (a_table scalars_tree) one_leaf)) ∷ no_elements ∷ [])
+    kids_of (no_elements ∷ one_leaf ∷ no_elements ∷ one_table scalars_tree ∷ no_elements ∷ one_leaf ∷ no_elements ∷ no_elements ∷ element leaf one_leaf ∷ element (a_table scalars_tree)
+    (one_table empty_tree) ∷ no_elements ∷ element leaf (element leaf (element (a_table scalars_tree) one_leaf)) ∷ no_elements ∷ [])
 
 -- the sample is a good buffer
 abbrev pub SampleUnfolds : Type 0

@@ -4,7 +4,8 @@ use Rattle.std.specs.Int.{Width, w8, w16, w32, w64, RustNames.FitsSigned}
 use Rattle.fb_schema.specs.declared.{kinds.Scalar.Scalar, kinds.Kind.Kind, kinds.Kind.TheVariants.Scalar as AScalar, kinds.Kind.TheVariants.Table}
 use Rattle.fb_schema.specs.declared.kinds.Scalar.TheVariants.{Byte, Short, Int as AsInt, Long}
 use Rattle.fb_schema.specs.{Rows.Rows, Kinds.scalar_size, Live.Live}
-use Rattle.fb_access.specs.declared.{step.Step.Step, step.Step.TheVariants.Field, step.Step.TheVariants.Element, step.Step.TheVariants.Member, spot.Spot.Spot, spot.Spot.TheVariants.AtAbsent, answer.Answer.Answer}
+use Rattle.fb_access.specs.declared.{step.Step.Step, step.Step.TheVariants.Field, step.Step.TheVariants.Element}
+use Rattle.fb_access.specs.declared.{step.Step.TheVariants.Member, spot.Spot.Spot, spot.Spot.TheVariants.AtAbsent, answer.Answer.Answer}
 use Rattle.fb_access.specs.declared.answer.Answer.TheVariants.{Int, UInt, Float}
 use Rattle.fb_access.specs.{Fitting.numbered, Fitting.next_kind, Spots.kind_at, Denotes.Reaches, Denotes.Shown, Denotes.value}
 

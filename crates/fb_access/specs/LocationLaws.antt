@@ -5,7 +5,8 @@ use Rattle.fb_rules.specs.declared.{fault.Fault.Fault, link.Link.Link}
 use Rattle.fb_rules.specs.{Question.Question, Fields.Lead, Fields.to_nothing, Way.Way, Way.way_to_start, Links.StopsAlong}
 use Rattle.fb_rules.specs.Stops.{Place, in_start, in_head, in_field, in_element, IsFalseAt}
 use Rattle.fb_access.specs.declared.{step.Step.Step, spot.Spot.Spot, spot.Spot.TheVariants.AtTable, spot.Spot.TheVariants.AtUnion}
-use Rattle.fb_access.specs.{Denotes.Reaches, Denotes.root_spot, Resolving.Follows, Resolving.Resolves, Location.field_name, Location.link_member, Location.mark_behind, Location.path_text, Spots.field_spot, StepLaws.IsLedTo}
+use Rattle.fb_access.specs.{Denotes.Reaches, Denotes.root_spot, Resolving.Follows, Resolving.Resolves, Location.field_name}
+use Rattle.fb_access.specs.{Location.link_member, Location.mark_behind, Location.path_text, Spots.field_spot, StepLaws.IsLedTo}
 use Rattle.fb_access.specs.Grammar.{Part, field, element, member, IsName}
 
 -- the parts of a path that a link is: its field, its element and its member, where it has them

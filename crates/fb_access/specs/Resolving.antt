@@ -3,9 +3,11 @@ use Rattle.std.specs.Prelude.{◌≡◌, ℕ, ◌<◌, ◌^◌, nat_lt, if◌the
 use Rattle.std.specs.Str.{bytes_eq}
 use Rattle.fb_schema.specs.declared.{kinds.Kind.Kind, kinds.Kind.TheVariants.Struct, kinds.Kind.TheVariants.Table, kinds.Kind.TheVariants.Union, views.PartView.PartView}
 use Rattle.fb_schema.specs.{Rows.Rows, Live.Live, Live.live_fields, Members.member_of, Members.member_named, Parts.part_at, Parts.part_named}
-use Rattle.fb_access.specs.declared.{step.Step.Step, step.Step.TheVariants.Field, step.Step.TheVariants.Element, step.Step.TheVariants.Member, misfit.Misfit.Misfit, misfit.Fitted.Fitted, path_fault.PathFault.PathFault}
+use Rattle.fb_access.specs.declared.{step.Step.Step, step.Step.TheVariants.Field, step.Step.TheVariants.Element}
+use Rattle.fb_access.specs.declared.{step.Step.TheVariants.Member, misfit.Misfit.Misfit, misfit.Fitted.Fitted, path_fault.PathFault.PathFault}
 use Rattle.fb_access.specs.declared.misfit.Misfit.TheVariants.{NoSuchField, NotIndexable, NotAUnion, NoSuchMember, NotATable}
-use Rattle.fb_access.specs.declared.path_fault.PathFault.TheVariants.{BadText, NoSuchField as NoSuchFieldAt, NotIndexable as NotIndexableAt, NotAUnion as NotAUnionAt, NoSuchMember as NoSuchMemberAt, NotATable as NotATableAt, OutOfMemory}
+use Rattle.fb_access.specs.declared.path_fault.PathFault.TheVariants.{BadText, NoSuchField as NoSuchFieldAt, NotIndexable as NotIndexableAt}
+use Rattle.fb_access.specs.declared.path_fault.PathFault.TheVariants.{NotAUnion as NotAUnionAt, NoSuchMember as NoSuchMemberAt, NotATable as NotATableAt, OutOfMemory}
 use Rattle.fb_access.specs.Fitting.{element_kind}
 use Rattle.fb_access.specs.Grammar.{Part, field, element, member, number_of, IsReading, IsWrongAt}
 

@@ -69,7 +69,8 @@ steps_on j _ = []
 -- steps lead to each offset word by which the verifier says that a field leads on
 abbrev pub StepsFollowEntries : Type 0
 StepsFollowEntries =
-    (b : List ℕ) (S : Rows) (k t n j : ℕ) (f : Live) (x : Entry) → numbered S k n ≡ Some f → slice_get (entries b S t f) j ≡ Some x → (q : Spot) × Reaches b S (AtTable k t) (Field n ∷ steps_on j f.kind) q × IsOfEntry b S x q
+    (b : List ℕ) (S : Rows) (k t n j : ℕ) (f : Live) (x : Entry) → numbered S k n ≡ Some f → slice_get (entries b S t f) j ≡ Some x
+    → (q : Spot) × Reaches b S (AtTable k t) (Field n ∷ steps_on j f.kind) q × IsOfEntry b S x q
 
 -- a vector of offset words
 abbrev pub AreOffsets : Kind → Type 0
@@ -81,7 +82,8 @@ AreOffsets _ = ⊥
 -- and to no other
 abbrev pub NoOtherElements : Type 0
 NoOtherElements =
-    (b : List ℕ) (S : Rows) (k t n j : ℕ) (f : Live) (q : Spot) → numbered S k n ≡ Some f → AreOffsets f.kind → slice_get (entries b S t f) j ≡ None → Reaches b S (AtTable k t) (Field n ∷ Element j ∷ []) q → position_of q ≡ None
+    (b : List ℕ) (S : Rows) (k t n j : ℕ) (f : Live) (q : Spot) → numbered S k n ≡ Some f → AreOffsets f.kind → slice_get (entries b S t f) j ≡ None
+    → Reaches b S (AtTable k t) (Field n ∷ Element j ∷ []) q → position_of q ≡ None
 
 -- a member step leads where the verifier says that a union of this type leads, and from one of another type to
 -- nothing
@@ -100,7 +102,8 @@ AreInline _ = ⊥
 -- they stand one after another behind the count, each of the size that the verifier asks for
 abbrev pub ElementsStandInRow : Type 0
 ElementsStandInRow =
-    (b : List ℕ) (S : Rows) (k t n j p : ℕ) (f : Live) (q : Spot) → numbered S k n ≡ Some f → AreInline f.kind → field_place b t f.slot ≡ Some p → j < word b (target b p) 4 → Reaches b S (AtTable k t) (Field n ∷ Element j ∷ []) q
+    (b : List ℕ) (S : Rows) (k t n j p : ℕ) (f : Live) (q : Spot) → numbered S k n ≡ Some f → AreInline f.kind → field_place b t f.slot ≡ Some p
+    → j < word b (target b p) 4 → Reaches b S (AtTable k t) (Field n ∷ Element j ∷ []) q
     → position_of q ≡ Some (target b p + 4 + f.size * j)
 
 -- how many bytes each element of a vector or array of this kind has, where they stand in place

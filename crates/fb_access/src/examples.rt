@@ -2,7 +2,8 @@
 
 ghost use Rattle.fb_access.specs.PathTests.{Words, Spellings, Resolved, Unfit};
 ghost use Rattle.fb_access.specs.LocationTests.{Told, Nameless, Enclosed, Masked, Ways, Long};
-ghost use Rattle.fb_access.specs.Examples.{SampleUnfolds, FieldValues, ElementValues, PartValues, MemberValues, ScalarValues, DefaultValues, NearestSingles, StayingValues, LackingFields, PrefixedValues, InsideValues};
+ghost use Rattle.fb_access.specs.Examples.{SampleUnfolds, FieldValues, ElementValues, PartValues, MemberValues, ScalarValues};
+ghost use Rattle.fb_access.specs.Examples.{DefaultValues, NearestSingles, StayingValues, LackingFields, PrefixedValues, InsideValues};
 
 /// A buffer with a field of each kind is good, and what paths denote in it.
 #[tactic(auto, using(crate::proofs::Shown::field_values, crate::proofs::Shown::element_values, crate::proofs::Shown::part_values, crate::proofs::Shown::member_values, crate::proofs::Shown::scalar_values, crate::proofs::Shown::default_values, crate::proofs::Shown::nearest_singles, crate::proofs::Shown::staying_values, crate::proofs::Shown::lacking_fields, crate::proofs::ShownTree::sample_unfolds))]

@@ -4,7 +4,8 @@ ghost use Rattle.std.specs.Prelude.{◌≡◌, ◌+◌, ◌≤◌, ◌++◌, ℕ
 ghost use Rattle.std.specs.List.{flat_map};
 ghost use Rattle.fb_schema.specs.Live.{live_of_view};
 ghost use Rattle.fb_access.specs.Fitting.{numbered};
-ghost use Rattle.fb_access.specs.Location.{name_byte, name_text, named, field_name, link_member, element_text, link_text, mark_behind, path_text, place_text, whole_text, location_text, cut_to, filled};
+ghost use Rattle.fb_access.specs.Location.{name_byte, name_text, named, field_name, link_member, element_text, link_text};
+ghost use Rattle.fb_access.specs.Location.{mark_behind, path_text, place_text, whole_text, location_text, cut_to, filled};
 
 use crate::field::field_numbered;
 use arrayvec::ArrayVec;

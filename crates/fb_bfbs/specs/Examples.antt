@@ -3,7 +3,8 @@ use Rattle.std.specs.Prelude.{◌≡◌, ℕ, true, false, List, [], ◌∷◌, 
 use Rattle.fb_access.specs.declared.step.Step.TheVariants.{Field as ToField}
 use Rattle.fb_access.specs.Denotes.{text}
 use Rattle.fb_rules.specs.Samples.{published_limits}
-use Rattle.fb_bfbs.specs.{Describes.Describes, Describes.IsRoot, Loads.told, Loads.IsLoaded, Samples.plain, Samples.plain_rows, Samples.reals, Samples.real_rows, Samples.detailed, Samples.detailed_rows, Samples.marking}
+use Rattle.fb_bfbs.specs.{Describes.Describes, Describes.IsRoot, Loads.told, Loads.IsLoaded, Samples.plain, Samples.plain_rows}
+use Rattle.fb_bfbs.specs.{Samples.reals, Samples.real_rows, Samples.detailed, Samples.detailed_rows, Samples.marking}
 use Rattle.fb_bfbs.specs.declared.marks.{Builtins.TheVariants.Written, Builtins.TheVariants.LeftOut, Builtins.TheVariants.Untold}
 use Rattle.fb_bfbs.specs.Marks.{Attribute, Attributed, buffer, flex, held_in, told_by, SaysMarks}
 

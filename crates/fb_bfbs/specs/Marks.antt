@@ -1,5 +1,6 @@
 -- What the attributes of fields say: which fields hold buffers, and whether built-in attributes were written at all.
-use Rattle.std.specs.Prelude.{◌≡◌, ◌+◌, ◌<◌, ◌≤◌, ◌⊎◌, ℕ, Bool, true, false, IsSome, List, [], ◌∷◌, ◌++◌, map, find, filter_map, length, codes, bytes_eq, Option, Some, None, is_some, option_map, if◌then◌else◌}
+use Rattle.std.specs.Prelude.{◌≡◌, ◌+◌, ◌<◌, ◌≤◌, ◌⊎◌, ℕ, Bool, true, false, IsSome, List, [], ◌∷◌, ◌++◌, map, find}
+use Rattle.std.specs.Prelude.{filter_map, length, codes, bytes_eq, Option, Some, None, is_some, option_map, if◌then◌else◌}
 use Rattle.fb_rules.specs.Bounds.{Bounds}
 use Rattle.fb_access.specs.declared.step.Step.TheVariants.{Field as ToField}
 use Rattle.fb_access.specs.Denotes.{nothing, truth, unsigned, text}

@@ -9,7 +9,8 @@ use Rattle.fb_rules.specs.{Question.question, Places.target, WellFormed.IsStart,
 use Rattle.fb_rules.specs.Way.{way_to_start, way_to_root}
 use Rattle.fb_rules.specs.Tree.{Tree, node, Kids, no_kids, kid, Elements, no_elements, element, leaf, table, size, depth}
 use Rattle.fb_rules.specs.Stops.{in_start, IsFalseAt, Trail, at_head, at_field, at_own, at_element, at_lead, through, IsTrail}
-use Rattle.fb_rules.specs.Samples.{published_checks, published_limits, fault, monsters, nodes, unions, orc, monster, open_name, one_member, odd_vtable, crooked_struct, two_members, three_values, every_kind, shared}
+use Rattle.fb_rules.specs.Samples.{published_checks, published_limits, fault, monsters, nodes, unions, orc, monster, open_name}
+use Rattle.fb_rules.specs.Samples.{one_member, odd_vtable, crooked_struct, two_members, three_values, every_kind, shared}
 
 -- under the published checks the buffer unfolds into this tree, with so many tables, so deep, for so many reads
 abbrev pub Counts : List ℕ → Rows → ℕ → Tree → ℕ → ℕ → ℕ → Type 0
@@ -57,7 +58,8 @@ number = node 0 168 one_field
 -- the fields of every kind, in their order
 abbrev pub every_kids : Kids
 every_kids =
-    kids_of (no_elements ∷ one_leaf ∷ no_elements ∷ one_table number ∷ no_elements ∷ one_leaf ∷ no_elements ∷ no_elements ∷ element leaf one_leaf ∷ element (table number) (one_table number) ∷ no_elements ∷ element leaf (element (table number) one_leaf) ∷ [])
+    kids_of (no_elements ∷ one_leaf ∷ no_elements ∷ one_table number ∷ no_elements ∷ one_leaf ∷ no_elements ∷ no_elements ∷ element leaf one_leaf ∷ element
+    (table number) (one_table number) ∷ no_elements ∷ element leaf (element (table number) one_leaf) ∷ [])
 
 -- a field of every kind; the table at 168 is reached four times, and is four nodes
 abbrev pub EveryKindUnfolds : Type 0
@@ -90,7 +92,9 @@ middle = node 0 28 (kids_of (one_table last ∷ one_table last ∷ []))
 -- with 6 tables allowed: past the root's first subtable and the first of its second's, the seventh
 abbrev pub SeventhTableStops : Type 0
 SeventhTableStops =
-    StopsBy published_checks shared nodes 0 (record { depth = 64; tables = 6; reads = None }) (at_field (kid (one_table middle) no_kids) (at_element no_elements (through (at_field (kid (one_table last) no_kids) (at_element no_elements (through at_head)))))) (fault TooManyTables 40 0 (Some 1) 25)
+    StopsBy published_checks shared nodes 0 (record { depth = 64; tables = 6; reads = None })
+    (at_field (kid (one_table middle) no_kids)
+    (at_element no_elements (through (at_field (kid (one_table last) no_kids) (at_element no_elements (through at_head)))))) (fault TooManyTables 40 0 (Some 1) 25)
 
 -- the published limits with a budget of so many reads
 abbrev pub with_reads : ℕ → Bounds
@@ -108,7 +112,9 @@ LastTextStops = StopsBy published_checks monster monsters 0 (with_reads 7) (at_f
 -- with 24 reads allowed: past the head of the seventh table, to which the 25th leads
 abbrev pub SeventhHeadStops : Type 0
 SeventhHeadStops =
-    StopsBy published_checks shared nodes 0 (with_reads 24) (at_field (kid (one_table middle) no_kids) (at_element no_elements (through (at_field (kid (one_table last) no_kids) (at_element no_elements (through at_head)))))) (fault TooManyReads 40 0 None 27)
+    StopsBy published_checks shared nodes 0 (with_reads 24)
+    (at_field (kid (one_table middle) no_kids)
+    (at_element no_elements (through (at_field (kid (one_table last) no_kids) (at_element no_elements (through at_head)))))) (fault TooManyReads 40 0 None 27)
 
 -- with 10 reads allowed: past the type, through the value, past the number of the table A
 abbrev pub LastFieldStops : Type 0
@@ -118,7 +124,8 @@ LastFieldStops =
 -- with depth 2 and 2 tables allowed: the first table of the first, where both limits are reached
 abbrev pub ThirdLevelStops : Type 0
 ThirdLevelStops =
-    StopsBy published_checks shared nodes 0 (record { depth = 2; tables = 2; reads = None }) (at_field no_kids (at_element no_elements (through (at_field no_kids (at_element no_elements (through at_head)))))) (fault TooDeep 40 0 (Some 0) 9)
+    StopsBy published_checks shared nodes 0 (record { depth = 2; tables = 2; reads = None })
+    (at_field no_kids (at_element no_elements (through (at_field no_kids (at_element no_elements (through at_head)))))) (fault TooDeep 40 0 (Some 0) 9)
 
 -- past the type, through the value, the head of the table A, whose vtable has an odd size
 abbrev pub OddVtableStops : Type 0

@@ -49,7 +49,8 @@ FieldLaw = (c : Checks) (b : List ℕ) (S : Rows) (t : ℕ) (f : Live) → (own_
 -- two numbers of four bytes, each below 256, are one exactly where the bytes are the same, as for the identifier
 abbrev pub IdentifierLaw : Type 0
 IdentifierLaw =
-    (b name : List ℕ) (p : ℕ) → ((i : ℕ) → i < 4 → slice_index b (p + i) < 256) → ((i : ℕ) → i < 4 → slice_index name i < 256) → (word b p 4 ≡ word name 0 4) ↔ ((i : ℕ) → i < 4 → slice_index b (p + i) ≡ slice_index name i)
+    (b name : List ℕ) (p : ℕ) → ((i : ℕ) → i < 4 → slice_index b (p + i) < 256) → ((i : ℕ) → i < 4 → slice_index name i < 256)
+    → (word b p 4 ≡ word name 0 4) ↔ ((i : ℕ) → i < 4 → slice_index b (p + i) ≡ slice_index name i)
 
 -- a buffer has at most one tree for an object and a position
 abbrev pub HasOneTree : Type 0
@@ -64,7 +65,8 @@ Overruns L w deep many reads f =
 -- where the way w leads to a table with a tree, a trail from there stops only at a limit, and the tree is past it
 abbrev pub StopsOnlyAtLimits : Type 0
 StopsOnlyAtLimits =
-    (c : Checks) (b : List ℕ) (S : Rows) (L : Bounds) (k t : ℕ) (y : Tree) (w : Way) (s : Trail) (f : Fault) → Unfolds y c b S k t → IsTrail s c b S L k t w f → Overruns L w (depth y) (size y) (tree_cost y c b S) f
+    (c : Checks) (b : List ℕ) (S : Rows) (L : Bounds) (k t : ℕ) (y : Tree) (w : Way) (s : Trail) (f : Fault) → Unfolds y c b S k t
+    → IsTrail s c b S L k t w f → Overruns L w (depth y) (size y) (tree_cost y c b S) f
 
 -- at most one fault is the first
 abbrev pub StopsOnce : Type 0

@@ -6,7 +6,8 @@ use Rattle.fb_schema.specs.{Live.Live, LookUps.live}
 use Rattle.fb_rules.specs.declared.{checks.Checks.Checks, fault.Reason.Reason}
 use Rattle.fb_rules.specs.declared.start.Start.TheVariants.{Bare, Prefixed}
 use Rattle.fb_rules.specs.declared.start.Ident.{Ident, TheVariants.Any, TheVariants.Want}
-use Rattle.fb_rules.specs.declared.fault.Reason.TheVariants.{WrongPrefix, OutOfBuffer, Misaligned, ZeroOffset, WrongIdentifier, TooDeep, TooManyTables, BadVtable, MissingRequired, NoTerminator, LengthsDiffer, PastTable, TooManyReads}
+use Rattle.fb_rules.specs.declared.fault.Reason.TheVariants.{WrongPrefix, OutOfBuffer, Misaligned, ZeroOffset, WrongIdentifier, TooDeep, TooManyTables}
+use Rattle.fb_rules.specs.declared.fault.Reason.TheVariants.{BadVtable, MissingRequired, NoTerminator, LengthsDiffer, PastTable, TooManyReads}
 use Rattle.fb_rules.specs.{Bounds.Bounds, Way.Way, Samples.published_checks, Samples.fault, Samples.unions}
 use Rattle.fb_rules.specs.Fields.{to_table, to_struct, to_string, to_nothing, entry}
 use Rattle.fb_rules.specs.Order.{Failure, prefix_failure, ident_failure, offset_failure, start_failure, head_failure, string_failure, vector_failure, inline_failure, own_failure, element_failure}
@@ -218,8 +219,10 @@ pub record LimitTests : Type 0 where
   pub reads_of_a_head : fault_at published_checks (4 ∷ 0 ∷ 4 ∷ 0 ∷ 4 ∷ 0 ∷ 0 ∷ 0 ∷ []) unions (limits 2 2 (Some 6)) (in_head 0 4) (a_way 1 1 5) ≡ Some (fault TooManyReads 4 0 None 7)
   pub enough_reads_of_a_head : fault_at published_checks (4 ∷ 0 ∷ 4 ∷ 0 ∷ 4 ∷ 0 ∷ 0 ∷ 0 ∷ []) unions (limits 2 2 (Some 7)) (in_head 0 4) (a_way 1 1 5) ≡ None
   pub one_more_for_the_inline_size : fault_at strict (4 ∷ 0 ∷ 4 ∷ 0 ∷ 4 ∷ 0 ∷ 0 ∷ 0 ∷ []) unions (limits 2 2 (Some 7)) (in_head 0 4) (a_way 1 1 5) ≡ Some (fault TooManyReads 4 0 None 8)
-  pub the_field_before_reads : fault_at published_checks (a_table 8 4 0 (7 ∷ 0 ∷ 0 ∷ [])) unions (limits 9 9 (Some 5)) (in_field 8 (a_field (Scalar Int) 4 4 4)) (a_way 1 1 5) ≡ Some (fault OutOfBuffer 12 7 (Some 3) 6)
-  pub reads_of_a_field : fault_at published_checks (a_table 8 4 0 (7 ∷ 0 ∷ 0 ∷ 0 ∷ [])) unions (limits 9 9 (Some 5)) (in_field 8 (a_field (Scalar Int) 4 4 4)) (a_way 1 1 5) ≡ Some (fault TooManyReads 8 7 (Some 3) 6)
+  pub the_field_before_reads : fault_at published_checks (a_table 8 4 0 (7 ∷ 0 ∷ 0 ∷ [])) unions (limits 9 9 (Some 5)) (in_field 8 (a_field (Scalar Int) 4 4 4)) (a_way 1 1 5)
+      ≡ Some (fault OutOfBuffer 12 7 (Some 3) 6)
+  pub reads_of_a_field : fault_at published_checks (a_table 8 4 0 (7 ∷ 0 ∷ 0 ∷ 0 ∷ [])) unions (limits 9 9 (Some 5)) (in_field 8 (a_field (Scalar Int) 4 4 4)) (a_way 1 1 5)
+      ≡ Some (fault TooManyReads 8 7 (Some 3) 6)
   pub enough_reads_of_a_field : fault_at published_checks (a_table 8 4 0 (7 ∷ 0 ∷ 0 ∷ 0 ∷ [])) unions (limits 9 9 (Some 6)) (in_field 8 (a_field (Scalar Int) 4 4 4)) (a_way 1 1 5) ≡ None
   pub the_element_before_reads : fault_at published_checks (4 ∷ 0 ∷ 0 ∷ 0 ∷ 1 ∷ 0 ∷ 0 ∷ 0 ∷ 104 ∷ 1 ∷ []) unions (limits 9 9 (Some 7)) (in_element (entry to_string 0 0)) (a_way 1 1 5) ≡ Some (fault NoTerminator 9 7 (Some 3) 8)
   pub reads_of_an_element : fault_at published_checks (4 ∷ 0 ∷ 0 ∷ 0 ∷ 1 ∷ 0 ∷ 0 ∷ 0 ∷ 104 ∷ 0 ∷ []) unions (limits 9 9 (Some 7)) (in_element (entry to_string 0 0)) (a_way 1 1 5) ≡ Some (fault TooManyReads 0 7 (Some 3) 8)

@@ -7,7 +7,8 @@ use Rattle.fb_schema.specs.{Rows.Rows, Live.Live, Live.live_fields}
 use Rattle.fb_rules.specs.declared.{checks.Checks.Checks, fault.Fault.Fault, fault.Reason.Reason}
 use Rattle.fb_rules.specs.declared.start.Start.{Start, TheVariants.Prefixed}
 use Rattle.fb_rules.specs.declared.start.Ident.{Ident, TheVariants.Want}
-use Rattle.fb_rules.specs.declared.fault.Reason.TheVariants.{WrongPrefix, OutOfBuffer, Misaligned, ZeroOffset, WrongIdentifier, TooDeep, TooManyTables, BadVtable, MissingRequired, NoTerminator, LengthsDiffer, PastTable, TooManyReads}
+use Rattle.fb_rules.specs.declared.fault.Reason.TheVariants.{WrongPrefix, OutOfBuffer, Misaligned, ZeroOffset, WrongIdentifier, TooDeep, TooManyTables}
+use Rattle.fb_rules.specs.declared.fault.Reason.TheVariants.{BadVtable, MissingRequired, NoTerminator, LengthsDiffer, PastTable, TooManyReads}
 use Rattle.fb_rules.specs.{Bounds.Bounds, Bounds.AreTooMany, Question.Question, Facts.IsTable, Facts.IsOffset, Tree.kids_size, Tree.elements_size}
 use Rattle.fb_rules.specs.{WellFormed.base, WellFormed.IsStart, Way.way_to_root}
 use Rattle.fb_rules.specs.Places.{target, has_vtable, vtable, vtable_size, inline_size, field_place}
@@ -153,13 +154,15 @@ pub record LeadsOn (c : Checks) (b : List ℕ) (S : Rows) (k t j u : ℕ) : Type
 -- above it, and the object and field that lead to it, which are the root's and none for that table itself.
 pub data IsReached (c : Checks) (b : List ℕ) (S : Rows) (root begin : ℕ) : ℕ → ℕ → ℕ → ℕ → Option ℕ → Type 0 where
   as_root : IsReached c b S root begin root begin 0 root None
-  from_above : (k t above object : ℕ) (field : Option ℕ) (j u : ℕ) → IsReached c b S root begin k t above object field → (on : LeadsOn c b S k t j u) → IsReached c b S root begin j u (suc above) k (Some ((on.by).field).number)
+  from_above : (k t above object : ℕ) (field : Option ℕ) (j u : ℕ) → IsReached c b S root begin k t above object field
+      → (on : LeadsOn c b S k t j u) → IsReached c b S root begin j u (suc above) k (Some ((on.by).field).number)
 
 -- at the start
 pub record FailsAtStart (q : Question) (b : List ℕ) (f : Fault) : Type 0 where
   pub object : f.object ≡ q.root
   pub field : f.field ≡ None
-  pub because : PrefixIsFalse b q.start f.reason f.at ⊎ (IdentIsFalse b (base q.start + 4) q.ident f.reason f.at ⊎ (OffsetIsFalse q.checks b (base q.start) f.reason f.at ⊎ IsOverBudget q.limits (base q.start) f))
+  pub because : PrefixIsFalse b q.start f.reason f.at
+      ⊎ (IdentIsFalse b (base q.start + 4) q.ident f.reason f.at ⊎ (OffsetIsFalse q.checks b (base q.start) f.reason f.at ⊎ IsOverBudget q.limits (base q.start) f))
 
 -- with so many tables above the one at t: as many are open as is allowed, or as many were opened, which TablesRunOut says
 abbrev pub LimitIsReached : Bounds → ℕ → ℕ → Reason → ℕ → Type 0
@@ -228,4 +231,5 @@ unfoldable mutual
 -- where a trail stops since too many tables were opened, it opens as many as are allowed
 abbrev pub TablesRunOut : Type 0
 TablesRunOut =
-    (q : Question) (b : List ℕ) (s : Trail) (f : Fault) → IsTrail s q.checks b q.rows q.limits q.root (target b (base q.start)) (way_to_root q.root q.start q.ident) f → f.reason ≡ TooManyTables → (q.limits).tables ≤ opened_on s
+    (q : Question) (b : List ℕ) (s : Trail) (f : Fault) → IsTrail s q.checks b q.rows q.limits q.root (target b (base q.start)) (way_to_root q.root q.start q.ident) f
+    → f.reason ≡ TooManyTables → (q.limits).tables ≤ opened_on s

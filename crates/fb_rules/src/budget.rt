@@ -51,7 +51,8 @@ pub fn answer<'a>(
     tested: u64,
     at: u64,
 ) -> Result<(), Stop>
-    ensures { (b : List ℕ) (base : ℕ) (chain : Option Failure) (n : ℕ) → IsTested (record { bytes = b; count = loan.old.count; base = base }) reads.entry tested chain n failed → IsAskedAt site limits (record loan.old { bytes = b }) loan.new chain n at result }
+    ensures { (b : List ℕ) (base : ℕ) (chain : Option Failure) (n : ℕ) → IsTested (record { bytes = b; count = loan.old.count; base = base }) reads.entry tested chain n failed
+        → IsAskedAt site limits (record loan.old { bytes = b }) loan.new chain n at result }
 {
     loan.settle(reads);
     tell(site, failed, tested)?;

@@ -1,6 +1,7 @@
 //! Examples of the definitions: each is a clause of a function that does nothing.
 
-ghost use Rattle.fb_rules.specs.Examples.{MonsterUnfolds, OneMemberUnfolds, TwoMembersUnfold, EveryKindUnfolds, OpenNameStops, NoNameStops, ThreeValuesStop, CrookedStructStops, SeventhTableStops, ThirdLevelStops, OddVtableStops, ShortTableStops, FirstReadStops, LastTextStops, SeventhHeadStops, LastFieldStops, BudgetsByLength};
+ghost use Rattle.fb_rules.specs.Examples.{MonsterUnfolds, OneMemberUnfolds, TwoMembersUnfold, EveryKindUnfolds, OpenNameStops, NoNameStops, ThreeValuesStop, CrookedStructStops};
+ghost use Rattle.fb_rules.specs.Examples.{SeventhTableStops, ThirdLevelStops, OddVtableStops, ShortTableStops, FirstReadStops, LastTextStops, SeventhHeadStops, LastFieldStops, BudgetsByLength};
 
 /// Buffers with their trees, and the tables, depth and reads of these.
 #[tactic(auto, using(crate::proofs::Shown::shown), unfolding(crate::proofs::Shown::computing))]

@@ -1,6 +1,7 @@
 //! Laws of the definitions: each is the contract of a function that does nothing.
 
-ghost use Rattle.fb_rules.specs.Laws.{StartLaw, HeadLaw, OffsetLaw, StringLaw, VectorLaw, InlineLaw, FieldLaw, ElementLaw, IdentifierLaw, HasOneTree, StopsOnlyAtLimits, StopsOnce, LeadsOneWay, StopsNowhereWithin, CostIsBounded, ReadsAreBounded, HasOneVerdict, LengthAllows};
+ghost use Rattle.fb_rules.specs.Laws.{StartLaw, HeadLaw, OffsetLaw, StringLaw, VectorLaw, InlineLaw, FieldLaw, ElementLaw, IdentifierLaw, HasOneTree};
+ghost use Rattle.fb_rules.specs.Laws.{StopsOnlyAtLimits, StopsOnce, LeadsOneWay, StopsNowhereWithin, CostIsBounded, ReadsAreBounded, HasOneVerdict, LengthAllows};
 ghost use Rattle.fb_rules.specs.TrueReasons.{StopsTruly, TablesRunOut};
 
 /// The chain of an offset word's tests finds nothing exactly where the facts of one hold.

@@ -127,9 +127,12 @@ pub fn put_union(
     requires few { reads.old.count < reads.old.base + 2 ^ 58 }
     requires placed { IsPlaced checks reads.old.bytes table.at table.head at }
     requires rests { row.old.left ≡ 0 }
-    ensures tested { IsTested reads.old reads.new at (after (type_reads reads.old.bytes table.at slot) (union_field_failure checks reads.old.bytes table.at at (member_of schema.now union (type_of_slot reads.old.bytes table.at slot)))) (type_reads reads.old.bytes table.at slot) result }
+    ensures tested { IsTested reads.old reads.new at
+        (after (type_reads reads.old.bytes table.at slot) (union_field_failure checks reads.old.bytes table.at at (member_of schema.now union (type_of_slot reads.old.bytes table.at slot))))
+        (type_reads reads.old.bytes table.at slot) result }
     ensures one { result ≡ None → 0 < row.new.left → (row.new.left ≡ 1) × AreAll row.new.leads }
-    ensures leads { result ≡ None → LeavesRow reads.old.bytes schema.now (union_entry schema.now at (member_of schema.now union (type_of_slot reads.old.bytes table.at slot))) row.old row.new (nat_lt 0 row.new.left) }
+    ensures leads { result ≡ None → LeavesRow reads.old.bytes schema.now
+        (union_entry schema.now at (member_of schema.now union (type_of_slot reads.old.bytes table.at slot))) row.old row.new (nat_lt 0 row.new.left) }
 {
     schema.lawful();
     let value = type_of(reads, table, slot);
@@ -155,7 +158,9 @@ fn put_typed(
 ) -> Option<Reason>
     requires { IsTrue (has_slot reads.old.bytes table.at slot) × TypesFit reads.old.bytes table.at slot
         × (reads.old.count < reads.old.base + 2 ^ 58) × IsPlaced checks reads.old.bytes table.at table.head at.old }
-    ensures { IsTested reads.old reads.new at.new (after (types_reads reads.old.bytes table.at slot) (unions_field_failure checks reads.old.bytes table.at at.old (type_place reads.old.bytes table.at slot))) (types_reads reads.old.bytes table.at slot + 2) result
+    ensures { IsTested reads.old reads.new at.new
+        (after (types_reads reads.old.bytes table.at slot) (unions_field_failure checks reads.old.bytes table.at at.old (type_place reads.old.bytes table.at slot)))
+        (types_reads reads.old.bytes table.at slot + 2) result
         × (result ≡ None → PutsWords reads.old.bytes at.old (ByType union (types_begin reads.old.bytes (type_place reads.old.bytes table.at slot))) row.old row.new
         × (types_begin reads.old.bytes (type_place reads.old.bytes table.at slot) + word reads.old.bytes (target reads.old.bytes at.old) 4 ≤ length reads.old.bytes)
         × (types_begin reads.old.bytes (type_place reads.old.bytes table.at slot) + word reads.old.bytes (target reads.old.bytes at.old) 4 < 2 ^ 36)) }
@@ -194,7 +199,9 @@ pub fn put_unions(
     requires typed { TypesFit reads.old.bytes table.at slot }
     requires few { reads.old.count < reads.old.base + 2 ^ 58 }
     requires placed { IsPlaced checks reads.old.bytes table.at table.head at.old }
-    ensures tested { IsTested reads.old reads.new at.new (after (types_reads reads.old.bytes table.at slot) (unions_field_failure checks reads.old.bytes table.at at.old (type_place reads.old.bytes table.at slot))) (types_reads reads.old.bytes table.at slot + 2) result }
+    ensures tested { IsTested reads.old reads.new at.new
+        (after (types_reads reads.old.bytes table.at slot) (unions_field_failure checks reads.old.bytes table.at at.old (type_place reads.old.bytes table.at slot)))
+        (types_reads reads.old.bytes table.at slot + 2) result }
     ensures words { result ≡ None → PutsWords reads.old.bytes at.old (ByType union (types_begin reads.old.bytes (type_place reads.old.bytes table.at slot))) row.old row.new }
     ensures types { result ≡ None → types_begin reads.old.bytes (type_place reads.old.bytes table.at slot) + word reads.old.bytes (target reads.old.bytes at.old) 4 ≤ length reads.old.bytes }
     ensures types_near { result ≡ None → types_begin reads.old.bytes (type_place reads.old.bytes table.at slot) + word reads.old.bytes (target reads.old.bytes at.old) 4 < 2 ^ 36 }

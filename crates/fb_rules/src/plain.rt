@@ -400,7 +400,8 @@ pub fn test_lead(
 fn led_by(reads: &mut Reads<'_>, checks: Checks, at: &mut u64, referent: Referent) -> Option<Reason>
     requires { (reads.old.count < reads.old.base + 2 ^ 60) × (at.old < 2 ^ 35) × IsSized referent }
     ensures { (tested_by at.new reads.new.count result ≡ after reads.old.count (lead_failure checks reads.old.bytes at.old (lead_to referent)))
-        × (result ≡ None → ((object : ℕ) → referent ≡ ATable object → (at.new ≡ target reads.old.bytes at.old) × (at.new < 2 ^ 33)) × (reads.new.count ≡ reads.old.count + lead_reads (lead_to referent)))
+        × (result ≡ None → ((object : ℕ) → referent ≡ ATable object → (at.new ≡ target reads.old.bytes at.old) × (at.new < 2 ^ 33))
+        × (reads.new.count ≡ reads.old.count + lead_reads (lead_to referent)))
         × (reads.new.bytes ≡ reads.old.bytes) × (reads.new.base ≡ reads.old.base) }
 {
     match referent {

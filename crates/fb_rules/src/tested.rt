@@ -1,7 +1,8 @@
 //! Examples of the tests, each of which is asked of bytes that pass it, or fail it, beside the tests around it: each
 //! is a clause of a function that does nothing.
 
-ghost use Rattle.fb_rules.specs.Tests.{PrefixTests, IdentifierTests, OffsetTests, StartTests, HeadTests, StringTests, VectorTests, InlineTests, FieldTests, UnionTests, VectorFieldTests, UnionsFieldTests, ElementTests, LimitTests};
+ghost use Rattle.fb_rules.specs.Tests.{PrefixTests, IdentifierTests, OffsetTests, StartTests, HeadTests, StringTests, VectorTests};
+ghost use Rattle.fb_rules.specs.Tests.{InlineTests, FieldTests, UnionTests, VectorFieldTests, UnionsFieldTests, ElementTests, LimitTests};
 
 /// The start of a buffer: prefix, identifier, root offset, and their order.
 #[tactic(auto, unfolding(crate::proofs::Shown::computing))]

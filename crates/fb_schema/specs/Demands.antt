@@ -1,5 +1,6 @@
 -- What is demanded of rows, each demand with its key, and the first that isn't met.
-use Rattle.std.specs.Prelude.{◌≡◌, ℕ, zero, suc, ◌+◌, ◌%◌, ◌<◌, ◌⊎◌, ℤ, pos, negsuc, ◌+ℤ◌, ◌*ℤ◌, int_lt, Bool, true, false, not, ◌&&◌, ◌||◌, ◌==◌, nat_lt, if◌then◌else◌, List, [], ◌∷◌, take, slice_get, Option, Some, None, is_none, bytes_eq}
+use Rattle.std.specs.Prelude.{◌≡◌, ℕ, zero, suc, ◌+◌, ◌%◌, ◌<◌, ◌⊎◌, ℤ, pos, negsuc, ◌+ℤ◌, ◌*ℤ◌, int_lt, Bool, true, false, not, ◌&&◌, ◌||◌}
+use Rattle.std.specs.Prelude.{◌==◌, nat_lt, if◌then◌else◌, List, [], ◌∷◌, take, slice_get, Option, Some, None, is_none, bytes_eq}
 use Rattle.std.specs.{List.list_any, Ordering.int_eq}
 use Rattle.fb_schema.specs.declared.{rows.TypeRow.TypeRow, kinds.Scalar.TheVariants.UType, kinds.Element.Element, kinds.Shape.Shape}
 use Rattle.fb_schema.specs.declared.kinds.Shape.TheVariants.{One, Vector, Array}
@@ -199,7 +200,8 @@ demands_of_struct_field rows bytesize fields p (Some f) = struct_field_demands r
 -- of the field at p of a table
 abbrev pub demands_of_table_field : Rows → List Field → ℕ → Option Field → List Demand
 demands_of_table_field rows fields p None = []
-demands_of_table_field rows fields p (Some f) = table_field_demands rows f (stands_before same_field_name fields p f) (stands_before same_slot fields p f) (stands_below ForUnion fields f.slot) (stands_below ForUnions fields f.slot)
+demands_of_table_field rows fields p (Some f) = table_field_demands rows f (stands_before same_field_name fields p f)
+    (stands_before same_slot fields p f) (stands_below ForUnion fields f.slot) (stands_below ForUnions fields f.slot)
 
 -- of the field at p of an object
 abbrev pub demands_of_field : Rows → Object → ℕ → List Demand

@@ -131,7 +131,8 @@ pub record ObjectNames : Type 0 where
 -- no two fields of a struct have one name
 pub record StructFieldNames : Type 0 where
   pub twice : IsRefused (struct_with (plain_field (codes "x") 0 int ∷ plain_field (codes "y") 4 int ∷ plain_field (codes "x") 8 int ∷ [])) NameTwice 0 (Some 2)
-  pub of_two_structs : IsLegal (with_objects (struct_of (codes "S") (pos 4) (pos 4) (plain_field (codes "x") 0 int ∷ []) ∷ struct_of (codes "W") (pos 4) (pos 4) (plain_field (codes "x") 0 int ∷ []) ∷ []))
+  pub of_two_structs : IsLegal (with_objects
+      (struct_of (codes "S") (pos 4) (pos 4) (plain_field (codes "x") 0 int ∷ []) ∷ struct_of (codes "W") (pos 4) (pos 4) (plain_field (codes "x") 0 int ∷ []) ∷ []))
   pub before_the_type : IsRefused (struct_with (plain_field (codes "x") 0 int ∷ plain_field (codes "x") 4 text ∷ [])) NameTwice 0 (Some 1)
 
 -- it is a scalar, an object, or an array of these, also where it is deprecated
@@ -198,7 +199,8 @@ pub record TableFieldTypes : Type 0 where
   pub past_the_last : IsRefused (in_table 4 (type_of_one (pos 18))) Unsupported 0 (Some 0)
   pub vectors : IsRefused (in_table 4 (type_of_vector (pos 14))) Unsupported 0 (Some 0)
   pub a_far_text : IsRefused (table_with (far 4 text ∷ [])) Unsupported 0 (Some 0)
-  pub deprecated : IsLegal (table_with (unused (codes "x") 4 (type_of_one (pos 18)) ∷ record (far 6 (object (pos 3))) { deprecated = true; name = codes "y" } ∷ unused (codes "z") 8 (union (pos 2)) ∷ []))
+  pub deprecated : IsLegal (table_with
+      (unused (codes "x") 4 (type_of_one (pos 18)) ∷ record (far 6 (object (pos 3))) { deprecated = true; name = codes "y" } ∷ unused (codes "z") 8 (union (pos 2)) ∷ []))
   pub before_its_object : IsRefused (table_with (far 4 (object (pos 3)) ∷ [])) Unsupported 0 (Some 0)
   pub before_its_union : IsRefused (table_with (far 4 (union (pos 2)) ∷ [])) Unsupported 0 (Some 0)
 
@@ -242,7 +244,11 @@ pub record MemberValues : Type 0 where
   pub too_high : IsRefused (in_union (pos 256) text) BadMember 0 (Some 0)
   pub taken : IsRefused (union_with (plain_member (codes "x") (pos 1) text ∷ plain_member (codes "y") (pos 1) text ∷ [])) BadMember 0 (Some 1)
   pub no_value_twice : IsRefused (union_with (plain_member (codes "x") (pos 0) text ∷ plain_member (codes "y") (pos 0) text ∷ [])) BadMember 0 (Some 1)
-  pub of_an_enum : IsLegal (record { objects = []; enums = enum_of_values (codes "E") (plain_member (codes "x") (pos 256) (type_of_one (pos 0)) ∷ plain_member (codes "x") (pos 256) (object (pos 3)) ∷ []) ∷ [] })
+  pub of_an_enum : IsLegal (record {
+    objects = [];
+    enums = enum_of_values (codes "E")
+        (plain_member (codes "x") (pos 256) (type_of_one (pos 0)) ∷ plain_member (codes "x") (pos 256) (object (pos 3)) ∷ []) ∷ [];
+  })
   pub before_the_name : IsRefused (union_with (plain_member (codes "x") (pos 1) text ∷ plain_member (codes "x") (pos 1) text ∷ [])) BadMember 0 (Some 1)
 
 -- then, unless its value is 0: no earlier one with a value other than 0 has its name, it is an object that is there,
@@ -270,8 +276,13 @@ pub record Firsts : Type 0 where
   pub nothing_at_all : IsLegal (with_objects [])
   pub object_before_enum : IsRefused (record { objects = a_table ∷ a_table ∷ []; enums = union_of (codes "U") (plain_member (codes "x") (pos 256) text ∷ []) ∷ [] }) NameTwice 1 None
   pub lower_object : IsRefused (with_objects (plain_table (codes "A") (plain_field (codes "x") 5 int ∷ []) ∷ a_table ∷ [])) BadSlot 0 (Some 0)
-  pub lower_enum : IsRefused (record { objects = []; enums = union_of (codes "U") (plain_member (codes "x") (pos 1) text ∷ []) ∷ union_of (codes "V") (plain_member (codes "x") (pos 1) int ∷ []) ∷ union_of (codes "W") (plain_member (codes "x") (pos 256) text ∷ []) ∷ [] }) BadMember 1 (Some 0)
+  pub lower_enum : IsRefused (record {
+    objects = [];
+    enums = union_of (codes "U") (plain_member (codes "x") (pos 1) text ∷ []) ∷ union_of (codes "V")
+        (plain_member (codes "x") (pos 1) int ∷ []) ∷ union_of (codes "W") (plain_member (codes "x") (pos 256) text ∷ []) ∷ [];
+  }) BadMember 1 (Some 0)
   pub object_before_field : IsRefused (with_objects (struct_of (codes "S") (pos 0) (pos 1) (plain_field (codes "x") 0 text ∷ []) ∷ [])) BadStruct 0 None
   pub lower_field : IsRefused (table_with (plain_field (codes "x") 4 int ∷ plain_field (codes "y") 6 (object (pos 3)) ∷ plain_field (codes "x") 8 int ∷ [])) NoSuchObject 0 (Some 1)
   pub lower_field_of_a_struct : IsRefused (struct_with (plain_field (codes "x") 0 int ∷ plain_field (codes "y") 14 int ∷ plain_field (codes "x") 4 int ∷ [])) BadStruct 0 (Some 1)
-  pub lower_member : IsRefused (union_with (plain_member (codes "x") (pos 1) text ∷ plain_member (codes "y") (pos 2) (object (pos 2)) ∷ plain_member (codes "z") (pos 1) text ∷ [])) NoSuchObject 0 (Some 1)
+  pub lower_member : IsRefused (union_with
+      (plain_member (codes "x") (pos 1) text ∷ plain_member (codes "y") (pos 2) (object (pos 2)) ∷ plain_member (codes "z") (pos 1) text ∷ [])) NoSuchObject 0 (Some 1)

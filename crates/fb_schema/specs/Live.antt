@@ -1,5 +1,6 @@
 -- The live fields of a table in rising slot, with what a reader of buffers needs.
-use Rattle.std.specs.Prelude.{◌≡◌, ◌<◌, ◌≤◌, slice_index_or, ℕ, ◌+◌, ◌*◌, ◌-◌, ◌/◌, ℤ, Bool, not, nat_le, ◌==◌, if◌then◌else◌, List, [], ◌∷◌, filter, length, drop, max, position, slice_get, Option, Some, None, IsSome, option_map, filter_map, bytes_eq}
+use Rattle.std.specs.Prelude.{◌≡◌, ◌<◌, ◌≤◌, slice_index_or, ℕ, ◌+◌, ◌*◌, ◌-◌, ◌/◌, ℤ, Bool, not, nat_le, ◌==◌, if◌then◌else◌, List, [], ◌∷◌}
+use Rattle.std.specs.Prelude.{filter, length, drop, max, position, slice_get, Option, Some, None, IsSome, option_map, filter_map, bytes_eq}
 use Rattle.fb_schema.specs.declared.{kinds.Kind.Kind, kinds.Kind.TheVariants.Union, kinds.Kind.TheVariants.Unions, views.FieldView.FieldView}
 use Rattle.fb_schema.specs.declared.rows.FieldRow.{FieldRow}
 use Rattle.fb_schema.specs.{Rows.Field, Rows.Object, Rows.Rows, Kinds.kind_of, Kinds.kind_size, Kinds.kind_align}
@@ -19,7 +20,18 @@ pub record Live : Type 0 where
 
 -- a field's view without where its name lies in memory
 abbrev pub live_of_view : FieldView → Live
-live_of_view f = record { number = f.number; slot = f.slot; name = f.name.now; kind = f.kind; default = f.default; required = f.required; optional = f.optional; size = f.size; align = f.align; companion = f.companion }
+live_of_view f = record {
+  number = f.number;
+  slot = f.slot;
+  name = f.name.now;
+  kind = f.kind;
+  default = f.default;
+  required = f.required;
+  optional = f.optional;
+  size = f.size;
+  align = f.align;
+  companion = f.companion;
+}
 
 -- a field of a table is live unless it is deprecated
 abbrev pub is_live : Field → Bool

@@ -61,4 +61,5 @@ pub record AreTypeSlots (wanted : TypeField) (fields : List Field) (slots : List
 
 -- a place of a key like this one, or no key is like it
 abbrev pub IsPlaceOf : {K : Type 0} → (K → K → Ordering) → List K → K → Option ℕ → Type 0
-IsPlaceOf {K} R keys key place = MatchOption place ((k : ℕ) (d : K) → k < length keys → R (slice_index_or keys k d) key ≡ Equal → ⊥) (λ k. (k < length keys) × ((d : K) → R (slice_index_or keys k d) key ≡ Equal))
+IsPlaceOf {K} R keys key place = MatchOption place ((k : ℕ) (d : K) → k < length keys → R (slice_index_or keys k d) key ≡ Equal → ⊥)
+    (λ k. (k < length keys) × ((d : K) → R (slice_index_or keys k d) key ≡ Equal))

@@ -1,5 +1,6 @@
 -- What the offset words of a union lead to, found by their types.
-use Rattle.std.specs.Prelude.{◌≡◌, ℕ, zero, suc, ℤ, pos, ◌+◌, ◌<◌, ◌≤◌, ◌==◌, nat_lt, min, if◌then◌else◌, true, List, [], map, filter, find, length, slice_get, slice_index_or, Option, Some, None, option_and_then}
+use Rattle.std.specs.Prelude.{◌≡◌, ℕ, zero, suc, ℤ, pos, ◌+◌, ◌<◌, ◌≤◌, ◌==◌, nat_lt, min, if◌then◌else◌, true, List, [], map}
+use Rattle.std.specs.Prelude.{filter, find, length, slice_get, slice_index_or, Option, Some, None, option_and_then}
 use Rattle.std.specs.Ordering.{int_eq, int_cmp}
 use Rattle.fb_schema.specs.declared.{kinds.Kind.Kind, flat.EnumPart.EnumPart, rows.MemberRow.MemberRow, views.Goal.Goal, views.Target.Target}
 use Rattle.fb_schema.specs.declared.kinds.Kind.TheVariants.{Scalar, Text, Struct, Table, Union, Scalars, Texts, Structs, Tables, Unions}
@@ -74,7 +75,8 @@ pub record LeadBelow (wanted : ℕ → Target) (bound : ℕ) (places : List ℕ)
 pub record HaveTargets (rows : Rows) (members : List MemberRow) (enums : List EnumPart) (places : List (List ℕ)) (targets : List (List Target)) : Type 0 where
   pub long_places : length places ≡ length enums
   pub long_targets : length targets ≡ length enums
-  pub at : (n : ℕ) (row : EnumPart) → slice_get enums n ≡ Some row → row.is_union ≡ true → AreTargets rows (map member_of_row (part members row.members)) (slice_index_or places n []) (slice_index_or targets n [])
+  pub at : (n : ℕ) (row : EnumPart) → slice_get enums n ≡ Some row → row.is_union ≡ true
+      → AreTargets rows (map member_of_row (part members row.members)) (slice_index_or places n []) (slice_index_or targets n [])
 
 -- the values of members that break no demand in order, and their kinds
 pub record AreSorted (rows : Rows) (members : List MemberRow) (values : List (ℤ × ℕ)) (kinds : List (Option Kind)) : Type 0 where

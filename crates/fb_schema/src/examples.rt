@@ -1,6 +1,7 @@
 //! Examples of the definitions: each is a clause of a function that does nothing.
 
-ghost use Rattle.fb_schema.specs.Examples.{StructHeads, ObjectNames, StructFieldNames, StructFieldTypes, StructFieldObjects, StructFieldEnds, Slots, TableFieldTypes, TableFieldObjects, TypeFields, MemberValues, MemberTypes, Firsts};
+ghost use Rattle.fb_schema.specs.Examples.{StructHeads, ObjectNames, StructFieldNames, StructFieldTypes, StructFieldObjects, StructFieldEnds};
+ghost use Rattle.fb_schema.specs.Examples.{Slots, TableFieldTypes, TableFieldObjects, TypeFields, MemberValues, MemberTypes, Firsts};
 ghost use Rattle.fb_schema.specs.LookUps.{ScalarFields, KindFields, UnionMembers};
 
 /// Objects that are legal, and others that aren't.

@@ -92,7 +92,8 @@ impl<'n, A: Allocator + Copy> LiveIndex<'n, A> {
     /// Adds what is kept of an object with these live fields, behind those before it.
     fn push(&mut self, alloc: A, fields: &[FieldView<'n>]) -> Result<(), AllocError>
         requires { length fields.now ≤ 32766 }
-        ensures { (rows : Rows) (all : List Object) (o : Object) → IsLiveIndex rows all self.old → map live_of_view fields.now ≡ live_in rows (Some o) → length fields.now ≡ length (live_rows o) → OnOk result (IsLiveIndex rows (all ++ o ∷ []) self.new) }
+        ensures { (rows : Rows) (all : List Object) (o : Object) → IsLiveIndex rows all self.old → map live_of_view fields.now ≡ live_in rows (Some o)
+            → length fields.now ≡ length (live_rows o) → OnOk result (IsLiveIndex rows (all ++ o ∷ []) self.new) }
     {
         self.widest = self.widest.max(fields.len() as u32);
         self.plain.push(are_plain(fields))?;
@@ -137,7 +138,8 @@ fn member_targets<A: Allocator + Copy>(
     members: &[MemberRow],
 ) -> Result<ByValue<A>, AllocError>
     requires { length members.now < 2 ^ 31 }
-    ensures { IfOk result (λ found. is_union ≡ true → ((q : ℕ) → first_code (members_asked (borrowed_rows rows.now) (map member_of_row members.now) q) ≡ None) → AreTargets (borrowed_rows rows.now) (map member_of_row members.now) found.places.items found.targets.items) }
+    ensures { IfOk result (λ found. is_union ≡ true → ((q : ℕ) → first_code (members_asked (borrowed_rows rows.now) (map member_of_row members.now) q) ≡ None)
+        → AreTargets (borrowed_rows rows.now) (map member_of_row members.now) found.places.items found.targets.items) }
 {
     let kinds = member_kinds(alloc, rows, members)?;
     let values = in_order(alloc, members)?;

@@ -138,7 +138,8 @@ fn add_target<A: Allocator>(
     places: &mut Vec<u8, A>,
     targets: &mut Vec<Target, A>,
 ) -> Result<(), AllocError>
-    ensures { (wanted : ℕ → Target) → wanted value ≡ target_of (borrowed_rows rows.now) kind → LeadBelow wanted value places.old.items targets.old.items → OnOk result (LeadBelow wanted (value + 1) places.new.items targets.new.items) }
+    ensures { (wanted : ℕ → Target) → wanted value ≡ target_of (borrowed_rows rows.now) kind → LeadBelow wanted value places.old.items targets.old.items
+        → OnOk result (LeadBelow wanted (value + 1) places.new.items targets.new.items) }
 {
     if let Some(kind) = kind {
         places.push(value)?;
@@ -174,7 +175,8 @@ pub fn put_targets<A: Allocator>(
 ) -> Result<(), AllocError>
     requires places { places.old.items ≡ [] }
     requires targets { targets.old.items ≡ [] }
-    ensures { OnOk result ((members : List MemberRow) → AreSorted (borrowed_rows rows.now) members values.now kinds.now → AreTargets (borrowed_rows rows.now) (map member_of_row members) places.new.items targets.new.items) }
+    ensures { OnOk result ((members : List MemberRow) → AreSorted (borrowed_rows rows.now) members values.now kinds.now
+        → AreTargets (borrowed_rows rows.now) (map member_of_row members) places.new.items targets.new.items) }
 {
     put_none(values, places, targets)?;
     for value in 1..256usize {

@@ -8,13 +8,15 @@ use Rattle.fb_rules.specs.declared.offset_row.Referent.TheVariants.{Text as ATex
 use Rattle.fb_schema.specs.{Rows.Rows, Live.Live, Live.live_fields, Members.member_of}
 use Rattle.fb_bytes.specs.Word.{word}
 use Rattle.fb_rules.specs.declared.{checks.Checks.Checks, fault.Fault.Fault, link.Link.Link}
-use Rattle.fb_rules.specs.{Bounds.Bounds, Bounds.AreAllowed, Places.target, Places.field_place, Places.vtable, Fields.type_place, Fields.types_begin, Fields.union_type, OffsetRows.leads_after, Unfolds.Unfolds}
+use Rattle.fb_rules.specs.{Bounds.Bounds, Bounds.AreAllowed, Places.target, Places.field_place, Places.vtable}
+use Rattle.fb_rules.specs.{Fields.type_place, Fields.types_begin, Fields.union_type, OffsetRows.leads_after, Unfolds.Unfolds}
 use Rattle.fb_rules.specs.{Links.field_link, Links.element_link}
 use Rattle.fb_rules.specs.{Cost.head_reads, Cost.slot_reads, Cost.reads_if_present, Order.Failure, Order.after, Order.◌▷◌, Stops.reads_failure}
 use Rattle.fb_rules.specs.Tree.{Tree, node, Kids, no_kids, kid, Elements, no_elements, element, Element, leaf, table}
 use Rattle.fb_strict.specs.declared.inner.Inner.{Inner}
 use Rattle.fb_strict.specs.{Strict.slot_count, Strict.IsStrictBuffer, Skipped.Wants, Skipped.is_kind_asked, Skipped.IsClosed, Planned.task_of}
-use Rattle.fb_strict.specs.InOrder.{where_asked, bytes_failure, bytes_reads, bytes_inner, length_failure, places_reads, union_failure, union_reads, together_failure, element_failure, element_reads, text_failure, text_reads, slot_failure}
+use Rattle.fb_strict.specs.InOrder.{where_asked, bytes_failure, bytes_reads, bytes_inner, length_failure, places_reads, union_failure}
+use Rattle.fb_strict.specs.InOrder.{union_reads, together_failure, element_failure, element_reads, text_failure, text_reads, slot_failure}
 use Rattle.fb_strict.specs.Demanded.{Demanded, held_of}
 use Rattle.fb_strict.specs.declared.tasks.Held.{Held}
 

@@ -172,7 +172,8 @@ abbrev pub holder : ℕ → ℕ → List ℕ
 holder first second = 12 ∷ 0 ∷ 0 ∷ 0 ∷ 8 ∷ 0 ∷ 8 ∷ 0 ∷ first ∷ 0 ∷ second ∷ 0 ∷ 8 ∷ 0 ∷ 0 ∷ 0 ∷ 4 ∷ 0 ∷ 0 ∷ 0 ∷ 2 ∷ 0 ∷ 0 ∷ 0 ∷ 7 ∷ 9 ∷ []
 
 abbrev pub inners_of : List ℕ → List (Option Inner)
-inners_of b = map (λ (d : Demand). d.inner) (demands_of (record { demands = holding; asks = reaches_demand 1 holding holders }) published_checks b holders 0 (node 0 12 (kid no_elements (kid no_elements no_kids))))
+inners_of b = map (λ (d : Demand). d.inner)
+    (demands_of (record { demands = holding; asks = reaches_demand 1 holding holders }) published_checks b holders 0 (node 0 12 (kid no_elements (kid no_elements no_kids))))
 
 pub record HeldRows : Type 0 where
   pub held : map (held_of holding 0) (live_fields holders 0) ≡ Some (Buffer 0) ∷ Some Flex ∷ []

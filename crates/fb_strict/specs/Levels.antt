@@ -11,11 +11,13 @@ use Rattle.std.specs.List.{sum_by}
 use Rattle.fb_schema.specs.Rows.{is_table}
 use Rattle.fb_schema.specs.Live.{widest}
 use Rattle.fb_verify.specs.Stack.{last_link, links_left}
-use Rattle.fb_strict.specs.declared.{inner.Inner.Inner, room.Frame.Frame, levels.Level.Level, levels.Unmet.Unmet, levels.Missed.Missed, levels.Rest.Rest, levels.Rest.TheVariants.Tables, levels.Rest.TheVariants.Walked}
+use Rattle.fb_strict.specs.declared.{inner.Inner.Inner, room.Frame.Frame, levels.Level.Level, levels.Unmet.Unmet}
+use Rattle.fb_strict.specs.declared.{levels.Missed.Missed, levels.Rest.Rest, levels.Rest.TheVariants.Tables, levels.Rest.TheVariants.Walked}
 use Rattle.fb_strict.specs.Planned.{Planned, IsPlan}
 use Rattle.fb_strict.specs.Asked.{Demand, demands_of, demands_reads}
 use Rattle.fb_strict.specs.Passing.{Passing, wants_of, AreLeft, GoesOn, Halts, Moves, Breaks, IsInner, frame_links, AreLinked}
-use Rattle.fb_strict.specs.Nested.{Refused, spent_alone, place_in, and_reads, IsEntered, Course, ComeTo, EndsWith, IsWalked, asked_of, question_inside, later, and_walk, bytes_inside, open_at, limits_left, limits_inside}
+use Rattle.fb_strict.specs.Nested.{Refused, spent_alone, place_in, and_reads, IsEntered, Course, ComeTo, EndsWith, IsWalked}
+use Rattle.fb_strict.specs.Nested.{asked_of, question_inside, later, and_walk, bytes_inside, open_at, limits_left, limits_inside}
 
 -- an open buffer: how many tables are open above its root, its bytes, where they begin in the whole, the links that
 -- lead to it, and what is left to be asked of it

@@ -116,13 +116,15 @@ ComeTo (into y c) p q above b spent [] end = ⊥
 ComeTo (into y c) p q above b spent (d ∷ ds) end =
     (i : Inner) × IsEntered q.limits spent d i × IsWalked q b i (open_at above d) (and_reads spent d.reads) y
     × (e : Refused)
-    × ComeTo c p q (open_at above d) (bytes_inside b i) (and_walk (and_reads spent d.reads) (question_inside q i) (bytes_inside b i) (open_at above d) y) (asked_of p (question_inside q i) (bytes_inside b i) y) (Err e)
+    × ComeTo c p q (open_at above d) (bytes_inside b i) (and_walk (and_reads spent d.reads) (question_inside q i) (bytes_inside b i) (open_at above d) y)
+    (asked_of p (question_inside q i) (bytes_inside b i) y) (Err e)
     × (end ≡ Err (outward d i e))
 ComeTo (through y c on) p q above b spent [] end = ⊥
 ComeTo (through y c on) p q above b spent (d ∷ ds) end =
     (i : Inner) × IsEntered q.limits spent d i × IsWalked q b i (open_at above d) (and_reads spent d.reads) y
     × (mid : Report)
-    × ComeTo c p q (open_at above d) (bytes_inside b i) (and_walk (and_reads spent d.reads) (question_inside q i) (bytes_inside b i) (open_at above d) y) (asked_of p (question_inside q i) (bytes_inside b i) y) (Ok mid)
+    × ComeTo c p q (open_at above d) (bytes_inside b i) (and_walk (and_reads spent d.reads) (question_inside q i) (bytes_inside b i) (open_at above d) y)
+    (asked_of p (question_inside q i) (bytes_inside b i) y) (Ok mid)
     × ComeTo on p q above b mid ds end
 
 -- those of a whole buffer, which is well formed with this tree, come to this
@@ -136,7 +138,8 @@ pub record EndsWith (p : Planned) (q : Question) (b : List ℕ) (end : Result Re
 -- whatever they come to, it is one
 abbrev pub ComeToOneEnd : Type 0
 ComeToOneEnd =
-    (p : Planned) (q : Question) (above : ℕ) (b : List ℕ) (spent : Report) (ds : List Demand) (c e : Course) (x y : Result Report Refused) → ComeTo c p q above b spent ds x → ComeTo e p q above b spent ds y → x ≡ y
+    (p : Planned) (q : Question) (above : ℕ) (b : List ℕ) (spent : Report) (ds : List Demand) (c e : Course) (x y : Result Report Refused)
+    → ComeTo c p q above b spent ds x → ComeTo e p q above b spent ds y → x ≡ y
 
 -- where no demand has a buffer inside, they come to the first that isn't met, as a pass over one buffer tells it
 abbrev pub end_by : Report → (reads : ℕ) → List Link → Option Fault → Result Report Refused
@@ -160,7 +163,8 @@ IsBad p q b f = (links : List Link) × EndsWith p q b (Err (record { fault = f; 
 -- and so is each that is inside, by itself
 abbrev pub GoodInside : Type 0
 GoodInside =
-    (p : Planned) (q : Question) (b : List ℕ) (r : Report) (y : Tree) (n : ℕ) (d : Demand) (i : Inner) → IsGood p q b r → IsWellFormed q b y → slice_get (asked_of p q b y) n ≡ Some d → d.inner ≡ Some i
+    (p : Planned) (q : Question) (b : List ℕ) (r : Report) (y : Tree) (n : ℕ) (d : Demand) (i : Inner) → IsGood p q b r
+    → IsWellFormed q b y → slice_get (asked_of p q b y) n ≡ Some d → d.inner ≡ Some i
     → (own : Report) × IsGood p (question_inside q i) (bytes_inside b i) own
 
 -- and its tree is strict

@@ -1,5 +1,6 @@
 -- A pass over a buffer that unfolds: what is left to be asked, as the frames of the open tables hold it.
-use Rattle.std.specs.Prelude.{◌≡◌, ◌⊎◌, ℕ, zero, suc, ◌+◌, ◌-◌, ◌*◌, ◌^◌, ◌<◌, ◌≤◌, nat_le, IsTrue, true, max, List, [], ◌∷◌, ◌++◌, length, map, take, drop, get_or, slice_get, Option, Some, None, Result, Ok, Err, IfOk}
+use Rattle.std.specs.Prelude.{◌≡◌, ◌⊎◌, ℕ, zero, suc, ◌+◌, ◌-◌, ◌*◌, ◌^◌, ◌<◌, ◌≤◌, nat_le, IsTrue, true, max, List, [], ◌∷◌}
+use Rattle.std.specs.Prelude.{◌++◌, length, map, take, drop, get_or, slice_get, Option, Some, None, Result, Ok, Err, IfOk}
 use Rattle.fb_bytes.specs.Word.{Lent, word}
 use Rattle.fb_schema.specs.{Rows.Rows, Rows.is_table, Rows.is_union, Live.Live, Live.live_fields, Served.IsServed, Served.IsSized, Served.KindHolds}
 use Rattle.fb_rules.specs.declared.{checks.Checks.Checks, fault.Fault.Fault, site.Site.Site, site.Stop.Stop, site.Halt.Halt, table.Table.Table, table.Child.Child}
@@ -7,16 +8,20 @@ use Rattle.fb_rules.specs.declared.{site.LastLink.LastLink, site.LastLink.TheVar
 use Rattle.fb_rules.specs.declared.{offset_row.Referent.Referent, offset_row.Row.Row, offset_row.Leads.Leads, offset_row.Leads.TheVariants.All, offset_row.Leads.TheVariants.ByType}
 use Rattle.fb_rules.specs.declared.offset_row.Referent.TheVariants.{Text as AText, Table as ATable, Nothing}
 use Rattle.fb_rules.specs.{Bounds.Bounds, Bounds.AreAllowed, Bounds.allowed, Places.target, Places.field_place, Fields.IsField, Fields.type_place, Fields.types_begin, Fields.union_type}
-use Rattle.fb_rules.specs.{Cost.head_reads, Cost.slot_reads, Cost.reads_if_present, Order.Failure, Order.after, Order.◌▷◌, Stops.reads_failure, Told.IsHead, Told.IsAskedAt, Told.told, Told.stopped, OffsetRows.words_of, OffsetRows.past_first, OffsetRows.IsTyped, OffsetRows.TypeFits, OffsetRows.TypesFit}
+use Rattle.fb_rules.specs.{Cost.head_reads, Cost.slot_reads, Cost.reads_if_present, Order.Failure, Order.after, Order.◌▷◌, Stops.reads_failure, Told.IsHead}
+use Rattle.fb_rules.specs.{Told.IsAskedAt, Told.told, Told.stopped, OffsetRows.words_of, OffsetRows.past_first, OffsetRows.IsTyped, OffsetRows.TypeFits, OffsetRows.TypesFit}
 use Rattle.fb_rules.specs.Tree.{Tree, Kids, kids_depth, Elements, elements_depth, depth}
 use Rattle.fb_rules.specs.Unfolds.{FieldsUnfold, ElementsUnfold, Unfolds}
 use Rattle.fb_verify.specs.Stack.{own_link, last_link, links_left}
-use Rattle.fb_strict.specs.declared.{inner.Inner.Inner, room.Frame.Frame, tasks.Ask.Ask, tasks.Task.Task, pass.Turn.Turn, pass.Turned.Turned, pass.Turn.TheVariants.Here, pass.Turn.TheVariants.Up, pass.Turn.TheVariants.Down, pass.Turn.TheVariants.In, pass.Turned.TheVariants.Open, pass.Turned.TheVariants.Inside}
+use Rattle.fb_strict.specs.declared.{inner.Inner.Inner, room.Frame.Frame, tasks.Ask.Ask, tasks.Task.Task, pass.Turn.Turn, pass.Turned.Turned, pass.Turn.TheVariants.Here}
+use Rattle.fb_strict.specs.declared.{pass.Turn.TheVariants.Up, pass.Turn.TheVariants.Down, pass.Turn.TheVariants.In, pass.Turned.TheVariants.Open, pass.Turned.TheVariants.Inside}
 use Rattle.fb_strict.specs.declared.tasks.Held.TheVariants.{Buffer, Flex}
 use Rattle.fb_strict.specs.declared.tasks.Ask.TheVariants.{Text as AskText, Texts as AskTexts, Union as AskUnion, Unions as AskUnions, Table as GoInto, Tables as GoIntoEach, Bytes as AskBytes}
 use Rattle.fb_strict.specs.{Planned.Planned, Planned.IsPlan, Planned.task_of, Planned.tasks_in, Skipped.Wants, Planned.wants_in}
-use Rattle.fb_strict.specs.InOrder.{where_asked, places_reads, union_failure, union_reads, together_failure, bytes_failure, bytes_reads, bytes_inner, element_failure, element_reads, member_at, text_failure, text_reads}
-use Rattle.fb_strict.specs.Asked.{Demand, reading, slots_demands, asked_referent, first_referent, vectors_reads, demands_in_fields, demands_in_row, demands_in, ArePlain, demands_reads, demand_fault, first_fault}
+use Rattle.fb_strict.specs.InOrder.{where_asked, places_reads, union_failure, union_reads, together_failure, bytes_failure}
+use Rattle.fb_strict.specs.InOrder.{bytes_reads, bytes_inner, element_failure, element_reads, member_at, text_failure, text_reads}
+use Rattle.fb_strict.specs.Asked.{Demand, reading, slots_demands, asked_referent, first_referent, vectors_reads}
+use Rattle.fb_strict.specs.Asked.{demands_in_fields, demands_in_row, demands_in, ArePlain, demands_reads, demand_fault, first_fault}
 use Rattle.fb_strict.specs.Demanded.{Demanded}
 
 -- what a pass carries: its plan, the rows, its limits and checks
@@ -243,7 +248,8 @@ pub record IsLeft (p : Passing) (b : List ℕ) (room : ℕ) (via : List Link) (f
 -- the first so many of these frames stand for these demands, the last of them first, and each but that has its link
 unfoldable pub AreLeft : Passing → List ℕ → List Frame → ℕ → List Demand → Type 0
 AreLeft p b frames zero ds = ds ≡ []
-AreLeft p b frames (suc n) ds = (own : List Demand) × (others : List Demand) × IsLeft p b (length frames - n) (frame_links (wants_of p) b p.rows frames n) (get_or frames n blank) own × AreLeft p b frames n others × (ds ≡ own ++ others) × AreLinked (wants_of p) p.checks b p.rows frames n
+AreLeft p b frames (suc n) ds = (own : List Demand) × (others : List Demand) × IsLeft p b (length frames - n) (frame_links (wants_of p) b p.rows frames n) (get_or frames n blank) own
+    × AreLeft p b frames n others × (ds ≡ own ++ others) × AreLinked (wants_of p) p.checks b p.rows frames n
 
 -- a pass goes on from these demands after so many reads to those after so many: it met those before them, none of which
 -- has a buffer inside
@@ -284,7 +290,8 @@ pub record IsNext (p : Passing) (b : List ℕ) (room : ℕ) (via : List Link) (c
 
 -- a task of the table at t was done: its demand is met, and the words of its field were put; or the pass stops
 pub record TaskPassed {A : Type 0} (p : Passing) (m new : Lent) (t : ℕ) (site : Site) (slot : ℕ) (ask : Ask) (old past : Row) (result : Result A Stop) : Type 0 where
-  pub asked : IsAskedAt site p.limits m new (task_failure (p.plan).demands p.checks m.bytes p.rows t slot (type_place m.bytes t slot) (field_place m.bytes t slot) ask) (task_reads (p.plan).demands m.bytes p.rows t slot (type_place m.bytes t slot) (field_place m.bytes t slot) ask) t result
+  pub asked : IsAskedAt site p.limits m new (task_failure (p.plan).demands p.checks m.bytes p.rows t slot (type_place m.bytes t slot) (field_place m.bytes t slot) ask)
+      (task_reads (p.plan).demands m.bytes p.rows t slot (type_place m.bytes t slot) (field_place m.bytes t slot) ask) t result
   pub row : IfOk result (λ _. past ≡ task_row (wants_of p) m.bytes p.rows (type_place m.bytes t slot) (field_place m.bytes t slot) ask old)
 
 -- the same, of a task whose field's bytes may hold a buffer, which is told
@@ -313,7 +320,8 @@ TextPassed p m new site place (Ok a) =
     (new ≡ record m { count = m.count + text_reads m.bytes (target m.bytes place) }) × AreAllowed (p.limits).reads new.count × (text_failure m.bytes (target m.bytes place) ≡ None)
 TextPassed p m new site place (Err s) =
     (told site m.count (reads_failure p.limits m.count (text_reads m.bytes (target m.bytes place)) place) ≡ Some (stopped s new.count))
-    ⊎ ((new ≡ record m { count = m.count + text_reads m.bytes (target m.bytes place) }) × AreAllowed (p.limits).reads new.count × (told site new.count (text_failure m.bytes (target m.bytes place)) ≡ Some (stopped s new.count)))
+    ⊎ ((new ≡ record m { count = m.count + text_reads m.bytes (target m.bytes place) }) × AreAllowed (p.limits).reads new.count
+    × (told site new.count (text_failure m.bytes (target m.bytes place)) ≡ Some (stopped s new.count)))
 
 -- what an offset word at p leads to lies in the buffer, where it is asked
 abbrev pub ReferentStands : List ℕ → (p : ℕ) → Referent → Type 0
@@ -349,7 +357,8 @@ opening p b via child = reading via child.object None child.at (head_reads p.che
 -- its slots were asked, whatever is demanded afterwards; or the pass stops, by the links to the table
 abbrev pub SlotsPassed : (p : Passing) → (m new : Lent) → Child → Result (Unit {0}) Stop → Type 0
 SlotsPassed p m new child (Ok a) = (via : List Link) (rest : List Demand) → GoesOn p m new (slots_demands (p.plan).demands m.bytes p.rows via child.object child.at ++ rest) rest
-SlotsPassed p m new child (Err s) = (via : List Link) (rest : List Demand) → Breaks p.limits m.count (slots_demands (p.plan).demands m.bytes p.rows via child.object child.at ++ rest) (stopped s new.count) via
+SlotsPassed p m new child (Err s) = (via : List Link) (rest : List Demand)
+    → Breaks p.limits m.count (slots_demands (p.plan).demands m.bytes p.rows via child.object child.at ++ rest) (stopped s new.count) via
 
 -- so was all of that, which is more than no read; or the pass stops
 abbrev pub Opens : (p : Passing) → (m new : Lent) → Child → Result (Unit {0}) Stop → Type 0

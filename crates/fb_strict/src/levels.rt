@@ -8,7 +8,8 @@ ghost use Rattle.fb_strict.specs.{Planned.IsPlan, Asked.Demand, Asked.demands_of
 ghost use Rattle.fb_strict.specs.Passing.{wants_of, IsPassing, IsRooted};
 ghost use Rattle.fb_strict.specs.Nested.{limits_inside};
 ghost use Rattle.fb_strict.specs.Strictly.{sealed_by};
-ghost use Rattle.fb_strict.specs.Levels.{IsOpened, Legged, unmet_by, fault_of, bytes_of, asked_from, resting, passing_of, IsAsking, Begun, RootBegun, IsWalkedAt, WalkStops, HasEntered, IsUnderWay, IsAtInner, EndsAlong, turns_left};
+ghost use Rattle.fb_strict.specs.Levels.{IsOpened, Legged, unmet_by, fault_of, bytes_of, asked_from, resting, passing_of, IsAsking, Begun};
+ghost use Rattle.fb_strict.specs.Levels.{RootBegun, IsWalkedAt, WalkStops, HasEntered, IsUnderWay, IsAtInner, EndsAlong, turns_left};
 ghost use Rattle.fb_strict.specs.Passing.{IsInner};
 ghost use Rattle.fb_strict.specs.Nested.{EndsWith};
 
@@ -163,8 +164,10 @@ fn begin_buffer<A: Allocator>(
     requires passing { IsPassing pass.now loan.old.bytes }
     requires allowed { AreAllowed pass.now.limits.reads loan.old.count }
     requires small { length frames.old ≤ 4096 }
-    requires tree { (y : Tree) × IsRooted pass.now loan.old.bytes (length frames.old) root y × (loan.old.count + demands_reads (demands_of (wants_of pass.now) pass.now.checks loan.old.bytes pass.now.rows root.object y) ≤ 2 ^ 112) }
-    ensures { (y : Tree) → IsRooted pass.now loan.old.bytes (length frames.old) root y → RootBegun pass.now loan.old loan.new (demands_of (wants_of pass.now) pass.now.checks loan.old.bytes pass.now.rows root.object y) frames.new result }
+    requires tree { (y : Tree) × IsRooted pass.now loan.old.bytes (length frames.old) root y
+        × (loan.old.count + demands_reads (demands_of (wants_of pass.now) pass.now.checks loan.old.bytes pass.now.rows root.object y) ≤ 2 ^ 112) }
+    ensures { (y : Tree) → IsRooted pass.now loan.old.bytes (length frames.old) root y
+        → RootBegun pass.now loan.old loan.new (demands_of (wants_of pass.now) pass.now.checks loan.old.bytes pass.now.rows root.object y) frames.new result }
 {
     if let Some(refusal) = refuse_short(pass.plan.demands().unions, loan) {
         let site = Site {

@@ -100,9 +100,11 @@ impl<A: Allocator + Copy> Marking<A> {
     fn follow_members(&mut self, leads: &Leads<A>, to: u32) -> Result<(), AllocError>
         requires unions { IsChained leads.now.unions.lasts.items leads.now.unions.edges.items }
         requires members { IsChained leads.now.members.lasts.items leads.now.members.edges.items }
-        requires within { (k e : ℕ) → IsFrom leads.now.unions.lasts.items leads.now.unions.edges.items k e → IsFrom leads.now.members.lasts.items leads.now.members.edges.items e to → k < length self.old.marks.items }
+        requires within { (k e : ℕ) → IsFrom leads.now.unions.lasts.items leads.now.unions.edges.items k e
+            → IsFrom leads.now.members.lasts.items leads.now.members.edges.items e to → k < length self.old.marks.items }
         requires queue { IsQueue self.old.marks.items self.old.queue.items }
-        ensures { OnOk result (Spread (λ k. (e : ℕ) × IsFrom leads.now.unions.lasts.items leads.now.unions.edges.items k e × IsFrom leads.now.members.lasts.items leads.now.members.edges.items e to) self.old.marks.items self.old.queue.items self.new.marks.items self.new.queue.items) }
+        ensures { OnOk result (Spread (λ k. (e : ℕ) × IsFrom leads.now.unions.lasts.items leads.now.unions.edges.items k e
+            × IsFrom leads.now.members.lasts.items leads.now.members.edges.items e to) self.old.marks.items self.old.queue.items self.new.marks.items self.new.queue.items) }
     {
         let mut place = leads.members.last(to);
         while place > 0 {
@@ -118,9 +120,11 @@ impl<A: Allocator + Copy> Marking<A> {
         requires tables { IsChained leads.now.tables.lasts.items leads.now.tables.edges.items }
         requires unions { IsChained leads.now.unions.lasts.items leads.now.unions.edges.items }
         requires members { IsChained leads.now.members.lasts.items leads.now.members.edges.items }
-        requires within { (k : ℕ) → LeadsOf leads.now.tables.lasts.items leads.now.tables.edges.items leads.now.unions.lasts.items leads.now.unions.edges.items leads.now.members.lasts.items leads.now.members.edges.items k to → k < length self.old.marks.items }
+        requires within { (k : ℕ) → LeadsOf leads.now.tables.lasts.items leads.now.tables.edges.items leads.now.unions.lasts.items leads.now.unions.edges.items
+            leads.now.members.lasts.items leads.now.members.edges.items k to → k < length self.old.marks.items }
         requires queue { IsQueue self.old.marks.items self.old.queue.items }
-        ensures { OnOk result (Spread (λ k. LeadsOf leads.now.tables.lasts.items leads.now.tables.edges.items leads.now.unions.lasts.items leads.now.unions.edges.items leads.now.members.lasts.items leads.now.members.edges.items k to) self.old.marks.items self.old.queue.items self.new.marks.items self.new.queue.items) }
+        ensures { OnOk result (Spread (λ k. LeadsOf leads.now.tables.lasts.items leads.now.tables.edges.items leads.now.unions.lasts.items leads.now.unions.edges.items
+            leads.now.members.lasts.items leads.now.members.edges.items k to) self.old.marks.items self.old.queue.items self.new.marks.items self.new.queue.items) }
     {
         self.follow(&leads.tables, to)?;
         self.follow_members(leads, to)?;
@@ -135,7 +139,8 @@ impl<A: Allocator + Copy> Marking<A> {
         holdings: &Holdings<'_>,
         leads: &Leads<A>,
     ) -> Result<(), AllocError>
-        requires leads { AreLeads demands schema.now leads.now.tables.lasts.items leads.now.tables.edges.items leads.now.unions.lasts.items leads.now.unions.edges.items leads.now.members.lasts.items leads.now.members.edges.items }
+        requires leads { AreLeads demands schema.now leads.now.tables.lasts.items leads.now.tables.edges.items leads.now.unions.lasts.items
+            leads.now.unions.edges.items leads.now.members.lasts.items leads.now.members.edges.items }
         requires own { OwnMarked (demanded demands holdings.now) schema.now (length schema.now.objects) self.old.marks.items self.old.queue.items }
         ensures founded { OnOk result (AreFounded (demanded demands holdings.now) schema.now self.new.marks.items) }
         ensures closed { OnOk result (AreClosed (demanded demands holdings.now) schema.now self.new.marks.items) }

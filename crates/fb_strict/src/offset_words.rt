@@ -203,7 +203,8 @@ impl<'p, 's, 'n, A: Allocator> Pass<'p, 's, 'n, A> {
         requires few { reads.old.count < reads.old.base + 2 ^ 58 }
         requires more { 0 < (top.old.row).left }
         requires left { (deep : ℕ) × (via : List Link) × (ds : List Demand) × IsLeft self.now reads.old.bytes deep via top.old ds }
-        ensures { (deep : ℕ) (via : List Link) (ds : List Demand) → IsLeft self.now reads.old.bytes deep via top.old ds → Stepped self.now reads.old reads.new deep via many ds top.old top.new child.new result }
+        ensures { (deep : ℕ) (via : List Link) (ds : List Demand) → IsLeft self.now reads.old.bytes deep via top.old ds
+            → Stepped self.now reads.old reads.new deep via many ds top.old top.new child.new result }
     {
         let site = top.site();
         match top.row.leads {

@@ -10,7 +10,8 @@ ghost use Rattle.fb_strict.specs.declared.tasks.Ask.{Ask};
 ghost use Rattle.fb_strict.specs.declared.tasks.Held.TheVariants.{Buffer, Flex};
 ghost use Rattle.fb_strict.specs.declared.tasks.Ask.TheVariants.{Union as AskUnion, Unions as AskUnions, Bytes as AskBytes};
 ghost use Rattle.fb_strict.specs.Asked.{Demand, asked_referent, demands_reads};
-ghost use Rattle.fb_strict.specs.Passing.{wants_of, IsPassing, IsRoom, IsTaskable, IsOne, IsEach, CountStands, IsAskedRow, word_row, TaskPassed, TaskDone, IsLeft, IsNext, AreLeft, IsStanding, Stepped, HasTurned, WentOn, Begins, Went};
+ghost use Rattle.fb_strict.specs.Passing.{wants_of, IsPassing, IsRoom, IsTaskable, IsOne, IsEach, CountStands, IsAskedRow, word_row};
+ghost use Rattle.fb_strict.specs.Passing.{TaskPassed, TaskDone, IsLeft, IsNext, AreLeft, IsStanding, Stepped, HasTurned, WentOn, Begins, Went};
 
 use crate::inner::Inner;
 use crate::plan::Plan;
@@ -465,7 +466,8 @@ impl<'p, 's, 'n, A: Allocator> Pass<'p, 's, 'n, A> {
         requires few { reads.old.count < reads.old.base + 2 ^ 58 }
         requires some { 0 < many }
         requires left { (deep : ℕ) × (via : List Link) × (ds : List Demand) × IsLeft self.now reads.old.bytes deep via top.old ds }
-        ensures { (deep : ℕ) (via : List Link) (ds : List Demand) → IsLeft self.now reads.old.bytes deep via top.old ds → Stepped self.now reads.old reads.new deep via many ds top.old top.new child.new result }
+        ensures { (deep : ℕ) (via : List Link) (ds : List Demand) → IsLeft self.now reads.old.bytes deep via top.old ds
+            → Stepped self.now reads.old reads.new deep via many ds top.old top.new child.new result }
     {
         if top.row.left > 0 {
             return self.pass_word(reads, room, many, top, child);

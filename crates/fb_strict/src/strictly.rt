@@ -49,7 +49,8 @@ pub(crate) fn root_of(window: &Window<'_>, start: Start) -> u64
 pub(crate) fn refuse_short(asked: bool, loan: &mut Loan<'_>) -> Option<Refusal>
     requires few { loan.old.count ≤ 2 ^ 120 }
     ensures none { result ≡ None → where_asked asked (length_failure loan.old.bytes) ≡ None }
-    ensures some { IfSome result (λ e. (e.at ≡ length loan.old.bytes) × (tested_by (length loan.old.bytes) loan.old.count (Some e.reason) ≡ after loan.old.count (where_asked asked (length_failure loan.old.bytes)))) }
+    ensures some { IfSome result (λ e. (e.at ≡ length loan.old.bytes)
+        × (tested_by (length loan.old.bytes) loan.old.count (Some e.reason) ≡ after loan.old.count (where_asked asked (length_failure loan.old.bytes)))) }
     ensures same { loan.new ≡ loan.old }
 {
     if !asked {

@@ -5,7 +5,8 @@ ghost use Rattle.std.specs.Option.{is_some};
 ghost use Rattle.fb_bytes.specs.Word.{word};
 ghost use Rattle.fb_schema.specs.{Rows.is_union, Members.member_of, Targets.kind_to};
 ghost use Rattle.fb_rules.specs.{Places.target, Fields.union_type, Plain.IsTested, Plain.place_from, Plain.tested_by, OffsetRows.AreUnionTargets, Told.IsVtable, Order.after, Cost.reads_if_present};
-ghost use Rattle.fb_strict.specs.InOrder.{length_failure, inside_failure, union_failure, union_reads, member_at, together_failure, flex_failure, element_failure, element_reads, places_reads, where_asked};
+ghost use Rattle.fb_strict.specs.InOrder.{length_failure, inside_failure, union_failure, union_reads, member_at};
+ghost use Rattle.fb_strict.specs.InOrder.{together_failure, flex_failure, element_failure, element_reads, places_reads, where_asked};
 ghost use Rattle.fb_strict.specs.Leaves.{ArePlaces};
 
 use fb_bytes::Reads;
@@ -129,7 +130,8 @@ pub fn test_union(
     requires few { reads.old.count < reads.old.base + 2 ^ 60 }
     requires near { places.value < 2 ^ 34 }
     requires typed { places.types ≢ table → places.types + 1 ≤ length reads.old.bytes }
-    ensures tested { IsTested reads.old reads.new at.new (where_asked asked (union_failure checks reads.old.bytes schema.now union table (place_from table places.types) (place_from table places.value)))
+    ensures tested { IsTested reads.old reads.new at.new
+        (where_asked asked (union_failure checks reads.old.bytes schema.now union table (place_from table places.types) (place_from table places.value)))
         (union_reads asked reads.old.bytes schema.now union (place_from table places.types) (place_from table places.value)) result }
     ensures member { result ≡ None → kind_to target.new ≡ member_at reads.old.bytes schema.now union (place_from table places.types) (place_from table places.value) }
     ensures place { result ≡ None → IsSome (kind_to target.new) → at.new ≡ places.value }
@@ -198,7 +200,8 @@ pub fn test_element(
     requires few { reads.old.count < reads.old.base + 2 ^ 60 }
     requires near { at.old < 2 ^ 35 }
     requires typed { types + 1 ≤ length reads.old.bytes }
-    ensures tested { IsTested reads.old reads.new at.new (where_asked asked (element_failure checks reads.old.bytes schema.now union types at.old)) (element_reads asked reads.old.bytes schema.now union types) result }
+    ensures tested { IsTested reads.old reads.new at.new (where_asked asked (element_failure checks reads.old.bytes schema.now union types at.old))
+        (element_reads asked reads.old.bytes schema.now union types) result }
     ensures member { result ≡ None → kind_to target.new ≡ member_of schema.now union (word reads.old.bytes types 1) }
     ensures place { result ≡ None → IsSome (kind_to target.new) → at.new ≡ at.old }
 {

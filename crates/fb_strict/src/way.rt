@@ -93,7 +93,8 @@ impl<'w, 'b, 'p, 's, 'n, A: Allocator> Asking<'w, 'b, 'p, 's, 'n, A> {
         requires frames { (self.now.question).limits.depth ≡ length frames.now }
         requires levels { (self.now.question).limits.depth ≤ length levels.now }
         requires short { length links.old ≤ 4096 }
-        ensures along { (self.now.question).limits.depth ≤ length links.old → EndsWith self.now.plan self.now.question self.now.bytes (Err (record { fault = fault_of (missed.now).unmet; links = take result links.new })) }
+        ensures along { (self.now.question).limits.depth ≤ length links.old
+            → EndsWith self.now.plan self.now.question self.now.bytes (Err (record { fault = fault_of (missed.now).unmet; links = take result links.new })) }
         ensures within { result ≤ length links.new }
     {
         if links.len() < self.limits.depth() as usize {

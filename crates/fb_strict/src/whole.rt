@@ -165,7 +165,8 @@ pub fn ask_whole<A: Allocator, W: Walker>(
     requires short_row { length links.old ≤ 4096 }
     ensures yes { IfOk result (λ r. IsGood plan.now (asked_of verified.now ident limits) (verified.now).bytes r) }
     ensures no { IfErr result (λ l. IsBad plan.now (asked_of verified.now ident limits) (verified.now).bytes l.fault) }
-    ensures along { IfErr result (λ l. limits.depth ≤ length links.old → EndsWith plan.now (asked_of verified.now ident limits) (verified.now).bytes (Err (record { fault = l.fault; links = take l.links links.new }))) }
+    ensures along { IfErr result (λ l. limits.depth ≤ length links.old
+        → EndsWith plan.now (asked_of verified.now ident limits) (verified.now).bytes (Err (record { fault = l.fault; links = take l.links links.new }))) }
     ensures within { IfErr result (λ l. l.links ≤ length links.new) }
     ensures same { W.room walker.new ≡ W.room walker.old }
 {

@@ -51,4 +51,6 @@ pub record PassesFlat (w : Walk) (m new : Lent) (under : Waiting) (k t next at :
   pub bytes : new.bytes ≡ m.bytes
   pub head : next ≡ in_head → IfSome result (λ _. tested_by at new.count result ≡ after m.count (head_failure w.checks m.bytes t))
   pub within : (next ≡ in_head → ⊥) → IfSome result (λ _. next < length (live_fields w.schema.now k))
-  pub field : (next ≡ in_head → ⊥) → IfSome result (λ reason. (s : Stop) → IsStopAt w.schema.now (frame_at k next) at reason s → StopsIn w.checks m.bytes w.schema.now w.limits under.start under.frames (own_link (stopped s new.count)) (stopped s new.count))
+  pub field : (next ≡ in_head → ⊥)
+      → IfSome result (λ reason. (s : Stop) → IsStopAt w.schema.now (frame_at k next) at reason s
+      → StopsIn w.checks m.bytes w.schema.now w.limits under.start under.frames (own_link (stopped s new.count)) (stopped s new.count))

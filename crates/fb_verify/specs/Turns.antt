@@ -145,11 +145,13 @@ ByTurn down up slowly halted Halted = halted
 
 -- or it leads to a table that is to be opened, or it fails
 abbrev pub MemberTurned : (w then : Walk) → (m new : Lent) → (under : Waiting) → (top past : Frame) → (row left : Row) → (child : Child) → Turn → Type 0
-MemberTurned w then m new under top past row left child = ByTurn (GoesDown w then m new under (record top { row = row }) past child) (PassesMember w then m new under top past row left) ⊥ (Halts w then m new under past)
+MemberTurned w then m new under top past row left child = ByTurn (GoesDown w then m new under (record top { row = row }) past child)
+    (PassesMember w then m new under top past row left) ⊥ (Halts w then m new under past)
 
 -- a turn through the words of the top's row
 abbrev pub RowTurned : (w then : Walk) → (m new : Lent) → (under : Waiting) → (top past : Frame) → (child : Child) → Turn → Type 0
-RowTurned w then m new under top past child = ByTurn (GoesDown w then m new under top past child) (Rests w then m new under top past) (GoesOn w then m new under top past) (Halts w then m new under past)
+RowTurned w then m new under top past child = ByTurn (GoesDown w then m new under top past child) (Rests w then m new under top past)
+    (GoesOn w then m new under top past) (Halts w then m new under past)
 
 -- a turn through the row and the fields of the top
 abbrev pub Turned : (w then : Walk) → (m new : Lent) → (under : Waiting) → (top past : Frame) → (child : Child) → Turn → Type 0
@@ -186,7 +188,8 @@ WordsPut w then m new under waiting top past = ByTurn (BeginsRow w then m new un
 
 -- a turn into a field that may lead on
 abbrev pub FieldTurned : (w then : Walk) → (m new : Lent) → (under : Waiting) → (top past : Frame) → (child : Child) → Turn → Type 0
-FieldTurned w then m new under top past child = ByTurn (GoesIntoField w then m new under top past child) (PassedField w then m new under top past) (StaysInField w then m new under top past) (Halts w then m new under past)
+FieldTurned w then m new under top past child = ByTurn (GoesIntoField w then m new under top past child) (PassedField w then m new under top past)
+    (StaysInField w then m new under top past) (Halts w then m new under past)
 
 -- a child was opened, or the walk stops at its head
 pub record OpensChild (w then : Walk) (m new : Lent) (under : Waiting) (below : Frame) (child : Child) : Type 0 where
@@ -211,7 +214,8 @@ pub record WentOn (w then : Walk) (m new : Lent) (s : Origin) (old : List Frame)
   pub same : then ≡ record w { tables = then.tables; deepest = then.deepest }
   pub walking : IsWalking then new s (take left frames) (slice_index_or frames left blank)
   pub top : left < length frames
-  pub falls : less + new.count + work w.schema.now w.limits (take left frames) (slice_index_or frames left blank) then.tables ≤ m.count + work w.schema.now w.limits (take waiting old) (slice_index_or old waiting blank) w.tables
+  pub falls : less + new.count + work w.schema.now w.limits (take left frames) (slice_index_or frames left blank) then.tables ≤ m.count + work w.schema.now w.limits
+      (take waiting old) (slice_index_or old waiting blank) w.tables
   pub grows : m.count ≤ new.count
   pub bytes : new.bytes ≡ m.bytes
 
@@ -237,7 +241,8 @@ pub record GoesUp (w then : Walk) (m new : Lent) (s : Origin) (old : List Frame)
 
 -- one turn over frames
 abbrev pub FramesTurned : (w then : Walk) → (m new : Lent) → (s : Origin) → (old frames : List Frame) → (waiting : ℕ) → Turn → Type 0
-FramesTurned w then m new s old frames waiting = ByTurn (WentOn w then m new s old waiting frames (waiting + 1) 1 × IsShort new.count) (GoesUp w then m new s old waiting frames) (WentOn w then m new s old waiting frames waiting 0) (WentWrong w m new s frames then.halt)
+FramesTurned w then m new s old frames waiting = ByTurn (WentOn w then m new s old waiting frames (waiting + 1) 1 × IsShort new.count)
+    (GoesUp w then m new s old waiting frames) (WentOn w then m new s old waiting frames waiting 0) (WentWrong w m new s frames then.halt)
 
 -- the root table, whose fields lead on nowhere, is passed, or it isn't begun, or the walk stops there
 abbrev pub RootTurned : (w then : Walk) → (m new : Lent) → (s : Origin) → Turn → Type 0

@@ -30,7 +30,8 @@ pub record OpensTable (w then : Walk) (m new : Lent) (links : ℕ) (child : Chil
 abbrev pub TableOpened : (w then : Walk) → (m new : Lent) → (links : ℕ) → Site → Child → Result Table Stop → Type 0
 TableOpened w then m new links site child (Ok t) = OpensTable w then m new links child t
 TableOpened w then m new links site child (Err s) =
-    Fails m new (told site m.count (budget_failure w.limits (way_at links w.tables w.deepest m.count site) child.at) ▷ told (record { object = child.object; field = None }) m.count (head_failure w.checks m.bytes child.at ▷ reads_failure w.limits m.count (head_reads w.checks) child.at)) s
+    Fails m new (told site m.count (budget_failure w.limits (way_at links w.tables w.deepest m.count site) child.at) ▷ told (record { object = child.object; field = None }) m.count
+    (head_failure w.checks m.bytes child.at ▷ reads_failure w.limits m.count (head_reads w.checks) child.at)) s
 
 -- the first offset word of a row holds, and leads to no table
 pub record PassesLeaf (w : Walk) (m new : Lent) (row : Row) : Type 0 where
@@ -52,7 +53,9 @@ abbrev pub ElementPassed : (w : Walk) → (m new : Lent) → Site → Row → Re
 ElementPassed w m new site row (Ok None) = PassesLeaf w m new row
 ElementPassed w m new site row (Ok (Some child)) = LeadsToTable w m new row child
 ElementPassed w m new site row (Err s) =
-    Fails m new (told site m.count (element_failure w.checks m.bytes (first_word m.bytes w.schema.now row) ▷ lead_reads_failure w.limits m.count (first_word m.bytes w.schema.now row) (first_word m.bytes w.schema.now row).lead)) s
+    Fails m new (told site m.count
+    (element_failure w.checks m.bytes (first_word m.bytes w.schema.now row) ▷ lead_reads_failure w.limits m.count
+    (first_word m.bytes w.schema.now row) (first_word m.bytes w.schema.now row).lead)) s
 
 -- the walk went on from this top over these frames to those, with less work left
 pub record WorkedOn (w then : Walk) (m new : Lent) (s : Origin) (old : List Frame) (top : Frame) (frames : List Frame) (past : Frame) : Type 0 where

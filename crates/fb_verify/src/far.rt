@@ -39,8 +39,10 @@ impl Walk<'_, '_> {
         requires far { IsFar (field.now).kind }
         requires present { IsTrue (has_slot reads.old.bytes table.at (field.now).slot) }
         requires same { checks ≡ self.now.checks }
-        ensures tested { IsTested reads.old reads.new at.new (present_failure self.now.checks reads.old.bytes self.now.schema.now table.at (live_of_view field.now) at.old (field.now).kind) (present_reads reads.old.bytes table.at (field.now).slot (field.now).kind) result }
-        ensures leads { result ≡ None → LeavesRow reads.old.bytes self.now.schema.now (entries_of reads.old.bytes self.now.schema.now table.at (live_of_view field.now) at.old (field.now).kind) row.old row.new (nat_lt 0 row.new.left) }
+        ensures tested { IsTested reads.old reads.new at.new (present_failure self.now.checks reads.old.bytes self.now.schema.now table.at (live_of_view field.now) at.old (field.now).kind)
+            (present_reads reads.old.bytes table.at (field.now).slot (field.now).kind) result }
+        ensures leads { result ≡ None → LeavesRow reads.old.bytes self.now.schema.now
+            (entries_of reads.old.bytes self.now.schema.now table.at (live_of_view field.now) at.old (field.now).kind) row.old row.new (nat_lt 0 row.new.left) }
     {
         match field.kind {
             Kind::Union(union) => {
@@ -77,8 +79,10 @@ impl Walk<'_, '_> {
         requires may { MayPut self.now.checks reads.old self.now.schema.now table (live_of_view field.now) (field.now).kind at.old row.old }
         requires far { IsFar (field.now).kind }
         requires present { IsTrue (has_slot reads.old.bytes table.at (field.now).slot) }
-        ensures tested { IsTested reads.old reads.new at.new (present_failure self.now.checks reads.old.bytes self.now.schema.now table.at (live_of_view field.now) at.old (field.now).kind) (present_reads reads.old.bytes table.at (field.now).slot (field.now).kind) result }
-        ensures leads { result ≡ None → LeavesRow reads.old.bytes self.now.schema.now (entries_of reads.old.bytes self.now.schema.now table.at (live_of_view field.now) at.old (field.now).kind) row.old row.new (nat_lt 0 row.new.left) }
+        ensures tested { IsTested reads.old reads.new at.new (present_failure self.now.checks reads.old.bytes self.now.schema.now table.at (live_of_view field.now) at.old (field.now).kind)
+            (present_reads reads.old.bytes table.at (field.now).slot (field.now).kind) result }
+        ensures leads { result ≡ None → LeavesRow reads.old.bytes self.now.schema.now
+            (entries_of reads.old.bytes self.now.schema.now table.at (live_of_view field.now) at.old (field.now).kind) row.old row.new (nat_lt 0 row.new.left) }
     {
         self.put_row_by(self.checks, reads, table, field, at, row)
     }
@@ -96,8 +100,10 @@ impl Walk<'_, '_> {
     ) -> Option<Reason>
         requires may { MayPut self.now.checks reads.old self.now.schema.now table (live_of_view field.now) (field.now).kind at.old row.old }
         requires present { IsTrue (has_slot reads.old.bytes table.at (field.now).slot) }
-        ensures tested { IsTested reads.old reads.new at.new (present_failure self.now.checks reads.old.bytes self.now.schema.now table.at (live_of_view field.now) at.old (field.now).kind) (present_reads reads.old.bytes table.at (field.now).slot (field.now).kind) result }
-        ensures leads { result ≡ None → LeavesRow reads.old.bytes self.now.schema.now (entries_of reads.old.bytes self.now.schema.now table.at (live_of_view field.now) at.old (field.now).kind) row.old row.new (nat_lt 0 row.new.left) }
+        ensures tested { IsTested reads.old reads.new at.new (present_failure self.now.checks reads.old.bytes self.now.schema.now table.at (live_of_view field.now) at.old (field.now).kind)
+            (present_reads reads.old.bytes table.at (field.now).slot (field.now).kind) result }
+        ensures leads { result ≡ None → LeavesRow reads.old.bytes self.now.schema.now
+            (entries_of reads.old.bytes self.now.schema.now table.at (live_of_view field.now) at.old (field.now).kind) row.old row.new (nat_lt 0 row.new.left) }
     {
         let checks = self.checks;
         let size = field.size;
@@ -129,8 +135,10 @@ impl Walk<'_, '_> {
     ) -> Option<Reason>
         requires may { MayPut self.now.checks reads.old self.now.schema.now table (live_of_view field.now) (field.now).kind at.old row.old }
         requires present { IfSome (place_from table.at at.old) (λ _. IsTrue (has_slot reads.old.bytes table.at (field.now).slot)) }
-        ensures tested { IsTested reads.old reads.new at.new (failure_at self.now.checks reads.old.bytes self.now.schema.now table.at (live_of_view field.now) (place_from table.at at.old)) (reads_at reads.old.bytes table.at (live_of_view field.now) (place_from table.at at.old)) result }
-        ensures leads { result ≡ None → LeavesRow reads.old.bytes self.now.schema.now (entries_at reads.old.bytes self.now.schema.now table.at (live_of_view field.now) (place_from table.at at.old)) row.old row.new (nat_lt 0 row.new.left) }
+        ensures tested { IsTested reads.old reads.new at.new (failure_at self.now.checks reads.old.bytes self.now.schema.now table.at (live_of_view field.now) (place_from table.at at.old))
+            (reads_at reads.old.bytes table.at (live_of_view field.now) (place_from table.at at.old)) result }
+        ensures leads { result ≡ None → LeavesRow reads.old.bytes self.now.schema.now
+            (entries_at reads.old.bytes self.now.schema.now table.at (live_of_view field.now) (place_from table.at at.old)) row.old row.new (nat_lt 0 row.new.left) }
     {
         if *at == table.at {
             if field.required {

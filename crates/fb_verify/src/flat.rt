@@ -583,7 +583,8 @@ impl<'s, 'n> Walk<'s, 'n> {
         ensures turn { result ≡ Halted }
         ensures same { self.new ≡ record self.old { halt = self.new.halt } }
         ensures links { (self.new.halt).links ≡ links }
-        ensures head { next ≡ in_head → self.new.halt ≡ record { stop = record { refusal = record { at = at; reason = reason }; site = record { object = object; field = None } }; links = links; last = Behind } }
+        ensures head { next ≡ in_head → self.new.halt
+            ≡ record { stop = record { refusal = record { at = at; reason = reason }; site = record { object = object; field = None } }; links = links; last = Behind } }
         ensures field { (next ≡ in_head → ⊥) → IsStopAt self.old.schema.now (frame_at object next) at reason self.new.halt.stop × ((self.new.halt).last ≡ InField) }
     {
         if next == IN_HEAD {

@@ -6,7 +6,8 @@ ghost use Rattle.fb_rules.specs.{Bounds.AreAllowed, Told.way_at};
 ghost use Rattle.fb_verify.specs.{Flat.Going};
 ghost use Rattle.fb_verify.specs.PassesOn.{IsBetween, HasRoom, Passage, PassesOn};
 ghost use Rattle.fb_verify.specs.Stack.{blank, Origin, Waiting, IsWalking, opened};
-ghost use Rattle.fb_verify.specs.Turns.{IsShort, IsAtChild, IsAtStep, IsAtTableField, AllowsTable, IsAtWord, IsBrim, IsInRow, HasRoomToGo, RowTurned, FieldTurned, Turned, Opened, FramesTurned, RootTurned, Walked, Ran};
+ghost use Rattle.fb_verify.specs.Turns.{IsShort, IsAtChild, IsAtStep, IsAtTableField, AllowsTable, IsAtWord, IsBrim, IsInRow};
+ghost use Rattle.fb_verify.specs.Turns.{HasRoomToGo, RowTurned, FieldTurned, Turned, Opened, FramesTurned, RootTurned, Walked, Ran};
 ghost use Rattle.fb_rules.specs.declared.offset_row.Leads.TheVariants.{All};
 ghost use Rattle.fb_verify.specs.declared.stack.Turn.TheVariants.{Halt as Halted};
 ghost use Rattle.fb_rules.specs.declared.site.LastLink.TheVariants.{Behind, InField};
@@ -75,7 +76,9 @@ impl<'s, 'n> Walk<'s, 'n> {
     #[inline(never)]
     pub fn stop_in_head(&mut self, object: u32, at: u64, reason: Reason, links: u32) -> Turn
         ensures turn { result ≡ Halted }
-        ensures halt { self.new ≡ record self.old { halt = record { stop = record { refusal = record { at = at; reason = reason }; site = record { object = object; field = None } }; links = links; last = Behind } } }
+        ensures halt { self.new ≡ record self.old {
+          halt = record { stop = record { refusal = record { at = at; reason = reason }; site = record { object = object; field = None } }; links = links; last = Behind };
+        } }
     {
         let site = Site {
             object,

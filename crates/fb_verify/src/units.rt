@@ -98,7 +98,8 @@ impl<'s, 'n> Walk<'s, 'n> {
         requires near { table.at < 2 ^ 33 }
         requires head { IsHead self.now.checks loan.old.bytes table.at table.head }
         requires rests { row.old.left ≡ 0 }
-        ensures asked { IsAskedAt (record { object = table.object; field = Some (field.now).number }) self.now.limits loan.old loan.new (own_failure self.now.checks loan.old.bytes self.now.schema.now table.at (live_of_view field.now)) (own_reads loan.old.bytes table.at (live_of_view field.now)) table.at result }
+        ensures asked { IsAskedAt (record { object = table.object; field = Some (field.now).number }) self.now.limits loan.old loan.new
+            (own_failure self.now.checks loan.old.bytes self.now.schema.now table.at (live_of_view field.now)) (own_reads loan.old.bytes table.at (live_of_view field.now)) table.at result }
         ensures leads { IfOk result (λ more. LeavesRow loan.old.bytes self.now.schema.now (entries loan.old.bytes self.now.schema.now table.at (live_of_view field.now)) row.old row.new more) }
     {
         let site = Site {

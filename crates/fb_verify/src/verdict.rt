@@ -98,7 +98,8 @@ pub(crate) fn trace(
     ensures none { IfErr result (λ _. HasNone (question schema.now root start ident limits checks) loan.old.bytes) }
     ensures deep { IfErr result (λ h. h.links + links_left h.last ≤ limits.depth) }
     ensures no { IfErr result (λ h. Stops (question schema.now root start ident limits checks) loan.old.bytes (stopped h.stop loan.new.count)) }
-    ensures along { IfErr result (λ h. limits.depth ≤ length frames.new → HaltsAlong (question schema.now root start ident limits checks) loan.old.bytes (take h.links frames.new) h.last (stopped h.stop loan.new.count)) }
+    ensures along { IfErr result (λ h. limits.depth ≤ length frames.new
+        → HaltsAlong (question schema.now root start ident limits checks) loan.old.bytes (take h.links frames.new) h.last (stopped h.stop loan.new.count)) }
     ensures price { loan.new.count ≤ most_reads schema.now limits (length loan.old.bytes) }
     ensures read { IfOk result (λ r. loan.new.count ≡ r.reads) }
     ensures bytes { loan.new.bytes ≡ loan.old.bytes }
