@@ -136,7 +136,7 @@ class DamagedSchemaFiles(LibraryCase):
     def setUpClass(cls):
         global PYTHON, PROBE
         super().setUpClass()
-        PYTHON, PROBE = module(), built("probe")
+        PYTHON, PROBE = module(), built("test_probe")
 
     def test_damage(self):
         tasks = [(name, part) for name in FILES for part in range(PARTS)]

@@ -1,4 +1,4 @@
-"""Rows that break a demand, or stand at its edge, as schema files: what `probe list` tells of each, and what the judge
+"""Rows that break a demand, or stand at its edge, as schema files: what `test_probe list` tells of each, and what the judge
 says that only follows the demands."""
 
 import subprocess
@@ -13,7 +13,7 @@ from tests.support.program import built
 class Demands(Case):
     @classmethod
     def setUpClass(cls):
-        cls.probe = built("probe")
+        cls.probe = built("test_probe")
 
     def told(self, file):
         """The first line about a schema file."""

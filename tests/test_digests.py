@@ -1,4 +1,4 @@
-"""The numbers by which a test in crates/library_tests knows the naive checker's answers to a damaged buffer.
+"""The numbers by which a test in crates/test_library knows the naive checker's answers to a damaged buffer.
 
 Each stands for all answers under one choice of the checks: to the cut off forms of the buffer within many limits, and
 to those with one byte changed to each other value.
@@ -12,7 +12,7 @@ from tests.support.many import each
 from tests.support.naive import Schema, Walk
 from tests.support.schemas import TEXT, an_object, field, table
 
-TESTS = TOP / "crates/library_tests/src/tests"
+TESTS = TOP / "crates/test_library/src/tests"
 PRIME, MASK = 0x100000001B3, 2**64 - 1
 
 OBJECTS = [table("Delivery", field("to", an_object(1), 4)), table("Person", field("name", TEXT, 4))]

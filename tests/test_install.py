@@ -13,7 +13,7 @@ from tests.support.tools import there
 
 FOLDER = folder_of(__name__)
 PAGES = ("README.md", "CHANGELOG.md", "CONTRIBUTING.md", "docs/*.md", "bindings/*/README.md", "bindings/node/index.d.ts",
-         "bench/README.md", "bench/compare.svg", "crates/name_reader/src/lib.rt", "examples/deliveries.*",
+         "bench/README.md", "bench/compare.svg", "crates/example_name_reader/src/lib.rt", "examples/deliveries.*",
          "examples/jq.md", "examples/c/*", "examples/split", "examples/engines/*", "examples/flatgeobuf/*")
 PLACES = {
     "bin/fbcheck": 0o755,

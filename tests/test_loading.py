@@ -1,4 +1,4 @@
-"""Schema files that are loaded, and why others aren't: what `probe list` tells of each within the published limits, and
+"""Schema files that are loaded, and why others aren't: what `test_probe list` tells of each within the published limits, and
 the library for C within others."""
 
 import re
@@ -72,7 +72,7 @@ class Loading(LibraryCase):
     @classmethod
     def setUpClass(cls):
         super().setUpClass()
-        cls.probe = built("probe")
+        cls.probe = built("test_probe")
 
     def told(self, text):
         """What the probe tells of a schema file by text."""
@@ -97,7 +97,7 @@ class Loading(LibraryCase):
     def test_the_schemas_of_the_tests_in_the_crate(self):
         """Each is the file of the rows that stand beside it."""
         for name in "unions.rt", "extents.rt":
-            text = (TOP / "crates/library_tests/src/tests" / name).read_text()
+            text = (TOP / "crates/test_library/src/tests" / name).read_text()
             rows = " ".join(re.search(r"```text\n(.*?)/// ```", text, re.S)[1].replace("///", "").split())
             given = re.search(r'FILE: &\[u8\] = b"(.*?)";', text, re.S)[1]
             want = schemas.schema(*rows_of(rows)).hex()

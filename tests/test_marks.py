@@ -1,4 +1,4 @@
-"""The marks of schema files: what `probe marks` tells of the attributes of fields, beside listings of flatc, beside a
+"""The marks of schema files: what `test_probe marks` tells of the attributes of fields, beside listings of flatc, beside a
 plain walk over rows, and beside what is worked out by hand."""
 
 import json
@@ -116,7 +116,7 @@ def spelled(text):
 class Marks(Case):
     @classmethod
     def setUpClass(cls):
-        cls.probe = built("probe")
+        cls.probe = built("test_probe")
 
     def told(self, file, mode="marks"):
         ran = subprocess.run([self.probe, mode], input=file, capture_output=True, timeout=60)

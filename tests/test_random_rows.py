@@ -1,7 +1,7 @@
 """Schemas at random, judged by the library and by a judge that only follows the demands.
 
 A schema that is refused is refused for the same demand at the same place. Of one that is loaded, every look-up answers
-as a plain walk over its rows does: by `probe list`, by the names that the library tells, by each path of up to two
+as a plain walk over its rows does: by `test_probe list`, by the names that the library tells, by each path of up to two
 steps from each table, and by the most reads of a check.
 """
 
@@ -31,7 +31,7 @@ def told_fault(file):
 
 def of_seed(seed):
     """Some schemas from this seed on; two in five have nothing wrong on purpose."""
-    dice, probe = Random(seed), built("probe")
+    dice, probe = Random(seed), built("test_probe")
     counts, wrong = collections.Counter(), []
     for _ in range(SCHEMAS):
         objects, enums = Maker(dice, dice.choice([0, 0, 12, 20, 40])).rows()
@@ -52,7 +52,7 @@ class RandomRows(LibraryCase):
     @classmethod
     def setUpClass(cls):
         super().setUpClass()
-        built("probe")
+        built("test_probe")
 
     def test_random_rows(self):
         global PYTHON

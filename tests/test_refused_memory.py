@@ -19,7 +19,7 @@ SCHEMA = EXAMPLES / "deliveries.bfbs"
 
 @dataclasses.dataclass
 class Call:
-    """A call of `probe calls`: how it tells that it came to its end, and its line where memory was refused.
+    """A call of `test_probe calls`: how it tells that it came to its end, and its line where memory was refused.
 
     `leads` says whether the calls below it are made where it was refused, and `asks` whether it makes a request.
     """
@@ -50,7 +50,7 @@ CALLS = [
 
 
 def told_of_calls(given, refused_at, extent):
-    """The lines of `probe calls` where the call numbered `refused_at` meets the first refusal."""
+    """The lines of `test_probe calls` where the call numbered `refused_at` meets the first refusal."""
     lines = [f"input: {len(given)} bytes"]
     for number, call in enumerate(CALLS):
         meets = number == refused_at or (number > refused_at and extent == WITH_LATER and call.asks)
@@ -141,9 +141,9 @@ def asked_by(messages, most):
 
 class RefusedMemory(Case):
     def test_each_call(self):
-        """Each request of `probe calls` over a schema file."""
+        """Each request of `test_probe calls` over a schema file."""
         given = SCHEMA.read_bytes()
-        words = [built("probe"), "calls"]
+        words = [built("test_probe"), "calls"]
         whole = refusing(words, given)
         self.same("without a refusal", (whole.lines(), whole.status), (told_of_calls(given, len(CALLS), ALONE), 0))
         until = whole.asked_before()
@@ -155,7 +155,7 @@ class RefusedMemory(Case):
             for first, run in enumerate(sweep(words, given, extent), 1):
                 told = run.status, run.lines(), run.err, run.refused > 0
                 if first <= until[0]:
-                    want = 3, [], b"probe: out of memory\n", True
+                    want = 3, [], b"test_probe: out of memory\n", True
                 else:
                     call = next(number for number, last in enumerate(until[1:]) if first <= last)
                     want = 0, told_of_calls(given, call, extent), b"", True

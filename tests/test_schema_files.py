@@ -14,7 +14,7 @@ from tests.support.program import TOP, Ran, built
 FOLDER = TOP / "tests" / "schema_files"
 
 # A schema file of one table with a number and a text, of which every byte is known by hand: the probe's own example.
-PLAIN = TOP / "crates" / "probe" / "stdin"
+PLAIN = TOP / "crates" / "test_probe" / "stdin"
 
 # Bytes that are changed in it, and why it then isn't loaded.
 FAULTS = [
@@ -44,7 +44,7 @@ WANTED = [
 class SchemaFiles(Case):
     @classmethod
     def setUpClass(cls):
-        cls.probe = built("probe")
+        cls.probe = built("test_probe")
 
     def told(self, given):
         """What the probe tells of a schema file with these bytes."""

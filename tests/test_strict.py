@@ -205,8 +205,8 @@ class PlainChecker(Case):
                 self.same(f"{name}: {words}", short(got), want)
 
     def test_the_message_of_the_library_test(self):
-        """What a test in crates/library_tests wants of its message is what this checker tells."""
-        text = (TOP / "crates/library_tests/src/tests/strict.rt").read_text()
+        """What a test in crates/test_library wants of its message is what this checker tells."""
+        text = (TOP / "crates/test_library/src/tests/strict.rt").read_text()
         given = re.search(r'ITEMS: &\[u8\] = b"(.*?)";', text, re.S)[1]
         data = bytes.fromhex(re.sub(r"[\\x\s]", "", given))
         cut_at = int(re.search(r"&ITEMS\[\.\.(\d+)\]", text)[1])

@@ -227,14 +227,14 @@ for tenth in {1..200}; do [ ! -e met_test ] || break; sleep 0.1; done
 
     def test_packaged_programs(self):
         """The program of each package is asked by what needs no more than it, and no rt is there meanwhile."""
-        other = case("from tests.support.program import built", "built('probe')")
+        other = case("from tests.support.program import built", "built('test_probe')")
         folder = Packages("packaged", [ASKS, other, case("import tests.support.library"), case("self.fail()")],
                           rt="echo rt was called")
         status, out, err = folder.call("--packaged", "made here", folder=folder.top)
         self.same("of each a sum, what is unpacked, and a test", (status, out[-1], err), (0, "6 passed, 0 failed", ""))
         self.same("both are asked", [line for line in out if " is asked" in line],
                   ["the tarball is asked", "the deb is asked"])
-        told = "left out: probe is in no package; test_2 need the library for C; test_3 don't ask the program"
+        told = "left out: test_probe is in no package; test_2 need the library for C; test_3 don't ask the program"
         self.same("what isn't asked is named, of each", out.count(told), 2)
         self.same("and so is what has no program", out[-2],
                   "left out: what is no package of a program of version 7: libfbcheck1_7_amd64.deb")

@@ -8,7 +8,7 @@ import unittest
 from tests.support.clone import TOP
 
 # fb_bytes makes all this, and tests may do as they like.
-UNSEARCHED = {"fb_bytes", "library_tests"}
+UNSEARCHED = {"fb_bytes", "test_library"}
 
 CALLS = {"Meter::new(": r"\bMeter::new\b", "seal(": r"\bseal\b", "mem::": r"\bmem\b"}
 
@@ -29,7 +29,7 @@ KNOWN = {
     ("fbcheck_calls/framer.rt", "Meter::new("): 1,  # a message's prefix
     ("fbcheck_calls/framer.rt", "seal("): 1,
     ("fbcheck_calls/handle.rt", "mem::"): 1,  # a handle, which holds no buffer
-    ("name_reader/lib.rt", "Meter::new("): 1,  # the reference's example
+    ("example_name_reader/lib.rt", "Meter::new("): 1,  # the reference's example
 }
 
 

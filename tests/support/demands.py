@@ -298,7 +298,7 @@ def file_of_rows(rows):
 
 
 def fault(want):
-    """What `probe list` tells first of a file, by the answer of its line."""
+    """What `test_probe list` tells first of a file, by the answer of its line."""
     if want == "ok":
         return "root=None"
     name, place = want.split()

@@ -1,4 +1,4 @@
-"""What the look-ups of a schema should answer, as `probe list` tells it, worked out of a description of the schema in
+"""What the look-ups of a schema should answer, as `test_probe list` tells it, worked out of a description of the schema in
 JSON as flatc writes it.
 """
 
@@ -100,7 +100,7 @@ def written(table, name):
 
 
 def spelled(name):
-    """A name as `probe list` writes it: its bytes."""
+    """A name as `test_probe list` writes it: its bytes."""
     return list(name.encode(errors="surrogateescape"))
 
 

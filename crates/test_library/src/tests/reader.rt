@@ -1,7 +1,7 @@
 //! The README's example over a good buffer, and bad ones.
 
 use crate::tests::compare::same;
-use name_reader::name_in;
+use example_name_reader::name_in;
 
 /// What flatc 2.0.8 writes for `table Person { name: string; } table Delivery { to: Person; } root_type Delivery;`.
 pub const SCHEMA: &[u8] = b"\

@@ -1,7 +1,7 @@
-//! `probe` reads a schema file from standard input, and tells what the libraries answer: a listing of what `load`
+//! `test_probe` reads a schema file from standard input, and tells what the libraries answer: a listing of what `load`
 //! gives or of the table that is built in, the marks of a file, or the answer of each call that takes memory.
 //!
-//! The tests from outside ask it: `probe list`, `probe built-in`, `probe marks` and `probe calls`. The exit status is 0 where it came
+//! The tests from outside ask it: `list`, `built-in`, `marks` or `calls` is its first word. The exit status is 0 where it came
 //! to its end, whatever was answered, 2 for other words, and 3 where its own reading failed.
 #![tactic(auto)]
 
@@ -42,7 +42,7 @@ fn read_input(rt: HostRuntime) -> io::Result<Vec<u8>> {
 /// Does what the word asks for; answers the exit status.
 fn start(rt: HostRuntime) -> io::Result<u8> {
     let Some(mode) = read_mode(rt)? else {
-        eprintln!(rt; "usage: probe list|built-in|marks|calls <FILE.bfbs")?;
+        eprintln!(rt; "usage: test_probe list|built-in|marks|calls <FILE.bfbs")?;
         return Ok(2);
     };
     let bytes = read_input(rt)?;
@@ -60,8 +60,8 @@ fn main(rt: HostRuntime) -> io::Result<ExitCode> {
         Ok(status) => status,
         Err(error) => {
             let _ = match error.kind() {
-                ErrorKind::OutOfMemory => eprintln!(rt; "probe: out of memory"),
-                _ => eprintln!(rt; "probe: cannot read"),
+                ErrorKind::OutOfMemory => eprintln!(rt; "test_probe: out of memory"),
+                _ => eprintln!(rt; "test_probe: cannot read"),
             };
             3
         }

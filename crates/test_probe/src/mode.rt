@@ -1,7 +1,7 @@
 //! What the probe is asked for.
 
 ghost use Rattle.std.specs.Prelude.{◌≡◌, ◌↔◌, Some, codes};
-ghost use Rattle.probe.specs.declared.mode.Mode.TheVariants.{List as AList, BuiltIn as TheBuiltIn, Marks as ItsMarks, Calls as SomeCalls};
+ghost use Rattle.test_probe.specs.declared.mode.Mode.TheVariants.{List as AList, BuiltIn as TheBuiltIn, Marks as ItsMarks, Calls as SomeCalls};
 
 /// What the probe is asked for.
 #[derive(Clone, Copy)]
