@@ -21,7 +21,7 @@ GOOD, CUT = file_of("whole.bin", SEVEN), file_of("half.bin", SEVEN + ODD + SEVEN
 SHIFTED = file_of("shifted.bin", ODD)
 MISSING = FOLDER / "none.bin"
 STRAY = ("no good message came before: --bare is for a buffer without a prefix, --delimited for prefixes outside the "
-         "buffers")
+         "buffers, --delimited-be for big-endian ones, --skip for a header")
 MISALIGNED = "each message is misaligned: --delimited is for prefixes outside the buffers"
 OK = '{"message":1,"begin":0,"bytes":32,"ok":true,"tables":1,"depth":1,"reads":5}'
 

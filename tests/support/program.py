@@ -135,9 +135,11 @@ def failed(text, *before):
 
 def astray(text, *, delimited=False):
     """The text of a stream's fault, where no good message came before."""
+    long = is_allowed(text.partition("declared=")[2])
     return (f"{text}; no good message came before: --bare is for a buffer without a prefix"
             + ", --delimited for prefixes outside the buffers" * (not delimited)
-            + ", --max-bytes for longer messages" * is_allowed(text.partition("declared=")[2]))
+            + (", --max-bytes for longer messages" if long else
+               f", --delimited-be for big-endian {'lengths' if delimited else 'ones'}, --skip for a header"))
 
 
 def is_allowed(declared):

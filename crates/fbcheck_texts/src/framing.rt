@@ -63,10 +63,12 @@ impl Framing {
     {
         match self {
             Framing::Bare => b"\n",
-            Framing::Delimited(_) =>
-                b"; no good message came before: --bare is for a buffer without a prefix\n",
+            Framing::Delimited(Endian::Little) =>
+                b"; no good message came before: --bare is for a buffer without a prefix, --delimited-be for big-endian lengths, --skip for a header\n",
+            Framing::Delimited(Endian::Big) =>
+                b"; no good message came before: --bare is for a buffer without a prefix, --delimited for little-endian lengths, --skip for a header\n",
             Framing::Prefixed =>
-                b"; no good message came before: --bare is for a buffer without a prefix, --delimited for prefixes outside the buffers\n",
+                b"; no good message came before: --bare is for a buffer without a prefix, --delimited for prefixes outside the buffers, --delimited-be for big-endian ones, --skip for a header\n",
         }
     }
 
