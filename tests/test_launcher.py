@@ -5,6 +5,7 @@ They run in a small copy of the repository, in which the command rt is a script 
 """
 
 import os
+import shutil
 import subprocess
 import time
 import unittest
@@ -46,6 +47,7 @@ exit 3
 RAN = Ran(3, b"<--bare><two words><>input", b"")
 WORDS = ["--bare", "two words", ""]
 BUILD = "scripts/build"
+UNKNOWN = "commit " + "?" * 40
 ONE_CALL = "rt run\nthe stored input\n"
 
 
@@ -165,6 +167,51 @@ class Launcher(Case):
         for words in [[], [""], ["nothing"], ["low", "other"]]:
             self.same(f"{words} are refused", copy.call(*words, script=BUILD),
                       Ran(2, b"", b"usage: scripts/build CRATE\n"))
+
+    def test_the_commit_is_named(self):
+        """A program whose version has a line for it gets the commit that last changed what it is made of, once all of that
+        is committed, and its length stays."""
+        copy = Copy("named")
+        for tool in ("git", "sed"):
+            (copy.bin / tool).symlink_to(shutil.which(tool))
+        copy.write("program", f"{SHOWS}# a program of this version:\n{UNKNOWN}\n")
+        copy.write(".gitignore", "out/\ncalls\n")
+        program = copy.top / "crates/fbcheck/out/fbcheck"
+
+        def git(*words):
+            by = ["-c", "user.name=a name", "-c", "user.email=a@b.example"]
+            return subprocess.run(["git", *by, *words], cwd=copy.top, check=True, capture_output=True, text=True).stdout
+
+        def named():
+            copy.call("fbcheck", script=BUILD)
+            return program.read_text().splitlines()[-1]
+
+        self.same("without a history", named(), UNKNOWN)
+        git("init", "--quiet")
+        self.same("what isn't committed", named(), UNKNOWN)
+        git("add", "--all")
+        git("commit", "--quiet", "--message", "first")
+        first = git("rev-parse", "HEAD").strip()
+        copy.calls()
+        self.same("once it is committed", (named(), copy.calls()), (f"commit {first}", ""))
+        self.same("the rest stays", program.read_text(), copy.write("p", f"{SHOWS}# a program of this version:\n"
+                                                                          f"commit {first}\n").read_text())
+        (copy.top / "p").unlink()
+        copy.write("README.md", "more\n")
+        git("add", "--all")
+        git("commit", "--quiet", "--message", "another page")
+        copy.write("crates/low/src/lib.rt", "changed\n")
+        self.same("a change that isn't committed", named(), UNKNOWN)
+        git("checkout", "--quiet", "crates/low/src/lib.rt")
+        self.same("of a commit that changed no crate the one before", named(), f"commit {first}")
+        copy.write("crates/low/src/lib.rt", "changed\n")
+        git("commit", "--quiet", "--all", "--message", "a change")
+        self.same("of one that did", named(), f"commit {git('rev-parse', 'HEAD').strip()}")
+        shallow = copy.top / "shallow"
+        git("clone", "--quiet", "--depth", "1", f"file://{copy.top}", str(shallow))
+        self.same("in a clone without the history", subprocess.run(
+            [shallow / BUILD, "--commit", "fbcheck"], capture_output=True, text=True, env={"PATH": str(copy.bin)}).stdout,
+            UNKNOWN.removeprefix("commit ") + "\n")
 
     def test_what_is_fresh(self):
         copy = Copy("fresh").built()

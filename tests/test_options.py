@@ -675,8 +675,11 @@ class Options(Case):
     def test_the_version_is_told(self):
         logic = re.search(r"must end in `(logic [^`]+)`", (TOP / "README.md").read_text())[1]
         number = re.search(r"^Version: (.*)$", (TOP / "c/fbcheck.pc.in").read_text(), re.M)[1]
+        commit = run("--version").out.splitlines()[1].decode()
+        self.holds("the commit, or that it isn't known", re.fullmatch(r"commit ([0-9a-f]{40}|\?{40})", commit), commit)
         for words in [["--version"], ["--bare", "--version"], ["--version", "--nothing"]]:
-            self.same(f"{words}", run(*words, given=SEVEN), good(f"fbcheck {number}", f"proved in Rattle, {logic}"))
+            self.same(f"{words}", run(*words, given=SEVEN),
+                      good(f"fbcheck {number}", commit, f"proved in Rattle, {logic}"))
         self.same("-V", run("-V", given=SEVEN), good(f"fbcheck {number}"))
         if there("rt"):
             told = subprocess.run(["rt", "version"], capture_output=True, text=True, timeout=SECONDS).stdout

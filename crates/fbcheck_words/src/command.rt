@@ -9,8 +9,9 @@ use std::alloc::{AllocError, Global};
 /// The version of the program and of the library for C.
 const VERSION: &str = "1";
 
-/// The same, and the toolchain's logic, in which all of it is proved.
-const LONG_VERSION: &str = "1\nproved in Rattle, logic dac8208d650f15bf";
+/// The same, the commit, which `scripts/build` writes over the question marks, and the toolchain's logic, in which all of
+/// it is proved.
+const LONG_VERSION: &str = "1\ncommit ????????????????????????????????????????\nproved in Rattle, logic dac8208d650f15bf";
 
 /// What an option takes.
 #[derive(Clone, Copy)]
