@@ -65,7 +65,7 @@ def framed(message):
 # By what the list says was given: the words, and standard input.
 CALLS = {
     "a bare buffer, read as a stream: what follows its first four bytes is taken for an offset": [((), BARE)],
-    "a message behind gRPC's five-byte header; below 256 bytes it's `V2` at 4, and for most of 1,024 or more `S1`": [
+    "a message after gRPC's five-byte header; below 256 bytes it's `V2` at 4, and for most of 1,024 or more `S1`": [
         (BY_POST, framed(FIRST))
     ],
     "a file packed by `zstd`; by `zip` it's `declared=67324752`, and `gzip` from a pipe gives `S2`, or a bad first "

@@ -87,6 +87,9 @@ class Readme(unittest.TestCase):
                 run = in_folder(folder, *words, script)
                 self.assertEqual(run.returncode, status, run)
                 self.assertLessEqual(set(told), set(run.stdout.decode().splitlines()), run)
+        (folder / "my.bfbs").unlink()
+        run = in_folder(folder, script)
+        self.assertEqual((run.returncode, run.stdout), (2, b'"null","cannot read schema",\n'))
 
     @unittest.skipIf(shutil.which("flatc") is None, "flatc isn't there")
     def test_step_of_ci(self):
