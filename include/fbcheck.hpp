@@ -19,23 +19,10 @@
 // or a Framer must not be used by two calls at once: give each thread its own. For calls of fbcheck.h that aren't
 // wrapped here, pass get().
 //
-// What an ok says: all accesses stay inside the buffer if the reader
-//
-//   1. uses this schema
-//   2. checks a union's type first, and fetches the value only if the type isn't 0 and the schema has it
-//   3. goes through a vector of unions by the length of its vector of values (which may be absent though the types are
-//      there)
-//   4. treats fields with the attributes nested_flatbuffer and flexbuffer as plain vectors of bytes
-//
-// UnPack() as flatc generates it doesn't check: it fetches a union's value whatever its type, and so can crash on
-// buffers that are ok; Pack() can crash on objects that UnPack() made of these. Nor do FIELD_nested_root() and
-// FIELD_flexbuffer_root() check the bytes that they read. With FBCHECK_STRICT (Options::demands) an ok says more: a
-// reader may fetch a union's value before it checks the type, as long as it follows no more than the value's own offset
-// then, and may go through a vector of unions by the length of either vector. UnPack() does no more than that. Nested
-// buffers are ok too, by the same words, and there are no flexbuffers (with FBCHECK_PLAIN_BYTES both are plain bytes).
-// With FBCHECK_UTF8 strings are UTF-8, and with FBCHECK_KNOWN_FIELDS tables have no fields that the schema doesn't
-// know, nor deprecated ones. A Schema that is made with such demands makes them in each check, whatever the check's own
-// options:
+// What an ok says, and asks of readers, is at the top of fbcheck.h: above all, a reader uses this schema, and checks a
+// union's type before it fetches the value. UnPack() and FIELD_nested_root() need FBCHECK_STRICT; see there for Pack()
+// and FIELD_flexbuffer_root(), too. A Schema that is made with demands makes them in each check, whatever the check's
+// own options:
 //
 //     fbcheck::Options strict;
 //     strict.demands = FBCHECK_STRICT;

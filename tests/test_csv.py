@@ -187,6 +187,11 @@ class Csv(Case):
             asked = subprocess.run(["sqlite3", ":memory:", f".import --csv {made} made", "select hex(name), hp from made"],
                                    capture_output=True, timeout=60)
             self.same("sqlite3", asked.stdout.split(), [b'a "b", c\r\nd'.hex().upper().encode() + b"|1", b"|-2"])
+            made.write_bytes(rows("a,f,u", ",NaN,7", f",-Infinity,{2**64 - 1}"))
+            script = f".import --csv --skip 1 {made} made", "select typeof(a), avg(a), f, typeof(u) from made group by f"
+            asked = subprocess.run(["sqlite3", ":memory:", "create table made (a real, f real, u integer)", *script],
+                                   capture_output=True, timeout=60)
+            self.same("what it doesn't know", asked.stdout.split(), [b"text|0.0|-Infinity|real", b"text|0.0|NaN|integer"])
         if importlib.util.find_spec("numpy"):
             import numpy
 

@@ -10,6 +10,7 @@ import json
 import os
 import random
 import re
+import struct
 import subprocess
 import sys
 import unittest
@@ -222,14 +223,14 @@ def headed(features, size, more=b""):
 
 class FeaturesAt(Case):
     def test_where_features_begin(self):
-        self.same("in the example", features_at(EXAMPLE / "places.fgb", PROGRAM), (0, f"{PLACES.begin}\n", ""))
+        self.same("in the example", features_at(EXAMPLE / "places.fgb", PROGRAM), (0, f"{PLACES.begin} 5\n", ""))
         for features, size, nodes in [
             (0, 16, 0), (9, 0, 0), (1, 16, 2), (2, 16, 3), (16, 16, 17), (17, 16, 20), (256, 16, 273), (257, 16, 277),
             (5, 2, 11), (8, 2, 15), (9, 65535, 10),
         ]:
             data = headed(features, size, bytes(40 * nodes))
             path = file_of("headed.fgb", data)
-            self.same(f"{features} by {size}", features_at(path, PROGRAM), (0, f"{len(data)}\n", ""))
+            self.same(f"{features} by {size}", features_at(path, PROGRAM), (0, f"{len(data)} {features}\n", ""))
             if size == 16 and features:
                 self.same(f"{features}: as the tests count", node_count(features), nodes)
 
@@ -238,19 +239,27 @@ class FeaturesAt(Case):
             self.skipTest("ogr2ogr isn't there")
         for of_layer, _ in files()[:2]:
             for file in of_layer:
-                self.same(file.path.name, features_at(file.path, PROGRAM), (0, f"{file.begin}\n", ""))
+                want = 0, f"{file.begin} {file.layer.count}\n", ""
+                self.same(file.path.name, features_at(file.path, PROGRAM), want)
 
     def test_faults(self):
         long = headed(2**64 - 1, 2)
+        refusing = file_of("refusing", b"#!/bin/sh\necho no schema >&2\nexit 2\n")
+        refusing.chmod(0o755)
         bad = "the header isn't ok: "
         for name, data, status, text in [
             ("another file", b"{}", 1, "no FlatGeobuf file of version 3"),
             ("another version", changed(PLACES.data, (3, "02")), 1, "no FlatGeobuf file of version 3"),
-            ("cut in its header", PLACES.data[:99], 1, bad),
-            ("cut before it", PLACES.data[:8], 1, bad),
-            ("a bad header", changed(PLACES.data, (12, "ffffff7f")), 1, bad),
-            ("cut in its index", PLACES.data[:900], 1, "the index ends at 944, behind the file's end"),
-            ("a longer index than there is", long, 1, f"the index ends at {len(long) + 40 * (2**65 - 2)}, behind the"),
+            ("cut in its header", PLACES.data[:99], 1, "the file ends in its header (91 of 696 bytes)"),
+            ("cut before it", PLACES.data[:8], 1, "the file ends in its header (0 of 4 bytes)"),
+            ("cut in its prefix", PLACES.data[:11], 1, "the file ends in its header (3 of 4 bytes)"),
+            ("a header longer than the file", changed(PLACES.data, (8, "ffffffff")), 1,
+             f"the file ends in its header ({len(PLACES.data) - 8} of {2**32 + 3} bytes)"),
+            ("a header that no limit allows", headed(9, 16)[:8] + struct.pack("<I", 1 << 26) + bytes(1 << 26), 1,
+             f"{bad}{{\"fault\":\"stream: S1 Oversize declared={1 << 26}\""),
+            ("a bad header", changed(PLACES.data, (12, "ffffff7f")), 1, f'{bad}{{"message":1,"begin":8,"bytes":696,'),
+            ("cut in its index", PLACES.data[:900], 1, "the index ends at 944, after the file's end"),
+            ("a longer index than there is", long, 1, f"the index ends at {len(long) + 40 * (2**65 - 2)}, after the"),
             ("nodes of one", headed(9, 1), 1, "the header has index_node_size 1"),
         ]:
             path = file_of("wrong.fgb", data)
@@ -260,6 +269,7 @@ class FeaturesAt(Case):
         for name, words, text in [
             ("no file", [FOLDER / "gone.fgb"], f"{FOLDER}/gone.fgb: No such file or directory"),
             ("no program", [EXAMPLE / "places.fgb", FOLDER / "gone"], f"{FOLDER}/gone: No such file or directory"),
+            ("one that checks nothing", [EXAMPLE / "places.fgb", refusing], "no schema"),
         ]:
             self.same(name, features_at(*words), (2, "", f"features_at: {text}\n"))
         for words in [(), ("--help",), ("a", "b", "c")]:
@@ -269,18 +279,55 @@ class FeaturesAt(Case):
 class Page(Case):
     """The commands of the page print what stands below them."""
 
+    BLOCKS = re.findall(r"```sh\n(.*?)```", (EXAMPLE / "README.md").read_text(), re.S)
+
+    @classmethod
+    def setUpClass(cls):
+        super().setUpClass()
+        cls.path = FOLDER / "on the path"
+        cls.path.mkdir()
+        (cls.path / "fbcheck").symlink_to(PROGRAM)
+
+    def ran(self, block, folder):
+        """How bash ends by these commands in a folder, and the lines that it writes."""
+        ran = subprocess.run(["bash", "-c", block], cwd=folder, stdout=subprocess.PIPE, stderr=subprocess.STDOUT,
+                             timeout=60, env={**os.environ, "PATH": f"{self.path}:{os.environ['PATH']}"})
+        return ran.returncode, ran.stdout.decode().splitlines()
+
     def test_commands(self):
-        folder = FOLDER / "on the path"
-        folder.mkdir()
-        (folder / "fbcheck").symlink_to(PROGRAM)
-        text = (EXAMPLE / "README.md").read_text()
-        blocks = re.findall(r"```sh\n(.*?)```", text, re.S)
-        self.same("commands", len(blocks), 5)
-        for block in blocks:
+        self.same("commands", len(self.BLOCKS), 5)
+        for block in self.BLOCKS:
             shown = [line.removeprefix("# ") for line in block.splitlines() if line.startswith("# ")]
-            ran = subprocess.run(["bash", "-c", block], cwd=EXAMPLE, stdout=subprocess.PIPE, stderr=subprocess.STDOUT,
-                                 timeout=60, env={**os.environ, "PATH": f"{folder}:{os.environ['PATH']}"})
-            self.same(block.splitlines()[0], (ran.returncode, ran.stdout.decode().splitlines()), (0, shown))
+            self.same(block.splitlines()[0], self.ran(block, EXAMPLE), (0, shown))
+
+    def test_many_files(self):
+        """The loop tells of bad features, and of files that lack some."""
+        folder = FOLDER / "many files"
+        folder.mkdir()
+        for name in ("features_at", "flatgeobuf.bfbs"):
+            (folder / name).symlink_to(EXAMPLE / name)
+        data, begin = PLACES.data, PLACES.begin
+        lengths = [len(message) for message in messages_of(data[begin:])]
+        swallowing = struct.pack("<I", sum(lengths[1:4]) - 4).hex()
+        unknown = buffer({8: ("Q", 0), 9: ("H", 0)}, prefix=True)
+        for name, file in [
+            ("a.fgb", data),
+            ("b.fgb", data[: begin + sum(lengths[:3])]),
+            ("c.fgb", changed(data, (begin + lengths[0], swallowing))),
+            ("d.fgb", changed(data, (begin + 4, "ffffff7f"))),
+            ("e.fgb", data[:-1]),
+            ("f.fgb", data[:99]),
+            ("g.fgb", data[:8] + unknown + data[begin:]),
+        ]:
+            (folder / name).write_bytes(file)
+        self.same("what is told", self.ran(self.BLOCKS[-1], folder), (0, [
+            "b.fgb: 3 of 5 features",
+            "c.fgb: 3 of 5 features",
+            "d.fgb: 1 bad V2 OutOfBuffer at=2147483651 object=2 field=- reads=2 in . [FlatGeobuf.Feature]",
+            f"fbcheck: e.fgb: stream: S2 Truncated held={lengths[4] - 1}",
+            "e.fgb: 4 of 5 features",
+            "features_at: f.fgb: the file ends in its header (91 of 696 bytes)",
+        ]))
 
     @unittest.skipUnless(there("flatc"), "flatc isn't there")
     def test_schema_file(self):

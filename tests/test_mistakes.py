@@ -7,7 +7,6 @@ import random
 import re
 import struct
 import subprocess
-import sys
 import zipfile
 
 from tests.support.buffers import POST
@@ -63,18 +62,10 @@ def framed(message):
     return struct.pack(">BI", 0, len(message)) + message
 
 
-
-def recipe(stream):
-    """What the page's recipe makes of it."""
-    page = (TOP / "docs/REFERENCE.md").read_text()
-    code = re.search(r"python3 -c '(import sys; data.*?)' < in", page, re.S)[1]
-    return subprocess.run([sys.executable, "-c", code], input=stream, capture_output=True, check=True).stdout
-
-
 # By what the list says was given: the words, and standard input.
 CALLS = {
     "a bare buffer, read as a stream: what follows its first four bytes is taken for an offset": [((), BARE)],
-    "a message behind gRPC's five-byte header; below 256 bytes it's `V2` at 4, and for most of 1,024 or more `S1`": [
+    "a message after gRPC's five-byte header; below 256 bytes it's `V2` at 4, and for most of 1,024 or more `S1`": [
         (BY_POST, framed(FIRST))
     ],
     "a file packed by `zstd`; by `zip` it's `declared=67324752`, and `gzip` from a pipe gives `S2`, or a bad first "
@@ -110,7 +101,7 @@ HINTED = [
 def rows():
     """The list's lines, with what was given."""
     page = (TOP / "docs/REFERENCE.md").read_text()
-    section = page.split("## Where all or most messages are bad")[1].split("\n## ")[0]
+    section = page.split("## When all or most messages are bad")[1].split("\n## ")[0]
     return re.findall(r"^- `(.+?)`: (.+?) → .+$", re.sub(r"\n  +", " ", section), re.M)
 
 
@@ -152,16 +143,15 @@ class Mistakes(Case):
             ("the root with its namespace", [*BY_POST, "--root", "post.Delivery"], FIRST, 0),
             ("a text that begins with the least of characters", BY_POST, b"\t\t\t\t", 3),
             ("gRPC before 1,024 bytes", BY_POST, framed(bytes(1024)), 3),
-            ("what the recipe makes of big-endian prefixes", BY_POST, recipe(turned(FIRST + SECOND)), 0),
-            ("of those outside the buffers, with --delimited", ["--delimited"], recipe(turned(prefixed(BARE))), 0),
-            ("of these without a recipe", ["--delimited"], turned(prefixed(BARE)), 3),
-            ("with --delimited-be", ["--delimited-be"], turned(prefixed(BARE)), 0),
+            ("prefixes turned to big-endian", [*BY_POST, "--delimited-be", "--no-alignment"], turned(FIRST + SECOND), 0),
+            ("those outside the buffers", ["--delimited-be"], turned(prefixed(BARE)), 0),
+            ("these with --delimited", ["--delimited"], turned(prefixed(BARE)), 3),
         ]:
             ran = run(*words, given=stream)
             self.same(name, ran.status, want)
             self.same(f"{name}: S1", b"S1 Oversize" in ran.err, want == 3)
-        shifted = run(given=recipe(turned(prefixed(BARE)))).out
-        self.holds("of those outside the buffers, without --delimited", shifted.startswith(b"1 bad V3 "), shifted)
+        shifted = run(*BY_POST, "--delimited-be", given=turned(FIRST)).out
+        self.holds("a turned one whose values are checked for alignment", shifted.startswith(b"1 bad V3 "), shifted)
         self.same("a bare input above the limit", run(*BY_POST, "--bare", "--max-bytes", "511", given=FIRST),
                   failed(overlong(511)))
         for message in (FIRST, SECOND):
@@ -170,7 +160,6 @@ class Mistakes(Case):
         self.same("JSON's number", struct.unpack("<I", b'{"id')[0], 1_684_611_707)
         declared = struct.unpack("<I", b"\t\t\t\t")[0]
         self.holds("the least that a text declares", declared > 100_000_000, declared)
-        self.same("the recipe turns prefixes and nothing else", recipe(turned(POST)), POST)
         for name, data in [("JSON", JSON), ("gzip", gzipped(POST)), ("zstd", by_zstd(POST)), ("zip", zipped(POST)),
                            ("a pipe's gzip", piped(POST))]:
             told = run(*BY_POST, "--bare", given=data).out.split(b" object=")[0]

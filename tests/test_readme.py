@@ -24,6 +24,15 @@ def block(page, beginning):
     return None
 
 
+def in_folder(folder, *words):
+    """How bash ends by these words in a folder, with the program on the PATH."""
+    if not (FOLDER / "path").exists():
+        (FOLDER / "path").mkdir()
+        (FOLDER / "path/fbcheck").symlink_to(PROGRAM)
+    return subprocess.run(["bash", *words], cwd=folder, capture_output=True, timeout=60,
+                          env={**os.environ, "PATH": f"{FOLDER / 'path'}:{os.environ['PATH']}"})
+
+
 def anchors(page):
     """What a link behind a # may name on a page: its headings in small letters, with dashes for spaces."""
     text = re.sub(r"(?s)```.*?```", "", page.read_text())
@@ -41,6 +50,48 @@ class Readme(unittest.TestCase):
         self.assertEqual((run.returncode, run.stdout.decode(), run.stderr), (1, wanted, b""))
 
     @unittest.skipIf(shutil.which("flatc") is None, "flatc isn't there")
+    def test_first_commands_of_the_reference(self):
+        """They print what stands below them."""
+        folder = FOLDER / "first"
+        folder.mkdir()
+        script = block(REFERENCE, "echo")
+        shown = [line.removeprefix("# ") for line in script.splitlines() if line.startswith("# ")]
+        run = in_folder(folder, "-c", script)
+        self.assertEqual((run.returncode, run.stdout.decode().splitlines(), run.stderr), (0, shown, b""))
+
+    @unittest.skipIf(None in map(shutil.which, ("flatc", "jq")), "flatc or jq isn't there")
+    def test_report_of_ci(self):
+        """The step for any number of files fails, and tells of each, as the page says."""
+        folder = FOLDER / "report"
+        (folder / "bins").mkdir(parents=True)
+        (folder / "my.fbs").write_text('table M { name:string; }\nroot_type M;\nfile_identifier "KIND";\n')
+        (folder / "it.json").write_text('{ "name": "Orc" }')
+        for words in (["my.fbs", "it.json"], ["--schema", "my.fbs"]):
+            subprocess.run(["flatc", "--binary", *words], cwd=folder, check=True, stdout=subprocess.DEVNULL)
+        good = (folder / "it.bin").read_bytes()
+        script = file_of("report.sh", block(REFERENCE, "find bins").encode())
+        for name, data, status, told in [
+            (None, None, 2, []),
+            (b"a.bin", good, 0, []),
+            (b"b.bin", good[:-4], 1, ['"bins/b.bin","OutOfBuffer","name"']),
+            (b"c.bin", ..., 3, ['"bins/c.bin","no such file",']),
+            (b"d\xff.bin", good, 3, ['"{""bytes"":""62696e732f64ff2e62696e""}","file name isn\'t UTF-8",']),
+        ]:
+            path = os.path.join(os.fsencode(folder / "bins"), name or b"")
+            if data is ...:
+                os.symlink("nothing", path)
+            elif data is not None:
+                with open(path, "wb") as file:
+                    file.write(data)
+            for words in ([], ["-e"]):
+                run = in_folder(folder, *words, script)
+                self.assertEqual(run.returncode, status, run)
+                self.assertLessEqual(set(told), set(run.stdout.decode().splitlines()), run)
+        (folder / "my.bfbs").unlink()
+        run = in_folder(folder, script)
+        self.assertEqual((run.returncode, run.stdout), (2, b'"null","cannot read schema",\n'))
+
+    @unittest.skipIf(shutil.which("flatc") is None, "flatc isn't there")
     def test_step_of_ci(self):
         """The step for CI ends with 0 where all files are good, and fails by each of the mistakes that stand there."""
         folder = FOLDER / "step"
@@ -49,7 +100,6 @@ class Readme(unittest.TestCase):
         (folder / "it.json").write_text('{ "name": "Orc" }')
         subprocess.run(["flatc", "--binary", "my.fbs", "it.json"], cwd=folder, check=True, stdout=subprocess.DEVNULL)
         good = (folder / "it.bin").read_bytes()
-        (folder / "fbcheck").symlink_to(PROGRAM)
         script = file_of("step.sh", block(REFERENCE, "set -e\n").encode())
         for name, data, status, told in [
             ("no file", None, 1, b""),
@@ -62,8 +112,7 @@ class Readme(unittest.TestCase):
                 (folder / "bins/other.bin").symlink_to("nothing")
             elif data is not None:
                 (folder / "bins/it.bin").write_bytes(data)
-            run = subprocess.run(["bash", script], cwd=folder, capture_output=True, timeout=60,
-                                 env={**os.environ, "PATH": f"{folder}:{os.environ['PATH']}"})
+            run = in_folder(folder, script)
             with self.subTest(name):
                 self.assertEqual((run.returncode, told in run.stdout), (status, True), run)
 

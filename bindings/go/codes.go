@@ -40,7 +40,7 @@ const (
 	Float       Kind = 6  // Float: a Float or Double
 	Text        Kind = 7  // Bytes: those of a string, which need not be UTF-8
 	Struct      Kind = 8  // Bytes: the bytes of a struct, padding included
-	Vector      Kind = 9  // or an array; Uint: its elements; Bytes: their bytes, if scalars or structs
+	Vector      Kind = 9  // or an array; Uint: its element count; Bytes: their bytes, if scalars or structs
 	Table       Kind = 10 // a table
 	Union       Kind = 11 // Uint: its type, 0 for none
 )
