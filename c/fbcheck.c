@@ -9,6 +9,11 @@
 #include <stdlib.h>
 #include <string.h>
 
+/* Which commit last changed the sources; scripts/build_c says it. */
+#ifndef FBCHECK_COMMIT
+#define FBCHECK_COMMIT "????????????????????????????????????????"
+#endif
+
 /* What the proofs know as a handle: a pointer to what it owns, or null. */
 typedef struct handle {
     void *inside;
@@ -313,6 +318,11 @@ uint32_t fbcheck_options_init(fbcheck_options *options)
 uint32_t fbcheck_version(void)
 {
     return FBCHECK_VERSION;
+}
+
+const char *fbcheck_commit(void)
+{
+    return FBCHECK_COMMIT;
 }
 
 uint32_t fbcheck_struct_sizes(fbcheck_sizes *sizes)

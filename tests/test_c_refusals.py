@@ -102,6 +102,8 @@ class RefusalsForC(LibraryCase):
         self.same("options to make", calls.fbcheck_options_init(None), status.NULL)
         self.same("sizes to tell", calls.fbcheck_struct_sizes(None), status.NULL)
         self.same("the version", calls.fbcheck_version(), python.VERSION)
+        commit = calls.fbcheck_commit()
+        self.holds("the commit, or that it isn't known", re.fullmatch(rb"[0-9a-f]{40}|\?{40}", commit), commit)
         calls.fbcheck_schema_free(schema)
         calls.fbcheck_schema_free(None)
 

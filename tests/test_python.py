@@ -782,6 +782,8 @@ class Python(LibraryCase):
         project = (BINDING / "pyproject.toml").read_text()
         self.holds("it has the library's version", f'version = "{version}"\n' in project, project)
         self.same("and tells it", self.module.__version__, version)
+        commit = self.module.__commit__
+        self.holds("and the library's commit, where it is known", re.fullmatch(r"[0-9a-f]{40}|\?{40}", commit), commit)
         checker = self.module.Schema(ORDERS, prefixed=True)
         bad = page.split("fbcheck.BadBuffer: ")[1].splitlines()[0]
         self.same("what a no looks like", str(checker.check(messages_of(POST)[4])), bad)

@@ -243,5 +243,6 @@ CALLS = [
     (U32, "fbcheck_framer_finish", [to(Framer), ADDRESS, SIZE]),
     (U32, "fbcheck_options_init", [to(Options)]),
     (U32, "fbcheck_version", []),
+    (TEXT, "fbcheck_commit", []),
     (U32, "fbcheck_struct_sizes", [to(Sizes)]),
 ]

@@ -713,7 +713,7 @@ static int module_exec(PyObject *module)
         if (answer != 0)
             return -1;
     }
-    return 0;
+    return PyModule_AddStringConstant(module, "commit", fbcheck_commit());
 }
 
 static PyMethodDef module_methods[] = {

@@ -340,5 +340,6 @@ extern "C" {
     pub fn fbcheck_framer_finish(framer: *mut Framer, room: *const u8, size: usize) -> u32;
     pub fn fbcheck_options_init(options: *mut Options) -> u32;
     pub fn fbcheck_version() -> u32;
+    pub fn fbcheck_commit() -> *const c_char;
     pub fn fbcheck_struct_sizes(sizes: *mut Sizes) -> u32;
 }

@@ -222,6 +222,7 @@ final class Codes {
     static final FunctionDescriptor FRAMER_FINISH_WORDS = FunctionDescriptor.of(JAVA_INT, ADDRESS, ADDRESS, JAVA_LONG);
     static final FunctionDescriptor OPTIONS_INIT_WORDS = FunctionDescriptor.of(JAVA_INT, ADDRESS);
     static final FunctionDescriptor VERSION_WORDS = FunctionDescriptor.of(JAVA_INT);
+    static final FunctionDescriptor COMMIT_WORDS = FunctionDescriptor.of(ADDRESS);
     static final FunctionDescriptor STRUCT_SIZES_WORDS = FunctionDescriptor.of(JAVA_INT, ADDRESS);
 
     private Codes() {}

@@ -5,6 +5,8 @@ from _typeshed import ReadableBuffer
 
 import fbcheck
 
+commit: str
+
 class Verdict:
     def __new__(cls, status: int, reason: int, object_number: int, field_number: int, tables: int, depth: int,
                 at: int, reads: int, place: str | None, object: str | None, field: str | None, /) -> Self: ...
