@@ -28,7 +28,7 @@ same_table : {k j : ℕ} → to_table k ≡ to_table j → k ≡ j
 same_table h = cc
 
 module _ (b : List ℕ) (S : Rows) where
-  -- By parts from a kind at a spot to what is behind an offset word.
+  -- By parts from a kind at a spot to what is behind a uoffset.
   record GoesTo (kind : Kind) (from : Spot) (parts : List Part) (place : ℕ) (lead : Lead) : Type 0 where
     steps : List Step
     last : Kind
@@ -88,7 +88,7 @@ module _ (b : List ℕ) (S : Rows) where
           subst (λ o. GoesTo (Union e) (AtUnion e y p) (member name ∷ []) p (lead_of S o)) (sym k.1)
           (goes_after (Union e) k.0 (AtUnion e y p) (member_spot b p k.0) (member name) [] (Member y) p (lead_of S (Some k.0)) (ap (to_member S e) v ∙ ap (to_kind y) k.1) leads (member_here p k.0 k.3))
 
-    -- an element of a vector that is its j-th offset word
+    -- an element of a vector that is its j-th uoffset
     element_goes : (kind next : Kind) (from q : Spot) (j n : ℕ) (ps : List Part) (x y : Entry) → n < 2 ^ 32 → element_kind kind ≡ Some next → next_spot b S from (Element j) ≡ Some (if_element n j q)
         → (j < n) × (y ≡ x) → GoesBy next q ps y → GoesBy kind from (element (decimal j) ∷ ps) x
     element_goes kind next from q j n ps x y few is leads h g =
@@ -100,7 +100,7 @@ module _ (b : List ℕ) (S : Rows) where
       abbrev parts_behind : Kind → List Part
       parts_behind kind = element_parts (element_of j kind) ++ member_parts (option_and_then (λ value. member_of_kind S value kind) (type_of b t g j kind))
 
-      -- a vector has no more offset words than the buffer has room for
+      -- a vector has no more uoffsets than the buffer has room for
       few : (p : ℕ) → IsVectorField c b t p 4 4 → word b (target b p) 4 < 2 ^ 32
       few p h = omega (arith, h.vector.within)
 
@@ -135,7 +135,7 @@ module _ (b : List ℕ) (S : Rows) where
       field_leads : Leads b S (AtTable k t) (Field g.number) (field_spot b t g)
       field_leads = field_step b S k t g.number g (found_by_number S served k i g at)
 
-      -- a link through an offset word of a field that holds
+      -- a link through a uoffset of a field that holds
       link_goes : (c : Checks) (j : ℕ) (x : Entry) → length b < 2 ^ 31 → IsField c b S t g → slice_get (entries b S t g) j ≡ Some x → GoesBy (Table k) (AtTable k t) (link_parts S (element_link b k t g j)) x
       unfolding IsField entries
       link_goes c j x short own next =
@@ -143,7 +143,7 @@ module _ (b : List ℕ) (S : Rows) where
           subst (λ ps. GoesBy (Table k) (AtTable k t) ps x) (sym (field_first (element_of j g.kind) (type_of b t g j g.kind)))
           (goes_after (Table k) g.kind (AtTable k t) (field_spot b t g) (field g.name) (parts_behind c short t j g g.kind) (Field g.number) x.place x.lead field_fits field_leads behind)
 
-  -- A dot stands behind a link through an offset word, since bytes have none.
+  -- A dot stands behind a link through a uoffset, since bytes have none.
   dot_of : (t p i : ℕ) (j : Option ℕ) (g : Live) (kind : Kind) (x : Entry) → slice_get (entries_of b S t g p kind) i ≡ Some x → mark_of j (Some kind) ≡ codes "."
   dot_of t p i j g kind x h = grind arith
 

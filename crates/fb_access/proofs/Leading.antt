@@ -1,4 +1,4 @@
--- The offset words of a field lead where their leads say.
+-- The uoffsets of a field lead where their leads say.
 use Rattle.std.proofs.Common.{◌≡◌, ℕ, zero, suc, ◌+◌, ◌*◌, ◌<◌, ◌≤◌, List, [], ◌∷◌, length, refl, subst, arith, Some, None, IsTrue, nat_lt, if◌then◌else◌}
 use Rattle.std.specs.Prelude.{slice_get}
 use Rattle.std.proofs.lemmas.Bool.Decides.{nat_tests}
@@ -9,7 +9,7 @@ use Rattle.fb_rules.specs.Fields.{Lead, to_table, to_struct, to_string, to_nothi
 use Rattle.fb_rules.specs.Tree.{Elements, no_elements, element, Element, leaf, table}
 use Rattle.fb_access.specs.Held.{IsTableAt, IsTextAt, IsLed, AreLed}
 
--- the j-th of n offset words
+-- the j-th of n uoffsets
 pub record IsNth (xs : List Entry) (n j : ℕ) (x : Entry) : Type 0 where
   pub is : slice_get xs j ≡ (if nat_lt j n then Some x else None)
 
@@ -60,7 +60,7 @@ module _ (c : Checks) (b : List ℕ) (S : Rows) where
   pub union_row_led : (ys : Elements) (e q p n : ℕ) → ElementsUnfold ys c b S (union_row b S e q p n) → AreLed b S p n (λ j. lead_of S (member_of S e (word b (q + j) 1)))
   union_row_led ys e q p n u = record { at = λ j lt. led_at ys (union_row b S e q p n) j _ u (row_there (union_row_at b S e q p n j) lt) }
 
-  -- one offset word alone
+  -- one uoffset alone
   pub one_led : (ys : Elements) (lead : Lead) (p reads : ℕ) → ElementsUnfold ys c b S (entry lead p reads ∷ []) → IsLed b S p lead
   one_led ys lead p reads u = led_at ys (entry lead p reads ∷ []) 0 (entry lead p reads) u refl
 
@@ -87,7 +87,7 @@ module _ (c : Checks) (b : List ℕ) (S : Rows) where
   struct_found (table y) p size align u = absurd u
 
 module _ (b : List ℕ) (S : Rows) (p : ℕ) where
-  -- what an offset word leads to is there
+  -- what a uoffset leads to is there
   pub led_to_table : (k : ℕ) → IsTrue (is_table S k) → IsLed b S p (to_table k) → (p + 4 ≤ length b) × IsTableAt b S k (target b p)
   led_to_table k o h = table_found h.checks b S h.found p k o h.unfolds
 
@@ -97,7 +97,7 @@ module _ (b : List ℕ) (S : Rows) (p : ℕ) where
   pub led_to_struct : (size align : ℕ) → IsLed b S p (to_struct size align) → (p + 4 ≤ length b) × (target b p + size ≤ length b)
   led_to_struct size align h = struct_found h.checks b S h.found p size align h.unfolds
 
--- an offset word leads to nothing where a type has no member
+-- a uoffset leads to nothing where a type has no member
 pub led_to_nothing : (c : Checks) (b : List ℕ) (S : Rows) (p : ℕ) → IsLed b S p to_nothing
 unfolding ElementUnfolds
 led_to_nothing c b S p = record { checks = c; found = leaf; unfolds = tt }

@@ -67,7 +67,7 @@ module _ (b : List ℕ) (S : Rows) where
   from_element (AtUnions e y c) j q h l = if_below (word b c 4) j _ q (λ lt. record { union = h.union; led = h.led.at j lt }) l
   from_element p j q h l = absurd cc
 
-  -- what a union's offset word leads to
+  -- what a union's uoffset leads to
   member_lies : (p : ℕ) (kind : Kind) → MemberHolds S (Some kind) → IsLed b S p (lead_of S (Some kind)) → IsSpot b S (member_spot b p kind)
   unfolding IsSpot member_spot
   member_lies p (Table k) m l = (led_to_table b S p k m l).1
@@ -98,7 +98,7 @@ module _ (b : List ℕ) (S : Rows) where
   steps_stay p [] q served h r = subst (IsSpot b S) r h
   steps_stay p (s ∷ steps) q served h r = steps_stay r.0 steps q served (step_stays p s r.0 served h r.1) r.2
 
-  -- an offset word that leads to something
+  -- a uoffset that leads to something
   offset_lies : (c : Checks) (y : Found) (p : ℕ) (lead : Lead) → ElementUnfolds y c b S p lead → OffsetLies b p lead
   unfolding ElementUnfolds
   offset_lies c y p to_nothing u = tt

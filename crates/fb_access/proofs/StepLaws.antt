@@ -62,11 +62,11 @@ element_past : (n j : ℕ) (spot : Spot) → n ≤ j → if_element n j spot ≡
 element_past n j spot le = grind (arith, nat_tests)
 
 module _ (b : List ℕ) (S : Rows) (t o p j : ℕ) where
-  -- past a present field of this kind the steps lead to the j-th offset word
+  -- past a present field of this kind the steps lead to the j-th uoffset
   abbrev Follows : Kind → Entry → Type 0
   Follows kind x = (q : Spot) × Reaches b S (present_spot b t o p kind) (steps_on j kind) q × IsOfEntry b S x q
 
-  -- an element step from a vector to its j-th offset word
+  -- an element step from a vector to its j-th uoffset
   by_element : (from q : Spot) (n : ℕ) (x y : Entry) → next_spot b S from (Element j) ≡ Some (if_element n j q) → (j < n) × (y ≡ x) → IsOfEntry b S y q → (q : Spot) × Reaches b S from (Element j ∷ []) q × IsOfEntry b S x q
   by_element from q n x y next h is = (q, (q, next ∙ ap Some (element_there n j q h.0), refl), subst (λ z. IsOfEntry b S z q) h.1 is)
 
@@ -84,7 +84,7 @@ module _ (b : List ℕ) (S : Rows) (t o p j : ℕ) where
       by_element (AtUnions e y (target b p)) _ _ x _ refl (row_get (union_row_at b S e y (target b p + 4) (word b (target b p) 4) j) x (rw s_is at h)) (refl, refl)
   follows f kind x s_is h = absurd cc
 
-  -- an element step from a vector of offset words that has no such word
+  -- an element step from a vector of uoffsets that has no such word
   past_end : (n : ℕ) (x q : Spot) → n ≤ j → (m : Spot) × (Some (if_element n j x) ≡ Some m) × (m ≡ q) → position_of q ≡ None
   past_end n x q past r = grind (arith, element_past)
 
@@ -97,7 +97,7 @@ module _ (b : List ℕ) (S : Rows) (t j : ℕ) (f : Live) where
   follows_at None x h = absurd cc
   follows_at (Some p) x h = follows b S t f.slot p j f f.kind x refl h
 
-  -- an absent vector of offset words has no element
+  -- an absent vector of uoffsets has no element
   absent_element : (optional : Bool) (d : ℤ) (kind : Kind) (q : Spot) → AreOffsets kind → Reaches b S (absent_spot optional d kind) (Element j ∷ []) q → position_of q ≡ None
   unfolding absent_spot next_spot
   absent_element optional d kind q v r = grind (arith, absent_nowhere)

@@ -141,7 +141,7 @@ root_kids =
 abbrev pub SampleUnfolds : Type 0
 SampleUnfolds = Counts bytes rows 0 (node 0 36 root_kids) 5 2 98
 
--- a text lies in a buffer with the byte 0 behind it, and a union that leads to something with its offset word
+-- a text lies in a buffer with the byte 0 behind it, and a union that leads to something with its uoffset
 pub record InsideValues : Type 0 where
   pub a_text : LiesInside monster monsters (AtText 24)
   pub a_text_that_goes_on : LiesInside open_name monsters (AtText 24) → ⊥

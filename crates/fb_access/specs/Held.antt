@@ -18,13 +18,13 @@ pub record IsTableAt (b : List ℕ) (S : Rows) (k t : ℕ) : Type 0 where
   pub found : Tree
   pub unfolds : Unfolds found checks b S k t
 
--- the offset word at p leads to what its lead says
+-- the uoffset at p leads to what its lead says
 pub record IsLed (b : List ℕ) (S : Rows) (p : ℕ) (lead : Lead) : Type 0 where
   pub checks : Checks
   pub found : Element
   pub unfolds : ElementUnfolds found checks b S p lead
 
--- each of n offset words from p on leads where its lead says
+-- each of n uoffsets from p on leads where its lead says
 pub record AreLed (b : List ℕ) (S : Rows) (p n : ℕ) (leads : ℕ → Lead) : Type 0 where
   pub at : (j : ℕ) → j < n → IsLed b S (p + 4 * j) (leads j)
 
@@ -70,7 +70,7 @@ pub record AreUnionsAt (b : List ℕ) (S : Rows) (e q v : ℕ) : Type 0 where
   pub types : q + word b v 4 ≤ length b
   pub led : AreLed b S (v + 4) (word b v 4) (λ j. lead_of S (member_of S e (word b (q + j) 1)))
 
--- a union of the type y, with its offset word at p
+-- a union of the type y, with its uoffset at p
 pub record IsUnionAt (b : List ℕ) (S : Rows) (e y p : ℕ) : Type 0 where
   pub union : IsTrue (is_union S e)
   pub led : IsLed b S p (lead_of S (member_of S e y))

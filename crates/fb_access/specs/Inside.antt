@@ -9,20 +9,20 @@ use Rattle.fb_verify.specs.Sealed.{Sealed, IsUnfolded}
 use Rattle.fb_access.specs.declared.spot.Spot.TheVariants.{AtTable, AtInline, AtStruct, AtText, AtScalars, AtStructs, AtScalarArray, AtStructArray, AtTexts, AtTables, AtUnions, AtUnion}
 use Rattle.fb_access.specs.{Fitting.numbered, Denotes.Reaches, Denotes.root_spot, Held.IsCounted, Held.IsTextAt, Held.HasVtable, Held.IsReadable, declared.step.Step.Step, declared.spot.Spot.Spot}
 
--- the offset word of a union that leads to something
+-- the uoffset of a union that leads to something
 abbrev pub OffsetLies : List ℕ → ℕ → Lead → Type 0
 OffsetLies b p to_nothing = Unit {0}
 OffsetLies b p _ = p + 4 ≤ length b
 
 -- a table: its soffset and its vtable; and of each field that stands there, what is read before what it leads to: its
--- offset word, of a union the byte of its type, of a vector of unions the offset word, the count and the bytes of theirs
+-- uoffset, of a union the byte of its type, of a vector of unions the uoffset, the count and the bytes of theirs
 pub record IsTableInside (b : List ℕ) (S : Rows) (k t : ℕ) : Type 0 where
   pub vtable : HasVtable b t
   pub fields : (n p : ℕ) (f : Live) → numbered S k n ≡ Some f → field_place b t f.slot ≡ Some p → IsReadable b t f.slot p f.kind
 
 -- of a table these; of a value in place, and of an array of these, all its bytes; of a string or a vector its count and
--- so many bytes or elements behind it, an offset word being 4 bytes; behind a string's bytes a byte 0; of a vector of
--- unions their types too; of a union whose type the schema knows its offset word; what stands behind an offset word is
+-- so many bytes or elements behind it, a uoffset being 4 bytes; behind a string's bytes a byte 0; of a vector of
+-- unions their types too; of a union whose type the schema knows its uoffset; what stands behind a uoffset is
 -- a spot of its own
 abbrev pub LiesInside : List ℕ → Rows → Spot → Type 0
 LiesInside b S (AtTable k t) = IsTableInside b S k t

@@ -66,13 +66,13 @@ WaysResolve =
 
 -- Where links lead.
 
--- what stands behind the offset word at p by its lead, and the union itself where its type leads to nothing
+-- what stands behind the uoffset at p by its lead, and the union itself where its type leads to nothing
 abbrev pub IsBehind : List ℕ → Rows → ℕ → Lead → Spot → Type 0
 IsBehind b S p to_nothing q = (e : ℕ) × (y : ℕ) × (q ≡ AtUnion e y p)
 IsBehind b S p lead q = IsLedTo b S p lead q
 
 -- what is under check at a place, at the end of this way: the table in whose head it is, the field to which the way
--- leads, or what an offset word of one leads to; at the start, which is the one that was asked for, nothing is yet
+-- leads, or what a uoffset of one leads to; at the start, which is the one that was asked for, nothing is yet
 abbrev pub IsUnderCheck : Question → List ℕ → Way → Place → Spot → Type 0
 IsUnderCheck q b way (in_start start ident) at = (start ≡ q.start) × (ident ≡ q.ident) × (way ≡ way_to_start q.root)
 IsUnderCheck q b way (in_head k t) at = at ≡ AtTable k t

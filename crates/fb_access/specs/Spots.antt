@@ -27,7 +27,7 @@ kind_at (AtUnion e y p) = Some (Union e)
 kind_at (AtDefault s d) = Some (AScalar s)
 kind_at _ = None
 
--- a field of the table at t with the slot o that is present at p: an offset word there leads to all but scalars,
+-- a field of the table at t with the slot o that is present at p: a uoffset there leads to all but scalars,
 -- structs and unions
 unfoldable pub present_spot : List ℕ → ℕ → ℕ → ℕ → Kind → Spot
 present_spot b t o p (AScalar s) = AtInline s p
@@ -78,7 +78,7 @@ spot_of_field b S _ n = None
 abbrev pub if_element : ℕ → ℕ → Spot → Spot
 if_element n j spot = if nat_lt j n then spot else AtNoElement
 
--- to element j: those of a vector stand behind its count, in place or as offset words, those of an array from its place
+-- to element j: those of a vector stand behind its count, in place or as uoffsets, those of an array from its place
 -- on; a union has the j-th type
 unfoldable pub spot_of_element : List ℕ → Rows → Spot → ℕ → Option Spot
 spot_of_element b S (AtScalars s c) j = Some (if_element (word b c 4) j (AtInline s (c + 4 + scalar_size s * j)))
@@ -90,7 +90,7 @@ spot_of_element b S (AtTables k c) j = Some (if_element (word b c 4) j (AtTable 
 spot_of_element b S (AtUnions e q c) j = Some (if_element (word b c 4) j (AtUnion e (word b (q + j) 1) (c + 4 + 4 * j)))
 spot_of_element b S _ j = None
 
--- what an offset word at p of a union leads to; a member is of one of these three kinds
+-- what a uoffset at p of a union leads to; a member is of one of these three kinds
 unfoldable pub member_spot : List ℕ → ℕ → Kind → Spot
 member_spot b p (Table k) = AtTable k (target b p)
 member_spot b p (Struct k) = AtStruct k (target b p)

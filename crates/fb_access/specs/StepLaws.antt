@@ -1,4 +1,4 @@
--- The laws that tie steps to what the verifier checks: places of fields, and the offset words by which they lead on.
+-- The laws that tie steps to what the verifier checks: places of fields, and the uoffsets by which they lead on.
 use Rattle.std.specs.Prelude.{◌≡◌, ◌≢◌, ℕ, ◌+◌, ◌*◌, ◌<◌, ◌⊎◌, List, [], ◌∷◌, slice_get, Option, Some, None, option_and_then}
 use Rattle.fb_bytes.specs.Word.{word}
 use Rattle.fb_schema.specs.declared.kinds.Kind.TheVariants.{Scalar as AScalar, Struct, Union, Scalars, Texts, Structs, Tables, Unions}
@@ -26,7 +26,7 @@ position_of (AtUnions e q c) = Some c
 position_of (AtUnion e y p) = Some p
 position_of _ = None
 
--- where the value of a field of this kind is that stands at p: there, or where the offset word there leads
+-- where the value of a field of this kind is that stands at p: there, or where the uoffset there leads
 abbrev pub value_place : List ℕ → ℕ → Kind → ℕ
 value_place b p (AScalar s) = p
 value_place b p (Struct k) = p
@@ -45,34 +45,34 @@ pub record IsFieldOf (b : List ℕ) (t : ℕ) (f : Live) (q : Spot) : Type 0 whe
 abbrev pub FieldsStandInPlace : Type 0
 FieldsStandInPlace = (b : List ℕ) (S : Rows) (k t n : ℕ) (f : Live) (q : Spot) → numbered S k n ≡ Some f → Leads b S (AtTable k t) (Field n) q → IsFieldOf b t f q
 
--- Steps along offset words.
+-- Steps along uoffsets.
 
--- what the offset word at p leads to, by its lead
+-- what the uoffset at p leads to, by its lead
 abbrev pub IsLedTo : List ℕ → Rows → ℕ → Lead → Spot → Type 0
 IsLedTo b S p (to_table k) q = q ≡ AtTable k (target b p)
 IsLedTo b S p (to_struct size align) q = (k : ℕ) × (q ≡ AtStruct k (target b p)) × (struct_size S k ≡ size) × (struct_align S k ≡ align)
 IsLedTo b S p to_string q = q ≡ AtText (target b p)
 IsLedTo b S p to_nothing q = q ≡ AtOtherMember
 
--- the spot of an offset word by which a field leads on: the union that it belongs to, or else what it leads to
+-- the spot of a uoffset by which a field leads on: the union that it belongs to, or else what it leads to
 abbrev pub IsOfEntry : List ℕ → Rows → Entry → Spot → Type 0
 IsOfEntry b S x (AtUnion e y p) = (p ≡ x.place) × (lead_of S (member_of S e y) ≡ x.lead)
 IsOfEntry b S x q = IsLedTo b S x.place x.lead q
 
--- past a field of this kind, the steps to the j-th of these offset words
+-- past a field of this kind, the steps to the j-th of these uoffsets
 abbrev pub steps_on : ℕ → Kind → List Step
 steps_on j Texts = Element j ∷ []
 steps_on j (Tables k) = Element j ∷ []
 steps_on j (Unions e) = Element j ∷ []
 steps_on j _ = []
 
--- steps lead to each offset word by which the verifier says that a field leads on
+-- steps lead to each uoffset by which the verifier says that a field leads on
 abbrev pub StepsFollowEntries : Type 0
 StepsFollowEntries =
     (b : List ℕ) (S : Rows) (k t n j : ℕ) (f : Live) (x : Entry) → numbered S k n ≡ Some f → slice_get (entries b S t f) j ≡ Some x
     → (q : Spot) × Reaches b S (AtTable k t) (Field n ∷ steps_on j f.kind) q × IsOfEntry b S x q
 
--- a vector of offset words
+-- a vector of uoffsets
 abbrev pub AreOffsets : Kind → Type 0
 AreOffsets Texts = Unit {0}
 AreOffsets (Tables k) = Unit {0}
@@ -112,7 +112,7 @@ size_in_place S (Scalars s) = Some (scalar_size s)
 size_in_place S (Structs k) = Some (struct_size S k)
 size_in_place S _ = None
 
--- the extent of n elements is that of so many bytes for each, one after another; those behind offset words have none
+-- the extent of n elements is that of so many bytes for each, one after another; those behind uoffsets have none
 abbrev pub HoldsElements : List ℕ → Rows → Spot → ℕ → Option ℕ → Option Extent → Type 0
 HoldsElements b S q n (Some size) (Some e) = (e.size ≡ n * size) × ((j : ℕ) (r : Spot) → j < n → Leads b S q (Element j) r → position_of r ≡ Some (e.at + size * j))
 HoldsElements b S q n None None = Unit {0}

@@ -26,7 +26,7 @@ pub fn values_behind_a_prefix()
     ensures { PrefixedValues }
 {}
 
-/// What lies in a buffer, and what doesn't: a text with the byte behind it, and the offset word of a union.
+/// What lies in a buffer, and what doesn't: a text with the byte behind it, and the `uoffset` of a union.
 #[tactic(auto, using(crate::proofs::Shown::inside_values))]
 pub fn inside()
     ensures { InsideValues }

@@ -56,7 +56,7 @@ fn place_of(window: &Window<'_>, at: u64, slot: u16) -> Option<u64>
     Some(at + u64::from(offset))
 }
 
-/// Where the offset word at a position leads.
+/// Where the `uoffset` at a position leads.
 pub fn target_of(window: &Window<'_>, at: u64) -> u64
     requires short { length window.now < 2 ^ 31 }
     requires fits { at + 4 ≤ length window.now }

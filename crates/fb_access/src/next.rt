@@ -114,7 +114,7 @@ fn spot_of_element(window: &Window<'_>, schema: &Schema<'_>, spot: Spot, j: u32)
     }
 }
 
-/// Where the offset word at a position of a union leads, whose type has this member.
+/// Where the `uoffset` at a position of a union leads, whose type has this member.
 #[tactic(auto, unfolding(crate::specs::Spots::member_spot))]
 fn spot_at_member(window: &Window<'_>, schema: &Schema<'_>, place: u64, member: Kind) -> Spot
     requires short { length window.now < 2 ^ 31 }

@@ -100,7 +100,7 @@ impl<'v, 'b, 's, 'n> Place<'v, 'b, 's, 'n> {
         ensures shown { shown result ≡ value ((self.now).sealed).bytes ((self.now).sealed).schema (self.now).spot }
         // A number fits its scalar, and a float has as many bytes.
         ensures narrow { IsNarrow (self.now).spot result }
-        // There are no more tables in a vector than their offset words have room.
+        // There are no more tables in a vector than their `uoffset`s have room.
         ensures tables { (k n : ℕ) → IsHere (self.now).spot (Tables k) → shown result ≡ vector n → 4 * n ≤ length ((self.now).sealed).bytes }
     {
         value_at(self.verified.window(), self.verified.schema(), self.spot)

@@ -2,7 +2,7 @@
 
 use fb_schema::Scalar;
 
-/// What the steps of a path lead to. A position is that of the value itself, where an offset word leads to it behind
+/// What the steps of a path lead to. A position is that of the value itself, where a `uoffset` leads to it behind
 /// that word (FlatBuffers Internals: offsets count from their own place).
 #[derive(Clone, Copy)]
 pub enum Spot {
@@ -28,7 +28,7 @@ pub enum Spot {
     AtTables(u32, u64),
     /// A vector of unions: their enum's number, the position of the first type, and its own position.
     AtUnions(u32, u64, u64),
-    /// A union: its enum's number, its type, and the position of its offset word.
+    /// A union: its enum's number, its type, and the position of its `uoffset`.
     AtUnion(u32, u8, u64),
     /// An absent scalar, and its field's default: of a Float or Double the bits of a double, as the row has it.
     AtDefault(Scalar, i64),

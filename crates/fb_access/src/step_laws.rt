@@ -11,7 +11,7 @@ pub fn fields_stand_in_place()
     ensures { FieldsStandInPlace }
 {}
 
-/// Of the offset words by which a field leads on, as the verifier follows them (`entries`), each is where the steps
+/// Of the `uoffset`s by which a field leads on, as the verifier follows them (`entries`), each is where the steps
 /// to it lead.
 #[tactic(auto, using(crate::proofs::StepLaws::steps_follow_entries))]
 pub fn steps_follow_entries()
@@ -25,7 +25,7 @@ pub fn no_other_elements()
     ensures { NoOtherElements }
 {}
 
-/// A member step leads to what the verifier finds behind the union's offset word, and from a union of another type to
+/// A member step leads to what the verifier finds behind the union's `uoffset`, and from a union of another type to
 /// nothing.
 #[tactic(auto, using(crate::proofs::StepLaws::members_follow_leads))]
 pub fn members_follow_leads()
@@ -40,7 +40,7 @@ pub fn elements_stand_in_row()
 {}
 
 /// The extent of a vector or array of scalars or structs is that of its elements, one after another; a vector of
-/// strings, tables or unions, whose elements stand behind offset words, has none.
+/// strings, tables or unions, whose elements stand behind `uoffset`s, has none.
 #[tactic(auto, using(crate::proofs::ExtentLaws::elements_fill_extents))]
 pub fn elements_fill_extents()
     ensures { ElementsFillExtents }

@@ -82,6 +82,6 @@ unfolding ElementUnfolds
 element_passes c b S x leaf h = grind (arith, element_none)
 element_passes c b S x (table y) h = grind (arith, element_none)
 
--- so does one that leads on by an offset word
+-- so does one that leads on by a uoffset
 pub through_passes : (c : Checks) (b : List ℕ) (x : Entry) (k : ℕ) → x.lead ≡ to_table k → IsOffset c b x.place → element_failure c b x ≡ None
 through_passes c b x k e h = grind (arith, element_none)

@@ -83,7 +83,7 @@ pub record LeadsNowhere (c : Checks) (b : List ℕ) (S : Rows) (t : ℕ) (f : Li
   pub chain : plain_failure c b t (step_of f) ≡ own_failure c b S t f
   pub reads : plain_reads b t (step_of f) ≡ own_reads b t f
 
--- one whose offset word at p leads to a string by itself, and then that string
+-- one whose uoffset at p leads to a string by itself, and then that string
 pub record LeadsTo (c : Checks) (b : List ℕ) (S : Rows) (t : ℕ) (f : Live) (p : ℕ) : Type 0 where
   pub kind : f.kind ≡ Text
   pub one : entries b S t f ≡ entry to_string p 0 ∷ []

@@ -40,11 +40,11 @@ abbrev pub reads_at : List ℕ → ℕ → Live → Option ℕ → ℕ
 reads_at b t f None = 0
 reads_at b t f (Some p) = present_reads b t f.slot f.kind
 
--- a field by itself, without what its offset words lead to
+-- a field by itself, without what its uoffsets lead to
 unfoldable pub own_reads : List ℕ → ℕ → Live → ℕ
 own_reads b t f = slot_reads b t f.slot + reads_at b t f (field_place b t f.slot)
 
--- an offset word, and for a string its count and its last byte
+-- a uoffset, and for a string its count and its last byte
 abbrev pub lead_reads : Lead → ℕ
 lead_reads (to_table k) = 1
 lead_reads (to_struct size align) = 1

@@ -105,7 +105,7 @@ abbrev pub FirstReadStops : Type 0
 FirstReadStops =
     IsFalseAt published_checks monster monsters (with_reads 0) (in_start Bare Any) (way_to_start 0) (fault TooManyReads 0 0 None 1)
 
--- with 7 reads allowed: past the hit points and the name, at its offset word
+-- with 7 reads allowed: past the hit points and the name, at its uoffset
 abbrev pub LastTextStops : Type 0
 LastTextStops = StopsBy published_checks monster monsters 0 (with_reads 7) (at_field one_field (at_element no_elements at_lead)) (fault TooManyReads 16 0 (Some 1) 8)
 

@@ -1,4 +1,4 @@
--- What must hold of a table's head, an offset word, a string, a vector and a value that stands inline.
+-- What must hold of a table's head, a uoffset, a string, a vector and a value that stands inline.
 use Rattle.std.specs.Prelude.{◌≡◌, ℕ, ◌+◌, ◌*◌, ◌%◌, ◌<◌, ◌≤◌, ◌⊎◌, IsTrue, List, length}
 use Rattle.fb_bytes.specs.Word.{word}
 use Rattle.fb_rules.specs.declared.checks.Checks.{Checks}
@@ -23,7 +23,7 @@ pub record IsTable (c : Checks) (b : List ℕ) (t : ℕ) : Type 0 where
   pub size_enough : 4 ≤ vtable_size b t
   pub vtable_whole : vtable b t + vtable_size b t ≤ length b
 
--- an offset word stands at p
+-- a uoffset stands at p
 pub record IsOffset (c : Checks) (b : List ℕ) (p : ℕ) : Type 0 where
   pub within : p + 4 ≤ length b
   pub aligned : IsAligned c p 4

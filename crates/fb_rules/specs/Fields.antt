@@ -1,4 +1,4 @@
--- What a field of a table must meet by itself, and the offset words by which it leads on.
+-- What a field of a table must meet by itself, and the uoffsets by which it leads on.
 use Rattle.std.specs.Prelude.{◌≡◌, ℕ, zero, suc, ◌+◌, ◌-◌, IsFalse, List, [], ◌∷◌, Option, Some, None}
 use Rattle.fb_bytes.specs.Word.{word}
 use Rattle.fb_schema.specs.declared.kinds.Kind.{Kind}
@@ -31,13 +31,13 @@ pub record IsInlineField (c : Checks) (b : List ℕ) (t p size align : ℕ) : Ty
   pub in_table : EndsInTable c b t p size
   pub value : IsInline c b p size align
 
--- a field at p that holds an offset word to a vector
+-- a field at p that holds a uoffset to a vector
 pub record IsVectorField (c : Checks) (b : List ℕ) (t p size align : ℕ) : Type 0 where
   pub in_table : EndsInTable c b t p 4
   pub offset : IsOffset c b p
   pub vector : IsVector c b (target b p) size align
 
--- a field at p that holds an offset word to a vector of unions, whose types' field is at this place
+-- a field at p that holds a uoffset to a vector of unions, whose types' field is at this place
 pub record IsUnionsField (c : Checks) (b : List ℕ) (t p : ℕ) (types : Option ℕ) : Type 0 where
   pub field : IsVectorField c b t p 4 4
   pub counts_agree : word b (target b p) 4 ≡ type_count b types
@@ -69,7 +69,7 @@ IsPresentOrAbsent c b S t f (Some p) = IsPresent c b S t f p f.kind
 unfoldable pub IsField : Checks → List ℕ → Rows → ℕ → Live → Type 0
 IsField c b S t f = IsPresentOrAbsent c b S t f (field_place b t f.slot)
 
--- What an offset word leads to: a table of this object, a struct, a string, or nothing, since the type of the union is
+-- What a uoffset leads to: a table of this object, a struct, a string, or nothing, since the type of the union is
 -- 0 or unknown.
 pub data Lead : Type 0 where
   to_table : (object : ℕ) → Lead
@@ -85,7 +85,7 @@ lead_of S (Some (Struct k)) = to_struct (struct_size S k) (struct_align S k)
 lead_of S (Some Text) = to_string
 lead_of S (Some _) = to_nothing
 
--- an offset word by which a field leads on: its place, what it leads to, and the reads that told this
+-- a uoffset by which a field leads on: its place, what it leads to, and the reads that told this
 pub record Entry : Type 0 where
   pub lead : Lead
   pub place : ℕ
@@ -94,22 +94,22 @@ pub record Entry : Type 0 where
 abbrev pub entry : Lead → ℕ → ℕ → Entry
 entry lead place reads = record { lead = lead; place = place; reads = reads }
 
--- n offset words from p on that lead to the same
+-- n uoffsets from p on that lead to the same
 unfoldable pub row : Lead → ℕ → ℕ → List Entry
 row lead p zero = []
 row lead p (suc n) = entry lead p 0 ∷ row lead (p + 4) n
 
--- n offset words from p on that lead where the types from q on say
+-- n uoffsets from p on that lead where the types from q on say
 unfoldable pub union_row : List ℕ → Rows → ℕ → ℕ → ℕ → ℕ → List Entry
 union_row b S e q p zero = []
 union_row b S e q p (suc n) = entry (lead_of S (member_of S e (word b q 1))) p 1 ∷ union_row b S e (q + 1) (p + 4) n
 
--- the offset word of a union at p, where its type has this member
+-- the uoffset of a union at p, where its type has this member
 abbrev pub union_entry : Rows → ℕ → Option Kind → List Entry
 union_entry S p None = []
 union_entry S p (Some member) = entry (lead_of S (Some member)) p 0 ∷ []
 
--- the offset words of a present field at p of this kind
+-- the uoffsets of a present field at p of this kind
 abbrev pub entries_of : List ℕ → Rows → ℕ → Live → ℕ → Kind → List Entry
 entries_of b S t f p (Scalar s) = []
 entries_of b S t f p (Struct k) = []
@@ -127,6 +127,6 @@ abbrev pub entries_at : List ℕ → Rows → ℕ → Live → Option ℕ → Li
 entries_at b S t f None = []
 entries_at b S t f (Some p) = entries_of b S t f p f.kind
 
--- the offset words by which the field f of the table at t leads on, in order
+-- the uoffsets by which the field f of the table at t leads on, in order
 unfoldable pub entries : List ℕ → Rows → ℕ → Live → List Entry
 entries b S t f = entries_at b S t f (field_place b t f.slot)

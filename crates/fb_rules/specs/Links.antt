@@ -27,11 +27,11 @@ type_of b t g j _ = None
 abbrev pub field_link : ℕ → Live → Link
 field_link k g = record { object = k; field = g.number; element = None; member = None }
 
--- the link through the offset word of this field that has j others before it
+-- the link through the uoffset of this field that has j others before it
 abbrev pub element_link : List ℕ → ℕ → ℕ → Live → ℕ → Link
 element_link b k t g j = record { object = k; field = g.number; element = element_of j g.kind; member = type_of b t g j g.kind }
 
--- the object of the table to which an offset word leads
+-- the object of the table to which a uoffset leads
 abbrev pub object_led_to : Lead → ℕ
 object_led_to (to_table k) = k
 object_led_to _ = 0

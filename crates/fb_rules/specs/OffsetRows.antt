@@ -1,4 +1,4 @@
--- The offset words that are left of a field, as a walk keeps them.
+-- The uoffsets that are left of a field, as a walk keeps them.
 use Rattle.std.specs.Prelude.{◌≡◌, ℕ, ◌+◌, ◌-◌, ◌*◌, ◌<◌, ◌≤◌, ◌^◌, List, [], length, Some, Bool, true, false, IsTrue}
 use Rattle.fb_bytes.specs.Word.{Lent, word}
 use Rattle.fb_schema.specs.declared.{kinds.Kind.Kind, kinds.Kind.TheVariants.Union, kinds.Kind.TheVariants.Unions, views.Goal.Goal}
@@ -12,7 +12,7 @@ use Rattle.fb_rules.specs.declared.offset_row.Referent.TheVariants.{Text as ATex
 use Rattle.fb_rules.specs.{Told.IsPlaced, Places.target, Cost.reads_if_present}
 use Rattle.fb_rules.specs.Fields.{type_place, union_type, Lead, to_table, to_struct, to_string, to_nothing, lead_of, Entry, entry, row, union_row}
 
--- where an offset word leads that refers to this
+-- where a uoffset leads that refers to this
 abbrev pub lead_to : Referent → Lead
 lead_to AText = to_string
 lead_to (ATable k) = to_table k
@@ -26,16 +26,16 @@ referent_of TextGoal t = AText
 referent_of TableGoal t = ATable t.object
 referent_of StructGoal t = AStruct t.size t.align
 
--- n offset words from p on
+-- n uoffsets from p on
 abbrev pub words : List ℕ → Rows → Leads → ℕ → ℕ → List Entry
 words b S (All referent) p n = row (lead_to referent) p n
 words b S (ByType e q) p n = union_row b S e q p n
 
--- the offset words that a row is
+-- the uoffsets that a row is
 abbrev pub words_of : List ℕ → Rows → Row → List Entry
 words_of b S r = words b S r.leads r.place r.left
 
--- an offset word at p
+-- a uoffset at p
 abbrev pub word_at : List ℕ → Rows → Leads → ℕ → Entry
 word_at b S (All referent) p = entry (lead_to referent) p 0
 word_at b S (ByType e q) p = entry (lead_of S (member_of S e (word b q 1))) p 1
@@ -87,12 +87,12 @@ abbrev pub IsSized : Referent → Type 0
 IsSized (AStruct size align) = IsAlignment align
 IsSized _ = Unit {0}
 
--- an offset word that leads to no table
+-- a uoffset that leads to no table
 abbrev pub IsLeafLead : Lead → Type 0
 IsLeafLead (to_table k) = ⊥
 IsLeafLead _ = Unit {0}
 
--- the types of n offset words lie in the buffer
+-- the types of n uoffsets lie in the buffer
 abbrev pub AreLeads : List ℕ → Rows → ℕ → Leads → Type 0
 AreLeads b S n (All referent) = IsReferent S referent
 AreLeads b S n (ByType e q) = IsTrue (is_union S e) × (q + n ≤ length b) × (q + n < 2 ^ 36)
@@ -103,7 +103,7 @@ pub record IsRow (b : List ℕ) (S : Rows) (r : Row) : Type 0 where
   pub left : r.left < 2 ^ 29
   pub leads : 0 < r.left → AreLeads b S r.left r.leads
 
--- a field with these offset words was passed: it leads on, and the row is theirs; or it doesn't, and the row stays
+-- a field with these uoffsets was passed: it leads on, and the row is theirs; or it doesn't, and the row stays
 pub record LeavesRow (b : List ℕ) (S : Rows) (xs : List Entry) (old new : Row) (more : Bool) : Type 0 where
   pub none : more ≡ false → (xs ≡ []) × (new ≡ old)
   pub entries : more ≡ true → xs ≡ words_of b S new

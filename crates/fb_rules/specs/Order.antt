@@ -46,7 +46,7 @@ ident_failure b p (Want name) =
     check (fits b p 4) OutOfBuffer p 0
     (check (word b p 4 == word name 0 4) WrongIdentifier p 1 None)
 
--- an offset word at p
+-- a uoffset at p
 unfoldable pub offset_failure : Checks → List ℕ → ℕ → Option Failure
 offset_failure c b p =
     check (fits b p 4) OutOfBuffer p 0
@@ -100,7 +100,7 @@ table_failure c b t p n = check (ends_in_table c b t p n) PastTable p 0 None
 abbrev pub inline_field_failure : Checks → List ℕ → ℕ → ℕ → ℕ → ℕ → Option Failure
 inline_field_failure c b t p size align = table_failure c b t p size ▷ inline_failure c b p size align
 
--- a field at p that holds an offset word to a vector
+-- a field at p that holds a uoffset to a vector
 abbrev pub vector_field_failure : Checks → List ℕ → ℕ → ℕ → ℕ → ℕ → Option Failure
 vector_field_failure c b t p size align =
     table_failure c b t p 4 ▷ offset_failure c b p ▷ after 1 (vector_failure c b (target b p) size align)
@@ -140,7 +140,7 @@ failure_at c b S t f (Some p) = present_failure c b S t f p f.kind
 unfoldable pub own_failure : Checks → List ℕ → Rows → ℕ → Live → Option Failure
 own_failure c b S t f = after (slot_reads b t f.slot) (failure_at c b S t f (field_place b t f.slot))
 
--- the offset word at p, and what it leads to, but for a table
+-- the uoffset at p, and what it leads to, but for a table
 abbrev pub lead_failure : Checks → List ℕ → ℕ → Lead → Option Failure
 lead_failure c b p (to_table k) = offset_failure c b p
 lead_failure c b p (to_struct size align) = offset_failure c b p ▷ after 1 (inline_failure c b (target b p) size align)

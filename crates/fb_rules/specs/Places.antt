@@ -11,7 +11,7 @@ fits b p n = nat_le (p + n) (length b)
 unfoldable pub is_aligned : Checks → ℕ → ℕ → Bool
 is_aligned c p align = not c.alignment || (p % align == 0)
 
--- where the offset word at p leads: so many bytes on from its own place
+-- where the uoffset at p leads: so many bytes on from its own place
 abbrev pub target : List ℕ → ℕ → ℕ
 target b p = p + word b p 4
 

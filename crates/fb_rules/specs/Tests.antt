@@ -64,7 +64,7 @@ pub record IdentifierTests : Type 0 where
   pub right : ident_failure (0 ∷ 0 ∷ 0 ∷ 0 ∷ 66 ∷ 70 ∷ 66 ∷ 83 ∷ []) 4 wanted ≡ None
   pub not_wanted : ident_failure [] 4 Any ≡ None
 
--- an offset word is in the buffer, aligned and not 0
+-- a uoffset is in the buffer, aligned and not 0
 pub record OffsetTests : Type 0 where
   pub past_the_end : offset_failure published_checks (1 ∷ 0 ∷ 0 ∷ []) 0 ≡ found OutOfBuffer 0 0
   pub past_the_end_and_misaligned : offset_failure published_checks (0 ∷ 0 ∷ 0 ∷ 0 ∷ 0 ∷ []) 2 ≡ found OutOfBuffer 2 0
@@ -170,7 +170,7 @@ pub record UnionTests : Type 0 where
   pub of_no_member : own strict (a_table 11 4 8 (9 ∷ 0 ∷ 0 ∷ 0 ∷ 0 ∷ 0 ∷ 0 ∷ 0 ∷ [])) (a_field (Union 0) 6 4 4) ≡ None
   pub without_a_type : own strict (a_table 11 0 8 (1 ∷ 0 ∷ 0 ∷ 0 ∷ 0 ∷ 0 ∷ 0 ∷ 0 ∷ [])) (a_field (Union 0) 6 4 4) ≡ None
 
--- a vector by itself: where its offset word ends, this word, and the vector
+-- a vector by itself: where its uoffset ends, this word, and the vector
 pub record VectorFieldTests : Type 0 where
   pub good : own strict (a_table 8 4 0 (4 ∷ 0 ∷ 0 ∷ 0 ∷ 1 ∷ 0 ∷ 0 ∷ 0 ∷ 9 ∷ 0 ∷ [])) (a_field (Scalars Short) 4 2 2) ≡ None
   pub past_the_table : own strict (a_table 7 4 0 (0 ∷ 0 ∷ 0 ∷ 0 ∷ [])) (a_field (Scalars Short) 4 2 2) ≡ found PastTable 12 1
@@ -197,7 +197,7 @@ pub record UnionsFieldTests : Type 0 where
   pub neither : own strict (a_table 12 0 8 (8 ∷ 0 ∷ 0 ∷ 0 ∷ 12 ∷ 0 ∷ 0 ∷ 0 ∷ 2 ∷ 0 ∷ 0 ∷ 0 ∷ 1 ∷ 1 ∷ 0 ∷ 0 ∷ 0 ∷ 0 ∷ 0 ∷ 0 ∷ [])) (a_field (Unions 0) 6 4 4) ≡ None
   pub past_the_table : own strict (a_table 11 4 8 (8 ∷ 0 ∷ 0 ∷ 0 ∷ 12 ∷ 0 ∷ 0 ∷ 0 ∷ 2 ∷ 0 ∷ 0 ∷ 0 ∷ 1 ∷ 1 ∷ 0 ∷ 0 ∷ 3 ∷ 0 ∷ 0 ∷ 0 ∷ 0 ∷ 0 ∷ 0 ∷ 0 ∷ 0 ∷ 0 ∷ 0 ∷ 0 ∷ 0 ∷ 0 ∷ 0 ∷ 0 ∷ [])) (a_field (Unions 0) 6 4 4) ≡ found PastTable 16 4
 
--- an offset word, and the string or struct that it leads to; the reads that told its lead come first
+-- a uoffset, and the string or struct that it leads to; the reads that told its lead come first
 pub record ElementTests : Type 0 where
   pub to_a_table : element_failure published_checks (4 ∷ 0 ∷ 0 ∷ 0 ∷ []) (entry (to_table 0) 0 0) ≡ None
   pub to_a_table_by_zero : element_failure published_checks (0 ∷ 0 ∷ 0 ∷ 0 ∷ []) (entry (to_table 0) 0 1) ≡ found ZeroOffset 0 2

@@ -11,7 +11,7 @@ mutual
     no_kids : Kids
     kid : Elements → Kids → Kids
 
-  -- for each offset word by which a field leads on, in order, what it leads to
+  -- for each uoffset by which a field leads on, in order, what it leads to
   pub data Elements : Type 0 where
     no_elements : Elements
     element : Element → Elements → Elements

@@ -40,7 +40,7 @@ IdentIsFalse b p (Want name) OutOfBuffer at = (at ≡ p) × AreOut b p 4
 IdentIsFalse b p (Want name) WrongIdentifier at = (at ≡ p) × AreIn b p 4 × (word b p 4 ≢ word name 0 4)
 IdentIsFalse b p _ _ at = ⊥
 
--- of an offset word at p
+-- of a uoffset at p
 abbrev pub OffsetIsFalse : Checks → List ℕ → ℕ → Reason → ℕ → Type 0
 OffsetIsFalse c b p OutOfBuffer at = (at ≡ p) × AreOut b p 4
 OffsetIsFalse c b p Misaligned at = (at ≡ p) × AreIn b p 4 × IsMisaligned c p 4
@@ -88,7 +88,7 @@ PastIsFalse c b t p n _ at = ⊥
 abbrev pub InlineFieldIsFalse : Checks → List ℕ → ℕ → ℕ → ℕ → ℕ → Reason → ℕ → Type 0
 InlineFieldIsFalse c b t p size align reason at = PastIsFalse c b t p size reason at ⊎ InlineIsFalse c b p size align reason at
 
--- of a field at p that holds an offset word to a vector
+-- of a field at p that holds a uoffset to a vector
 abbrev pub VectorFieldIsFalse : Checks → List ℕ → ℕ → ℕ → ℕ → ℕ → Reason → ℕ → Type 0
 VectorFieldIsFalse c b t p size align reason at =
     PastIsFalse c b t p 4 reason at ⊎ (OffsetIsFalse c b p reason at ⊎ (IsOffset c b p × VectorIsFalse c b (target b p) size align reason at))
@@ -117,7 +117,7 @@ PlacedIsFalse c b t g None MissingRequired at = (at ≡ t) × IsTrue g.required
 PlacedIsFalse c b t g None _ at = ⊥
 PlacedIsFalse c b t g (Some p) reason at = PresentIsFalse c b t g p g.kind reason at
 
--- of an offset word at p, or of what it leads to, but for a table
+-- of a uoffset at p, or of what it leads to, but for a table
 abbrev pub LeadIsFalse : Checks → List ℕ → ℕ → Lead → Reason → ℕ → Type 0
 LeadIsFalse c b p (to_table k) reason at = OffsetIsFalse c b p reason at
 LeadIsFalse c b p (to_struct size align) reason at = OffsetIsFalse c b p reason at ⊎ (IsOffset c b p × InlineIsFalse c b (target b p) size align reason at)

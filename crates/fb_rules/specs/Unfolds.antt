@@ -19,14 +19,14 @@ unfoldable mutual
   FieldsUnfold (kid ys kids) c b S t [] = ⊥
   FieldsUnfold (kid ys kids) c b S t (f ∷ fs) = IsField c b S t f × ElementsUnfold ys c b S (entries b S t f) × FieldsUnfold kids c b S t fs
 
-  -- these offset words lead to these elements
+  -- these uoffsets lead to these elements
   pub ElementsUnfold : Elements → Checks → List ℕ → Rows → List Entry → Type 0
   ElementsUnfold no_elements c b S [] = Unit {0}
   ElementsUnfold no_elements c b S (x ∷ xs) = ⊥
   ElementsUnfold (element y ys) c b S [] = ⊥
   ElementsUnfold (element y ys) c b S (x ∷ xs) = ElementUnfolds y c b S x.place x.lead × ElementsUnfold ys c b S xs
 
-  -- the offset word at p leads to this element
+  -- the uoffset at p leads to this element
   pub ElementUnfolds : Element → Checks → List ℕ → Rows → ℕ → Lead → Type 0
   ElementUnfolds leaf c b S p (to_table k) = ⊥
   ElementUnfolds leaf c b S p (to_struct size align) = IsOffset c b p × IsInline c b (target b p) size align

@@ -6,7 +6,7 @@ ghost use Rattle.std.specs.Prelude.{◌≡◌, true, false};
 #[derive(Clone, Copy, Debug, PartialEq, Eq)]
 pub struct Checks {
     /// Whether every position must be a multiple of its alignment: a scalar's size, a struct's `minalign`, 4 for
-    /// tables, counts and offset words, 2 for vtables (FlatBuffers Internals). Without it no V3 is answered.
+    /// tables, counts and `uoffset`s, 2 for vtables (FlatBuffers Internals). Without it no V3 is answered.
     pub alignment: bool,
     /// Whether a field must end within the inline size that its table's vtable tells in its second word (FlatBuffers
     /// Internals, "Tables"). This costs one read more for each table. Without it no V12 is answered.

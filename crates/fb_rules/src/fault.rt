@@ -17,7 +17,7 @@ pub enum Reason {
     OutOfBuffer,
     /// V3: a position isn't a multiple of its alignment.
     Misaligned,
-    /// V4: an offset word is 0.
+    /// V4: a `uoffset` is 0.
     ZeroOffset,
     /// V5: the identifier isn't the wanted one.
     WrongIdentifier,

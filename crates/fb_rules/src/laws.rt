@@ -4,7 +4,7 @@ ghost use Rattle.fb_rules.specs.Laws.{StartLaw, HeadLaw, OffsetLaw, StringLaw, V
 ghost use Rattle.fb_rules.specs.Laws.{StopsOnlyAtLimits, StopsOnce, LeadsOneWay, StopsNowhereWithin, CostIsBounded, ReadsAreBounded, HasOneVerdict, LengthAllows};
 ghost use Rattle.fb_rules.specs.TrueReasons.{StopsTruly, TablesRunOut};
 
-/// The chain of an offset word's tests finds nothing exactly where the facts of one hold.
+/// The chain of a `uoffset`'s tests finds nothing exactly where the facts of one hold.
 #[tactic(auto, using(crate::proofs::Chains::offset_none))]
 pub fn offset_is_told()
     ensures { OffsetLaw }

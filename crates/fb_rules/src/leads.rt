@@ -1,4 +1,4 @@
-// Fields that lead on by an offset word: what their types tell, and the words, put into a row.
+// Fields that lead on by a `uoffset`: what their types tell, and the words, put into a row.
 
 ghost use Rattle.std.specs.Prelude.{◌≡◌, ◌+◌, ◌*◌, ◌^◌, ◌<◌, ◌≤◌, length, IsTrue, None, nat_lt};
 ghost use Rattle.fb_bytes.specs.Word.{word};
@@ -59,7 +59,7 @@ fn types_of(reads: &mut Reads<'_>, table: Table, slot: u16) -> (u64, u32)
     }
 }
 
-/// Tests a present field by itself that is a single offset word, and puts that.
+/// Tests a present field by itself that is a single `uoffset`, and puts that.
 #[inline(always)]
 pub fn put_word(
     reads: &Reads<'_>,
@@ -80,7 +80,7 @@ pub fn put_word(
     end
 }
 
-/// Tests a present vector of offset words by itself that all refer to the same, and puts these, if there are any.
+/// Tests a present vector of `uoffset`s by itself that all refer to the same, and puts these, if there are any.
 #[inline(always)]
 #[tactic(auto, using(crate::proofs::Alignments::four))]
 pub fn put_words(
@@ -108,7 +108,7 @@ pub fn put_words(
     failed
 }
 
-/// Tests a present union by itself, and puts its offset word, if its type has a member.
+/// Tests a present union by itself, and puts its `uoffset`, if its type has a member.
 #[inline(always)]
 pub fn put_union(
     reads: &mut Reads<'_>,
@@ -143,7 +143,7 @@ pub fn put_union(
     put_word(reads, checks, table, at, referent, row)
 }
 
-/// Tests a present vector of unions by itself, and puts its offset words, if there are any: what they are comes in one
+/// Tests a present vector of unions by itself, and puts its `uoffset`s, if there are any: what they are comes in one
 /// clause, which is proved once for each way out.
 #[inline(always)]
 #[tactic(auto, using(crate::proofs::Alignments::four))]
@@ -184,7 +184,7 @@ fn put_typed(
     None
 }
 
-/// Tests a present vector of unions by itself, and puts its offset words, if there are any.
+/// Tests a present vector of unions by itself, and puts its `uoffset`s, if there are any.
 #[inline(always)]
 pub fn put_unions(
     reads: &mut Reads<'_>,

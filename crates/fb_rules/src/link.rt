@@ -1,6 +1,6 @@
 // A step of the way to a fault.
 
-/// A link of the way from the root table to a fault: a field of a table, and of a field that leads on the offset word
+/// A link of the way from the root table to a fault: a field of a table, and of a field that leads on the `uoffset`
 /// by which the way goes on, or that is under check with what it leads to.
 #[derive(Clone, Copy, Debug, PartialEq, Eq)]
 pub struct Link {

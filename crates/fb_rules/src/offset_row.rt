@@ -1,4 +1,4 @@
-// The offset words by which a field leads on.
+// The `uoffset`s by which a field leads on.
 
 ghost use Rattle.std.specs.Prelude.{◌≡◌, ◌+◌, ◌-◌, ◌<◌, ◌^◌, IsTrue};
 ghost use Rattle.fb_schema.specs.{Rows.is_union, Members.member_of, Served.IsServed};
@@ -8,7 +8,7 @@ ghost use Rattle.fb_rules.specs.declared.offset_row.Leads.TheVariants.{All};
 
 use fb_schema::{Goal, Schema, Target, Targets};
 
-/// What an offset word refers to, past its own test.
+/// What a `uoffset` refers to, past its own test.
 #[derive(Clone, Copy)]
 pub enum Referent {
     /// Nothing: the type of the union is 0 or unknown.
@@ -21,7 +21,7 @@ pub enum Referent {
     Struct(u32, u32),
 }
 
-/// What the offset words of a row refer to: all to the same, or each to the member of the union with the type at a
+/// What the `uoffset`s of a row refer to: all to the same, or each to the member of the union with the type at a
 /// position.
 #[derive(Clone, Copy)]
 pub enum Leads {
@@ -47,7 +47,7 @@ pub const NO_ROW: Row = Row {
 };
 
 impl Row {
-    /// One offset word.
+    /// One `uoffset`.
     pub fn one(referent: Referent, place: u64) -> Self
         ensures { result ≡ record { leads = All referent; place = place; left = 1 } }
     {
@@ -58,7 +58,7 @@ impl Row {
         }
     }
 
-    /// Goes past the first offset word, which is left out from then on.
+    /// Goes past the first `uoffset`, which is left out from then on.
     pub fn advance(&mut self)
         requires more { 0 < self.old.left }
         requires near { self.old.place < 2 ^ 36 }
@@ -85,7 +85,7 @@ impl Row {
     }
 }
 
-/// What an offset word of a union refers to whose type has this target.
+/// What a `uoffset` of a union refers to whose type has this target.
 #[inline(always)]
 fn referent_to(target: Target) -> Referent
     ensures { result ≡ referent_of target.goal target }
@@ -98,7 +98,7 @@ fn referent_to(target: Target) -> Referent
     }
 }
 
-/// What an offset word of a union refers to whose type has this value, and whose targets are these. Only the contract
+/// What a `uoffset` of a union refers to whose type has this value, and whose targets are these. Only the contract
 /// speaks of the schema and of the union.
 #[inline(always)]
 #[tactic(auto, using(crate::proofs::Members::goal_leads, crate::proofs::Members::goal_holds))]

@@ -65,7 +65,7 @@ pub fn test_inline(
     None
 }
 
-/// Tests the offset word at a position, and goes on where it leads.
+/// Tests the `uoffset` at a position, and goes on where it leads.
 #[inline(always)]
 #[tactic(auto, using(crate::proofs::Alignments::four), unfolding(crate::specs::Order::offset_failure, crate::specs::Order::inline_failure))]
 pub fn test_offset(reads: &mut Reads<'_>, checks: Checks, at: &mut u64) -> Option<Reason>
@@ -313,7 +313,7 @@ pub fn test_inline_field(
     test_inline(reads, checks, place, size, align)
 }
 
-/// Tests a field that holds an offset word to a vector of elements of this size and alignment, with that vector, puts
+/// Tests a field that holds a `uoffset` to a vector of elements of this size and alignment, with that vector, puts
 /// the number of its elements, and goes on to the first.
 #[inline(always)]
 pub fn test_vector_field(
@@ -360,7 +360,7 @@ fn vector_field_by(
     test_vector(reads, checks, at, size, align, many)
 }
 
-/// Tests the offset word at a position, with the string that it leads to.
+/// Tests the `uoffset` at a position, with the string that it leads to.
 #[inline(always)]
 fn test_text(reads: &mut Reads<'_>, checks: Checks, at: &mut u64) -> Option<Reason>
     requires few { reads.old.count < reads.old.base + 2 ^ 61 }
@@ -373,7 +373,7 @@ fn test_text(reads: &mut Reads<'_>, checks: Checks, at: &mut u64) -> Option<Reas
     test_string(reads, checks, at)
 }
 
-/// Tests the offset word at a position, with the string or struct that it leads to; where it leads to a table, it goes
+/// Tests the `uoffset` at a position, with the string or struct that it leads to; where it leads to a table, it goes
 /// on there.
 #[inline(always)]
 pub fn test_lead(

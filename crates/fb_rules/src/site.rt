@@ -33,7 +33,7 @@ pub struct Stop {
 /// What the links of the frames leave to be told of the way to a stop.
 #[derive(Clone, Copy)]
 pub enum LastLink {
-    /// Nothing: the last of the frames was left past the offset word under check. There may be none of them.
+    /// Nothing: the last of the frames was left past the `uoffset` under check. There may be none of them.
     Behind,
     /// The field that the stop names, which is under check itself.
     InField,

@@ -1,4 +1,4 @@
--- What the offset words of a union lead to, found by their types.
+-- What the uoffsets of a union lead to, found by their types.
 use Rattle.std.specs.Prelude.{◌≡◌, ℕ, zero, suc, ℤ, pos, ◌+◌, ◌<◌, ◌≤◌, ◌==◌, nat_lt, min, if◌then◌else◌, true, List, [], map}
 use Rattle.std.specs.Prelude.{filter, find, length, slice_get, slice_index_or, Option, Some, None, option_and_then}
 use Rattle.std.specs.Ordering.{int_eq, int_cmp}
@@ -19,7 +19,7 @@ kind_by AStruct object = Some (Struct object)
 abbrev pub nothing : Target
 nothing = record { goal = Nothing; object = 0; size = 0; align = 0 }
 
--- what an offset word leads to whose type has a member of this kind
+-- what a uoffset leads to whose type has a member of this kind
 abbrev pub target_of : Rows → Option Kind → Target
 target_of rows None = nothing
 target_of rows (Some (Scalar s)) = nothing

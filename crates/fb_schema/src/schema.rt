@@ -240,7 +240,7 @@ impl<'n, A: Allocator + Copy> Schema<'n, A> {
         self.targets_of(e).get(value).kind()
     }
 
-    /// What the offset words of a union lead to, by their types: for whoever looks up many of them.
+    /// What the `uoffset`s of a union lead to, by their types: for whoever looks up many of them.
     #[inline(always)]
     pub fn targets_of(&self, e: u32) -> Targets<'_>
         requires { IsTrue (is_union self.now e) }

@@ -1,4 +1,4 @@
-// What the offset words of a union lead to, found by their types without a search.
+// What the `uoffset`s of a union lead to, found by their types without a search.
 
 ghost use Rattle.std.specs.Prelude.{◌≡◌, ◌+◌, ℕ, List, [], map, OnOk};
 ghost use Rattle.fb_schema.specs.{FlatRows.borrowed_rows, Rows.Rows, Rows.member_of_row};
@@ -12,7 +12,7 @@ use crate::sorting::place_of;
 use crate::views::{Goal, Target};
 use std::alloc::{AllocError, Allocator};
 
-/// Where the type of an offset word has no member.
+/// Where the type of a `uoffset` has no member.
 const NOTHING: Target = Target {
     goal: Goal::Nothing,
     object: 0,
@@ -20,7 +20,7 @@ const NOTHING: Target = Target {
     align: 0,
 };
 
-/// What the offset words of a union lead to, by their types.
+/// What the `uoffset`s of a union lead to, by their types.
 ///
 /// `places` has the values of the union's members in rising order, and `targets` what each of them leads to: 17 bytes a
 /// member, whatever their values. Where these are 0 to n, as `flatc` gives them, each is found at once, as the value v
@@ -32,7 +32,7 @@ pub struct Targets<'s> {
 }
 
 impl Targets<'_> {
-    /// What an offset word of this type leads to.
+    /// What a `uoffset` of this type leads to.
     #[inline(always)]
     pub fn get(&self, value: u8) -> Target
         ensures { result ≡ target_at (self.now).places.now (self.now).targets.now value }
@@ -103,7 +103,7 @@ pub fn kind_at(values: &[(i64, u32)], kinds: &[Option<Kind>], value: u8) -> Opti
     }
 }
 
-/// What an offset word leads to whose type has a member of this kind.
+/// What a `uoffset` leads to whose type has a member of this kind.
 fn target_of(rows: &RowLists, kind: Kind) -> Target
     ensures { result ≡ target_of (borrowed_rows rows.now) (Some kind) }
 {

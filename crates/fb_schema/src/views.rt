@@ -53,15 +53,15 @@ pub enum Act {
     Eight,
     /// Any other scalar or struct.
     Inline,
-    /// An offset word to a string.
+    /// A `uoffset` to a string.
     Text,
-    /// An offset word to a vector of scalars or structs.
+    /// A `uoffset` to a vector of scalars or structs.
     Vector,
     /// A field that leads to tables, or to more than one string.
     Other,
 }
 
-/// What an offset word of a union leads to.
+/// What a `uoffset` of a union leads to.
 #[derive(Clone, Copy)]
 pub enum Goal {
     /// Its type has no member.
@@ -71,7 +71,7 @@ pub enum Goal {
     Struct,
 }
 
-/// What an offset word of a union leads to, by the member that its type has.
+/// What a `uoffset` of a union leads to, by the member that its type has.
 ///
 /// `object` is the number of a table or struct; `size` and `align` are those of a struct, in bytes. What says nothing
 /// is 0.

@@ -43,7 +43,7 @@ gated true e = ((λ h on. h), (λ h. h refl))
 gated false e = ((λ h on. absurd (cc)), (λ h. refl))
 
 module _ (w : Wants) (S : Rows) (closed : IsClosed w S) (c : Checks) (b : List ℕ) where
-  -- the chains of n offset words from p on, whose types stand from q on
+  -- the chains of n uoffsets from p on, whose types stand from q on
   abbrev AllTold : (e q p n : ℕ) → Type 0
   AllTold e q p n = (j : ℕ) → j < n → where_asked w.demands.unions (element_failure c b S e (q + j) (p + 4 * j)) ≡ None
 
@@ -96,7 +96,7 @@ module _ (w : Wants) (S : Rows) (closed : IsClosed w S) (c : Checks) (b : List �
   held_tells links k n t f (Some (Buffer root)) = ((λ h. tt), (λ h. (refl, tt)))
   held_tells links k n t f (Some Flex) = let r = flex_tells (slot_reads b t f.slot) (field_place b t f.slot) in ((λ h. r.0 h.0), (λ h. (r.1 h, tt)))
 
-  -- the chain of an offset word whose type tells what it leads to, and those of a row
+  -- the chain of a uoffset whose type tells what it leads to, and those of a row
   abbrev WordTold : Leads → ℕ → Type 0
   WordTold (All referent) p = Unit {0}
   WordTold (ByType e q) p = Told e q p
@@ -121,7 +121,7 @@ module _ (w : Wants) (S : Rows) (closed : IsClosed w S) (c : Checks) (b : List �
   word_told links k n p (All referent) = ((λ h. tt), (λ h. tt))
   word_told links k n p (ByType e q) = ((λ h. h.0), (λ h. (h, tt)))
 
-  -- the texts to which these offset words lead, where they are asked
+  -- the texts to which these uoffsets lead, where they are asked
   abbrev TextsHold : List Entry → Type 0
   TextsHold xs = w.demands.utf8 ≡ true → AreUtf8 b xs
 
@@ -132,7 +132,7 @@ module _ (w : Wants) (S : Rows) (closed : IsClosed w S) (c : Checks) (b : List �
   texts_more x xs one rest on zero y at text = let same : x ≡ y = cc in subst (λ (z : Entry). z.lead ≡ to_string → IsUtf8At b (target b z.place)) same (one on) text
   texts_more x xs one rest on (suc i) y at text = rest on i y at text
 
-  -- a row of offset words
+  -- a row of uoffsets
   abbrev RowTells : Elements → Type 0
   RowTells ys =
       (way : ℕ → List Link) (xs : List Entry) (leads : Leads) (k n j p : ℕ) → IsRowOf w S b leads p xs → ElementsUnfold ys c b S xs

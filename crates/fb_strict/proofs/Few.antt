@@ -82,7 +82,7 @@ module _ (w : Wants) (c : Checks) (b : List ℕ) (S : Rows) (wide : ℕ) (no_wid
   unfolding entries IsField
   words_few_at t f h = grind (arith, words_few)
 
-  -- a field costs that much at most, with its offset words and the texts to which they lead, and a table that much
+  -- a field costs that much at most, with its uoffsets and the texts to which they lead, and a table that much
   abbrev pub field_most : ℕ
   field_most = (8 + length b) * (8 + length b)
 

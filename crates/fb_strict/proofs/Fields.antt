@@ -33,7 +33,7 @@ module _ (b : List ℕ) (S : Rows) (t : ℕ) (f : Live) where
   none_at kind None = refl
   none_at kind (Some p) = ap (entries_of b S t f p) kind
 
-  -- a vector of bytes has no offset words
+  -- a vector of bytes has no uoffsets
   pub no_entries : f.kind ≡ Scalars UByte → entries b S t f ≡ []
   unfolding entries
   no_entries kind = none_at kind (field_place b t f.slot)
@@ -63,7 +63,7 @@ module _ (c : Checks) (b : List ℕ) (S : Rows) where
       })
 
   module _ (w : Wants) (via : List Link) (k t : ℕ) where
-    -- what is demanded of the offset words of a field
+    -- what is demanded of the uoffsets of a field
     abbrev word_demands : Live → Elements → List Demand
     word_demands f ys = demands_in_row ys w c b S (λ j. via ++ element_link b k t f j ∷ []) k f.number 0 (row_place b (field_place b t f.slot) f.kind) (row_leads w b S (type_place b t f.slot) f.kind)
 
@@ -90,7 +90,7 @@ module _ (c : Checks) (b : List ℕ) (S : Rows) where
     pub task_is : (f : Live) (task : Task) → task_of w S k f ≡ Some task → IsTask f task
     task_is f task h = its_task f task (asked_of w S k f) refl h
 
-    -- what holds something has no offset words
+    -- what holds something has no uoffsets
 
     none_row : (way : ℕ → List Link) (n j p : ℕ) (leads : Leads) (ys : Elements) → ElementsUnfold ys c b S [] → demands_in_row ys w c b S way k n j p leads ≡ []
     unfolding ElementsUnfold demands_in_row
@@ -100,7 +100,7 @@ module _ (c : Checks) (b : List ℕ) (S : Rows) where
     no_words : (f : Live) (ys : Elements) → f.kind ≡ Scalars UByte → ElementsUnfold ys c b S (entries b S t f) → word_demands f ys ≡ []
     no_words f ys kind u = none_row _ f.number 0 _ _ ys (subst (ElementsUnfold ys c b S) (no_entries b S t f kind) u)
 
-    -- so a field that is asked is demanded one thing, and what its offset words are
+    -- so a field that is asked is demanded one thing, and what its uoffsets are
     module _ (f : Live) (ys : Elements) (u : ElementsUnfold ys c b S (entries b S t f)) (rest : List Demand) where
       abbrev links : List Link
       links = via ++ field_link k f ∷ []

@@ -1,4 +1,4 @@
--- A field of which nothing is asked but what its offset words lead to.
+-- A field of which nothing is asked but what its uoffsets lead to.
 use Rattle.std.proofs.Common.{◌≡◌, ℕ, ◌+◌, List, Option, Some, None, Result, refl, ◌∙◌}
 use Rattle.std.specs.Prelude.{IfOk}
 use Rattle.std.proofs.lemmas.Result.{IfOk-weaker}

@@ -1,4 +1,4 @@
--- What the offset words of a field that is asked lead to, as the pass has it, is what they lead to.
+-- What the uoffsets of a field that is asked lead to, as the pass has it, is what they lead to.
 use Rattle.std.proofs.Common.{◌≡◌, ◌⊎◌, inl, inr, ℕ, zero, suc, ◌+◌, IsTrue, List, [], ◌∷◌, Option, Some, None, Bool, true, false, refl, sym, ap, ◌∙◌, if◌then◌else◌}
 use Rattle.fb_bytes.specs.Word.{word}
 use Rattle.fb_schema.specs.declared.kinds.Kind.{Kind}
@@ -12,7 +12,7 @@ use Rattle.fb_strict.specs.{Skipped.Wants, Skipped.is_kind_asked}
 use Rattle.fb_strict.specs.Asked.{asked_referent, row_leads, row_place, first_referent}
 
 module _ (w : Wants) where
-  -- an offset word that leads there leads to this, if that is asked
+  -- a uoffset that leads there leads to this, if that is asked
   pub record IsAnswered (referent : Referent) (lead : Lead) : Type 0 where
     pub text : referent ≡ AText → (lead ≡ to_string) × (w.demands.utf8 ≡ true)
     pub whole : w.demands.utf8 ≡ true → lead ≡ to_string → referent ≡ AText
@@ -79,7 +79,7 @@ module _ (w : Wants) where
     member_table (Some (Unions e')) j h e = absurd (cc)
 
     module _ (b : List ℕ) where
-      -- these offset words stand one behind the other from p on, and lead there
+      -- these uoffsets stand one behind the other from p on, and lead there
       unfoldable pub IsRowOf : Leads → ℕ → List Entry → Type 0
       IsRowOf leads p [] = Unit {0}
       IsRowOf leads p (x ∷ xs) = (x.place ≡ p) × IsAnswered (first_referent w b S leads) x.lead × IsRowOf (leads_after leads) (p + 4) xs

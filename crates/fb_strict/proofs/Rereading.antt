@@ -16,7 +16,7 @@ use Rattle.fb_strict.specs.Passing.{Passing, wants_of, IsKnown, IsTaskable, ask_
 use Rattle.fb_strict.specs.Reread.{WordsStand, MemberStands}
 use Rattle.fb_strict.proofs.{Fields.asked_by, Fields.IsTask, Fields.task_is, Tasking.taskable_how}
 
--- a vector of unions has as many types as offset words
+-- a vector of unions has as many types as uoffsets
 module _ (p : Passing) (b : List ℕ) (t : ℕ) (f : Live) (known : IsKnown p.checks b p.rows t f) (place : ℕ) (there : field_place b t f.slot ≡ Some place) where
   counts_by : (kind : Kind) → f.kind ≡ kind → (e : ℕ) → ask_by kind ≡ Some (AskUnions e) → word b (target b place) 4 ≡ type_count b (type_place b t f.slot)
   counts_by (Unions e') kind e h = (present p.checks b p.rows t f place (Unions e') known.own there kind).counts_agree

@@ -19,7 +19,7 @@ use Rattle.fb_strict.specs.Skipped.{Wants, is_member_asked, some_member, is_kind
 use Rattle.fb_strict.proofs.{Lists.or_false, Members.no_such_member}
 
 module _ (w : Wants) (S : Rows) where
-  -- an offset word that leads to nothing that is asked
+  -- a uoffset that leads to nothing that is asked
   abbrev pub IsQuiet : Lead → Type 0
   IsQuiet (to_table k) = w.asks k ≡ false
   IsQuiet to_string = w.demands.utf8 ≡ false

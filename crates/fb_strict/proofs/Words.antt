@@ -1,4 +1,4 @@
--- What is left of the offset words of a field.
+-- What is left of the uoffsets of a field.
 use Rattle.std.proofs.Common.{◌≡◌, inl, inr, ℕ, ◌+◌, ◌*◌, ◌<◌, ◌≤◌, IsTrue, List, [], ◌∷◌, length, Option, Some, None, true, false, refl, ap, subst, ◌∙◌, arith}
 use Rattle.fb_bytes.specs.Word.{word}
 use Rattle.fb_schema.specs.declared.kinds.Kind.{Kind}

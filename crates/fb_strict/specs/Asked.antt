@@ -87,7 +87,7 @@ asked_referent w (Some Text) = if w.demands.utf8 then AText else Nothing
 asked_referent w (Some (Table k)) = if w.asks k then ATable k else Nothing
 asked_referent w _ = Nothing
 
--- what the offset words of a field of this kind lead to that is asked
+-- what the uoffsets of a field of this kind lead to that is asked
 abbrev pub row_leads : Wants → List ℕ → Rows → Option ℕ → Kind → Leads
 row_leads w b S types Text = All AText
 row_leads w b S types (Table j) = All (ATable j)
@@ -102,7 +102,7 @@ abbrev pub first_referent : Wants → List ℕ → Rows → Leads → Referent
 first_referent w b S (All referent) = referent
 first_referent w b S (ByType e q) = asked_referent w (member_of S e (word b q 1))
 
--- where its offset words begin
+-- where its uoffsets begin
 abbrev pub row_place : List ℕ → Option ℕ → Kind → ℕ
 row_place b None kind = 0
 row_place b (Some p) Texts = target b p + 4
@@ -110,7 +110,7 @@ row_place b (Some p) (Tables j) = target b p + 4
 row_place b (Some p) (Unions e) = target b p + 4
 row_place b (Some p) _ = p
 
--- an offset word at p by itself, through which these links lead, where its type tells what it leads to
+-- a uoffset at p by itself, through which these links lead, where its type tells what it leads to
 abbrev pub element_demands : Demanded → Checks → List ℕ → Rows → List Link → (k n p : ℕ) → Leads → List Demand
 element_demands D c b S links k n p (All referent) = []
 element_demands D c b S links k n p (ByType e q) = record {
@@ -123,12 +123,12 @@ element_demands D c b S links k n p (ByType e q) = record {
   inner = None;
 } ∷ []
 
--- the text to which the offset word at p leads: its reads, and then its bytes
+-- the text to which the uoffset at p leads: its reads, and then its bytes
 abbrev pub text_demands : List ℕ → List Link → (k n p : ℕ) → List Demand
 text_demands b links k n p =
     reading links k (Some n) p (text_reads b (target b p)) ∷ record { links = links; object = k; field = Some n; at = p; reads = 0; chain = text_failure b (target b p); inner = None } ∷ []
 
--- what the offset word at p leads to, where that is no table
+-- what the uoffset at p leads to, where that is no table
 abbrev pub leaf_demands : List ℕ → List Link → (k n p : ℕ) → Referent → List Demand
 leaf_demands b links k n p AText = text_demands b links k n p
 leaf_demands b links k n p _ = []
@@ -154,7 +154,7 @@ unfoldable mutual
   pub demands_in : Tree → Wants → Checks → List ℕ → Rows → List Link → List Demand
   demands_in (node k t kids) w c b S via = reading via k None t (head_reads c) ∷ (slots_demands w.demands b S via k t ++ demands_in_fields kids w c b S via k t (live_fields S k))
 
-  -- what each field holds; each that is asked by itself, and then its offset words
+  -- what each field holds; each that is asked by itself, and then its uoffsets
   pub demands_in_fields : Kids → Wants → Checks → List ℕ → Rows → List Link → ℕ → ℕ → List Live → List Demand
   demands_in_fields no_kids w c b S via k t fs = []
   demands_in_fields (kid ys kids) w c b S via k t [] = []
@@ -165,7 +165,7 @@ unfoldable mutual
       ++ demands_in_row ys w c b S (λ j. via ++ element_link b k t f j ∷ []) k f.number 0 (row_place b (field_place b t f.slot) f.kind) (row_leads w b S (type_place b t f.slot) f.kind)
       else []) ++ demands_in_fields kids w c b S via k t fs)
 
-  -- each offset word from p on by itself, and then what it leads to; j others are before it, and by such a number its
+  -- each uoffset from p on by itself, and then what it leads to; j others are before it, and by such a number its
   -- links are told
   pub demands_in_row : Elements → Wants → Checks → List ℕ → Rows → (ℕ → List Link) → (k n j p : ℕ) → Leads → List Demand
   demands_in_row no_elements w c b S way k n j p leads = []

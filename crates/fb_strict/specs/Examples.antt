@@ -99,7 +99,7 @@ pub record PlanRows : Type 0 where
   pub below : tasks_of 5 ≡ task 0 4 (GoInto 2) ∷ task 2 8 (GoIntoEach 5) ∷ []
   pub nothing_asked : tasks_in (wanting false) around 5 (live_fields around 5) ≡ []
 
--- a table R whose union has this offset word and this type, and its tree where no member has the type
+-- a table R whose union has this uoffset and this type, and its tree where no member has the type
 abbrev pub lone : ℕ → ℕ → List ℕ
 lone offset type = 12 ∷ 0 ∷ 0 ∷ 0 ∷ 8 ∷ 0 ∷ 12 ∷ 0 ∷ 8 ∷ 0 ∷ 4 ∷ 0 ∷ 8 ∷ 0 ∷ 0 ∷ 0 ∷ offset ∷ 0 ∷ 0 ∷ 0 ∷ type ∷ 0 ∷ 0 ∷ 0 ∷ []
 
@@ -133,7 +133,7 @@ links_in budget root b y = first_links (record { depth = 64; tables = 64; reads 
 abbrev pub link : (k n : ℕ) → (place type : Option ℕ) → Link
 link k n place type = record { object = k; field = n; element = place; member = type }
 
--- a table Y with a table R, whose union has this offset word and a type that is unknown
+-- a table Y with a table R, whose union has this uoffset and a type that is unknown
 abbrev pub nested : ℕ → List ℕ
 nested offset =
     12 ∷ 0 ∷ 0 ∷ 0 ∷ 6 ∷ 0 ∷ 8 ∷ 0 ∷ 4 ∷ 0 ∷ 0 ∷ 0 ∷ 8 ∷ 0 ∷ 0 ∷ 0 ∷ 12 ∷ 0 ∷ 0 ∷ 0 ∷ 8 ∷ 0 ∷ 12 ∷ 0 ∷ 8 ∷ 0 ∷ 4 ∷ 0 ∷ 8 ∷ 0 ∷ 0 ∷ 0 ∷ offset ∷ 0 ∷ 0 ∷ 0 ∷ 9 ∷ 0 ∷ 0 ∷ 0 ∷ []
@@ -141,7 +141,7 @@ nested offset =
 abbrev pub nested_tree : Tree
 nested_tree = node 5 12 (kid (element (table_below (node 2 28 (kid no_elements (kid no_elements no_kids)))) no_elements) (kid no_elements (kid no_elements no_kids)))
 
--- a table with a vector of two unions, of type 0 and of a type that is unknown, the second with this offset word
+-- a table with a vector of two unions, of type 0 and of a type that is unknown, the second with this uoffset
 abbrev pub pair : ℕ → List ℕ
 pair offset =
     12 ∷ 0 ∷ 0 ∷ 0 ∷ 8 ∷ 0 ∷ 12 ∷ 0 ∷ 4 ∷ 0 ∷ 8 ∷ 0 ∷ 8 ∷ 0 ∷ 0 ∷ 0 ∷ 8 ∷ 0 ∷ 0 ∷ 0 ∷ 12 ∷ 0 ∷ 0 ∷ 0 ∷ 2 ∷ 0 ∷ 0 ∷ 0 ∷ 0 ∷ 9 ∷ 0 ∷ 0 ∷ 2 ∷ 0 ∷ 0 ∷ 0 ∷ 0 ∷ 0 ∷ 0 ∷ 0 ∷ offset ∷ 0 ∷ 0 ∷ 0 ∷ []

@@ -21,7 +21,7 @@ where_asked false chain = None
 abbrev pub length_failure : List ℕ → Option Failure
 length_failure b = check (nat_le 12 (length b)) OutOfBuffer (length b) 0 None
 
--- an offset word at p that leads to what nobody knows
+-- a uoffset at p that leads to what nobody knows
 unfoldable pub inside_failure : Checks → List ℕ → ℕ → Option Failure
 inside_failure c b p = offset_failure c b p ▷ after 1 (check (fits b (target b p) 1) OutOfBuffer (target b p) 0 None)
 
@@ -55,7 +55,7 @@ together_failure (Some q) None = Some (record { reason = LengthsDiffer; at = q; 
 together_failure None (Some p) = Some (record { reason = LengthsDiffer; at = p; reads = 0 })
 together_failure _ _ = None
 
--- the offset word at p in a vector of unions, of this type
+-- the uoffset at p in a vector of unions, of this type
 abbrev pub typed_failure : Checks → List ℕ → Rows → (e type p : ℕ) → Option Failure
 typed_failure c b S e type p = if type == 0 then None else value_failure c b p (member_of S e type)
 
@@ -91,7 +91,7 @@ bytes_inner b _ _ = None
 abbrev pub text_failure : List ℕ → ℕ → Option Failure
 text_failure b s = check (is_utf8 (text_at b s)) NotUtf8 (s + 4 + utf8_valid_len (text_at b s)) 0 None
 
--- its offset word, its length, and each of its bytes
+-- its uoffset, its length, and each of its bytes
 abbrev pub text_reads : List ℕ → ℕ → ℕ
 text_reads b s = 2 + word b s 4
 
@@ -126,7 +126,7 @@ SlotLaw = (b : List ℕ) (S : Rows) (k v slot : ℕ) → (slot_failure b (live_f
 abbrev pub TextLaw : Type 0
 TextLaw = (b : List ℕ) (s : ℕ) → (text_failure b s ≡ None) ↔ IsUtf8At b s
 
--- of a vector of unions: that it is there with its types, and of each of its offset words
+-- of a vector of unions: that it is there with its types, and of each of its uoffsets
 abbrev pub UnionsAreTold : Checks → List ℕ → Rows → ℕ → (types place : Option ℕ) → Type 0
 UnionsAreTold c b S e types place =
     (together_failure types place ≡ None)

@@ -10,7 +10,7 @@ within_past (Some most) past n = min n (most + past)
 
 -- those of the walks: 4 for each buffer that begins, which are the whole, one for each table at most, and one that
 -- isn't walked to its end, and for each table 4 and for each field 8 and the buffer's length; and those of the passes:
--- for each table 3 and the length, and for each field the square of 8 and the length, since many offset words may lead
+-- for each table 3 and the length, and for each field the square of 8 and the length, since many uoffsets may lead
 -- to one text. No more than 7 and the length past the budget
 unfoldable pub most_reads_strictly : Rows → Bounds → ℕ → ℕ
 most_reads_strictly S L len =

@@ -80,7 +80,7 @@ abbrev pub task_inner : List ℕ → Ask → (place : Option ℕ) → Option Inn
 task_inner b (AskBytes held) place = bytes_inner b held place
 task_inner b _ _ = None
 
--- one offset word at p that leads to this, if it is anything
+-- one uoffset at p that leads to this, if it is anything
 abbrev pub word_row : ℕ → Referent → Row → Row
 word_row p Nothing old = old
 word_row p referent old = record { leads = All referent; place = p; left = 1 }
@@ -97,7 +97,7 @@ task_row w b S (Some q) (Some p) (AskUnions e) old = record { leads = ByType e (
 task_row w b S None (Some p) (AskUnions e) old = old
 task_row w b S types (Some p) (AskBytes held) old = old
 
--- an offset word stands at p, and the count of the vector to which it leads
+-- a uoffset stands at p, and the count of the vector to which it leads
 pub record CountStands (b : List ℕ) (p : ℕ) : Type 0 where
   pub offset : p + 4 ≤ length b
   pub count : target b p + 4 ≤ length b
@@ -118,7 +118,7 @@ IsTaskable b S t slot place (AskUnions e) = TypesFit b t slot × ((p : ℕ) → 
 IsTaskable b S t slot place (AskBytes Flex) = Unit {0}
 IsTaskable b S t slot place (AskBytes (Buffer k)) = IsTrue (is_table S k) × ((p : ℕ) → place ≡ Some p → BytesStand b p)
 
--- a field with this task has one offset word, or a vector of them, and each leads to this
+-- a field with this task has one uoffset, or a vector of them, and each leads to this
 abbrev pub IsOne : Ask → Referent → Type 0
 IsOne AskText referent = referent ≡ AText
 IsOne (GoInto k) referent = referent ≡ ATable k
@@ -153,10 +153,10 @@ unfoldable pub AreKnown : Checks → List ℕ → Rows → ℕ → List Live →
 AreKnown c b S t [] = Unit {0}
 AreKnown c b S t (f ∷ fs) = IsKnown c b S t f × AreKnown c b S t fs
 
--- The links through offset words that were passed: a frame tells its own by its last task, and by how many words are
+-- The links through uoffsets that were passed: a frame tells its own by its last task, and by how many words are
 -- left behind it.
 
--- how many offset words a field with this task has, whose value stands at this place
+-- how many uoffsets a field with this task has, whose value stands at this place
 abbrev pub ask_words : List ℕ → Option ℕ → Ask → ℕ
 ask_words b None ask = 0
 ask_words b (Some p) AskTexts = word b (target b p) 4
@@ -180,7 +180,7 @@ ask_member b types j (AskUnion e) = Some (union_type b types)
 ask_member b types j (AskUnions e) = Some (word b (types_begin b types + j) 1)
 ask_member b types j _ = None
 
--- the link through the offset word with j others before it
+-- the link through the uoffset with j others before it
 abbrev pub task_link : List ℕ → (k t : ℕ) → Task → ℕ → Link
 task_link b k t task j = record { object = k; field = task.number; element = ask_element j task.ask; member = ask_member b (type_place b t task.slot) j task.ask }
 
@@ -307,13 +307,13 @@ FirstPassed p m new site place (ByType e q) result =
     IsAskedAt site p.limits m new (where_asked (p.plan).demands.unions (element_failure p.checks m.bytes p.rows e q place)) (element_reads (p.plan).demands.unions m.bytes p.rows e q) place result
     × IfOk result (λ r. r ≡ first_referent (wants_of p) m.bytes p.rows (ByType e q))
 
--- the offset word at p leads to a text that lies in the buffer
+-- the uoffset at p leads to a text that lies in the buffer
 pub record TextStands (b : List ℕ) (p : ℕ) : Type 0 where
   pub offset : p + 4 ≤ length b
   pub count : target b p + 4 ≤ length b
   pub within : target b p + 4 + word b (target b p) 4 ≤ length b
 
--- the text to which the offset word at this place leads was asked: its reads are within the limits, and then it is
+-- the text to which the uoffset at this place leads was asked: its reads are within the limits, and then it is
 -- UTF-8; or the pass stops
 abbrev pub TextPassed : (p : Passing) → (m new : Lent) → Site → (place : ℕ) → Result (Unit {0}) Stop → Type 0
 TextPassed p m new site place (Ok a) =
@@ -323,7 +323,7 @@ TextPassed p m new site place (Err s) =
     ⊎ ((new ≡ record m { count = m.count + text_reads m.bytes (target m.bytes place) }) × AreAllowed (p.limits).reads new.count
     × (told site new.count (text_failure m.bytes (target m.bytes place)) ≡ Some (stopped s new.count)))
 
--- what an offset word at p leads to lies in the buffer, where it is asked
+-- what a uoffset at p leads to lies in the buffer, where it is asked
 abbrev pub ReferentStands : List ℕ → (p : ℕ) → Referent → Type 0
 ReferentStands b p AText = TextStands b p
 ReferentStands b p (ATable k) = p + 4 ≤ length b
@@ -371,7 +371,7 @@ pub record Stays (p : Passing) (m new : Lent) (room : ℕ) (via : List Link) (ds
   pub frame : IsLeft p m.bytes room via past left
   pub falls : frame_work p past < frame_work p top
 
--- offset words of a frame's field were passed of which none leads to what is asked, by at most two reads each
+-- uoffsets of a frame's field were passed of which none leads to what is asked, by at most two reads each
 pub record PassesBy (p : Passing) (m new : Lent) (room : ℕ) (via : List Link) (ds : List Demand) (top past : Frame) : Type 0 where
   pub left : List Demand
   pub on : GoesOn p m new ds left

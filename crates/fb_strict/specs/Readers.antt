@@ -32,7 +32,7 @@ unfoldable mutual
 abbrev pub TablesLaw : Type 0
 TablesLaw = (y : Tree) (D : Demanded) (c : Checks) (b : List ℕ) (S : Rows) → IsStrict y D c b S ↔ ((k t : ℕ) → HasNode y k t → IsStrictTable D c b S k t)
 
--- the offset word at p lies in the buffer, and leads inside
+-- the uoffset at p lies in the buffer, and leads inside
 pub record MayFollow (b : List ℕ) (p : ℕ) : Type 0 where
   pub within : p + 4 ≤ length b
   pub inside : target b p < length b
@@ -44,14 +44,14 @@ ValuesLeadInside y b S =
     (k t i : ℕ) (f : Live) (e p : ℕ) → HasNode y k t → slice_get (live_fields S k) i ≡ Some f → f.kind ≡ Union e → field_place b t f.slot ≡ Some p
     → member_of S e (union_type b (type_place b t f.slot)) ≡ None → MayFollow b p
 
--- so may the j-th offset word of a vector of unions, whose type isn't 0 and is unknown
+-- so may the j-th uoffset of a vector of unions, whose type isn't 0 and is unknown
 abbrev pub ElementsLeadInside : Tree → List ℕ → Rows → Type 0
 ElementsLeadInside y b S =
     (k t i : ℕ) (f : Live) (e p j : ℕ) → HasNode y k t → slice_get (live_fields S k) i ≡ Some f → f.kind ≡ Unions e → field_place b t f.slot ≡ Some p
     → j < word b (target b p) 4 → word b (types_begin b (type_place b t f.slot) + j) 1 ≢ 0 → member_of S e (word b (types_begin b (type_place b t f.slot) + j) 1) ≡ None
     → MayFollow b (target b p + 4 + 4 * j)
 
--- each text is UTF-8 to which an offset word of a table of this tree leads
+-- each text is UTF-8 to which a uoffset of a table of this tree leads
 abbrev pub TextsAreUtf8 : Tree → List ℕ → Rows → Type 0
 TextsAreUtf8 y b S = (k t i : ℕ) (f : Live) → HasNode y k t → slice_get (live_fields S k) i ≡ Some f → AreUtf8 b (entries b S t f)
 
@@ -67,7 +67,7 @@ HasNoUnknownFields y b S = (k t : ℕ) → HasNode y k t → HasKnownFields b S 
 abbrev pub SlotsLaw : Type 0
 SlotsLaw = (y : Tree) (D : Demanded) (c : Checks) (b : List ℕ) (S : Rows) → D.known_fields ≡ true → IsStrict y D c b S → HasNoUnknownFields y b S
 
--- the buffer in the bytes of the vector to which the offset word at p leads, with a root table of this object
+-- the buffer in the bytes of the vector to which the uoffset at p leads, with a root table of this object
 abbrev pub buffer_at : List ℕ → (root p : ℕ) → Inner
 buffer_at b root p = record { at = target b p + 4; size = word b (target b p) 4; root = root }
 

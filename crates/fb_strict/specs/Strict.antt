@@ -11,7 +11,7 @@ use Rattle.fb_strict.specs.Demanded.{Demanded, held_of}
 use Rattle.fb_strict.specs.declared.tasks.{Held.Held, Held.TheVariants.Flex}
 use Rattle.fb_rules.specs.Tree.{Tree, node, Kids, no_kids, kid, Elements, no_elements, element, Element, leaf, table}
 
--- an offset word stands at p, and leads inside the buffer
+-- a uoffset stands at p, and leads inside the buffer
 pub record LeadsInside (c : Checks) (b : List ℕ) (p : ℕ) : Type 0 where
   pub offset : IsOffset c b p
   pub inside : target b p < length b
@@ -22,7 +22,7 @@ pub record IsStrictUnion (c : Checks) (b : List ℕ) (S : Rows) (e : ℕ) (types
   pub valued : place ≡ None → union_type b types ≡ 0
   pub leads : (p : ℕ) → place ≡ Some p → member_of S e (union_type b types) ≡ None → LeadsInside c b p
 
--- the offset word at p in a vector of unions, of this type: where that isn't 0 and has no member, it leads inside
+-- the uoffset at p in a vector of unions, of this type: where that isn't 0 and has no member, it leads inside
 abbrev pub IsStrictElement : Checks → List ℕ → Rows → (e type p : ℕ) → Type 0
 IsStrictElement c b S e type p = type ≢ 0 → member_of S e type ≡ None → LeadsInside c b p
 
@@ -44,7 +44,7 @@ text_at b s = take (word b s 4) (drop (s + 4) b)
 abbrev pub IsUtf8At : List ℕ → ℕ → Type 0
 IsUtf8At b s = IsUtf8 (text_at b s)
 
--- each of these offset words that leads to a text leads to one that is UTF-8
+-- each of these uoffsets that leads to a text leads to one that is UTF-8
 abbrev pub AreUtf8 : List ℕ → List Entry → Type 0
 AreUtf8 b xs = (i : ℕ) (x : Entry) → slice_get xs i ≡ Some x → x.lead ≡ to_string → IsUtf8At b (target b x.place)
 

@@ -18,7 +18,7 @@ pub fn chains_tell()
     ensures of_slots { SlotLaw }
 {}
 
-/// A vector of unions meets what is demanded exactly where the chains of it and of its offset words find nothing.
+/// A vector of unions meets what is demanded exactly where the chains of it and of its `uoffset`s find nothing.
 pub fn unions_are_told()
     ensures { UnionsLaw }
 {}
@@ -41,7 +41,7 @@ pub fn one_plan()
 {}
 
 /// Where unions are asked, in a strict buffer the value of a union whose type is 0 or unknown leads inside, wherever
-/// its table stands, and so does an offset word in a vector of unions whose type is unknown.
+/// its table stands, and so does a `uoffset` in a vector of unions whose type is unknown.
 pub fn unknown_values_lead_inside()
     ensures values { ValuesLaw }
     ensures elements { ElementsLaw }
@@ -64,7 +64,7 @@ pub fn strict_is_ok()
     ensures { StrictIsOk }
 {}
 
-/// In a buffer that is reported strictly where unions are asked, such values and offset words lead inside, wherever a
+/// In a buffer that is reported strictly where unions are asked, such values and `uoffset`s lead inside, wherever a
 /// table of its tree stands.
 pub fn unions_lead_inside()
     ensures { UnionsLeadInside }

@@ -13,7 +13,6 @@ mod links;
 mod located;
 mod marking;
 mod most;
-mod offset_words;
 mod pass;
 mod plan;
 mod room;
@@ -22,6 +21,7 @@ mod strictly;
 mod tasks;
 mod texts;
 pub mod unions;
+mod uoffsets;
 mod way;
 mod whole;
 

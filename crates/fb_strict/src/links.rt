@@ -30,7 +30,7 @@ fn place_of(window: &Window<'_>, table: Table, slot: u16) -> Option<u64>
     }
 }
 
-/// How many offset words the field of a task has, which stands at this place.
+/// How many `uoffset`s the field of a task has, which stands at this place.
 fn words_at(window: &Window<'_>, place: u64, ask: Ask) -> u32
     requires near { place < 2 ^ 34 }
     requires stands { WordsStand window.now place ask }
@@ -79,7 +79,7 @@ fn member_at(window: &Window<'_>, table: Table, task: Task, before: u32) -> Opti
 }
 
 impl<'p, 's, 'n, A: Allocator> Pass<'p, 's, 'n, A> {
-    /// The link through the offset word behind which a frame's row was left. What the pass read of its field is read
+    /// The link through the `uoffset` behind which a frame's row was left. What the pass read of its field is read
     /// again, uncounted: at most six numbers, of a vector of unions.
     fn link_of(&self, window: &Window<'_>, frame: &Frame) -> Link
         requires plan { IsPlan self.now.rows (self.now.plan).demands self.now.plan }

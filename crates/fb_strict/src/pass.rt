@@ -111,7 +111,7 @@ fn lend<'b>(loan: &mut Loan<'b>, limits: Limits) -> (Reads<'b>, u64)
     (reads, room)
 }
 
-/// Puts the offset word at a place that leads to this, if it is anything that is asked.
+/// Puts the `uoffset` at a place that leads to this, if it is anything that is asked.
 #[inline(always)]
 fn put_word(referent: Referent, at: u64, row: &mut Row)
     ensures { row.new ≡ word_row at referent row.old }
@@ -150,7 +150,7 @@ impl<'p, 's, 'n, A: Allocator> Pass<'p, 's, 'n, A> {
         Err(Stop { refusal, site })
     }
 
-    /// Passes a field of which nothing is asked but what its offset word leads to, and puts that, if it is there.
+    /// Passes a field of which nothing is asked but what its `uoffset` leads to, and puts that, if it is there.
     #[inline(always)]
     fn pass_one(
         &self,
@@ -188,7 +188,7 @@ impl<'p, 's, 'n, A: Allocator> Pass<'p, 's, 'n, A> {
         }
     }
 
-    /// Passes a union with this number, and puts its offset word, if what that leads to is asked.
+    /// Passes a union with this number, and puts its `uoffset`, if what that leads to is asked.
     #[inline(always)]
     fn pass_union(
         &self,
@@ -227,7 +227,7 @@ impl<'p, 's, 'n, A: Allocator> Pass<'p, 's, 'n, A> {
         Ok(())
     }
 
-    /// Reads where a vector begins, to which the offset word at a position leads, and how many elements it has.
+    /// Reads where a vector begins, to which the `uoffset` at a position leads, and how many elements it has.
     #[inline(always)]
     fn read_row(&self, reads: &mut Reads<'_>, leads: Leads, place: u64) -> Row
         requires few { reads.old.count < reads.old.base + 2 ^ 60 }
@@ -244,7 +244,7 @@ impl<'p, 's, 'n, A: Allocator> Pass<'p, 's, 'n, A> {
         }
     }
 
-    /// Passes a field of which nothing is asked but what the offset words of its vector lead to, and puts these.
+    /// Passes a field of which nothing is asked but what the `uoffset`s of its vector lead to, and puts these.
     #[inline(always)]
     fn pass_each(
         &self,
@@ -274,7 +274,7 @@ impl<'p, 's, 'n, A: Allocator> Pass<'p, 's, 'n, A> {
         Ok(())
     }
 
-    /// Passes a vector of unions with this number, and puts its offset words. Where unions are asked, it has its types.
+    /// Passes a vector of unions with this number, and puts its `uoffset`s. Where unions are asked, it has its types.
     #[inline(always)]
     fn pass_unions(
         &self,
@@ -393,7 +393,7 @@ impl<'p, 's, 'n, A: Allocator> Pass<'p, 's, 'n, A> {
         }
     }
 
-    /// Does a task of an open table, and puts the offset words by which its field leads on, or tells the buffer that
+    /// Does a task of an open table, and puts the `uoffset`s by which its field leads on, or tells the buffer that
     /// its bytes hold.
     #[inline(always)]
     fn pass_task(
@@ -451,7 +451,7 @@ impl<'p, 's, 'n, A: Allocator> Pass<'p, 's, 'n, A> {
         }
     }
 
-    /// One step in the top table, where so many frames are open: its next offset word, or else its next task.
+    /// One step in the top table, where so many frames are open: its next `uoffset`, or else its next task.
     #[inline(always)]
     fn step(
         &self,

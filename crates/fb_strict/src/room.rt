@@ -15,7 +15,7 @@ use std::marker::Model;
 const DEEPEST: u32 = 4096;
 
 /// An open table: its next task, the number of the field of the task before that, and what is left of that field's
-/// offset words.
+/// `uoffset`s.
 #[derive(Clone, Copy)]
 pub struct Frame {
     pub table: Table,

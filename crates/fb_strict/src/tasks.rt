@@ -31,7 +31,7 @@ pub enum Ask {
     Texts,
     /// A union of this number is asked.
     Union(u32),
-    /// A vector of unions of this number is, with each of its offset words.
+    /// A vector of unions of this number is, with each of its `uoffset`s.
     Unions(u32),
     /// Nothing but of the table that it leads to, of this object.
     Table(u32),

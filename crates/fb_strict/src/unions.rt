@@ -16,7 +16,7 @@ use fb_rules::plain::{fails, slot_at, test_offset};
 use fb_rules::table::Table;
 use fb_schema::{Goal, Schema, Target, Targets};
 
-/// The fewest bytes of a buffer, its prefix included, that generated code takes: an offset word, a table's first word,
+/// The fewest bytes of a buffer, its prefix included, that generated code takes: a `uoffset`, a table's first word,
 /// and the two words of a vtable.
 const LEAST: u64 = 12;
 
@@ -46,7 +46,7 @@ pub fn test_length(reads: &Reads<'_>) -> Option<Reason>
     None
 }
 
-/// Tests an offset word that leads to what nobody knows: inside the buffer. It goes on there.
+/// Tests a `uoffset` that leads to what nobody knows: inside the buffer. It goes on there.
 #[inline(always)]
 #[tactic(auto, unfolding(crate::specs::InOrder::inside_failure))]
 pub fn test_inside(reads: &mut Reads<'_>, checks: Checks, at: &mut u64) -> Option<Reason>
@@ -92,7 +92,7 @@ fn type_at(reads: &mut Reads<'_>, table: u64, types: u64) -> u8
     reads.u8_at(types)
 }
 
-/// What an offset word of this type leads to, by these targets of a union. Only the contract speaks of the schema and
+/// What a `uoffset` of this type leads to, by these targets of a union. Only the contract speaks of the schema and
 /// of the union.
 #[inline(always)]
 fn target_of(targets: Targets<'_>, schema: &Schema<'_>, union: u32, value: u8) -> Target
@@ -104,7 +104,7 @@ fn target_of(targets: Targets<'_>, schema: &Schema<'_>, union: u32, value: u8) -
     targets.get(value)
 }
 
-/// Whether an offset word leads to a member.
+/// Whether a `uoffset` leads to a member.
 #[inline(always)]
 fn is_member(target: Target) -> bool
     ensures { result ≡ is_some (kind_to target) }
@@ -179,7 +179,7 @@ pub fn test_flex(table: u64, at: u64) -> Option<Reason>
     None
 }
 
-/// Reads the type at a position, of an offset word in a vector of unions, and tests the word where it is asked: where
+/// Reads the type at a position, of a `uoffset` in a vector of unions, and tests the word where it is asked: where
 /// the type isn't 0 and has no member, it goes on where the word leads. It tells what the type leads to, of which these
 /// are the union's. Only the contract speaks of the schema and of the union.
 #[inline(always)]

@@ -1,4 +1,4 @@
--- A table whose fields lead to no table is passed whole; offset words that are left of a field are passed one by one.
+-- A table whose fields lead to no table is passed whole; uoffsets that are left of a field are passed one by one.
 use Rattle.std.proofs.Common.{◌≡◌, ℕ, ◌+◌, ◌*◌, ◌^◌, ◌<◌, ◌≤◌, IsTrue, Bool, true, false, List, [], ◌∷◌, ◌++◌, map, length, refl, sym, ◌∙◌, ap, subst, arith, Option, Some, None, Result, Ok, Err}
 use Rattle.std.proofs.lemmas.{Bool.lt-ltb, List.length-map}
 use Rattle.fb_bytes.specs.Word.{Lent}

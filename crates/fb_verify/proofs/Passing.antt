@@ -147,7 +147,7 @@ module _ {c : Checks} {b : List ℕ} {S : Rows} {L : Bounds} {s : Origin} {below
   abbrev t : ℕ
   t = (top.table).at
 
-  -- the row of a string's offset word
+  -- the row of a string's uoffset
   abbrev one_word : ℕ → Row
   one_word p = record { leads = AllTo AText; place = p; left = 1 }
 

@@ -71,7 +71,7 @@ pub told_is : (w : Way) (site : Site) (e : Option Failure) → site.object ≡ w
 told_is w site e o n = grind arith
 
 module _ (c : Checks) (b : List ℕ) (S : Rows) where
-  -- an offset word that leads to no table unfolds to a leaf
+  -- a uoffset that leads to no table unfolds to a leaf
   leaf_unfolds : (p : ℕ) (lead : Lead) → IsLeafLead lead → IsLead c b p lead → ElementUnfolds leaf c b S p lead
   unfolding ElementUnfolds
   leaf_unfolds p lead l h = grind arith
@@ -158,7 +158,7 @@ module _ (c : Checks) (b : List ℕ) (S : Rows) where
       waits_for k t l o e p =
           record { x = first_word b S top.row; v = v'; in_field = middle l; leads = e; offset = rw e at ((element_none c b (first_word b S top.row)).0 o); place = rw (first_place b S top.row) p; after = refl }
 
-      -- an offset word that leads to no table is passed
+      -- a uoffset that leads to no table is passed
       pub pass_leaf : (row : Row) (q : ℕ) → row ≡ past_first top.row → 0 < (top.row).left → element_failure c b (first_word b S top.row) ≡ None → IsLeafLead (first_word b S top.row).lead
           → q ≡ r + (first_word b S top.row).reads + lead_reads (first_word b S top.row).lead
           → Standing c b S s below (record top { row = row }) n d q

@@ -58,7 +58,7 @@ module _ (c : Checks) (b : List ℕ) (S : Rows) (k t : ℕ) (w : Way) where
         after = same_way _ _ refl (omega arith) (omega (arith, d)) (omega arith) (ap (λ x. x.leading) h.after) refl refl;
       }
 
-  -- an offset word is passed with what it leads to
+  -- a uoffset is passed with what it leads to
   pub passed_on : (next number : ℕ) (x : Entry) (xs : List Entry) (v u : Way) (y : Element) → IsInField c b S k t w next number (x ∷ xs) v → ElementUnfolds y c b S x.place x.lead
       → u ≡ passing (element_size y) (element_depth y) (x.reads + lead_reads x.lead + element_cost y c b S) v → IsInField c b S k t w next number xs u
   passed_on next number x xs v u y h g e =
@@ -134,7 +134,7 @@ module _ (c : Checks) (b : List ℕ) (S : Rows) (k t : ℕ) (w : Way) where
         let next : slice_get (live_fields S k) (kids_length h.earlier) ≡ Some field = rw h.count g in
         (at_field h.earlier at_own, (field, record { head = h.head; passed = rw h.count h.passed; next = next }, rw h.after at p), ap (links_in_field at_own b S k t) next)
 
-    -- at an offset word or further on
+    -- at a uoffset or further on
     stops_in_element : (next number : ℕ) (x : Entry) (xs : List Entry) (v : Way) (s : ElementTrail) (h : IsInField c b S k t w next number (x ∷ xs) v) → IsElementTrail s c b S L x v f
         → LeadsAlong c b S L k t w f (element_link b k t h.field (elements_length h.before) ∷ links_in_element s b S (Some x))
     unfolding IsTrail links_of
@@ -156,7 +156,7 @@ module _ (c : Checks) (b : List ℕ) (S : Rows) (k t : ℕ) (w : Way) where
           ap (links_in_field (at_element h.before s) b S k t) here ∙ ap (λ e. element_link b k t h.field (elements_length h.before) ∷ links_in_element s b S e) word,
         )
 
-    -- at an offset word
+    -- at a uoffset
     pub stops_at_element : (next number : ℕ) (x : Entry) (xs : List Entry) (v : Way) (h : IsInField c b S k t w next number (x ∷ xs) v) → IsFalseAt c b S L (in_element x) v f
         → LeadsAlong c b S L k t w f (element_link b k t h.field (elements_length h.before) ∷ [])
     unfolding IsElementTrail links_in_element

@@ -1,4 +1,4 @@
--- The walk stands at an offset word that leads to a table, which it counts, and goes on in that table.
+-- The walk stands at a uoffset that leads to a table, which it counts, and goes on in that table.
 use Rattle.std.proofs.Common.{◌≡◌, ℕ, ◌+◌, ◌*◌, ◌<◌, max, List, [], ◌∷◌, ◌++◌, length, take, refl, sym, ◌∙◌, ap, arith, Some, ◌≤◌, inl, None}
 use Rattle.std.proofs.Math.Seq.{take-append_seam}
 use Rattle.std.proofs.lemmas.{List.length-append, List.Sums.sum_by_push, List.Elements.All-push}

@@ -60,7 +60,7 @@ module _ {c : Checks} {b : List ℕ} {S : Rows} {L : Bounds} {s : Origin} {below
         standing = standing;
       }
 
-  -- an offset word that leads to no table is passed
+  -- a uoffset that leads to no table is passed
   pub leaf_passed : (row : Row) (q : ℕ) → row ≡ past_first top.row → 0 < (top.row).left → element_failure c b (first_word b S top.row) ≡ None → q ≡ r + (first_word b S top.row).reads + lead_reads (first_word b S top.row).lead
       → IsLeafLead (first_word b S top.row).lead → AreAllowed L.reads q → IsUnderWay c b S L s below (record top { row = row }) n d q
   leaf_passed row q re l o z k cheap = goes_on (record top { row = row }) q cheap (frame_on c b S top row re l h.frame) (pass_leaf c b S L s below top n d r h.standing row q re l o k z)

@@ -104,7 +104,7 @@ pub record IsAtField (w : Walk) (b : List ℕ) (r : ℕ) (s : Origin) (below : L
   pub present : (f : Live) → slice_get (live_fields w.schema.now (top.table).object) top.next ≡ Some f → (field_place b (top.table).at f.slot ≡ Some place) × IsTrue (has_slot b (top.table).at f.slot)
   pub near : place < 2 ^ 34
 
--- a walk through these bytes, which came to r reads, where the last ones were those of the first offset word that is
+-- a walk through these bytes, which came to r reads, where the last ones were those of the first uoffset that is
 -- left of the top's field: it leads to this table. Before them, with four for each word that is left, there were so
 -- many at most
 pub record IsAtTable (w : Walk) (b : List ℕ) (r : ℕ) (s : Origin) (below : List Frame) (top : Frame) (most : ℕ) (child : Child) : Type 0 where
@@ -144,7 +144,7 @@ pub record IsLinked (c : Checks) (b : List ℕ) (S : Rows) (fr : Frame) : Type 0
   pub typed : IsTyped b (fr.table).at field.slot field.kind
   pub more : (fr.row).left < length (entries b S (fr.table).at field)
 
--- how many offset words a field of this kind at p has that leads on
+-- how many uoffsets a field of this kind at p has that leads on
 abbrev pub word_count : List ℕ → ℕ → Kind → ℕ
 word_count b p Texts = word b (target b p) 4
 word_count b p (Tables k) = word b (target b p) 4

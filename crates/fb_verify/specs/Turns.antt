@@ -32,7 +32,7 @@ pub record IsAtChild (w : Walk) (m : Lent) (s : Origin) (frames : List Frame) (c
   pub stops : (at reads : ℕ) → (reason : Reason) → tested_by at reads (Some reason) ≡ after m.count (head_failure w.checks m.bytes child.at)
       → StopsIn w.checks m.bytes w.schema.now w.limits s frames [] (record { at = at; object = child.object; field = None; reason = reason; reads = reads })
 
--- the walk goes on in a row of offset words, over so many frames that wait
+-- the walk goes on in a row of uoffsets, over so many frames that wait
 pub record IsInRow (w : Walk) (m : Lent) (under : Waiting) (waiting : ℕ) (top : Frame) : Type 0 where
   pub many : waiting ≡ length under.frames
   pub walking : IsWalking w m under.start under.frames top
@@ -85,7 +85,7 @@ pub record GoesOn (w then : Walk) (m new : Lent) (under : Waiting) (top past : F
   pub bytes : new.bytes ≡ m.bytes
   pub short : IsShort new.count
 
--- with the next field, as no offset word is left of the one before
+-- with the next field, as no uoffset is left of the one before
 pub record Rests (w then : Walk) (m new : Lent) (under : Waiting) (top past : Frame) : Type 0 where
   pub on : GoesOn w then m new under top past
   pub rests : (past.row).left ≡ 0
@@ -296,7 +296,7 @@ pub record HasRoomToGo (w : Walk) (m : Lent) (top : Frame) : Type 0 where
   pub more : AreAllowed (w.limits).reads (m.count + 8 + 6 * fields_left w.schema.now top)
   pub short : IsShort (m.count + 8 + 6 * fields_left w.schema.now top)
 
--- what leads on by offset words of a vector, or by that of a union
+-- what leads on by uoffsets of a vector, or by that of a union
 abbrev pub IsFar : Kind → Type 0
 IsFar Texts = Unit {0}
 IsFar (Tables k) = Unit {0}
@@ -312,6 +312,6 @@ IsAtStep w m under waiting top place step = (f : Live) × IsAtOpenField w m unde
 abbrev pub IsAtTableField : (w : Walk) → (m : Lent) → (under : Waiting) → (waiting : ℕ) → (top : Frame) → (place slot object : ℕ) → Type 0
 IsAtTableField w m under waiting top place slot object = (f : Live) × IsAtOpenField w m under waiting top place f × (f.kind ≡ ToTable object) × (f.slot ≡ slot)
 
--- or on by offset words
+-- or on by uoffsets
 abbrev pub IsAtFarField : (w : Walk) → (m : Lent) → (under : Waiting) → (waiting : ℕ) → (top : Frame) → (place : ℕ) → Type 0
 IsAtFarField w m under waiting top place = (f : Live) × IsAtOpenField w m under waiting top place f × IsFar f.kind

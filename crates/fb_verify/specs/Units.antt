@@ -33,7 +33,7 @@ TableOpened w then m new links site child (Err s) =
     Fails m new (told site m.count (budget_failure w.limits (way_at links w.tables w.deepest m.count site) child.at) ▷ told (record { object = child.object; field = None }) m.count
     (head_failure w.checks m.bytes child.at ▷ reads_failure w.limits m.count (head_reads w.checks) child.at)) s
 
--- the first offset word of a row holds, and leads to no table
+-- the first uoffset of a row holds, and leads to no table
 pub record PassesLeaf (w : Walk) (m new : Lent) (row : Row) : Type 0 where
   pub ok : element_failure w.checks m.bytes (first_word m.bytes w.schema.now row) ≡ None
   pub leaf : IsLeafLead (first_word m.bytes w.schema.now row).lead

@@ -29,7 +29,7 @@ pub record IsInside (c : Checks) (b : List ℕ) (S : Rows) (k t : ℕ) (w : Way)
   pub passed : FieldsUnfold earlier c b S t (take i (live_fields S k))
   pub after : v ≡ past_fields c b S t (live_fields S k) earlier (opening c k w)
 
--- the table is open, the field before the next is under check, and these offset words are left of it
+-- the table is open, the field before the next is under check, and these uoffsets are left of it
 pub record IsInField (c : Checks) (b : List ℕ) (S : Rows) (k t : ℕ) (w : Way) (next number : ℕ) (left : List Entry) (v : Way) : Type 0 where
   pub i : ℕ
   pub outer : Way

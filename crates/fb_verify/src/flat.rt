@@ -258,7 +258,7 @@ pub fn open_frame(
 }
 
 impl<'s, 'n> Walk<'s, 'n> {
-    /// Whether an offset word is left of a row, and the limits allow to pass it and to open one more table behind it,
+    /// Whether a `uoffset` is left of a row, and the limits allow to pass it and to open one more table behind it,
     /// for so many reads at most.
     #[inline(always)]
     fn has_word(&self, reads: &Reads<'_>, row: Row, cost: u64, room: u64) -> bool
@@ -269,7 +269,7 @@ impl<'s, 'n> Walk<'s, 'n> {
         row.left > 0 && self.tables < tables_of(self.limits) && reads.count() + cost <= room
     }
 
-    /// Passes offset words that are left of the top table's field, each with the table to which it leads, whose fields
+    /// Passes `uoffset`s that are left of the top table's field, each with the table to which it leads, whose fields
     /// lead to no table: as many as the limits allow to open, so that the budget allows whatever each may cost. So many
     /// frames wait below the top.
     #[inline(always)]
@@ -412,7 +412,7 @@ impl<'s, 'n> Walk<'s, 'n> {
         self.pass_flats_by_checks(reads, waiting, object, top)
     }
 
-    /// Passes the first offset word of a row, with what it leads to, and answers `Up`; unless that is a table of which
+    /// Passes the first `uoffset` of a row, with what it leads to, and answers `Up`; unless that is a table of which
     /// a field may lead on, or for whose fields there is no room up to so many reads: such a table is to be opened. The
     /// top is left with the row past that word, if it is to be opened or the walk stops. So many frames wait below it.
     #[inline(always)]
@@ -463,7 +463,7 @@ impl<'s, 'n> Walk<'s, 'n> {
         Turn::Up
     }
 
-    /// Passes offset words that are left of the top table's field, each with what it leads to by these types of a
+    /// Passes `uoffset`s that are left of the top table's field, each with what it leads to by these types of a
     /// union, until one leads to a table of which a field may lead on, which is to be opened. So many frames wait below
     /// the top.
     #[inline(always)]

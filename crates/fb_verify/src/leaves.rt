@@ -1,4 +1,4 @@
-// The offset words by which a field leads on, passed by reads that are counted in a register.
+// The `uoffset`s by which a field leads on, passed by reads that are counted in a register.
 
 ghost use Rattle.std.specs.Prelude.{◌≡◌, ◌+◌, ◌*◌, ◌^◌, ◌<◌, ◌≤◌, [], ◌∷◌, ◌++◌, IfOk, IfErr, Some};
 ghost use Rattle.fb_schema.specs.Served.{IsServed};
@@ -26,7 +26,7 @@ pub const NO_TARGETS: Targets<'static> = Targets {
     targets: &[],
 };
 
-/// What the offset words of a row refer to by their types, where these tell it.
+/// What the `uoffset`s of a row refer to by their types, where these tell it.
 #[inline(always)]
 pub fn targets_of<'s>(schema: &'s Schema<'_>, leads: Leads) -> Targets<'s>
     requires union { AreOfUnion schema.now leads }
@@ -38,7 +38,7 @@ pub fn targets_of<'s>(schema: &'s Schema<'_>, leads: Leads) -> Targets<'s>
     }
 }
 
-/// What the first offset word of a row refers to. Where the types of a union tell that, its type is read, and the
+/// What the first `uoffset` of a row refers to. Where the types of a union tell that, its type is read, and the
 /// target of it is looked up among these.
 #[inline(always)]
 pub fn first_referent(
@@ -65,7 +65,7 @@ pub fn first_referent(
     }
 }
 
-/// Where the walk stops at the first offset word that is left of the top table's field. The top is left past that word,
+/// Where the walk stops at the first `uoffset` that is left of the top table's field. The top is left past that word,
 /// as it is where the word leads to a table.
 #[cold]
 #[inline(never)]
@@ -85,7 +85,7 @@ pub fn stop_at_word(top: &mut Frame, left: Row, at: u64, reason: Reason) -> Stop
 }
 
 impl Walk<'_, '_> {
-    /// Passes the offset words that are left of the top table's field, which all refer to this, with the strings or
+    /// Passes the `uoffset`s that are left of the top table's field, which all refer to this, with the strings or
     /// structs that they lead to. Where one fails, the row is left past it. The budget allows whatever they cost. These
     /// are the walk's own checks, and what the words refer to, of which a caller may know constants.
     #[inline(always)]
@@ -120,7 +120,7 @@ impl Walk<'_, '_> {
         Ok(())
     }
 
-    /// Passes the offset words that are left of the top table's field, which all refer to this, and of which none leads
+    /// Passes the `uoffset`s that are left of the top table's field, which all refer to this, and of which none leads
     /// to a table, where the budget allows whatever they may cost, four reads each. Texts are a constant in the loop.
     #[inline(always)]
     pub fn pass_words(

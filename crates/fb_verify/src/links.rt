@@ -39,7 +39,7 @@ fn place_of(window: &Window<'_>, table: Table, slot: u16) -> Option<u64>
     }
 }
 
-/// How many offset words of a field that stands at this place are before the one behind which so many are left.
+/// How many `uoffset`s of a field that stands at this place are before the one behind which so many are left.
 fn words_before(window: &Window<'_>, place: u64, kind: Kind, left: u32) -> u32
     requires near { place < 2 ^ 34 }
     requires stands { CountStands window.now place kind }
@@ -88,7 +88,7 @@ fn type_at(window: &Window<'_>, table: Table, field: &FieldView<'_>, before: u32
     }
 }
 
-/// The link through the offset word behind which a frame's row was left. What the walk read of its field is read again,
+/// The link through the `uoffset` behind which a frame's row was left. What the walk read of its field is read again,
 /// uncounted: at most six numbers, of a vector of unions. Only the contract speaks of the walk's checks.
 fn link_of(window: &Window<'_>, schema: &Schema<'_>, checks: Checks, frame: &Frame) -> Link
     requires linked { IsLinked checks window.now schema.now frame.now }

@@ -85,7 +85,7 @@ impl<'s, 'n> Walk<'s, 'n> {
     }
 
     /// Checks a field of a table by itself, asks the budget, and answers whether the field leads on, and then by which
-    /// offset words. What fails does so at this field.
+    /// `uoffset`s. What fails does so at this field.
     fn pass_field(
         &self,
         loan: &mut Loan<'_>,
@@ -140,7 +140,7 @@ impl<'s, 'n> Walk<'s, 'n> {
         Ok(false)
     }
 
-    /// Checks the first offset word of a row, and answers the table to which it leads, if it does; else the budget is
+    /// Checks the first `uoffset` of a row, and answers the table to which it leads, if it does; else the budget is
     /// asked. What fails does so at this site.
     fn pass_element(&self, loan: &mut Loan<'_>, site: Site, row: Row) -> Result<Option<Child>, Stop>
         requires served { IsServed self.now.schema.now }
@@ -167,7 +167,7 @@ impl<'s, 'n> Walk<'s, 'n> {
         }
     }
 
-    /// Passes the first offset word that is left of the top table's field, and answers whether it leads to a table,
+    /// Passes the first `uoffset` that is left of the top table's field, and answers whether it leads to a table,
     /// which is opened: its frame is the first of the room then. So many frames wait below the top.
     fn pass_one(
         &mut self,
@@ -202,7 +202,7 @@ impl<'s, 'n> Walk<'s, 'n> {
         }
     }
 
-    /// One step of the walk: passes the next offset word of the top table's field, behind which a table becomes the
+    /// One step of the walk: passes the next `uoffset` of the top table's field, behind which a table becomes the
     /// top; or where none is left, the fields up to one that leads on, or to the end, where the table above becomes the
     /// top. So many frames wait below the top, and the answer says how many do after; none where the first table is
     /// closed.

@@ -68,7 +68,7 @@ const COUNTS: Report = Report {
     reads: 296,
 };
 
-/// What is wanted where it ends before the last item, to which nothing but an offset word of unknown type leads.
+/// What is wanted where it ends before the last item, to which nothing but a `uoffset` of unknown type leads.
 const FAULT: Fault = Fault {
     at: 1112,
     object: Q,

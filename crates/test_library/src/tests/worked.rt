@@ -15,7 +15,7 @@ use std::process::Abort;
 /// From `R`: a table whose vtable has no slot.
 const EMPTY: &[u8] = b"\x08\0\0\0\x04\0\x04\0\x04\0\0\0";
 
-/// From `R`: its type byte 1 at 20, its offset word at 16, the table with a 5 at 32.
+/// From `R`: its type byte 1 at 20, its `uoffset` at 16, the table with a 5 at 32.
 const PICKED: &[u8] = b"\
     \x0c\0\0\0\x08\0\x0c\0\x08\0\x04\0\x08\0\0\0\x10\0\0\0\x01\0\0\0\
     \x06\0\x08\0\x04\0\0\0\x08\0\0\0\x05\0\0\0\

@@ -2,7 +2,7 @@ use Rattle.std.proofs.Common.{None}
 use Rattle.fb_strict.proofs.Answered.{ok_for, only_read}
 use Rattle.fb_strict.proofs.pass.Pass.follow.Goals as goal
 
--- src/offset_words.rt
+-- src/uoffsets.rt
 pub returns-clause-asked : goal.returns-clause-asked
 returns-clause-asked g c =
     let m = c.args.reads.now in

@@ -24,7 +24,7 @@ read_is g c =
     all_read c.args.self.now m c.args.site c.args.place (c.args.place + c.from.result) (word c.u32_at.new.self.bytes (c.args.place + c.from.result) 4) (text_stands g c) size
     c.u32_at.new.self c.read_text-text.new.reads c.u32_at.ensures.counted c.read_text-text.ensures.counted
 
--- src/offset_words.rt
+-- src/uoffsets.rt
 pub returns-in-Err : goal.returns-in-Err
 returns-in-Err g c =
     let a = (goal.at.returns-in-Err g c).After-answer in

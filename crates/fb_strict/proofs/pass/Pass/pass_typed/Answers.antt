@@ -6,7 +6,7 @@ use Rattle.fb_strict.specs.Asked.{asked_referent}
 use Rattle.fb_strict.proofs.Answered.{ok_for, failed_none}
 use Rattle.fb_strict.proofs.pass.Pass.pass_typed.Goals as goal
 
--- src/offset_words.rt
+-- src/uoffsets.rt
 pub returns : goal.returns
 returns g c =
     let checks = ap (λ (x : Passing). x.checks) c.self.view_is in

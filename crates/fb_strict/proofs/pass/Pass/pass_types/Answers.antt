@@ -4,7 +4,7 @@ use Rattle.fb_strict.specs.Passing.{IsRoom}
 use Rattle.fb_strict.proofs.Typed.{PassedSoFar, none_passed, its_bytes, its_base, its_count, its_types, its_place, one_passed, one_asked, all_passed}
 use Rattle.fb_strict.proofs.pass.Pass.pass_types.Goals as goal
 
--- src/offset_words.rt
+-- src/uoffsets.rt
 pub loop-row-init : goal.loop-row-init
 loop-row-init g c = (none_passed c.args.self.now c.args.reads.now c.args.top.now c.args.union c.args.first c.requires.typed, refl)
 

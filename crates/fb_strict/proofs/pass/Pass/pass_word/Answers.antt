@@ -5,7 +5,7 @@ use Rattle.fb_strict.specs.Passing.{IsRoom}
 use Rattle.fb_strict.proofs.Typed.{known_stands, known_steps, asked_place, asked_stands, asked_reads, asked_count, asked_steps, none_steps, word_stops}
 use Rattle.fb_strict.proofs.pass.Pass.pass_word.Goals as goal
 
--- src/offset_words.rt
+-- src/uoffsets.rt
 pub pass_referent-requires-clause-stands : goal.pass_referent-requires-clause-stands
 pass_referent-requires-clause-stands g c =
     let l = c.requires.left in

@@ -4,7 +4,7 @@ use Rattle.fb_rules.specs.Alike.{IsKept}
 use Rattle.fb_verify.specs.Turns.{GoesOn}
 use Rattle.fb_verify.proofs.stack.Walk.pass_flats.Given as goal
 
--- the walk goes on in the same field, between two offset words
+-- the walk goes on in the same field, between two uoffsets
 abbrev pub invariant-loop-schema : goal.invariant-loop-schema
 invariant-loop-schema g l = record {
   on : GoesOn l.fn.self l.self l.fn.reads l.reads g.under l.fn.top (record l.top { row = l.row });

@@ -3,7 +3,7 @@ use Rattle.fb_rules.specs.OffsetRows.{AreTargetsOf}
 use Rattle.fb_verify.specs.Turns.{GoesOn}
 use Rattle.fb_verify.proofs.stack.Walk.pass_members.Given as goal
 
--- the walk goes on in the same field, between two offset words
+-- the walk goes on in the same field, between two uoffsets
 abbrev pub invariant-loop-targets : goal.invariant-loop-targets
 invariant-loop-targets g l = record {
   on : GoesOn l.fn.self l.self l.fn.reads l.reads g.under l.fn.top (record l.top { row = l.row });

@@ -3,7 +3,7 @@ use Rattle.fb_rules.specs.declared.offset_row.Leads.TheVariants.{All}
 use Rattle.fb_verify.specs.Turns.{GoesOn}
 use Rattle.fb_verify.proofs.stack.Walk.pass_words_of.Given as goal
 
--- the walk goes on in the same field, between two offset words
+-- the walk goes on in the same field, between two uoffsets
 abbrev pub invariant-loop-row : goal.invariant-loop-row
 invariant-loop-row g l = record {
   on : GoesOn l.self l.self l.fn.reads l.reads g.under l.fn.top (record l.fn.top { row = l.row });

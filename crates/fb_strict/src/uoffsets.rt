@@ -1,4 +1,4 @@
-// The offset words of a field that are passed, and what they lead to.
+// The `uoffset`s of a field that are passed, and what they lead to.
 
 ghost use Rattle.std.specs.Prelude.{◌≡◌, ◌+◌, ◌^◌, ◌<◌, ◌≤◌, ℕ, List, length, IfOk, None, IsTrue};
 ghost use Rattle.fb_schema.specs.Rows.{is_union};
@@ -20,7 +20,7 @@ use fb_schema::Targets;
 use std::alloc::Allocator;
 
 impl<'p, 's, 'n, A: Allocator> Pass<'p, 's, 'n, A> {
-    /// Reads where the offset word at a position leads, and asks the budget.
+    /// Reads where the `uoffset` at a position leads, and asks the budget.
     #[inline(always)]
     fn follow(&self, reads: &mut Reads<'_>, room: u64, site: Site, place: u64) -> Result<u64, Stop>
         requires room { IsRoom self.now.limits reads.old.base room }
@@ -37,7 +37,7 @@ impl<'p, 's, 'n, A: Allocator> Pass<'p, 's, 'n, A> {
         Ok(at)
     }
 
-    /// Asks an offset word at a place by its type at a position, and tells what it leads to by these targets of its
+    /// Asks a `uoffset` at a place by its type at a position, and tells what it leads to by these targets of its
     /// union, if that is asked.
     #[inline(always)]
     fn pass_typed(
@@ -76,7 +76,7 @@ impl<'p, 's, 'n, A: Allocator> Pass<'p, 's, 'n, A> {
         Ok(self.asked_referent(target))
     }
 
-    /// Asks offset words of the top's field by their types, which begin at a position, up to the first that leads to
+    /// Asks `uoffset`s of the top's field by their types, which begin at a position, up to the first that leads to
     /// what is asked, and tells what that is: nothing where none is left.
     #[inline(always)]
     fn pass_types(
@@ -121,7 +121,7 @@ impl<'p, 's, 'n, A: Allocator> Pass<'p, 's, 'n, A> {
         Ok(Referent::Nothing)
     }
 
-    /// Reads the text to which the offset word at a place leads, asks the budget, and then whether it is UTF-8.
+    /// Reads the text to which the `uoffset` at a place leads, asks the budget, and then whether it is UTF-8.
     #[inline(always)]
     fn pass_text(
         &self,
@@ -151,7 +151,7 @@ impl<'p, 's, 'n, A: Allocator> Pass<'p, 's, 'n, A> {
         Err(Stop { refusal, site })
     }
 
-    /// Asks what an offset word at a place leads to, where so many frames are open: it comes to a table.
+    /// Asks what a `uoffset` at a place leads to, where so many frames are open: it comes to a table.
     #[inline(always)]
     fn pass_referent(
         &self,
@@ -187,7 +187,7 @@ impl<'p, 's, 'n, A: Allocator> Pass<'p, 's, 'n, A> {
         }
     }
 
-    /// Passes offset words that are left of the top's field, where so many frames are open: the first, or, where types
+    /// Passes `uoffset`s that are left of the top's field, where so many frames are open: the first, or, where types
     /// tell what they lead to, all up to one that leads to what is asked. That is asked then: it comes to a table.
     #[inline(always)]
     pub fn pass_word(
