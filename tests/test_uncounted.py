@@ -22,8 +22,6 @@ KNOWN = {
     ("fb_strict/way.rt", "Meter::new("): 1,  # a buffer whose links are looked up
     ("fb_strict/way.rt", "seal("): 1,
     ("fb_lines/checker.rt", "Meter::new("): 1,  # a message's buffer, which `report` is lent or `verify` takes
-    ("fb_run/front.rt", "Meter::new("): 1,  # a piece of a stream, to find the message at its front
-    ("fb_run/front.rt", "seal("): 1,
     ("fbcheck_texts/unsupported.rt", "Meter::new("): 1,  # a schema file, which `verify` takes, for its field's name
     ("fbcheck_calls/checking.rt", "Meter::new("): 1,  # a call's buffer, which a walk is lent or `verify` takes
     ("fbcheck_calls/framer.rt", "Meter::new("): 1,  # a message's prefix
