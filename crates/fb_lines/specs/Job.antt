@@ -17,11 +17,11 @@ use Rattle.fb_lines.specs.declared.{options.Places.TheVariants.Numbers, options.
 use Rattle.fb_lines.specs.declared.{options.Prefix.TheVariants.Part, options.Prefix.TheVariants.Apart, options.Options.Options}
 
 -- a schema with its root, how many bytes at the beginning of an input are left out, how many messages and how many bad
--- ones of it are told at most, whether the input is one bare buffer, how many bytes of a message stand before the buffer,
--- how the buffer starts, the identifier, the limits, the reads that each byte of a buffer allows, the checks, the values
--- that are asked for, the most bytes that a message may have, the order of the bytes of its length, what is told of messages, how of the places of faults,
--- the name of the input, where lines tell it, how they are written, and the plan by which buffers are to be strict, if
--- they are
+-- ones of it are told at most, whether the input is one bare buffer, how many bytes of a message stand before the
+-- buffer, how the buffer starts, the identifier, the limits, the reads that each byte of a buffer allows, the checks,
+-- the values that are asked for, the most bytes that a message may have, the order of the bytes of its length, what is
+-- told of messages, how of the places of faults, the name of the input, where lines tell it, how they are written, and
+-- the plan by which buffers are to be strict, if they are
 pub record Job : Type 0 where
   pub rows : Rows
   pub root : ℕ
