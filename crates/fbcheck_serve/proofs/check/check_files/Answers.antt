@@ -1,4 +1,4 @@
-use Rattle.std.proofs.Common.{◌∙◌, Err, Ok, ap, inl, inr, map, refl, string_bytes, subst, sym}
+use Rattle.std.proofs.Common.{◌∙◌, Err, Ok, inl, inr, refl, subst, sym}
 use Rattle.fb_lines.specs.{Ends.with_writer, Ends.writer_of, Job.job_of}
 use Rattle.fb_run.specs.Leave.{ends_of}
 use Rattle.fb_run.proofs.RunLemmas.{err_exit}

@@ -1,7 +1,7 @@
 use Rattle.std.proofs.Common.{List, Some, subst, sym}
 use Rattle.fb_run.specs.Leave.{ends_of}
-use Rattle.fbcheck_serve.proofs.ServingLemmas.{comes_files, comes_run, files_rests, nameless, prompt_alone, prompt_among, run_rests, same_ends}
-use Rattle.fbcheck_serve.specs.Inputs.{folder_of, seen_of}
+use Rattle.fbcheck_serve.proofs.ServingLemmas.{comes_files, comes_run, files_rests, prompt_alone, prompt_among, run_rests, same_ends}
+use Rattle.fbcheck_serve.specs.Inputs.{folder_of}
 use Rattle.fbcheck_serve.specs.Lists.{AreNamed}
 use Rattle.fbcheck_serve.specs.Names.{Named}
 use Rattle.fbcheck_serve.proofs.serve.check_by.Goals as goal
