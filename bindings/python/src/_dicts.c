@@ -191,7 +191,18 @@ static uint64_t size_of(const Walk *on, char element, uint32_t index)
 /* A number by its letter. */
 static PyObject *number_at(const Walk *on, char form, uint64_t at)
 {
-    union { uint8_t B; int8_t b; uint16_t H; int16_t h; uint32_t I; int32_t i; uint64_t Q; int64_t q; float f; double d; } it;
+    union {
+        uint8_t B;
+        int8_t b;
+        uint16_t H;
+        int16_t h;
+        uint32_t I;
+        int32_t i;
+        uint64_t Q;
+        int64_t q;
+        float f;
+        double d;
+    } it;
     if (!get(on, at, &it, (size_t)size_of(on, form, 0)))
         return NULL;
     switch (form) {

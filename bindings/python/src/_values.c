@@ -1,5 +1,6 @@
 /*
- * The values at the ends of paths: read by the check of a message, or of one that was checked before, which a view keeps.
+ * The values at the ends of paths: read by the check of a message, or of one that was checked before, which a view
+ * keeps.
  */
 #include "_fbcheck.h"
 
@@ -217,7 +218,7 @@ PyObject *schema_read(Schema *self, PyObject *const *words, Py_ssize_t count)
     return NULL;
 }
 
-/* _found(message, paths): the verdict, and a tuple of the values at a tuple of paths, which is empty of a bad message. */
+/* _found(message, paths): the verdict, and a tuple of the values at a tuple of paths, empty for a bad message. */
 PyObject *schema_found(Schema *self, PyObject *words)
 {
     PyObject *message, *paths;
@@ -311,8 +312,8 @@ static PyMethodDef view_methods[] = {
       "Raises PathError, and Changed if somebody wrote to the message." },
     { "to_dict", (PyCFunction)(void (*)(void))view_to_dict, METH_FASTCALL,
       "to_dict($self, path='', /)\n--\n\n"
-      "The whole root table, or the table or struct at the end of a path, as Schema.to_dict() has it; None if it isn't\n"
-      "there.\n\n"
+      "The whole root table, or the table or struct at the end of a path, as Schema.to_dict() has it; None if that\n"
+      "isn't there.\n\n"
       "Raises PathError, Overlap, and Changed if somebody wrote to the message." },
     { NULL, NULL, 0, NULL },
 };

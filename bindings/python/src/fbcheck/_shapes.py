@@ -14,8 +14,8 @@ _UNSIGNED_BYTE: Final = 4
 _NO_INDEX: Final = -1
 
 # A kind: its letter; the letter of what an element is; the index of a table, struct or union; the length of an array.
-# Letters are those of numbers, "s" for a text, "y" for bytes, "t" for a table, "r" for a struct, "U" for a union, "u" for
-# the type of one, "v" for a vector and "a" for an array.
+# Letters are those of numbers, "s" for a text, "y" for bytes, "t" for a table, "r" for a struct, "U" for a union, "u"
+# for the type of one, "v" for a vector and "a" for an array.
 _Kind = tuple[str, str, int, int]
 # A field: its name; its slot, or its place in a struct; its number as a step of a path; its kind.
 _Part = tuple[str, int, int, str, str, int, int]
