@@ -419,7 +419,7 @@ class Dicts(PythonCase):
         apart = many_rows(1000, lambda place: (0, 8 * place), struct.pack("<2I", 2, 0x20001) * 1000)
         got = self.module.Schema(ROWS).to_dict(apart)["ts"]
         self.same("parts that lie apart", (len(got), got[-1]), (1000, {"v": [1, 2], "s": None}))
-        error = self.fails("one in another", self.module.Overlap, "lie one in another",
+        error = self.fails("one in another", self.module.Overlap, "overlap, and are longer than four messages",
                            lambda: self.module.Schema(ROWS).to_dict(data))
         self.same("pickled", str(pickle.loads(pickle.dumps(error))), str(error))
 

@@ -8,8 +8,8 @@
  */
 #include "_shapes.h"
 
-/* The bytes that a dict may be made of: so many times those of the message, and of so many more. All parts of a message
-   lie apart, if nobody made them lie one in another. */
+/* The bytes that a dict may be made of: so many times those of the message and of so many more. That is enough for any
+   message whose parts lie apart, as they do if no hostile one made them overlap. */
 #define TIMES 4
 #define MORE 64
 
@@ -81,8 +81,7 @@ static int follow(const Walk *on, uint64_t at, uint64_t *to)
 static int pay(Walk *on, uint64_t size)
 {
     if (size > on->left) {
-        PyErr_SetString(on->schema->overlap, "parts of the message lie one in another: it would make more than it has"
-                                             " bytes for");
+        PyErr_SetString(on->schema->overlap, "parts of the message overlap, and are longer than four messages");
         return 0;
     }
     on->left -= size;
@@ -320,12 +319,12 @@ static PyObject *array_at(Walk *on, const Kind *kind, uint64_t at)
 
 static PyObject *shared_at(Walk *on, const Kind *kind, uint64_t at, uint64_t other);
 
-/* The value of a union of this type, to which the offset at a place leads; None of no type, or one that isn't known. */
+/* The value of a union of this type, to which the offset at a place leads; None for no type, or an unknown one. */
 static PyObject *union_at(Walk *on, uint32_t index, uint8_t type, uint64_t at)
 {
     const Member *member = *on->shapes->unions[index] + type;
     uint64_t to;
-    if (type == 0 || member->name == NULL)
+    if (type == 0 || member->name == NULL || member->kind.form == NOTHING)
         return Py_NewRef(Py_None);
     if (!follow(on, at, &to))
         return NULL;

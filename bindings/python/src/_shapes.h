@@ -7,6 +7,7 @@
 #include "_fbcheck.h"
 
 /* What something is, as _shapes.py writes it: the letter of a number (_formats.py), or one of these. */
+#define NOTHING '-'
 #define TEXT 's'
 #define BYTES 'y' /* a vector of unsigned bytes */
 #define TABLE 't'

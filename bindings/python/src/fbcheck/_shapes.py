@@ -15,7 +15,7 @@ _NO_INDEX: Final = -1
 
 # A kind: its letter; the letter of what an element is; the index of a table, struct or union; the length of an array.
 # Letters are those of numbers, "s" for a text, "y" for bytes, "t" for a table, "r" for a struct, "U" for a union, "u"
-# for the type of one, "v" for a vector and "a" for an array.
+# for the type of one, "v" for a vector, "a" for an array, and "-" for nothing.
 _Kind = tuple[str, str, int, int]
 # A field: its name; its slot, or its place in a struct; its number as a step of a path; its kind.
 _Part = tuple[str, int, int, str, str, int, int]
@@ -69,7 +69,8 @@ def _members(row: Row, objects: list[Row]) -> _Union | None:
     for member in row.rows(1):
         kind = member.row(3)
         base, index = (0, 0) if kind is None else (kind.number(0, "b"), kind.number(2, "i", _NO_INDEX))
-        form = "-" if base == 0 else _one(base, index, objects)
+        is_object = base == OBJECT and 0 <= index < len(objects)
+        form = _one(base, index, objects) if is_object or base == TEXT else "-"
         if 0 <= (value := member.number(1, "q")) <= 255:
             members.append((value, _name(member), form, index if form in "tr" else 0))
     return tuple(members)
