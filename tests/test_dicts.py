@@ -2,6 +2,8 @@
 
 import collections
 import json
+import math
+import pathlib
 import pickle
 import signal
 import struct
@@ -52,6 +54,13 @@ table All {
 root_type All;
 """
 AXES = {"X": 0, "Y": 5, "Z": 6}
+COLOURS = {"Red": 0, "Green": 1, "Blue": 2}
+ENUMS = {"axis": AXES, "axes": AXES, "colour": COLOURS, "mood": COLOURS}  # the fields that have them
+
+# The corpora of bench/compare: how many messages, and how many parts one has.
+COMPARED = TOP / "bench/comparison"
+CORPORA = {"monsters": (400, 1), "movies": (2000, 1), "wide": (500, 1), "deep": (50, 60), "items": (2, 2000),
+           "names": (2, 2000)}
 
 # What a process tells of a dict that needs more memory than it may have.
 STARVED = """
@@ -125,7 +134,7 @@ def plain(value, key=""):
         return [*value]
     if isinstance(value, list):
         return [plain(one, key) for one in value]
-    return {number: name for name, number in AXES.items()}[value] if key in ("axis", "axes") else value
+    return {number: name for name, number in ENUMS[key].items()}[value] if key in ENUMS else value
 
 
 def without_nulls(value):
@@ -136,6 +145,17 @@ def without_nulls(value):
         return value
     return {name: without_nulls(one) for name, one in value.items()
             if one is not None and (name[-5:], one) != ("_type", "NONE")}
+
+
+def is_near(got, want):
+    """Whether values are the same, but for the digits that a float has in JSON."""
+    if isinstance(got, dict):
+        return isinstance(want, dict) and got.keys() == want.keys() and all(is_near(got[key], want[key]) for key in got)
+    if isinstance(got, list):
+        return isinstance(want, list) and len(got) == len(want) and all(map(is_near, got, want))
+    if isinstance(got, float):
+        return math.isclose(got, want, rel_tol=1e-5, abs_tol=1e-6)
+    return type(got) is type(want) and got == want
 
 
 class Documents:
@@ -356,6 +376,28 @@ class Dicts(PythonCase):
         self.same("those that differ", wrong[:2], [])
         few = [name for name in got if seen[name] < 10]
         self.same("all fields but one are often there", few, ["twice"])
+
+    def test_corpora(self):
+        """The messages of bench/compare: what FlatBuffers for C++ writes of them is what their dicts have."""
+        if not (there("flatc") and there("g++") and pathlib.Path("/usr/include/flatbuffers/idl.h").exists()):
+            self.skipTest("flatc, g++ or the headers of flatbuffers aren't there")
+        compile = ["g++", "-std=c++17", f"-I{FOLDER}", f"-I{COMPARED}"]
+        commands = [["flatc", *words, "-o", FOLDER, COMPARED / f"{name}.fbs"]
+                    for name in CORPORA for words in (["--cpp"], ["--binary", "--schema"])]
+        commands += [[*compile, COMPARED / "make_messages.cpp", "-o", FOLDER / "make_messages"],
+                     [*compile, TOP / "tests/bindings/python/as_json.cpp", "-o", FOLDER / "as_json",
+                      "-l:libflatbuffers.a"]]
+        for command in commands:
+            self.assertEqual(subprocess.run(command, capture_output=True).returncode, 0, command)
+        for name, sizes in CORPORA.items():
+            stream = FOLDER / f"{name}.bin"
+            stream.write_bytes(subprocess.check_output([FOLDER / "make_messages", name, *map(str, sizes)]))
+            told = subprocess.check_output([FOLDER / "as_json", COMPARED / f"{name}.fbs", stream]).splitlines()
+            want = [without_nulls(json.loads(line)) for line in told]
+            checker = self.by(FOLDER / f"{name}.bfbs", prefixed=True)
+            got = [plain(view.to_dict()) for _, _, view in checker.messages(stream.read_bytes(), views=True)]
+            self.same(f"{name}: their number", (len(got), len(want)), (sizes[0],) * 2)
+            self.same(f"{name}: those that differ", [pair for pair in zip(got, want) if not is_near(*pair)][:1], [])
 
     def test_schema_files(self):
         """Schema files are messages too: what flatc lists of them is what their dicts have."""
