@@ -487,6 +487,7 @@ class Dicts(PythonCase):
             while got is not None:
                 got, depth = got["next"], depth + 1
             depths.append(depth)
+            checker.to_dict(buffers.levels(4096))  # which is dropped at once
 
         measure()
         before = threading.stack_size(1 << 16)

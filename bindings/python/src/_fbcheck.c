@@ -450,7 +450,8 @@ static PyMethodDef schema_methods[] = {
       "Raises BadBuffer, whose place takes a second check, and PathError." },
     { "view", (PyCFunction)schema_view, METH_O,
       "view($self, message, /)\n--\n\n"
-      "Checks a message, and gives a View of it, which reads its values later without a check.\n\n"
+      "Checks a message once, and gives a View of it, which reads its values without another check. It keeps the\n"
+      "message, or a copy if that is mutable.\n\n"
       "Raises BadBuffer." },
     { "to_dict", (PyCFunction)schema_to_dict, METH_O,
       "to_dict($self, message, /)\n--\n\n"
