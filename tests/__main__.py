@@ -58,7 +58,7 @@ def files_of_tests():
     files = sorted((TOP / "tests").glob("test_*.py"))
     imports = re.compile(r"(?m)^ *(?:from|import) tests\.support\.(\w+)")
     needed = {file: set(imports.findall(file.read_text())) for file in files}
-    return files, *({file for file in files if module in needed[file]} for module in ("library", "program"))
+    return files, *({file for file in files if modules & needed[file]} for modules in ({"library", "python"}, {"program"}))
 
 
 def told(begun):

@@ -27,8 +27,9 @@ import zipfile
 
 HERE = pathlib.Path(__file__).resolve().parent
 TOP = HERE.parents[1]
-PARTS = ("__init__.py", "_codes.py", "_columns.py", "_fbcheck.pyi", "_formats.py", "py.typed")
-SOURCES = ("_fbcheck.c", "_streams.c")
+PARTS = ("__init__.py", "_codes.py", "_columns.py", "_fbcheck.pyi", "_formats.py", "_rows.py", "_shapes.py", "py.typed")
+SOURCES = ("_dicts.c", "_fbcheck.c", "_shapes.c", "_streams.c", "_values.c")
+HEADERS = ("_fbcheck.h", "_shapes.h")
 EXTENSION = "_fbcheck.abi3.so"
 WARNINGS = ("-Wall", "-Wextra")
 
@@ -162,7 +163,7 @@ def build_wheel(wheel_directory, config_settings=None, metadata_directory=None):
 def build_sdist(sdist_directory, config_settings=None):
     """Makes the tarball of the sources, and tells its name."""
     name = "fbcheck-" + project()["version"]
-    sources = ["README.md", "backend.py", "pyproject.toml", "src/_fbcheck.h", *(f"src/{source}" for source in SOURCES),
+    sources = ["README.md", "backend.py", "pyproject.toml", *(f"src/{source}" for source in (*HEADERS, *SOURCES)),
                *(f"src/fbcheck/{part}" for part in PARTS)]
     tarred(pathlib.Path(sdist_directory) / f"{name}.tar.gz", name,
            {"PKG-INFO": metadata(), **{source: (HERE / source).read_bytes() for source in sources}})

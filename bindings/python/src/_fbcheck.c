@@ -9,12 +9,8 @@
 
 #define HANDLE "fbcheck.schema"
 
-/* How long a name is without memory of its own, and how many paths are. */
+/* How long a name is without memory of its own. */
 #define SHORT_NAME 128
-#define FEW_PATHS 8
-
-/* The longest message. */
-#define LONGEST_MESSAGE 0x7fffffff
 
 /* A verdict; of a bad message with texts, each of which may be null for None. */
 typedef struct {
@@ -64,7 +60,7 @@ static PyObject *verdict_new(PyTypeObject *type, PyObject *words, PyObject *name
     return (PyObject *)self;
 }
 
-static int verdict_is_good(PyObject *self)
+int verdict_is_good(PyObject *self)
 {
     return ((Verdict *)self)->told.status == FBCHECK_OK;
 }
@@ -196,6 +192,7 @@ static void schema_free(PyObject *object)
     Py_XDECREF(self->told[1]);
     Py_XDECREF(self->paths);
     Py_XDECREF(self->kept);
+    Py_XDECREF(self->shaped);
     freed(object);
 }
 
@@ -208,8 +205,8 @@ static uint32_t tried(Schema *self)
 }
 
 /* Schema(handle, (root, ident_from, ident, prefixed, alignment, inline_size, max_depth, max_tables, max_reads,
-   reads_per_byte, demands), (Verdict, BadBuffer, fault, Table(), Union, Vector, "type",
-   "count")) */
+   reads_per_byte, demands), (Verdict, BadBuffer, fault, Table(), Union, Vector, "type", "count", View, Overlap,
+   PathError)) */
 static PyObject *schema_new(PyTypeObject *type, PyObject *words, PyObject *named)
 {
     fbcheck_options asked = FBCHECK_OPTIONS_INIT;
@@ -237,8 +234,9 @@ static PyObject *schema_new(PyTypeObject *type, PyObject *words, PyObject *named
     self->handle = Py_NewRef(handle);
     self->kept = Py_NewRef(kept);
     status = FBCHECK_NULL;
-    if (PyArg_ParseTuple(kept, "OOOOOOOO", &self->verdict, &self->bad_buffer, &self->fault, &self->table,
-                         &self->a_union, &self->vector, &self->type, &self->count) &&
+    if (PyArg_ParseTuple(kept, "OOOOOOOOOOO", &self->verdict, &self->bad_buffer, &self->fault, &self->table,
+                         &self->a_union, &self->vector, &self->type, &self->count, &self->view, &self->overlap,
+                         &self->path_error) &&
         (self->paths = PyDict_New()) != NULL && (self->schema = PyCapsule_GetPointer(handle, HANDLE)) != NULL)
         status = tried(self);
     if (status != FBCHECK_BAD) {
@@ -249,15 +247,6 @@ static PyObject *schema_new(PyTypeObject *type, PyObject *words, PyObject *named
     }
     return (PyObject *)self;
 }
-
-/* One message under check, whose bytes are a copy where others may write them meanwhile. */
-typedef struct {
-    Py_buffer view;
-    const uint8_t *bytes;
-    uint8_t *copy; /* or null */
-    fbcheck_scratch *scratch;
-    PyThreadState *others; /* null while this thread keeps the lock of the interpreter */
-} Check;
 
 /* Takes room for tables, which is null where a call needs none; -1 where memory is refused. */
 int take_scratch(Schema *self, fbcheck_scratch **scratch)
@@ -291,7 +280,7 @@ static int take_room(Schema *self, Check *check)
 }
 
 /* Takes the bytes of a message, and room for tables. */
-static int begin(Schema *self, PyObject *message, Check *check)
+int begin(Schema *self, PyObject *message, Check *check)
 {
     if (PyObject_GetBuffer(message, &check->view, PyBUF_SIMPLE) != 0)
         return -1;
@@ -310,7 +299,7 @@ static int begin(Schema *self, PyObject *message, Check *check)
 }
 
 /* Goes on as the one thread of the interpreter. */
-static void resume(Check *check)
+void resume(Check *check)
 {
     if (check->others != NULL)
         PyEval_RestoreThread(check->others);
@@ -318,7 +307,7 @@ static void resume(Check *check)
 }
 
 /* Gives back what begin() took. */
-static void end(Schema *self, Check *check)
+void end(Schema *self, Check *check)
 {
     resume(check);
     give_scratch(self, check->scratch);
@@ -412,7 +401,7 @@ PyObject *judged(Schema *self, const fbcheck_verdict *told, const char *place, s
 }
 
 /* The verdict on a message that begin() took. */
-static PyObject *located(Schema *self, Check *check)
+PyObject *located(Schema *self, Check *check)
 {
     char place[FBCHECK_LONGEST_PLACE];
     size_t length = 0;
@@ -423,14 +412,14 @@ static PyObject *located(Schema *self, Check *check)
     return status <= FBCHECK_BAD ? judged(self, &told, place, length) : refused(self, status);
 }
 
-static PyObject *schema_check(Schema *self, PyObject *message)
+PyObject *schema_check(Schema *self, PyObject *message)
 {
     Check check;
     return begin(self, message, &check) == 0 ? located(self, &check) : NULL;
 }
 
 /* Raises that a message is bad, of which this is the verdict. */
-static PyObject *raised(Schema *self, PyObject *verdict)
+PyObject *raised(Schema *self, PyObject *verdict)
 {
     if (verdict != NULL) {
         PyErr_SetObject(self->bad_buffer, verdict);
@@ -439,222 +428,10 @@ static PyObject *raised(Schema *self, PyObject *verdict)
     return NULL;
 }
 
-static PyObject *schema_verify(Schema *self, PyObject *message)
+PyObject *schema_verify(Schema *self, PyObject *message)
 {
     PyObject *verdict = schema_check(self, message);
     return verdict == NULL || verdict_is_good(verdict) ? verdict : raised(self, verdict);
-}
-
-/* ---- values ---- */
-
-/* _resolve(path): the bytes of a path, or the numbers of why it is none, with what helps then. */
-static PyObject *schema_resolve(Schema *self, PyObject *text)
-{
-    fbcheck_path path;
-    fbcheck_verdict why;
-    char hint[FBCHECK_LONGEST_HINT];
-    Py_ssize_t length;
-    const char *bytes = PyUnicode_AsUTF8AndSize(text, &length);
-    if (bytes == NULL)
-        return NULL;
-    if (fbcheck_resolve(self->schema, &self->options, bytes, (size_t)length, &path, &why) == FBCHECK_OK)
-        return PyBytes_FromStringAndSize((const char *)&path, sizeof path);
-    length = (Py_ssize_t)fbcheck_path_hint(self->schema, self->options.root, bytes, (size_t)length, hint, sizeof hint);
-    return Py_BuildValue("IIKs#", why.status, why.reason, (unsigned long long)why.at, hint, length);
-}
-
-static PyObject *float_of(const char *bytes, uint64_t size)
-{
-    float single;
-    double whole;
-    if (size == sizeof whole) {
-        memcpy(&whole, bytes, sizeof whole);
-        return PyFloat_FromDouble(whole);
-    }
-    memcpy(&single, bytes, sizeof single);
-    return PyFloat_FromDouble(single);
-}
-
-/* An instance of a class that has one number by this name, which can't be changed later. */
-static PyObject *numbered(PyObject *class, PyObject *name, uint64_t number)
-{
-    PyObject *made = PyType_GenericAlloc((PyTypeObject *)class, 0);
-    PyObject *value = PyLong_FromUnsignedLongLong(number);
-    if (made != NULL && (value == NULL || PyObject_GenericSetAttr(made, name, value) != 0))
-        Py_CLEAR(made);
-    Py_XDECREF(value);
-    return made;
-}
-
-/* What a method of a view answers, which takes the place of the view; a view that is null stays so. */
-static PyObject *instead(PyObject *view, const char *method, const char *letter)
-{
-    PyObject *next = view == NULL     ? NULL
-                     : letter == NULL ? PyObject_CallMethod(view, method, NULL)
-                                      : PyObject_CallMethod(view, method, "s", letter);
-    Py_XDECREF(view);
-    return next;
-}
-
-/* The part of a message where a value lies, as a view that doesn't write; a vector's numbers have this letter. */
-static PyObject *part_of(PyObject *message, const fbcheck_value *value, char letter)
-{
-    char letters[2] = { letter, 0 };
-    Py_ssize_t at = (Py_ssize_t)value->at;
-    PyObject *part, *view = PyMemoryView_FromObject(message);
-    int as_it_is = PyBytes_CheckExact(message);
-    if (!as_it_is)
-        view = instead(view, "cast", "B");
-    if (view == NULL)
-        return NULL;
-    part = PySequence_GetSlice(view, at, at + (Py_ssize_t)value->size);
-    Py_DECREF(view);
-    if (!as_it_is)
-        part = instead(part, "toreadonly", NULL);
-    return letter == 'B' ? part : instead(part, "cast", letters);
-}
-
-/* A value as Python has it; of a vector of numbers by their letter. */
-static PyObject *value_of(Schema *self, PyObject *message, const char *bytes, const fbcheck_value *value, char letter)
-{
-    switch (value->kind) {
-    case FBCHECK_ABSENT:
-    case FBCHECK_NO_ELEMENT:
-    case FBCHECK_OTHER_MEMBER:
-        Py_RETURN_NONE;
-    case FBCHECK_BOOL:
-        return PyBool_FromLong(value->number != 0);
-    case FBCHECK_INT:
-        return PyLong_FromLongLong(value->integer);
-    case FBCHECK_UINT:
-        return PyLong_FromUnsignedLongLong(value->number);
-    case FBCHECK_FLOAT:
-        return float_of(bytes + value->at, value->size);
-    case FBCHECK_DEFAULT_FLOAT:
-        return float_of((const char *)&value->number, sizeof value->number);
-    case FBCHECK_TEXT:
-        return PyUnicode_DecodeUTF8(bytes + value->at, (Py_ssize_t)value->size, "surrogateescape");
-    case FBCHECK_TABLE:
-        return Py_NewRef(self->table);
-    case FBCHECK_UNION:
-        return numbered(self->a_union, self->type, value->number);
-    default:
-        return value->at == 0 ? numbered(self->vector, self->count, value->number) : part_of(message, value, letter);
-    }
-}
-
-/* What is read of a message: of each path its steps, its letters, and the value. */
-typedef struct {
-    size_t count;
-    fbcheck_path *paths;
-    fbcheck_value *values;
-    Letters *letters;
-    PyObject *told; /* the tuple of paths of who wants a tuple of values, with the verdict, or null */
-} Read;
-
-/* The values that were read: one, or a tuple of several. */
-static PyObject *values_of(Schema *self, PyObject *message, const char *bytes, const Read *read)
-{
-    size_t at;
-    PyObject *told;
-    if (read->count == 1 && read->told == NULL)
-        return value_of(self, message, bytes, read->values, read->letters->element);
-    told = PyTuple_New((Py_ssize_t)read->count);
-    for (at = 0; told != NULL && at < read->count; at++) {
-        PyObject *one = value_of(self, message, bytes, read->values + at, read->letters[at].element);
-        if (one == NULL || PyTuple_SetItem(told, (Py_ssize_t)at, one) != 0)
-            Py_CLEAR(told);
-    }
-    return told;
-}
-
-/* Copies the steps of a text or path, and its letters. The first time the package resolves it, and keeps that. */
-int copy_steps(Schema *self, PyObject *path, fbcheck_path *steps, Letters *letters)
-{
-    PyObject *kept = PyDict_GetItemWithError(self->paths, path);
-    Py_ssize_t size;
-    char *bytes;
-    int answer;
-    Py_XINCREF(kept);
-    if (kept == NULL && PyErr_Occurred() && PyErr_ExceptionMatches(PyExc_TypeError))
-        PyErr_Clear(); /* what can't be looked up is no path, which is told there */
-    if (kept == NULL && !PyErr_Occurred())
-        kept = PyObject_CallMethod((PyObject *)self, "_keep", "(O)", path);
-    if (kept == NULL)
-        return -1;
-    answer = PyBytes_AsStringAndSize(kept, &bytes, &size);
-    if (answer == 0 && (size_t)size == sizeof *steps + sizeof *letters) {
-        memcpy(steps, bytes, sizeof *steps);
-        memcpy(letters, bytes + sizeof *steps, sizeof *letters);
-    } else if (answer == 0) {
-        PyErr_SetString(PyExc_ValueError, "not the bytes of a path");
-        answer = -1;
-    }
-    Py_DECREF(kept);
-    return answer;
-}
-
-/* Checks a message once, and reads at these texts and paths, unless they are told. */
-static PyObject *read_at(Schema *self, PyObject *message, PyObject *const *paths, Read *read)
-{
-    PyObject *path;
-    Check check;
-    size_t at;
-    uint32_t status;
-    fbcheck_verdict told;
-    PyObject *values;
-    for (at = 0; at < read->count; at++) {
-        path = read->told != NULL ? PyTuple_GetItem(read->told, (Py_ssize_t)at) : paths[at];
-        if (copy_steps(self, path, read->paths + at, read->letters + at) != 0)
-            return NULL;
-    }
-    if (begin(self, message, &check) != 0)
-        return NULL;
-    status = fbcheck_read(self->schema, check.scratch, &self->options, check.bytes, (size_t)check.view.len, read->paths,
-                          read->values, read->count, &told);
-    if (status == FBCHECK_BAD)
-        return read->told != NULL ? Py_BuildValue("N()", located(self, &check)) : raised(self, located(self, &check));
-    resume(&check);
-    values = status == FBCHECK_OK ? values_of(self, message, (const char *)check.bytes, read) : refused(self, status);
-    end(self, &check);
-    return read->told != NULL && values != NULL ? Py_BuildValue("NN", judged(self, &told, NULL, 0), values) : values;
-}
-
-/* Reads with the room that so many paths need. */
-static PyObject *reading(Schema *self, PyObject *message, PyObject *const *paths, size_t count, PyObject *told)
-{
-    fbcheck_path few[FEW_PATHS];
-    fbcheck_value values[FEW_PATHS];
-    Letters letters[FEW_PATHS];
-    Read read = { count, few, values, letters, told };
-    PyObject *found;
-    if (read.count <= FEW_PATHS)
-        return read_at(self, message, paths, &read);
-    read.paths = malloc(read.count * (sizeof *read.paths + sizeof *read.values + sizeof *read.letters));
-    if (read.paths == NULL)
-        return PyErr_NoMemory();
-    read.values = (fbcheck_value *)(read.paths + read.count);
-    read.letters = (Letters *)(read.values + read.count);
-    found = read_at(self, message, paths, &read);
-    free(read.paths);
-    return found;
-}
-
-static PyObject *schema_read(Schema *self, PyObject *const *words, Py_ssize_t count)
-{
-    if (count >= 2)
-        return reading(self, words[0], words + 1, (size_t)count - 1, NULL);
-    PyErr_SetString(PyExc_TypeError, "read() takes a message, and a path or several");
-    return NULL;
-}
-
-/* _found(message, paths): the verdict, and a tuple of the values at a tuple of paths, which is empty of a bad message. */
-static PyObject *schema_found(Schema *self, PyObject *words)
-{
-    PyObject *message, *paths;
-    if (!PyArg_ParseTuple(words, "OO!", &message, &PyTuple_Type, &paths))
-        return NULL;
-    return reading(self, message, NULL, (size_t)PyTuple_Size(paths), paths);
 }
 
 static PyMethodDef schema_methods[] = {
@@ -671,8 +448,23 @@ static PyMethodDef schema_methods[] = {
       "bytes, and a vector of numbers one of these (of Bools and structs, of their bytes): read-only slices of the\n"
       "message, which live as long as they are held, and show what is written there later.\n\n"
       "Raises BadBuffer, whose place takes a second check, and PathError." },
+    { "view", (PyCFunction)schema_view, METH_O,
+      "view($self, message, /)\n--\n\n"
+      "Checks a message once, and gives a View of it, which reads its values without another check. It keeps the\n"
+      "message, or a copy if that is mutable.\n\n"
+      "Raises BadBuffer." },
+    { "to_dict", (PyCFunction)schema_to_dict, METH_O,
+      "to_dict($self, message, /)\n--\n\n"
+      "Checks a message, and gives its whole root table as a dict: the values by the names of the fields.\n\n"
+      "Structs and tables are dicts in it, and vectors and arrays lists (of unsigned bytes, bytes). Texts are as with\n"
+      "read(). A field that is absent has its default, and None if it has none. A field with the type of a union has\n"
+      "the name of the member, and the union its value; of a type that the schema doesn't know, the number, and None.\n"
+      "What several offsets of the message lead to is one object in the dict.\n\n"
+      "Raises BadBuffer, and Overlap." },
     { "_resolve", (PyCFunction)schema_resolve, METH_O, NULL },
     { "_found", (PyCFunction)schema_found, METH_VARARGS, NULL },
+    { "_viewed", (PyCFunction)schema_viewed, METH_O, NULL },
+    { "_shapes", (PyCFunction)schema_shapes, METH_VARARGS, NULL },
     { "_columns", (PyCFunction)schema_columns, METH_VARARGS, NULL },
     { NULL, NULL, 0, NULL },
 };
@@ -698,8 +490,8 @@ static PyType_Spec schema_spec = {
 
 static int module_exec(PyObject *module)
 {
-    PyType_Spec *const specs[] = { &verdict_spec, &schema_spec, &framer_spec, &column_spec };
-    static const char *const names[] = { "Verdict", "Schema", "Framer", "Column" };
+    PyType_Spec *const specs[] = { &verdict_spec, &schema_spec, &view_spec, &framer_spec, &column_spec };
+    static const char *const names[] = { "Verdict", "Schema", "View", "Framer", "Column" };
     size_t at;
     if (fbcheck_version() != FBCHECK_VERSION) {
         PyErr_Format(PyExc_ImportError, "libfbcheck has version %u, and the header %u", (unsigned)fbcheck_version(),

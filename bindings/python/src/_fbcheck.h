@@ -1,8 +1,9 @@
 /*
- * What the files of the extension share: _fbcheck.c has verdicts, schemas and values, _streams.c the messages of a
- * stream and the columns that are read of it.
+ * What the files of the extension share: _fbcheck.c has verdicts and schemas, _values.c the values of a message and
+ * views of messages, _dicts.c and _shapes.c whole tables as dicts, _streams.c the messages of a stream and the columns
+ * that are read of it.
  *
- * Both are written against the limited API of Python 3.11.
+ * All are written against the limited API of Python 3.11.
  */
 #ifndef FBCHECK_PYTHON_H
 #define FBCHECK_PYTHON_H
@@ -18,6 +19,9 @@
 
 #include <fbcheck.h>
 
+/* What dicts are made by (_shapes.h). */
+typedef struct Shapes Shapes;
+
 /* A schema with its options; `handle` owns what `schema` leads to, and other options may share it. `kept` has what the
    package makes of what is told. */
 typedef struct {
@@ -32,13 +36,42 @@ typedef struct {
     PyObject *verdict, *bad_buffer, *fault; /* the class of verdicts, the exception with one, and that of a status */
     PyObject *table, *a_union, *vector;     /* what stands for a table, and the classes of unions and vectors, */
     PyObject *type, *count;                 /* with the names of what these two have */
+    PyObject *view;                         /* the class of views, */
+    PyObject *overlap, *path_error;         /* and exceptions */
+    PyObject *shaped;     /* what owns the shapes, or null until a dict is asked for, */
+    const Shapes *shapes; /* these, */
+    uint32_t root;        /* and the number of the root table */
 } Schema;
+
+/* One message under check, whose bytes are a copy where others may write them meanwhile. */
+typedef struct {
+    Py_buffer view;
+    const uint8_t *bytes;
+    uint8_t *copy; /* or null */
+    fbcheck_scratch *scratch;
+    PyThreadState *others; /* null while this thread keeps the lock of the interpreter */
+} Check;
+
+/* A message that was good, whose bytes are kept as long as this lives. */
+typedef struct {
+    PyObject_HEAD
+    Schema *schema;
+    PyObject *message; /* itself, or a copy where others may have written it */
+    PyObject *verdict;
+    Py_buffer buffer;
+} View;
 
 /* What the schema file says of the end of a path, as _formats.py writes it. */
 typedef struct {
     char element; /* what a memoryview calls the numbers of a vector */
     char column;  /* what a column of such values has */
 } Letters;
+
+/* How many paths are without memory of their own. */
+#define FEW_PATHS 8
+
+/* The longest message. */
+#define LONGEST_MESSAGE 0x7fffffff
 
 /* Where a message is longer, or may cost more reads a byte than by default, other threads run while it is checked. */
 #define SHORT_MESSAGE 2048
@@ -57,8 +90,32 @@ void freed(PyObject *self);
 PyObject *refused(Schema *self, uint32_t status);
 int take_scratch(Schema *self, fbcheck_scratch **scratch);
 void give_scratch(Schema *self, fbcheck_scratch *scratch);
+int begin(Schema *self, PyObject *message, Check *check);
+void resume(Check *check);
+void end(Schema *self, Check *check);
 PyObject *judged(Schema *self, const fbcheck_verdict *told, const char *place, size_t length);
+PyObject *located(Schema *self, Check *check);
+PyObject *raised(Schema *self, PyObject *verdict);
+int verdict_is_good(PyObject *verdict);
+PyObject *schema_check(Schema *self, PyObject *message);
+PyObject *schema_verify(Schema *self, PyObject *message);
+
+/* Of _values.c. */
+extern PyType_Spec view_spec;
 int copy_steps(Schema *self, PyObject *path, fbcheck_path *steps, Letters *letters);
+PyObject *value_of(Schema *self, PyObject *message, const char *bytes, const fbcheck_value *value, char letter);
+PyObject *schema_resolve(Schema *self, PyObject *text);
+PyObject *schema_read(Schema *self, PyObject *const *words, Py_ssize_t count);
+PyObject *schema_found(Schema *self, PyObject *words);
+PyObject *schema_view(Schema *self, PyObject *message);
+PyObject *schema_viewed(Schema *self, PyObject *message);
+
+/* Of _shapes.c. */
+PyObject *schema_shapes(Schema *self, PyObject *words);
+
+/* Of _dicts.c. */
+PyObject *schema_to_dict(Schema *self, PyObject *message);
+PyObject *view_to_dict(View *self, PyObject *const *words, Py_ssize_t count);
 
 /* Of _streams.c. */
 extern PyType_Spec framer_spec, column_spec;

@@ -75,3 +75,32 @@ async def later(reader: asyncio.StreamReader) -> None:
     for message, verdict in schema.messages(reader):  # error
         message.hex()
     schema.columns(reader, ("name",))  # error
+
+view = schema.view(bytearray())
+read: fbcheck.Value = view["name"]
+one, two = view.read("name", schema.path("hp"))
+view[5]  # error
+view["name"] = 5  # error
+view.read()  # error
+view.verdict.tables + 1
+view.schema.options.strict
+bytes(view.message)
+fbcheck.View(schema, b"")  # error
+view.to_dict()["name"]
+view.to_dict("")["name"]
+view.to_dict("to")["name"]  # error
+if below := view.to_dict(schema.path("to")):
+    below["name"]
+schema.to_dict(memoryview(b""))["name"]
+schema.to_dict("text")  # error
+for message, verdict, kept in schema.messages(b"", views=True):
+    kept["name"]  # error
+    if kept is not None:
+        kept["name"]
+for message, verdict in schema.messages(b"", views=True):  # error
+    message.hex()
+schema.messages(b"", views=True, paths=("name",))  # error
+try:
+    view.to_dict()
+except (fbcheck.Changed, fbcheck.Overlap) as fault:
+    fault.args
