@@ -50,6 +50,9 @@ uint32_t fbcheck_resolve_proved(handle schema, const fbcheck_options *options, c
 uint32_t fbcheck_read_proved(handle schema, handle *room, const fbcheck_options *options, const uint8_t *buffer,
                              size_t length, const fbcheck_path *paths, size_t path_count, fbcheck_value *values,
                              size_t value_count, fbcheck_verdict *verdict);
+uint32_t fbcheck_read_again_proved(handle schema, const fbcheck_options *options, const uint8_t *buffer, size_t length,
+                                   const fbcheck_path *paths, size_t path_count, fbcheck_value *values,
+                                   size_t value_count, fbcheck_verdict *verdict);
 uint32_t fbcheck_most_reads_proved(handle schema, const fbcheck_options *options, uint64_t length, uint64_t *reads);
 size_t fbcheck_reason_name_proved(uint32_t reason, uint8_t *text, size_t room);
 size_t fbcheck_fault_name_proved(uint32_t status, uint32_t number, uint8_t *text, size_t room);
@@ -66,6 +69,7 @@ uint32_t fbcheck_framer_finish_proved(fbcheck_framer *framer, const uint8_t *roo
 
 static const fbcheck_options published = FBCHECK_OPTIONS_INIT;
 static const uint8_t no_bytes[1] = { 0 };
+static const fbcheck_path no_path = { 0, 0, { { 0, 0 } } };
 
 /* A status with nothing more to tell. */
 static uint32_t told(uint32_t status, fbcheck_verdict *verdict)
@@ -206,7 +210,6 @@ uint32_t fbcheck_read(const fbcheck_schema *schema, fbcheck_scratch *scratch, co
                       const uint8_t *buffer, size_t length, const fbcheck_path *paths, fbcheck_value *values,
                       size_t count, fbcheck_verdict *verdict)
 {
-    static const fbcheck_path no_path = { 0, 0, { { 0, 0 } } };
     handle none = { NULL };
     fbcheck_verdict unseen;
     fbcheck_value no_value;
@@ -216,6 +219,20 @@ uint32_t fbcheck_read(const fbcheck_schema *schema, fbcheck_scratch *scratch, co
                                options != NULL ? options : &published, buffer != NULL ? buffer : no_bytes, length,
                                paths != NULL ? paths : &no_path, count, values != NULL ? values : &no_value, count,
                                verdict != NULL ? verdict : &unseen);
+}
+
+uint32_t fbcheck_read_again(const fbcheck_schema *schema, const fbcheck_options *options, const uint8_t *buffer,
+                            size_t length, const fbcheck_path *paths, fbcheck_value *values, size_t count,
+                            fbcheck_verdict *verdict)
+{
+    fbcheck_verdict unseen;
+    fbcheck_value no_value;
+    if (schema == NULL || (buffer == NULL && length != 0) || ((paths == NULL || values == NULL) && count != 0))
+        return told(FBCHECK_NULL, verdict);
+    return fbcheck_read_again_proved(schema->owner, options != NULL ? options : &published,
+                                     buffer != NULL ? buffer : no_bytes, length, paths != NULL ? paths : &no_path,
+                                     count, values != NULL ? values : &no_value, count,
+                                     verdict != NULL ? verdict : &unseen);
 }
 
 uint32_t fbcheck_most_reads(const fbcheck_schema *schema, const fbcheck_options *options, uint64_t length,

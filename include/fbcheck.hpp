@@ -386,10 +386,13 @@ class Schema {
 class Good {
   public:
     // The value at a path, or at a path's text (which takes memory, and throws PathError). Its bytes lie in this Good,
-    // which must outlive it. The library keeps nothing of a check, so each call checks the copy again; Schema::read
-    // reads several values by one check.
+    // which must outlive it. Nothing is checked again: a path of a few steps takes some 0.1 microseconds.
     Value get(const Path &path) const & {
-        return schema_.read(bytes_, std::array<Path, 1>{{path}}, options_, room(options_).get())[0];
+        fbcheck_value found;
+        const auto status = fbcheck_read_again(schema_.get(), &options_, bytes_.data(), bytes_.size(), &path, &found, 1,
+                                               nullptr);
+        if (status != FBCHECK_OK) throw Misuse(status);
+        return Value(found, bytes_);
     }
     Value get(std::string_view text) const & { return get(schema_.path(text, options_)); }
     template <class At> Value get(const At &) const && = delete;

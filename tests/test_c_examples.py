@@ -107,15 +107,17 @@ class ExamplesInC(LibraryCase):
                 self.same(f"what is moved, {how['standard']}", ran(moved, small, orc), (0, "\n".join([*want, ""]), ""))
 
     def test_once_in_cpp(self):
-        """A buffer is gone through once for its place, however long that is, and once more where a bad one is read."""
+        """A buffer is gone through once for its place, however long that is, once more where a bad one is read, and
+        once where one is kept, whatever is read of it then."""
         if not CPP_17:
             return
         program = self.compiled("once", TOP / "tests/c/once.cpp", *STATIC, **CPP_17)
         chain, rows = buffers.levels(60), file_of("chain.bfbs", schemas.CHAIN)
-        for name, given, calls in [("good", chain, (1, 1, 1)), ("bad", chain[:-1], (1, 1, 2))]:
+        for name, given, calls in [("good", chain, (1, 1, 1, 1)), ("bad", chain[:-1], (1, 1, 2, 1))]:
             want = run("--bare", "--names", "--schema", rows, given=given).out.decode().removeprefix("1 ").strip()
             told = ran(program, rows, file_of(f"{name}.bin", given))
-            lines = [f"{text} by {count}" for text, count in zip((want, int(name == "good"), want), calls)]
+            is_good = int(name == "good")
+            lines = [f"{text} by {count}" for text, count in zip((want, is_good, want, is_good), calls)]
             self.same(name, told, (0, "\n".join([*lines, ""]), ""))
 
     def test_streams_and_values_in_cpp(self):

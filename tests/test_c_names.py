@@ -16,7 +16,7 @@ STATUS_TEXTS = [
     "too many steps", "a path is none of this schema's from this root",
     "its rows or names are more than its length pays for", "the schema was made with other demands",
     "strict can't tell which bytes are nested buffers or flexbuffers",
-    "strict can't find the table of a nested buffer",
+    "strict can't find the table of a nested buffer", "the bytes aren't those of a good buffer",
 ]
 
 
@@ -35,7 +35,7 @@ class NamesForC(LibraryCase):
             status = python.Status
             told = {status.BAD: reasons, status.NOT_WELL_FORMED: reasons, status.BAD_SCHEMA: codes,
                     status.BAD_PATH: steps}
-            for number in range(25):
+            for number in range(len(status) + 1):
                 given = [verifier.fault_name(number, n) for n in range(last + 1)]
                 named = told.get(number, [])
                 self.same(f"faults of status {number}", given, [None, *named, *[None] * (last - len(named))])

@@ -76,6 +76,7 @@ static enum action action_at(uint32_t status)
     case FBCHECK_NOT_PLANNED:
     case FBCHECK_NO_SPAN:
     case FBCHECK_MISFIT:
+    case FBCHECK_CHANGED: /* it keeps no message, and so reads none again */
         break;
     }
     return STOP;

@@ -61,6 +61,7 @@ static void call_each(fbcheck_scratch *scratch, const fbcheck_options *asked)
         || fbcheck_verify(schema, scratch, asked, bytes[1], 3, verdicts) != FBCHECK_BAD
         || fbcheck_verify_each(schema, scratch, asked, bytes[1], lengths[1], spans, verdicts, 2) != FBCHECK_BAD
         || fbcheck_read(schema, scratch, asked, bytes[1], lengths[1], &path, &value, 1, verdicts) != FBCHECK_OK
+        || fbcheck_read_again(schema, asked, bytes[1], lengths[1], &path, &value, 1, verdicts) != FBCHECK_OK
         || fbcheck_locate(schema, scratch, asked, bytes[1], lengths[1], name, 64, &written, verdicts) != FBCHECK_OK
         || fbcheck_locate(schema, scratch, asked, bytes[1], 3, name, 64, &written, verdicts) != FBCHECK_BAD
         || fbcheck_most_reads(schema, asked, 99, &reads) != FBCHECK_OK

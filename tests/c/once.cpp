@@ -1,5 +1,6 @@
 // How often the classes of fbcheck.hpp go through a buffer: once for a verdict with its place, once for a yes or no,
-// once for the values of a good one, and twice for a bad one that is read. Its words are a schema and a buffer.
+// once for the values of a good one, and twice for a bad one that is read; once for one that is kept, whatever is read of
+// it then. Its words are a schema and a buffer.
 #include <fbcheck.h>
 
 #include <cstdint>
@@ -36,4 +37,8 @@ int main(int, char **words) {
     tell(schema.check(buffer));
     tell(schema.good(buffer));
     tell(schema.read(buffer, schema.paths("next")).verdict);
+    const auto kept = schema.keep(buffer);
+    for (int count = 0; kept && count < 3; ++count)
+        if (kept->get("next").kind() != FBCHECK_TABLE) return 3;
+    tell(bool(kept));
 }

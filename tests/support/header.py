@@ -48,6 +48,7 @@ class Status(enum.IntEnum):
     NOT_PLANNED = 21
     UNMARKED_BYTES = 22
     NO_SUCH_TABLE = 23
+    CHANGED = 24
 
 
 class Reason(enum.IntEnum):
@@ -230,6 +231,7 @@ CALLS = [
     (U32, "fbcheck_locate", [ADDRESS, ADDRESS, to(Options), ADDRESS, SIZE, TEXT, SIZE, to(SIZE), to(Verdict)]),
     (U32, "fbcheck_resolve", [ADDRESS, to(Options), TEXT, SIZE, to(Path), to(Verdict)]),
     (U32, "fbcheck_read", [ADDRESS, ADDRESS, to(Options), ADDRESS, SIZE, to(Path), to(Value), SIZE, to(Verdict)]),
+    (U32, "fbcheck_read_again", [ADDRESS, to(Options), ADDRESS, SIZE, to(Path), to(Value), SIZE, to(Verdict)]),
     (U32, "fbcheck_most_reads", [ADDRESS, to(Options), U64, to(U64)]),
     (SIZE, "fbcheck_fault_name", [U32, U32, TEXT, SIZE]),
     (SIZE, "fbcheck_reason_name", [U32, TEXT, SIZE]),

@@ -42,6 +42,7 @@ pub const TOO_MUCH_SHARED: u32 = 20;
 pub const NOT_PLANNED: u32 = 21;
 pub const UNMARKED_BYTES: u32 = 22;
 pub const NO_SUCH_TABLE: u32 = 23;
+pub const CHANGED: u32 = 24;
 
 // enum fbcheck_reason
 pub const WRONG_PREFIX: u32 = 1;
@@ -283,6 +284,16 @@ extern "C" {
     pub fn fbcheck_read(
         schema: *const Schema,
         scratch: *mut Scratch,
+        options: *const Options,
+        buffer: *const u8,
+        length: usize,
+        paths: *const Path,
+        values: *mut Value,
+        count: usize,
+        verdict: *mut Verdict,
+    ) -> u32;
+    pub fn fbcheck_read_again(
+        schema: *const Schema,
         options: *const Options,
         buffer: *const u8,
         length: usize,

@@ -30,3 +30,4 @@ pub mod Ways
 pub mod UniqueNames
 pub mod Arriving
 pub mod ExtentLaws
+pub mod Tested

@@ -8,6 +8,7 @@ pub mod PlaceLaws
 pub mod StepLaws
 pub mod Held
 pub mod Inside
+pub mod Tested
 pub mod Samples
 pub mod Examples
 pub mod Grammar

@@ -30,7 +30,7 @@ fn elements_at(window: &Window<'_>, at: u64, size: u64) -> Extent
 }
 
 /// The bytes of a scalar at a position that is shown by its bytes: a float.
-fn scalar_extent(scalar: Scalar, at: u64) -> Option<Extent>
+pub fn scalar_extent(scalar: Scalar, at: u64) -> Option<Extent>
     ensures { result ≡ scalar_extent scalar at }
 {
     match scalar {

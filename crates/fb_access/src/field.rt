@@ -101,7 +101,7 @@ fn types_at(window: &Window<'_>, place: Option<u64>) -> u64
 
 /// What an absent field is: a scalar that isn't optional has its default.
 #[tactic(auto, unfolding(crate::specs::Spots::absent_spot))]
-fn absent(field: &FieldView<'_>) -> Spot
+pub fn absent(field: &FieldView<'_>) -> Spot
     ensures { result ≡ absent_spot (field.now).optional (field.now).default (field.now).kind }
 {
     match field.kind {

@@ -20,6 +20,9 @@ pub mod place_laws;
 mod spot;
 pub mod step;
 pub mod step_laws;
+mod tested_field;
+mod tested_next;
+mod tested_value;
 mod value;
 
 pub use answer::Answer;
@@ -32,4 +35,8 @@ pub use misfit::element_kind;
 pub use path::Path;
 pub use path_fault::PathFault;
 pub use place::{Place, at_root, get};
+pub use spot::Spot;
 pub use step::Step;
+pub use tested_field::Changed;
+pub use tested_next::{first_spot, step_from};
+pub use tested_value::{Seen, see};

@@ -36,7 +36,7 @@ fn spot_of_field(window: &Window<'_>, schema: &Schema<'_>, spot: Spot, number: u
 
 /// The field of a struct that stands at a position, of `n` values if it is an array.
 #[tactic(auto, unfolding(crate::specs::Spots::spot_of_part))]
-fn spot_of_part(at: u64, n: u16, kind: Kind) -> Spot
+pub fn spot_of_part(at: u64, n: u16, kind: Kind) -> Spot
     ensures { result ≡ spot_of_part at n kind }
 {
     match kind {

@@ -39,7 +39,7 @@ impl<'v, 'b, 's, 'n> Model for Place<'v, 'b, 's, 'n> {
 }
 
 /// Where the root offset stands in a buffer that begins so.
-fn base_of(start: Start) -> u64
+pub fn base_of(start: Start) -> u64
     ensures { result ≡ base start }
 {
     match start {

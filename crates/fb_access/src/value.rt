@@ -55,7 +55,7 @@ fn word_of(window: &Window<'_>, at: u64, scalar: Scalar) -> u64
 
 /// A scalar at a position.
 #[tactic(auto, using(crate::proofs::Counted::number_fits), unfolding(crate::specs::Denotes::inline_value))]
-fn inline_at<'b>(window: &Window<'b>, at: u64, scalar: Scalar) -> Answer<'b>
+pub fn inline_at<'b>(window: &Window<'b>, at: u64, scalar: Scalar) -> Answer<'b>
     requires { at + scalar_size scalar ≤ length window.now }
     ensures shown { shown result ≡ inline_value window.now at scalar }
     ensures fits { FitsScalar scalar result }
@@ -88,7 +88,7 @@ fn low_bytes(number: u64, scalar: Scalar) -> u64
 
 /// An absent scalar with this default.
 #[tactic(auto, unfolding(crate::specs::Denotes::default_value))]
-fn default_at<'b>(default: i64, scalar: Scalar) -> Answer<'b>
+pub fn default_at<'b>(default: i64, scalar: Scalar) -> Answer<'b>
     ensures shown { shown result ≡ default_value scalar default }
     ensures fits { FitsScalar scalar result }
 {

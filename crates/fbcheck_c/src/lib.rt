@@ -7,7 +7,7 @@
 
 ghost use Rattle.std.specs.Prelude.{◌≡◌, ℕ, List, None, Option};
 ghost use Rattle.fbcheck_calls.specs.Answered.{IfSchema, IsChecked, IsPriceTold, IsRoomMade, IsTaken, levels};
-ghost use Rattle.fbcheck_calls.specs.{Asked.published, Placed.IsLocatedBy, Reached.IsPath, Reached.IsReadBy, Spans.AreTold, Spans.IsEachAnswered};
+ghost use Rattle.fbcheck_calls.specs.{Again.IsReadAgainBy, Asked.published, Placed.IsLocatedBy, Reached.IsPath, Reached.IsReadBy, Spans.AreTold, Spans.IsEachAnswered};
 ghost use Rattle.fb_access.specs.Location.{field_name};
 ghost use Rattle.fbcheck_calls.specs.Told.{told};
 ghost use Rattle.fbcheck_calls.specs.Hinted.{IsHintTold, LacksPathHint, LacksRootHint};
@@ -18,8 +18,8 @@ ghost use Rattle.fbcheck_calls.specs.declared.answer.Answer.{Answer};
 use fb_bytes::Taken;
 use fbcheck_calls::{
     Framer, Handle, Options, PlainPath, Shared, Span, Value, Verdict, all_good, check, check_alone,
-    check_each, fault_told, field_told, locate, object_told, path_hint, price, read, reason_told,
-    resolve, root_hint, status_told, table_of, try_options,
+    check_each, fault_told, field_told, locate, object_told, path_hint, price, read, read_again,
+    reason_told, resolve, root_hint, status_told, table_of, try_options,
 };
 use std::alloc::Global;
 
@@ -245,6 +245,25 @@ pub extern "C" fn fbcheck_read_proved(
         paths,
         values,
     )
+}
+
+/// Tells the values at the ends of these paths from the root table, each at the place of its path, in a buffer that was
+/// good before, without a check.
+#[unsafe(no_mangle)]
+pub extern "C" fn fbcheck_read_again_proved(
+    schema: Shared,
+    options: &Options,
+    buffer: &[u8],
+    paths: &[PlainPath],
+    values: &mut [Value],
+    verdict: &mut Verdict,
+) -> u32
+    ensures told { (a : Answer) × (verdict.new ≡ told a) × IsReadAgainBy schema.held options.now buffer.now paths.now values.old values.new a }
+    ensures status { result ≡ verdict.new.status }
+{
+    let answered = read_again(schema.held(), options, buffer, paths, values).told();
+    *verdict = answered;
+    answered.status
 }
 
 /// Tells how many reads a check of so many bytes makes at most.

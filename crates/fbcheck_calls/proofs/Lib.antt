@@ -1,3 +1,4 @@
+pub mod AgainLemmas
 pub mod AnswerLemmas
 pub mod BegunLemmas
 pub mod FaultNames

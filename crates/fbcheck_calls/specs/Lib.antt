@@ -9,6 +9,7 @@ pub mod Framers
 pub mod Steps
 pub mod Values
 pub mod Reached
+pub mod Again
 pub mod Placed
 pub mod Names
 pub mod Hinted

@@ -78,7 +78,7 @@ status_texts =
     ∷ codes "the stream has failed before" ∷ codes "no path" ∷ codes "too many steps"
     ∷ codes "a path is none of this schema's from this root" ∷ codes "its rows or names are more than its length pays for"
     ∷ codes "the schema was made with other demands" ∷ codes "strict can't tell which bytes are nested buffers or flexbuffers"
-    ∷ codes "strict can't find the table of a nested buffer" ∷ []
+    ∷ codes "strict can't find the table of a nested buffer" ∷ codes "the bytes aren't those of a good buffer" ∷ []
 
 abbrev pub status_text : ℕ → Option (List ℕ)
 status_text n = slice_get status_texts n

@@ -51,6 +51,8 @@ pub enum Answer {
     UnmarkedBytes(FieldAt),
     /// 23: the schema file marks this field of bytes as a nested buffer, and the mark names no table for its root.
     NoSuchTable(FieldAt),
+    /// 24: the bytes aren't those of a good buffer, as the path at this place, from 0, shows.
+    Changed(u64),
 }
 
 /// A live field of a table, by the table's number and its own.
@@ -80,7 +82,7 @@ pub struct Verdict {
     /// Of a good buffer, the most tables that were open at once, else 0.
     pub depth: u32,
     /// With a reason, the position in bytes from the buffer's first; of a text that is no path, the place in it or the
-    /// number of the step; of paths, the place of the first that doesn't fit; else 0.
+    /// number of the step; of paths, the place of the first that doesn't fit, or shows that bytes changed; else 0.
     pub at: u64,
     /// The counted reads, of a buffer or of a schema file that isn't well formed; 2^64 - 1 stands for more too.
     pub reads: u64,
@@ -281,6 +283,7 @@ impl Answer {
             Answer::NotPlanned => blank(21),
             Answer::UnmarkedBytes(field) => field_told(22, field),
             Answer::NoSuchTable(field) => field_told(23, field),
+            Answer::Changed(at) => Verdict { at, ..blank(24) },
         }
     }
 

@@ -1,5 +1,6 @@
 //! What follows from the definitions of answers alone. These functions have no body: their contracts are the theorems.
 
+ghost use Rattle.fbcheck_calls.specs.Again.{GoodStaysRead, ValuesAreOne};
 ghost use Rattle.fbcheck_calls.specs.AnswerLaws.{BadGetsNo, DemandsArePlanned, GoodGetsYes, LongGetsItsNumber, PlainIsPlain, ValuesStand};
 ghost use Rattle.fbcheck_calls.specs.Names.{FaultsHaveTheirNames, StatusesHaveWords};
 
@@ -35,6 +36,18 @@ pub fn a_plan_is_asked_for()
 #[tactic(auto, using(crate::proofs::StandLemmas::stands))]
 pub fn a_value_stands_where_told()
     ensures { ValuesStand }
+{}
+
+/// Of bytes that a check said are good, no read without a check says that they aren't.
+#[tactic(auto, using(crate::proofs::AgainLemmas::good_stays_read))]
+pub fn good_bytes_stay_readable()
+    ensures { GoodStaysRead }
+{}
+
+/// All who tell the value at the end of a path tell the same.
+#[tactic(auto, using(crate::proofs::AgainLemmas::values_are_one))]
+pub fn a_path_has_one_value()
+    ensures { ValuesAreOne }
 {}
 
 /// The status and the number that are told of an answer have the code and name of its own fault, and of no other.

@@ -2,6 +2,7 @@
 //! `fbcheck_c` exports them.
 #![tactic(auto)]
 
+mod again;
 mod answer;
 mod basis;
 mod checking;
@@ -22,6 +23,7 @@ mod steps;
 mod strict;
 mod values;
 
+pub use again::read_again;
 pub use answer::{Answer, FieldAt, Verdict};
 pub use basis::Basis;
 pub use checking::{check, check_alone, price, read, resolve};

@@ -176,6 +176,7 @@ fn status_text(status: u32) -> Option<&'static str>
         21 => Some("the schema was made with other demands"),
         22 => Some("strict can't tell which bytes are nested buffers or flexbuffers"),
         23 => Some("strict can't find the table of a nested buffer"),
+        24 => Some("the bytes aren't those of a good buffer"),
         _ => None,
     }
 }

@@ -60,7 +60,7 @@ fn widened(bits: u32) -> u64
 }
 
 /// What is told of a value without where it stands.
-fn told_value(found: Found<'_>) -> Value
+pub fn told_value(found: Found<'_>) -> Value
     ensures { result ≡ value_told (shown found.entry) }
 {
     match found {
@@ -85,7 +85,7 @@ fn told_value(found: Found<'_>) -> Value
 }
 
 /// A value with where its bytes stand, where it has any.
-fn placed(value: Value, extent: Option<Extent>) -> Value
+pub fn placed(value: Value, extent: Option<Extent>) -> Value
     ensures { result ≡ placed value extent }
 {
     match extent {

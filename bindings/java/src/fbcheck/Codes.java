@@ -47,6 +47,7 @@ final class Codes {
     static final int NOT_PLANNED = 21;
     static final int UNMARKED_BYTES = 22;
     static final int NO_SUCH_TABLE = 23;
+    static final int CHANGED = 24;
 
     // enum fbcheck_reason
     static final int WRONG_PREFIX = 1;
@@ -202,6 +203,8 @@ final class Codes {
     static final FunctionDescriptor READ_WORDS =
             FunctionDescriptor.of(JAVA_INT, ADDRESS, ADDRESS, ADDRESS, ADDRESS, JAVA_LONG, ADDRESS, ADDRESS, JAVA_LONG,
                     ADDRESS);
+    static final FunctionDescriptor READ_AGAIN_WORDS =
+            FunctionDescriptor.of(JAVA_INT, ADDRESS, ADDRESS, ADDRESS, JAVA_LONG, ADDRESS, ADDRESS, JAVA_LONG, ADDRESS);
     static final FunctionDescriptor MOST_READS_WORDS =
             FunctionDescriptor.of(JAVA_INT, ADDRESS, ADDRESS, JAVA_LONG, ADDRESS);
     static final FunctionDescriptor FAULT_NAME_WORDS =

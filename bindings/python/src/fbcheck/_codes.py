@@ -56,6 +56,7 @@ class Status(enum.IntEnum):
     NOT_PLANNED = 21
     UNMARKED_BYTES = 22
     NO_SUCH_TABLE = 23
+    CHANGED = 24
 
 
 class Code(enum.IntEnum):

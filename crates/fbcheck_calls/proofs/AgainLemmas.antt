@@ -1,0 +1,158 @@
+-- How values are read in bytes that aren't checked.
+use Rattle.std.proofs.Common.{◌≡◌, ◌≢◌, ◌==◌, ℕ, ◌+◌, ◌<◌, ◌≤◌, ◌^◌, List, [], ◌∷◌, length, get_or, get_or-set_other, arith, refl, sym, ap, subst, ◌∙◌, Bool, true, false, IsTrue, Option, Some, None, IfSome, IsSomeAnd, if◌then◌else◌, inl}
+use Rattle.std.proofs.Math.ListN.{set}
+use Rattle.std.proofs.lemmas.List.{get_or_default, length-set}
+use Rattle.std.specs.Prelude.{Result, Ok, Err, IsErrAnd, MatchOption, MatchResult}
+use Rattle.fb_schema.specs.declared.kinds.Kind.TheVariants.{Table}
+use Rattle.fb_schema.specs.{Rows.Rows, Rows.is_table, Served.IsServed}
+use Rattle.fb_rules.specs.{Places.target, Question.Question, Question.question, Tree.size, Tree.depth, Verdict.Reports, WellFormed.base, WellFormed.cost}
+use Rattle.fb_rules.specs.declared.{fault.Report.Report, start.Start.Start, start.Ident.Ident}
+use Rattle.fb_verify.specs.Sealed.{Sealed, IsUnfolded}
+use Rattle.fb_bfbs.specs.declared.loading.Loaded.{Loaded}
+use Rattle.fb_strict.specs.{AsAsked.ReportsBy, Planned.Planned, Strictly.sealed_by}
+use Rattle.fb_strict.proofs.OneVerdict.{strict_is_ok}
+use Rattle.fb_access.specs.declared.{extent.Extent.Extent, step.Step.Step, spot.Spot.Spot, tested_field.Changed.Changed}
+use Rattle.fb_access.specs.{Denotes.Leads, Denotes.Reaches, Denotes.Shown, Denotes.next_spot, Denotes.root_spot, Fitting.StepsFit, Held.IsSpot, Tested.IsOther}
+use Rattle.fb_access.proofs.{Staying.step_stays, StepKinds.allowed_leads, StepKinds.kind_allows, Walks.root_placed}
+use Rattle.fbcheck_calls.specs.declared.{options.Options.Options, steps.PlainPath.PlainPath, steps.PlainStep.PlainStep, values.Value.Value}
+use Rattle.fbcheck_calls.specs.Again.{AreOther, AreToldBelow, GoodStaysRead, IsReadAgain, IsToldOf, LiesWithin, ValuesAreOne}
+use Rattle.fbcheck_calls.specs.{Answered.IsGoodFrom, Asked.AreKnown, Asked.checks_asked, Asked.ident_asked, Asked.if_table, Asked.limits_of, Asked.plan_asked, Asked.question_of, Asked.root_asked, Asked.start_asked, Bases.Based}
+use Rattle.fbcheck_calls.specs.{Steps.AreSteps, Steps.EndAt, Steps.DontFit, Steps.step_of, Steps.steps_in, Values.IsValueOf, Values.placed, Values.value_at, Values.value_told}
+use Rattle.fbcheck_calls.specs.declared.answer.Answer.TheVariants.{Changed as BytesChanged}
+use Rattle.fbcheck_calls.proofs.{SpanLemmas.one_more, StepLemmas.FitHere}
+
+-- if these are the bytes of a good buffer, this holds at the spot
+abbrev pub IsHeldAt : List ℕ → Rows → Start → ℕ → Spot → Type 0
+IsHeldAt b S start root q = (v : Sealed) → v.bytes ≡ b → v.schema ≡ S → v.start ≡ start → v.root ≡ root → IsUnfolded v → IsSpot b S q
+
+module _ (b : List ℕ) (S : Rows) (start : Start) (root : ℕ) where
+  pub root_held : IsHeldAt b S start root (root_spot b start root)
+  root_held v bytes_are rows_are start_is root_is h =
+      rw (sym bytes_are, sym rows_are, sym start_is, sym root_is) (root_placed v v.root (target v.bytes (base v.start)) h refl refl).spot
+
+  pub held_on : (p : Spot) (s : Step) (q : Spot) → IsServed S → Leads b S p s q → IsHeldAt b S start root p → IsHeldAt b S start root q
+  held_on p s q served l held v bytes_are rows_are start_is root_is h = step_stays b S p s q served (held v bytes_are rows_are start_is root_is h) l
+
+  -- where it doesn't hold, they aren't
+  pub is_other : (q : Spot) → IsHeldAt b S start root q → (IsSpot b S q → ⊥) → IsOther b S start root
+  is_other q held fails v bytes_are rows_are start_is root_is h = fails (held v bytes_are rows_are start_is root_is h)
+
+-- where a step doesn't lead on, the steps don't fit
+module _ (S : Rows) (p : Spot) (c : PlainStep) (cs : List PlainStep) where
+  pub no_step_fits : step_of c ≡ None → FitHere S p (c ∷ cs) → ⊥
+  no_step_fits e ([], kind, are, is, fits) = are
+  no_step_fits e (s ∷ path, kind, are, is, fits) = let found : step_of c ≡ Some s = are.0 in let wrong : None ≡ Some s = cc in cc
+
+  pub stuck_fits : (b : List ℕ) (s : Step) → step_of c ≡ Some s → next_spot b S p s ≡ None → FitHere S p (c ∷ cs) → ⊥
+  stuck_fits b s e none ([], kind, are, is, fits) = are
+  stuck_fits b s e none (s' ∷ path, kind, are, is, fits) =
+      let found : step_of c ≡ Some s' = are.0 in
+      let same : s' ≡ s = cc in
+      allowed_leads b S p s' (kind_allows S p s' kind fits.0 is fits.1) (subst (λ x. next_spot b S p x ≡ None) (sym same) none)
+
+-- where a value's bytes are told, they lie where its extent does
+pub lies_within : (n : ℕ) (x : Shown) (e : Option Extent) → IfSome e (λ (y : Extent). y.at + y.size ≤ n) → LiesWithin n (placed (value_told x) e)
+lies_within n x e h = grind arith
+
+-- ---- values one after another
+
+module _ (b : List ℕ) (S : Rows) (start : Start) (root : ℕ) where
+  -- what was found at the end of a path
+  told_here : (p : PlainPath) (plain : List PlainStep) (x : Value) → steps_in p ≡ Some plain → ((q : Spot) × EndAt b S start root plain q × (x ≡ value_at b S q)) × LiesWithin (length b) x → IsToldOf b S start root p x
+  told_here p plain x e h = record { value = subst (λ o. IsSomeAnd o (λ plain. (q : Spot) × EndAt b S start root plain q × (x ≡ value_at b S q))) (sym e) h.0; within = h.1 }
+
+  pub told_at : (paths : List PlainPath) (n : ℕ) (p d : PlainPath) (plain : List PlainStep) (x : Value) → n < length paths → Some plain ≡ steps_in (get_or paths n d) → ((q : Spot) × EndAt b S start root plain q × (x ≡ value_at b S q)) × LiesWithin (length b) x → IsToldOf b S start root (get_or paths n p) x
+  told_at paths n p d plain x there e h = rw (get_or_default paths n p d there) (told_here (get_or paths n d) plain x (sym e) h)
+
+  module _ (paths : List PlainPath) (values : List Value) where
+    -- one value more
+    pub told_on : (n : ℕ) (values' : List Value) (x : Value) → n < length values' → AreToldBelow b S start root paths n values values' → ((p : PlainPath) → IsToldOf b S start root (get_or paths n p) x) → AreToldBelow b S start root paths (n + 1) values (set values' n x)
+    told_on n values' x within below here = record {
+      told = one_more (IsToldOf b S start root) paths values' n x within below.told here;
+      kept = λ k past v. let ne : k ≢ n = omega arith in rw (get_or-set_other values' n k x v ne) (below.kept k (omega arith) v);
+      long = length-set values' n x ∙ below.long;
+    }
+
+    -- where there are no more
+    pub told_all : (n m : ℕ) (values' : List Value) → n ≤ m → ((k : ℕ) → k < m → k < length values' → k < n) → AreToldBelow b S start root paths n values values' → AreToldBelow b S start root paths m values values'
+    told_all n m values' le reach below = record {
+      told = λ k lt within p v. below.told k (reach k lt within) within p v;
+      kept = λ k past v. below.kept k (omega arith) v;
+      long = below.long;
+    }
+
+pub changed_is_read : (l : Loaded) (o : Options) (b : List ℕ) (paths : List PlainPath) (v v' : List Value) (place root : ℕ) → AreKnown o → root_asked l o ≡ Some root → length b < 2 ^ 31 → AreOther l o b paths v v' place root → IsReadAgain l o b paths v v' (BytesChanged place)
+changed_is_read l o b paths v v' place root known asked short other = ((known, subst (λ x. IsSomeAnd x (AreOther l o b paths v v' place)) (sym asked) other), short)
+
+-- ---- laws
+
+-- the tree that a report counts
+walked : (plan : Option Planned) (q : Question) (b : List ℕ) (r : Report) → ReportsBy plan q b r → (own : Report) × Reports q b own
+walked None q b r h = (r, h)
+walked (Some plan) q b r h = let ok = strict_is_ok plan q b r h in (ok.walked, ok.reports)
+
+table_asked : (rows : Rows) (n : Option ℕ) (root : ℕ) → if_table rows n ≡ Some root → IsTrue (is_table rows root)
+table_asked rows n root e = grind arith
+
+root_is_table : (l : Loaded) (o : Options) (root : ℕ) → root_asked l o ≡ Some root → IsTrue (is_table l.schema root)
+root_is_table l o root e = grind (arith, table_asked)
+
+-- what there is, where it holds of what there is
+some_of : {X : Type 0} (o : Option X) (P : X → Type 0) → IsSomeAnd o P → (x : X) × (o ≡ Some x) × P x
+some_of (Some x) P h = (x, refl, h)
+some_of None P h = absurd h
+
+some_both : {X : Type 0} (o : Option X) (P Q : X → Type 0) → IsSomeAnd o P → IsSomeAnd o Q → (x : X) × (o ≡ Some x) × P x × Q x
+some_both (Some x) P Q h i = (x, refl, h, i)
+some_both None P Q h i = absurd h
+
+good_unfolds : (l : Loaded) (o : Options) (b : List ℕ) (plan : Option Planned) (root : ℕ) (ident : Ident) (r : Report) → length b < 2 ^ 31 → root_asked l o ≡ Some root → ReportsBy plan (question_of l o b root ident) b r → IsOther b l.schema (start_asked o) root → ⊥
+good_unfolds l o b plan root ident r short root_is good other =
+    let own = walked plan (question_of l o b root ident) b r good in
+    other (sealed_by (question_of l o b root ident) b own.0) refl refl refl refl (record {
+      short = short;
+      root_is_table = root_is_table l o root root_is;
+      ident = ident;
+      limits = limits_of o (length b);
+      found = own.1.found;
+      well_formed = own.1.well_formed;
+      tables = own.1.tables;
+      depth = own.1.depth;
+      reads = own.1.reads;
+    })
+
+pub good_stays_read : GoodStaysRead
+good_stays_read s n o b r paths v v' place (short, (limits, served)) ((known, others), still) =
+    let plan = some_of (plan_asked s o) (λ plan. IsSomeAnd (root_asked s.loaded o) (λ root. IsSomeAnd (ident_asked s.loaded o) (IsGoodFrom s o b r plan root))) served in
+    let root = some_both (root_asked s.loaded o) (λ root. IsSomeAnd (ident_asked s.loaded o) (IsGoodFrom s o b r plan.0 root)) (AreOther s.loaded o b paths v v' place) plan.2 others in
+    let ident = some_of (ident_asked s.loaded o) (IsGoodFrom s o b r plan.0 root.0) root.2 in
+    good_unfolds s.loaded o b plan.0 root.0 ident.0 r short root.1 ident.2 root.3.other
+
+-- steps and what they lead to are one
+steps_one : (plain : List PlainStep) (path other : List Step) → AreSteps plain path → AreSteps plain other → path ≡ other
+steps_one [] [] [] h i = refl
+steps_one [] [] (t ∷ other) h i = absurd i
+steps_one [] (s ∷ path) other h i = absurd h
+steps_one (c ∷ cs) [] other h i = absurd h
+steps_one (c ∷ cs) (s ∷ path) [] h i = absurd i
+steps_one (c ∷ cs) (s ∷ path) (t ∷ other) h i =
+    let found : step_of c ≡ Some s = h.0 in
+    let again : step_of c ≡ Some t = i.0 in
+    let same : s ≡ t = cc in
+    ap (λ x. x ∷ path) same ∙ ap (λ xs. t ∷ xs) (steps_one cs path other h.1 i.1)
+
+module _ (b : List ℕ) (S : Rows) where
+  reaches_one : (p : Spot) (steps : List Step) (q r : Spot) → Reaches b S p steps q → Reaches b S p steps r → q ≡ r
+  reaches_one p [] q r h i = sym h ∙ i
+  reaches_one p (s ∷ steps) q r h i = grind (arith, reaches_one h.0 steps q r)
+
+  end_one : (start : Start) (root : ℕ) (plain : List PlainStep) (q r : Spot) → EndAt b S start root plain q → EndAt b S start root plain r → q ≡ r
+  end_one start root plain q r (path, are, reach) (other, others, reaches) =
+      reaches_one (root_spot b start root) path q r reach (subst (λ x. Reaches b S (root_spot b start root) x r) (sym (steps_one plain path other are others)) reaches)
+
+pub values_are_one : ValuesAreOne
+values_are_one b S start root p v w h i =
+    let plain = some_both (steps_in p) (λ plain. (q : Spot) × EndAt b S start root plain q × (v ≡ value_at b S q)) (λ plain. (q : Spot) × EndAt b S start root plain q × (w ≡ value_at b S q)) h i in
+    let one = plain.2 in
+    let two = plain.3 in
+    one.2 ∙ ap (value_at b S) (end_one b S start root plain.0 one.0 two.0 one.1 two.1) ∙ sym two.2

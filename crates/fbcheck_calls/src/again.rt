@@ -1,0 +1,117 @@
+//! The values in bytes that aren't checked: those of a buffer that was good before. Each position is tested before it is
+//! read, so what became of the bytes doesn't matter.
+
+ghost use Rattle.std.specs.Prelude.{◌≡◌, ◌<◌, ◌^◌, MatchOption, MatchResult, length};
+ghost use Rattle.fb_access.specs.Tested.{IsOther};
+ghost use Rattle.fb_access.specs.declared.spot.Spot.{Spot as ASpot};
+ghost use Rattle.fbcheck_calls.specs.Again.{AreToldBelow, IsReadAgainBy, LiesWithin};
+ghost use Rattle.fbcheck_calls.specs.{Steps.AllFit, Steps.DontFit, Steps.EndAt, Values.value_at};
+
+use crate::answer::Answer;
+use crate::checking::metered;
+use crate::fits::first_misfit;
+use crate::held::Held;
+use crate::options::{LONGEST, Options};
+use crate::steps::{PlainPath, PlainStep};
+use crate::values::{Value, placed, told_value};
+use fb_access::{Changed, first_spot, see, step_from};
+use fb_bytes::Window;
+use fb_schema::Schema;
+use fb_verify::Start;
+
+/// What stands at the end of these steps from the root table, none where they don't fit.
+///
+/// # Errors
+///
+/// `Changed` where these aren't the bytes of a good buffer.
+fn found_again(
+    window: &Window<'_>,
+    schema: &Schema<'_>,
+    start: Start,
+    root: u32,
+    steps: &[PlainStep],
+) -> Result<Option<Value>, Changed>
+    requires { length window.now < 2 ^ 31 }
+    ensures { MatchResult result (λ o. MatchOption o (DontFit schema.now root steps.now) (λ v. ((q : ASpot) × EndAt window.now schema.now start root steps.now q × (v ≡ value_at window.now schema.now q)) × LiesWithin (length window.now) v)) (λ _. IsOther window.now schema.now start root) }
+{
+    schema.lawful();
+    let mut spot = first_spot(window, schema, start, root)?;
+    for given in steps {
+        let Some(step) = given.step() else {
+            return Ok(None);
+        };
+        match step_from(window, schema, spot, step)? {
+            Some(to) => spot = to,
+            None => return Ok(None),
+        }
+    }
+    let seen = see(window, schema, spot)?;
+    Ok(Some(placed(told_value(seen.answer), seen.extent)))
+}
+
+/// Tells the values at the ends of paths that fit, each at the place of its path. Where there are more of paths or of
+/// values than of the others, these are left alone.
+///
+/// # Errors
+///
+/// The place of the first path on which it shows that these aren't the bytes of a good buffer. The values from there on
+/// are left alone.
+fn tell_again(
+    window: &Window<'_>,
+    schema: &Schema<'_>,
+    start: Start,
+    root: u32,
+    paths: &[PlainPath],
+    values: &mut [Value],
+) -> Result<(), u64>
+    requires short { length window.now < 2 ^ 31 }
+    requires fit { AllFit schema.now root paths.now }
+    ensures { MatchResult result (λ _. AreToldBelow window.now schema.now start root paths.now (length paths.now) values.old values.new) (λ place. (place < length paths.now) × AreToldBelow window.now schema.now start root paths.now place values.old values.new × IsOther window.now schema.now start root) }
+{
+    let count = paths.len().min(values.len());
+    for place in 0..count {
+        let Some(steps) = paths[place].steps() else {
+            unreachable!()
+        };
+        match found_again(window, schema, start, root, steps) {
+            Ok(Some(value)) => values[place] = value,
+            Ok(None) => unreachable!(),
+            Err(Changed) => return Err(place as u64),
+        }
+    }
+    Ok(())
+}
+
+/// Tells the values at the ends of paths in bytes that aren't checked, if they are those of a good buffer as far as it
+/// shows on the way.
+pub fn read_again(
+    held: &Held,
+    options: &Options,
+    buffer: &[u8],
+    paths: &[PlainPath],
+    values: &mut [Value],
+) -> Answer
+    ensures { IsReadAgainBy held.now options.now buffer.now paths.now values.old values.new result }
+{
+    let Held::Schema(basis) = held else {
+        return Answer::NoRoot;
+    };
+    let loaded = basis.loaded();
+    if !options.are_known() {
+        return Answer::UnknownOptions;
+    }
+    let Some(root) = options.root(loaded) else {
+        return Answer::NoRoot;
+    };
+    if let Some(place) = first_misfit(&loaded.schema, root, paths) {
+        return Answer::Misfit(place);
+    }
+    if buffer.len() as u64 > LONGEST {
+        return Answer::TooLong;
+    }
+    let window = metered(buffer).seal();
+    match tell_again(&window, &loaded.schema, options.start(), root, paths, values) {
+        Ok(()) => Answer::Done,
+        Err(place) => Answer::Changed(place),
+    }
+}
