@@ -110,13 +110,7 @@ fn types_of(window: &Window<'_>, at: u64, slot: u16) -> Result<u64, Changed>
 
 /// Where a field of the table at a position leads that is present at `place`.
 #[tactic(auto, unfolding(crate::specs::Spots::present_spot))]
-fn present(
-    window: &Window<'_>,
-    at: u64,
-    slot: u16,
-    place: u64,
-    kind: Kind,
-) -> Result<Spot, Changed>
+fn present(window: &Window<'_>, at: u64, slot: u16, place: u64, kind: Kind) -> Result<Spot, Changed>
     requires short { length window.now < 2 ^ 31 }
     requires within { at + 4 ≤ length window.now }
     ensures { MatchResult result (λ q. q ≡ present_spot window.now at slot place kind) (λ _. HasVtable window.now at → IsReadable window.now at slot place kind → ⊥) }

@@ -110,7 +110,14 @@ pub fn read_again(
         return Answer::TooLong;
     }
     let window = metered(buffer).seal();
-    match tell_again(&window, &loaded.schema, options.start(), root, paths, values) {
+    match tell_again(
+        &window,
+        &loaded.schema,
+        options.start(),
+        root,
+        paths,
+        values,
+    ) {
         Ok(()) => Answer::Done,
         Err(place) => Answer::Changed(place),
     }
