@@ -1,23 +1,21 @@
 -- How values are read in bytes that aren't checked.
-use Rattle.std.proofs.Common.{◌≡◌, ◌≢◌, ◌==◌, ℕ, ◌+◌, ◌<◌, ◌≤◌, ◌^◌, List, [], ◌∷◌, length, get_or, get_or-set_other, arith, refl, sym, ap, subst, ◌∙◌, Bool, true, false, IsTrue, Option, Some, None, IfSome, IsSomeAnd, if◌then◌else◌, inl}
+use Rattle.std.proofs.Common.{◌≡◌, ◌≢◌, ℕ, ◌+◌, ◌<◌, ◌≤◌, ◌^◌, List, [], ◌∷◌, length, get_or, get_or-set_other, arith, refl, sym, ap, subst, ◌∙◌, IsTrue, Option, Some, None, IfSome, IsSomeAnd}
 use Rattle.std.proofs.Math.ListN.{set}
 use Rattle.std.proofs.lemmas.List.{get_or_default, length-set}
-use Rattle.std.specs.Prelude.{Result, Ok, Err, IsErrAnd, MatchOption, MatchResult}
-use Rattle.fb_schema.specs.declared.kinds.Kind.TheVariants.{Table}
 use Rattle.fb_schema.specs.{Rows.Rows, Rows.is_table, Served.IsServed}
-use Rattle.fb_rules.specs.{Places.target, Question.Question, Question.question, Tree.size, Tree.depth, Verdict.Reports, WellFormed.base, WellFormed.cost}
+use Rattle.fb_rules.specs.{Places.target, Question.Question, Question.question, Tree.size, Tree.depth, Verdict.Reports, WellFormed.base}
 use Rattle.fb_rules.specs.declared.{fault.Report.Report, start.Start.Start, start.Ident.Ident}
 use Rattle.fb_verify.specs.Sealed.{Sealed, IsUnfolded}
 use Rattle.fb_bfbs.specs.declared.loading.Loaded.{Loaded}
 use Rattle.fb_strict.specs.{AsAsked.ReportsBy, Planned.Planned, Strictly.sealed_by}
 use Rattle.fb_strict.proofs.OneVerdict.{strict_is_ok}
 use Rattle.fb_access.specs.declared.{extent.Extent.Extent, step.Step.Step, spot.Spot.Spot, tested_field.Changed.Changed}
-use Rattle.fb_access.specs.{Denotes.Leads, Denotes.Reaches, Denotes.Shown, Denotes.next_spot, Denotes.root_spot, Fitting.StepsFit, Held.IsSpot, Tested.IsOther}
+use Rattle.fb_access.specs.{Denotes.Leads, Denotes.Reaches, Denotes.Shown, Denotes.next_spot, Denotes.root_spot, Held.IsSpot, Tested.IsOther}
 use Rattle.fb_access.proofs.{Staying.step_stays, StepKinds.allowed_leads, StepKinds.kind_allows, Walks.root_placed}
 use Rattle.fbcheck_calls.specs.declared.{options.Options.Options, steps.PlainPath.PlainPath, steps.PlainStep.PlainStep, values.Value.Value}
 use Rattle.fbcheck_calls.specs.Again.{AreOther, AreToldBelow, GoodStaysRead, IsReadAgain, IsToldOf, LiesWithin, ValuesAreOne}
-use Rattle.fbcheck_calls.specs.{Answered.IsGoodFrom, Asked.AreKnown, Asked.checks_asked, Asked.ident_asked, Asked.if_table, Asked.limits_of, Asked.plan_asked, Asked.question_of, Asked.root_asked, Asked.start_asked, Bases.Based}
-use Rattle.fbcheck_calls.specs.{Steps.AreSteps, Steps.EndAt, Steps.DontFit, Steps.step_of, Steps.steps_in, Values.IsValueOf, Values.placed, Values.value_at, Values.value_told}
+use Rattle.fbcheck_calls.specs.{Answered.IsGoodFrom, Asked.AreKnown, Asked.ident_asked, Asked.if_table, Asked.limits_of, Asked.plan_asked, Asked.question_of, Asked.root_asked, Asked.start_asked}
+use Rattle.fbcheck_calls.specs.{Steps.AreSteps, Steps.EndAt, Steps.step_of, Steps.steps_in, Values.placed, Values.value_at, Values.value_told}
 use Rattle.fbcheck_calls.specs.declared.answer.Answer.TheVariants.{Changed as BytesChanged}
 use Rattle.fbcheck_calls.proofs.{SpanLemmas.one_more, StepLemmas.FitHere}
 

@@ -1,5 +1,5 @@
 -- What is answered where values are read in bytes that aren't checked: those of a buffer that was good before.
-use Rattle.std.specs.Prelude.{◌≡◌, ℕ, ◌+◌, ◌<◌, ◌≤◌, ◌^◌, List, length, slice_index_or, Option, Some, None, IfSome, IsSomeAnd}
+use Rattle.std.specs.Prelude.{◌≡◌, ℕ, ◌+◌, ◌<◌, ◌≤◌, ◌^◌, List, length, slice_index_or, Option, Some, None, IsSomeAnd}
 use Rattle.fb_bfbs.specs.declared.loading.Loaded.{Loaded}
 use Rattle.fb_rules.specs.declared.fault.Report.{Report}
 use Rattle.fb_rules.specs.declared.start.Start.{Start}
@@ -9,7 +9,7 @@ use Rattle.fbcheck_calls.specs.declared.{answer.Answer.Answer, held.Held.Held, h
 use Rattle.fbcheck_calls.specs.declared.{options.Options.Options, steps.PlainPath.PlainPath, values.Value.Value}
 use Rattle.fbcheck_calls.specs.declared.answer.Answer.TheVariants.{Done, Good, UnknownOptions, NoRoot, TooLong, Misfit, Changed}
 use Rattle.fbcheck_calls.specs.{Answered.IsChecked, Asked.AreKnown, Asked.root_asked, Asked.start_asked, Bases.Based}
-use Rattle.fbcheck_calls.specs.{Steps.AllFit, Steps.IsFirstMisfit, Values.AreValues, Values.IsValueOf}
+use Rattle.fbcheck_calls.specs.{Steps.AllFit, Steps.IsFirstMisfit, Values.IsValueOf}
 
 -- where the bytes of a value are told, they lie within so many
 abbrev pub LiesWithin : ℕ → Value → Type 0

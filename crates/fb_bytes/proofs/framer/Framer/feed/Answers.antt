@@ -1,5 +1,5 @@
 use Rattle.std.proofs.Common.{rules, ◌≡◌, ℕ, List, min, ◌+◌, ◌-◌, ◌<◌, ◌≤◌, true, Err, ◌++◌, length, take, drop, sym, ap, ap₂, ◌∙◌, refl, arith, true≢false, length-append, length-drop, length-take}
-use Rattle.fb_bytes.specs.declared.cut.{Cut.Cut, Endian.Endian}
+use Rattle.fb_bytes.specs.declared.cut.{Cut.Cut}
 use Rattle.fb_bytes.specs.declared.stream_fault.StreamFault.TheVariants.{Oversize}
 use Rattle.fb_bytes.specs.{Messages.declared, Messages.IsMessage, Framing.Framing, Framing.held_bytes}
 use Rattle.fb_bytes.proofs.MessageLemmas.{declared_front}
