@@ -34,7 +34,7 @@ module _ (folder : Folder) where
   -- the words give no settings, and no file was begun
   pub comes_unserved : (given : List Text) (reader : Reader) (writer writer' notes : Writer) (cause : Option ErrorKind) (fault : SettingsFault) (outcome : Result Ending Stop)
       → Refuses given fault → Unserved fault writer writer' outcome
-      → ComesBy folder given (with_cause (beside reader (record { writer = writer; notes = notes })) cause) (with_cause (beside reader (record { writer = writer'; notes = notes })) cause) None outcome
+      → ComesBy folder given (with_cause (beside reader (record { writer = writer; notes = notes; rejects = nowhere })) cause) (with_cause (beside reader (record { writer = writer'; notes = notes; rejects = nowhere })) cause) None outcome
   comes_unserved given reader writer writer' notes cause fault (Ok Helped) refuses unserved = ((fault, refuses, Keeps-refl reader.left, unserved, Keeps-refl notes.bytes), refl)
   comes_unserved given reader writer writer' notes cause fault (Err (stop.Usage text)) refuses unserved = ((fault, refuses, Keeps-refl reader.left, unserved, Keeps-refl notes.bytes), refl)
   comes_unserved given reader writer writer' notes cause fault (Err (stop.Settings why)) refuses unserved = ((fault, refuses, Keeps-refl reader.left, unserved, Keeps-refl notes.bytes), refl)
@@ -172,16 +172,16 @@ pub wordless : {A B : Type 0} (folder : Folder) (given : Result (Vec (String A) 
     → given ≡ Err fault → cause ≡ hinted_stop (stop.Words fault) hint
     → ComesTo folder (words_of given) seen seen None (Err cause) × Rests seen.ends seen.ends None (Err cause)
 wordless folder given seen fault (Ok hint) cause is so =
-    rw (is, so) ((refl, idle seen.ends, refl), early seen.ends seen.ends _ (refl, refl, refl) refl)
-wordless folder given seen fault (Err none) cause is so = rw (is, so) ((idle seen.ends, refl), early seen.ends seen.ends _ (refl, refl, refl) refl)
+    rw (is, so) ((refl, idle seen.ends, refl), early seen.ends seen.ends _ (refl, refl, refl, refl) refl)
+wordless folder given seen fault (Err none) cause is so = rw (is, so) ((idle seen.ends, refl), early seen.ends seen.ends _ (refl, refl, refl, refl) refl)
 
 pub fileless : (folder : Folder) (given : List Text) (seen : Seen) (fault : FileFault) (hint : Result (List ℕ) AllocError) (name : Option Text) (cause : Stop)
     → fault_of program given ≡ [] → name ≡ text_of (codes "schema") given → cause ≡ hinted_stop (stop.File fault) hint → HasFileFault folder.gives name fault
     → ComesBy folder given seen seen None (Err cause) × Rests seen.ends seen.ends None (Err cause)
 fileless folder given seen fault (Ok hint) name cause read is so has =
-    rw so ((read, subst (λ (t : Option Text). HasFileFault folder.gives t fault) is has, idle seen.ends, refl), early seen.ends seen.ends _ (refl, refl, refl) refl)
+    rw so ((read, subst (λ (t : Option Text). HasFileFault folder.gives t fault) is has, idle seen.ends, refl), early seen.ends seen.ends _ (refl, refl, refl, refl) refl)
 fileless folder given seen fault (Err none) name cause read is so has =
-    rw so (((refusal.OutOfMemory, tt, Keeps-refl seen.ends.reader.left, Keeps-refl seen.ends.outs.writer.bytes, Keeps-refl seen.ends.outs.notes.bytes), refl), early seen.ends seen.ends _ (refl, refl, refl) refl)
+    rw so (((refusal.OutOfMemory, tt, Keeps-refl seen.ends.reader.left, Keeps-refl seen.ends.outs.writer.bytes, Keeps-refl seen.ends.outs.notes.bytes), refl), early seen.ends seen.ends _ (refl, refl, refl, refl) refl)
 
 -- the numbers to be told have a place for each kind of fault
 summed_places : (told : Sums) (asked : Bool) → length told.tally.reasons ≡ reason_count → IfSome (if asked then Some told else None) (λ (sums : Sums). length sums.tally.reasons ≡ reason_count)
@@ -200,7 +200,7 @@ module _ (settings : Settings) (before after : Ends) (turns : after.reader.calls
   rests_by tally outcome are ends = record { places = summed_places _ settings.summary are; ends = ends; turns = turns }
 
   unasked_rests : (unasked : Unasked) → after ≡ before → Rests before after None (Err (stop.Ask unasked))
-  unasked_rests unasked same = record { places = tt; ends = rw same (refl, refl, refl); turns = turns }
+  unasked_rests unasked same = record { places = tt; ends = rw same (refl, refl, refl, refl); turns = turns }
 
   run_rests_so : (manner : Manner) (tally : Tally) (end : End) → length tally.reasons ≡ reason_count → EndsBeside before after 4294967296 end
       → Rests before after (summed settings tally) (run_ending manner tally end)

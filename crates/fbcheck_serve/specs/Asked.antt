@@ -88,6 +88,11 @@ prefix_of true turned = Apart Little
 prefix_of false true = Apart Big
 prefix_of false false = Part
 
+-- whether bad buffers are kept, by whether a file for them is named
+abbrev pub rejects_of : {A : Type 0} → Option A → Rejects
+rejects_of None = Dropped
+rejects_of (Some name) = Kept
+
 -- what the settings ask of each buffer, from this root, with these paths, this identifier and this plan
 abbrev pub options_of : Settings → ℕ → Vec Wanted Global → Ident → Option Planned → Options
 options_of settings root paths ident plan = record {
@@ -103,6 +108,7 @@ options_of settings root paths ident plan = record {
   bare = settings.bare;
   prefix = prefix_of settings.delimited settings.delimited_be;
   checks = settings.checks;
+  rejects = rejects_of settings.rejects;
   mode = mode_of settings.csv settings.filter settings.quiet;
   names = places_of settings.names settings.form;
   label = None;
