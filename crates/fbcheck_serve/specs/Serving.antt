@@ -5,18 +5,18 @@ use Rattle.fb_rules.specs.Reasons.{reason_count}
 use Rattle.std.specs.{Borrow.Bor, Io.KnownBytes.Appends, Io.KnownBytes.Keeps, declared.alloc.AllocError.AllocError, declared.io.ErrorKind.ErrorKind}
 use Rattle.clap.specs.{Walk.Text, Faults.fault_of}
 use Rattle.fbcheck_serve.specs.Asked.{form_of}
-use Rattle.fbcheck_serve.specs.Checking.{IsIdle, IsPromptOverAsked, LacksJob, MayReadAsked, RunsAsAsked, ServesAsAsked}
+use Rattle.fbcheck_serve.specs.Checking.{IsIdle, IsPromptOverAsked, LacksJob, MayReadAsked}
 use Rattle.fbcheck_texts.specs.{Causes.is_unread, FaultJson.IsLineIn, FaultJson.fault_object, FaultJson.hint_object, Hints.IsHint, Hints.IsRunHint, Faults.HasFileFault, Faults.IsFile, Faults.ask_status}
 use Rattle.fbcheck_texts.specs.Texts.{ask_text, file_text, list_text, run_text, stopped_text, unkept_text, unmade_text, unsummed_text, words_text}
 use Rattle.fbcheck_texts.specs.declared.{framing.By.By, framing.Manner.Manner, hint.Unasked.Unasked}
 use Rattle.fbcheck_serve.specs.{Lists.AreNamed, Lists.LacksList, Names.Named}
 use Rattle.fbcheck_serve.specs.Inputs.{Folder, IsNoted, Seen, renoted}
 use Rattle.fbcheck_words.specs.{CommandLine.program, Refusal.Refuses, Refusal.refusal_status, Refusal.refusal_text, Given.AreGiven, Values.text_of}
-use Rattle.fbcheck_serve.specs.Keeping.{Keeping, Maker, seen_with}
+use Rattle.fbcheck_serve.specs.Keeping.{Maker, RunsKeeping, ServesKeeping}
 use Rattle.fbcheck_serve.specs.declared.check.Kept as check
 use Rattle.fbcheck_serve.specs.declared.check.Unbegun.{Unbegun}
 use Rattle.fbcheck_serve.specs.declared.check.Unbegun.TheVariants as unbegun
-use Rattle.fb_lines.specs.{Ends.Ends, Ends.Writer, Ends.with_notes, Ends.with_rejects, Lines.WritesFront, JsonSums.summary_in}
+use Rattle.fb_lines.specs.{Ends.Ends, Ends.Writer, Ends.with_notes, Lines.WritesFront, JsonSums.summary_in}
 use Rattle.fb_lines.specs.Faults.{End, EndsBeside, IsUnfailed, failures_of, status_of}
 use Rattle.fbcheck_words.specs.declared.{choices.Settings.Settings, choices.SettingsFault.SettingsFault}
 use Rattle.fbcheck_words.specs.declared.choices.SettingsFault.TheVariants as refusal
@@ -62,14 +62,12 @@ IsAlone settings = (option_map string_bytes settings.names_file ≡ None) × (ma
 -- numbers are to be told
 abbrev pub ChecksAsAsked : Maker → Option (Bor (List ℕ)) → Settings → Ends → Ends → Option Sums → Tally → End → Type 0
 ChecksAsAsked maker file settings before after sums tally end =
-    IsAlone settings × Keeping maker settings (λ rejects rejects'. RunsAsAsked file settings (with_rejects before rejects) (with_rejects after rejects') tally end)
-    × (sums ≡ summed settings tally)
+    IsAlone settings × RunsKeeping maker file settings before after tally end × (sums ≡ summed settings tally)
 
 -- files were gone through as the settings ask, they came to this, and these numbers are to be told
 abbrev pub PassesAsAsked : Maker → Folder → Option (Bor (List ℕ)) → Settings → Seen → Seen → Option Sums → Course → End → Type 0
 PassesAsAsked maker folder file settings before after sums course end =
-    (names : List Named) × AreNamed folder.gives settings (Some names)
-    × Keeping maker settings (λ rejects rejects'. ServesAsAsked folder file settings names (seen_with before rejects) (seen_with after rejects') course end)
+    (names : List Named) × AreNamed folder.gives settings (Some names) × ServesKeeping maker folder file settings names before after course end
     × (sums ≡ summed settings course.tally)
 
 -- the list of names can't be read, or there was no memory for names

@@ -3,12 +3,11 @@
 ghost use Rattle.std.specs.Prelude.{Err, IfErr, IfOk, OnErr, [], length, ◌≡◌, ◌⊎◌, ◌+◌, ◌<◌, ◌≤◌, ◌^◌};
 ghost use Rattle.fb_rules.specs.Reasons.{reason_count};
 ghost use Rattle.fbcheck_words.specs.Ranges.{AreInRange};
-ghost use Rattle.fbcheck_serve.specs.Checking.{EndsChecked, IsChecked, IsCheckedBeside, IsPromptAmongAsked, IsPromptAsAsked, IsUnasked, MayReadNamed};
-ghost use Rattle.fbcheck_serve.specs.Heads.{IsHeaded, RunsBehindHead, ServesBehindHead, head_of};
+ghost use Rattle.fbcheck_serve.specs.Checking.{EndsChecked, IsChecked, IsCheckedBeside, IsPromptAmongAsked, IsPromptAmongHeaded, IsPromptAsAsked, IsPromptHeaded, IsUnasked, MayReadHeaded, MayReadNamed};
+ghost use Rattle.fbcheck_serve.specs.Heads.{RunsBehindHead, ServesBehindHead, head_of};
 ghost use Rattle.fbcheck_serve.specs.Keeping.{IsCheckedKeeping, IsServedKeeping, maker_of};
-ghost use Rattle.fbcheck_serve.specs.Inputs.{IsPromptAmong, MayReadEach, all_seen, folder_of, seen_of};
-ghost use Rattle.fb_lines.specs.{Ends.Ends, Job.Serves, Job.job_of};
-ghost use Rattle.fb_run.specs.Prompt.{IsPrompt};
+ghost use Rattle.fbcheck_serve.specs.Inputs.{all_seen, folder_of, seen_of};
+ghost use Rattle.fb_lines.specs.{Job.Serves, Job.job_of};
 ghost use Rattle.fb_lines.specs.Faults.{EndsBeside};
 ghost use Rattle.fb_lines.specs.declared.fault.RunFault.TheVariants.{TooManyTurns};
 ghost use Rattle.fbcheck_serve.specs.declared.check.Unbegun.TheVariants.{Ask};
@@ -94,8 +93,7 @@ fn run_asked<S: Input<K, N>, K: Sink, N: Sink, R: Sink>(
     requires serves { Serves asked.now.schema asked.now.options }
     requires few { S.calls reader.old < 2 ^ 64 }
     requires head { head.now ≡ head_of (job_of asked.now.schema asked.now.options) [] }
-    requires leave { (headed : Ends) → IsHeaded (job_of asked.now.schema asked.now.options) [] (all_ends S.Input K.Sink N.Sink R.Sink reader.old writer.old notes.old rejects.old) headed
-        → HasLeave S.Input headed (IsPrompt (job_of asked.now.schema asked.now.options)) }
+    requires leave { HasLeave S.Input (all_ends S.Input K.Sink N.Sink R.Sink reader.old writer.old notes.old rejects.old) (IsPromptHeaded (job_of asked.now.schema asked.now.options)) }
 
     ensures run { RunsBehindHead (job_of asked.now.schema asked.now.options) (all_ends S.Input K.Sink N.Sink R.Sink reader.old writer.old notes.old rejects.old)
         (all_ends S.Input K.Sink N.Sink R.Sink reader.new writer.new notes.new rejects.new) result.tally result.end }
@@ -263,10 +261,10 @@ fn pass_asked<F: Files<K, N>, S: Input<K, N> + Explains, K: Sink, N: Sink, R: Si
     requires serves { Serves asked.old.schema asked.old.options }
     requires few { S.calls reader.old < 2 ^ 64 }
     requires head { head.now ≡ head_of (job_of asked.old.schema asked.old.options) names.now }
-    requires leave { (headed : Ends) → IsHeaded (job_of asked.old.schema asked.old.options) names.now (all_ends S.Input K.Sink N.Sink R.Sink reader.old writer.old notes.old rejects.old) headed
-        → HasLeave S.Input headed (IsPromptAmong (folder_of F.Files F.Opened.Input F.Opened.Explains files.now) (job_of asked.old.schema asked.old.options) names.now) }
-    requires files { (headed : Ends) → IsHeaded (job_of asked.old.schema asked.old.options) names.now (all_ends S.Input K.Sink N.Sink R.Sink reader.old writer.old notes.old rejects.old) headed
-        → MayReadEach (folder_of F.Files F.Opened.Input F.Opened.Explains files.now) (job_of asked.old.schema asked.old.options) names.now headed }
+    requires leave { HasLeave S.Input (all_ends S.Input K.Sink N.Sink R.Sink reader.old writer.old notes.old rejects.old)
+        (IsPromptAmongHeaded (folder_of F.Files F.Opened.Input F.Opened.Explains files.now) (job_of asked.old.schema asked.old.options) names.now) }
+    requires files { MayReadHeaded (folder_of F.Files F.Opened.Input F.Opened.Explains files.now) (job_of asked.old.schema asked.old.options) names.now
+        (all_ends S.Input K.Sink N.Sink R.Sink reader.old writer.old notes.old rejects.old) }
 
     ensures served { ServesBehindHead (folder_of F.Files F.Opened.Input F.Opened.Explains files.now) (job_of asked.old.schema asked.old.options) names.now
         (all_seen S.Input S.Explains K.Sink N.Sink R.Sink reader.old writer.old notes.old rejects.old) (all_seen S.Input S.Explains K.Sink N.Sink R.Sink reader.new writer.new notes.new rejects.new) result.course result.end }

@@ -56,13 +56,11 @@ returns-in_err-end-in-Ok-eq0-clause-reads g c =
     let read = c.in-Ok-eq0.ensures in
     let none : c.in-Ok-eq0.field-0 ≡ 0 = search rules in
     let early = c.in_err-end-in-Ok-eq0.ensures.early in
-    let outs = outs_of g.K.Sink g.N.Sink c.args.writer.now c.args.notes.now in
     rw (err_is _ _ c.from_residual.ensures.1, early.1)
-    (short_fails c.loop-left.invariant.gathered outs (reader_of g.S.Input c.pull_piece.new.source) (rw none at read.ok) (omega (arith, read.failure)) (read.end none) early.0)
+    (short_fails c.loop-left.invariant.gathered (reader_of g.S.Input c.pull_piece.new.source) (rw none at read.ok) (omega (arith, read.failure)) (read.end none) early.0)
 
 pub returns-in-Ok-eq0-clause-reads : goal.returns-in-Ok-eq0-clause-reads
 returns-in-Ok-eq0-clause-reads g c =
     let read = c.in-Ok-eq0.ensures in
     let none : c.in-Ok-eq0.field-0 ≡ 0 = search rules in
-    let outs = outs_of g.K.Sink g.N.Sink c.args.writer.now c.args.notes.now in
-    whole_read c.loop-left.invariant.gathered outs (reader_of g.S.Input c.pull_piece.new.source) (rw none at read.ok) (omega (arith, read.failure)) (read.end none) c.in_ok-end-in-Ok-eq0.ensures.ok
+    whole_read c.loop-left.invariant.gathered (reader_of g.S.Input c.pull_piece.new.source) (rw none at read.ok) (omega (arith, read.failure)) (read.end none) c.in_ok-end-in-Ok-eq0.ensures.ok
