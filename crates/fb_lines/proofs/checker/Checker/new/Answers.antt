@@ -1,5 +1,5 @@
 use Rattle.std.proofs.Common.{ap}
-use Rattle.fb_bytes.specs.declared.{cut.Cut.Cut, cut.Endian.Endian}
+use Rattle.fb_bytes.specs.declared.{cut.Endian.Endian}
 use Rattle.fb_lines.proofs.checker.Checker.new.Goals as goal
 
 pub invariant_of-result : goal.invariant_of-result

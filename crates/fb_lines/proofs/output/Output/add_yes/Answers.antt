@@ -1,5 +1,5 @@
 use Rattle.std.proofs.Common.{Ok, ◌≡◌, List, ℕ, ◌+◌, ap, append-nil, refl, rules, sym, ◌∙◌}
-use Rattle.fb_lines.specs.{Ends.writer_of, Job.brief_verdict, Line.verdict_line, Puts.Says, Puts.behind, Puts.queue_of, Puts.queues_of, Sums.count_of}
+use Rattle.fb_lines.specs.{Ends.writer_of, Job.brief_verdict, Line.verdict_line, Puts.Says, Puts.behind, Puts.held_of, Puts.queue_of, Puts.queues_of, Sums.count_of}
 use Rattle.fb_lines.specs.declared.{output.Output.Output, writing.Pending.Pending}
 use Rattle.fb_lines.proofs.ToldLemmas.{good_line_said, message_said, none_said, says_waits, waits_told}
 use Rattle.fb_lines.proofs.output.Output.add_yes.Goals.{in-Lines, in-BadLines, in-Filter}
@@ -28,8 +28,8 @@ returns-clause-told g c keeps =
     ] in
     let noted = ap (λ (p : Pending g.row.A.Denot). behind now.notes.bytes.items p.written (writer_of g.N.Sink c.args.notes.now)) same in
     let kept = ap (λ (p : Pending g.row.A.Denot). behind now.rejects.bytes.items p.written (writer_of g.R.Sink c.args.rejects.now)) alike in
-    let held = record { notes = now.notes.bytes.items; rejects = now.rejects.bytes.items } in
-    let waits = says_waits c.args.mode IsIt c.args.message.now verdict keeps _ _ (record { notes = old.notes.bytes.items; rejects = old.rejects.bytes.items }) held says
+    let held = held_of now in
+    let waits = says_waits c.args.mode IsIt c.args.message.now verdict keeps _ _ (held_of old) held says
         (ap (λ (p : Pending g.row.A.Denot). p.bytes.items) alike ∙ sym (append-nil old.rejects.bytes.items)) in
     waits_told c.args.mode IsIt c.args.message.now verdict keeps (queues_of g.K.Sink g.N.Sink g.R.Sink old c.args.writer.now c.args.notes.now c.args.rejects.now)
     (queues_of g.K.Sink g.N.Sink g.R.Sink now c.match-mode.writer c.args.notes.now c.args.rejects.now)
