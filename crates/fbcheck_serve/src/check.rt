@@ -171,18 +171,22 @@ pub fn check_keeping<F: Makes, S: Input<K, N>, K: Sink, N: Sink>(
     let asked = asked_of(alloc, schema_bytes, settings)?;
     let head = head_of(alloc, &asked.options, &[])?;
     let head = head.as_slice();
-    let Some(name) = &settings.rejects else {
-        let mut rejects = Nowhere::new();
-        let what = run_asked(alloc, &asked, head, reader, writer, notes, &mut rejects);
-        return Ok(Kept { what, cause: None });
-    };
-    let mut rejects = match files.make(name.as_str()) {
-        Ok(file) => file,
-        Err(cause) => return Err(Unbegun::Unmade(cause)),
-    };
-    let what = run_asked(alloc, &asked, head, reader, writer, notes, &mut rejects);
-    let cause = rejects.cause();
-    Ok(Kept { what, cause })
+    match &settings.rejects {
+        None => {
+            let mut rejects = Nowhere::new();
+            let what = run_asked(alloc, &asked, head, reader, writer, notes, &mut rejects);
+            Ok(Kept { what, cause: None })
+        }
+        Some(name) => {
+            let mut rejects = match files.make(name.as_str()) {
+                Ok(file) => file,
+                Err(cause) => return Err(Unbegun::Unmade(cause)),
+            };
+            let what = run_asked(alloc, &asked, head, reader, writer, notes, &mut rejects);
+            let cause = rejects.cause();
+            Ok(Kept { what, cause })
+        }
+    }
 }
 
 /// The same of the files of these names, one behind another, as [`pass_files`] says.
@@ -212,38 +216,42 @@ pub fn check_files<F: Files<K, N> + Makes, S: Input<K, N> + Explains, K: Sink, N
     let mut asked = asked_of(alloc, schema_bytes, settings)?;
     let head = head_of(alloc, &asked.options, names)?;
     let head = head.as_slice();
-    let Some(name) = &settings.rejects else {
-        let mut rejects = Nowhere::new();
-        let what = pass_asked(
-            alloc,
-            files,
-            names,
-            &mut asked,
-            head,
-            reader,
-            writer,
-            notes,
-            &mut rejects,
-        );
-        return Ok(Kept { what, cause: None });
-    };
-    let mut rejects = match files.make(name.as_str()) {
-        Ok(file) => file,
-        Err(cause) => return Err(Unbegun::Unmade(cause)),
-    };
-    let what = pass_asked(
-        alloc,
-        files,
-        names,
-        &mut asked,
-        head,
-        reader,
-        writer,
-        notes,
-        &mut rejects,
-    );
-    let cause = rejects.cause();
-    Ok(Kept { what, cause })
+    match &settings.rejects {
+        None => {
+            let mut rejects = Nowhere::new();
+            let what = pass_asked(
+                alloc,
+                files,
+                names,
+                &mut asked,
+                head,
+                reader,
+                writer,
+                notes,
+                &mut rejects,
+            );
+            Ok(Kept { what, cause: None })
+        }
+        Some(name) => {
+            let mut rejects = match files.make(name.as_str()) {
+                Ok(file) => file,
+                Err(cause) => return Err(Unbegun::Unmade(cause)),
+            };
+            let what = pass_asked(
+                alloc,
+                files,
+                names,
+                &mut asked,
+                head,
+                reader,
+                writer,
+                notes,
+                &mut rejects,
+            );
+            let cause = rejects.cause();
+            Ok(Kept { what, cause })
+        }
+    }
 }
 
 /// Goes through files by what is asked, behind this head.

@@ -1,4 +1,4 @@
-use Rattle.std.proofs.Common.{rules, ◌+◌, arith, refl, take}
+use Rattle.std.proofs.Common.{rules, ◌+◌, arith, refl}
 use Rattle.fb_run.proofs.FrontLemmas.{front_is_message, front_is_none}
 use Rattle.fb_run.proofs.front.front_message.Goals as goal
 use Rattle.fb_run.proofs.front.front_message.Goals.{then-len-from-via-then-len-from, then-len-from-via-else-len-from+then-len-bytes}
