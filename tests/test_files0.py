@@ -9,8 +9,11 @@ import subprocess
 from tests.support import schemas
 from tests.support.buffers import NOTHING, ODD, SEVEN
 from tests.support.cases import Case
-from tests.support.program import FOLDER, PROGRAM, SECONDS, Ran, file_of, good, lines, refused, run, run_in_shell
+from tests.support.program import (
+    PROGRAM, SECONDS, Ran, file_of, folder_of, good, lines, refused, run, run_in_shell,
+)
 
+FOLDER = folder_of(__name__)
 FILES = schemas.files()
 BY_N = ("--schema", FILES["N"])
 GOOD, BAD, CUT = file_of("g.bin", SEVEN), file_of("b.bin", NOTHING), file_of("c.bin", SEVEN + SEVEN[:-1])

@@ -1,7 +1,7 @@
 use Rattle.std.proofs.Common.{IfErr, List, Option, Result, ap, ℕ, rules, subst, sym, ◌∙◌}
 use Rattle.fbcheck_serve.specs.declared.asked.Asked.{Asked}
 use Rattle.fbcheck_texts.specs.declared.{fault.AskFault.TheVariants.NoRoot, hint.Unasked.Unasked}
-use Rattle.fbcheck_serve.specs.{Asked.IsFound, Asked.LacksIdent, Asked.options_of, Inputs.with_label, Checking.LacksJob, Checking.own_of}
+use Rattle.fbcheck_serve.specs.{Asked.IsFound, Asked.LacksIdent, Asked.options_of, Inputs.label_of, Inputs.with_label, Checking.LacksJob, Checking.own_of}
 use Rattle.fb_lines.specs.Job.{Serves, job_of}
 use Rattle.fb_run.proofs.RunLemmas.{err_exit}
 use Rattle.fbcheck_serve.proofs.AskedLemmas.{hinted, path_untold, planless_untold, planned}
@@ -26,7 +26,7 @@ returns-clause-job c =
         plan = c.in_ok-plan.plan;
         plan_is = c.in_ok-plan.ensures.plan;
         job_is = ap (job_of loaded.schema) c.options-options.ensures ∙ ap (λ (label : Option (List ℕ)). with_label label (job_of loaded.schema (options_of c.args.settings.now c.in-Some.root c.in_ok-paths.paths
-            c.in-Some-find_ident.ident c.in_ok-plan.plan))) c.in-Ok-label.ensures;
+            c.in-Some-find_ident.ident c.in_ok-plan.plan))) (c.in-Ok-label.ensures ∙ ap (λ (name : List ℕ). label_of c.args.settings.now.with_filename name) c.as_bytes.ensures.value);
       },
       c.in_ok-plan.ensures.may,
     )

@@ -8,7 +8,7 @@ use Rattle.fbcheck_serve.proofs.inputs.run_file.Goals as goal
 pub returns-in-Ok-open-clause-comes : goal.returns-in-Ok-open-clause-comes
 returns-in-Ok-open-clause-comes g c =
     let folder = folder_of g.F.Files g.F.Opened.Input g.F.Opened.Explains c.args.files.now in
-    comes_opened (folder_of g.F.Files g.F.Opened.Input g.F.Opened.Explains c.args.files.now) (job_of c.args.schema.now c.args.options.now) c.args.name.now c.args.standard (all_seen g.S.Input g.S.Explains g.K.Sink g.N.Sink g.R.Sink c.args.reader.now c.args.writer.now c.args.notes.now c.args.rejects.now)
+    comes_opened folder (job_of c.args.schema.now c.args.options.now) c.args.name.now c.args.standard (all_seen g.S.Input g.S.Explains g.K.Sink g.N.Sink g.R.Sink c.args.reader.now c.args.writer.now c.args.notes.now c.args.rejects.now)
     (all_seen g.S.Input g.S.Explains g.K.Sink g.N.Sink g.R.Sink c.args.reader.now c.run_keeping-ran-in-Ok-open.new.writer c.run_keeping-ran-in-Ok-open.new.notes c.run_keeping-ran-in-Ok-open.new.rejects)
     c.by-in-Ok-open.result.what c.by-in-Ok-open.result.cause c.run_keeping-ran-in-Ok-open.result c.by-in-Ok-open.ensures.what (sym c.is_standard.ensures ∙ c.if-is_standard.false) (record {
       from = c.in-Ok-open.file;
@@ -30,8 +30,8 @@ run_keeping-ran-requires-in-Ok-open-clause-leave g c now prompt unended =
     c.requires.files (sym c.is_standard.ensures ∙ c.if-is_standard.false) c.in-Ok-open.file now
     (subst (λ (n : List ℕ). g.F.Files.opens c.args.files.now n c.in-Ok-open.file) c.in-Ok.ensures.text.0 c.in-Ok-open.ensures.opened) prompt unended
 
-pub returns-clause-comes : goal.returns-clause-comes
-returns-clause-comes g c =
+pub returns-in-Err-open-clause-comes : goal.returns-in-Err-open-clause-comes
+returns-in-Err-open-clause-comes g c =
     comes_missed (folder_of g.F.Files g.F.Opened.Input g.F.Opened.Explains c.args.files.now) (job_of c.args.schema.now c.args.options.now) c.args.name.now c.args.standard (all_seen g.S.Input g.S.Explains g.K.Sink g.N.Sink g.R.Sink c.args.reader.now c.args.writer.now c.args.notes.now c.args.rejects.now)
     c.missed-in-Err-open.result.what c.missed-in-Err-open.result.cause (missed.File c.in-Err-open.fault) c.missed-in-Err-open.ensures (
       sym c.is_standard.ensures ∙ c.if-is_standard.false,
@@ -57,8 +57,8 @@ returns-in-Ok-open-clause-calls g c =
     let ran = c.run_keeping-ran-in-Ok-open.ensures in
     (no_more _ _, rw c.by-in-Ok-open.ensures.what ran.places, λ isnt. refl, λ was. refl)
 
-pub returns-clause-calls : goal.returns-clause-calls
-returns-clause-calls g c = (no_more _ _, rw c.missed-in-Err-open.ensures tt, λ isnt. refl, λ was. refl)
+pub returns-in-Err-open-clause-calls : goal.returns-in-Err-open-clause-calls
+returns-in-Err-open-clause-calls g c = (no_more _ _, rw c.missed-in-Err-open.ensures tt, λ isnt. refl, λ was. refl)
 
 pub returns-in-Spent-clause-calls : goal.returns-in-Spent-clause-calls
 returns-in-Spent-clause-calls g c = (no_more _ _, rw c.missed.ensures tt, λ isnt. refl, λ was. refl)
