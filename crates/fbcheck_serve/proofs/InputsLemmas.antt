@@ -3,7 +3,7 @@ use Rattle.std.proofs.Common.{◌≡◌, ◌∙◌, ℕ, zero, suc, ◌+◌, ◌
 use Rattle.std.proofs.Math.ListN.{set}
 use Rattle.std.proofs.lemmas.List.{append-nil}
 use Rattle.std.specs.Global.{Global}
-use Rattle.std.specs.Prelude.{String, Vec, map, option_map, string_bytes, vec_items}
+use Rattle.std.specs.Prelude.{Vec, option_map, vec_items}
 use Rattle.fb_schema.specs.Rows.{Rows}
 use mathlib.Core.Logic.{inl}
 use Rattle.fb_lines.specs.{Faults.End, Job.Job, Job.job_of}

@@ -1,11 +1,11 @@
 -- Names that are words, and names in a list.
-use Rattle.std.proofs.Common.{◌≡◌, ◌∙◌, ◌≢◌, ℕ, suc, ◌+◌, ◌<◌, ◌≤◌, Bool, true, false, List, [], ◌∷◌, ◌++◌, length, take, drop, drop-cons, drop_of_length-le, get_or, add-one, append_assoc, append-nil, arith, refl, sym, ap, subst}
+use Rattle.std.proofs.Common.{◌≡◌, ◌∙◌, ◌≢◌, ℕ, suc, ◌+◌, ◌<◌, false, List, [], ◌∷◌, ◌++◌, length, drop, drop-cons, get_or, add-one, append_assoc, append-nil, refl, sym, ap}
 use Rattle.std.proofs.lemmas.{Bool.false_from_ne_true, Bool.ne_eqb, Str.IsUtf8-from_is_utf8, Str.is_utf8-from_IsUtf8}
-use Rattle.std.specs.Prelude.{◌==◌, if◌then◌else◌, map, None, Some}
+use Rattle.std.specs.Prelude.{◌==◌, None, Some}
 use Rattle.std.specs.Str.{IsUtf8, is_utf8}
 use Rattle.fbcheck_serve.specs.declared.names.Misnomer.TheVariants.{NotText}
 use Rattle.fbcheck_serve.specs.CheckLaws.{AreNamesAsWritten, IsUnbroken, spelled}
-use Rattle.fbcheck_serve.specs.Names.{Named, last_name, listed_from, listed_name, listed_names, wrong_text}
+use Rattle.fbcheck_serve.specs.Names.{Named, last_name, listed_from, listed_name, wrong_text}
 
 -- bytes that are a text, and bytes that are none
 pub text_right : (text bytes : List ℕ) → text ≡ bytes → IsUtf8 text → wrong_text bytes ≡ None

@@ -17,8 +17,8 @@ use Rattle.fbcheck_texts.specs.Faults.{IsFile, HasFileFault}
 use Rattle.fbcheck_texts.specs.declared.{fault.FileFault.FileFault, fault.WordsFault.WordsFault, framing.By.By, framing.Manner.Manner}
 use Rattle.fbcheck_serve.specs.Lists.{AreNamed, HasListFault, IsList, named_by}
 use Rattle.fbcheck_serve.specs.Names.{Named, listed_names, word_names}
-use Rattle.fbcheck_serve.specs.Inputs.{Folder, IsPromptAmong, IsPromptOver, Seen, with_cause}
-use Rattle.fb_lines.specs.{Job.Job, Faults.End, Faults.EndsBeside, JsonSums.summary_in}
+use Rattle.fbcheck_serve.specs.Inputs.{Folder, Seen, with_cause}
+use Rattle.fb_lines.specs.{Faults.End, Faults.EndsBeside, JsonSums.summary_in}
 use Rattle.fb_lines.specs.Ends.{Ends, Reader, Writer, beside, nowhere, with_rejects}
 use Rattle.fb_bytes.specs.declared.stream_fault.StreamFault.TheVariants as stream
 use Rattle.fb_lines.specs.declared.fault.RunFault.TheVariants as run
@@ -52,12 +52,12 @@ module _ (folder : Folder) where
   -- all that was read is told, where no file is named, and among files
   pub prompt_alone : (file : Option (Bor (List ℕ))) (settings : Settings) (before now : Ends) → IsAlone settings → IsPromptAsAsked file settings before now
       → IsPromptOverAsked folder file settings before now
-  prompt_alone file settings before now (unlisted, none) (job, asks, rejects, rejects', headed, head, prompt) =
+  prompt_alone file settings before now (unlisted, none) (job, asks, rejects, rejects', (headed, head, prompt)) =
       (None, job, rw (unlisted, none) refl, asks, rejects, rejects', headed, head, prompt)
 
   pub prompt_among : (file : Option (Bor (List ℕ))) (settings : Settings) (names : List Named) (before now : Ends) → AreNamed folder.gives settings (Some names)
       → IsPromptAmongAsked folder file settings names before now → IsPromptOverAsked folder file settings before now
-  prompt_among file settings names before now are (job, asks, rejects, rejects', headed, head, among) = (Some names, job, are, asks, rejects, rejects', headed, head, among)
+  prompt_among file settings names before now are (job, asks, rejects, rejects', (headed, head, among)) = (Some names, job, are, asks, rejects, rejects', headed, head, among)
 
   -- the words could be read
   pub prompt_read : {A B : Type 0} (given : Result (Vec (String A) B) WordsFault) (words : Vec (String A) B) (slice : List (String A)) (before now : Ends)
@@ -234,7 +234,7 @@ module _ (settings : Settings) (before after : Ends) (turns : after.reader.calls
     pub run_rests : (maker : Maker) (file : Option (Bor (List ℕ))) (ran : Result (check.Kept Ran) Unbegun) (sums : Option Sums) (outcome : Result Ending Stop)
         → IsCheckedKeeping maker file settings before after ran → EndsRun settings ran sums outcome
         → IfOk ran (λ kept. length kept.what.tally.reasons ≡ reason_count) → OnErr ran (after ≡ before) → Rests before after sums outcome
-    run_rests maker file (Ok kept) sums outcome (rejects, rejects', are_kept, ran, ends) (told, manner, bound, is) are same =
+    run_rests maker file (Ok kept) sums outcome (rejects, rejects', are_kept, (ran, ends)) (told, manner, bound, is) are same =
         rw (told, is) (run_rests_so manner kept.cause kept.what.tally kept.what.end rejects rejects' are ends)
     run_rests maker file (Err fault) sums outcome checked (told, is) are same = rw (told, is) (unbegun_rests fault same)
 

@@ -17,7 +17,8 @@ use Rattle.fbcheck_words.specs.declared.choices.Settings.{Settings}
 use Rattle.fb_lines.specs.declared.{options.Form.Form, options.Form.TheVariants.Plain, options.Form.TheVariants.Json, options.Mode.Mode}
 use Rattle.fb_lines.specs.declared.options.Mode.TheVariants.{Lines, BadLines, Filter, Csv}
 use Rattle.fb_lines.specs.declared.{options.Places.Places, options.Places.TheVariants.Numbers, options.Places.TheVariants.Words, options.Prefix.Prefix}
-use Rattle.fb_lines.specs.declared.{options.Prefix.TheVariants.Part, options.Prefix.TheVariants.Apart, options.Options.Options}
+use Rattle.fb_lines.specs.declared.{options.Prefix.TheVariants.Part, options.Prefix.TheVariants.Apart, options.Rejects.Rejects, options.Options.Options}
+use Rattle.fb_lines.specs.declared.options.Rejects.TheVariants.{Dropped, Kept}
 use Rattle.fbcheck_texts.specs.declared.fault.AskFault.{AskFault}
 use Rattle.fbcheck_serve.specs.{FileMarks.ArePlanMarks, Inputs.label_of, Inputs.with_label}
 use Rattle.fbcheck_texts.specs.declared.fault.AskFault.TheVariants.{Path, NoRoot, NoIdent, UnmarkedBytes, NoSuchTable, OutOfMemory}

@@ -1,5 +1,5 @@
 -- A run by the schema of a file, or without one by the fixed table of schema files.
-use Rattle.std.specs.Prelude.{◌≡◌, ℕ, IsTrue, false, List, [], Option, Some, None, Result, Ok, Err, length, codes, map, string_bytes}
+use Rattle.std.specs.Prelude.{◌≡◌, ℕ, IsTrue, false, List, [], Option, Some, None, Result, Ok, Err, length, codes, map}
 use Rattle.std.specs.{Borrow.Bor, Io.KnownBytes.Keeps}
 use Rattle.fb_schema.specs.Rows.{Rows}
 use Rattle.fb_bfbs.specs.{Fixed.fixed, Loads.IsLoaded, Loads.IsLoadFault, Loads.schema_number}

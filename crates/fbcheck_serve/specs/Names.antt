@@ -1,5 +1,5 @@
 -- The names of the files that are inputs.
-use Rattle.std.specs.Prelude.{◌≡◌, ℕ, Bool, ◌==◌, if◌then◌else◌, List, [], ◌∷◌, ◌++◌, Option, Some, None, bytes_eq, codes, map}
+use Rattle.std.specs.Prelude.{ℕ, Bool, ◌==◌, if◌then◌else◌, List, [], ◌∷◌, ◌++◌, Option, Some, None, bytes_eq, codes, map}
 use Rattle.std.specs.Str.{is_utf8}
 use Rattle.fbcheck_serve.specs.declared.{names.Misnomer.Misnomer, names.Origin.Origin}
 use Rattle.fbcheck_serve.specs.declared.{names.Misnomer.TheVariants.Empty, names.Misnomer.TheVariants.NotText}

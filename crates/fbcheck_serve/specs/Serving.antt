@@ -8,7 +8,7 @@ use Rattle.fbcheck_serve.specs.Asked.{form_of}
 use Rattle.fbcheck_serve.specs.Checking.{IsIdle, IsPromptOverAsked, LacksJob, MayReadAsked}
 use Rattle.fbcheck_texts.specs.{Causes.is_unread, FaultJson.IsLineIn, FaultJson.fault_object, FaultJson.hint_object, Hints.IsHint, Hints.IsRunHint, Faults.HasFileFault, Faults.IsFile, Faults.ask_status}
 use Rattle.fbcheck_texts.specs.Texts.{ask_text, file_text, list_text, run_text, stopped_text, unkept_text, unmade_text, unsummed_text, words_text}
-use Rattle.fbcheck_texts.specs.declared.{framing.By.By, framing.Manner.Manner, hint.Unasked.Unasked}
+use Rattle.fbcheck_texts.specs.declared.{framing.By.By, framing.Manner.Manner}
 use Rattle.fbcheck_serve.specs.{Lists.AreNamed, Lists.LacksList, Names.Named}
 use Rattle.fbcheck_serve.specs.Inputs.{Folder, IsNoted, Seen, renoted}
 use Rattle.fbcheck_words.specs.{CommandLine.program, Refusal.Refuses, Refusal.refusal_status, Refusal.refusal_text, Given.AreGiven, Values.text_of}

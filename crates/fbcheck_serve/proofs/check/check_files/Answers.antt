@@ -1,4 +1,4 @@
-use Rattle.std.proofs.Common.{◌≡◌, ◌∙◌, None, Some, ap, subst, sym}
+use Rattle.std.proofs.Common.{◌≡◌, ◌∙◌, None, Some, ap, refl, subst, sym}
 use Rattle.std.specs.Prelude.{option_map, string_bytes}
 use Rattle.fb_lines.specs.Ends.{nowhere, writer_of}
 use Rattle.fb_lines.specs.Job.{job_of}
@@ -25,7 +25,7 @@ returns-in_err-head-clause-served g c =
 pub returns-in-Err-clause-served : goal.returns-in-Err-clause-served
 returns-in-Err-clause-served g c =
     let seen = seen_of g.S.Input g.S.Explains g.K.Sink g.N.Sink c.args.reader.now c.args.writer.now c.args.notes.now in
-    (rw c.in-Some.is tt, idle seen.ends)
+    (rw c.in-Some.is refl, idle seen.ends)
 
 pub returns-in-None-clause-served : goal.returns-in-None-clause-served
 returns-in-None-clause-served g c =
@@ -33,8 +33,8 @@ returns-in-None-clause-served g c =
     let job = job_of c.in_ok-asked.asked.schema c.in_ok-asked.asked.options in
     keeps_none (maker_of g.F.Makes g.F.Made.Sink c.args.files.now) c.args.settings.now _ none (job, c.in_ok-asked.ensures.job, c.pass_asked-what.ensures.served)
 
-pub returns-in-Some-clause-served : goal.returns-in-Some-clause-served
-returns-in-Some-clause-served g c =
+pub returns-clause-served : goal.returns-clause-served
+returns-clause-served g c =
     let some = ap (λ o. option_map string_bytes o) c.in-Some.is ∙ ap (λ t. Some t) (sym c.as_str.ensures.value) in
     let job = job_of c.in_ok-asked.asked.schema c.in_ok-asked.asked.options in
     keeps_some (maker_of g.F.Makes g.F.Made.Sink c.args.files.now) c.args.settings.now _ c.as_str.result.now c.in-Ok.file c.pass_asked-what-in-Some.new.rejects some c.in-Ok.ensures.made

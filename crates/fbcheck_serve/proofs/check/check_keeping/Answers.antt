@@ -1,4 +1,4 @@
-use Rattle.std.proofs.Common.{◌≡◌, ◌∙◌, None, Some, ap, subst, sym}
+use Rattle.std.proofs.Common.{◌≡◌, ◌∙◌, None, Some, ap, refl, subst, sym}
 use Rattle.std.specs.Prelude.{option_map, string_bytes}
 use Rattle.fb_lines.specs.Ends.{nowhere, writer_of}
 use Rattle.fb_lines.specs.Job.{job_of}
@@ -6,7 +6,6 @@ use Rattle.fb_run.specs.Leave.{ends_of}
 use Rattle.fb_run.proofs.RunLemmas.{err_exit}
 use Rattle.fbcheck_texts.specs.declared.fault.AskFault.{AskFault}
 use Rattle.fbcheck_serve.specs.{Checking.LacksJob, Keeping.IsCheckedKeeping, Keeping.maker_of}
-use Rattle.fbcheck_serve.specs.declared.check.Unbegun.TheVariants.{Ask}
 use Rattle.fbcheck_serve.proofs.{AskedLemmas.idle, KeepingLemmas.keeps_none, KeepingLemmas.keeps_some}
 use Rattle.fbcheck_serve.proofs.check.check_keeping.Goals as goal
 
@@ -24,7 +23,7 @@ returns-in_err-head-clause-run g c =
 pub returns-in-Err-clause-run : goal.returns-in-Err-clause-run
 returns-in-Err-clause-run g c =
     let ends = ends_of g.S.Input g.K.Sink g.N.Sink c.args.reader.now c.args.writer.now c.args.notes.now in
-    (rw c.in-Some.is tt, idle ends)
+    (rw c.in-Some.is refl, idle ends)
 
 pub returns-in-None-clause-run : goal.returns-in-None-clause-run
 returns-in-None-clause-run g c =
@@ -33,8 +32,8 @@ returns-in-None-clause-run g c =
     keeps_none (maker_of g.F.Makes g.F.Made.Sink c.args.files.now) c.args.settings.now _ none
     ((job, c.in_ok-asked.ensures.job, c.run_asked-what.ensures.run), c.run_asked-what.ensures.end)
 
-pub returns-in-Some-clause-run : goal.returns-in-Some-clause-run
-returns-in-Some-clause-run g c =
+pub returns-clause-run : goal.returns-clause-run
+returns-clause-run g c =
     let some = ap (λ o. option_map string_bytes o) c.in-Some.is ∙ ap (λ t. Some t) (sym c.as_str.ensures.value) in
     let job = job_of c.in_ok-asked.asked.schema c.in_ok-asked.asked.options in
     keeps_some (maker_of g.F.Makes g.F.Made.Sink c.args.files.now) c.args.settings.now _ c.as_str.result.now c.in-Ok.file c.run_asked-what-in-Some.new.rejects some c.in-Ok.ensures.made

@@ -30,12 +30,15 @@ returns-clause-comes g c =
     (comes_read _ _ c.args.words c.in-Ok.words c.as_slice.result.now seen seen None _ c.in-Ok.is c.as_slice.ensures.value comes, rests)
 
 pub returns-in-Ok-read_schema-clause-comes : goal.returns-in-Ok-read_schema-clause-comes
-returns-in-Ok-read_schema-clause-comes g c = (
-  comes_read _ _ c.args.words c.in-Ok.words c.as_slice.result.now _ _ _ _ c.in-Ok.is c.as_slice.ensures.value
-      (comes_asked (maker_of g.F.Makes g.F.Made.Sink c.args.files.now) (folder_of g.F.Files g.F.Opened.Input g.F.Opened.Explains c.args.files.now) _ _ _ _ _ (holds_given _ _ c.in-Ok-settings.settings c.as_deref-file.result _ _
-      c.in-Ok-settings.ensures.given c.as_deref-file.ensures.value c.in-Ok-read_schema.ensures.bytes c.check_by.ensures.0)),
-  c.check_by.ensures.1,
-)
+returns-in-Ok-read_schema-clause-comes g c =
+    let before = seen_of g.S.Input g.S.Explains g.K.Sink g.N.Sink c.args.reader.now c.args.writer.now c.args.notes.now in
+    let after = seen_of g.S.Input g.S.Explains g.K.Sink g.N.Sink c.check_by.new.reader c.check_by.new.writer c.check_by.new.notes in (
+      comes_read _ _ c.args.words c.in-Ok.words c.as_slice.result.now before after _ _ c.in-Ok.is c.as_slice.ensures.value
+          (comes_asked (maker_of g.F.Makes g.F.Made.Sink c.args.files.now) (folder_of g.F.Files g.F.Opened.Input g.F.Opened.Explains c.args.files.now) _ before after _ _
+          (holds_given _ _ c.in-Ok-settings.settings c.as_deref-file.result _ _
+          c.in-Ok-settings.ensures.given c.as_deref-file.ensures.value c.in-Ok-read_schema.ensures.bytes c.check_by.ensures.0)),
+      c.check_by.ensures.1,
+    )
 
 pub check_by-requires-clause-leave : goal.check_by-requires-clause-leave
 check_by-requires-clause-leave g c now prompt unended =
