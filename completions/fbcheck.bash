@@ -33,8 +33,8 @@ _fbcheck() {
     local word=${COMP_WORDS[COMP_CWORD]} before=${COMP_WORDS[COMP_CWORD - 1]}
     local left=" --schema --root --ident --schema-ident --path --max-depth --max-tables --max-reads --reads-per-byte \
 --max-bytes --skip --limit --max-bad --bare --delimited --delimited-be --no-alignment --inline-size --strict \
---plain-bytes --known-fields --utf8 --quiet --filter --summary --names --json --csv --with-filename --files0-from \
---help --version "
+--plain-bytes --known-fields --utf8 --quiet --filter --summary --names --json --csv --rejects --with-filename \
+--files0-from --help --version "
     COMPREPLY=()
     # An equals sign is a word of its own.
     [ "$before" != = ] || before=${COMP_WORDS[COMP_CWORD - 2]}
@@ -43,6 +43,10 @@ _fbcheck() {
     -s | --schema)
         compopt -o filenames 2>/dev/null
         mapfile -t COMPREPLY < <(compgen -d -- "$word"; compgen -f -X '!*.bfbs' -- "$word")
+        ;;
+    --rejects)
+        compopt -o filenames 2>/dev/null
+        mapfile -t COMPREPLY < <(compgen -f -- "$word")
         ;;
     --files0-from)
         compopt -o filenames 2>/dev/null

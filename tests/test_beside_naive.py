@@ -118,11 +118,15 @@ class BesideNaive(Case):
         self.same(f"{name}: of {len(paths)} places, those that are no path", refused, [])
 
     def sorted_out(self, name, by, given, options, wants):
-        """The same stream through a filter: the buffers of which the walk says yes, and a line of each other one."""
-        ran = run(*by, "--filter", *words_of(options), given=b"".join(map(prefixed, given)))
-        good = b"".join(prefixed(data) for data, want in zip(given, wants) if want.startswith("ok"))
+        """The same stream through a filter: the buffers of which the walk says yes, and a line of each other one, which
+        is itself among the rejects."""
+        rejects = file_of("rejects", b"")
+        ran = run(*by, "--filter", "--rejects", rejects, *words_of(options), given=b"".join(map(prefixed, given)))
+        good, bad = (b"".join(prefixed(data) for data, want in zip(given, wants) if want.startswith(word))
+                     for word in ("ok", "bad"))
         notes = [f"{number} {want}" for number, want in enumerate(wants, 1) if want.startswith("bad")]
         self.holds(f"{name}: the good ones are passed on", ran.out == good)
+        self.holds(f"{name}: the others are kept", rejects.read_bytes() == bad)
         self.same(f"{name}: and the others are noted", ran.err, lines(*notes, *told_behind(by, wants)))
 
     def test_buffers_of_every_kind(self):

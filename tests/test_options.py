@@ -81,6 +81,7 @@ Options:
       --names               End lines of bad buffers with the place in words
   -j, --json                Write each line as a JSON object
       --csv                 Write the values of good buffers as CSV, and lines of bad ones to standard error
+      --rejects <FILE>      Write the bad buffers themselves to FILE, which is made, or emptied
   -H, --with-filename       Begin lines with the file's name, also where there is one file alone
       --files0-from <F>     Read the names of the files from F, each ended by a zero byte; - for standard input
   -h, --help                Print help

@@ -4,8 +4,8 @@ use mathlib.Core.Logic.{inl}
 use Rattle.std.proofs.lemmas.List.Elements.{All-head, All-tail}
 use Rattle.fb_bytes.specs.declared.cut.Cut.{Cut}
 use Rattle.fb_bytes.specs.Messages.{IsMessage, Splits}
-use Rattle.fb_lines.specs.{FilterLaws.PassesAgain, Job.Job, Line.IsLine, Line.TellsLine, Line.ToldBy, Lines.AreTold, Spot.Before, Spot.at_first, Spot.past, Spot.spot_of, Sums.no_tally, Sums.tally_with}
-use Rattle.fb_lines.specs.Texts.{Texts, to_notes, to_out}
+use Rattle.fb_lines.specs.{FilterLaws.PassesAgain, Job.Job, Line.IsLine, Line.TellsLine, Line.SaidBy, Lines.AreTold, Spot.Before, Spot.at_first, Spot.past, Spot.spot_of, Sums.no_tally, Sums.tally_with}
+use Rattle.fb_lines.specs.Texts.{Texts, spoken, to_notes, to_out}
 use Rattle.fb_lines.specs.declared.{tally.Tally.Tally, options.Mode.TheVariants.Filter}
 use Rattle.fb_lines.proofs.Splitting.{empty_partial, splits_one, splits_rest, splits_then}
 
@@ -27,8 +27,8 @@ again job cut k j [] text tally fewer filter each (e, none) = (
 )
 again job cut k j (m ∷ ms) text tally fewer filter each (Ok found, line, rest, others, due, is, e, told, sums) =
     let more = again job cut (past k m (Ok found)) (past j m (Ok found)) ms rest others (record { messages = omega (arith, fewer.messages); bad = fewer.bad }) filter (All-tail (IsMessage cut) m ms each) told in
-    let line_is : line ≡ to_out m = subst (λ o. ToldBy o (IsLine job (spot_of k m) (Ok found)) m (Ok found) line) filter is.text in
-    let out_is : text.out ≡ m ++ rest.out = ap (λ t. t.out) e ∙ ap (λ t. t.out ++ rest.out) line_is in (
+    let line_is : spoken line ≡ to_out m = subst (λ o. SaidBy o (IsLine job (spot_of k m) (Ok found)) m (Ok found) (spoken line)) filter is.text.0 in
+    let out_is : text.out ≡ m ++ rest.out = ap (λ t. t.out) e ∙ ap (λ (t : Texts). t.out ++ rest.out) line_is in (
       m ∷ more.0,
       tally_with m (Ok found) more.1,
       subst (λ (l : List ℕ). Splits cut l (m ∷ more.0) []) (sym out_is)
@@ -39,7 +39,7 @@ again job cut k j (m ∷ ms) text tally fewer filter each (Ok found, line, rest,
         to_out rest.out,
         more.1,
         record { messages = omega (arith, fewer.messages, due.messages); bad = omega (arith, fewer.bad, due.bad) },
-        record { verdict_is = is.verdict_is; text = subst (λ o. ToldBy o (IsLine job (spot_of j m) (Ok found)) m (Ok found) (to_out m)) (sym filter) refl },
+        record { verdict_is = is.verdict_is; text = (subst (λ o. SaidBy o (IsLine job (spot_of j m) (Ok found)) m (Ok found) (to_out m)) (sym filter) refl, refl) },
         ap to_out out_is,
         more.3,
         refl,
@@ -49,8 +49,8 @@ again job cut k j (m ∷ ms) text tally fewer filter each (Ok found, line, rest,
     )
 again job cut k j (m ∷ ms) text tally fewer filter each (Err fault, line, rest, others, due, is, e, told, sums) =
     let more = again job cut (past k m (Err fault)) j ms rest others (record { messages = omega (arith, fewer.messages); bad = omega (arith, fewer.bad) }) filter (All-tail (IsMessage cut) m ms each) told in
-    let noted : TellsLine (IsLine job (spot_of k m) (Err fault)) to_notes line = subst (λ o. ToldBy o (IsLine job (spot_of k m) (Err fault)) m (Err fault) line) filter is.text in
-    let out_is : text.out ≡ rest.out = ap (λ t. t.out) e ∙ ap (λ t. t.out ++ rest.out) noted.2 in (
+    let noted : TellsLine (IsLine job (spot_of k m) (Err fault)) to_notes (spoken line) = subst (λ o. SaidBy o (IsLine job (spot_of k m) (Err fault)) m (Err fault) (spoken line)) filter is.text.0 in
+    let out_is : text.out ≡ rest.out = ap (λ t. t.out) e ∙ ap (λ (t : Texts). t.out ++ rest.out) noted.2 in (
       more.0,
       more.1,
       subst (λ (l : List ℕ). Splits cut l more.0 []) (sym out_is) more.2,

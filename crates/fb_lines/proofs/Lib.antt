@@ -11,6 +11,7 @@ pub mod JsonSumsLemmas
 pub mod Pieces
 pub mod PutsLemmas
 pub mod RealLemmas
+pub mod RejectLemmas
 pub mod Shown
 pub mod ShownJson
 pub mod Splitting

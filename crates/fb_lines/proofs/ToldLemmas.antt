@@ -1,30 +1,41 @@
 -- What is told of a message by its verdict.
-use Rattle.std.proofs.Common.{◌≡◌, ◌≢◌, ◌⊎◌, inl, inr, ℕ, ◌+◌, ◌++◌, ◌∙◌, List, [], Result, Ok, Err, IsTrue, ap, append-nil, append_assoc, codes, refl, subst, sym}
+use Rattle.std.proofs.Common.{◌≡◌, ◌≢◌, ◌⊎◌, inl, inr, ℕ, ◌+◌, ◌++◌, ◌∙◌, List, [], Result, Ok, Err, IsTrue, ap, append-nil, append_assoc, codes, length, refl, subst, sym, take}
+use Rattle.std.proofs.Math.Seq.{take-append_seam}
 use Rattle.std.specs.Prelude.{map}
 use Rattle.fb_lines.specs.{AnswerText.label_text, Job.IsVerdict, Job.Job, Job.No, Job.Verdict, Job.Yes, Job.buffer_in, Job.is_brief, Sums.tally_with, Wanted.Wanted}
 use Rattle.fb_lines.specs.AnswerText.{answers_text}
 use Rattle.fb_lines.specs.Csv.{IsRow}
 use Rattle.fb_lines.specs.Json.{begin_part, counts_part, following}
-use Rattle.fb_lines.specs.Line.{IsLine, IsLineBy, IsLineIn, IsRest, ToldBy, front_in, short_line, verdict_line}
-use Rattle.fb_lines.specs.Puts.{Adds, AddsBy, AddsOr, AreSo, Puts, PutsBoth, PutsSome, Queue, Queues, Tells, Waits}
+use Rattle.fb_lines.specs.Line.{IsLine, IsLineBy, IsLineIn, IsRest, SaidBy, ToldBy, front_in, rejected, short_line, verdict_line}
+use Rattle.fb_lines.specs.Puts.{Adds, AddsBy, AddsOr, AreSo, Held, Puts, PutsAll, PutsSome, Queue, Queues, Says, Tells, Waits, holding}
 use Rattle.fb_lines.specs.Spot.{Before, spot_of}
 use Rattle.fb_lines.specs.declared.spot.Spot.{Spot}
-use Rattle.fb_lines.specs.Texts.{Texts, silent, to_notes, to_out}
-use Rattle.fb_lines.specs.declared.{fault.RunFault.RunFault, options.Form.Form, options.Mode.Mode, tally.Tally.Tally}
+use Rattle.fb_lines.specs.Texts.{Texts, silent, spoken, to_notes, to_out}
+use Rattle.fb_lines.specs.declared.{fault.RunFault.RunFault, options.Form.Form, options.Mode.Mode, options.Rejects.Rejects, tally.Tally.Tally}
 use Rattle.fb_lines.specs.declared.fault.RunFault.TheVariants as run
 use Rattle.fb_lines.specs.declared.options.Form.TheVariants as form
 use Rattle.fb_lines.specs.declared.options.Mode.TheVariants.{Lines, BadLines, Filter, Csv}
 use Rattle.fb_lines.proofs.{JsonLemmas.yes_line, PlaceLemmas.asks_none, PutsLemmas.puts_none, PutsLemmas.puts_still, PutsLemmas.puts_then, PutsLemmas.puts_waiting}
 
 module _ {P Q : List ℕ → Type 0} (weaker : (line : List ℕ) → P line → Q line) (message : List ℕ) where
-  told_weaker : (mode : Mode) (v : Verdict) (told : Texts) → ToldBy mode P message v told → ToldBy mode Q message v told
-  told_weaker Lines v told (line, is, there) = (line, weaker line is, there)
-  told_weaker BadLines (Ok found) told nothing = nothing
-  told_weaker BadLines (Err bad) told (line, is, there) = (line, weaker line is, there)
-  told_weaker Filter (Ok found) told passed = passed
-  told_weaker Filter (Err bad) told (line, is, there) = (line, weaker line is, there)
-  told_weaker Csv (Ok found) told (line, is, there) = (line, weaker line is, there)
-  told_weaker Csv (Err bad) told (line, is, there) = (line, weaker line is, there)
+  said_weaker : (mode : Mode) (v : Verdict) (said : Texts) → SaidBy mode P message v said → SaidBy mode Q message v said
+  said_weaker Lines v said (line, is, there) = (line, weaker line is, there)
+  said_weaker BadLines (Ok found) said nothing = nothing
+  said_weaker BadLines (Err bad) said (line, is, there) = (line, weaker line is, there)
+  said_weaker Filter (Ok found) said passed = passed
+  said_weaker Filter (Err bad) said (line, is, there) = (line, weaker line is, there)
+  said_weaker Csv (Ok found) said (line, is, there) = (line, weaker line is, there)
+  said_weaker Csv (Err bad) said (line, is, there) = (line, weaker line is, there)
+
+-- nothing of it is for the rejects
+said_spoken : (mode : Mode) (P : List ℕ → Type 0) (message : List ℕ) (v : Verdict) (said : Texts) → SaidBy mode P message v said → SaidBy mode P message v (spoken said)
+said_spoken Lines P message v said (line, is, there) = (line, is, ap spoken there)
+said_spoken BadLines P message (Ok found) said nothing = ap spoken nothing
+said_spoken BadLines P message (Err bad) said (line, is, there) = (line, is, ap spoken there)
+said_spoken Filter P message (Ok found) said passed = ap spoken passed
+said_spoken Filter P message (Err bad) said (line, is, there) = (line, is, ap spoken there)
+said_spoken Csv P message (Ok found) said (line, is, there) = (line, is, ap spoken there)
+said_spoken Csv P message (Err bad) said (line, is, there) = (line, is, ap spoken there)
 
 -- where no rows are asked for, and of each bad message, a line is written
 pub line_by : (mode : Mode) (job : Job) (spot : Spot) (v : Verdict) (line : List ℕ) → mode ≢ Csv → IsLineIn job.form job spot v line → IsLineBy mode job spot v line
@@ -72,25 +83,28 @@ line_of_no form.Json job spot bad front is = is
 
 module _ (job : Job) (past : Before) (message : List ℕ) (v : Verdict) (before after : Queues) (tally tally' : Tally) where
   -- by its verdict a message has this told of it
-  pub adds_told : IsVerdict job (buffer_in job message) v → Tells job.mode (IsLine job (spot_of past message) v) message v before after → tally' ≡ tally_with message v tally → Adds job past message before after tally tally'
+  pub adds_told : IsVerdict job (buffer_in job message) v → Tells job.mode job.rejects (IsLine job (spot_of past message) v) message v before after → tally' ≡ tally_with message v tally → Adds job past message before after tally tally'
   adds_told is tells counted = record { verdict = v; told = tells.told; is_told = record { verdict_is = is; text = tells.is_told }; puts = tells.puts; tally_is = counted }
 
   -- so it has where no more is asked
-  adds_briefly : (mode : Mode) → mode ≡ job.mode → IsTrue (is_brief job) → IsVerdict job (buffer_in job message) v → Tells mode (λ line. line ≡ verdict_line (1 + past.messages) v) message v before after
+  adds_briefly : (mode : Mode) → mode ≡ job.mode → IsTrue (is_brief job) → IsVerdict job (buffer_in job message) v → Tells mode job.rejects (λ line. line ≡ verdict_line (1 + past.messages) v) message v before after
       → tally' ≡ tally_with message v tally → Adds job past message before after tally tally'
   adds_briefly mode same brief is tells counted =
-      let told = told_weaker (brief_line job (spot_of past message) v brief) message mode v tells.told tells.is_told in
-      adds_told is (record { told = tells.told; is_told = subst (λ m. ToldBy m (IsLine job (spot_of past message) v) message v tells.told) same told; puts = tells.puts }) counted
+      let said = said_weaker (brief_line job (spot_of past message) v brief) message mode v (spoken tells.told) tells.is_told.0 in
+      adds_told is
+      (record { told = tells.told; is_told = (subst (λ m. SaidBy m (IsLine job (spot_of past message) v) message v (spoken tells.told)) same said, tells.is_told.1); puts = tells.puts })
+      counted
 
   pub yes_added : (mode : Mode) (end : Result (Unit {0}) RunFault) → mode ≡ job.mode → IsTrue (is_brief job) → IsVerdict job (buffer_in job message) v
-      → Tells mode (λ line. line ≡ verdict_line (1 + past.messages) v) message v before after → tally' ≡ tally_with message v tally → AreSo after end → AddsBy job past message before after tally tally' end
+      → Tells mode job.rejects (λ line. line ≡ verdict_line (1 + past.messages) v) message v before after → tally' ≡ tally_with message v tally → AreSo after end → AddsBy job past message before after tally tally' end
   yes_added mode (Ok done) same brief is tells counted so = (adds_briefly mode same brief is tells counted, so)
   yes_added mode (Err (run.WriteFault written)) same brief is tells counted so = (adds_briefly mode same brief is tells counted, so)
   yes_added mode (Err (run.NoteFault written)) same brief is tells counted so = (adds_briefly mode same brief is tells counted, so)
+  yes_added mode (Err (run.RejectFault written)) same brief is tells counted so = (adds_briefly mode same brief is tells counted, so)
   yes_added mode (Err _) same brief is tells counted so = absurd so
 
   pub no_added : (end : Result (Unit {0}) RunFault) → IsVerdict job (buffer_in job message) v
-      → AddsOr (Tells job.mode (IsLine job (spot_of past message) v) message v before after × (tally' ≡ tally_with message v tally)) before after tally tally' end → AddsBy job past message before after tally tally' end
+      → AddsOr (Tells job.mode job.rejects (IsLine job (spot_of past message) v) message v before after × (tally' ≡ tally_with message v tally)) before after tally tally' end → AddsBy job past message before after tally tally' end
   no_added (Ok done) is (both, so) = (adds_told is both.0 both.1, so)
   no_added (Err run.OutOfMemory) is kept = kept
   no_added (Err _) is (both, so) = (adds_told is both.0 both.1, so)
@@ -100,41 +114,61 @@ pub added_so : {Added : Type 0} (before after : Queues) (tally tally' : Tally) (
 added_so before after tally tally' (Ok done) added so = (added, so)
 added_so before after tally tally' (Err (run.WriteFault written)) added so = (added, so)
 added_so before after tally tally' (Err (run.NoteFault written)) added so = (added, so)
+added_so before after tally tally' (Err (run.RejectFault written)) added so = (added, so)
 added_so before after tally tally' (Err _) added so = absurd so
 
 module _ (mode : Mode) (P : List ℕ → Type 0) (message : List ℕ) (v : Verdict) where
+  -- what is said and a bad message wait
+  pub says_waits : (keeps : Rejects) (before after : Queue) (held held' : Held) → Says mode P message v before after held.notes held'.notes → held'.rejects ≡ held.rejects ++ rejected v keeps message
+      → Waits mode keeps P message v before after held held'
+  says_waits keeps before after held held' says kept = record {
+    told = record says.said { rejects = rejected v keeps message };
+    is_told = (said_spoken mode P message v says.said says.is_said, refl);
+    puts = says.puts;
+    notes_are = says.notes_are;
+    rejects_are = kept;
+  }
+
   -- what waits, and then what is written of it
-  pub waits_told : (before between after : Queues) (notes : List ℕ) → Waits mode P message v before.out between.out before.notes.waits notes → between.notes ≡ record before.notes { waits = notes }
-      → PutsBoth silent between after → Tells mode P message v before after
-  waits_told before between after notes waits noted both = record {
+  pub waits_told : (keeps : Rejects) (before between after : Queues) (held : Held) → Waits mode keeps P message v before.out between.out (record { notes = before.notes.waits; rejects = before.rejects.waits }) held
+      → between.notes ≡ record before.notes { waits = held.notes } → between.rejects ≡ record before.rejects { waits = held.rejects } → PutsAll silent between after → Tells mode keeps P message v before after
+  waits_told keeps before between after held waits noted kept all = record {
     told = waits.told;
     is_told = waits.is_told;
     puts = (
-      puts_still waits.told.out before.out after.out (puts_then waits.told.out [] before.out between.out after.out waits.puts both.0),
+      puts_still waits.told.out before.out after.out (puts_then waits.told.out [] before.out between.out after.out waits.puts all.0),
       puts_still waits.told.notes before.notes after.notes (puts_then waits.told.notes [] before.notes between.notes after.notes
-          (puts_waiting waits.told.notes before.notes between.notes (noted ∙ ap (λ l. record before.notes { waits = l }) waits.notes_are)) both.1),
+          (puts_waiting waits.told.notes before.notes between.notes (noted ∙ ap (λ l. record before.notes { waits = l }) waits.notes_are)) all.1),
+      puts_still waits.told.rejects before.rejects after.rejects (puts_then waits.told.rejects [] before.rejects between.rejects after.rejects
+          (puts_waiting waits.told.rejects before.rejects between.rejects (kept ∙ ap (λ l. record before.rejects { waits = l }) waits.rejects_are)) all.2),
     );
   }
 
   module _ (before after : Queue) (notes notes' : List ℕ) where
     -- a line came for the writer, or for the notes, or the message, or nothing
-    pub line_waits : mode ≡ Lines → PutsSome P before after → notes' ≡ notes → Waits mode P message v before after notes notes'
-    line_waits lines (line, is, put) same = record { told = to_out line; is_told = rw lines (line, is, refl); puts = put; notes_are = same ∙ sym (append-nil notes) }
+    pub line_said : mode ≡ Lines → PutsSome P before after → notes' ≡ notes → Says mode P message v before after notes notes'
+    line_said lines (line, is, put) same = record { said = to_out line; is_said = rw lines (line, is, refl); puts = put; notes_are = same ∙ sym (append-nil notes) }
 
-    pub good_line_waits : (found : Yes) → v ≡ Ok found → (mode ≡ Lines) ⊎ (mode ≡ Csv) → PutsSome P before after → notes' ≡ notes → Waits mode P message v before after notes notes'
-    good_line_waits found is (inl lines) some same = line_waits lines some same
-    good_line_waits found is (inr csv) (line, holds, put) same = record { told = to_out line; is_told = rw (csv, is) (line, holds, refl); puts = put; notes_are = same ∙ sym (append-nil notes) }
+    pub good_line_said : (found : Yes) → v ≡ Ok found → (mode ≡ Lines) ⊎ (mode ≡ Csv) → PutsSome P before after → notes' ≡ notes → Says mode P message v before after notes notes'
+    good_line_said found is (inl lines) some same = line_said lines some same
+    good_line_said found is (inr csv) (line, holds, put) same = record { said = to_out line; is_said = rw (csv, is) (line, holds, refl); puts = put; notes_are = same ∙ sym (append-nil notes) }
 
-    pub bad_line_waits : (bad : No) → v ≡ Err bad → (mode ≡ Lines) ⊎ (mode ≡ BadLines) → PutsSome P before after → notes' ≡ notes → Waits mode P message v before after notes notes'
-    bad_line_waits bad is (inl lines) some same = line_waits lines some same
-    bad_line_waits bad is (inr bads) (line, holds, put) same = record { told = to_out line; is_told = rw (bads, is) (line, holds, refl); puts = put; notes_are = same ∙ sym (append-nil notes) }
+    pub bad_line_said : (bad : No) → v ≡ Err bad → (mode ≡ Lines) ⊎ (mode ≡ BadLines) → PutsSome P before after → notes' ≡ notes → Says mode P message v before after notes notes'
+    bad_line_said bad is (inl lines) some same = line_said lines some same
+    bad_line_said bad is (inr bads) (line, holds, put) same = record { said = to_out line; is_said = rw (bads, is) (line, holds, refl); puts = put; notes_are = same ∙ sym (append-nil notes) }
 
-    pub message_waits : (found : Yes) → v ≡ Ok found → mode ≡ Filter → Puts message before after → notes' ≡ notes → Waits mode P message v before after notes notes'
-    message_waits found is filter put same = record { told = to_out message; is_told = rw (filter, is) refl; puts = put; notes_are = same ∙ sym (append-nil notes) }
+    pub message_said : (found : Yes) → v ≡ Ok found → mode ≡ Filter → Puts message before after → notes' ≡ notes → Says mode P message v before after notes notes'
+    message_said found is filter put same = record { said = to_out message; is_said = rw (filter, is) refl; puts = put; notes_are = same ∙ sym (append-nil notes) }
 
-    pub none_waits : (found : Yes) → v ≡ Ok found → mode ≡ BadLines → after ≡ before → notes' ≡ notes → Waits mode P message v before after notes notes'
-    none_waits found is bads kept same = record { told = silent; is_told = rw (bads, is) refl; puts = subst (λ q. Puts [] before q) (sym kept) (puts_none before); notes_are = same ∙ sym (append-nil notes) }
+    pub none_said : (found : Yes) → v ≡ Ok found → mode ≡ BadLines → after ≡ before → notes' ≡ notes → Says mode P message v before after notes notes'
+    none_said found is bads kept same = record { said = silent; is_said = rw (bads, is) refl; puts = subst (λ q. Puts [] before q) (sym kept) (puts_none before); notes_are = same ∙ sym (append-nil notes) }
 
-    pub note_waits : (bad : No) (line : List ℕ) → v ≡ Err bad → (mode ≡ Filter) ⊎ (mode ≡ Csv) → P line → after ≡ before → notes' ≡ notes ++ line → Waits mode P message v before after notes notes'
-    note_waits bad line is (inl filter) holds kept added = record { told = to_notes line; is_told = rw (filter, is) (line, holds, refl); puts = subst (λ q. Puts [] before q) (sym kept) (puts_none before); notes_are = added }
-    note_waits bad line is (inr csv) holds kept added = record { told = to_notes line; is_told = rw (csv, is) (line, holds, refl); puts = subst (λ q. Puts [] before q) (sym kept) (puts_none before); notes_are = added }
+    pub note_said : (bad : No) (line : List ℕ) → v ≡ Err bad → (mode ≡ Filter) ⊎ (mode ≡ Csv) → P line → after ≡ before → notes' ≡ notes ++ line → Says mode P message v before after notes notes'
+    note_said bad line is (inl filter) holds kept added = record { said = to_notes line; is_said = rw (filter, is) (line, holds, refl); puts = subst (λ q. Puts [] before q) (sym kept) (puts_none before); notes_are = added }
+    note_said bad line is (inr csv) holds kept added = record { said = to_notes line; is_said = rw (csv, is) (line, holds, refl); puts = subst (λ q. Puts [] before q) (sym kept) (puts_none before); notes_are = added }
+
+-- a bad message was put behind others, and taken off again
+pub held_again : (notes notes' rejects more rejects' : List ℕ) (n : ℕ) → notes' ≡ notes → n ≡ length rejects → rejects' ≡ take n (rejects ++ more)
+    → holding notes' rejects' ≡ holding notes rejects
+held_again notes notes' rejects more rejects' n same is taken =
+    ap (λ l. holding l rejects') same ∙ ap (λ l. holding notes l) (taken ∙ ap (λ k. take k (rejects ++ more)) is ∙ take-append_seam rejects more)

@@ -3,7 +3,7 @@ use Rattle.std.specs.Prelude.{ℕ, List, ◌++◌, codes, decimal}
 use Rattle.fb_bytes.specs.declared.stream_fault.StreamFault.{StreamFault}
 use Rattle.fb_bytes.specs.declared.stream_fault.StreamFault.TheVariants as stream
 use Rattle.fb_lines.specs.declared.fault.RunFault.{RunFault}
-use Rattle.fb_lines.specs.declared.fault.RunFault.TheVariants.{ReadFault, WriteFault, NoteFault, Stream, TooManyTurns, OutOfMemory, BareTooLong, SkipPastEnd}
+use Rattle.fb_lines.specs.declared.fault.RunFault.TheVariants.{ReadFault, WriteFault, NoteFault, RejectFault, Stream, TooManyTurns, OutOfMemory, BareTooLong, SkipPastEnd}
 
 -- what is wrong with a stream
 abbrev pub stream_text : StreamFault → List ℕ
@@ -17,6 +17,7 @@ abbrev pub fault_text : RunFault → List ℕ
 fault_text ReadFault = codes "read failed"
 fault_text (WriteFault written) = codes "write failed after " ++ decimal written ++ codes " bytes"
 fault_text (NoteFault written) = codes "write to standard error failed after " ++ decimal written ++ codes " bytes"
+fault_text (RejectFault written) = codes "write of rejects failed after " ++ decimal written ++ codes " bytes"
 fault_text (Stream cause) = codes "stream: " ++ stream_text cause
 fault_text TooManyTurns = codes "too many reads"
 fault_text OutOfMemory = codes "out of memory"

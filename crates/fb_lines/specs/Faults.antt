@@ -5,51 +5,55 @@ use Rattle.fb_bytes.specs.declared.stream_fault.StreamFault.{StreamFault}
 use Rattle.fb_bytes.specs.declared.stream_fault.StreamFault.TheVariants as stream
 use Rattle.fb_lines.specs.Ends.{Ends, Outs, Writer}
 use Rattle.fb_lines.specs.declared.{fault.RunFault.RunFault, tally.Tally.Tally}
-use Rattle.fb_lines.specs.declared.fault.RunFault.TheVariants.{ReadFault, WriteFault, NoteFault, Stream, TooManyTurns, OutOfMemory, SkipPastEnd}
+use Rattle.fb_lines.specs.declared.fault.RunFault.TheVariants.{ReadFault, WriteFault, NoteFault, RejectFault, Stream, TooManyTurns, OutOfMemory, SkipPastEnd}
 
 -- a fault of the framer
 abbrev pub feed_fault : StreamFault → RunFault
 feed_fault stream.OutOfMemory = OutOfMemory
 feed_fault cause = Stream cause
 
--- the calls that failed of a reader, a writer and the notes
+-- the calls that failed of a reader, a writer, the notes and the rejects
 pub record Failures : Type 0 where
   pub reads : ℕ
   pub writes : ℕ
   pub notes : ℕ
+  pub rejects : ℕ
 
 abbrev pub failed : ℕ → Outs → Failures
-failed reads outs = record { reads = reads; writes = outs.writer.failures; notes = outs.notes.failures }
+failed reads outs = record { reads = reads; writes = outs.writer.failures; notes = outs.notes.failures; rejects = outs.rejects.failures }
 
 abbrev pub failures_of : Ends → Failures
 failures_of ends = failed ends.reader.failures ends.outs
 
 -- no call failed
 abbrev pub IsUnfailed : Failures → Failures → Type 0
-IsUnfailed before after = (after.reads ≡ before.reads) × (after.writes ≡ before.writes) × (after.notes ≡ before.notes)
+IsUnfailed before after = (after.reads ≡ before.reads) × (after.writes ≡ before.writes) × (after.notes ≡ before.notes) × (after.rejects ≡ before.rejects)
 
 -- the cause of a fault, by the calls that failed, the reads that were left, and whether the input's end was told: one
--- call of the reader, the writer or the notes failed, as the fault says, or none did
+-- call of the reader, the writer, the notes or the rejects failed, as the fault says, or none did
 abbrev pub IsCaused : Failures → Failures → ℕ → Bool → RunFault → Type 0
 IsCaused before after left ended ReadFault = IsUnfailed (record before { reads = before.reads + 1 }) after
 IsCaused before after left ended (WriteFault written) = IsUnfailed (record before { writes = one_more before.writes }) after
 IsCaused before after left ended (NoteFault written) = IsUnfailed (record before { notes = one_more before.notes }) after
+IsCaused before after left ended (RejectFault written) = IsUnfailed (record before { rejects = one_more before.rejects }) after
 IsCaused before after left ended TooManyTurns = IsUnfailed before after × (left ≡ 0)
 IsCaused before after left ended (Stream (stream.Truncated held)) = IsUnfailed before after × (ended ≡ true)
 IsCaused before after left ended (SkipPastEnd skip) = IsUnfailed before after × (ended ≡ true)
 IsCaused before after left ended _ = IsUnfailed before after
 
--- the same where it befell the writer and the notes alone, whatever is read
+-- the same where it befell the writer, the notes and the rejects alone, whatever is read
 abbrev pub IsCausedOut : Outs → Outs → RunFault → Type 0
 IsCausedOut before after fault = (reads left : ℕ) (ended : Bool) → IsCaused (failed reads before) (failed reads after) left ended fault
 
 -- and where it befell the writer alone
 abbrev pub IsCausedWriting : Writer → Writer → RunFault → Type 0
-IsCausedWriting before after fault = (notes : Writer) → IsCausedOut (record { writer = before; notes = notes }) (record { writer = after; notes = notes }) fault
+IsCausedWriting before after fault =
+    (notes rejects : Writer) → IsCausedOut (record { writer = before; notes = notes; rejects = rejects }) (record { writer = after; notes = notes; rejects = rejects }) fault
 
--- no call of the writer or the notes failed
+-- no call of the writer, the notes or the rejects failed
 abbrev pub IsUnfailedOut : Outs → Outs → Type 0
-IsUnfailedOut before after = (after.writer.failures ≡ before.writer.failures) × (after.notes.failures ≡ before.notes.failures)
+IsUnfailedOut before after =
+    (after.writer.failures ≡ before.writer.failures) × (after.notes.failures ≡ before.notes.failures) × (after.rejects.failures ≡ before.rejects.failures)
 
 -- how a run ended: well, or for a cause
 abbrev pub End : Type 0

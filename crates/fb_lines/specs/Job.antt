@@ -14,14 +14,15 @@ use Rattle.fb_lines.specs.declared.{checker.Checked.Checked, checker.Course.Cour
 use Rattle.fb_lines.specs.declared.checker.Course.TheVariants.{Brief, BriefStrictly, AtLength}
 use Rattle.fb_lines.specs.declared.{options.Form.TheVariants.Plain, options.Form.TheVariants.Json, options.Mode.Mode, options.Mode.TheVariants.Csv, options.Places.Places}
 use Rattle.fb_lines.specs.declared.{options.Places.TheVariants.Numbers, options.Places.TheVariants.Words, options.Prefix.Prefix}
-use Rattle.fb_lines.specs.declared.{options.Prefix.TheVariants.Part, options.Prefix.TheVariants.Apart, options.Options.Options}
+use Rattle.fb_lines.specs.declared.{options.Prefix.TheVariants.Part, options.Prefix.TheVariants.Apart, options.Rejects.Rejects, options.Options.Options}
 
 -- a schema with its root, how many bytes at the beginning of an input are left out, how many messages and how many bad
--- ones of it are told at most, whether the input is one bare buffer, how many bytes of a message stand before the
--- buffer, how the buffer starts, the identifier, the limits, the reads that each byte of a buffer allows, the checks,
--- the values that are asked for, the most bytes that a message may have, the order of the bytes of its length, what is
--- told of messages, how of the places of faults, the name of the input, where lines tell it, how they are written, and
--- the plan by which buffers are to be strict, if they are
+-- ones of it are told at most, whether the input is one bare buffer, how many bytes of a message stand before the buffer,
+-- how the buffer starts, the identifier, the limits, the reads that each byte of a buffer allows, the checks, the values
+-- that are asked for, the most bytes that a message may have, the order of the bytes of its length, what is told of
+-- messages, whether bad ones are kept, how the places of faults are told, the name of the input, where lines tell it, how
+-- they are written, and the plan by which buffers are to be strict, if
+-- they are
 pub record Job : Type 0 where
   pub rows : Rows
   pub root : ℕ
@@ -39,6 +40,7 @@ pub record Job : Type 0 where
   pub limit : ℕ
   pub order : Endian
   pub mode : Mode
+  pub rejects : Rejects
   pub names : Places
   pub label : Option (List ℕ)
   pub form : Form
@@ -188,6 +190,7 @@ job_of rows options = record {
   limit = options.max_bytes;
   order = order_of options.prefix;
   mode = options.mode;
+  rejects = options.rejects;
   names = options.names;
   label = option_map (λ name. name.items) options.label;
   form = options.form;

@@ -18,6 +18,7 @@ pub mod JsonLaws
 pub mod Faults
 pub mod FaultText
 pub mod FilterLaws
+pub mod RejectLaws
 pub mod StrictLaws
 -- What proofs alone need.
 pub mod Puts

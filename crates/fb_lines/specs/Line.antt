@@ -5,11 +5,12 @@ use Rattle.fb_access.specs.Denotes.{Shown}
 use Rattle.fb_lines.specs.{AnswerText.answers_text, AnswerText.label_text, Csv.IsRow, Wanted.Wanted}
 use Rattle.fb_lines.specs.Json.{IsValuesMember, IsYes, begin_part, counts_part, following, json_no}
 use Rattle.fb_lines.specs.Job.{Job, Verdict, IsVerdict, buffer_in}
-use Rattle.fb_lines.specs.declared.{options.Form.Form, options.Form.TheVariants.Plain, options.Form.TheVariants.Json, options.Mode.Mode}
+use Rattle.fb_lines.specs.declared.{options.Form.Form, options.Form.TheVariants.Plain, options.Form.TheVariants.Json, options.Mode.Mode, options.Rejects.Rejects}
+use Rattle.fb_lines.specs.declared.options.Rejects.TheVariants.{Dropped, Kept}
 use Rattle.fb_lines.specs.declared.options.Mode.TheVariants.{Lines, BadLines, Filter, Csv}
 use Rattle.fb_lines.specs.Spot.{Before, spot_of}
 use Rattle.fb_lines.specs.declared.spot.Spot.{Spot}
-use Rattle.fb_lines.specs.Texts.{Texts, silent, to_notes, to_out}
+use Rattle.fb_lines.specs.Texts.{Texts, silent, spoken, to_notes, to_out}
 use Rattle.fb_rules.specs.declared.{fault.Fault.Fault, fault.Report.Report}
 use Rattle.fb_rules.specs.Reasons.{reason_text}
 
@@ -87,18 +88,28 @@ front_in Json job spot (Err bad) = json_no job.label spot job.rows bad.fault bad
 abbrev pub TellsLine : (List ℕ → Type 0) → (List ℕ → Texts) → Texts → Type 0
 TellsLine IsItsLine there told = (line : List ℕ) × IsItsLine line × (told ≡ there line)
 
--- what is told of a message by its verdict: the line of each, that of each bad message alone, or the good message itself
+-- what is said of a message by its verdict: the line of each, that of each bad message alone, or the good message itself
 -- and, in the notes, the line of a bad one; or the row of a good message, and the line of a bad one in the notes
-abbrev pub ToldBy : Mode → (List ℕ → Type 0) → List ℕ → Verdict → Texts → Type 0
-ToldBy Lines IsItsLine message verdict told = TellsLine IsItsLine to_out told
-ToldBy BadLines IsItsLine message (Ok found) told = told ≡ silent
-ToldBy BadLines IsItsLine message (Err bad) told = TellsLine IsItsLine to_out told
-ToldBy Filter IsItsLine message (Ok found) told = told ≡ to_out message
-ToldBy Filter IsItsLine message (Err bad) told = TellsLine IsItsLine to_notes told
-ToldBy Csv IsItsLine message (Ok found) told = TellsLine IsItsLine to_out told
-ToldBy Csv IsItsLine message (Err bad) told = TellsLine IsItsLine to_notes told
+abbrev pub SaidBy : Mode → (List ℕ → Type 0) → List ℕ → Verdict → Texts → Type 0
+SaidBy Lines IsItsLine message verdict told = TellsLine IsItsLine to_out told
+SaidBy BadLines IsItsLine message (Ok found) told = told ≡ silent
+SaidBy BadLines IsItsLine message (Err bad) told = TellsLine IsItsLine to_out told
+SaidBy Filter IsItsLine message (Ok found) told = told ≡ to_out message
+SaidBy Filter IsItsLine message (Err bad) told = TellsLine IsItsLine to_notes told
+SaidBy Csv IsItsLine message (Ok found) told = TellsLine IsItsLine to_out told
+SaidBy Csv IsItsLine message (Err bad) told = TellsLine IsItsLine to_notes told
+
+-- what the rejects get of it: a bad message itself, where these are kept
+abbrev pub rejected : Verdict → Rejects → List ℕ → List ℕ
+rejected (Ok found) rejects message = []
+rejected (Err bad) Dropped message = []
+rejected (Err bad) Kept message = message
+
+-- both
+abbrev pub ToldBy : Mode → Rejects → (List ℕ → Type 0) → List ℕ → Verdict → Texts → Type 0
+ToldBy mode rejects IsItsLine message verdict told = SaidBy mode IsItsLine message verdict (spoken told) × (told.rejects ≡ rejected verdict rejects message)
 
 -- what is told of the message behind so much, by the verdict on the buffer in it
 pub record IsTold (job : Job) (before : Before) (bytes : List ℕ) (verdict : Verdict) (told : Texts) : Type 0 where
   pub verdict_is : IsVerdict job (buffer_in job bytes) verdict
-  pub text : ToldBy job.mode (IsLine job (spot_of before bytes) verdict) bytes verdict told
+  pub text : ToldBy job.mode job.rejects (IsLine job (spot_of before bytes) verdict) bytes verdict told

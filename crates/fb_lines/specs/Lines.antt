@@ -4,7 +4,7 @@ use Rattle.std.specs.Io.KnownBytes.{Appends, Keeps}
 use Rattle.fb_lines.specs.{Job.Job, Job.Verdict, Ends.Outs, Line.IsTold, Spot.Before, Spot.IsDue, Spot.past, Sums.no_tally, Sums.tally_with}
 use Rattle.fb_lines.specs.Texts.{IsCounted, Sizes, Texts, followed, silent}
 use Rattle.fb_lines.specs.declared.{tally.Tally.Tally, fault.RunFault.RunFault}
-use Rattle.fb_lines.specs.declared.fault.RunFault.TheVariants.{WriteFault, NoteFault}
+use Rattle.fb_lines.specs.declared.fault.RunFault.TheVariants.{WriteFault, NoteFault, RejectFault}
 
 -- the text is what is told of each message, the first of them behind so much and each where another is told, and the
 -- messages come to this by their verdicts
@@ -34,11 +34,20 @@ pub record ComesBehind (waits text waits' : List ℕ) (sink sink' : Option (List
   pub wrote : Appends sink sink' front
   pub written_is : IsCounted (before + length front) written
 
--- a write came to rest within these texts: within that for the writer, with nothing noted, or behind it within the
--- notes
+-- of this text a front was written
+abbrev pub TakesFront : List ℕ → Option (List ℕ) → Option (List ℕ) → Type 0
+TakesFront text sink sink' = (taken : ℕ) × Appends sink sink' (take taken text)
+
+-- a write came to rest within these texts: within that for the writer, with nothing noted; or behind it within the
+-- notes; or behind both within the rejects, of which before a front alone was written
 abbrev pub WritesFronts : Texts → Outs → Outs → Sizes → RunFault → Type 0
 WritesFronts text outs outs' before (WriteFault written) =
     WritesFront text.out outs.writer.bytes outs'.writer.bytes before.out written × Keeps outs.notes.bytes outs'.notes.bytes
+    × TakesFront text.rejects outs.rejects.bytes outs'.rejects.bytes
 WritesFronts text outs outs' before (NoteFault written) =
     Appends outs.writer.bytes outs'.writer.bytes text.out × WritesFront text.notes outs.notes.bytes outs'.notes.bytes before.notes written
+    × TakesFront text.rejects outs.rejects.bytes outs'.rejects.bytes
+WritesFronts text outs outs' before (RejectFault written) =
+    Appends outs.writer.bytes outs'.writer.bytes text.out × Appends outs.notes.bytes outs'.notes.bytes text.notes
+    × WritesFront text.rejects outs.rejects.bytes outs'.rejects.bytes before.rejects written
 WritesFronts text outs outs' before _ = ⊥

@@ -2,11 +2,11 @@
 use Rattle.std.specs.Prelude.{◌≡◌, ℕ, Bool, true, false, List, [], ◌++◌, Result, Ok, Err}
 use Rattle.fb_bytes.specs.Ends.{one_more}
 use Rattle.fb_bytes.specs.declared.ends.Sink as sink
-use Rattle.fb_lines.specs.{Ends.Outs, Ends.Writer, Ends.writer_of, Job.Job, Job.Verdict, Line.IsTold, Line.ToldBy}
+use Rattle.fb_lines.specs.{Ends.Outs, Ends.Writer, Ends.writer_of, Job.Job, Job.Verdict, Line.IsTold, Line.SaidBy, Line.ToldBy}
 use Rattle.fb_lines.specs.Spot.{Before}
 use Rattle.fb_lines.specs.{Lines.ComesBehind, Lines.WritesFront, Sums.tally_with, Texts.Texts}
-use Rattle.fb_lines.specs.declared.{fault.RunFault.RunFault, options.Mode.Mode, output.Output.Output, tally.Tally.Tally, writing.Pending.Pending, writing.Written.Written}
-use Rattle.fb_lines.specs.declared.fault.RunFault.TheVariants.{OutOfMemory, WriteFault, NoteFault}
+use Rattle.fb_lines.specs.declared.{fault.RunFault.RunFault, options.Mode.Mode, options.Rejects.Rejects, output.Output.Output, tally.Tally.Tally, writing.Pending.Pending, writing.Written.Written}
+use Rattle.fb_lines.specs.declared.fault.RunFault.TheVariants.{OutOfMemory, WriteFault, NoteFault, RejectFault}
 
 -- what waits for a writer, how many bytes were written to it, whether a write has failed, and what it has
 pub record Queue : Type 0 where
@@ -45,36 +45,51 @@ Puts text before after = PutsAs before.failed after.failed text before after
 abbrev pub PutsSome : (List ℕ → Type 0) → Queue → Queue → Type 0
 PutsSome IsIt before after = (text : List ℕ) × IsIt text × Puts text before after
 
--- the same for the writer, and for the notes
+-- the same for the writer, for the notes, and for the rejects
 pub record Queues : Type 0 where
   pub out : Queue
   pub notes : Queue
+  pub rejects : Queue
 
-abbrev pub queues_of : {A K N : Type 0} → sink.Ghosts K → sink.Ghosts N → Output A → K → N → Queues
-queues_of k n output writer notes = record { out = queue_of k output.out writer; notes = queue_of n output.notes notes }
+abbrev pub queues_of : {A K N R : Type 0} → sink.Ghosts K → sink.Ghosts N → sink.Ghosts R → Output A → K → N → R → Queues
+queues_of k n r output writer notes rejects = record {
+  out = queue_of k output.out writer;
+  notes = queue_of n output.notes notes;
+  rejects = queue_of r output.rejects rejects;
+}
 
 abbrev pub IsUnused : {A : Type 0} → Output A → Type 0
-IsUnused output = IsBlank output.out × IsBlank output.notes
+IsUnused output = IsBlank output.out × IsBlank output.notes × IsBlank output.rejects
 
 abbrev pub all_unused : Outs → Queues
-all_unused outs = record { out = unused outs.writer; notes = unused outs.notes }
+all_unused outs = record { out = unused outs.writer; notes = unused outs.notes; rejects = unused outs.rejects }
 
-abbrev pub PutsBoth : Texts → Queues → Queues → Type 0
-PutsBoth told before after = Puts told.out before.out after.out × Puts told.notes before.notes after.notes
+abbrev pub PutsAll : Texts → Queues → Queues → Type 0
+PutsAll told before after = Puts told.out before.out after.out × Puts told.notes before.notes after.notes × Puts told.rejects before.rejects after.rejects
 
 -- no write has failed
 abbrev pub AreOpen : Queues → Type 0
-AreOpen queues = (queues.out.failed ≡ false) × (queues.notes.failed ≡ false)
+AreOpen queues = (queues.out.failed ≡ false) × (queues.notes.failed ≡ false) × (queues.rejects.failed ≡ false)
 
--- one has: of the writer, or of the notes behind all that was for the writer
+-- one has: of the writer; of the notes behind all that was for the writer; or of the rejects behind all that was for both
 abbrev pub AreCut : Queues → RunFault → Type 0
-AreCut queues (WriteFault written) = (queues.out.failed ≡ true) × (queues.notes.failed ≡ false) × (written ≡ queues.out.written)
-AreCut queues (NoteFault written) = (queues.notes.failed ≡ true) × (queues.out.failed ≡ false) × (queues.out.waits ≡ []) × (written ≡ queues.notes.written)
+AreCut queues (WriteFault written) =
+    (queues.out.failed ≡ true) × (queues.notes.failed ≡ false) × (queues.rejects.failed ≡ false) × (written ≡ queues.out.written)
+AreCut queues (NoteFault written) =
+    (queues.notes.failed ≡ true) × (queues.out.failed ≡ false) × (queues.rejects.failed ≡ false) × (queues.out.waits ≡ []) × (written ≡ queues.notes.written)
+AreCut queues (RejectFault written) =
+    (queues.rejects.failed ≡ true) × (queues.out.failed ≡ false) × (queues.notes.failed ≡ false) × (queues.out.waits ≡ []) × (queues.notes.waits ≡ [])
+    × (written ≡ queues.rejects.written)
 AreCut queues _ = ⊥
 
--- where a write of the notes has failed, nothing waits for the writer
-abbrev pub AreSound : Queues → Type 0
-AreSound queues = queues.notes.failed ≡ true → (queues.out.failed ≡ false) × (queues.out.waits ≡ [])
+-- nothing waits there, and no write has failed
+abbrev pub IsDone : Queue → Type 0
+IsDone queue = (queue.failed ≡ false) × (queue.waits ≡ [])
+
+-- where a write of the notes has failed, nothing waits for the writer; where one of the rejects has, for neither
+pub record AreSound (queues : Queues) : Type 0 where
+  pub noted : queues.notes.failed ≡ true → IsDone queues.out × (queues.rejects.failed ≡ false)
+  pub rejected : queues.rejects.failed ≡ true → IsDone queues.out × IsDone queues.notes
 
 -- the one of both that an answer tells
 abbrev pub AreSo : Queues → Result (Unit {0}) RunFault → Type 0
@@ -82,24 +97,43 @@ AreSo queues (Ok done) = AreOpen queues
 AreSo queues (Err fault) = AreCut queues fault
 
 -- what the mode tells of a message by this verdict was put there, where this holds of its line
-pub record Tells (mode : Mode) (IsItsLine : List ℕ → Type 0) (message : List ℕ) (verdict : Verdict) (before after : Queues) : Type 0 where
+pub record Tells (mode : Mode) (keeps : Rejects) (IsItsLine : List ℕ → Type 0) (message : List ℕ) (verdict : Verdict) (before after : Queues) : Type 0 where
   pub told : Texts
-  pub is_told : ToldBy mode IsItsLine message verdict told
-  pub puts : PutsBoth told before after
+  pub is_told : ToldBy mode keeps IsItsLine message verdict told
+  pub puts : PutsAll told before after
 
--- the same before any note is written
-pub record Waits (mode : Mode) (IsItsLine : List ℕ → Type 0) (message : List ℕ) (verdict : Verdict) (before after : Queue) (notes notes' : List ℕ) : Type 0 where
+-- what waits for the notes and for the rejects, of which nothing is written yet
+pub record Held : Type 0 where
+  pub notes : List ℕ
+  pub rejects : List ℕ
+
+abbrev pub holding : List ℕ → List ℕ → Held
+holding notes rejects = record { notes = notes; rejects = rejects }
+
+abbrev pub held_of : {A : Type 0} → Output A → Held
+held_of output = holding output.notes.bytes.items output.rejects.bytes.items
+
+-- what is said of it was put there
+pub record Says (mode : Mode) (IsItsLine : List ℕ → Type 0) (message : List ℕ) (verdict : Verdict) (before after : Queue) (notes notes' : List ℕ) : Type 0 where
+  pub said : Texts
+  pub is_said : SaidBy mode IsItsLine message verdict said
+  pub puts : Puts said.out before after
+  pub notes_are : notes' ≡ notes ++ said.notes
+
+-- what is told of it was
+pub record Waits (mode : Mode) (keeps : Rejects) (IsItsLine : List ℕ → Type 0) (message : List ℕ) (verdict : Verdict) (before after : Queue) (held held' : Held) : Type 0 where
   pub told : Texts
-  pub is_told : ToldBy mode IsItsLine message verdict told
+  pub is_told : ToldBy mode keeps IsItsLine message verdict told
   pub puts : Puts told.out before after
-  pub notes_are : notes' ≡ notes ++ told.notes
+  pub notes_are : held'.notes ≡ held.notes ++ told.notes
+  pub rejects_are : held'.rejects ≡ held.rejects ++ told.rejects
 
 -- what is told of the message behind so much was put there, and its verdict was counted
 pub record Adds (job : Job) (before_it : Before) (message : List ℕ) (before after : Queues) (tally tally' : Tally) : Type 0 where
   pub verdict : Verdict
   pub told : Texts
   pub is_told : IsTold job before_it message verdict told
-  pub puts : PutsBoth told before after
+  pub puts : PutsAll told before after
   pub tally_is : tally' ≡ tally_with message verdict tally
 
 -- what holds where a message was added; without memory nothing is put and nothing counted

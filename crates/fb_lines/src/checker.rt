@@ -12,7 +12,7 @@ ghost use Rattle.fb_lines.specs.declared.options.Form.TheVariants.{Json};
 
 use crate::answers::{Answers, MOST_PATHS};
 use crate::json_line::{put_no, put_yes};
-use crate::options::{AskedPath, Form, Mode, Options, Places, Prefix};
+use crate::options::{AskedPath, Form, Mode, Options, Places, Prefix, Rejects};
 use crate::room::Room;
 use crate::spot::Spot;
 use fb_access::{get, place_of, put_location};
@@ -165,6 +165,13 @@ impl<'s, 'n, 'o> Checker<'s, 'n, 'o> {
         ensures { result ≡ self.now.mode }
     {
         self.options.mode
+    }
+
+    /// Whether bad buffers are kept.
+    pub fn rejects(&self) -> Rejects
+        ensures { result ≡ self.now.rejects }
+    {
+        self.options.rejects
     }
 
     /// How lines are written.

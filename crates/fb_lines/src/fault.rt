@@ -20,6 +20,8 @@ pub enum RunFault {
     WriteFault { written: u128 },
     /// The notes failed, or took nothing. `written` counts the bytes that they took in this run.
     NoteFault { written: u128 },
+    /// The rejects failed, or took nothing. `written` counts the bytes that they took in this run.
+    RejectFault { written: u128 },
     /// The stream declares too much, or ends in mid-message.
     Stream(StreamFault),
     /// After 2^32 reads the input had not ended.
@@ -62,6 +64,9 @@ impl RunFault {
             RunFault::WriteFault { written } => counted("write failed after ", *written),
             RunFault::NoteFault { written } => {
                 counted("write to standard error failed after ", *written)
+            }
+            RunFault::RejectFault { written } => {
+                counted("write of rejects failed after ", *written)
             }
             RunFault::Stream(cause) => streamed(cause),
             RunFault::TooManyTurns => Line::of("too many reads"),

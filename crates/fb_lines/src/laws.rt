@@ -2,7 +2,7 @@
 //! theorems.
 
 ghost use Rattle.fb_schema.specs.Rows.{Rows};
-ghost use Rattle.fb_lines.specs.{FilterLaws.PassesAgain, JobTests.Buffers, JsonLaws.DefaultsReadBack, JsonLaws.FloatsReadBack, JsonLaws.NoReadsBack, JsonLaws.YesReadsBack, JsonSums.Summaries, StrictLaws.StrictIsOk};
+ghost use Rattle.fb_lines.specs.{FilterLaws.PassesAgain, JobTests.Buffers, JsonLaws.DefaultsReadBack, JsonLaws.FloatsReadBack, JsonLaws.NoReadsBack, JsonLaws.YesReadsBack, JsonSums.Summaries, RejectLaws.RejectsPart, StrictLaws.StrictIsOk};
 ghost use Rattle.fb_lines.specs.JsonTests.{JsonLines, JsonTexts, JsonValues};
 ghost use Rattle.fb_lines.specs.LineTests.{Lines, Names, Values, Texts};
 ghost use Rattle.fb_lines.specs.declared.options.Options.{Options};
@@ -48,6 +48,14 @@ pub fn buffers()
 /// message has a yes.
 pub fn passed_on_passes_again()
     ensures { PassesAgain }
+{}
+
+/// Where bad messages are kept, each message that a filter tells of stands in one of both outputs, as it came and in the
+/// order of the input: the good ones are passed on, and the bad ones are the rejects. Whatever else is told, the rejects
+/// are the bad messages.
+#[tactic(auto, using(crate::proofs::RejectLemmas::rejects_part))]
+pub fn rejects_part_messages()
+    ensures { RejectsPart }
 {}
 
 /// A buffer that is ok by a plan is ok without it, with the same values, tables and depth, in no more reads: to ask

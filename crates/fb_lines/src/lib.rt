@@ -26,7 +26,7 @@ pub use csv::put_head;
 pub use fault::{RunFault, status};
 pub use json_line::put_text;
 pub use line::Line;
-pub use options::{AskedPath, Form, Mode, Options, Places, Prefix};
+pub use options::{AskedPath, Form, Mode, Options, Places, Prefix, Rejects};
 pub use output::Output;
 pub use room::Room;
 pub use tally::Tally;

@@ -22,6 +22,15 @@ pub enum Mode {
     Csv,
 }
 
+/// What becomes of the bad buffers themselves.
+#[derive(Clone, Copy)]
+pub enum Rejects {
+    /// They are told of alone.
+    Dropped,
+    /// The rejects get each as it is, prefix included, whatever else is told of it.
+    Kept,
+}
+
 /// How lines are written.
 #[derive(Clone, Copy)]
 pub enum Form {
@@ -117,6 +126,8 @@ pub struct Options {
     pub checks: Checks,
     /// What is told of the buffers.
     pub mode: Mode,
+    /// Whether bad buffers are kept.
+    pub rejects: Rejects,
     /// How the places of faults are told.
     pub names: Places,
     /// The name of the input, where each line begins with it and `: `, and each row with it as a string. A byte that

@@ -3,16 +3,16 @@
 ghost use Rattle.std.specs.Prelude.{Err, Ok, OnOk, OnErr, IsTrue, ◌≡◌, ◌+◌, ◌<◌, ◌^◌, ◌++◌, [], false, length};
 ghost use Rattle.fb_lines.specs.{AnswerText.label_text, Ends.outs_of, Spot.HasDue, Spot.IsFull, Spot.past_all, Spot.spot_of, Sums.count_of, Sums.no_tally, Sums.tally_with, Texts.silent};
 ghost use Rattle.fb_lines.specs.Job.{HasRoom, brief_verdict, is_brief, verdict_of};
-ghost use Rattle.fb_lines.specs.Line.{IsLine, IsLineIn, front_in, verdict_line};
-ghost use Rattle.fb_lines.specs.Lines.{AddsText};
-ghost use Rattle.fb_lines.specs.Puts.{AddsBy, AddsOr, AreOpen, AreSo, AreSound, IsUnused, PutsBoth, PutsSome, Tells, Waits, all_unused, queue_of, queues_of};
+ghost use Rattle.fb_lines.specs.Line.{IsLine, IsLineIn, front_in, rejected, verdict_line};
+ghost use Rattle.fb_lines.specs.declared.options.Rejects.{Rejects};
+ghost use Rattle.fb_lines.specs.Puts.{AddsBy, AddsOr, AreOpen, AreSo, AreSound, IsUnused, PutsAll, PutsSome, Says, Tells, Waits, held_of, queue_of, queues_of};
 
 use crate::checker::{Checker, Course, Found, Wrong};
 use crate::counter::Counter;
 use crate::csv::put_row;
 use crate::fault::RunFault;
 use crate::line::Line;
-use crate::options::{Form, Mode};
+use crate::options::{Form, Mode, Rejects};
 use crate::room::Room;
 use crate::spot::Spot;
 use crate::tally::Tally;
@@ -23,7 +23,7 @@ use fb_bytes::Sink;
 use fb_verify::{Fault, Report};
 use std::alloc::{AllocError, Allocator};
 
-/// What a run has told so far: the verdicts, and what waits to be written to the writer and to the notes.
+/// What a run has told so far: the verdicts, and what waits to be written to the writer, to the notes and to the rejects.
 #[derive(Drop)]
 pub struct Output<A: Allocator> {
     pub counter: Counter,
@@ -31,6 +31,8 @@ pub struct Output<A: Allocator> {
     pub out: Pending<A>,
     /// Whole lines.
     pub notes: Pending<A>,
+    /// Whole bad messages.
+    pub rejects: Pending<A>,
     /// A plain line that is being made, but for what it begins with, values, and a place in words.
     line: Line,
     /// A line up to its values, where it has some.
@@ -47,6 +49,7 @@ impl<'a, A: Allocator> Output<&'a A> {
             counter: Counter::new(),
             out: Pending::new(alloc),
             notes: Pending::new(alloc),
+            rejects: Pending::new(alloc),
             line: Line::new(),
             made: Vec::new(alloc),
         }
@@ -58,76 +61,79 @@ impl<A: Allocator> Output<A> {
     /// value is written while its line is made. Where memory is refused, nothing is told of the message, nor is it
     /// counted; where a write fails, it is counted too.
     #[inline(always)]
-    pub fn add<B: Allocator, K: Sink, N: Sink>(
+    pub fn add<B: Allocator, K: Sink, N: Sink, R: Sink>(
         &mut self,
         checker: &Checker<'_, '_, '_>,
         room: &mut Room<B>,
         message: &[u8],
         writer: &mut K,
         notes: &mut N,
+        rejects: &mut R,
     ) -> Result<(), RunFault>
         requires room { HasRoom checker.now room.old }
         requires few { count_of self.old.counter < 2 ^ 63 }
         requires short { length message.now < 2 ^ 31 }
-        requires unfailed { AreOpen (queues_of K.Sink N.Sink self.old writer.old notes.old) }
-        ensures told { AddsBy checker.now (past_all checker.now self.old.counter) message.now (queues_of K.Sink N.Sink self.old writer.old notes.old)
-            (queues_of K.Sink N.Sink self.new writer.new notes.new) self.old.counter self.new.counter result }
+        requires unfailed { AreOpen (queues_of K.Sink N.Sink R.Sink self.old writer.old notes.old rejects.old) }
+        ensures told { AddsBy checker.now (past_all checker.now self.old.counter) message.now (queues_of K.Sink N.Sink R.Sink self.old writer.old notes.old rejects.old)
+            (queues_of K.Sink N.Sink R.Sink self.new writer.new notes.new rejects.new) self.old.counter self.new.counter result }
         ensures one { OnOk result (count_of self.new.counter ≡ count_of self.old.counter + 1) }
         ensures room { HasRoom checker.now room.new }
     {
         if let Course::Brief = checker.course() {
             return match checker.report(room, &mut checker.metered(message)) {
-                Ok(report) => self.add_yes(checker.mode(), message, &report, writer, notes),
-                Err(fault) => self.add_no(checker, message, fault, writer, notes),
+                Ok(report) => self.add_yes(checker.mode(), message, &report, writer, notes, rejects),
+                Err(fault) => self.add_no(checker, message, fault, writer, notes, rejects),
             };
         }
-        self.add_otherwise(checker, room, message, writer, notes)
+        self.add_otherwise(checker, room, message, writer, notes, rejects)
     }
 
     /// The same where there is a plan or more is asked.
     #[inline(never)]
-    fn add_otherwise<B: Allocator, K: Sink, N: Sink>(
+    fn add_otherwise<B: Allocator, K: Sink, N: Sink, R: Sink>(
         &mut self,
         checker: &Checker<'_, '_, '_>,
         room: &mut Room<B>,
         message: &[u8],
         writer: &mut K,
         notes: &mut N,
+        rejects: &mut R,
     ) -> Result<(), RunFault>
         requires room { HasRoom checker.now room.old }
         requires few { count_of self.old.counter < 2 ^ 63 }
         requires short { length message.now < 2 ^ 31 }
-        requires unfailed { AreOpen (queues_of K.Sink N.Sink self.old writer.old notes.old) }
-        ensures told { AddsBy checker.now (past_all checker.now self.old.counter) message.now (queues_of K.Sink N.Sink self.old writer.old notes.old)
-            (queues_of K.Sink N.Sink self.new writer.new notes.new) self.old.counter self.new.counter result }
+        requires unfailed { AreOpen (queues_of K.Sink N.Sink R.Sink self.old writer.old notes.old rejects.old) }
+        ensures told { AddsBy checker.now (past_all checker.now self.old.counter) message.now (queues_of K.Sink N.Sink R.Sink self.old writer.old notes.old rejects.old)
+            (queues_of K.Sink N.Sink R.Sink self.new writer.new notes.new rejects.new) self.old.counter self.new.counter result }
         ensures one { OnOk result (count_of self.new.counter ≡ count_of self.old.counter + 1) }
         ensures room { HasRoom checker.now room.new }
     {
         if let Course::BriefStrictly = checker.course() {
             return match checker.report_strictly(room, checker.metered(message)) {
-                Ok(report) => self.add_yes(checker.mode(), message, &report, writer, notes),
-                Err(fault) => self.add_no(checker, message, fault, writer, notes),
+                Ok(report) => self.add_yes(checker.mode(), message, &report, writer, notes, rejects),
+                Err(fault) => self.add_no(checker, message, fault, writer, notes, rejects),
             };
         }
-        self.add_at_length(checker, room, message, writer, notes)
+        self.add_at_length(checker, room, message, writer, notes, rejects)
     }
 
     /// Adds what the mode tells of the next message with this report, where no more is asked, and counts it.
     #[inline(always)]
-    fn add_yes<K: Sink, N: Sink>(
+    fn add_yes<K: Sink, N: Sink, R: Sink>(
         &mut self,
         mode: Mode,
         message: &[u8],
         report: &Report,
         writer: &mut K,
         notes: &mut N,
+        rejects: &mut R,
     ) -> Result<(), RunFault>
         requires few { count_of self.old.counter < 2 ^ 63 }
         requires short { length message.now < 2 ^ 31 }
-        requires unfailed { AreOpen (queues_of K.Sink N.Sink self.old writer.old notes.old) }
-        ensures told { Tells mode (λ line. line ≡ verdict_line (1 + count_of self.old.counter) (brief_verdict (Ok report.now))) message.now (brief_verdict (Ok report.now))
-            (queues_of K.Sink N.Sink self.old writer.old notes.old) (queues_of K.Sink N.Sink self.new writer.new notes.new) }
-        ensures so { AreSo (queues_of K.Sink N.Sink self.new writer.new notes.new) result }
+        requires unfailed { AreOpen (queues_of K.Sink N.Sink R.Sink self.old writer.old notes.old rejects.old) }
+        ensures told { (keeps : Rejects) → Tells mode keeps (λ line. line ≡ verdict_line (1 + count_of self.old.counter) (brief_verdict (Ok report.now))) message.now (brief_verdict (Ok report.now))
+            (queues_of K.Sink N.Sink R.Sink self.old writer.old notes.old rejects.old) (queues_of K.Sink N.Sink R.Sink self.new writer.new notes.new rejects.new) }
+        ensures so { AreSo (queues_of K.Sink N.Sink R.Sink self.new writer.new notes.new rejects.new) result }
         ensures counted { self.new.counter ≡ tally_with message.now (brief_verdict (Ok report.now)) self.old.counter }
     {
         match mode {
@@ -139,49 +145,51 @@ impl<A: Allocator> Output<A> {
             Mode::Filter => self.out.put(writer, message),
         }
         self.counter.count_yes(message, report);
-        self.settle(writer, notes)
+        self.settle(writer, notes, rejects)
     }
 
     /// Adds what is told of the next message with this fault, where no more is asked, and counts it.
     #[inline(never)]
-    fn add_no<K: Sink, N: Sink>(
+    fn add_no<K: Sink, N: Sink, R: Sink>(
         &mut self,
         checker: &Checker<'_, '_, '_>,
         message: &[u8],
         fault: Fault,
         writer: &mut K,
         notes: &mut N,
+        rejects: &mut R,
     ) -> Result<(), RunFault>
         requires brief { IsTrue (is_brief checker.now) }
         requires few { count_of self.old.counter < 2 ^ 63 }
         requires short { length message.now < 2 ^ 31 }
-        requires unfailed { AreOpen (queues_of K.Sink N.Sink self.old writer.old notes.old) }
-        ensures { AddsOr (Tells checker.now.mode (IsLine checker.now (spot_of (past_all checker.now self.old.counter) message.now) (brief_verdict (Err fault))) message.now (brief_verdict (Err fault))
-            (queues_of K.Sink N.Sink self.old writer.old notes.old) (queues_of K.Sink N.Sink self.new writer.new notes.new) × (self.new.counter ≡ tally_with message.now (brief_verdict (Err fault)) self.old.counter))
-            (queues_of K.Sink N.Sink self.old writer.old notes.old) (queues_of K.Sink N.Sink self.new writer.new notes.new) self.old.counter self.new.counter result }
+        requires unfailed { AreOpen (queues_of K.Sink N.Sink R.Sink self.old writer.old notes.old rejects.old) }
+        ensures { AddsOr (Tells checker.now.mode checker.now.rejects (IsLine checker.now (spot_of (past_all checker.now self.old.counter) message.now) (brief_verdict (Err fault))) message.now (brief_verdict (Err fault))
+            (queues_of K.Sink N.Sink R.Sink self.old writer.old notes.old rejects.old) (queues_of K.Sink N.Sink R.Sink self.new writer.new notes.new rejects.new) × (self.new.counter ≡ tally_with message.now (brief_verdict (Err fault)) self.old.counter))
+            (queues_of K.Sink N.Sink R.Sink self.old writer.old notes.old rejects.old) (queues_of K.Sink N.Sink R.Sink self.new writer.new notes.new rejects.new) self.old.counter self.new.counter result }
     {
         let verdict = Err(Wrong { fault, place: None });
         let spot = self.counter.spot(checker.begin(), message);
         self.tell(checker, b"", &spot, message, &verdict, writer)?;
         self.counter.count(message, &verdict);
-        self.settle(writer, notes)
+        self.settle(writer, notes, rejects)
     }
 
     /// Adds what is told of the next message, also where a value or words are asked for, and counts its verdict.
-    fn add_at_length<B: Allocator, K: Sink, N: Sink>(
+    fn add_at_length<B: Allocator, K: Sink, N: Sink, R: Sink>(
         &mut self,
         checker: &Checker<'_, '_, '_>,
         room: &mut Room<B>,
         message: &[u8],
         writer: &mut K,
         notes: &mut N,
+        rejects: &mut R,
     ) -> Result<(), RunFault>
         requires room { HasRoom checker.now room.old }
         requires few { count_of self.old.counter < 2 ^ 63 }
         requires short { length message.now < 2 ^ 31 }
-        requires unfailed { AreOpen (queues_of K.Sink N.Sink self.old writer.old notes.old) }
-        ensures told { AddsBy checker.now (past_all checker.now self.old.counter) message.now (queues_of K.Sink N.Sink self.old writer.old notes.old)
-            (queues_of K.Sink N.Sink self.new writer.new notes.new) self.old.counter self.new.counter result }
+        requires unfailed { AreOpen (queues_of K.Sink N.Sink R.Sink self.old writer.old notes.old rejects.old) }
+        ensures told { AddsBy checker.now (past_all checker.now self.old.counter) message.now (queues_of K.Sink N.Sink R.Sink self.old writer.old notes.old rejects.old)
+            (queues_of K.Sink N.Sink R.Sink self.new writer.new notes.new rejects.new) self.old.counter self.new.counter result }
         ensures one { OnOk result (count_of self.new.counter ≡ count_of self.old.counter + 1) }
         ensures room { HasRoom checker.now room.new }
     {
@@ -190,11 +198,11 @@ impl<A: Allocator> Output<A> {
         let spot = self.counter.spot(checker.begin(), message);
         self.tell(checker, begin, &spot, message, &verdict, writer)?;
         self.counter.count(message, &verdict);
-        self.settle(writer, notes)
+        self.settle(writer, notes, rejects)
     }
 
-    /// Puts what is told of the message there by this verdict, where plain lines begin so. Of the notes nothing is
-    /// written.
+    /// Puts what is told of the message there by this verdict, where plain lines begin so. Of the notes and the rejects
+    /// nothing is written.
     fn tell<K: Sink>(
         &mut self,
         checker: &Checker<'_, '_, '_>,
@@ -205,11 +213,41 @@ impl<A: Allocator> Output<A> {
         writer: &mut K,
     ) -> Result<(), AllocError>
         requires begin { begin.now ≡ label_text checker.now.label }
-        ensures ok { OnOk result (Waits checker.now.mode (IsLine checker.now spot.now (verdict_of verdict.now)) message.now (verdict_of verdict.now)
+        ensures ok { OnOk result (Waits checker.now.mode checker.now.rejects (IsLine checker.now spot.now (verdict_of verdict.now)) message.now (verdict_of verdict.now)
+            (queue_of K.Sink self.old.out writer.old) (queue_of K.Sink self.new.out writer.new) (held_of self.old) (held_of self.new)) }
+        ensures err { OnErr result (queue_of K.Sink self.new.out writer.new ≡ queue_of K.Sink self.old.out writer.old) }
+        ensures err_held { OnErr result (held_of self.new ≡ held_of self.old) }
+        ensures noted { self.new.notes.written ≡ self.old.notes.written }
+        ensures kept { self.new.rejects.written ≡ self.old.rejects.written }
+        ensures counted { self.new.counter ≡ self.old.counter }
+    {
+        let held = self.rejects.bytes.len();
+        keep(&mut self.rejects.bytes, checker.rejects(), message, verdict)?;
+        let said = self.say(checker, begin, spot, message, verdict, writer);
+        if said.is_err() {
+            self.rejects.bytes.truncate(held);
+        }
+        said
+    }
+
+    /// Puts what is said of the message there by this verdict, where plain lines begin so. Of the notes nothing is
+    /// written.
+    fn say<K: Sink>(
+        &mut self,
+        checker: &Checker<'_, '_, '_>,
+        begin: &[u8],
+        spot: &Spot,
+        message: &[u8],
+        verdict: &Result<Found<'_>, Wrong<'_>>,
+        writer: &mut K,
+    ) -> Result<(), AllocError>
+        requires begin { begin.now ≡ label_text checker.now.label }
+        ensures ok { OnOk result (Says checker.now.mode (IsLine checker.now spot.now (verdict_of verdict.now)) message.now (verdict_of verdict.now)
             (queue_of K.Sink self.old.out writer.old) (queue_of K.Sink self.new.out writer.new) self.old.notes.bytes.items self.new.notes.bytes.items) }
         ensures err { OnErr result (queue_of K.Sink self.new.out writer.new ≡ queue_of K.Sink self.old.out writer.old) }
         ensures err_noted { OnErr result (self.new.notes.bytes.items ≡ self.old.notes.bytes.items) }
         ensures noted { self.new.notes.written ≡ self.old.notes.written }
+        ensures rejects { self.new.rejects ≡ self.old.rejects }
         ensures counted { self.new.counter ≡ self.old.counter }
     {
         match verdict {
@@ -248,6 +286,7 @@ impl<A: Allocator> Output<A> {
         ensures ok { OnOk result (PutsSome (IsLineIn checker.now.form checker.now spot.now (verdict_of verdict.now)) (queue_of K.Sink self.old.out writer.old) (queue_of K.Sink self.new.out writer.new)) }
         ensures err { OnErr result (queue_of K.Sink self.new.out writer.new ≡ queue_of K.Sink self.old.out writer.old) }
         ensures notes { self.new.notes ≡ self.old.notes }
+        ensures rejects { self.new.rejects ≡ self.old.rejects }
         ensures counted { self.new.counter ≡ self.old.counter }
     {
         self.make_front(checker, begin, spot, verdict)?;
@@ -278,6 +317,7 @@ impl<A: Allocator> Output<A> {
         ensures err { OnErr result (self.new.notes.bytes.items ≡ self.old.notes.bytes.items) }
         ensures out { self.new.out ≡ self.old.out }
         ensures noted { self.new.notes.written ≡ self.old.notes.written }
+        ensures rejects { self.new.rejects ≡ self.old.rejects }
         ensures counted { self.new.counter ≡ self.old.counter }
     {
         self.make_front(checker, begin, spot, verdict)?;
@@ -297,6 +337,7 @@ impl<A: Allocator> Output<A> {
         ensures front { OnOk result (self.new.made.items ≡ front_in checker.now.form checker.now spot.now (verdict_of verdict.now)) }
         ensures out { self.new.out ≡ self.old.out }
         ensures notes { self.new.notes ≡ self.old.notes }
+        ensures rejects { self.new.rejects ≡ self.old.rejects }
         ensures counted { self.new.counter ≡ self.old.counter }
     {
         self.made.clear();
@@ -314,29 +355,33 @@ impl<A: Allocator> Output<A> {
         }
     }
 
-    /// Writes what waits where a message is told and much waits for the notes: first for the writer. A write that failed
-    /// is answered.
+    /// Writes what waits where a message is told and much waits for the notes or the rejects: first for the writer. A write
+    /// that failed is answered.
     #[inline(always)]
-    fn settle<K: Sink, N: Sink>(&mut self, writer: &mut K, notes: &mut N) -> Result<(), RunFault>
+    fn settle<K: Sink, N: Sink, R: Sink>(&mut self, writer: &mut K, notes: &mut N, rejects: &mut R) -> Result<(), RunFault>
         requires unfailed { self.old.notes.written.failed ≡ false }
-        ensures puts { PutsBoth silent (queues_of K.Sink N.Sink self.old writer.old notes.old) (queues_of K.Sink N.Sink self.new writer.new notes.new) }
-        ensures so { AreSo (queues_of K.Sink N.Sink self.new writer.new notes.new) result }
+        requires unfailed_rejects { self.old.rejects.written.failed ≡ false }
+        ensures puts { PutsAll silent (queues_of K.Sink N.Sink R.Sink self.old writer.old notes.old rejects.old) (queues_of K.Sink N.Sink R.Sink self.new writer.new notes.new rejects.new) }
+        ensures so { AreSo (queues_of K.Sink N.Sink R.Sink self.new writer.new notes.new rejects.new) result }
         ensures little { OnOk result (length self.new.notes.bytes.items < 65536) }
+        ensures few { OnOk result (length self.new.rejects.bytes.items < 65536) }
         ensures counted { self.new.counter ≡ self.old.counter }
     {
-        if self.out.written.failed || self.notes.bytes.len() >= MOST_WAITING {
-            return self.flush(writer, notes);
+        let much = self.notes.bytes.len() >= MOST_WAITING || self.rejects.bytes.len() >= MOST_WAITING;
+        if self.out.written.failed || much {
+            return self.flush(writer, notes, rejects);
         }
         Ok(())
     }
 
-    /// Writes what waits, first for the writer and then for the notes.
-    pub fn flush<K: Sink, N: Sink>(&mut self, writer: &mut K, notes: &mut N) -> Result<(), RunFault>
-        requires sound { AreSound (queues_of K.Sink N.Sink self.old writer.old notes.old) }
-        ensures puts { PutsBoth silent (queues_of K.Sink N.Sink self.old writer.old notes.old) (queues_of K.Sink N.Sink self.new writer.new notes.new) }
-        ensures so { AreSo (queues_of K.Sink N.Sink self.new writer.new notes.new) result }
+    /// Writes what waits, first for the writer, then for the notes, and then for the rejects.
+    pub fn flush<K: Sink, N: Sink, R: Sink>(&mut self, writer: &mut K, notes: &mut N, rejects: &mut R) -> Result<(), RunFault>
+        requires sound { AreSound (queues_of K.Sink N.Sink R.Sink self.old writer.old notes.old rejects.old) }
+        ensures puts { PutsAll silent (queues_of K.Sink N.Sink R.Sink self.old writer.old notes.old rejects.old) (queues_of K.Sink N.Sink R.Sink self.new writer.new notes.new rejects.new) }
+        ensures so { AreSo (queues_of K.Sink N.Sink R.Sink self.new writer.new notes.new rejects.new) result }
         ensures written { OnOk result (self.new.out.bytes.items ≡ []) }
         ensures noted { OnOk result (self.new.notes.bytes.items ≡ []) }
+        ensures kept { OnOk result (self.new.rejects.bytes.items ≡ []) }
         ensures counted { self.new.counter ≡ self.old.counter }
     {
         self.out.flush(writer);
@@ -348,6 +393,11 @@ impl<A: Allocator> Output<A> {
         if self.notes.written.failed {
             let written = self.notes.written.bytes;
             return Err(RunFault::NoteFault { written });
+        }
+        self.rejects.flush(rejects);
+        if self.rejects.written.failed {
+            let written = self.rejects.written.bytes;
+            return Err(RunFault::RejectFault { written });
         }
         Ok(())
     }
@@ -386,5 +436,21 @@ impl<A: Allocator> Output<A> {
         ensures { result ≡ self.now.counter }
     {
         self.counter.tally()
+    }
+}
+
+/// Puts a bad message behind what waits for the rejects, where bad ones are kept.
+fn keep<A: Allocator>(
+    waits: &mut Vec<u8, A>,
+    keeps: Rejects,
+    message: &[u8],
+    verdict: &Result<Found<'_>, Wrong<'_>>,
+) -> Result<(), AllocError>
+    ensures ok { OnOk result (waits.new.items ≡ waits.old.items ++ rejected (verdict_of verdict.now) keeps message.now) }
+    ensures err { OnErr result (waits.new.items ≡ waits.old.items) }
+{
+    match (verdict, keeps) {
+        (Err(_), Rejects::Kept) => waits.extend_from_slice(message),
+        _ => Ok(()),
     }
 }

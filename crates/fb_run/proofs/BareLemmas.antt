@@ -1,17 +1,18 @@
 -- What is told of a bare input, of which a front was written.
-use Rattle.std.proofs.Common.{◌≡◌, ◌∙◌, ℕ, ◌+◌, ◌-◌, List, [], Option, Some, None, Ok, Err, OnOk, ap, arith, length, length-append, refl, subst, sym}
+use Rattle.std.proofs.Common.{◌≡◌, ◌∙◌, ℕ, ◌+◌, ◌-◌, List, [], Option, Some, None, Ok, Err, OnOk, ap, arith, false, length, length-append, refl, subst, sym, take}
 use mathlib.Core.Logic.{◌⊎◌, inl, inr}
 use Rattle.std.specs.Io.KnownBytes.{Appends, Keeps}
 use Rattle.std.proofs.KnownBytes.{Keeps-refl}
 use Rattle.std.proofs.lemmas.List.{append-nil, nil_from_length}
+use Rattle.std.proofs.Math.Seq.{take-append_seam}
 use Rattle.fb_bytes.specs.declared.ends.Sink as sink
 use Rattle.fb_lines.specs.declared.output.Output.{Output}
-use Rattle.fb_lines.specs.Ends.{Outs, Reader, beside, outs_of}
-use Rattle.fb_lines.specs.{Job.Job, Job.Verdict, Job.checked_in, Line.IsLine, Line.ToldBy, Spot.Before, Spot.at_first, Spot.past_all, Spot.spot_of, Sums.no_tally}
+use Rattle.fb_lines.specs.Ends.{Outs, Reader, all_outs, beside}
+use Rattle.fb_lines.specs.{Job.Job, Job.Verdict, Job.checked_in, Line.IsLine, Line.SaidBy, Spot.Before, Spot.at_first, Spot.past_all, Spot.spot_of, Sums.no_tally}
 use Rattle.fb_lines.specs.Faults.{End, EndsBeside}
-use Rattle.fb_lines.specs.Lines.{WritesFront, WritesFronts}
-use Rattle.fb_lines.specs.Puts.{Adds, AddsBy, AreCut, AreSo, IsUnused, PutsBoth, Queues, all_unused, queues_of}
-use Rattle.fb_lines.specs.Texts.{Texts, no_bytes, silent}
+use Rattle.fb_lines.specs.Lines.{ComesBehind, TakesFront, WritesFront, WritesFronts}
+use Rattle.fb_lines.specs.Puts.{Adds, AddsBy, AreCut, AreSo, IsUnused, PutsAll, Queues, all_unused, queues_of}
+use Rattle.fb_lines.specs.Texts.{Texts, no_bytes, silent, spoken}
 use Rattle.fb_lines.specs.declared.{tally.Tally.Tally, fault.RunFault.RunFault, options.Mode.Mode}
 use Rattle.fb_lines.specs.declared.options.Mode.TheVariants.{Lines, BadLines, Filter, Csv}
 use Rattle.fb_lines.specs.declared.fault.RunFault.TheVariants as run
@@ -20,8 +21,9 @@ use Rattle.fb_run.proofs.{RunLemmas.caused_at, StreamLemmas.still, TakesLemmas.c
 use Rattle.fb_run.proofs.TakesLemmas.{put_behind, put_front, takes_all, written_all}
 
 -- of an output that is unused nothing was put
-pub unused_queues : {A K N : Type 0} (k : sink.Ghosts K) (n : sink.Ghosts N) (output : Output A) (writer : K) (notes : N) → IsUnused output → queues_of k n output writer notes ≡ all_unused (outs_of k n writer notes)
-unused_queues k n output writer notes ((none, out), (no_notes, noted)) = rw (none, out, no_notes, noted) refl
+pub unused_queues : {A K N R : Type 0} (k : sink.Ghosts K) (n : sink.Ghosts N) (r : sink.Ghosts R) (output : Output A) (writer : K) (notes : N) (rejects : R) → IsUnused output
+    → queues_of k n r output writer notes rejects ≡ all_unused (all_outs k n r writer notes rejects)
+unused_queues k n r output writer notes rejects ((none, out), (no_notes, noted), (no_rejects, kept)) = rw (none, out, no_notes, noted, no_rejects, kept) refl
 
 -- behind nothing else
 pub begun : (job : Job) (bytes : List ℕ) (first : Outs) (before now : Queues) (tally tally' : Tally) (end : End) → before ≡ all_unused first → tally ≡ no_tally
@@ -37,15 +39,20 @@ pub on_ok : {P : Type 0} (end : End) → OnOk end P → end ≡ Ok tt → P
 on_ok (Ok done) holds is = holds
 on_ok (Err fault) holds is = absurd cc
 
--- what is told of one message goes to the writer alone, or to the notes
-alone : (mode : Mode) (P : List ℕ → Type 0) (message : List ℕ) (v : Verdict) (told : Texts) → ToldBy mode P message v told → (told.out ≡ []) ⊎ (told.notes ≡ [])
-alone Lines P message v told (line, is, there) = inr (rw there refl)
-alone BadLines P message (Ok found) told nothing = inr (rw nothing refl)
-alone BadLines P message (Err bad) told (line, is, there) = inr (rw there refl)
-alone Filter P message (Ok found) told passed = inr (rw passed refl)
-alone Filter P message (Err bad) told (line, is, there) = inl (rw there refl)
-alone Csv P message (Ok found) told (line, is, there) = inr (rw there refl)
-alone Csv P message (Err bad) told (line, is, there) = inl (rw there refl)
+-- what is said of one message goes to the writer alone, or to the notes
+alone : (mode : Mode) (P : List ℕ → Type 0) (message : List ℕ) (v : Verdict) (told : Texts) → SaidBy mode P message v (spoken told) → (told.out ≡ []) ⊎ (told.notes ≡ [])
+alone Lines P message v told (line, is, there) = inr (ap (λ (t : Texts). t.notes) there)
+alone BadLines P message (Ok found) told nothing = inr (ap (λ (t : Texts). t.notes) nothing)
+alone BadLines P message (Err bad) told (line, is, there) = inr (ap (λ (t : Texts). t.notes) there)
+alone Filter P message (Ok found) told passed = inr (ap (λ (t : Texts). t.notes) passed)
+alone Filter P message (Err bad) told (line, is, there) = inl (ap (λ (t : Texts). t.out) there)
+alone Csv P message (Ok found) told (line, is, there) = inr (ap (λ (t : Texts). t.notes) there)
+alone Csv P message (Err bad) told (line, is, there) = inl (ap (λ (t : Texts). t.out) there)
+
+-- where nothing waited before, a front is written
+front_taken : (text waits : List ℕ) (sink sink' : Option (List ℕ)) (before written : ℕ) → ComesBehind [] text waits sink sink' before written → TakesFront text sink sink'
+front_taken text waits sink sink' before written behind =
+    (length behind.front, subst (Appends sink sink') (sym (ap (take (length behind.front)) behind.whole ∙ take-append_seam behind.front waits)) behind.wrote)
 
 -- where nothing came, nothing changed
 keeps_nil : (a b : Option (List ℕ)) → Appends a b [] → Keeps a b
@@ -54,22 +61,32 @@ keeps_nil (Some xs) None grown = grown
 keeps_nil (Some xs) (Some ys) grown = grown ∙ append-nil xs
 
 module _ (job : Job) (bytes : List ℕ) (is_input : IsBareInput job bytes) (first : Outs) (now : Queues) (tally : Tally) (adds : Adds job (at_first job) (checked_in job bytes) (all_unused first) now no_tally tally) where
+  fronted : now.rejects.failed ≡ false → TakesFront adds.told.rejects first.rejects.bytes now.rejects.writer.bytes
+  fronted fine = front_taken adds.told.rejects now.rejects.waits first.rejects.bytes now.rejects.writer.bytes 0 now.rejects.written (put_behind adds.told.rejects first.rejects now.rejects fine adds.puts.2).0
+
   -- a write came to rest
   fronts : (fault : RunFault) → AreCut now fault → WritesFronts adds.told first (outs_in now) no_bytes fault
-  fronts (run.WriteFault written) (cut, fine, is) =
+  fronts (run.WriteFault written) (cut, fine, right, is) =
       let front = (put_front adds.told.out first.writer now.out cut adds.puts.0).0 in
       let behind = (put_behind adds.told.notes first.notes now.notes fine adds.puts.1).0 in
-      let none : adds.told.notes ≡ [] = elim (alone job.mode (IsLine job (spot_of (at_first job) (checked_in job bytes)) adds.verdict) (checked_in job bytes) adds.verdict adds.told adds.is_told.text) [
+      let none : adds.told.notes ≡ [] = elim (alone job.mode (IsLine job (spot_of (at_first job) (checked_in job bytes)) adds.verdict) (checked_in job bytes) adds.verdict adds.told adds.is_told.text.0) [
         | inl nothing ↦ absurd (omega (arith, front.within, ap length nothing))
         | inr nothing ↦ nothing
       ] in
       let blank : behind.front ≡ [] = nil_from_length behind.front (omega (arith, ap length (sym behind.whole ∙ none), length-append behind.front now.notes.waits)) in (
         subst (λ (n : ℕ). WritesFront adds.told.out first.writer.bytes now.out.writer.bytes 0 n) (sym is) front,
         keeps_nil first.notes.bytes now.notes.writer.bytes (subst (Appends first.notes.bytes now.notes.writer.bytes) blank behind.wrote),
+        fronted right,
       )
-  fronts (run.NoteFault written) (cut, fine, none, is) = (
+  fronts (run.NoteFault written) (cut, fine, right, none, is) = (
     written_all adds.told.out first.writer now.out fine none adds.puts.0,
     subst (λ (n : ℕ). WritesFront adds.told.notes first.notes.bytes now.notes.writer.bytes 0 n) (sym is) (put_front adds.told.notes first.notes now.notes cut adds.puts.1).0,
+    fronted right,
+  )
+  fronts (run.RejectFault written) (cut, fine, right, none, unnoted, is) = (
+    written_all adds.told.out first.writer now.out fine none adds.puts.0,
+    written_all adds.told.notes first.notes now.notes right unnoted adds.puts.1,
+    subst (λ (n : ℕ). WritesFront adds.told.rejects first.rejects.bytes now.rejects.writer.bytes 0 n) (sym is) (put_front adds.told.rejects first.rejects now.rejects cut adds.puts.2).0,
   )
   fronts _ never = absurd never
 
@@ -90,21 +107,26 @@ module _ (job : Job) {buffer : List ℕ} {begun last : Reader} (first : Outs) (t
     (whole.bytes, whole.read, part job whole.bytes whole.is_input first now tally adds (run.NoteFault written) cut),
     caused_at begun.failures last.failures (begun.calls + turns - last.calls) last.ended first (outs_in now) (run.NoteFault written) whole.unfailed (cut_caused adds.told first now adds.puts (run.NoteFault written) cut),
   )
+  cut_run now (run.RejectFault written) adds cut = (
+    (whole.bytes, whole.read, part job whole.bytes whole.is_input first now tally adds (run.RejectFault written) cut),
+    caused_at begun.failures last.failures (begun.calls + turns - last.calls) last.ended first (outs_in now) (run.RejectFault written) whole.unfailed (cut_caused adds.told first now adds.puts (run.RejectFault written) cut),
+  )
   cut_run now _ adds never = absurd never
 
   -- it was not told to its end
   stops : (now : Queues) (fault : RunFault) → AddsBy job (at_first job) (checked_in job whole.bytes) (all_unused first) now no_tally tally (Err fault) → IsRun now (Err fault)
   stops now run.OutOfMemory (same, counted) =
-      rw same ((whole.bytes, whole.read, (whole.is_input.within, ((Keeps-refl first.writer.bytes, Keeps-refl first.notes.bytes), counted))), (whole.unfailed, refl, refl))
+      rw same ((whole.bytes, whole.read, (whole.is_input.within, ((Keeps-refl first.writer.bytes, Keeps-refl first.notes.bytes, Keeps-refl first.rejects.bytes), counted))), (whole.unfailed, refl, refl, refl))
   stops now (run.WriteFault written) (adds, cut) = cut_run now (run.WriteFault written) adds cut
   stops now (run.NoteFault written) (adds, cut) = cut_run now (run.NoteFault written) adds cut
+  stops now (run.RejectFault written) (adds, cut) = cut_run now (run.RejectFault written) adds cut
   stops now _ (adds, never) = absurd never
 
   pub bare_stops : (now : Queues) (fault : RunFault) → AddsBy job (at_first job) buffer (all_unused first) now no_tally tally (Err fault) → IsRun now (Err fault)
   bare_stops now fault adds = stops now fault (subst (λ (l : List ℕ). AddsBy job (at_first job) l (all_unused first) now no_tally tally (Err fault)) whole.buffer_is adds)
 
   -- what waited was written
-  ends : (mid now : Queues) (end : End) → AddsBy job (at_first job) (checked_in job whole.bytes) (all_unused first) mid no_tally tally (Ok tt) → PutsBoth silent mid now → AreSo now end → (end ≡ Ok tt → AreEmpty now) → IsRun now end
+  ends : (mid now : Queues) (end : End) → AddsBy job (at_first job) (checked_in job whole.bytes) (all_unused first) mid no_tally tally (Ok tt) → PutsAll silent mid now → AreSo now end → (end ≡ Ok tt → AreEmpty now) → IsRun now end
   ends mid now end (adds, fine) none so empty =
       let all : Adds job (at_first job) (checked_in job whole.bytes) (all_unused first) now no_tally tally = record { verdict = adds.verdict; told = adds.told; is_told = adds.is_told; puts = still job first adds.told mid now adds.puts none; tally_is = adds.tally_is } in
       by end all so empty
@@ -123,10 +145,10 @@ module _ (job : Job) {buffer : List ℕ} {begun last : Reader} (first : Outs) (t
               takes = takes_all all.told first now all.puts fine (empty refl);
               tally_is = all.tally_is;
             },
-            (whole.unfailed, unfailed.0, unfailed.1),
+            (whole.unfailed, unfailed.0, unfailed.1, unfailed.2),
           )
       by (Err fault) all cut empty = cut_run now fault all cut
 
-  pub bare_ends : (mid now : Queues) (end : End) → AddsBy job (at_first job) buffer (all_unused first) mid no_tally tally (Ok tt) → PutsBoth silent mid now → AreSo now end
+  pub bare_ends : (mid now : Queues) (end : End) → AddsBy job (at_first job) buffer (all_unused first) mid no_tally tally (Ok tt) → PutsAll silent mid now → AreSo now end
       → (end ≡ Ok tt → AreEmpty now) → IsRun now end
   bare_ends mid now end adds = ends mid now end (subst (λ (l : List ℕ). AddsBy job (at_first job) l (all_unused first) mid no_tally tally (Ok tt)) whole.buffer_is adds)

@@ -10,7 +10,7 @@ use Rattle.fb_bytes.specs.declared.stream_fault.StreamFault.TheVariants as strea
 use Rattle.fb_lines.specs.{Ends.Ends, Ends.Outs, Ends.Reader, Ends.Takes, Ends.beside, Job.Job, Job.checked_in, Job.cut_of, Lines.AreTold, Spot.IsDue, Spot.IsFull, Spot.at_first, Spot.past_all, Sums.count_of, Sums.no_tally}
 use Rattle.fb_lines.specs.Faults.{End, EndsBeside, IsCaused, IsCausedOut, IsUnfailedOut, end_of, failed}
 use Rattle.fb_lines.specs.Puts.{AreOpen, Queues, all_unused}
-use Rattle.fb_lines.specs.Texts.{Texts, followed, silent, to_notes}
+use Rattle.fb_lines.specs.Texts.{Texts, followed, silent, to_rejects}
 use Rattle.fb_lines.specs.declared.{fault.RunFault.RunFault, tally.Tally.Tally}
 use Rattle.fb_lines.specs.declared.fault.RunFault.TheVariants as run
 use Rattle.fb_run.specs.{Leave.IsUnended, Prompt.IsPrompt, Prompt.IsPromptFrom, Prompt.IsStreamPrompt, Run.answer_by, Run.IsRunBeside, Run.IsRunFrom, Run.Runs}
@@ -49,8 +49,8 @@ sofar_nothing job reader outs here skip turns skips due ready unused counted non
   stands = subst (λ (l : List ℕ). Stands job outs l here) (sym (drop_all job.begin [] (omega arith))) (stands_first job outs here unused counted none);
   due = rw counted (record { messages = due.messages; bad = due.bad });
   ready = ready;
-  unfailed = rw unused (refl, refl);
-  empty = rw unused (refl, refl);
+  unfailed = rw unused (refl, refl, refl);
+  empty = rw unused (refl, refl, refl);
   fewer = omega arith;
   calls = omega arith;
   few = omega (arith, ap count_of counted);
@@ -60,18 +60,19 @@ sofar_nothing job reader outs here skip turns skips due ready unused counted non
 -- a write failed behind a front of what is told of these bytes, or the run came to rest with all of that written
 halts_fails : (job : Job) (first reader : Reader) (before : Outs) (bytes : List ℕ) (tally : Tally) (queues : Queues) (fault : RunFault) → Consumes first.left reader.left bytes
     → Halts job before (checked_in job bytes) tally queues fault → AreSettled queues fault → FailsStream job (beside first before) (beside reader (outs_in queues)) tally fault
-halts_fails job first reader before bytes tally queues (run.WriteFault written) read (some, (cut, fine, is)) settled =
+halts_fails job first reader before bytes tally queues (run.WriteFault written) read (some, (cut, fine, right, is)) settled =
     let front = (put_front some.text.out before.writer queues.out cut some.puts.0).0 in
     let notes = (put_behind some.text.notes before.notes queues.notes fine some.puts.1).0 in
-    let gone : Texts = record { out = take front.taken some.text.out; notes = notes.front } in
-    let more : Texts = record { out = drop front.taken some.text.out; notes = queues.notes.waits } in
-    let whole : some.text ≡ followed gone more = same_texts _ _ _ _ (sym (take-append-drop front.taken some.text.out)) notes.whole in
+    let rejects = (put_behind some.text.rejects before.rejects queues.rejects right some.puts.2).0 in
+    let gone : Texts = record { out = take front.taken some.text.out; notes = notes.front; rejects = rejects.front } in
+    let more : Texts = record { out = drop front.taken some.text.out; notes = queues.notes.waits; rejects = queues.rejects.waits } in
+    let whole : some.text ≡ followed gone more = same_texts _ _ _ _ _ _ (sym (take-append-drop front.taken some.text.out)) notes.whole rejects.whole in
     let long : length gone.out ≡ front.taken = length-take-le front.taken some.text.out (omega (arith, front.within)) in
     record {
       bytes = bytes;
       text = gone;
       read = read;
-      takes = record { wrote = front.wrote; noted = notes.wrote };
+      takes = record { wrote = front.wrote; noted = notes.wrote; rejected = rejects.wrote };
       rests = (
         some.done ++ some.left,
         some.rest,
@@ -93,17 +94,56 @@ halts_fails job first reader before bytes tally queues (run.WriteFault written) 
         ),
       );
     }
-halts_fails job first reader before bytes tally queues (run.NoteFault written) read (some, (cut, fine, none, is)) settled =
+halts_fails job first reader before bytes tally queues (run.NoteFault written) read (some, (cut, fine, right, none, is)) settled =
     let front = (put_front some.text.notes before.notes queues.notes cut some.puts.1).0 in
-    let gone : Texts = record { out = some.text.out; notes = take front.taken some.text.notes } in
-    let more = drop front.taken some.text.notes in
-    let whole : some.text ≡ followed gone (to_notes more) = same_texts _ _ _ _ (sym (append-nil some.text.out)) (sym (take-append-drop front.taken some.text.notes)) in
+    let rejects = (put_behind some.text.rejects before.rejects queues.rejects right some.puts.2).0 in
+    let gone : Texts = record { out = some.text.out; notes = take front.taken some.text.notes; rejects = rejects.front } in
+    let more : Texts = record { out = []; notes = drop front.taken some.text.notes; rejects = queues.rejects.waits } in
+    let whole : some.text ≡ followed gone more = same_texts _ _ _ _ _ _ (sym (append-nil some.text.out)) (sym (take-append-drop front.taken some.text.notes)) rejects.whole in
     let long : length gone.notes ≡ front.taken = length-take-le front.taken some.text.notes (omega (arith, front.within)) in
     record {
       bytes = bytes;
       text = gone;
       read = read;
-      takes = record { wrote = written_all some.text.out before.writer queues.out fine none some.puts.0; noted = front.wrote };
+      takes = record { wrote = written_all some.text.out before.writer queues.out fine none some.puts.0; noted = front.wrote; rejected = rejects.wrote };
+      rests = (
+        some.done ++ some.left,
+        some.rest,
+        some.splits,
+        (
+          λ few. omega (arith, is, long, front.written_is (omega (arith, few, long))),
+          (
+            more,
+            refl,
+            (
+              some.done ++ some.left,
+              some.rest,
+              some.done,
+              some.left,
+              some.splits,
+              refl,
+              subst (λ (t : Texts). AreTold job (at_first job) some.done t tally) whole some.told,
+            ),
+          ),
+        ),
+      );
+    }
+halts_fails job first reader before bytes tally queues (run.RejectFault written) read (some, (cut, fine, right, none, unnoted, is)) settled =
+    let front = (put_front some.text.rejects before.rejects queues.rejects cut some.puts.2).0 in
+    let gone : Texts = record { out = some.text.out; notes = some.text.notes; rejects = take front.taken some.text.rejects } in
+    let more = drop front.taken some.text.rejects in
+    let whole : some.text ≡ followed gone (to_rejects more) =
+    same_texts _ _ _ _ _ _ (sym (append-nil some.text.out)) (sym (append-nil some.text.notes)) (sym (take-append-drop front.taken some.text.rejects)) in
+    let long : length gone.rejects ≡ front.taken = length-take-le front.taken some.text.rejects (omega (arith, front.within)) in
+    record {
+      bytes = bytes;
+      text = gone;
+      read = read;
+      takes = record {
+        wrote = written_all some.text.out before.writer queues.out fine none some.puts.0;
+        noted = written_all some.text.notes before.notes queues.notes right unnoted some.puts.1;
+        rejected = front.wrote;
+      };
       rests = (
         some.done ++ some.left,
         some.rest,
@@ -144,10 +184,11 @@ halts_fails job first reader before bytes tally queues _ read (some, never) sett
 halts_caused : (job : Job) (before : Outs) (bytes : List ℕ) (tally : Tally) (queues : Queues) (fault : RunFault) → Halts job before bytes tally queues fault → IsCausedOut before (outs_in queues) fault
 halts_caused job before bytes tally queues (run.WriteFault written) (some, cut) reads left ended = cut_caused some.text before queues some.puts (run.WriteFault written) cut reads left ended
 halts_caused job before bytes tally queues (run.NoteFault written) (some, cut) reads left ended = cut_caused some.text before queues some.puts (run.NoteFault written) cut reads left ended
+halts_caused job before bytes tally queues (run.RejectFault written) (some, cut) reads left ended = cut_caused some.text before queues some.puts (run.RejectFault written) cut reads left ended
 halts_caused job before bytes tally queues run.OutOfMemory (some, fine) reads left ended =
-    let none = none_failed some.text before queues some.puts fine in (refl, none.0, none.1)
+    let none = none_failed some.text before queues some.puts fine in (refl, none.0, none.1, none.2)
 halts_caused job before bytes tally queues (run.Stream (stream.Oversize number)) (some, (due, fine, none, over, is)) reads left ended =
-    let kept = none_failed some.text before queues some.puts fine in (refl, kept.0, kept.1)
+    let kept = none_failed some.text before queues some.puts fine in (refl, kept.0, kept.1, kept.2)
 halts_caused job before bytes tally queues _ (some, never) reads left ended = absurd never
 
 -- the cause of a fault of the writer and the notes is that of the run, where no read failed
@@ -235,7 +276,7 @@ module _ {job : Job} {first now : Reader} {before : Outs} {here : Carry} {skip :
             takes = takes_all gathers.text before after.queues gathers.puts fine empty;
             stopped = inl full;
           };
-          end_is = (same ∙ sofar.asks.0, kept.0, kept.1);
+          end_is = (same ∙ sofar.asks.0, kept.0, kept.1, kept.2);
           turns_are = omega (arith, some, called, sofar.calls);
         }
 
@@ -265,7 +306,7 @@ module _ {job : Job} {first now : Reader} {before : Outs} {here : Carry} {skip :
   pub fails_turns : left ≡ 0 → Runs false job (beside first before) (beside now (outs_in here.queues)) turns here.tally (Err run.TooManyTurns)
   fails_turns spent = record {
     run = rests now run.TooManyTurns sofar.read (sofar.due, part, sofar.stands.told);
-    end_is = ((sofar.asks.0, none.0, none.1), omega (arith, spent, sofar.calls));
+    end_is = ((sofar.asks.0, none.0, none.1, none.2), omega (arith, spent, sofar.calls));
     turns_are = omega (arith, sofar.calls);
   }
 
@@ -274,7 +315,7 @@ module _ {job : Job} {first now : Reader} {before : Outs} {here : Carry} {skip :
       → Runs false job (beside first before) (beside reader (outs_in here.queues)) turns here.tally (Err run.ReadFault)
   fails_read reader some kept called more = record {
     run = rests reader run.ReadFault (Consumes-kept first.left now.left reader.left sofar.bytes sofar.read kept) (sofar.due, part, sofar.stands.told);
-    end_is = (omega (arith, more, sofar.asks.0), none.0, none.1);
+    end_is = (omega (arith, more, sofar.asks.0), none.0, none.1, none.2);
     turns_are = omega (arith, some, called, sofar.calls);
   }
 
@@ -287,7 +328,7 @@ module _ {job : Job} {first now : Reader} {before : Outs} {here : Carry} {skip :
     pub fails_short : 0 < skip.left → Runs false job (beside first before) (beside reader (outs_in here.queues)) turns here.tally (Err (run.SkipPastEnd skip.all))
     fails_short more = record {
       run = rests reader (run.SkipPastEnd skip.all) whole (sofar.skips.all, omega (arith, more, sofar.skips.all, sofar.skips.left), sofar.stands.told);
-      end_is = ((same ∙ sofar.asks.0, none.0, none.1), ended);
+      end_is = ((same ∙ sofar.asks.0, none.0, none.1, none.2), ended);
       turns_are = omega (arith, some, called, sofar.calls);
     }
 
@@ -295,7 +336,7 @@ module _ {job : Job} {first now : Reader} {before : Outs} {here : Carry} {skip :
     pub fails_part : (n : ℕ) → n ≡ length here.framer.held → 0 < n → Runs false job (beside first before) (beside reader (outs_in here.queues)) turns here.tally (Err (run.Stream (stream.Truncated n)))
     fails_part n is held = record {
       run = rests reader (run.Stream (stream.Truncated n)) whole (sofar.due, part, is, held, sofar.stands.told);
-      end_is = ((same ∙ sofar.asks.0, none.0, none.1), ended);
+      end_is = ((same ∙ sofar.asks.0, none.0, none.1, none.2), ended);
       turns_are = omega (arith, some, called, sofar.calls);
     }
 
@@ -317,7 +358,7 @@ module _ {job : Job} {first now : Reader} {before : Outs} {here : Carry} {skip :
             takes = takes;
             stopped = inr (record { ended = ended; begun = omega (arith, spent, sofar.skips.left); none = refl; whole = empty });
           };
-          end_is = (same ∙ sofar.asks.0, none.0, none.1);
+          end_is = (same ∙ sofar.asks.0, none.0, none.1, none.2);
           turns_are = omega (arith, some, called, sofar.calls);
         }
 
@@ -328,7 +369,7 @@ prompt_from {job} {before} {now} is prompt = subst (λ b. IsPromptFrom b job bef
 -- without memory nothing is read or written, whatever the input is
 none_from : (from : Bool) (job : Job) (ends : Ends) → IsRunFrom from job ends ends no_tally (Err run.OutOfMemory)
 none_from true job ends =
-    ([], Consumes-nil ends.reader.left, (rw (drop_all {X = ℕ} job.begin [] (omega arith)) (omega arith), ((Keeps-refl ends.outs.writer.bytes, Keeps-refl ends.outs.notes.bytes), refl)))
+    ([], Consumes-nil ends.reader.left, (rw (drop_all {X = ℕ} job.begin [] (omega arith)) (omega arith), ((Keeps-refl ends.outs.writer.bytes, Keeps-refl ends.outs.notes.bytes, Keeps-refl ends.outs.rejects.bytes), refl)))
 none_from false job ends =
     let nothing : Splits (cut_of job) (checked_in job []) [] [] =
     subst (λ (l : List ℕ). Splits (cut_of job) l [] []) (sym (drop_all job.begin [] (omega arith))) (splits_rest (cut_of job) [] (inl (empty_partial (cut_of job)))) in
@@ -336,7 +377,7 @@ none_from false job ends =
       bytes = [];
       text = silent;
       read = Consumes-nil ends.reader.left;
-      takes = takes_none ends.outs ends.outs (Keeps-refl ends.outs.writer.bytes, Keeps-refl ends.outs.notes.bytes);
+      takes = takes_none ends.outs ends.outs (Keeps-refl ends.outs.writer.bytes, Keeps-refl ends.outs.notes.bytes, Keeps-refl ends.outs.rejects.bytes);
       rests = ([], [], nothing, ([], [], [], [], nothing, refl, (refl, refl)));
     }
 
@@ -344,7 +385,7 @@ pub runs_none : (job : Job) (ends : Ends) (ran : Ran) → ran ≡ record { tally
 runs_none job ends ran is = subst (λ (t : Ran). IsRunBeside job ends ends t.tally t.end) (sym is) (none_from job.bare job ends)
 
 pub ends_none : (ends : Ends) (turns : ℕ) (ran : Ran) → ran ≡ record { tally = no_tally; end = Err run.OutOfMemory } → EndsBeside ends ends turns ran.end
-ends_none ends turns ran is = subst (λ (t : Ran). EndsBeside ends ends turns t.end) (sym is) (refl, refl, refl)
+ends_none ends turns ran is = subst (λ (t : Ran). EndsBeside ends ends turns t.end) (sym is) (refl, refl, refl, refl)
 
 -- the end that an answer tells is that of its run
 pub ends_answer : (first now : Ends) (turns : ℕ) (tally : Tally) (end : End) (answer : Result Tally RunFault) → answer ≡ answer_by tally end

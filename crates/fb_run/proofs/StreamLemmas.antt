@@ -7,7 +7,7 @@ use Rattle.fb_bytes.specs.declared.{cut.Cut.Cut, stream_fault.StreamFault.Stream
 use Rattle.fb_bytes.specs.declared.stream_fault.StreamFault.TheVariants as stream
 use Rattle.fb_bytes.proofs.MessageLemmas.{readings_some}
 use Rattle.fb_lines.specs.{Ends.Outs, Faults.feed_fault, Job.Beside, Job.HasRoom, Job.Job, Job.cut_of, Spot.Before, Spot.HasDue, Spot.IsDue, Spot.IsFull, Spot.past_all, Texts.Texts, Texts.followed, Texts.silent, Job.Verdict, Sums.no_tally, Sums.tally_with}
-use Rattle.fb_lines.specs.Puts.{Adds, AddsBy, AreCut, AreOpen, AreSound, PutsBoth, Queues, all_unused, unused}
+use Rattle.fb_lines.specs.Puts.{Adds, AddsBy, AreCut, AreOpen, AreSound, PutsAll, Queues, all_unused, unused}
 use Rattle.fb_run.specs.Stream.{TellsMore}
 use Rattle.fb_run.specs.Pieces.{AreEmpty, AreSettled, Carry, Gathers, GoesOn, Halts, IsReady, Passes, PassesAllBy, PassesFront, Stands, Stops, TellsOne, WritesBy}
 use Rattle.fb_lines.specs.declared.{tally.Tally.Tally, fault.RunFault.RunFault}
@@ -24,7 +24,7 @@ module _ (job : Job) (first : Outs) where
     text = silent;
     splits = rw none (splits_rest (cut_of job) [] (inl (empty_partial (cut_of job))));
     told = rw counted (refl, refl);
-    puts = subst (PutsBoth silent (all_unused first)) (sym unused) (puts_none (all_unused first).out, puts_none (all_unused first).notes);
+    puts = subst (PutsAll silent (all_unused first)) (sym unused) (puts_none (all_unused first).out, puts_none (all_unused first).notes, puts_none (all_unused first).rejects);
   }
 
   -- a message was whole, and what is told of it was put
@@ -40,6 +40,7 @@ module _ (job : Job) (first : Outs) where
         puts = (
           puts_then stands.text.out adds.told.out (unused first.writer) before.queues.out after.queues.out stands.puts.0 adds.puts.0,
           puts_then stands.text.notes adds.told.notes (unused first.notes) before.queues.notes after.queues.notes stands.puts.1 adds.puts.1,
+          puts_then stands.text.rejects adds.told.rejects (unused first.rejects) before.queues.rejects after.queues.rejects stands.puts.2 adds.puts.2,
         );
       }
 
@@ -109,16 +110,18 @@ module _ (job : Job) (first : Outs) where
       by run.OutOfMemory (same, counted) = rw (same, counted) (gathers_more bytes piece before stands, fine)
       by (run.WriteFault written) (one, cut) = (come one, cut)
       by (run.NoteFault written) (one, cut) = (come one, cut)
+      by (run.RejectFault written) (one, cut) = (come one, cut)
       by _ (one, never) = absurd never
 
   -- nothing more was put
-  pub still : (text : Texts) (a b : Queues) → PutsBoth text (all_unused first) a → PutsBoth silent a b → PutsBoth text (all_unused first) b
+  pub still : (text : Texts) (a b : Queues) → PutsAll text (all_unused first) a → PutsAll silent a b → PutsAll text (all_unused first) b
   still text a b puts none = (
     puts_still text.out (unused first.writer) b.out (puts_then text.out [] (unused first.writer) a.out b.out puts.0 none.0),
     puts_still text.notes (unused first.notes) b.notes (puts_then text.notes [] (unused first.notes) a.notes b.notes puts.1 none.1),
+    puts_still text.rejects (unused first.rejects) b.rejects (puts_then text.rejects [] (unused first.rejects) a.rejects b.rejects puts.2 none.2),
   )
 
-  pub stands_still : (bytes : List ℕ) (now : Carry) (queues : Queues) → PutsBoth silent now.queues queues → Stands job first bytes now → Stands job first bytes (record now { queues = queues })
+  pub stands_still : (bytes : List ℕ) (now : Carry) (queues : Queues) → PutsAll silent now.queues queues → Stands job first bytes now → Stands job first bytes (record now { queues = queues })
   stands_still bytes now queues none stands = record {
     messages = stands.messages;
     text = stands.text;
@@ -127,7 +130,7 @@ module _ (job : Job) (first : Outs) where
     puts = still stands.text now.queues queues stands.puts none;
   }
 
-  gathers_still : (bytes : List ℕ) (tally : Tally) (a b : Queues) → PutsBoth silent a b → Gathers job first bytes tally a → Gathers job first bytes tally b
+  gathers_still : (bytes : List ℕ) (tally : Tally) (a b : Queues) → PutsAll silent a b → Gathers job first bytes tally a → Gathers job first bytes tally b
   gathers_still bytes tally a b none gathers = record {
     done = gathers.done;
     left = gathers.left;
@@ -152,22 +155,24 @@ module _ (job : Job) (first : Outs) where
 
   -- a write of what waited behind it failed
   pub flush_halts : (bytes piece : List ℕ) (before mid : Carry) (queues : Queues) (end : Result (Unit {0}) RunFault) (fault : RunFault) → PassesAllBy job piece before mid end
-      → PutsBoth silent mid.queues queues → AreCut queues fault → Stands job first bytes before → Halts job first (bytes ++ piece) mid.tally queues fault
+      → PutsAll silent mid.queues queues → AreCut queues fault → Stands job first bytes before → Halts job first (bytes ++ piece) mid.tally queues fault
   flush_halts bytes piece before mid queues end fault passed none cut stands =
       by fault cut (gathers_still (bytes ++ piece) mid.tally mid.queues queues none (passed_gathers bytes piece before mid end passed stands))
     where
       by : (f : RunFault) → AreCut queues f → Gathers job first (bytes ++ piece) mid.tally queues → Halts job first (bytes ++ piece) mid.tally queues f
       by (run.WriteFault written) is gathers = (gathers, is)
       by (run.NoteFault written) is gathers = (gathers, is)
+      by (run.RejectFault written) is gathers = (gathers, is)
       by _ never gathers = absurd never
 
   -- or it came to rest before, and what waited was written
-  flushed_halts : (bytes : List ℕ) (tally : Tally) (a b : Queues) (fault : RunFault) → PutsBoth silent a b → AreOpen b → Halts job first bytes tally a fault → Halts job first bytes tally b fault
+  flushed_halts : (bytes : List ℕ) (tally : Tally) (a b : Queues) (fault : RunFault) → PutsAll silent a b → AreOpen b → Halts job first bytes tally a fault → Halts job first bytes tally b fault
   unfolding gathers_still
   flushed_halts bytes tally a b (run.Stream (stream.Oversize number)) none fine (gathers, why) = (gathers_still bytes tally a b none gathers, (why.0, fine, why.2, why.3, why.4))
   flushed_halts bytes tally a b run.OutOfMemory none fine (gathers, why) = (gathers_still bytes tally a b none gathers, fine)
   flushed_halts bytes tally a b (run.WriteFault written) none fine (gathers, why) = absurd (true≢false (sym why.0 ∙ was_unfailed [] a.out b.out none.0 fine.0))
   flushed_halts bytes tally a b (run.NoteFault written) none fine (gathers, why) = absurd (true≢false (sym why.0 ∙ was_unfailed [] a.notes b.notes none.1 fine.1))
+  flushed_halts bytes tally a b (run.RejectFault written) none fine (gathers, why) = absurd (true≢false (sym why.0 ∙ was_unfailed [] a.rejects b.rejects none.2 fine.2))
   flushed_halts bytes tally a b _ none fine (gathers, never) = absurd never
 
 -- a message was counted
@@ -188,23 +193,28 @@ pub due_not_full : (job : Job) (before : Before) → IsDue job before → IsFull
 due_not_full job before due (inl over) = omega (arith, due.messages, over)
 due_not_full job before due (inr over) = omega (arith, due.bad, over)
 
--- where no write has failed, none of the notes has
+-- where no write has failed, none of the notes or the rejects has
 pub open_sound : (queues : Queues) → AreOpen queues → AreSound queues
-open_sound queues fine cut = absurd (true≢false (sym cut ∙ fine.1))
+open_sound queues fine = record { noted = λ cut. absurd (true≢false (sym cut ∙ fine.1)); rejected = λ cut. absurd (true≢false (sym cut ∙ fine.2)) }
 
 pub passed_sound : (job : Job) (piece : List ℕ) (before mid : Carry) (end : Result (Unit {0}) RunFault) → PassesAllBy job piece before mid end → AreSound mid.queues
 passed_sound job piece before mid (Ok done) passes = open_sound mid.queues passes.goes_on.unfailed
 passed_sound job piece before mid (Err fault) (stops, sound) = sound
 
 pub added_sound : (job : Job) (past : Before) (message : List ℕ) (before after : Queues) (tally tally' : Tally) (fault : RunFault) → AreOpen before → AddsBy job past message before after tally tally' (Err fault) → AreSound after
-added_sound job past message before after tally tally' run.OutOfMemory fine (same, counted) is = rw same (open_sound before fine (rw same at is))
-added_sound job past message before after tally tally' (run.WriteFault written) fine (one, cut) is = absurd (true≢false (sym is ∙ cut.1))
-added_sound job past message before after tally tally' (run.NoteFault written) fine (one, cut) is = (cut.1, cut.2)
-added_sound job past message before after tally tally' _ fine (one, never) is = absurd never
+added_sound job past message before after tally tally' run.OutOfMemory fine (same, counted) = rw same (open_sound before fine)
+added_sound job past message before after tally tally' (run.WriteFault written) fine (one, cut) =
+    record { noted = λ is. absurd (true≢false (sym is ∙ cut.1)); rejected = λ is. absurd (true≢false (sym is ∙ cut.2)) }
+added_sound job past message before after tally tally' (run.NoteFault written) fine (one, cut) =
+    record { noted = λ is. ((cut.1, cut.3), cut.2); rejected = λ is. absurd (true≢false (sym is ∙ cut.2)) }
+added_sound job past message before after tally tally' (run.RejectFault written) fine (one, cut) =
+    record { noted = λ is. absurd (true≢false (sym is ∙ cut.2)); rejected = λ is. ((cut.1, cut.3), (cut.2, cut.4)) }
+added_sound job past message before after tally tally' _ fine (one, never) = absurd never
 
 settled_empty : (queues : Queues) (fault : RunFault) → AreEmpty queues → AreSettled queues fault
 settled_empty queues (run.WriteFault written) empty = tt
 settled_empty queues (run.NoteFault written) empty = tt
+settled_empty queues (run.RejectFault written) empty = tt
 settled_empty queues run.ReadFault empty = empty
 settled_empty queues run.TooManyTurns empty = empty
 settled_empty queues run.OutOfMemory empty = empty
@@ -215,10 +225,11 @@ settled_empty queues (run.SkipPastEnd skip) empty = empty
 pub settled_cut : (queues : Queues) (fault : RunFault) → AreCut queues fault → AreSettled queues fault
 settled_cut queues (run.WriteFault written) cut = tt
 settled_cut queues (run.NoteFault written) cut = tt
+settled_cut queues (run.RejectFault written) cut = tt
 settled_cut queues _ never = absurd never
 
 -- a piece was passed, and what waited behind it was written
-pub flushed : (job : Job) (piece : List ℕ) (before mid : Carry) (queues : Queues) (end : Result (Unit {0}) RunFault) → PassesAllBy job piece before mid end → PutsBoth silent mid.queues queues
+pub flushed : (job : Job) (piece : List ℕ) (before mid : Carry) (queues : Queues) (end : Result (Unit {0}) RunFault) → PassesAllBy job piece before mid end → PutsAll silent mid.queues queues
     → AreOpen queues → AreEmpty queues → WritesBy job piece before (record mid { queues = queues }) end
 flushed job piece before mid queues (Ok done) passes none fine empty = (
   record {

@@ -1,24 +1,25 @@
--- What was put for a writer and notes, and what they have of it.
+-- What was put for a writer, notes and rejects, and what they have of it.
 use Rattle.std.proofs.Common.{◌≡◌, ◌∙◌, ℕ, true, false, List, [], ◌++◌, ap, refl, subst, sym, append-nil}
 use Rattle.std.proofs.{KnownBytes.Appends-kept, KnownBytes.Appends-nil}
 use Rattle.std.specs.Io.KnownBytes.{Appends}
 use Rattle.fb_bytes.specs.Ends.{one_more}
 use Rattle.fb_lines.specs.{Ends.Outs, Ends.Takes, Ends.Unwritten, Ends.Writer, Faults.IsCausedOut, Faults.IsUnfailedOut}
 use Rattle.fb_lines.specs.Lines.{ComesBehind, WritesFront}
-use Rattle.fb_lines.specs.Puts.{AreCut, AreOpen, Puts, PutsAs, PutsBoth, Queue, Queues, all_unused, unused}
+use Rattle.fb_lines.specs.Puts.{AreCut, AreOpen, Puts, PutsAs, PutsAll, Queue, Queues, all_unused, unused}
 use Rattle.fb_lines.specs.Texts.{Texts, silent}
 use Rattle.fb_lines.specs.declared.fault.RunFault.{RunFault}
 use Rattle.fb_lines.specs.declared.fault.RunFault.TheVariants as run
 use Rattle.fb_run.specs.Pieces.{AreEmpty}
 
--- the writer and the notes of both
+-- the writers of all
 abbrev pub outs_in : Queues → Outs
-outs_in queues = record { writer = queues.out.writer; notes = queues.notes.writer }
+outs_in queues = record { writer = queues.out.writer; notes = queues.notes.writer; rejects = queues.rejects.writer }
 
 pub takes_none : (a b : Outs) → Unwritten a b → Takes a b silent
-takes_none a b (sink, notes) = record {
+takes_none a b (sink, notes, rejects) = record {
   wrote = Appends-kept a.writer.bytes a.writer.bytes b.writer.bytes [] (Appends-nil a.writer.bytes) sink;
   noted = Appends-kept a.notes.bytes a.notes.bytes b.notes.bytes [] (Appends-nil a.notes.bytes) notes;
+  rejected = Appends-kept a.rejects.bytes a.rejects.bytes b.rejects.bytes [] (Appends-nil a.rejects.bytes) rejects;
 }
 
 -- what was put where no write failed, and where one did
@@ -36,20 +37,39 @@ written_all text writer now fine none puts =
     let behind = (put_behind text writer now fine puts).0 in
     subst (Appends writer.bytes now.writer.bytes) (sym (behind.whole ∙ ap (λ l. behind.front ++ l) none ∙ append-nil behind.front)) behind.wrote
 
-module _ (text : Texts) (first : Outs) (now : Queues) (puts : PutsBoth text (all_unused first) now) where
+module _ (text : Texts) (first : Outs) (now : Queues) (puts : PutsAll text (all_unused first) now) where
   pub takes_all : AreOpen now → AreEmpty now → Takes first (outs_in now) text
   takes_all fine empty = record {
     wrote = written_all text.out first.writer now.out fine.0 empty.0 puts.0;
     noted = written_all text.notes first.notes now.notes fine.1 empty.1 puts.1;
+    rejected = written_all text.rejects first.rejects now.rejects fine.2 empty.2 puts.2;
   }
 
   pub none_failed : AreOpen now → IsUnfailedOut first (outs_in now)
-  none_failed fine = ((put_behind text.out first.writer now.out fine.0 puts.0).1, (put_behind text.notes first.notes now.notes fine.1 puts.1).1)
+  none_failed fine = (
+    (put_behind text.out first.writer now.out fine.0 puts.0).1,
+    (put_behind text.notes first.notes now.notes fine.1 puts.1).1,
+    (put_behind text.rejects first.rejects now.rejects fine.2 puts.2).1,
+  )
 
-  -- a write of the writer failed, or of the notes
+  -- a write of the writer failed, or of the notes, or of the rejects
   pub cut_caused : (fault : RunFault) → AreCut now fault → IsCausedOut first (outs_in now) fault
-  cut_caused (run.WriteFault written) (cut, fine, is) reads left ended =
-      (refl, (put_front text.out first.writer now.out cut puts.0).1, (put_behind text.notes first.notes now.notes fine puts.1).1)
-  cut_caused (run.NoteFault written) (cut, fine, none, is) reads left ended =
-      (refl, (put_behind text.out first.writer now.out fine puts.0).1, (put_front text.notes first.notes now.notes cut puts.1).1)
+  cut_caused (run.WriteFault written) (cut, notes, rejects, is) reads left ended = (
+    refl,
+    (put_front text.out first.writer now.out cut puts.0).1,
+    (put_behind text.notes first.notes now.notes notes puts.1).1,
+    (put_behind text.rejects first.rejects now.rejects rejects puts.2).1,
+  )
+  cut_caused (run.NoteFault written) (cut, out, rejects, none, is) reads left ended = (
+    refl,
+    (put_behind text.out first.writer now.out out puts.0).1,
+    (put_front text.notes first.notes now.notes cut puts.1).1,
+    (put_behind text.rejects first.rejects now.rejects rejects puts.2).1,
+  )
+  cut_caused (run.RejectFault written) (cut, out, notes, none, unnoted, is) reads left ended = (
+    refl,
+    (put_behind text.out first.writer now.out out puts.0).1,
+    (put_behind text.notes first.notes now.notes notes puts.1).1,
+    (put_front text.rejects first.rejects now.rejects cut puts.2).1,
+  )
   cut_caused _ never reads left ended = absurd never

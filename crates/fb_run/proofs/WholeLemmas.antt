@@ -4,7 +4,7 @@ use mathlib.Core.Logic.{inl, inr}
 use Rattle.std.specs.Io.KnownBytes.{Consumes, Keeps}
 use Rattle.std.proofs.KnownBytes.{Consumes-kept, Consumes-nil, Consumes-trans, Keeps-refl}
 use Rattle.std.proofs.lemmas.List.{drop_all, length-append}
-use Rattle.fb_lines.specs.{Ends.Outs, Ends.Reader, Ends.beside, Job.Job, Job.checked_in, Sums.no_tally}
+use Rattle.fb_lines.specs.{Ends.Outs, Ends.Reader, Job.Job, Job.checked_in, Sums.no_tally}
 use Rattle.fb_lines.specs.declared.fault.RunFault.TheVariants as run
 use Rattle.fb_run.specs.{Bare.Untold, Leave.IsUnended, Whole.FailsWhole, Whole.ReadsWhole}
 use Rattle.fb_run.specs.declared.skip.Skip.{Skip}
@@ -33,25 +33,25 @@ gathered_nothing job reader whole skip turns none skips = record {
   asks = (refl, inr (refl, refl));
 }
 
-module _ {job : Job} {first now : Reader} {whole : List ℕ} {skip : Skip} {turns left : ℕ} (gathered : Gathered job first now whole skip turns left) (outs : Outs) where
-  untold : Untold outs outs no_tally
-  untold = ((Keeps-refl outs.writer.bytes, Keeps-refl outs.notes.bytes), refl)
+module _ {job : Job} {first now : Reader} {whole : List ℕ} {skip : Skip} {turns left : ℕ} (gathered : Gathered job first now whole skip turns left) where
+  untold : (outs : Outs) → Untold outs outs no_tally
+  untold outs = ((Keeps-refl outs.writer.bytes, Keeps-refl outs.notes.bytes, Keeps-refl outs.rejects.bytes), refl)
 
   pub gathered_within : length (checked_in job gathered.bytes) ≤ job.limit
   gathered_within = omega (arith, gathered.within, ap length gathered.whole_is)
 
   -- there are no more reads
-  pub spent_fails : left ≡ 0 → FailsWhole job turns (beside first outs) (beside now outs) run.TooManyTurns
+  pub spent_fails : left ≡ 0 → FailsWhole job turns first now run.TooManyTurns
   spent_fails spent = record {
-    fails = (gathered.bytes, gathered.read, (gathered_within, untold));
-    cause = ((gathered.asks.0, refl, refl), omega (arith, spent, gathered.calls));
+    fails = λ outs. (gathered.bytes, gathered.read, (gathered_within, untold outs));
+    cause = λ outs. ((gathered.asks.0, refl, refl, refl), omega (arith, spent, gathered.calls));
   }
 
   -- a read failed
-  pub read_fails : (reader : Reader) → Keeps now.left reader.left → reader.failures ≡ now.failures + 1 → FailsWhole job turns (beside first outs) (beside reader outs) run.ReadFault
+  pub read_fails : (reader : Reader) → Keeps now.left reader.left → reader.failures ≡ now.failures + 1 → FailsWhole job turns first reader run.ReadFault
   read_fails reader kept more = record {
-    fails = (gathered.bytes, Consumes-kept first.left now.left reader.left gathered.bytes gathered.read kept, (gathered_within, untold));
-    cause = (omega (arith, more, gathered.asks.0), refl, refl);
+    fails = λ outs. (gathered.bytes, Consumes-kept first.left now.left reader.left gathered.bytes gathered.read kept, (gathered_within, untold outs));
+    cause = λ outs. (omega (arith, more, gathered.asks.0), refl, refl, refl);
   }
 
   -- the input ended
@@ -60,10 +60,10 @@ module _ {job : Job} {first now : Reader} {whole : List ℕ} {skip : Skip} {turn
     all_read = subst (Consumes first.left reader.left) (append-nil gathered.bytes) (Consumes-trans first.left now.left reader.left gathered.bytes [] gathered.read read)
 
     -- within the bytes that are left out
-    pub short_fails : 0 < skip.left → FailsWhole job turns (beside first outs) (beside reader outs) (run.SkipPastEnd skip.all)
+    pub short_fails : 0 < skip.left → FailsWhole job turns first reader (run.SkipPastEnd skip.all)
     short_fails some = record {
-      fails = (gathered.bytes, all_read, (gathered.skips.all, omega (arith, some, gathered.skips.all, gathered.skips.left), untold));
-      cause = ((same ∙ gathered.asks.0, refl, refl), ended);
+      fails = λ outs. (gathered.bytes, all_read, (gathered.skips.all, omega (arith, some, gathered.skips.all, gathered.skips.left), untold outs));
+      cause = λ outs. ((same ∙ gathered.asks.0, refl, refl, refl), ended);
     }
 
     pub whole_read : skip.left ≡ 0 → ReadsWhole job first reader whole
@@ -88,17 +88,17 @@ module _ {job : Job} {first now : Reader} {whole : List ℕ} {skip : Skip} {turn
     size = ap length grown ∙ length-append whole more
 
     -- it is too long
-    pub long_fails : (limit : ℕ) → limit ≡ job.limit → job.limit < length whole + length more → FailsWhole job turns (beside first outs) (beside reader outs) (run.BareTooLong limit)
+    pub long_fails : (limit : ℕ) → limit ≡ job.limit → job.limit < length whole + length more → FailsWhole job turns first reader (run.BareTooLong limit)
     long_fails limit is over = record {
-      fails = (gathered.bytes ++ take k piece, reads, (is, omega (arith, over, size), untold));
-      cause = (same ∙ gathered.asks.0, refl, refl);
+      fails = λ outs. (gathered.bytes ++ take k piece, reads, (is, omega (arith, over, size), untold outs));
+      cause = λ outs. (same ∙ gathered.asks.0, refl, refl, refl);
     }
 
     -- there is no memory for it
-    pub memory_fails : length whole + length more ≤ job.limit → FailsWhole job turns (beside first outs) (beside reader outs) run.OutOfMemory
+    pub memory_fails : length whole + length more ≤ job.limit → FailsWhole job turns first reader run.OutOfMemory
     memory_fails under = record {
-      fails = (gathered.bytes ++ take k piece, reads, (omega (arith, under, size), untold));
-      cause = (same ∙ gathered.asks.0, refl, refl);
+      fails = λ outs. (gathered.bytes ++ take k piece, reads, (omega (arith, under, size), untold outs));
+      cause = λ outs. (same ∙ gathered.asks.0, refl, refl, refl);
     }
 
     pub gathered_more : {whole' : List ℕ} {skip' : Skip} → whole' ≡ whole ++ more → length whole + length more ≤ job.limit → 0 < left → reader.calls ≡ now.calls + 1 → reader.ended ≡ false

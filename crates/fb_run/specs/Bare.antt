@@ -4,7 +4,7 @@ use Rattle.std.specs.Io.KnownBytes.{Consumes}
 use Rattle.fb_lines.specs.Ends.{Ends, Outs, Takes, Unwritten}
 use Rattle.fb_lines.specs.{Job.Job, Job.Verdict, Job.checked_in, Texts.Texts, Texts.no_bytes, Line.IsTold, Spot.at_first, Sums.no_tally, Sums.tally_with, Lines.WritesFronts}
 use Rattle.fb_lines.specs.declared.{tally.Tally.Tally, fault.RunFault.RunFault}
-use Rattle.fb_lines.specs.declared.fault.RunFault.TheVariants.{WriteFault, NoteFault, Stream, BareTooLong, SkipPastEnd}
+use Rattle.fb_lines.specs.declared.fault.RunFault.TheVariants.{WriteFault, NoteFault, RejectFault, Stream, BareTooLong, SkipPastEnd}
 
 -- what was read of an input is its bytes that are left out and a buffer within the limit
 pub record IsBareInput (job : Job) (bytes : List ℕ) : Type 0 where
@@ -42,6 +42,7 @@ WhyBare job bytes before after tally (BareTooLong most) = (most ≡ job.limit) �
 WhyBare job bytes before after tally (SkipPastEnd skip) = (skip ≡ job.begin) × (length bytes < skip) × Untold before after tally
 WhyBare job bytes before after tally (WriteFault written) = WritesPart job bytes before after tally (WriteFault written)
 WhyBare job bytes before after tally (NoteFault written) = WritesPart job bytes before after tally (NoteFault written)
+WhyBare job bytes before after tally (RejectFault written) = WritesPart job bytes before after tally (RejectFault written)
 WhyBare job bytes before after tally (Stream fault) = ⊥
 WhyBare job bytes before after tally fault = (length (checked_in job bytes) ≤ job.limit) × Untold before after tally
 

@@ -22,6 +22,7 @@ pub mod Prompt
 pub use Rattle.fb_lines.specs.Faults
 pub use Rattle.fb_lines.specs.FaultText
 pub use Rattle.fb_lines.specs.FilterLaws
+pub use Rattle.fb_lines.specs.RejectLaws
 -- What proofs alone need.
 pub mod Pieces
 pub mod Whole

@@ -4,25 +4,25 @@ use Rattle.fb_bytes.specs.{Framing.Framing, Messages.declared, Messages.IsOversi
 use Rattle.fb_bytes.specs.declared.ends.Sink as sink
 use Rattle.fb_bytes.specs.declared.stream_fault.StreamFault.TheVariants as stream
 use Rattle.fb_lines.specs.{Ends.Outs, Job.Beside, Job.HasRoom, Job.Job, Job.cut_of, Lines.AreTold, Spot.IsFull, Spot.at_first, Spot.past_all, Sums.count_of, Sums.no_tally, Texts.Texts}
-use Rattle.fb_lines.specs.Puts.{AreCut, AreOpen, AreSound, IsUnused, PutsBoth, Queues, all_unused, queues_of}
+use Rattle.fb_lines.specs.Puts.{AreCut, AreOpen, AreSound, IsUnused, PutsAll, Queues, all_unused, queues_of}
 use Rattle.fb_lines.specs.declared.{fault.RunFault.RunFault, tally.Tally.Tally}
-use Rattle.fb_lines.specs.declared.fault.RunFault.TheVariants.{WriteFault, NoteFault, Stream, OutOfMemory}
+use Rattle.fb_lines.specs.declared.fault.RunFault.TheVariants.{WriteFault, NoteFault, RejectFault, Stream, OutOfMemory}
 use Rattle.fb_run.specs.Stream.{TellsMore}
 use Rattle.fb_run.specs.declared.stream.Carried.{Carried}
 
--- what a run carries: what was counted, its framer and its room, and what was put for the writer and the notes
+-- what a run carries: what was counted, its framer and its room, and what was put for the writer, the notes and the rejects
 pub record Carry : Type 0 where
   pub tally : Tally
   pub framer : Framing
   pub room : Beside
   pub queues : Queues
 
-abbrev pub carry_of : {A K N : Type 0} → sink.Ghosts K → sink.Ghosts N → Carried A → K → N → Carry
-carry_of k n carried writer notes = record {
+abbrev pub carry_of : {A K N R : Type 0} → sink.Ghosts K → sink.Ghosts N → sink.Ghosts R → Carried A → K → N → R → Carry
+carry_of k n r carried writer notes rejects = record {
   tally = carried.output.counter;
   framer = carried.framer;
   room = carried.room;
-  queues = queues_of k n carried.output writer notes;
+  queues = queues_of k n r carried.output writer notes rejects;
 }
 
 -- nothing was told, and nothing is held
@@ -43,7 +43,7 @@ pub record Stands (job : Job) (first : Outs) (bytes : List ℕ) (now : Carry) : 
   pub text : Texts
   pub splits : Splits (cut_of job) bytes messages now.framer.held
   pub told : AreTold job (at_first job) messages text now.tally
-  pub puts : PutsBoth text (all_unused first) now.queues
+  pub puts : PutsAll text (all_unused first) now.queues
 
 -- what is told of the first messages of these bytes was put behind these ends
 pub record Gathers (job : Job) (first : Outs) (bytes : List ℕ) (tally : Tally) (queues : Queues) : Type 0 where
@@ -53,7 +53,7 @@ pub record Gathers (job : Job) (first : Outs) (bytes : List ℕ) (tally : Tally)
   pub text : Texts
   pub splits : Splits (cut_of job) bytes (done ++ left) rest
   pub told : AreTold job (at_first job) done text tally
-  pub puts : PutsBoth text (all_unused first) queues
+  pub puts : PutsAll text (all_unused first) queues
 
 -- why a run came to rest in them
 abbrev pub Why : Job → Tally → List (List ℕ) → List ℕ → Queues → RunFault → Type 0
@@ -108,12 +108,13 @@ PassesAllBy job piece before after (Err fault) = Stops job before piece after fa
 
 -- nothing waits
 abbrev pub AreEmpty : Queues → Type 0
-AreEmpty queues = (queues.out.waits ≡ []) × (queues.notes.waits ≡ [])
+AreEmpty queues = (queues.out.waits ≡ []) × (queues.notes.waits ≡ []) × (queues.rejects.waits ≡ [])
 
 -- where a write failed, it is told what was written; else all that was put is written
 abbrev pub AreSettled : Queues → RunFault → Type 0
 AreSettled queues (WriteFault written) = Unit {0}
 AreSettled queues (NoteFault written) = Unit {0}
+AreSettled queues (RejectFault written) = Unit {0}
 AreSettled queues fault = AreEmpty queues
 
 -- the same, and what is told in it is written

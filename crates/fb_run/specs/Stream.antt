@@ -4,9 +4,9 @@ use Rattle.std.specs.Io.KnownBytes.{Consumes}
 use Rattle.fb_bytes.specs.Messages.{declared, IsPartial, IsOversize, Splits}
 use Rattle.fb_bytes.specs.declared.stream_fault.StreamFault.TheVariants as stream
 use Rattle.fb_lines.specs.{Ends.Ends, Ends.Reader, Ends.Takes, Job.Job, Job.checked_in, Job.cut_of, Lines.AreTold, Spot.IsDue, Spot.IsFull, Spot.at_first, Spot.past_all}
-use Rattle.fb_lines.specs.Texts.{IsCounted, Texts, followed, to_notes}
+use Rattle.fb_lines.specs.Texts.{IsCounted, Texts, followed, to_rejects}
 use Rattle.fb_lines.specs.declared.{tally.Tally.Tally, fault.RunFault.RunFault}
-use Rattle.fb_lines.specs.declared.fault.RunFault.TheVariants.{ReadFault, WriteFault, NoteFault, Stream, TooManyTurns, OutOfMemory, BareTooLong, SkipPastEnd}
+use Rattle.fb_lines.specs.declared.fault.RunFault.TheVariants.{ReadFault, WriteFault, NoteFault, RejectFault, Stream, TooManyTurns, OutOfMemory, BareTooLong, SkipPastEnd}
 
 -- the text is what is told of the first messages of these bytes, behind those that are left out, and they come to this
 abbrev pub TellsSome : Job → List ℕ → Texts → Tally → Type 0
@@ -30,7 +30,8 @@ WhyStream job bytes messages rest text tally (Stream (stream.Truncated held)) =
 WhyStream job bytes messages rest text tally (Stream fault) = ⊥
 WhyStream job bytes messages rest text tally OutOfMemory = TellsSome job bytes text tally
 WhyStream job bytes messages rest text tally (WriteFault written) = IsCounted (length text.out) written × ((more : Texts) × TellsSome job bytes (followed text more) tally)
-WhyStream job bytes messages rest text tally (NoteFault written) = IsCounted (length text.notes) written × ((more : List ℕ) × TellsSome job bytes (followed text (to_notes more)) tally)
+WhyStream job bytes messages rest text tally (NoteFault written) = IsCounted (length text.notes) written × ((more : Texts) × (more.out ≡ []) × TellsSome job bytes (followed text more) tally)
+WhyStream job bytes messages rest text tally (RejectFault written) = IsCounted (length text.rejects) written × ((more : List ℕ) × TellsSome job bytes (followed text (to_rejects more)) tally)
 WhyStream job bytes messages rest text tally (SkipPastEnd skip) = (skip ≡ job.begin) × (length bytes < skip) × AreTold job (at_first job) messages text tally
 WhyStream job bytes messages rest text tally (BareTooLong most) = ⊥
 

@@ -1,7 +1,7 @@
 -- What the reading of a whole input answers.
 use Rattle.std.specs.Prelude.{◌≡◌, ℕ, List, Result, Ok, Err, Vec, true}
 use Rattle.std.specs.Io.KnownBytes.{Consumes}
-use Rattle.fb_lines.specs.{Ends.Ends, Ends.Reader, Faults.EndsBeside, Job.Job, Job.checked_in, Sums.no_tally}
+use Rattle.fb_lines.specs.{Ends.Outs, Ends.Reader, Ends.beside, Faults.EndsBeside, Job.Job, Job.checked_in, Sums.no_tally}
 use Rattle.fb_lines.specs.declared.fault.RunFault.{RunFault}
 use Rattle.fb_run.specs.Bare.{FailsBare, IsBareInput}
 
@@ -14,12 +14,12 @@ pub record ReadsWhole (job : Job) (before after : Reader) (buffer : List ℕ) : 
   pub ended : after.ended ≡ true
   pub unfailed : after.failures ≡ before.failures
 
--- or it wasn't, for this fault, and nothing was told
-pub record FailsWhole (job : Job) (turns : ℕ) (before after : Ends) (fault : RunFault) : Type 0 where
-  pub fails : FailsBare job before after no_tally fault
-  pub cause : EndsBeside before after turns (Err fault)
+-- or it wasn't, for this fault, and nothing was told: whatever the outputs held, they keep
+pub record FailsWhole (job : Job) (turns : ℕ) (before after : Reader) (fault : RunFault) : Type 0 where
+  pub fails : (outs : Outs) → FailsBare job (beside before outs) (beside after outs) no_tally fault
+  pub cause : (outs : Outs) → EndsBeside (beside before outs) (beside after outs) turns (Err fault)
 
 -- the one of both that an answer tells
-abbrev pub ReadsBy : {A : Type 0} → Job → ℕ → Ends → Ends → Result (Vec ℕ A) RunFault → Type 0
-ReadsBy job turns before after (Ok whole) = ReadsWhole job before.reader after.reader whole.items
+abbrev pub ReadsBy : {A : Type 0} → Job → ℕ → Reader → Reader → Result (Vec ℕ A) RunFault → Type 0
+ReadsBy job turns before after (Ok whole) = ReadsWhole job before after whole.items
 ReadsBy job turns before after (Err fault) = FailsWhole job turns before after fault

@@ -2,7 +2,7 @@
 
 ghost use Rattle.std.specs.Prelude.{◌≡◌, ◌+◌, ◌<◌, ◌^◌, length, true};
 ghost use Rattle.fb_lines.specs.{Job.HasRoom, Puts.IsUnused, Sums.no_tally};
-ghost use Rattle.fb_run.specs.{Leave.HasLeave, Leave.ends_of, Prompt.IsBarePrompt, Run.Runs};
+ghost use Rattle.fb_run.specs.{Leave.HasLeave, Leave.all_ends, Prompt.IsBarePrompt, Run.Runs};
 
 use crate::input::Input;
 use crate::reading::{PIECE, read_whole};
@@ -11,7 +11,15 @@ use fb_lines::{Checker, Output, Room, RunFault};
 use std::alloc::Allocator;
 
 /// Reads the whole input, writes what is told of the buffer behind the bytes that are left out, and counts its verdict.
-pub fn pass_bare<A: Allocator, B: Allocator, C: Allocator, S: Input<K, N>, K: Sink, N: Sink>(
+pub fn pass_bare<
+    A: Allocator,
+    B: Allocator,
+    C: Allocator,
+    S: Input<K, N>,
+    K: Sink,
+    N: Sink,
+    R: Sink,
+>(
     alloc: B,
     output: &mut Output<A>,
     room: &mut Room<A>,
@@ -19,6 +27,7 @@ pub fn pass_bare<A: Allocator, B: Allocator, C: Allocator, S: Input<K, N>, K: Si
     reader: &mut S,
     writer: &mut K,
     notes: &mut N,
+    rejects: &mut R,
     checker: &Checker<'_, '_, '_>,
     turns: u64,
 ) -> Result<(), RunFault>
@@ -27,10 +36,10 @@ pub fn pass_bare<A: Allocator, B: Allocator, C: Allocator, S: Input<K, N>, K: Si
     requires room { HasRoom checker.now room.old }
     requires piece { length piece.old.items ≡ PIECE }
     requires reads { S.calls reader.old + turns < 2 ^ 100 }
-    requires leave { HasLeave S.Input (ends_of S.Input K.Sink N.Sink reader.old writer.old notes.old) (IsBarePrompt checker.now) }
-    ensures { Runs true checker.now (ends_of S.Input K.Sink N.Sink reader.old writer.old notes.old) (ends_of S.Input K.Sink N.Sink reader.new writer.new notes.new) turns output.new.counter result }
+    requires leave { HasLeave S.Input (all_ends S.Input K.Sink N.Sink R.Sink reader.old writer.old notes.old rejects.old) (IsBarePrompt checker.now) }
+    ensures { Runs true checker.now (all_ends S.Input K.Sink N.Sink R.Sink reader.old writer.old notes.old rejects.old) (all_ends S.Input K.Sink N.Sink R.Sink reader.new writer.new notes.new rejects.new) turns output.new.counter result }
 {
     let whole = read_whole(alloc, reader, piece, writer, notes, checker, turns)?;
-    output.add(checker, room, whole.as_slice(), writer, notes)?;
-    output.flush(writer, notes)
+    output.add(checker, room, whole.as_slice(), writer, notes, rejects)?;
+    output.flush(writer, notes, rejects)
 }

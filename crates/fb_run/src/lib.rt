@@ -11,9 +11,9 @@ mod skip;
 mod stream;
 
 pub use fb_lines::{
-    AskedPath, Form, Line, MOST_PATHS, Mode, Nowhere, Options, Places, Prefix, RunFault, Tally,
-    laws, push_all, put_bytes, put_head, status, summary,
+    AskedPath, Form, Line, MOST_PATHS, Mode, Nowhere, Options, Places, Prefix, Rejects, RunFault,
+    Tally, laws, push_all, put_bytes, put_head, status, summary,
 };
 pub use input::Input;
 pub use reading::MOST_TURNS;
-pub use run::{Ran, run_beside, run_within};
+pub use run::{Ran, run_beside, run_keeping, run_within};

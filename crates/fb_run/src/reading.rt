@@ -3,7 +3,7 @@
 ghost use Rattle.std.specs.Prelude.{IfOk, OnErr, ◌≡◌, ◌+◌, ◌<◌, ◌≤◌, ◌^◌, length, take, true, false};
 ghost use Rattle.std.specs.Io.KnownBytes.{Consumes, Keeps};
 ghost use Rattle.fb_bytes.specs.Ends.{failed};
-ghost use Rattle.fb_run.specs.{Leave.HasLeave, Leave.MayAsk, Leave.ends_of, Prompt.IsBarePrompt, Whole.ReadsBy};
+ghost use Rattle.fb_run.specs.{Leave.HasLeave, Leave.MayAsk, Leave.ends_of, Leave.reader_of, Prompt.IsBarePrompt, Whole.ReadsBy};
 
 use crate::input::Input;
 use crate::skip::Skip;
@@ -65,8 +65,7 @@ pub fn read_whole<A: Allocator, B: Allocator, S: Input<K, N>, K: Sink, N: Sink>(
     requires room { length piece.old.items ≡ PIECE }
     requires calls { S.calls source.old + turns < 2 ^ 100 }
     requires leave { HasLeave S.Input (ends_of S.Input K.Sink N.Sink source.old writer.now notes.now) (IsBarePrompt checker.now) }
-    ensures reads { ReadsBy checker.now turns (ends_of S.Input K.Sink N.Sink source.old writer.now notes.now)
-        (ends_of S.Input K.Sink N.Sink source.new writer.now notes.now) result }
+    ensures reads { ReadsBy checker.now turns (reader_of S.Input source.old) (reader_of S.Input source.new) result }
     ensures turns { S.calls source.new ≤ S.calls source.old + turns }
     ensures short { IfOk result (λ whole. length whole.items < 2 ^ 31) }
 {

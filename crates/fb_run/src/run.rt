@@ -5,7 +5,7 @@ ghost use Rattle.fb_rules.specs.Reasons.{reason_count};
 ghost use Rattle.fb_lines.specs.{Faults.EndsBeside, Faults.end_of, Job.Serves, Job.job_of};
 ghost use Rattle.fb_run.specs.{Prompt.IsPrompt, Run.IsRun, Run.IsRunBeside, Run.answer_by};
 ghost use Rattle.fb_lines.specs.Sums.{no_tally};
-ghost use Rattle.fb_run.specs.Leave.{HasLeave, ends_of, noteless};
+ghost use Rattle.fb_run.specs.Leave.{HasLeave, all_ends, ends_of, noteless};
 
 use crate::input::Input;
 use crate::reading::{MOST_TURNS, read_buffer};
@@ -50,8 +50,9 @@ impl Ran {
 ///
 /// The input is a stream of size-prefixed buffers (FlatBuffers Internals), or of bare ones behind their lengths by
 /// `prefix` of the options, or with `bare` one bare buffer. What is told of all messages that are whole is written
-/// before the next read, and before any answer: first to the writer, then to the notes. A reader that may be asked for
-/// more only where this is so can be run over (`leave`).
+/// before the next read, and before any answer: first to the writer, then to the notes, then to the rejects. A reader
+/// that may be asked for more only where this is so can be run over (`leave`). Where bad buffers are to be kept, the
+/// rejects get each of them as it came, prefix included.
 ///
 /// # Ends
 ///
@@ -63,10 +64,47 @@ impl Ran {
 /// `Stream` where a prefix declares too much or the stream ends in mid-message: what is told of all whole messages that
 /// were read is written, of a bare input nothing.
 /// - `WriteFault` where the writer failed or took nothing: it took `written` bytes, a front of what is told.
-/// `NoteFault` is the same of the notes.
+/// `NoteFault` is the same of the notes, and `RejectFault` of the rejects.
 /// - `OutOfMemory` where memory was refused: what is told of the first messages is written, of a bare input nothing.
 /// - `BareTooLong` where more than `max_bytes` bytes of a bare input were read: nothing is written.
 /// - `SkipPastEnd` where the input ended within the bytes that are left out: nothing is written.
+pub fn run_keeping<A: Allocator, S: Input<K, N>, K: Sink, N: Sink, R: Sink>(
+    alloc: A,
+    reader: &mut S,
+    writer: &mut K,
+    notes: &mut N,
+    rejects: &mut R,
+    schema: &Schema<'_>,
+    options: &Options,
+    turns: u64,
+) -> Ran
+    requires serves { Serves schema.now options.now }
+    requires turns { turns ≤ MOST_TURNS }
+    requires few { S.calls reader.old < 2 ^ 64 }
+    requires leave { HasLeave S.Input (all_ends S.Input K.Sink N.Sink R.Sink reader.old writer.old notes.old rejects.old) (IsPrompt (job_of schema.now options.now)) }
+
+    ensures run { IsRunBeside (job_of schema.now options.now) (all_ends S.Input K.Sink N.Sink R.Sink reader.old writer.old notes.old rejects.old)
+        (all_ends S.Input K.Sink N.Sink R.Sink reader.new writer.new notes.new rejects.new) result.tally result.end }
+    ensures end { EndsBeside (all_ends S.Input K.Sink N.Sink R.Sink reader.old writer.old notes.old rejects.old)
+        (all_ends S.Input K.Sink N.Sink R.Sink reader.new writer.new notes.new rejects.new) turns result.end }
+    ensures places { length result.tally.reasons ≡ reason_count }
+    ensures turns { S.calls reader.new ≤ S.calls reader.old + turns }
+{
+    let checker = Checker::new(schema, options);
+    let Ok(mut piece) = read_buffer(&alloc) else {
+        return Ran::none(RunFault::OutOfMemory);
+    };
+    let Ok(mut carried) = Carried::new(&alloc, &checker) else {
+        return Ran::none(RunFault::OutOfMemory);
+    };
+    let end = carried.pass_all(
+        &alloc, &mut piece, reader, writer, notes, rejects, &checker, turns,
+    );
+    let tally = carried.output.tally();
+    Ran { tally, end }
+}
+
+/// The same without rejects: bad buffers that are to be kept are dropped.
 pub fn run_beside<A: Allocator, S: Input<K, N>, K: Sink, N: Sink>(
     alloc: A,
     reader: &mut S,
@@ -86,19 +124,20 @@ pub fn run_beside<A: Allocator, S: Input<K, N>, K: Sink, N: Sink>(
     ensures places { length result.tally.reasons ≡ reason_count }
     ensures turns { S.calls reader.new ≤ S.calls reader.old + turns }
 {
-    let checker = Checker::new(schema, options);
-    let Ok(mut piece) = read_buffer(&alloc) else {
-        return Ran::none(RunFault::OutOfMemory);
-    };
-    let Ok(mut carried) = Carried::new(&alloc, &checker) else {
-        return Ran::none(RunFault::OutOfMemory);
-    };
-    let end = carried.pass_all(&alloc, &mut piece, reader, writer, notes, &checker, turns);
-    let tally = carried.output.tally();
-    Ran { tally, end }
+    let mut rejects = Nowhere::new();
+    run_keeping(
+        alloc,
+        reader,
+        writer,
+        notes,
+        &mut rejects,
+        schema,
+        options,
+        turns,
+    )
 }
 
-/// The same without notes: what would be noted is dropped, and only [`Filter`](crate::Mode::Filter) and
+/// The same without notes too: what would be noted is dropped, and only [`Filter`](crate::Mode::Filter) and
 /// [`Csv`](crate::Mode::Csv) note anything.
 pub fn run_within<A: Allocator, S: Input<K, Nowhere>, K: Sink>(
     alloc: A,

@@ -2,7 +2,7 @@
 
 ghost use Rattle.std.specs.Prelude.{IfOk, ◌≡◌, ◌+◌, ◌<◌, ◌≤◌, ◌^◌, length};
 ghost use Rattle.fb_lines.specs.{Puts.AreOpen, Puts.queues_of, Spot.IsDue, Spot.past_all, Sums.count_of};
-ghost use Rattle.fb_run.specs.{Leave.HasLeave, Leave.ends_of, Prompt.IsPrompt, Run.Runs};
+ghost use Rattle.fb_run.specs.{Leave.HasLeave, Leave.all_ends, Prompt.IsPrompt, Run.Runs};
 ghost use Rattle.fb_run.specs.Pieces.{IsFirst, IsReady, PassesAllBy, PassesBy, WritesBy, carry_of};
 
 use crate::bare::pass_bare;
@@ -51,13 +51,14 @@ impl<A: Allocator> Carried<A> {
     /// of a bare input nothing is before its end. On a fault that of all whole messages that were read is written, but
     /// for `OutOfMemory`, where it is that of the first ones, and for `WriteFault` and `NoteFault`, where `written`
     /// bytes of it are. What was counted is that of the messages that are told, or in a write that failed were to be.
-    pub fn pass_all<B: Allocator, C: Allocator, S: Input<K, N>, K: Sink, N: Sink>(
+    pub fn pass_all<B: Allocator, C: Allocator, S: Input<K, N>, K: Sink, N: Sink, R: Sink>(
         &mut self,
         alloc: &B,
         piece: &mut Vec<u8, C>,
         reader: &mut S,
         writer: &mut K,
         notes: &mut N,
+        rejects: &mut R,
         checker: &Checker<'_, '_, '_>,
         turns: u64,
     ) -> Result<(), RunFault>
@@ -66,9 +67,9 @@ impl<A: Allocator> Carried<A> {
         requires first { IsFirst self.old }
         requires turns { turns ≤ MOST_TURNS }
         requires few { S.calls reader.old < 2 ^ 64 }
-        requires leave { HasLeave S.Input (ends_of S.Input K.Sink N.Sink reader.old writer.old notes.old) (IsPrompt checker.now) }
+        requires leave { HasLeave S.Input (all_ends S.Input K.Sink N.Sink R.Sink reader.old writer.old notes.old rejects.old) (IsPrompt checker.now) }
 
-        ensures { Runs checker.now.bare checker.now (ends_of S.Input K.Sink N.Sink reader.old writer.old notes.old) (ends_of S.Input K.Sink N.Sink reader.new writer.new notes.new) turns self.new.output.counter result }
+        ensures { Runs checker.now.bare checker.now (all_ends S.Input K.Sink N.Sink R.Sink reader.old writer.old notes.old rejects.old) (all_ends S.Input K.Sink N.Sink R.Sink reader.new writer.new notes.new rejects.new) turns self.new.output.counter result }
     {
         if checker.is_bare() {
             return pass_bare(
@@ -79,6 +80,7 @@ impl<A: Allocator> Carried<A> {
                 reader,
                 writer,
                 notes,
+                rejects,
                 checker,
                 turns,
             );
@@ -97,7 +99,7 @@ impl<A: Allocator> Carried<A> {
                 Err(_) => return Err(RunFault::ReadFault),
             };
             let more = skip.behind(&piece.as_slice()[..read]);
-            self.pass_piece(checker, more, writer, notes)?;
+            self.pass_piece(checker, more, writer, notes, rejects)?;
             if self.output.due(checker, 0) == 0 {
                 return Ok(());
             }
@@ -107,38 +109,40 @@ impl<A: Allocator> Carried<A> {
 
     /// Passes a whole piece, or the messages of it up to a bound of the options, and writes what is told of those that
     /// end in it.
-    fn pass_piece<K: Sink, N: Sink>(
+    fn pass_piece<K: Sink, N: Sink, R: Sink>(
         &mut self,
         checker: &Checker<'_, '_, '_>,
         piece: &[u8],
         writer: &mut K,
         notes: &mut N,
+        rejects: &mut R,
     ) -> Result<(), RunFault>
         requires ready { IsReady checker.now self.old.framer self.old.room }
-        requires unfailed { AreOpen (queues_of K.Sink N.Sink self.old.output writer.old notes.old) }
+        requires unfailed { AreOpen (queues_of K.Sink N.Sink R.Sink self.old.output writer.old notes.old rejects.old) }
         requires piece { length piece.now ≤ PIECE }
         requires few { count_of self.old.output.counter < 2 ^ 62 }
-        ensures { WritesBy checker.now piece.now (carry_of K.Sink N.Sink self.old writer.old notes.old) (carry_of K.Sink N.Sink self.new writer.new notes.new) result }
+        ensures { WritesBy checker.now piece.now (carry_of K.Sink N.Sink R.Sink self.old writer.old notes.old rejects.old) (carry_of K.Sink N.Sink R.Sink self.new writer.new notes.new rejects.new) result }
     {
-        let passed = self.pass_messages(checker, piece, writer, notes);
-        self.output.flush(writer, notes)?;
+        let passed = self.pass_messages(checker, piece, writer, notes, rejects);
+        self.output.flush(writer, notes, rejects)?;
         passed
     }
 
     /// Passes a whole piece, or the messages of it up to a bound of the options, and adds what is told of those that end
     /// in it.
-    fn pass_messages<K: Sink, N: Sink>(
+    fn pass_messages<K: Sink, N: Sink, R: Sink>(
         &mut self,
         checker: &Checker<'_, '_, '_>,
         piece: &[u8],
         writer: &mut K,
         notes: &mut N,
+        rejects: &mut R,
     ) -> Result<(), RunFault>
         requires ready { IsReady checker.now self.old.framer self.old.room }
-        requires unfailed { AreOpen (queues_of K.Sink N.Sink self.old.output writer.old notes.old) }
+        requires unfailed { AreOpen (queues_of K.Sink N.Sink R.Sink self.old.output writer.old notes.old rejects.old) }
         requires piece { length piece.now ≤ PIECE }
         requires few { count_of self.old.output.counter < 2 ^ 62 }
-        ensures { PassesAllBy checker.now piece.now (carry_of K.Sink N.Sink self.old writer.old notes.old) (carry_of K.Sink N.Sink self.new writer.new notes.new) result }
+        ensures { PassesAllBy checker.now piece.now (carry_of K.Sink N.Sink R.Sink self.old writer.old notes.old rejects.old) (carry_of K.Sink N.Sink R.Sink self.new writer.new notes.new rejects.new) result }
     {
         let mut rest = piece;
         let mut due = 0;
@@ -148,7 +152,7 @@ impl<A: Allocator> Carried<A> {
                 return Ok(());
             }
             due -= 1;
-            let used = self.pass_some(checker, rest, writer, notes)?;
+            let used = self.pass_some(checker, rest, writer, notes, rejects)?;
             rest = &rest[used..];
         }
         Ok(())
@@ -158,25 +162,26 @@ impl<A: Allocator> Carried<A> {
     /// Answers how many bytes that were. A message that stands whole there is checked where it stands; of others the
     /// framer holds what came.
     #[tactic(auto, using(std::proofs::lemmas::Grind::common_steps))]
-    fn pass_some<K: Sink, N: Sink>(
+    fn pass_some<K: Sink, N: Sink, R: Sink>(
         &mut self,
         checker: &Checker<'_, '_, '_>,
         rest: &[u8],
         writer: &mut K,
         notes: &mut N,
+        rejects: &mut R,
     ) -> Result<usize, RunFault>
         requires rest { 0 < length rest.now }
         requires ready { IsReady checker.now self.old.framer self.old.room }
-        requires unfailed { AreOpen (queues_of K.Sink N.Sink self.old.output writer.old notes.old) }
+        requires unfailed { AreOpen (queues_of K.Sink N.Sink R.Sink self.old.output writer.old notes.old rejects.old) }
         requires few { count_of self.old.output.counter < 2 ^ 63 }
         requires due { IsDue checker.now (past_all checker.now self.old.output.counter) }
 
-        ensures { PassesBy checker.now rest.now (carry_of K.Sink N.Sink self.old writer.old notes.old) (carry_of K.Sink N.Sink self.new writer.new notes.new) result }
+        ensures { PassesBy checker.now rest.now (carry_of K.Sink N.Sink R.Sink self.old writer.old notes.old rejects.old) (carry_of K.Sink N.Sink R.Sink self.new writer.new notes.new rejects.new) result }
     {
         if self.framer.held() == 0 {
             if let Some(message) = front_message(rest, checker.cut()) {
                 self.output
-                    .add(checker, &mut self.room, message, writer, notes)?;
+                    .add(checker, &mut self.room, message, writer, notes, rejects)?;
                 return Ok(message.len());
             }
         }
@@ -185,7 +190,7 @@ impl<A: Allocator> Carried<A> {
             return Ok(taken.used);
         };
         self.output
-            .add(checker, &mut self.room, message, writer, notes)?;
+            .add(checker, &mut self.room, message, writer, notes, rejects)?;
         self.framer.next();
         Ok(taken.used)
     }

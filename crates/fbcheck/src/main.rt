@@ -11,10 +11,10 @@ ghost use Rattle.std.specs.Prelude.{⊤};
 
 use fb_bytes::{Counted, Sink};
 use fbcheck_serve::serve::serve;
-use fbcheck_serve::{Explained, FileFault, Files, WordsFault, WrongWord};
+use fbcheck_serve::{Explained, FileFault, Files, Makes, WordsFault, WrongWord};
 use std::alloc::AllocError;
 use std::env::Env;
-use std::fs::File;
+use std::fs::{File, OpenOptions};
 use std::io;
 use std::io::{ErrorKind, Read};
 use std::process::ExitCode;
@@ -65,6 +65,15 @@ fn open_file(rt: &HostRuntime, name: &str) -> io::Result<File> {
     Ok(file)
 }
 
+/// A file to be written, made or emptied.
+fn make_file(rt: &HostRuntime, name: &str) -> io::Result<File> {
+    OpenOptions::new()
+        .write(true)
+        .create(true)
+        .truncate(true)
+        .open(rt, name)
+}
+
 /// The files of the system: what they have isn't known.
 #[derive(Drop)]
 struct Disk<'a> {
@@ -86,6 +95,19 @@ impl<K: Sink, N: Sink> Files<K, N> for Disk<'_> {
         match open_file(self.rt, name) {
             Ok(file) => Ok(Explained::new(file)),
             Err(error) => Err(FileFault::of(error)),
+        }
+    }
+}
+
+impl Makes for Disk<'_> {
+    type Made = Explained<File>;
+
+    ghost makes = { λ _ _ _. ⊤ };
+
+    fn make(&self, name: &str) -> Result<Explained<File>, ErrorKind> {
+        match make_file(self.rt, name) {
+            Ok(file) => Ok(Explained::new(file)),
+            Err(error) => Err(error.kind()),
         }
     }
 }

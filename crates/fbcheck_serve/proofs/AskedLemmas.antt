@@ -61,4 +61,4 @@ hinted file settings fault told (Err none) is lacks = subst (LacksJob file setti
 
 -- nothing happened
 pub idle : (ends : Ends) → IsIdle ends ends
-idle ends = (Keeps-refl ends.reader.left, (Keeps-refl ends.outs.writer.bytes, Keeps-refl ends.outs.notes.bytes))
+idle ends = (Keeps-refl ends.reader.left, (Keeps-refl ends.outs.writer.bytes, Keeps-refl ends.outs.notes.bytes, Keeps-refl ends.outs.rejects.bytes))

@@ -8,7 +8,7 @@ use Rattle.fbcheck_serve.specs.Heads.{IsCut, IsHeadPut, IsHeaded, head_of, with_
 
 -- the calls that failed, with so many of the writer
 abbrev with_writes : Ends → ℕ → Failures
-with_writes before writes = record { reads = before.reader.failures; writes = writes; notes = before.outs.notes.failures }
+with_writes before writes = record { reads = before.reader.failures; writes = writes; notes = before.outs.notes.failures; rejects = before.outs.rejects.failures }
 
 module _ (before after : Ends) (writer : Writer) (turns bytes : ℕ) (same : writer.failures ≡ before.outs.writer.failures) where
   -- no call failed by the head
@@ -27,7 +27,7 @@ module _ (before after : Ends) (writer : Writer) (turns bytes : ℕ) (same : wri
 -- a write of the head failed
 pub ends_cut : (before : Ends) (writer : Writer) (turns : ℕ) (head : List ℕ) (fault : RunFault) → IsHeadPut head before.outs.writer writer (Err fault)
     → EndsBeside before (with_writer before writer) turns (Err fault)
-ends_cut before writer turns head (run.WriteFault written) put = (refl, put.1, refl)
+ends_cut before writer turns head (run.WriteFault written) put = (refl, put.1, refl, refl)
 ends_cut before writer turns head _ put = absurd put
 
 module _ (job : Job) (names : List Named) (before : Ends) (head : List ℕ) (writer : Writer) (end : End) (is : head ≡ head_of job names) (put : IsHeadPut head before.outs.writer writer end) where

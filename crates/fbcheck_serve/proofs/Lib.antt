@@ -2,6 +2,7 @@ mod AskedLemmas
 mod ByteLemmas
 mod HeadLemmas
 mod InputsLemmas
+mod KeepingLemmas
 mod NamesLemmas
 mod NoteLemmas
 mod OneAsk

@@ -8,16 +8,22 @@ use Rattle.std.proofs.{KnownBytes.Keeps-refl, Math.Seq.take-length}
 use Rattle.std.proofs.lemmas.{Bool.eq-eqb, Bool.eqb-true, List.length-map, List.nil_from_length}
 use Rattle.clap.specs.{Faults.fault_of, Walk.Text}
 use Rattle.fbcheck_words.specs.{CommandLine.program, Given.AreGiven, Refusal.Refuses, Values.text_of}
-use Rattle.fbcheck_serve.specs.Checking.{IsPromptAmongAsked, IsPromptAsAsked, IsPromptOverAsked, IsCheckedBeside, IsServedEach, MayReadAsked}
+use Rattle.fbcheck_serve.specs.Checking.{IsPromptAmongAsked, IsPromptAsAsked, IsPromptOverAsked, MayReadAsked}
+use Rattle.fbcheck_serve.specs.Keeping.{IsCheckedKeeping, IsServedKeeping, Maker}
+use Rattle.fbcheck_serve.specs.declared.check.Kept as check
+use Rattle.fbcheck_serve.specs.declared.check.Unbegun.{Unbegun}
+use Rattle.fbcheck_serve.specs.declared.check.Unbegun.TheVariants as unbegun
 use Rattle.fbcheck_texts.specs.Faults.{IsFile, HasFileFault}
-use Rattle.fbcheck_texts.specs.declared.{fault.FileFault.FileFault, fault.WordsFault.WordsFault, framing.By.By, framing.Manner.Manner, hint.Unasked.Unasked}
+use Rattle.fbcheck_texts.specs.declared.{fault.FileFault.FileFault, fault.WordsFault.WordsFault, framing.By.By, framing.Manner.Manner}
 use Rattle.fbcheck_serve.specs.Lists.{AreNamed, HasListFault, IsList, named_by}
 use Rattle.fbcheck_serve.specs.Names.{Named, listed_names, word_names}
 use Rattle.fbcheck_serve.specs.Inputs.{Folder, Seen, with_cause}
 use Rattle.fb_lines.specs.{Faults.End, Faults.EndsBeside, JsonSums.summary_in}
-use Rattle.fb_lines.specs.Ends.{Ends, Reader, Writer, beside}
+use Rattle.fb_lines.specs.Ends.{Ends, Reader, Writer, beside, nowhere, with_rejects}
+use Rattle.fb_bytes.specs.declared.stream_fault.StreamFault.TheVariants as stream
+use Rattle.fb_lines.specs.declared.fault.RunFault.TheVariants as run
 use Rattle.fbcheck_serve.specs.Serving.{ChecksAsAsked, ComesAsAsked, ComesBy, ComesTo, IsAlone, IsNameless, EndsFiles, EndsRun, EndsSo, HoldsAsGiven, IsPromptAsGiven, MayReadAsGiven, PassesAsAsked, Rests, SumsUp, TellsAsGiven, TellsIn, IsFormOf, Unserved}
-use Rattle.fbcheck_serve.specs.Serving.{files_ending, hinted_stop, is_set, lent_bytes, run_ending, summed, words_of}
+use Rattle.fbcheck_serve.specs.Serving.{files_ending, hinted_stop, is_set, lent_bytes, run_ending, summed, unbegun_stop, words_of}
 use Rattle.fbcheck_serve.proofs.AskedLemmas.{idle}
 use Rattle.fbcheck_serve.specs.declared.inputs.Passed as inputs
 use Rattle.fb_run.specs.declared.input.Input as input
@@ -31,16 +37,6 @@ use Rattle.fbcheck_serve.specs.declared.{stop.Stop.Stop, stop.Sums.Sums}
 use Rattle.fbcheck_serve.specs.declared.stop.Stop.TheVariants as stop
 
 module _ (folder : Folder) where
-  -- the words give no settings, and no file was begun
-  pub comes_unserved : (given : List Text) (reader : Reader) (writer writer' notes : Writer) (cause : Option ErrorKind) (fault : SettingsFault) (outcome : Result Ending Stop)
-      → Refuses given fault → Unserved fault writer writer' outcome
-      → ComesBy folder given (with_cause (beside reader (record { writer = writer; notes = notes })) cause) (with_cause (beside reader (record { writer = writer'; notes = notes })) cause) None outcome
-  comes_unserved given reader writer writer' notes cause fault (Ok Helped) refuses unserved = ((fault, refuses, Keeps-refl reader.left, unserved, Keeps-refl notes.bytes), refl)
-  comes_unserved given reader writer writer' notes cause fault (Err (stop.Usage text)) refuses unserved = ((fault, refuses, Keeps-refl reader.left, unserved, Keeps-refl notes.bytes), refl)
-  comes_unserved given reader writer writer' notes cause fault (Err (stop.Settings why)) refuses unserved = ((fault, refuses, Keeps-refl reader.left, unserved, Keeps-refl notes.bytes), refl)
-  comes_unserved given reader writer writer' notes cause fault (Err (stop.CutOff written)) refuses unserved = ((fault, refuses, Keeps-refl reader.left, unserved, Keeps-refl notes.bytes), refl)
-  comes_unserved given reader writer writer' notes cause fault _ refuses never = absurd never
-
   -- what holds by the settings, and by what a read of the file of the words gave
   pub holds_given : (given : List Text) (settings : Settings) (file : Option (Bor (List ℕ))) (bytes : Option (List ℕ)) (Holds : Option (Bor (List ℕ)) → Settings → Type 0)
       → AreGiven given settings → lent_bytes file ≡ bytes → IsFile folder.gives (option_map string_bytes settings.schema) bytes → Holds file settings → HoldsAsGiven folder given Holds
@@ -53,56 +49,17 @@ module _ (folder : Folder) where
     holds = holds;
   }
 
-  -- what the settings come to is what the words that give them do
-  pub comes_asked : (given : List Text) (before after : Seen) (sums : Option Sums) (outcome : Result Ending Stop)
-      → HoldsAsGiven folder given (λ file settings. ComesAsAsked folder file settings before after sums outcome) → ComesBy folder given before after sums outcome
-  comes_asked given before after sums (Ok Helped) never = absurd never.holds
-  comes_asked given before after sums (Err (stop.Usage text)) never = absurd never.holds.0
-  comes_asked given before after sums (Err (stop.Settings refusal.OutOfMemory)) holds =
-      let (nameless, (read, (wrote, noted)), none) = holds.holds in ((refusal.OutOfMemory, tt, read, wrote, noted), none)
-  comes_asked given before after sums (Err (stop.Settings fault)) never = absurd never.holds.0
-  comes_asked given before after sums (Err (stop.CutOff written)) never = absurd never.holds.0
-  comes_asked given before after sums (Err (stop.File fault hint)) never = absurd never.holds.0
-  comes_asked given before after sums _ holds = holds
-
-  module _ (file : Option (Bor (List ℕ))) (settings : Settings) (before after : Seen) (sums : Option Sums) (outcome : Result Ending Stop) where
-    -- the program ends by the end of the run, or of the files
-    comes_ended : (manner : Manner) (tally : Tally) (end : End) → manner.most_bad ≡ settings.most_bad → outcome ≡ run_ending manner tally end → ChecksAsAsked file settings before.ends after.ends sums tally end
-        → ComesAsAsked folder file settings before after sums outcome
-    comes_ended manner tally (Ok done) bound is checks = rw is (checks, bound)
-    comes_ended manner tally (Err fault) bound is checks = rw is checks
-
-    pub comes_run : (ran : Result Ran Unasked) → IsAlone settings → IsCheckedBeside file settings before.ends after.ends ran → EndsRun settings ran sums outcome
-        → ComesAsAsked folder file settings before after sums outcome
-    comes_run (Ok ran) none checked (told, manner, bound, is) = comes_ended manner ran.tally ran.end bound is (none, checked, told)
-    comes_run (Err unasked) none checked (told, is) = rw is (checked.0, checked.1, told)
-
-    comes_passed : (by : By) (course : Course) (end : End) → outcome ≡ files_ending by course end → PassesAsAsked folder file settings before after sums course end
-        → ComesAsAsked folder file settings before after sums outcome
-    comes_passed by course (Ok done) is passes = rw is passes
-    comes_passed by course (Err fault) is passes = rw is (course, passes)
-
-    pub comes_files : (names : List Named) (passed : Result inputs.Passed Unasked) → AreNamed folder.gives settings (Some names) → IsServedEach folder file settings names before after passed
-        → EndsFiles settings passed sums outcome → ComesAsAsked folder file settings before after sums outcome
-    comes_files names (Ok passed) are served (told, by, is) = comes_passed by passed.course passed.end is (names, are, served, told)
-    comes_files names (Err unasked) are served (told, is) = rw is (served.0, served.1, told)
-
   -- all that was read is told, where no file is named, and among files
   pub prompt_alone : (file : Option (Bor (List ℕ))) (settings : Settings) (before now : Ends) → IsAlone settings → IsPromptAsAsked file settings before now
       → IsPromptOverAsked folder file settings before now
-  prompt_alone file settings before now (unlisted, none) (job, asks, headed, head, prompt) = (None, job, rw (unlisted, none) refl, asks, headed, head, prompt)
+  prompt_alone file settings before now (unlisted, none) (job, asks, rejects, rejects', (headed, head, prompt)) =
+      (None, job, rw (unlisted, none) refl, asks, rejects, rejects', headed, head, prompt)
 
   pub prompt_among : (file : Option (Bor (List ℕ))) (settings : Settings) (names : List Named) (before now : Ends) → AreNamed folder.gives settings (Some names)
       → IsPromptAmongAsked folder file settings names before now → IsPromptOverAsked folder file settings before now
-  prompt_among file settings names before now are (job, asks, headed, head, among) = (Some names, job, are, asks, headed, head, among)
+  prompt_among file settings names before now are (job, asks, rejects, rejects', (headed, head, among)) = (Some names, job, are, asks, rejects, rejects', headed, head, among)
 
   -- the words could be read
-  pub comes_read : {A B : Type 0} (given : Result (Vec (String A) B) WordsFault) (words : Vec (String A) B) (slice : List (String A)) (before after : Seen) (sums : Option Sums) (outcome : Result Ending Stop)
-      → given ≡ Ok words → slice ≡ vec_items words → ComesBy folder (map string_bytes slice) before after sums outcome → ComesTo folder (words_of given) before after sums outcome
-  comes_read {A} {B} given words slice before after sums outcome is same comes =
-      subst (λ (g : Result (Vec (String A) B) WordsFault). ComesTo folder (words_of g) before after sums outcome) (sym is)
-      (subst (λ (l : List (String A)). ComesBy folder (map string_bytes l) before after sums outcome) same comes)
-
   pub prompt_read : {A B : Type 0} (given : Result (Vec (String A) B) WordsFault) (words : Vec (String A) B) (slice : List (String A)) (before now : Ends)
       → given ≡ Ok words → slice ≡ vec_items words → IsPromptAsGiven folder (Ok (map string_bytes slice)) before now → IsPromptAsGiven folder (words_of given) before now
   prompt_read {A} {B} given words slice before now is same prompt =
@@ -118,6 +75,62 @@ module _ (folder : Folder) where
       let read = subst (λ (b : Option (List ℕ)). IsFile folder.gives (option_map string_bytes settings.schema) b) (sym lent) file_is in
       subst (λ (l : List (String A)). MayReadAsGiven folder (Ok (map string_bytes l)) before) (sym same) all settings file are
       (subst (λ (t : Option Text). IsFile folder.gives t (lent_bytes file)) are.said.schema read)
+
+module _ (maker : Maker) (folder : Folder) where
+  -- the words give no settings, and no file was begun
+  pub comes_unserved : (given : List Text) (reader : Reader) (writer writer' notes : Writer) (cause : Option ErrorKind) (fault : SettingsFault) (outcome : Result Ending Stop)
+      → Refuses given fault → Unserved fault writer writer' outcome
+      → ComesBy maker folder given (with_cause (beside reader (record { writer = writer; notes = notes; rejects = nowhere })) cause) (with_cause (beside reader (record { writer = writer'; notes = notes; rejects = nowhere })) cause) None outcome
+  comes_unserved given reader writer writer' notes cause fault (Ok Helped) refuses unserved = ((fault, refuses, Keeps-refl reader.left, unserved, Keeps-refl notes.bytes), refl)
+  comes_unserved given reader writer writer' notes cause fault (Err (stop.Usage text)) refuses unserved = ((fault, refuses, Keeps-refl reader.left, unserved, Keeps-refl notes.bytes), refl)
+  comes_unserved given reader writer writer' notes cause fault (Err (stop.Settings why)) refuses unserved = ((fault, refuses, Keeps-refl reader.left, unserved, Keeps-refl notes.bytes), refl)
+  comes_unserved given reader writer writer' notes cause fault (Err (stop.CutOff written)) refuses unserved = ((fault, refuses, Keeps-refl reader.left, unserved, Keeps-refl notes.bytes), refl)
+  comes_unserved given reader writer writer' notes cause fault _ refuses never = absurd never
+
+  -- what the settings come to is what the words that give them do
+  pub comes_asked : (given : List Text) (before after : Seen) (sums : Option Sums) (outcome : Result Ending Stop)
+      → HoldsAsGiven folder given (λ file settings. ComesAsAsked maker folder file settings before after sums outcome) → ComesBy maker folder given before after sums outcome
+  comes_asked given before after sums (Ok Helped) never = absurd never.holds
+  comes_asked given before after sums (Err (stop.Usage text)) never = absurd never.holds.0
+  comes_asked given before after sums (Err (stop.Settings refusal.OutOfMemory)) holds =
+      let (nameless, (read, (wrote, noted, kept)), none) = holds.holds in ((refusal.OutOfMemory, tt, read, wrote, noted), none)
+  comes_asked given before after sums (Err (stop.Settings fault)) never = absurd never.holds.0
+  comes_asked given before after sums (Err (stop.CutOff written)) never = absurd never.holds.0
+  comes_asked given before after sums (Err (stop.File fault hint)) never = absurd never.holds.0
+  comes_asked given before after sums _ holds = holds
+
+  module _ (file : Option (Bor (List ℕ))) (settings : Settings) (before after : Seen) (sums : Option Sums) (outcome : Result Ending Stop) where
+    -- the program ends by the end of the run, or of the files
+    comes_ended : (manner : Manner) (cause : Option ErrorKind) (tally : Tally) (end : End) → manner.most_bad ≡ settings.most_bad → outcome ≡ run_ending manner cause tally end
+        → ChecksAsAsked maker file settings before.ends after.ends sums tally end → ComesAsAsked maker folder file settings before after sums outcome
+    comes_ended manner cause tally (Ok done) bound is checks = rw is (checks, bound)
+    comes_ended manner cause tally (Err (run.RejectFault written)) bound is checks = rw is (inl (tally, checks))
+    comes_ended manner cause tally (Err fault) bound is checks = rw is checks
+
+    pub comes_run : (ran : Result (check.Kept Ran) Unbegun) → IsAlone settings → IsCheckedKeeping maker file settings before.ends after.ends ran → EndsRun settings ran sums outcome
+        → ComesAsAsked maker folder file settings before after sums outcome
+    comes_run (Ok kept) none checked (told, manner, bound, is) = comes_ended manner kept.cause kept.what.tally kept.what.end bound is (none, checked, told)
+    comes_run (Err (unbegun.Ask unasked)) none checked (told, is) = rw is (checked.0, checked.1, told)
+    comes_run (Err (unbegun.Unmade cause)) none checked (told, is) = rw is (checked.0, checked.1, told)
+
+    comes_passed : (by : By) (cause : Option ErrorKind) (course : Course) (end : End) → outcome ≡ files_ending by cause course end → PassesAsAsked maker folder file settings before after sums course end
+        → ComesAsAsked maker folder file settings before after sums outcome
+    comes_passed by cause course (Ok done) is passes = rw is passes
+    comes_passed by cause course (Err (run.RejectFault written)) is passes = rw is (inr (course, passes))
+    comes_passed by cause course (Err fault) is passes = rw is (course, passes)
+
+    pub comes_files : (names : List Named) (passed : Result (check.Kept inputs.Passed) Unbegun) → AreNamed folder.gives settings (Some names)
+        → IsServedKeeping maker folder file settings names before after passed → EndsFiles settings passed sums outcome → ComesAsAsked maker folder file settings before after sums outcome
+    comes_files names (Ok kept) are served (told, by, is) = comes_passed by kept.cause kept.what.course kept.what.end is (names, are, served, told)
+    comes_files names (Err (unbegun.Ask unasked)) are served (told, is) = rw is (served.0, served.1, told)
+    comes_files names (Err (unbegun.Unmade cause)) are served (told, is) = rw is (served.0, served.1, told)
+
+  -- the words could be read
+  pub comes_read : {A B : Type 0} (given : Result (Vec (String A) B) WordsFault) (words : Vec (String A) B) (slice : List (String A)) (before after : Seen) (sums : Option Sums) (outcome : Result Ending Stop)
+      → given ≡ Ok words → slice ≡ vec_items words → ComesBy maker folder (map string_bytes slice) before after sums outcome → ComesTo maker folder (words_of given) before after sums outcome
+  comes_read {A} {B} given words slice before after sums outcome is same comes =
+      subst (λ (g : Result (Vec (String A) B) WordsFault). ComesTo maker folder (words_of g) before after sums outcome) (sym is)
+      (subst (λ (l : List (String A)). ComesBy maker folder (map string_bytes l) before after sums outcome) same comes)
 
 -- whether files are named, by how many there are
 pub none_named : {Z : Type 0} (files slice : List (String Z)) (empty : Bool) → slice ≡ files → empty ≡ (length slice == 0) → empty ≡ true → map string_bytes files ≡ []
@@ -154,11 +167,11 @@ pub early : (before after : Ends) (outcome : Result Ending Stop) → EndsSo befo
 early before after outcome ends same = record { places = tt; ends = ends; turns = rw same (omega arith) }
 
 -- so none is begun
-pub nameless : (folder : Folder) (file : Option (Bor (List ℕ))) (settings : Settings) (seen : Seen) (cause : Stop) → IsNameless folder.gives settings cause
-    → ComesAsAsked folder file settings seen seen None (Err cause) × Rests seen.ends seen.ends None (Err cause)
-nameless folder file settings seen (stop.List fault hint) is = ((is, idle seen.ends, refl), early seen.ends seen.ends _ (refl, refl, refl) refl)
-nameless folder file settings seen (stop.Settings refusal.OutOfMemory) is = ((is, idle seen.ends, refl), early seen.ends seen.ends _ (refl, refl, refl) refl)
-nameless folder file settings seen _ never = absurd never
+pub nameless : (maker : Maker) (folder : Folder) (file : Option (Bor (List ℕ))) (settings : Settings) (seen : Seen) (cause : Stop) → IsNameless folder.gives settings cause
+    → ComesAsAsked maker folder file settings seen seen None (Err cause) × Rests seen.ends seen.ends None (Err cause)
+nameless maker folder file settings seen (stop.List fault hint) is = ((is, idle seen.ends, refl), early seen.ends seen.ends _ (refl, refl, refl, refl) refl)
+nameless maker folder file settings seen (stop.Settings refusal.OutOfMemory) is = ((is, idle seen.ends, refl), early seen.ends seen.ends _ (refl, refl, refl, refl) refl)
+nameless maker folder file settings seen _ never = absurd never
 
 -- a summary was noted whole, or in part
 pub sums_noted : (sums : Option Sums) (told : Sums) (before after : Writer) (outcome : Result Ending Stop) (line : List ℕ) (written : ℕ)
@@ -168,20 +181,20 @@ sums_noted sums told before after outcome line written some is all wrote same =
     subst (λ (o : Option Sums). SumsUp o before after outcome outcome) (sym some)
     (inl (subst (Appends before.bytes after.bytes) (ap (λ (m : ℕ). take m line) all ∙ take-length line ∙ is) wrote, same, refl))
 
-pub wordless : {A B : Type 0} (folder : Folder) (given : Result (Vec (String A) B) WordsFault) (seen : Seen) (fault : WordsFault) (hint : Result (List ℕ) AllocError) (cause : Stop)
+pub wordless : {A B : Type 0} (maker : Maker) (folder : Folder) (given : Result (Vec (String A) B) WordsFault) (seen : Seen) (fault : WordsFault) (hint : Result (List ℕ) AllocError) (cause : Stop)
     → given ≡ Err fault → cause ≡ hinted_stop (stop.Words fault) hint
-    → ComesTo folder (words_of given) seen seen None (Err cause) × Rests seen.ends seen.ends None (Err cause)
-wordless folder given seen fault (Ok hint) cause is so =
-    rw (is, so) ((refl, idle seen.ends, refl), early seen.ends seen.ends _ (refl, refl, refl) refl)
-wordless folder given seen fault (Err none) cause is so = rw (is, so) ((idle seen.ends, refl), early seen.ends seen.ends _ (refl, refl, refl) refl)
+    → ComesTo maker folder (words_of given) seen seen None (Err cause) × Rests seen.ends seen.ends None (Err cause)
+wordless maker folder given seen fault (Ok hint) cause is so =
+    rw (is, so) ((refl, idle seen.ends, refl), early seen.ends seen.ends _ (refl, refl, refl, refl) refl)
+wordless maker folder given seen fault (Err none) cause is so = rw (is, so) ((idle seen.ends, refl), early seen.ends seen.ends _ (refl, refl, refl, refl) refl)
 
-pub fileless : (folder : Folder) (given : List Text) (seen : Seen) (fault : FileFault) (hint : Result (List ℕ) AllocError) (name : Option Text) (cause : Stop)
+pub fileless : (maker : Maker) (folder : Folder) (given : List Text) (seen : Seen) (fault : FileFault) (hint : Result (List ℕ) AllocError) (name : Option Text) (cause : Stop)
     → fault_of program given ≡ [] → name ≡ text_of (codes "schema") given → cause ≡ hinted_stop (stop.File fault) hint → HasFileFault folder.gives name fault
-    → ComesBy folder given seen seen None (Err cause) × Rests seen.ends seen.ends None (Err cause)
-fileless folder given seen fault (Ok hint) name cause read is so has =
-    rw so ((read, subst (λ (t : Option Text). HasFileFault folder.gives t fault) is has, idle seen.ends, refl), early seen.ends seen.ends _ (refl, refl, refl) refl)
-fileless folder given seen fault (Err none) name cause read is so has =
-    rw so (((refusal.OutOfMemory, tt, Keeps-refl seen.ends.reader.left, Keeps-refl seen.ends.outs.writer.bytes, Keeps-refl seen.ends.outs.notes.bytes), refl), early seen.ends seen.ends _ (refl, refl, refl) refl)
+    → ComesBy maker folder given seen seen None (Err cause) × Rests seen.ends seen.ends None (Err cause)
+fileless maker folder given seen fault (Ok hint) name cause read is so has =
+    rw so ((read, subst (λ (t : Option Text). HasFileFault folder.gives t fault) is has, idle seen.ends, refl), early seen.ends seen.ends _ (refl, refl, refl, refl) refl)
+fileless maker folder given seen fault (Err none) name cause read is so has =
+    rw so (((refusal.OutOfMemory, tt, Keeps-refl seen.ends.reader.left, Keeps-refl seen.ends.outs.writer.bytes, Keeps-refl seen.ends.outs.notes.bytes), refl), early seen.ends seen.ends _ (refl, refl, refl, refl) refl)
 
 -- the numbers to be told have a place for each kind of fault
 summed_places : (told : Sums) (asked : Bool) → length told.tally.reasons ≡ reason_count → IfSome (if asked then Some told else None) (λ (sums : Sums). length sums.tally.reasons ≡ reason_count)
@@ -189,38 +202,52 @@ summed_places told true are = are
 summed_places told false are = tt
 
 -- nothing was called where there was nothing to check by
-pub same_ends : {S K N A : Type 0} (s : input.Ghosts S K N) (k : sink.Ghosts K) (n : sink.Ghosts N) (answer : Result A Unasked) (r r' : S) (w w' : K) (m m' : N)
+pub same_ends : {S K N A B : Type 0} (s : input.Ghosts S K N) (k : sink.Ghosts K) (n : sink.Ghosts N) (answer : Result A B) (r r' : S) (w w' : K) (m m' : N)
     → OnErr answer (r' ≡ r) → OnErr answer (w' ≡ w) → OnErr answer (m' ≡ m) → OnErr answer (ends_of s k n r' w' m' ≡ ends_of s k n r w m)
 same_ends s k n (Ok done) r r' w w' m m' a b c = tt
-same_ends s k n (Err unasked) r r' w w' m m' a b c = rw (a, b, c) refl
+same_ends s k n (Err none) r r' w w' m m' a b c = rw (a, b, c) refl
 
 module _ (settings : Settings) (before after : Ends) (turns : after.reader.calls ≤ before.reader.calls + 4294967296) where
   rests_by : (tally : Tally) (outcome : Result Ending Stop) → length tally.reasons ≡ reason_count → EndsSo before after 4294967296 outcome
       → Rests before after (summed settings tally) outcome
   rests_by tally outcome are ends = record { places = summed_places _ settings.summary are; ends = ends; turns = turns }
 
-  unasked_rests : (unasked : Unasked) → after ≡ before → Rests before after None (Err (stop.Ask unasked))
-  unasked_rests unasked same = record { places = tt; ends = rw same (refl, refl, refl); turns = turns }
+  unbegun_rests : (fault : Unbegun) → after ≡ before → Rests before after None (Err (unbegun_stop fault))
+  unbegun_rests (unbegun.Ask unasked) same = record { places = tt; ends = rw same (refl, refl, refl, refl); turns = turns }
+  unbegun_rests (unbegun.Unmade cause) same = record { places = tt; ends = rw same (refl, refl, refl, refl); turns = turns }
 
-  run_rests_so : (manner : Manner) (tally : Tally) (end : End) → length tally.reasons ≡ reason_count → EndsBeside before after 4294967296 end
-      → Rests before after (summed settings tally) (run_ending manner tally end)
-  run_rests_so manner tally (Ok done) are ends = rests_by tally _ are ends
-  run_rests_so manner tally (Err fault) are ends = rests_by tally _ are ends
+  module _ (alike : after.outs.rejects.failures ≡ before.outs.rejects.failures) where
+    run_rests_so : (manner : Manner) (cause : Option ErrorKind) (tally : Tally) (end : End) (rejects rejects' : Writer) → length tally.reasons ≡ reason_count
+        → EndsBeside (with_rejects before rejects) (with_rejects after rejects') 4294967296 end → Rests before after (summed settings tally) (run_ending manner cause tally end)
+    run_rests_so manner cause tally (Ok done) rejects rejects' are ends = rests_by tally _ are (ends.0, ends.1, ends.2, alike)
+    run_rests_so manner cause tally (Err (run.RejectFault written)) rejects rejects' are ends = rests_by tally _ are tt
+    run_rests_so manner cause tally (Err run.ReadFault) rejects rejects' are ends = rests_by tally _ are (ends.0, ends.1, ends.2, alike)
+    run_rests_so manner cause tally (Err (run.WriteFault written)) rejects rejects' are ends = rests_by tally _ are (ends.0, ends.1, ends.2, alike)
+    run_rests_so manner cause tally (Err (run.NoteFault written)) rejects rejects' are ends = rests_by tally _ are (ends.0, ends.1, ends.2, alike)
+    run_rests_so manner cause tally (Err run.TooManyTurns) rejects rejects' are ends = rests_by tally _ are ((ends.0.0, ends.0.1, ends.0.2, alike), ends.1)
+    run_rests_so manner cause tally (Err run.OutOfMemory) rejects rejects' are ends = rests_by tally _ are (ends.0, ends.1, ends.2, alike)
+    run_rests_so manner cause tally (Err (run.BareTooLong most)) rejects rejects' are ends = rests_by tally _ are (ends.0, ends.1, ends.2, alike)
+    run_rests_so manner cause tally (Err (run.SkipPastEnd skip)) rejects rejects' are ends = rests_by tally _ are ((ends.0.0, ends.0.1, ends.0.2, alike), ends.1)
+    run_rests_so manner cause tally (Err (run.Stream (stream.Truncated held))) rejects rejects' are ends = rests_by tally _ are ((ends.0.0, ends.0.1, ends.0.2, alike), ends.1)
+    run_rests_so manner cause tally (Err (run.Stream fault)) rejects rejects' are ends = rests_by tally _ are (ends.0, ends.1, ends.2, alike)
 
-  pub run_rests : (ran : Result Ran Unasked) (sums : Option Sums) (outcome : Result Ending Stop) → EndsRun settings ran sums outcome → IfOk ran (λ r. length r.tally.reasons ≡ reason_count)
-      → IfOk ran (λ r. EndsBeside before after 4294967296 r.end) → OnErr ran (after ≡ before) → Rests before after sums outcome
-  run_rests (Ok ran) sums outcome (told, manner, bound, is) are ends same = rw (told, is) (run_rests_so manner ran.tally ran.end are ends)
-  run_rests (Err unasked) sums outcome (told, is) are ends same = rw (told, is) (unasked_rests unasked same)
+    pub run_rests : (maker : Maker) (file : Option (Bor (List ℕ))) (ran : Result (check.Kept Ran) Unbegun) (sums : Option Sums) (outcome : Result Ending Stop)
+        → IsCheckedKeeping maker file settings before after ran → EndsRun settings ran sums outcome
+        → IfOk ran (λ kept. length kept.what.tally.reasons ≡ reason_count) → OnErr ran (after ≡ before) → Rests before after sums outcome
+    run_rests maker file (Ok kept) sums outcome (rejects, rejects', are_kept, (ran, ends)) (told, manner, bound, is) are same =
+        rw (told, is) (run_rests_so manner kept.cause kept.what.tally kept.what.end rejects rejects' are ends)
+    run_rests maker file (Err fault) sums outcome checked (told, is) are same = rw (told, is) (unbegun_rests fault same)
 
-  files_rests_so : (by : By) (course : Course) (end : End) → length course.tally.reasons ≡ reason_count → Rests before after (summed settings course.tally) (files_ending by course end)
-  files_rests_so by course (Ok done) are = rests_by course.tally _ are tt
-  files_rests_so by course (Err fault) are = rests_by course.tally _ are tt
+  files_rests_so : (by : By) (cause : Option ErrorKind) (course : Course) (end : End) → length course.tally.reasons ≡ reason_count
+      → Rests before after (summed settings course.tally) (files_ending by cause course end)
+  files_rests_so by cause course (Ok done) are = rests_by course.tally _ are tt
+  files_rests_so by cause course (Err (run.RejectFault written)) are = rests_by course.tally _ are tt
+  files_rests_so by cause course (Err fault) are = rests_by course.tally _ are tt
 
-  pub files_rests : (passed : Result inputs.Passed Unasked) (sums : Option Sums) (outcome : Result Ending Stop) → EndsFiles settings passed sums outcome
-      → IfOk passed (λ p. length p.course.tally.reasons ≡ reason_count) → OnErr passed (after ≡ before)
-      → Rests before after sums outcome
-  files_rests (Ok passed) sums outcome (told, by, is) are same = rw (told, is) (files_rests_so by passed.course passed.end are)
-  files_rests (Err unasked) sums outcome (told, is) are same = rw (told, is) (unasked_rests unasked same)
+  pub files_rests : (passed : Result (check.Kept inputs.Passed) Unbegun) (sums : Option Sums) (outcome : Result Ending Stop) → EndsFiles settings passed sums outcome
+      → IfOk passed (λ kept. length kept.what.course.tally.reasons ≡ reason_count) → OnErr passed (after ≡ before) → Rests before after sums outcome
+  files_rests (Ok kept) sums outcome (told, by, is) are same = rw (told, is) (files_rests_so by kept.cause kept.what.course kept.what.end are)
+  files_rests (Err fault) sums outcome (told, is) are same = rw (told, is) (unbegun_rests fault same)
 
 -- faults are told in the form of lines, whether the program ended by settings or not
 pub told_as_lines : (set : Bool) (given : List Text) (form : Form) → IsFormOf given form → TellsIn set given form

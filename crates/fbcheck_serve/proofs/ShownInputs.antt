@@ -10,7 +10,7 @@ pub labels_shown : Labels
 labels_shown = record { of_two = refl; of_one = refl; of_one_named = refl; of_a_fault = refl }
 
 pub finals_shown : Finals
-finals_shown = record { written = λ written. refl; noted = λ written. refl; memory = refl; read = refl; stream = λ fault. refl; turns = refl; long = λ limit. refl; short = λ skip. refl }
+finals_shown = record { written = λ written. refl; noted = λ written. refl; rejected = λ written. refl; memory = refl; read = refl; stream = λ fault. refl; turns = refl; long = λ limit. refl; short = λ skip. refl }
 
 pub listed_shown : Listed
 unfolding chars encode_utf8 is_utf8

@@ -17,7 +17,8 @@ use Rattle.fbcheck_words.specs.declared.choices.Settings.{Settings}
 use Rattle.fb_lines.specs.declared.{options.Form.Form, options.Form.TheVariants.Plain, options.Form.TheVariants.Json, options.Mode.Mode}
 use Rattle.fb_lines.specs.declared.options.Mode.TheVariants.{Lines, BadLines, Filter, Csv}
 use Rattle.fb_lines.specs.declared.{options.Places.Places, options.Places.TheVariants.Numbers, options.Places.TheVariants.Words, options.Prefix.Prefix}
-use Rattle.fb_lines.specs.declared.{options.Prefix.TheVariants.Part, options.Prefix.TheVariants.Apart, options.Options.Options}
+use Rattle.fb_lines.specs.declared.{options.Prefix.TheVariants.Part, options.Prefix.TheVariants.Apart, options.Rejects.Rejects, options.Options.Options}
+use Rattle.fb_lines.specs.declared.options.Rejects.TheVariants.{Dropped, Kept}
 use Rattle.fbcheck_texts.specs.declared.fault.AskFault.{AskFault}
 use Rattle.fbcheck_serve.specs.{FileMarks.ArePlanMarks, Inputs.label_of, Inputs.with_label}
 use Rattle.fbcheck_texts.specs.declared.fault.AskFault.TheVariants.{Path, NoRoot, NoIdent, UnmarkedBytes, NoSuchTable, OutOfMemory}
@@ -88,6 +89,11 @@ prefix_of true turned = Apart Little
 prefix_of false true = Apart Big
 prefix_of false false = Part
 
+-- whether bad buffers are kept, by whether a file for them is named
+abbrev pub rejects_of : {A : Type 0} → Option A → Rejects
+rejects_of None = Dropped
+rejects_of (Some name) = Kept
+
 -- what the settings ask of each buffer, from this root, with these paths, this identifier and this plan
 abbrev pub options_of : Settings → ℕ → Vec Wanted Global → Ident → Option Planned → Options
 options_of settings root paths ident plan = record {
@@ -103,6 +109,7 @@ options_of settings root paths ident plan = record {
   bare = settings.bare;
   prefix = prefix_of settings.delimited settings.delimited_be;
   checks = settings.checks;
+  rejects = rejects_of settings.rejects;
   mode = mode_of settings.csv settings.filter settings.quiet;
   names = places_of settings.names settings.form;
   label = None;

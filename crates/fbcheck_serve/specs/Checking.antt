@@ -14,7 +14,7 @@ use Rattle.fbcheck_serve.specs.Asked.{AsksBy, IsPathFault, Own, demanded_by}
 use Rattle.fbcheck_serve.specs.Heads.{IsHeaded, RunsBehindHead, ServesBehindHead}
 use Rattle.fbcheck_serve.specs.{Lists.AreNamed, Names.Named, Names.all_named}
 use Rattle.fbcheck_serve.specs.Inputs.{Folder, IsPromptAmong, IsPromptOver, MayReadEach, Seen}
-use Rattle.fb_lines.specs.{Ends.Ends, Ends.Unwritten, Job.Job}
+use Rattle.fb_lines.specs.{Ends.Ends, Ends.Unwritten, Ends.Writer, Ends.with_rejects, Job.Job}
 use Rattle.fb_run.specs.Prompt.{IsPrompt}
 use Rattle.fbcheck_words.specs.declared.choices.Settings.{Settings}
 use Rattle.fbcheck_texts.specs.declared.{fault.AskFault.AskFault, hint.Unasked.Unasked, fault.CheckFault.CheckFault}
@@ -150,26 +150,40 @@ EndsChecked before after turns (Ok tally) = EndsBeside before after turns (Ok tt
 EndsChecked before after turns (Err (check.Run fault)) = EndsBeside before after turns (Err fault)
 EndsChecked before after turns (Err (check.Ask fault)) = IsUnfailed (failures_of before) (failures_of after)
 
--- all that was read by now is told, of a run that was asked for, behind its head
+-- all that was read by now is told, behind the head: of one input, and where these files are gone through
+abbrev pub IsPromptHeaded : Job → Ends → Ends → Type 0
+IsPromptHeaded job before now = (headed : Ends) × IsHeaded job [] before headed × IsPrompt job headed now
+
+abbrev pub IsPromptAmongHeaded : Folder → Job → List Named → Ends → Ends → Type 0
+IsPromptAmongHeaded folder job names before now = (headed : Ends) × IsHeaded job names before headed × IsPromptAmong folder job names headed now
+
+-- all that was read by now is told, of a run that was asked for, behind its head, whatever the rejects are
 abbrev pub IsPromptAsAsked : Option (Bor (List ℕ)) → Settings → Ends → Ends → Type 0
 IsPromptAsAsked file settings before now =
-    (job : Job) × Asks file settings (Ok job) × (headed : Ends) × IsHeaded job [] before headed × IsPrompt job headed now
+    (job : Job) × Asks file settings (Ok job) × (rejects : Writer) × (rejects' : Writer)
+    × IsPromptHeaded job (with_rejects before rejects) (with_rejects now rejects')
 
 -- the same where these files are gone through
 abbrev pub IsPromptAmongAsked : Folder → Option (Bor (List ℕ)) → Settings → List Named → Ends → Ends → Type 0
 IsPromptAmongAsked folder file settings names before now =
-    (job : Job) × Asks file settings (Ok job) × (headed : Ends) × IsHeaded job names before headed × IsPromptAmong folder job names headed now
+    (job : Job) × Asks file settings (Ok job) × (rejects : Writer) × (rejects' : Writer)
+    × IsPromptAmongHeaded folder job names (with_rejects before rejects) (with_rejects now rejects')
 
 -- and whether or not some are
 abbrev pub IsPromptOverAsked : Folder → Option (Bor (List ℕ)) → Settings → Ends → Ends → Type 0
 IsPromptOverAsked folder file settings before now =
     (names : Option (List Named)) × (job : Job) × AreNamed folder.gives settings names × Asks file settings (Ok job)
-    × (headed : Ends) × IsHeaded job (all_named names) before headed × IsPromptOver folder job names headed now
+    × (rejects : Writer) × (rejects' : Writer) × (headed : Ends) × IsHeaded job (all_named names) (with_rejects before rejects) headed
+    × IsPromptOver folder job names headed (with_rejects now rejects')
 
--- these files may be read so, behind the head; and those that are asked for
+-- these files may be read so, behind the head
+abbrev pub MayReadHeaded : Folder → Job → List Named → Ends → Type 0
+MayReadHeaded folder job names before = (headed : Ends) → IsHeaded job names before headed → MayReadEach folder job names headed
+
+-- the same as is asked for, whatever the rejects are; and those files that are asked for
 abbrev pub MayReadNamed : Folder → Option (Bor (List ℕ)) → Settings → List Named → Ends → Type 0
 MayReadNamed folder file settings names before =
-    (job : Job) (headed : Ends) → Asks file settings (Ok job) → IsHeaded job names before headed → MayReadEach folder job names headed
+    (job : Job) (rejects : Writer) → Asks file settings (Ok job) → MayReadHeaded folder job names (with_rejects before rejects)
 
 abbrev pub MayReadAsked : Folder → Option (Bor (List ℕ)) → Settings → Ends → Type 0
 MayReadAsked folder file settings before =

@@ -2,7 +2,7 @@
 use Rattle.std.specs.Prelude.{◌≡◌, ℕ, true, false, [], ◌∷◌, Some, None, Ok, Err, codes}
 use Rattle.fb_bytes.specs.declared.stream_fault.StreamFault.{StreamFault}
 use Rattle.fb_lines.specs.Sums.{no_tally}
-use Rattle.fb_lines.specs.declared.fault.RunFault.TheVariants.{ReadFault, WriteFault, NoteFault, Stream, TooManyTurns, OutOfMemory, BareTooLong, SkipPastEnd}
+use Rattle.fb_lines.specs.declared.fault.RunFault.TheVariants.{ReadFault, WriteFault, NoteFault, RejectFault, Stream, TooManyTurns, OutOfMemory, BareTooLong, SkipPastEnd}
 use Rattle.fb_run.specs.declared.run.Ran.{Ran}
 use Rattle.fbcheck_serve.specs.Inputs.{are_named, course_with, fault_line, is_final, label_of}
 use Rattle.fbcheck_serve.specs.Names.{listed_name, listed_names, misnomer_text, word_name, wrong_name}
@@ -37,6 +37,7 @@ pub record Courses : Type 0 where
 pub record Finals : Type 0 where
   pub written : (written : ℕ) → is_final (WriteFault written) ≡ true
   pub noted : (written : ℕ) → is_final (NoteFault written) ≡ true
+  pub rejected : (written : ℕ) → is_final (RejectFault written) ≡ true
   pub memory : is_final OutOfMemory ≡ true
   pub read : is_final ReadFault ≡ false
   pub stream : (fault : StreamFault) → is_final (Stream fault) ≡ false

@@ -3,7 +3,7 @@ use Rattle.std.specs.Prelude.{◌≡◌, ◌<◌, ◌≤◌, ℕ, ◌+◌, ◌�
 use Rattle.std.specs.{List.flat_map, Io.KnownBytes.Appends}
 use Rattle.fb_lines.specs.{AnswerText.byte_text, Faults.End, Faults.EndsBeside, Faults.status_of}
 use Rattle.fb_lines.specs.Ends.{Ends, Outs, Reader, Writer, beside, with_notes}
-use Rattle.fb_run.specs.Leave.{IsUnended, MayAsk, ends_of, reader_of}
+use Rattle.fb_run.specs.Leave.{IsUnended, MayAsk, all_ends, ends_of, reader_of}
 use Rattle.fb_bytes.specs.Ends.{one_more}
 use Rattle.fb_bytes.specs.declared.ends.Sink as sink
 use Rattle.fb_run.specs.declared.input.Input as input
@@ -11,7 +11,7 @@ use Rattle.fb_lines.specs.{Job.Job, Lines.WritesFront, Sums.no_tally}
 use Rattle.fb_run.specs.{Prompt.IsPrompt, Run.IsRunBeside, Run.answer_by}
 use Rattle.fb_lines.specs.declared.{fault.RunFault.RunFault, options.Form.Form, tally.Tally.Tally}
 use Rattle.fb_run.specs.declared.run.Ran.{Ran}
-use Rattle.fb_lines.specs.declared.fault.RunFault.TheVariants.{WriteFault, NoteFault, OutOfMemory}
+use Rattle.fb_lines.specs.declared.fault.RunFault.TheVariants.{WriteFault, NoteFault, RejectFault, OutOfMemory}
 use Rattle.std.specs.declared.io.ErrorKind.{ErrorKind}
 use Rattle.fbcheck_texts.specs.{Causes.reason_text, FaultJson.IsLineIn, FaultJson.fault_object, FaultJson.hint_object, Hints.IsHint, Hints.IsRunHint, Texts.of_read, Texts.run_text, Texts.stopped_text}
 use Rattle.fbcheck_serve.specs.Names.{Named, is_standard, misnomer_text, wrong_name}
@@ -94,6 +94,10 @@ abbrev pub with_cause : Ends → Option ErrorKind → Seen
 with_cause ends cause = record { ends = ends; cause = cause }
 
 -- what the ghosts of their traits tell of them
+abbrev pub all_seen : {S K N R : Type 0} → input.Ghosts S K N → explains.Ghosts S → sink.Ghosts K → sink.Ghosts N → sink.Ghosts R → S → K → N → R → Seen
+all_seen s e k n r reader writer notes rejects = with_cause (all_ends s k n r reader writer notes rejects) (e.cause reader)
+
+-- the same where rejects go nowhere
 abbrev pub seen_of : {S K N : Type 0} → input.Ghosts S K N → explains.Ghosts S → sink.Ghosts K → sink.Ghosts N → S → K → N → Seen
 seen_of s e k n reader writer notes = with_cause (ends_of s k n reader writer notes) (e.cause reader)
 
@@ -183,6 +187,7 @@ TellsFault form name why behind before after end = (line : List ℕ) × IsFaultL
 abbrev pub is_final : RunFault → Bool
 is_final (WriteFault written) = true
 is_final (NoteFault written) = true
+is_final (RejectFault written) = true
 is_final OutOfMemory = true
 is_final fault = false
 

@@ -7,6 +7,7 @@ pub mod Asked
 pub mod Inputs
 pub mod Heads
 pub mod Checking
+pub mod Keeping
 pub mod Serving
 pub mod CheckLaws
 pub mod InputTests

@@ -1,17 +1,21 @@
 -- What the program does, from its words to its exit status.
-use Rattle.std.specs.Prelude.{◌≡◌, ℕ, ◌+◌, ◌<◌, ◌≤◌, ◌⊎◌, ◌++◌, Bool, ◌&&◌, true, false, length, if◌then◌else◌, List, [], Option, Some, None, Result, Ok, Err, Vec, String, IfSome, codes, map, option_map, string_bytes, string_len, vec_items}
+use Rattle.std.specs.Prelude.{◌≡◌, ℕ, ◌+◌, ◌<◌, ◌≤◌, ◌⊎◌, ◌++◌, Bool, ◌&&◌, true, false, length, if◌then◌else◌, List, [], Option, Some, None, Result, Ok, Err, Vec, String, IfSome, IsSome, codes, map, option_map, string_bytes, string_len, vec_items}
 use Rattle.fb_bytes.specs.Ends.{one_more}
 use Rattle.fb_rules.specs.Reasons.{reason_count}
 use Rattle.std.specs.{Borrow.Bor, Io.KnownBytes.Appends, Io.KnownBytes.Keeps, declared.alloc.AllocError.AllocError, declared.io.ErrorKind.ErrorKind}
 use Rattle.clap.specs.{Walk.Text, Faults.fault_of}
 use Rattle.fbcheck_serve.specs.Asked.{form_of}
-use Rattle.fbcheck_serve.specs.Checking.{IsIdle, IsPromptOverAsked, LacksJob, MayReadAsked, RunsAsAsked, ServesAsAsked}
+use Rattle.fbcheck_serve.specs.Checking.{IsIdle, IsPromptOverAsked, LacksJob, MayReadAsked}
 use Rattle.fbcheck_texts.specs.{Causes.is_unread, FaultJson.IsLineIn, FaultJson.fault_object, FaultJson.hint_object, Hints.IsHint, Hints.IsRunHint, Faults.HasFileFault, Faults.IsFile, Faults.ask_status}
-use Rattle.fbcheck_texts.specs.Texts.{ask_text, file_text, list_text, run_text, stopped_text, unsummed_text, words_text}
-use Rattle.fbcheck_texts.specs.declared.{framing.By.By, framing.Manner.Manner, hint.Unasked.Unasked}
+use Rattle.fbcheck_texts.specs.Texts.{ask_text, file_text, list_text, run_text, stopped_text, unkept_text, unmade_text, unsummed_text, words_text}
+use Rattle.fbcheck_texts.specs.declared.{framing.By.By, framing.Manner.Manner}
 use Rattle.fbcheck_serve.specs.{Lists.AreNamed, Lists.LacksList, Names.Named}
 use Rattle.fbcheck_serve.specs.Inputs.{Folder, IsNoted, Seen, renoted}
 use Rattle.fbcheck_words.specs.{CommandLine.program, Refusal.Refuses, Refusal.refusal_status, Refusal.refusal_text, Given.AreGiven, Values.text_of}
+use Rattle.fbcheck_serve.specs.Keeping.{Maker, RunsKeeping, ServesKeeping}
+use Rattle.fbcheck_serve.specs.declared.check.Kept as check
+use Rattle.fbcheck_serve.specs.declared.check.Unbegun.{Unbegun}
+use Rattle.fbcheck_serve.specs.declared.check.Unbegun.TheVariants as unbegun
 use Rattle.fb_lines.specs.{Ends.Ends, Ends.Writer, Ends.with_notes, Lines.WritesFront, JsonSums.summary_in}
 use Rattle.fb_lines.specs.Faults.{End, EndsBeside, IsUnfailed, failures_of, status_of}
 use Rattle.fbcheck_words.specs.declared.{choices.Settings.Settings, choices.SettingsFault.SettingsFault}
@@ -23,7 +27,7 @@ use Rattle.fbcheck_serve.specs.declared.inputs.Passed as inputs
 use Rattle.fbcheck_serve.specs.declared.{inputs.Course.Course, stop.Ending.Ending}
 use Rattle.fbcheck_serve.specs.declared.stop.Ending.TheVariants.{Helped, Checked, Passed}
 use Rattle.fbcheck_serve.specs.declared.{stop.Stop.Stop, stop.Sums.Sums}
-use Rattle.fb_lines.specs.declared.{fault.RunFault.TheVariants.WriteFault, options.Form.Form, options.Form.TheVariants.Plain, tally.Tally.Tally}
+use Rattle.fb_lines.specs.declared.{fault.RunFault.TheVariants.WriteFault, fault.RunFault.TheVariants.RejectFault, options.Form.Form, options.Form.TheVariants.Plain, tally.Tally.Tally}
 use Rattle.fbcheck_texts.specs.declared.causes.Causes.{Causes}
 use Rattle.fbcheck_serve.specs.declared.stop.Stop.TheVariants as stop
 use Rattle.fbcheck_texts.specs.declared.fault.WordsFault.{WordsFault}
@@ -56,13 +60,15 @@ IsAlone settings = (option_map string_bytes settings.names_file ≡ None) × (ma
 
 -- the buffers of standard input were checked as the settings ask, which name no files, this was counted, and these
 -- numbers are to be told
-abbrev pub ChecksAsAsked : Option (Bor (List ℕ)) → Settings → Ends → Ends → Option Sums → Tally → End → Type 0
-ChecksAsAsked file settings before after sums tally end = IsAlone settings × RunsAsAsked file settings before after tally end × (sums ≡ summed settings tally)
+abbrev pub ChecksAsAsked : Maker → Option (Bor (List ℕ)) → Settings → Ends → Ends → Option Sums → Tally → End → Type 0
+ChecksAsAsked maker file settings before after sums tally end =
+    IsAlone settings × RunsKeeping maker file settings before after tally end × (sums ≡ summed settings tally)
 
 -- files were gone through as the settings ask, they came to this, and these numbers are to be told
-abbrev pub PassesAsAsked : Folder → Option (Bor (List ℕ)) → Settings → Seen → Seen → Option Sums → Course → End → Type 0
-PassesAsAsked folder file settings before after sums course end =
-    (names : List Named) × AreNamed folder.gives settings (Some names) × ServesAsAsked folder file settings names before after course end × (sums ≡ summed settings course.tally)
+abbrev pub PassesAsAsked : Maker → Folder → Option (Bor (List ℕ)) → Settings → Seen → Seen → Option Sums → Course → End → Type 0
+PassesAsAsked maker folder file settings before after sums course end =
+    (names : List Named) × AreNamed folder.gives settings (Some names) × ServesKeeping maker folder file settings names before after course end
+    × (sums ≡ summed settings course.tally)
 
 -- the list of names can't be read, or there was no memory for names
 abbrev pub IsNameless : (List ℕ → Result (List ℕ) FileFault → Type 0) → Settings → Stop → Type 0
@@ -71,33 +77,45 @@ IsNameless gives settings (stop.Settings refusal.OutOfMemory) = Unit {0}
 IsNameless gives settings _ = ⊥
 
 -- what the program came to by these settings and this schema file
-abbrev pub ComesAsAsked : Folder → Option (Bor (List ℕ)) → Settings → Seen → Seen → Option Sums → Result Ending Stop → Type 0
-ComesAsAsked folder file settings before after sums (Ok (Checked tally manner)) = ChecksAsAsked file settings before.ends after.ends sums tally (Ok tt) × (manner.most_bad ≡ settings.most_bad)
-ComesAsAsked folder file settings before after sums (Err (stop.Run fault tally manner)) = ChecksAsAsked file settings before.ends after.ends sums tally (Err fault)
-ComesAsAsked folder file settings before after sums (Ok (Passed course by)) = PassesAsAsked folder file settings before after sums course (Ok tt)
-ComesAsAsked folder file settings before after sums (Err (stop.Halted fault)) = (course : Course) × PassesAsAsked folder file settings before after sums course (Err fault)
-ComesAsAsked folder file settings before after sums (Err (stop.Ask unasked)) = LacksJob file settings unasked.fault × IsIdle before.ends after.ends × (sums ≡ None)
-ComesAsAsked folder file settings before after sums (Ok Helped) = ⊥
-ComesAsAsked folder file settings before after sums (Err fault) = IsNameless folder.gives settings fault × IsIdle before.ends after.ends × (sums ≡ None)
+abbrev pub ComesAsAsked : Maker → Folder → Option (Bor (List ℕ)) → Settings → Seen → Seen → Option Sums → Result Ending Stop → Type 0
+ComesAsAsked maker folder file settings before after sums (Ok (Checked tally manner)) = ChecksAsAsked maker file settings before.ends after.ends sums tally (Ok tt) × (manner.most_bad ≡ settings.most_bad)
+ComesAsAsked maker folder file settings before after sums (Err (stop.Run fault tally manner)) = ChecksAsAsked maker file settings before.ends after.ends sums tally (Err fault)
+ComesAsAsked maker folder file settings before after sums (Ok (Passed course by)) = PassesAsAsked maker folder file settings before after sums course (Ok tt)
+ComesAsAsked maker folder file settings before after sums (Err (stop.Halted fault)) = (course : Course) × PassesAsAsked maker folder file settings before after sums course (Err fault)
+ComesAsAsked maker folder file settings before after sums (Err (stop.Ask unasked)) = LacksJob file settings unasked.fault × IsIdle before.ends after.ends × (sums ≡ None)
+ComesAsAsked maker folder file settings before after sums (Err (stop.Unkept written cause)) =
+    ((tally : Tally) × ChecksAsAsked maker file settings before.ends after.ends sums tally (Err (RejectFault written)))
+    ⊎ ((course : Course) × PassesAsAsked maker folder file settings before after sums course (Err (RejectFault written)))
+ComesAsAsked maker folder file settings before after sums (Err (stop.Unmade cause)) = IsSome settings.rejects × IsIdle before.ends after.ends × (sums ≡ None)
+ComesAsAsked maker folder file settings before after sums (Ok Helped) = ⊥
+ComesAsAsked maker folder file settings before after sums (Err fault) = IsNameless folder.gives settings fault × IsIdle before.ends after.ends × (sums ≡ None)
 
--- how the program ends by the end of a run, and of files
-abbrev pub run_ending : Manner → Tally → End → Result Ending Stop
-run_ending manner tally (Ok done) = Ok (Checked tally manner)
-run_ending manner tally (Err fault) = Err (stop.Run fault tally manner)
+-- how the program ends by the end of a run, and of files, where this is why a write of the rejects failed, if one did
+abbrev pub run_ending : Manner → Option ErrorKind → Tally → End → Result Ending Stop
+run_ending manner cause tally (Ok done) = Ok (Checked tally manner)
+run_ending manner cause tally (Err (RejectFault written)) = Err (stop.Unkept written cause)
+run_ending manner cause tally (Err fault) = Err (stop.Run fault tally manner)
 
-abbrev pub files_ending : By → Course → End → Result Ending Stop
-files_ending by course (Ok done) = Ok (Passed course by)
-files_ending by course (Err fault) = Err (stop.Halted fault)
+abbrev pub files_ending : By → Option ErrorKind → Course → End → Result Ending Stop
+files_ending by cause course (Ok done) = Ok (Passed course by)
+files_ending by cause course (Err (RejectFault written)) = Err (stop.Unkept written cause)
+files_ending by cause course (Err fault) = Err (stop.Halted fault)
 
 -- the same of a run or files that may not have begun, with the numbers that are to be told
-abbrev pub EndsRun : Settings → Result Ran Unasked → Option Sums → Result Ending Stop → Type 0
-EndsRun settings (Ok ran) sums outcome =
-    (sums ≡ summed settings ran.tally) × (manner : Manner) × (manner.most_bad ≡ settings.most_bad) × (outcome ≡ run_ending manner ran.tally ran.end)
-EndsRun settings (Err unasked) sums outcome = (sums ≡ None) × (outcome ≡ Err (stop.Ask unasked))
+abbrev pub unbegun_stop : Unbegun → Stop
+unbegun_stop (unbegun.Ask unasked) = stop.Ask unasked
+unbegun_stop (unbegun.Unmade cause) = stop.Unmade cause
 
-abbrev pub EndsFiles : Settings → Result inputs.Passed Unasked → Option Sums → Result Ending Stop → Type 0
-EndsFiles settings (Ok passed) sums outcome = (sums ≡ summed settings passed.course.tally) × (by : By) × (outcome ≡ files_ending by passed.course passed.end)
-EndsFiles settings (Err unasked) sums outcome = (sums ≡ None) × (outcome ≡ Err (stop.Ask unasked))
+abbrev pub EndsRun : Settings → Result (check.Kept Ran) Unbegun → Option Sums → Result Ending Stop → Type 0
+EndsRun settings (Ok kept) sums outcome =
+    (sums ≡ summed settings kept.what.tally) × (manner : Manner) × (manner.most_bad ≡ settings.most_bad)
+    × (outcome ≡ run_ending manner kept.cause kept.what.tally kept.what.end)
+EndsRun settings (Err fault) sums outcome = (sums ≡ None) × (outcome ≡ Err (unbegun_stop fault))
+
+abbrev pub EndsFiles : Settings → Result (check.Kept inputs.Passed) Unbegun → Option Sums → Result Ending Stop → Type 0
+EndsFiles settings (Ok kept) sums outcome =
+    (sums ≡ summed settings kept.what.course.tally) × (by : By) × (outcome ≡ files_ending by kept.cause kept.what.course kept.what.end)
+EndsFiles settings (Err fault) sums outcome = (sums ≡ None) × (outcome ≡ Err (unbegun_stop fault))
 
 -- the words or the schema file can't be read, and this is told behind that, or there was no memory for it
 abbrev pub hinted_stop : (List ℕ → Stop) → Result (List ℕ) AllocError → Stop
@@ -140,21 +158,21 @@ IsUnserved given before after outcome =
     × Unserved fault before.outs.writer after.outs.writer outcome × Keeps before.outs.notes.bytes after.outs.notes.bytes
 
 -- what the program came to by these words, what it read, wrote and noted by then, and the numbers that are to be told
-abbrev pub ComesBy : Folder → List Text → Seen → Seen → Option Sums → Result Ending Stop → Type 0
-ComesBy folder given before after sums (Err (stop.File fault hint)) =
+abbrev pub ComesBy : Maker → Folder → List Text → Seen → Seen → Option Sums → Result Ending Stop → Type 0
+ComesBy maker folder given before after sums (Err (stop.File fault hint)) =
     (fault_of program given ≡ []) × HasFileFault folder.gives (text_of (codes "schema") given) fault × IsIdle before.ends after.ends × (sums ≡ None)
-ComesBy folder given before after sums (Ok Helped) = IsUnserved given before.ends after.ends (Ok Helped) × (sums ≡ None)
-ComesBy folder given before after sums (Err (stop.Usage text)) = IsUnserved given before.ends after.ends (Err (stop.Usage text)) × (sums ≡ None)
-ComesBy folder given before after sums (Err (stop.Settings fault)) = IsUnserved given before.ends after.ends (Err (stop.Settings fault)) × (sums ≡ None)
-ComesBy folder given before after sums (Err (stop.CutOff written)) = IsUnserved given before.ends after.ends (Err (stop.CutOff written)) × (sums ≡ None)
-ComesBy folder given before after sums outcome = HoldsAsGiven folder given (λ file settings. ComesAsAsked folder file settings before after sums outcome)
+ComesBy maker folder given before after sums (Ok Helped) = IsUnserved given before.ends after.ends (Ok Helped) × (sums ≡ None)
+ComesBy maker folder given before after sums (Err (stop.Usage text)) = IsUnserved given before.ends after.ends (Err (stop.Usage text)) × (sums ≡ None)
+ComesBy maker folder given before after sums (Err (stop.Settings fault)) = IsUnserved given before.ends after.ends (Err (stop.Settings fault)) × (sums ≡ None)
+ComesBy maker folder given before after sums (Err (stop.CutOff written)) = IsUnserved given before.ends after.ends (Err (stop.CutOff written)) × (sums ≡ None)
+ComesBy maker folder given before after sums outcome = HoldsAsGiven folder given (λ file settings. ComesAsAsked maker folder file settings before after sums outcome)
 
 -- the same where it may be that the words could not be read
-abbrev pub ComesTo : Folder → Result (List Text) WordsFault → Seen → Seen → Option Sums → Result Ending Stop → Type 0
-ComesTo folder (Ok given) before after sums outcome = ComesBy folder given before after sums outcome
-ComesTo folder (Err fault) before after sums (Err (stop.Words told hint)) = (told ≡ fault) × IsIdle before.ends after.ends × (sums ≡ None)
-ComesTo folder (Err fault) before after sums (Err (stop.Settings refusal.OutOfMemory)) = IsIdle before.ends after.ends × (sums ≡ None)
-ComesTo folder (Err fault) before after sums _ = ⊥
+abbrev pub ComesTo : Maker → Folder → Result (List Text) WordsFault → Seen → Seen → Option Sums → Result Ending Stop → Type 0
+ComesTo maker folder (Ok given) before after sums outcome = ComesBy maker folder given before after sums outcome
+ComesTo maker folder (Err fault) before after sums (Err (stop.Words told hint)) = (told ≡ fault) × IsIdle before.ends after.ends × (sums ≡ None)
+ComesTo maker folder (Err fault) before after sums (Err (stop.Settings refusal.OutOfMemory)) = IsIdle before.ends after.ends × (sums ≡ None)
+ComesTo maker folder (Err fault) before after sums _ = ⊥
 
 -- how it ended, with so many reads at most: a run by its end or its cause, help by whether a write failed; of files that
 -- stands with each of them
@@ -163,6 +181,7 @@ EndsSo before after turns (Ok (Checked tally manner)) = EndsBeside before after 
 EndsSo before after turns (Err (stop.Run fault tally manner)) = EndsBeside before after turns (Err fault)
 EndsSo before after turns (Ok (Passed course by)) = Unit {0}
 EndsSo before after turns (Err (stop.Halted fault)) = Unit {0}
+EndsSo before after turns (Err (stop.Unkept written cause)) = Unit {0}
 EndsSo before after turns (Err (stop.CutOff written)) = EndsBeside before after turns (Err (WriteFault written))
 EndsSo before after turns _ = IsUnfailed (failures_of before) (failures_of after)
 
@@ -194,6 +213,8 @@ stop_text causes (stop.Usage text) = []
 stop_text causes (stop.Settings fault) = refusal_text fault
 stop_text causes (stop.CutOff written) = run_text causes (WriteFault written)
 stop_text causes (stop.Unsummed written) = unsummed_text written
+stop_text causes (stop.Unkept written cause) = unkept_text written cause
+stop_text causes (stop.Unmade cause) = unmade_text cause
 stop_text causes (stop.File fault hint) = file_text fault
 stop_text causes (stop.List fault hint) = list_text fault
 stop_text causes (stop.Ask unasked) = ask_text unasked.fault
@@ -217,6 +238,8 @@ stop_status (stop.Usage text) = 2
 stop_status (stop.Settings fault) = refusal_status fault
 stop_status (stop.CutOff written) = 3
 stop_status (stop.Unsummed written) = 3
+stop_status (stop.Unkept written cause) = 3
+stop_status (stop.Unmade cause) = 3
 stop_status (stop.File (file_fault.Unreadable cause) hint) = 2
 stop_status (stop.File file_fault.OutOfMemory hint) = 3
 stop_status (stop.List (file_fault.Unreadable cause) hint) = 2
@@ -309,11 +332,11 @@ TellsAsGiven (Err fault) outcome form = form ≡ Plain
 -- The program did what its words ask with at most so many reads, told behind its notes the numbers that they ask for and
 -- why it came to rest if it did, and ended with the status of that. Behind what it came to the notes were `between`, and
 -- behind the numbers `behind`. This is why a write failed, where one did.
-pub record IsServed (folder : Folder) (given : Result (List Text) WordsFault) (before after : Seen) (unwritten : Option ErrorKind) (turns status : ℕ) : Type 0 where
+pub record IsServed (maker : Maker) (folder : Folder) (given : Result (List Text) WordsFault) (before after : Seen) (unwritten : Option ErrorKind) (turns status : ℕ) : Type 0 where
   pub outcome : Result Ending Stop
   pub sums : Option Sums
   pub between : Writer
-  pub comes : ComesTo folder given before (renoted after between) sums outcome
+  pub comes : ComesTo maker folder given before (renoted after between) sums outcome
   pub ends : EndsSo before.ends (with_notes after.ends between) turns outcome
   pub form : Form
   pub form_is : TellsAsGiven given outcome form

@@ -3,7 +3,7 @@
 ghost use Rattle.std.specs.Prelude.{ℕ, Option, IfOk, IfErr, IfSome, IsTrue, Ok, ◌≡◌, length, map, option_map, string_bytes};
 ghost use Rattle.fb_schema.specs.Rows.{is_table};
 ghost use Rattle.fb_bfbs.specs.LoadLaws.{ident_bytes};
-ghost use Rattle.fbcheck_serve.specs.Asked.{ArePaths, IsPath, PathFails, asked_ident, form_of, ident_of, mode_of, options_of, places_of, prefix_of, root_of};
+ghost use Rattle.fbcheck_serve.specs.Asked.{ArePaths, IsPath, PathFails, asked_ident, form_of, ident_of, mode_of, options_of, places_of, prefix_of, rejects_of, root_of};
 ghost use Rattle.fbcheck_serve.specs.Checking.{Asks, IsPathless, IsSchema, LacksJob, LacksSchema, own_of};
 ghost use Rattle.fbcheck_words.specs.Ranges.{AreInRange};
 ghost use Rattle.fbcheck_words.specs.declared.choices.Settings.{Settings};
@@ -18,7 +18,7 @@ use crate::strict::plan_of;
 use fb_access::Path;
 use fb_bfbs::{Loaded, load, own_ident, reflection};
 use fb_bytes::Endian;
-use fb_run::{AskedPath, Form, Mode, Options, Places, Prefix};
+use fb_run::{AskedPath, Form, Mode, Options, Places, Prefix, Rejects};
 use fb_schema::Schema;
 use fb_strict::Plan;
 use fb_verify::Ident;
@@ -146,6 +146,16 @@ fn mode(settings: &Settings) -> Mode
     }
 }
 
+/// Whether bad buffers are kept.
+fn rejects(settings: &Settings) -> Rejects
+    ensures { result ≡ rejects_of settings.now.rejects }
+{
+    match settings.rejects {
+        Some(_) => Rejects::Kept,
+        None => Rejects::Dropped,
+    }
+}
+
 /// How lines are written.
 pub fn form(settings: &Settings) -> Form
     ensures { result ≡ form_of settings.now.form }
@@ -228,6 +238,7 @@ fn options(
         prefix: prefix(settings),
         checks: settings.checks,
         mode: mode(settings),
+        rejects: rejects(settings),
         names: places(settings),
         label,
         form: form(settings),

@@ -37,6 +37,20 @@ pub trait Files<K: Sink, N: Sink> {
         ensures fault { IfErr result (λ fault. gives self.now name.now (Err fault)) };
 }
 
+/// Files that are made by their names.
+pub trait Makes {
+    /// A file that is made.
+    type Made: Sink + Explains + Drop;
+
+    /// What may be made by this name.
+    ghost makes: { Self → List ℕ → Self.Made → Type 0 };
+
+    /// The file of this name, made or emptied, to be written from its start; or why it can't be.
+    fn make(&self, name: &str) -> Result<Self::Made, ErrorKind>
+        ensures made { IfOk result (λ file. makes self.now name.now file) }
+        ensures fresh { IfOk result (λ file. Self.Made.failures file ≡ 0) };
+}
+
 /// The bytes of the schema file, where one is named.
 pub fn read_schema<F: Files<K, N>, K: Sink, N: Sink>(
     files: &F,

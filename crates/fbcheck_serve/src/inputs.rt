@@ -2,11 +2,11 @@
 
 ghost use Rattle.std.specs.Prelude.{Err, IfOk, IfSome, OnErr, OnOk, true, false, ◌≡◌, ◌≢◌, ◌⊎◌, ◌+◌, ◌<◌, ◌≤◌, ◌^◌, length, map, option_map, string_bytes, vec_items};
 ghost use Rattle.fb_rules.specs.Reasons.{reason_count};
-ghost use Rattle.fb_lines.specs.Ends.{outs_of, writer_of};
-ghost use Rattle.fb_run.specs.Leave.{HasLeave, ends_of};
+ghost use Rattle.fb_lines.specs.Ends.{all_outs, writer_of};
+ghost use Rattle.fb_run.specs.Leave.{HasLeave, all_ends};
 ghost use Rattle.fb_lines.specs.{Job.Serves, Job.job_of};
 ghost use Rattle.fb_run.specs.Prompt.{IsPrompt};
-ghost use Rattle.fbcheck_serve.specs.Inputs.{ComesOf, IsBehind, IsBehindEnd, IsBehindRun, IsFaultLine, IsHintLine, IsStopOf, IsPromptAmong, MayRead, MayReadEach, ServesEach, TellsFault, Tries, at_first, course_with, fault_line, no_course, folder_of, is_final, label_of, seen_of, stand, standard_after, sum_of, sums, are_named};
+ghost use Rattle.fbcheck_serve.specs.Inputs.{ComesOf, IsBehind, IsBehindEnd, IsBehindRun, IsFaultLine, IsHintLine, IsStopOf, IsPromptAmong, MayRead, MayReadEach, ServesEach, TellsFault, Tries, at_first, course_with, fault_line, no_course, folder_of, is_final, all_seen, label_of, stand, standard_after, sum_of, sums, are_named};
 ghost use Rattle.fbcheck_serve.specs.Names.{is_standard};
 ghost use Rattle.fbcheck_serve.specs.declared.inputs.Standard.TheVariants.{Unread, Spent};
 ghost use Rattle.fbcheck_texts.specs.Hints.{IsHint};
@@ -16,7 +16,8 @@ use crate::names::{Misnomer, Name};
 use crate::stop::note;
 use fb_bytes::Sink;
 use fb_run::{
-    Form, Input, MOST_TURNS, Options, Ran, RunFault, Tally, push_all, put_bytes, run_beside, status,
+    Form, Input, MOST_TURNS, Options, Ran, RunFault, Tally, push_all, put_bytes, run_keeping,
+    status,
 };
 use fb_schema::Schema;
 use fb_verify::REASONS;
@@ -92,16 +93,16 @@ impl Passed {
 }
 
 /// Checks the buffers of files, one behind another, and writes what is told of each, as
-/// [`run_beside`](fb_run::run_beside) does. Where they are several, or the options have a label, each line begins with
+/// [`run_keeping`](fb_run::run_keeping) does. Where they are several, or the options have a label, each line begins with
 /// the name of its file. `-` is standard input, which the reader is, and is read once.
 ///
 /// A file that can't be read to its end is told with its name on the notes, and the next one is gone on with.
 ///
 /// # Ends
 ///
-/// It ends well behind the last file, or for one of these: `WriteFault` and `NoteFault` where a write or a note failed,
-/// and `OutOfMemory` where memory was refused.
-pub fn pass_files<F: Files<K, N>, S: Input<K, N> + Explains, K: Sink, N: Sink>(
+/// It ends well behind the last file, or for one of these: `WriteFault`, `NoteFault` and `RejectFault` where a write, a note
+/// or a reject failed, and `OutOfMemory` where memory was refused.
+pub fn pass_files<F: Files<K, N>, S: Input<K, N> + Explains, K: Sink, N: Sink, R: Sink>(
     alloc: Global,
     files: &F,
     names: &[Name],
@@ -110,14 +111,15 @@ pub fn pass_files<F: Files<K, N>, S: Input<K, N> + Explains, K: Sink, N: Sink>(
     reader: &mut S,
     writer: &mut K,
     notes: &mut N,
+    rejects: &mut R,
 ) -> Passed
     requires serves { Serves schema.now options.old }
     requires few { S.calls reader.old < 2 ^ 64 }
-    requires leave { HasLeave S.Input (ends_of S.Input K.Sink N.Sink reader.old writer.old notes.old) (IsPromptAmong (folder_of F.Files F.Opened.Input F.Opened.Explains files.now) (job_of schema.now options.old) names.now) }
-    requires files { MayReadEach (folder_of F.Files F.Opened.Input F.Opened.Explains files.now) (job_of schema.now options.old) names.now (ends_of S.Input K.Sink N.Sink reader.old writer.old notes.old) }
+    requires leave { HasLeave S.Input (all_ends S.Input K.Sink N.Sink R.Sink reader.old writer.old notes.old rejects.old) (IsPromptAmong (folder_of F.Files F.Opened.Input F.Opened.Explains files.now) (job_of schema.now options.old) names.now) }
+    requires files { MayReadEach (folder_of F.Files F.Opened.Input F.Opened.Explains files.now) (job_of schema.now options.old) names.now (all_ends S.Input K.Sink N.Sink R.Sink reader.old writer.old notes.old rejects.old) }
 
     ensures serves { ServesEach (folder_of F.Files F.Opened.Input F.Opened.Explains files.now) (job_of schema.now options.old) names.now
-        (at_first (seen_of S.Input S.Explains K.Sink N.Sink reader.old writer.old notes.old)) (stand (seen_of S.Input S.Explains K.Sink N.Sink reader.new writer.new notes.new) result.course) result.end }
+        (at_first (all_seen S.Input S.Explains K.Sink N.Sink R.Sink reader.old writer.old notes.old rejects.old)) (stand (all_seen S.Input S.Explains K.Sink N.Sink R.Sink reader.new writer.new notes.new rejects.new) result.course) result.end }
     ensures places { length result.course.tally.reasons ≡ reason_count }
     ensures turns { S.calls reader.new ≤ S.calls reader.old + MOST_TURNS }
 {
@@ -141,6 +143,7 @@ pub fn pass_files<F: Files<K, N>, S: Input<K, N> + Explains, K: Sink, N: Sink>(
             reader,
             writer,
             notes,
+            rejects,
         );
         if let Err(fault) = passed {
             return Passed {
@@ -175,7 +178,7 @@ pub fn label(alloc: Global, named: bool, name: &[u8]) -> Result<Option<Vec<u8>>,
 }
 
 /// Goes through one file.
-fn pass_file<F: Files<K, N>, S: Input<K, N> + Explains, K: Sink, N: Sink>(
+fn pass_file<F: Files<K, N>, S: Input<K, N> + Explains, K: Sink, N: Sink, R: Sink>(
     alloc: Global,
     files: &F,
     name: &Name,
@@ -185,22 +188,23 @@ fn pass_file<F: Files<K, N>, S: Input<K, N> + Explains, K: Sink, N: Sink>(
     reader: &mut S,
     writer: &mut K,
     notes: &mut N,
+    rejects: &mut R,
 ) -> Result<(), RunFault>
     requires serves { Serves schema.now options.now }
     requires places { length course.old.tally.reasons ≡ reason_count }
     requires reads { course.old.standard ≡ Unread → S.calls reader.old < 2 ^ 64 }
-    requires leave { is_standard name.now ≡ true → course.old.standard ≡ Unread → HasLeave S.Input (ends_of S.Input K.Sink N.Sink reader.old writer.old notes.old) (IsPrompt (job_of schema.now options.now)) }
-    requires files { is_standard name.now ≡ false → MayRead (folder_of F.Files F.Opened.Input F.Opened.Explains files.now) (job_of schema.now options.now) name.now (outs_of K.Sink N.Sink writer.old notes.old) }
+    requires leave { is_standard name.now ≡ true → course.old.standard ≡ Unread → HasLeave S.Input (all_ends S.Input K.Sink N.Sink R.Sink reader.old writer.old notes.old rejects.old) (IsPrompt (job_of schema.now options.now)) }
+    requires files { is_standard name.now ≡ false → MayRead (folder_of F.Files F.Opened.Input F.Opened.Explains files.now) (job_of schema.now options.now) name.now (all_outs K.Sink N.Sink R.Sink writer.old notes.old rejects.old) }
 
     ensures tries { Tries (folder_of F.Files F.Opened.Input F.Opened.Explains files.now) (job_of schema.now options.now) name.now
-        (stand (seen_of S.Input S.Explains K.Sink N.Sink reader.old writer.old notes.old) course.old) (stand (seen_of S.Input S.Explains K.Sink N.Sink reader.new writer.new notes.new) course.new) result }
+        (stand (all_seen S.Input S.Explains K.Sink N.Sink R.Sink reader.old writer.old notes.old rejects.old) course.old) (stand (all_seen S.Input S.Explains K.Sink N.Sink R.Sink reader.new writer.new notes.new rejects.new) course.new) result }
     ensures calls { (S.calls reader.new ≤ S.calls reader.old + MOST_TURNS) × (length course.new.tally.reasons ≡ reason_count)
         × (course.old.standard ≡ Spent → (course.new.standard ≡ Spent) × (reader.new ≡ reader.old))
         × (course.new.standard ≡ Unread → (course.old.standard ≡ Unread) × (reader.new ≡ reader.old)) }
 {
     let standard = course.standard;
     let came = run_file(
-        alloc, files, name, schema, options, standard, reader, writer, notes,
+        alloc, files, name, schema, options, standard, reader, writer, notes, rejects,
     );
     *course = course.with(name, &came.what);
     let framing = Framing::of(options.bare, options.prefix);
@@ -216,7 +220,7 @@ fn pass_file<F: Files<K, N>, S: Input<K, N> + Explains, K: Sink, N: Sink>(
 }
 
 /// Runs over one file, where it can be read.
-fn run_file<F: Files<K, N>, S: Input<K, N> + Explains, K: Sink, N: Sink>(
+fn run_file<F: Files<K, N>, S: Input<K, N> + Explains, K: Sink, N: Sink, R: Sink>(
     alloc: Global,
     files: &F,
     name: &Name,
@@ -226,20 +230,23 @@ fn run_file<F: Files<K, N>, S: Input<K, N> + Explains, K: Sink, N: Sink>(
     reader: &mut S,
     writer: &mut K,
     notes: &mut N,
+    rejects: &mut R,
 ) -> Came
     requires serves { Serves schema.now options.now }
     requires reads { standard ≡ Unread → S.calls reader.old < 2 ^ 64 }
-    requires leave { is_standard name.now ≡ true → standard ≡ Unread → HasLeave S.Input (ends_of S.Input K.Sink N.Sink reader.old writer.old notes.old) (IsPrompt (job_of schema.now options.now)) }
-    requires files { is_standard name.now ≡ false → MayRead (folder_of F.Files F.Opened.Input F.Opened.Explains files.now) (job_of schema.now options.now) name.now (outs_of K.Sink N.Sink writer.old notes.old) }
+    requires leave { is_standard name.now ≡ true → standard ≡ Unread → HasLeave S.Input (all_ends S.Input K.Sink N.Sink R.Sink reader.old writer.old notes.old rejects.old) (IsPrompt (job_of schema.now options.now)) }
+    requires files { is_standard name.now ≡ false → MayRead (folder_of F.Files F.Opened.Input F.Opened.Explains files.now) (job_of schema.now options.now) name.now (all_outs K.Sink N.Sink R.Sink writer.old notes.old rejects.old) }
 
-    ensures comes { ComesOf (folder_of F.Files F.Opened.Input F.Opened.Explains files.now) (job_of schema.now options.now) name.now standard (seen_of S.Input S.Explains K.Sink N.Sink reader.old writer.old notes.old) (seen_of S.Input S.Explains K.Sink N.Sink reader.new writer.new notes.new) result.what result.cause }
+    ensures comes { ComesOf (folder_of F.Files F.Opened.Input F.Opened.Explains files.now) (job_of schema.now options.now) name.now standard (all_seen S.Input S.Explains K.Sink N.Sink R.Sink reader.old writer.old notes.old rejects.old) (all_seen S.Input S.Explains K.Sink N.Sink R.Sink reader.new writer.new notes.new rejects.new) result.what result.cause }
     ensures calls { (S.calls reader.new ≤ S.calls reader.old + MOST_TURNS)
         × IfOk result.what (λ ran. length ran.tally.reasons ≡ reason_count) × (is_standard name.now ≡ false → reader.new ≡ reader.old) × (standard ≡ Spent → reader.new ≡ reader.old) }
 {
     if name.is_standard() {
         return match standard {
             Standard::Unread => {
-                let ran = run_beside(alloc, reader, writer, notes, schema, options, MOST_TURNS);
+                let ran = run_keeping(
+                    alloc, reader, writer, notes, rejects, schema, options, MOST_TURNS,
+                );
                 Came::by(ran, reader)
             }
             Standard::Spent => Came::missed(Missed::Again),
@@ -251,7 +258,9 @@ fn run_file<F: Files<K, N>, S: Input<K, N> + Explains, K: Sink, N: Sink>(
     };
     match files.open(text) {
         Ok(mut file) => {
-            let ran = run_beside(alloc, &mut file, writer, notes, schema, options, MOST_TURNS);
+            let ran = run_keeping(
+                alloc, &mut file, writer, notes, rejects, schema, options, MOST_TURNS,
+            );
             Came::by(ran, &file)
         }
         Err(fault) => Came::missed(Missed::File(fault)),
@@ -457,12 +466,13 @@ fn tell_end<N: Sink>(
     Ok(())
 }
 
-/// Whether a fault ends it all: a failed write or note, or want of memory.
+/// Whether a fault ends it all: a failed write, note or reject, or want of memory.
 fn is_final(fault: &RunFault) -> bool
     ensures { result ≡ is_final fault.now }
 {
     match fault {
-        RunFault::WriteFault { .. } | RunFault::NoteFault { .. } | RunFault::OutOfMemory => true,
+        RunFault::WriteFault { .. } | RunFault::NoteFault { .. } => true,
+        RunFault::RejectFault { .. } | RunFault::OutOfMemory => true,
         _ => false,
     }
 }

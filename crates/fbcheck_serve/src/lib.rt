@@ -20,5 +20,5 @@ mod strict;
 pub use fbcheck_texts::causes::{Explained, Explains};
 pub use fbcheck_texts::fault::{AskFault, CheckFault, FileFault, WordsFault, WrongWord};
 pub use fbcheck_texts::hint::Unasked;
-pub use files::Files;
+pub use files::{Files, Makes};
 pub use inputs::{Course, Passed, Standard};

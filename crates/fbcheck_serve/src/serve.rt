@@ -1,26 +1,26 @@
 //! What the program does, from its words to its exit status.
 
 ghost use Rattle.std.specs.Prelude.{IfErr, IfOk, Some, true, false, ◌≡◌, ◌+◌, ◌<◌, ◌≤◌, ◌^◌, ℕ, string_len};
-ghost use Rattle.fb_lines.specs.Ends.{Reader, Writer, beside, writer_of};
+ghost use Rattle.fb_lines.specs.Ends.{Reader, Writer, beside, nowhere, writer_of};
 ghost use Rattle.fb_run.specs.Leave.{HasLeave, ends_of};
-ghost use Rattle.fbcheck_serve.specs.Inputs.{folder_of, seen_of};
+ghost use Rattle.fbcheck_serve.specs.{Inputs.folder_of, Inputs.seen_of, Keeping.maker_of};
 ghost use Rattle.fbcheck_serve.specs.Checking.{IsPromptOverAsked, MayReadAsked};
 ghost use Rattle.fbcheck_serve.specs.Lists.{AreNamed};
 ghost use Rattle.fbcheck_serve.specs.Serving.{IsAlone, IsNameless, ComesAsAsked, ComesTo, EndsFiles, EndsRun, EndsSo, IsPromptAsGiven, IsServed, MayReadAsGiven, Rests, TellsAsGiven, Unserved, summed, words_of};
 ghost use Rattle.fbcheck_words.specs.Ranges.{AreInRange};
 
 use crate::asked::{by, form, manner};
-use crate::check::{check_beside, check_files};
-use crate::files::{Files, read_list, read_schema};
+use crate::check::{Kept, Unbegun, check_files, check_keeping};
+use crate::files::{Files, Makes, read_list, read_schema};
 use crate::inputs::Passed;
 use crate::names::{Name, listed_names, word_names};
 use crate::stop::{Ending, Stop, Sums, exit_status, sum_up, tell};
 use clap::Error;
 use fb_bytes::Sink;
-use fb_run::{Form, Input, MOST_TURNS, Ran, Tally, push_all};
+use fb_run::{Form, Input, MOST_TURNS, Ran, RunFault, Tally, push_all};
 use fbcheck_texts::causes::{Causes, Explains};
 use fbcheck_texts::fault::WordsFault;
-use fbcheck_texts::hint::{Unasked, file_hint, words_hint};
+use fbcheck_texts::hint::{file_hint, words_hint};
 use fbcheck_words::{Settings, SettingsFault, settings};
 use std::alloc::{AllocError, Global};
 
@@ -28,7 +28,7 @@ use std::alloc::{AllocError, Global};
 /// name, checks the buffers of the reader by it, and tells of them as [`check_beside`](crate::check::check_beside)
 /// does; or writes help, where it is asked for. Behind what they have the notes get a line of what was counted, where
 /// the words ask for it, and then why it came to rest before the end.
-pub fn serve<F: Files<K, N>, S: Input<K, N> + Explains, K: Sink + Explains, N: Sink>(
+pub fn serve<F: Files<K, N> + Makes, S: Input<K, N> + Explains, K: Sink + Explains, N: Sink>(
     alloc: Global,
     words: Result<Vec<String>, WordsFault>,
     files: &F,
@@ -40,7 +40,7 @@ pub fn serve<F: Files<K, N>, S: Input<K, N> + Explains, K: Sink + Explains, N: S
     requires leave { HasLeave S.Input (ends_of S.Input K.Sink N.Sink reader.old writer.old notes.old) (IsPromptAsGiven (folder_of F.Files F.Opened.Input F.Opened.Explains files.now) (words_of words)) }
     requires files { MayReadAsGiven (folder_of F.Files F.Opened.Input F.Opened.Explains files.now) (words_of words) (ends_of S.Input K.Sink N.Sink reader.old writer.old notes.old) }
 
-    ensures served { IsServed (folder_of F.Files F.Opened.Input F.Opened.Explains files.now) (words_of words) (seen_of S.Input S.Explains K.Sink N.Sink reader.old writer.old notes.old)
+    ensures served { IsServed (maker_of F.Makes F.Made.Sink files.now) (folder_of F.Files F.Opened.Input F.Opened.Explains files.now) (words_of words) (seen_of S.Input S.Explains K.Sink N.Sink reader.old writer.old notes.old)
         (seen_of S.Input S.Explains K.Sink N.Sink reader.new writer.new notes.new) (K.Explains.cause writer.new) MOST_TURNS result }
     ensures turns { S.calls reader.new ≤ S.calls reader.old + MOST_TURNS }
 {
@@ -59,7 +59,7 @@ pub fn serve<F: Files<K, N>, S: Input<K, N> + Explains, K: Sink + Explains, N: S
 }
 
 /// What the program comes to, the numbers of the run, where these are to be told, and the form in which faults are.
-fn come_to<F: Files<K, N>, S: Input<K, N> + Explains, K: Sink, N: Sink>(
+fn come_to<F: Files<K, N> + Makes, S: Input<K, N> + Explains, K: Sink, N: Sink>(
     alloc: Global,
     words: Result<Vec<String>, WordsFault>,
     files: &F,
@@ -74,7 +74,7 @@ fn come_to<F: Files<K, N>, S: Input<K, N> + Explains, K: Sink, N: Sink>(
     requires files { MayReadAsGiven (folder_of F.Files F.Opened.Input F.Opened.Explains files.now) (words_of words) (ends_of S.Input K.Sink N.Sink reader.old writer.old notes.old) }
 
     ensures form { TellsAsGiven (words_of words) result told.new }
-    ensures comes { ComesTo (folder_of F.Files F.Opened.Input F.Opened.Explains files.now) (words_of words) (seen_of S.Input S.Explains K.Sink N.Sink reader.old writer.old notes.old)
+    ensures comes { ComesTo (maker_of F.Makes F.Made.Sink files.now) (folder_of F.Files F.Opened.Input F.Opened.Explains files.now) (words_of words) (seen_of S.Input S.Explains K.Sink N.Sink reader.old writer.old notes.old)
         (seen_of S.Input S.Explains K.Sink N.Sink reader.new writer.new notes.new) sums.new result
         × Rests (ends_of S.Input K.Sink N.Sink reader.old writer.old notes.old) (ends_of S.Input K.Sink N.Sink reader.new writer.new notes.new) sums.new result }
 {
@@ -105,7 +105,7 @@ fn come_to<F: Files<K, N>, S: Input<K, N> + Explains, K: Sink, N: Sink>(
 }
 
 /// The same by what the words ask for, and by the bytes of the schema file that they name.
-fn check_by<F: Files<K, N>, S: Input<K, N> + Explains, K: Sink, N: Sink>(
+fn check_by<F: Files<K, N> + Makes, S: Input<K, N> + Explains, K: Sink, N: Sink>(
     alloc: Global,
     files: &F,
     file: Option<&[u8]>,
@@ -120,13 +120,13 @@ fn check_by<F: Files<K, N>, S: Input<K, N> + Explains, K: Sink, N: Sink>(
     requires leave { HasLeave S.Input (ends_of S.Input K.Sink N.Sink reader.old writer.old notes.old) (IsPromptOverAsked (folder_of F.Files F.Opened.Input F.Opened.Explains files.now) file settings.now) }
     requires files { MayReadAsked (folder_of F.Files F.Opened.Input F.Opened.Explains files.now) file settings.now (ends_of S.Input K.Sink N.Sink reader.old writer.old notes.old) }
 
-    ensures { ComesAsAsked (folder_of F.Files F.Opened.Input F.Opened.Explains files.now) file.entry settings.now (seen_of S.Input S.Explains K.Sink N.Sink reader.old writer.old notes.old)
+    ensures { ComesAsAsked (maker_of F.Makes F.Made.Sink files.now) (folder_of F.Files F.Opened.Input F.Opened.Explains files.now) file.entry settings.now (seen_of S.Input S.Explains K.Sink N.Sink reader.old writer.old notes.old)
         (seen_of S.Input S.Explains K.Sink N.Sink reader.new writer.new notes.new) sums.new result
         × Rests (ends_of S.Input K.Sink N.Sink reader.old writer.old notes.old) (ends_of S.Input K.Sink N.Sink reader.new writer.new notes.new) sums.new result }
 {
     *sums = None;
     if is_alone(settings) {
-        let ran = check_beside(alloc, file, settings, reader, writer, notes);
+        let ran = check_keeping(alloc, files, file, settings, reader, writer, notes);
         return run_ending(settings, ran, sums);
     }
     let names = names_of(alloc, files, settings)?;
@@ -179,20 +179,21 @@ fn names_of<F: Files<K, N>, K: Sink, N: Sink>(
 /// How the program ends by what a run over an input came to, and the numbers that are told then.
 fn run_ending(
     settings: &Settings,
-    ran: Result<Ran, Unasked>,
+    ran: Result<Kept<Ran>, Unbegun>,
     sums: &mut Option<Sums>,
 ) -> Result<Ending, Stop>
     ensures { EndsRun settings.now ran sums.new result }
 {
     *sums = None;
-    let ran = match ran {
-        Ok(ran) => ran,
-        Err(unasked) => return Err(Stop::Ask(unasked)),
+    let Kept { what: ran, cause } = match ran {
+        Ok(kept) => kept,
+        Err(unbegun) => return Err(Stop::from(unbegun)),
     };
     *sums = summed(settings, ran.tally);
     let manner = manner(settings);
     match ran.end {
         Ok(()) => Ok(Ending::Checked(ran.tally, manner)),
+        Err(RunFault::RejectFault { written }) => Err(Stop::Unkept { written, cause }),
         Err(fault) => Err(Stop::Run(fault, ran.tally, manner)),
     }
 }
@@ -200,19 +201,23 @@ fn run_ending(
 /// The same by what files came to.
 fn files_ending(
     settings: &Settings,
-    passed: Result<Passed, Unasked>,
+    passed: Result<Kept<Passed>, Unbegun>,
     sums: &mut Option<Sums>,
 ) -> Result<Ending, Stop>
     ensures { EndsFiles settings.now passed sums.new result }
 {
     *sums = None;
-    let passed = match passed {
-        Ok(passed) => passed,
-        Err(unasked) => return Err(Stop::Ask(unasked)),
+    let Kept {
+        what: passed,
+        cause,
+    } = match passed {
+        Ok(kept) => kept,
+        Err(unbegun) => return Err(Stop::from(unbegun)),
     };
     *sums = summed(settings, passed.course.tally);
     match passed.end {
         Ok(()) => Ok(Ending::Passed(passed.course, by(settings))),
+        Err(RunFault::RejectFault { written }) => Err(Stop::Unkept { written, cause }),
         Err(fault) => Err(Stop::Halted(fault)),
     }
 }
@@ -246,8 +251,8 @@ fn without_settings<K: Sink>(
     writer: &mut K,
 ) -> Result<Ending, Stop>
     ensures { Unserved fault (writer_of K.Sink writer.old) (writer_of K.Sink writer.new) result
-        × ((reader : Reader) (notes : Writer) (turns : ℕ) → EndsSo (beside reader (record { writer = writer_of K.Sink writer.old; notes = notes }))
-        (beside reader (record { writer = writer_of K.Sink writer.new; notes = notes })) turns result) }
+        × ((reader : Reader) (notes : Writer) (turns : ℕ) → EndsSo (beside reader (record { writer = writer_of K.Sink writer.old; notes = notes; rejects = nowhere }))
+        (beside reader (record { writer = writer_of K.Sink writer.new; notes = notes; rejects = nowhere })) turns result) }
 {
     let status = fault.status();
     let SettingsFault::Usage(error) = &fault else {

@@ -4,12 +4,13 @@ ghost use Rattle.std.specs.Prelude.{Err, IfSome, List, None, ℕ, ◌≡◌, ◌
 ghost use Rattle.fb_rules.specs.Reasons.{reason_count};
 ghost use Rattle.fb_lines.specs.Ends.{writer_of};
 ghost use Rattle.fbcheck_serve.specs.Inputs.{IsNoted};
-ghost use Rattle.fbcheck_serve.specs.Serving.{Complains, IsBehindEnding, IsBehindStop, IsHintBehind, IsStopTold, IsEndLine, SumsUp, exit_status, hinted_stop, is_quiet, is_unwritten, stop_status, stop_text};
+ghost use Rattle.fbcheck_serve.specs.Serving.{Complains, IsBehindEnding, IsBehindStop, IsHintBehind, IsStopTold, IsEndLine, SumsUp, exit_status, hinted_stop, is_quiet, is_unwritten, stop_status, stop_text, unbegun_stop};
 ghost use Rattle.fbcheck_texts.specs.Hints.{IsHint};
 ghost use Rattle.fbcheck_words.specs.declared.choices.SettingsFault.TheVariants as refusal;
 ghost use Rattle.fbcheck_serve.specs.declared.stop.Stop.TheVariants as stop;
 ghost use Rattle.fbcheck_serve.specs.declared.stop.Ending.TheVariants.{Helped};
 
+use crate::check::Unbegun;
 use crate::inputs::Course;
 use fb_bytes::Sink;
 use fb_run::summary::summary;
@@ -20,10 +21,12 @@ use fbcheck_texts::fault_json::{fault_object, hint_object};
 use fbcheck_texts::framing::{By, Manner, by_hint, end_hint, run_hint};
 use fbcheck_texts::hint::{Hint, Unasked};
 use fbcheck_texts::texts::{
-    ask_text, failed_write, file_text, list_text, run_text, stopped_text, unsummed_text, words_text,
+    ask_text, failed_write, file_text, list_text, run_text, stopped_text, unkept_text, unmade_text,
+    unsummed_text, words_text,
 };
 use fbcheck_words::SettingsFault;
 use std::alloc::{AllocError, Global};
+use std::io::ErrorKind;
 
 /// How a line begins that tells why the program comes to rest.
 const NAME: &str = "fbcheck: ";
@@ -58,9 +61,20 @@ pub enum Stop {
     /// The words give no settings for another cause.
     Settings(SettingsFault),
     /// Help was asked for, and the writer took only its first `written` bytes.
-    CutOff { written: usize },
+    CutOff {
+        written: usize,
+    },
+    /// The rejects took only their first `written` bytes, for this cause where it is known.
+    Unkept {
+        written: u128,
+        cause: Option<ErrorKind>,
+    },
+    /// The file for the rejects can't be made.
+    Unmade(ErrorKind),
     /// The run came to its end, and of its summary only the first `written` bytes were taken.
-    Unsummed { written: usize },
+    Unsummed {
+        written: usize,
+    },
     /// The schema file can't be read, and this is told behind the cause.
     File(FileFault, Hint),
     /// The list of names can't be read, and this is told behind the cause.
@@ -123,6 +137,17 @@ impl From<AllocError> for Stop {
     }
 }
 
+impl From<Unbegun> for Stop {
+    ghost from_gives = { λ unbegun s. s ≡ unbegun_stop unbegun };
+
+    fn from(unbegun: Unbegun) -> Self {
+        match unbegun {
+            Unbegun::Ask(unasked) => Self::Ask(unasked),
+            Unbegun::Unmade(cause) => Self::Unmade(cause),
+        }
+    }
+}
+
 impl Stop {
     /// That the words can't be read, with this behind it, or want of memory where there was none for that.
     pub fn words(fault: WordsFault, hint: Result<Hint, AllocError>) -> Stop
@@ -165,6 +190,7 @@ impl Stop {
             Stop::File(FileFault::Unreadable(_), _) | Stop::List(FileFault::Unreadable(_), _) => 2,
             Stop::File(FileFault::OutOfMemory, _) | Stop::List(FileFault::OutOfMemory, _) => 3,
             Stop::CutOff { .. } | Stop::Unsummed { .. } => 3,
+            Stop::Unkept { .. } | Stop::Unmade(_) => 3,
             Stop::Settings(fault) => fault.status(),
             Stop::Ask(unasked) => unasked.fault.status(),
             Stop::Run(fault, ..) | Stop::Halted(fault) => status(&Err(*fault)),
@@ -181,6 +207,7 @@ impl Stop {
             Stop::Run(fault, tally, manner) => run_hint(manner.framing, fault, tally),
             Stop::Usage(_) | Stop::Settings(_) | Stop::Halted(_) => b"\n",
             Stop::CutOff { .. } | Stop::Unsummed { .. } => b"\n",
+            Stop::Unkept { .. } | Stop::Unmade(_) => b"\n",
         }
     }
 
@@ -195,6 +222,8 @@ impl Stop {
             Stop::Settings(fault) => Line::of(fault.text()),
             Stop::CutOff { written } => failed_write(*written as u128, causes.write),
             Stop::Unsummed { written } => unsummed_text(*written),
+            Stop::Unkept { written, cause } => unkept_text(*written, *cause),
+            Stop::Unmade(cause) => unmade_text(*cause),
             Stop::File(fault, _) => file_text(fault),
             Stop::List(fault, _) => list_text(fault),
             Stop::Ask(unasked) => ask_text(&unasked.fault),

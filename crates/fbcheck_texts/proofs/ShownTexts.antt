@@ -5,7 +5,7 @@ use Rattle.fbcheck_texts.specs.TextTests.{AskTexts, LoadTexts, RunTexts}
 
 pub run_texts_shown : RunTexts
 unfolding digits
-run_texts_shown = record { read = refl; read_folder = refl; read_early = refl; read_unknown = refl; write = refl; write_full = refl; read_alone = refl; note = refl; oversize = refl; truncated = refl; no_room = refl; again = refl; turns = refl; memory = refl; too_long = refl; stopped = refl; too_short = refl }
+run_texts_shown = record { read = refl; read_folder = refl; read_early = refl; read_unknown = refl; write = refl; write_full = refl; read_alone = refl; note = refl; reject = refl; unmade = refl; oversize = refl; truncated = refl; no_room = refl; again = refl; turns = refl; memory = refl; too_long = refl; stopped = refl; too_short = refl }
 
 pub load_texts_shown : LoadTexts
 unfolding digits

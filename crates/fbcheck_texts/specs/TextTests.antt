@@ -8,7 +8,7 @@ use Rattle.fb_schema.specs.declared.{fault.Code.TheVariants.BadSlot, fault.Schem
 use Rattle.fb_rules.specs.declared.{fault.Fault.Fault, fault.Reason.TheVariants.TooDeep, fault.Reason.TheVariants.WrongIdentifier}
 use Rattle.fb_lines.specs.{FaultText.fault_text, FaultText.stream_text}
 use Rattle.fb_lines.specs.declared.fault.RunFault.TheVariants as run
-use Rattle.fbcheck_texts.specs.Texts.{ask_text, load_text, of_read, path_text, run_text, stopped_text}
+use Rattle.fbcheck_texts.specs.Texts.{ask_text, load_text, of_read, path_text, run_text, stopped_text, unkept_text, unmade_text}
 use Rattle.fbcheck_texts.specs.declared.fault.AskFault.TheVariants as ask
 
 -- those of a run
@@ -21,6 +21,8 @@ pub record RunTexts : Type 0 where
   pub write_full : run_text (record { read = None; write = Some kind.StorageFull }) (run.WriteFault 30) ≡ codes "write failed after 30 bytes: no storage space"
   pub read_alone : run_text (record { read = None; write = Some kind.StorageFull }) run.ReadFault ≡ codes "read failed"
   pub note : fault_text (run.NoteFault 0) ≡ codes "write to standard error failed after 0 bytes"
+  pub reject : unkept_text 30 (Some kind.StorageFull) ≡ codes "write of rejects failed after 30 bytes: no storage space"
+  pub unmade : unmade_text kind.PermissionDenied ≡ codes "cannot write rejects: permission denied"
   pub oversize : fault_text (run.Stream (stream.Oversize 4294967295)) ≡ codes "stream: S1 Oversize declared=4294967295"
   pub truncated : fault_text (run.Stream (stream.Truncated 31)) ≡ codes "stream: S2 Truncated held=31"
   pub no_room : stream_text stream.OutOfMemory ≡ codes "S3 OutOfMemory"

@@ -41,6 +41,13 @@ run_text causes run.ReadFault = fault_text run.ReadFault ++ cause_text causes.re
 run_text causes (run.WriteFault written) = fault_text (run.WriteFault written) ++ cause_text causes.write
 run_text causes fault = fault_text fault
 
+-- why the rejects aren't whole, and why there are none
+abbrev pub unkept_text : ℕ → Option ErrorKind → List ℕ
+unkept_text written cause = fault_text (run.RejectFault written) ++ cause_text cause
+
+abbrev pub unmade_text : ErrorKind → List ℕ
+unmade_text cause = codes "cannot write rejects" ++ cause_text (Some cause)
+
 -- where a path doesn't fit
 abbrev pub step_text : PathFault → List ℕ
 step_text (path.BadText at) = codes " at=" ++ decimal at

@@ -213,7 +213,8 @@ pub fn run_hint(framing: Framing, fault: &RunFault, tally: &Tally) -> &'static [
         RunFault::BareTooLong { limit } if *limit != MOST_BYTES =>
             b"; --max-bytes allows longer ones\n",
         RunFault::Stream(_) | RunFault::BareTooLong { .. } => b"\n",
-        RunFault::ReadFault | RunFault::WriteFault { .. } | RunFault::NoteFault { .. } => b"\n",
+        RunFault::ReadFault | RunFault::WriteFault { .. } => b"\n",
+        RunFault::NoteFault { .. } | RunFault::RejectFault { .. } => b"\n",
         RunFault::TooManyTurns | RunFault::OutOfMemory | RunFault::SkipPastEnd { .. } => b"\n",
     }
 }

@@ -3,7 +3,7 @@
 ghost use Rattle.std.specs.Prelude.{◌≡◌, ◌≤◌, ◌++◌, codes, decimal, length};
 ghost use Rattle.fb_lines.specs.{FaultText.fault_text, Line.field_text};
 ghost use Rattle.fb_lines.specs.declared.fault.RunFault.TheVariants.{WriteFault};
-ghost use Rattle.fbcheck_texts.specs.Texts.{ask_text, cause_text, file_text, ill_text, list_text, load_text, path_text, rows_text, run_text, step_text, stopped_text, unsummed_text, word_text, words_text};
+ghost use Rattle.fbcheck_texts.specs.Texts.{ask_text, cause_text, file_text, ill_text, list_text, load_text, path_text, rows_text, run_text, step_text, stopped_text, unkept_text, unmade_text, unsummed_text, word_text, words_text};
 
 use crate::causes::{Causes, known_reason};
 use crate::fault::{AskFault, FileFault, WordsFault};
@@ -45,6 +45,28 @@ pub fn failed_write(written: u128, cause: Option<ErrorKind>) -> Line
     line.put_text(" bytes");
     line.put_wide(written);
     line.put_text("write failed after ");
+    line
+}
+
+/// That a write of rejects failed after so many bytes, and why.
+pub fn unkept_text(written: u128, cause: Option<ErrorKind>) -> Line
+    ensures text { result ≡ unkept_text written cause }
+    ensures short { length result ≤ 200 }
+{
+    let mut line = cause_text(cause);
+    line.put_text(" bytes");
+    line.put_wide(written);
+    line.put_text("write of rejects failed after ");
+    line
+}
+
+/// That the file for them can't be made, and why.
+pub fn unmade_text(cause: ErrorKind) -> Line
+    ensures text { result ≡ unmade_text cause }
+    ensures short { length result ≤ 200 }
+{
+    let mut line = cause_text(Some(cause));
+    line.put_text("cannot write rejects");
     line
 }
 

@@ -101,5 +101,5 @@ outputs = with_rule (with_rule (with_rule (with_rule (with_rule demands (by_lett
     (by_letter (codes "j") (flag_rule (codes "json")))
 
 abbrev pub program : App
-program = with_rule (with_rule (with_rule (with_rule outputs (flag_rule (codes "csv"))) (by_letter (codes "H") (flag_rule (codes "with-filename"))))
+program = with_rule (with_rule (with_rule (with_rule (with_rule outputs (flag_rule (codes "csv"))) (text_rule (codes "rejects"))) (by_letter (codes "H") (flag_rule (codes "with-filename"))))
     (text_rule (codes "files0-from"))) (words_rule (codes "files"))

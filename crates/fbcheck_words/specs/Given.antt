@@ -35,6 +35,7 @@ pub record Say (given : List Text) (settings : Settings) : Type 0 where
   pub utf8 : IsTrue settings.utf8 ↔ IsGiven (codes "utf8") given
   pub quiet : IsTrue settings.quiet ↔ IsGiven (codes "quiet") given
   pub filter : IsTrue settings.filter ↔ IsGiven (codes "filter") given
+  pub rejects : option_map string_bytes settings.rejects ≡ text_of (codes "rejects") given
   pub summary : IsTrue settings.summary ↔ IsGiven (codes "summary") given
   pub names : IsTrue settings.names ↔ IsGiven (codes "names") given
   pub json : (settings.form ≡ Json) ↔ IsGiven (codes "json") given

@@ -75,6 +75,8 @@ pub struct Settings {
     pub quiet: bool,
     /// Whether the good buffers themselves are written (`--filter`); there are no paths then.
     pub filter: bool,
+    /// The file that gets the bad buffers themselves (`--rejects`). None: they are told of alone.
+    pub rejects: Option<String>,
     /// Whether the notes get a line of what the run came to (`--summary`).
     pub summary: bool,
     /// Whether lines of bad buffers end with the place in words (`--names`).

@@ -42,7 +42,7 @@ struct Choice<'a> {
 
 /// All options, in the order of help. As a constant they would be built anew in the loop's function, text by text,
 /// which is dear to prove.
-static CHOICES: [Choice<'static>; 31] = [
+static CHOICES: [Choice<'static>; 32] = [
     Choice {
         name: "schema",
         letter: Some('s'),
@@ -210,6 +210,12 @@ static CHOICES: [Choice<'static>; 31] = [
         letter: None,
         takes: Takes::Nothing,
         help: "Write the values of good buffers as CSV, and lines of bad ones to standard error",
+    },
+    Choice {
+        name: "rejects",
+        letter: None,
+        takes: Takes::Text("FILE"),
+        help: "Write the bad buffers themselves to FILE, which is made, or emptied",
     },
     Choice {
         name: "with-filename",

@@ -51,6 +51,7 @@ fn said(alloc: Global, matches: &ArgMatches<'_>) -> Result<Settings, SettingsFau
     let schema = copied(alloc, matches, "schema")?;
     let root = copied(alloc, matches, "root")?;
     let paths = all_copied(alloc, matches, "path")?;
+    let rejects = copied(alloc, matches, "rejects")?;
     let names_file = copied(alloc, matches, "files0-from")?;
     let files = all_copied(alloc, matches, "files")?;
     Ok(Settings {
@@ -78,6 +79,7 @@ fn said(alloc: Global, matches: &ArgMatches<'_>) -> Result<Settings, SettingsFau
         utf8: flag(matches, "utf8"),
         quiet: flag(matches, "quiet"),
         filter: flag(matches, "filter"),
+        rejects,
         summary: flag(matches, "summary"),
         names: flag(matches, "names"),
         form: form(matches),

@@ -83,7 +83,7 @@ const OF_STREAMS: [(StreamFault, &str); 4] = [
 ];
 
 /// Why runs come to rest.
-const OF_RUNS: [(RunFault, &str); 8] = [
+const OF_RUNS: [(RunFault, &str); 9] = [
     (RunFault::ReadFault, "read failed"),
     (
         RunFault::WriteFault { written: 31 },
@@ -92,6 +92,10 @@ const OF_RUNS: [(RunFault, &str); 8] = [
     (
         RunFault::NoteFault { written: 0 },
         "write to standard error failed after 0 bytes",
+    ),
+    (
+        RunFault::RejectFault { written: 7 },
+        "write of rejects failed after 7 bytes",
     ),
     (
         RunFault::Stream(StreamFault::Truncated { held: 31 }),

@@ -1,16 +1,16 @@
 use Rattle.std.proofs.Common.{◌≡◌, ◌∙◌, ◌+◌, ◌++◌, [], length, Ok, Err, ap, drop, refl, rules, subst, sym}
 use mathlib.Core.Logic.{inr}
 use Rattle.std.proofs.Math.ListN.{drop_of_length-le}
-use Rattle.fb_lines.specs.{Ends.outs_of, Job.Job, Job.job_of}
+use Rattle.fb_lines.specs.{Ends.all_outs, Job.Job, Job.job_of}
 use Rattle.fb_run.specs.{Leave.IsUnended, Leave.reader_of, Prompt.IsPrompt}
-use Rattle.fbcheck_serve.specs.Inputs.{MayRead, Tries, folder_of, label_of, seen_of, stand, are_named}
+use Rattle.fbcheck_serve.specs.Inputs.{MayRead, Tries, folder_of, label_of, all_seen, stand, are_named}
 use Rattle.fbcheck_serve.specs.declared.inputs.Course.{Course}
 use Rattle.fbcheck_serve.proofs.InputsLemmas.{front_all, front_more, halts_among, label_by, next_name, relabelled, turns_on}
 use Rattle.fbcheck_serve.proofs.inputs.pass_files.Goals as goal
 
 pub loop-name-init : goal.loop-name-init
 loop-name-init g c =
-    let begun = seen_of g.S.Input g.S.Explains g.K.Sink g.N.Sink c.args.reader.now c.args.writer.now c.args.notes.now in
+    let begun = all_seen g.S.Input g.S.Explains g.K.Sink g.N.Sink g.R.Sink c.args.reader.now c.args.writer.now c.args.notes.now c.args.rejects.now in
     record {
       passes = ([], refl, ap (λ (course : Course). stand begun course) c.new-course.ensures);
       job = ((job_of c.args.schema.now c.args.options.now).label, refl {a = job_of c.args.schema.now c.args.options.now});
@@ -24,7 +24,7 @@ pub pass_file-passed-requires-clause-leave : goal.pass_file-passed-requires-clau
 pass_file-passed-requires-clause-leave g c standard unread now prompt unended =
     let texts = c.args.names.now in
     let name = c.name-item.result in
-    let before = seen_of g.S.Input g.S.Explains g.K.Sink g.N.Sink c.loop-name.reader c.loop-name.writer c.loop-name.notes in
+    let before = all_seen g.S.Input g.S.Explains g.K.Sink g.N.Sink g.R.Sink c.loop-name.reader c.loop-name.writer c.loop-name.notes c.loop-name.rejects in
     let (front, are, passes) = c.loop-name.invariant.passes in
     let (old, is) = c.loop-name.invariant.job in
     let named : c.are_named-named.result ≡ are_named (job_of c.args.schema.now c.args.options.now).label texts = c.are_named-named.ensures in
@@ -54,7 +54,7 @@ pass_file-passed-requires-clause-files g c other =
     let named : c.are_named-named.result ≡ are_named job.label texts = c.are_named-named.ensures in
     let asked = relabelled c.args.schema.now c.loop-name.options job c.in-Ok.label old (label_of (are_named job.label texts) name.bytes) is (label_by _ _ _ _ _ c.in-Ok.ensures named c.bytes.ensures) in
     let next = next_name c.args.names.now c.loop-name.name-index name c.loop-name-test.true c.name-item.is in
-    subst (λ (j : Job). MayRead folder j name (outs_of g.K.Sink g.N.Sink c.loop-name.writer c.loop-name.notes)) (sym asked)
+    subst (λ (j : Job). MayRead folder j name (all_outs g.K.Sink g.N.Sink g.R.Sink c.loop-name.writer c.loop-name.notes c.loop-name.rejects)) (sym asked)
     (c.requires.files front _ name (g.S.Explains.cause c.args.reader.now) _ (are ∙ ap (λ l. front ++ l) next) other passes)
 
 pub loop-name-preserved : goal.loop-name-preserved
@@ -63,8 +63,8 @@ loop-name-preserved g c =
     let texts = c.args.names.now in
     let name = c.name-item.result in
     let job = job_of c.args.schema.now c.args.options.now in
-    let before = stand (seen_of g.S.Input g.S.Explains g.K.Sink g.N.Sink c.loop-name.reader c.loop-name.writer c.loop-name.notes) c.loop-name.course in
-    let after = stand (seen_of g.S.Input g.S.Explains g.K.Sink g.N.Sink c.pass_file-passed.new.reader c.pass_file-passed.new.writer c.pass_file-passed.new.notes) c.pass_file-passed.new.course in
+    let before = stand (all_seen g.S.Input g.S.Explains g.K.Sink g.N.Sink g.R.Sink c.loop-name.reader c.loop-name.writer c.loop-name.notes c.loop-name.rejects) c.loop-name.course in
+    let after = stand (all_seen g.S.Input g.S.Explains g.K.Sink g.N.Sink g.R.Sink c.pass_file-passed.new.reader c.pass_file-passed.new.writer c.pass_file-passed.new.notes c.pass_file-passed.new.rejects) c.pass_file-passed.new.course in
     let (front, are, passes) = c.loop-name.invariant.passes in
     let (old, is) = c.loop-name.invariant.job in
     let serves = c.loop-name.invariant.serves in
@@ -94,7 +94,7 @@ loop-name-preserved g c =
 pub returns-in_default-clause-serves : goal.returns-in_default-clause-serves
 returns-in_default-clause-serves g c =
     let name = c.name-item.result in
-    let now = stand (seen_of g.S.Input g.S.Explains g.K.Sink g.N.Sink c.loop-name.reader c.loop-name.writer c.loop-name.notes) c.loop-name.course in
+    let now = stand (all_seen g.S.Input g.S.Explains g.K.Sink g.N.Sink g.R.Sink c.loop-name.reader c.loop-name.writer c.loop-name.notes c.loop-name.rejects) c.loop-name.course in
     let (front, are, passes) = c.loop-name.invariant.passes in
     halts_among (folder_of g.F.Files g.F.Opened.Input g.F.Opened.Explains c.args.files.now) (job_of c.args.schema.now c.args.options.now) c.args.names.now front _ _ name _ now now _ are
     (next_name c.args.names.now c.loop-name.name-index name c.loop-name-test.true c.name-item.is) passes (inr (tt, refl))
@@ -105,8 +105,8 @@ returns-in-Err-clause-serves g c =
     let texts = c.args.names.now in
     let name = c.name-item.result in
     let job = job_of c.args.schema.now c.args.options.now in
-    let before = stand (seen_of g.S.Input g.S.Explains g.K.Sink g.N.Sink c.loop-name.reader c.loop-name.writer c.loop-name.notes) c.loop-name.course in
-    let after = stand (seen_of g.S.Input g.S.Explains g.K.Sink g.N.Sink c.pass_file-passed.new.reader c.pass_file-passed.new.writer c.pass_file-passed.new.notes) c.pass_file-passed.new.course in
+    let before = stand (all_seen g.S.Input g.S.Explains g.K.Sink g.N.Sink g.R.Sink c.loop-name.reader c.loop-name.writer c.loop-name.notes c.loop-name.rejects) c.loop-name.course in
+    let after = stand (all_seen g.S.Input g.S.Explains g.K.Sink g.N.Sink g.R.Sink c.pass_file-passed.new.reader c.pass_file-passed.new.writer c.pass_file-passed.new.notes c.pass_file-passed.new.rejects) c.pass_file-passed.new.course in
     let (front, are, passes) = c.loop-name.invariant.passes in
     let (old, is) = c.loop-name.invariant.job in
     let named : c.are_named-named.result ≡ are_named (job_of c.args.schema.now c.args.options.now).label texts = c.are_named-named.ensures in

@@ -60,6 +60,7 @@ returns-clause-says c words read = record {
   utf8 = given_by_words _ _ (codes "utf8") _ read c.flag-10.ensures;
   quiet = given_by_words _ _ (codes "quiet") _ read c.flag-11.ensures;
   filter = given_by_words _ _ (codes "filter") _ read c.flag-12.ensures;
+  rejects = c.in_ok-rejects.ensures ∙ text_of_words _ _ (codes "rejects") read;
   summary = given_by_words _ _ (codes "summary") _ read c.flag-13.ensures;
   names = given_by_words _ _ (codes "names") _ read c.flag-14.ensures;
   json = given_by_words _ _ (codes "json") _ read c.form.ensures;

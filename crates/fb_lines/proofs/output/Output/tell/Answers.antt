@@ -1,51 +1,23 @@
-use Rattle.std.proofs.Common.{◌≡◌, ◌⊎◌, ◌∙◌, ap, inr, refl, rules, subst, sym}
-use Rattle.fb_lines.specs.declared.options.Mode.{Mode}
-use Rattle.fb_lines.specs.declared.options.Mode.TheVariants.{Lines, BadLines, Csv, Filter}
-use Rattle.std.proofs.lemmas.Result.{on_ok_weaker}
-use Rattle.fb_lines.specs.{Job.verdict_of, Puts.queue_of}
+use Rattle.std.proofs.Common.{◌≡◌, ◌∙◌, List, ℕ, ap, length, rules, take}
+use Rattle.std.proofs.lemmas.Result.{on_err_weaker, on_ok_weaker}
+use Rattle.fb_lines.specs.{Job.verdict_of, Line.rejected, Puts.held_of}
 use Rattle.fb_lines.specs.declared.writing.Pending.{Pending}
-use Rattle.fb_lines.proofs.ToldLemmas.{as_line, bad_as_line, bad_line_by, bad_line_waits, good_line_waits, line_of_no, line_waits, message_waits, none_waits, note_waits, row_as_line}
+use Rattle.fb_lines.proofs.ToldLemmas.{held_again, says_waits}
 use Rattle.fb_lines.proofs.output.Output.tell.Goals as goal
 
-pub returns-in-Lines-clause-ok : goal.returns-in-Lines-clause-ok
-returns-in-Lines-clause-ok g c =
-    let lines = sym c.mode.ensures ∙ c.in-Lines.is in
-    on_ok_weaker c.put_line.result
-    (λ some. let (line, is, put) = some in
-    line_waits _ _ c.args.message.now (verdict_of c.args.verdict.now) _ _ _ _ lines (line, as_line c.args.checker.now c.args.spot.now (verdict_of c.args.verdict.now) lines line is, put) (ap (λ (p : Pending g.row.A.Denot). p.bytes.items) c.put_line.ensures.notes)) c.put_line.ensures.ok
+pub returns-else-is_err-clause-ok : goal.returns-else-is_err-clause-ok
+returns-else-is_err-clause-ok g c =
+    let kept = rw c.rejects.ensures at c.in_ok-keep.ensures.ok in
+    on_ok_weaker c.say-said.result
+    (λ says. says_waits _ _ c.args.message.now (verdict_of c.args.verdict.now) _ _ _ (held_of c.args.self.now) (held_of c.say-said.new.self) says
+    (ap (λ (p : Pending g.row.A.Denot). p.bytes.items) c.say-said.ensures.rejects ∙ kept)) c.say-said.ensures.ok
 
-pub returns-in-BadLines-clause-ok : goal.returns-in-BadLines-clause-ok
-returns-in-BadLines-clause-ok g c =
-    none_waits _ _ c.args.message.now (verdict_of c.args.verdict.now) _ _ _ _ _ (ap verdict_of c.in-Ok.is) (sym c.mode.ensures ∙ c.in-BadLines.is) refl refl
-
-pub returns-in-Filter-clause-ok : goal.returns-in-Filter-clause-ok
-returns-in-Filter-clause-ok g c =
-    message_waits _ _ c.args.message.now (verdict_of c.args.verdict.now) _ _ _ _ _ (ap verdict_of c.in-Ok.is) (sym c.mode.ensures ∙ c.in-Filter.is) c.put.ensures.puts refl
-
-pub returns-in-Csv-clause-ok : goal.returns-in-Csv-clause-ok
-returns-in-Csv-clause-ok g c =
-    let csv = sym c.mode.ensures ∙ c.in-Csv.is in
-    let same = ap verdict_of c.in-Ok.is in
-    let (row, is, put) = rw (c.label.ensures, c.as_slice-answers.ensures.value) at c.put_row.ensures in
-    good_line_waits _ _ c.args.message.now (verdict_of c.args.verdict.now) _ _ _ _ _ same (inr csv)
-    (row, row_as_line c.args.checker.now c.args.spot.now (verdict_of c.args.verdict.now) _ same csv row is, put) refl
-
-pub returns-in-Lines-mode : goal.returns-in-Lines-mode
-returns-in-Lines-mode g c = record {
-  ok = on_ok_weaker c.put_line-in-Lines-mode.result
-      (λ some. let (line, is, put) = some in
-      bad_line_waits _ _ c.args.message.now (verdict_of c.args.verdict.now) _ _ _ _ _ (ap verdict_of c.in-Err.is) (subst (λ (m : Mode). (m ≡ Lines) ⊎ (m ≡ BadLines)) c.mode-in-Err.ensures c.in-Lines-mode.is)
-      (line, bad_as_line c.args.checker.now c.args.spot.now (verdict_of c.args.verdict.now) _ (ap verdict_of c.in-Err.is) line is, put)
-      (ap (λ (p : Pending g.row.A.Denot). p.bytes.items) c.put_line-in-Lines-mode.ensures.notes)) c.put_line-in-Lines-mode.ensures.ok;
-  err = c.put_line-in-Lines-mode.ensures.err;
-  err_noted = search rules;
-  noted = ap (λ (p : Pending g.row.A.Denot). p.written) c.put_line-in-Lines-mode.ensures.notes;
-  counted = c.put_line-in-Lines-mode.ensures.counted;
-}
-
-pub returns-in-Filter-mode-clause-ok : goal.returns-in-Filter-mode-clause-ok
-returns-in-Filter-mode-clause-ok g c =
-    on_ok_weaker c.note_line.result
-    (λ added. note_waits _ _ c.args.message.now (verdict_of c.args.verdict.now) _ _ _ _ _ _ (ap verdict_of c.in-Err.is) (subst (λ (m : Mode). (m ≡ Filter) ⊎ (m ≡ Csv)) c.mode-in-Err.ensures c.in-Filter-mode.is)
-    (rw c.in-Err.is (bad_line_by c.args.checker.now.mode c.args.checker.now c.args.spot.now _ _ (line_of_no c.args.checker.now.form c.args.checker.now c.args.spot.now _ _ refl)))
-    (ap (λ (p : Pending g.row.A.Denot). queue_of g.K.Sink p c.args.writer.now) c.note_line.ensures.out) added) c.note_line.ensures.ok
+pub returns-then-is_err-clause-err_held : goal.returns-then-is_err-clause-err_held
+returns-then-is_err-clause-err_held g c =
+    let old = c.args.self.now.rejects.bytes.items in
+    let more = rejected (verdict_of c.args.verdict.now) c.rejects.result c.args.message.now in
+    let n : c.len-held.result ≡ length old = search rules in
+    on_err_weaker c.say-said.result
+    (λ noted. held_again _ _ old more _ c.len-held.result noted n
+    (c.truncate.ensures.items ∙ ap (λ (l : List ℕ). take c.len-held.result l) (ap (λ (p : Pending g.row.A.Denot). p.bytes.items) c.say-said.ensures.rejects ∙ c.in_ok-keep.ensures.ok)))
+    c.say-said.ensures.err_noted

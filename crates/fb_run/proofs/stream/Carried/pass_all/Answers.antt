@@ -1,7 +1,7 @@
 use Rattle.std.proofs.Common.{arith, length, refl, rules, sym, ◌≡◌, ◌∙◌}
 use Rattle.fb_bytes.specs.declared.stream_fault.StreamFault.TheVariants as stream
-use Rattle.fb_lines.specs.Ends.{outs_of}
-use Rattle.fb_run.specs.{Leave.ends_of, Leave.reader_of, Pieces.carry_of}
+use Rattle.fb_lines.specs.Ends.{all_outs}
+use Rattle.fb_run.specs.{Leave.all_ends, Leave.reader_of, Pieces.carry_of}
 use Rattle.fb_run.proofs.BareLemmas.{unused_queues}
 use Rattle.fb_run.proofs.RunLemmas.{err_is, fails_piece, fails_part, fails_read, fails_short, fails_turns, full_piece, passes_end, runs_from, sofar_nothing, sofar_piece, prompt_from, sofar_prompt}
 use Rattle.fb_run.proofs.StreamLemmas.{due_next}
@@ -15,11 +15,11 @@ returns-then-is_bare g c = runs_from (sym c.if-is_bare.true ∙ c.is_bare.ensure
 
 pub loop-left-init : goal.loop-left-init
 loop-left-init g c =
-    let unused = unused_queues g.K.Sink g.N.Sink c.args.self.now.output c.args.writer.now c.args.notes.now c.requires.first.0 in
+    let unused = unused_queues g.K.Sink g.N.Sink g.R.Sink c.args.self.now.output c.args.writer.now c.args.notes.now c.args.rejects.now c.requires.first.0 in
     record {
       room = c.requires.room;
-      sofar = sofar_nothing c.args.checker.now (reader_of g.S.Input c.args.reader.now) (outs_of g.K.Sink g.N.Sink c.args.writer.now c.args.notes.now)
-          (carry_of g.K.Sink g.N.Sink c.args.self.now c.args.writer.now c.args.notes.now) _ c.args.turns
+      sofar = sofar_nothing c.args.checker.now (reader_of g.S.Input c.args.reader.now) (all_outs g.K.Sink g.N.Sink g.R.Sink c.args.writer.now c.args.notes.now c.args.rejects.now)
+          (carry_of g.K.Sink g.N.Sink g.R.Sink c.args.self.now c.args.writer.now c.args.notes.now c.args.rejects.now) _ c.args.turns
           (record { all = c.new-skip.ensures.all ∙ c.begin.ensures.value; left = omega (arith, c.new-skip.ensures.left, c.begin.ensures.value) }) c.begin.ensures.due
           c.requires.ready unused c.requires.first.1 c.requires.first.2;
     }
@@ -27,14 +27,14 @@ loop-left-init g c =
 pub pull_piece-requires-clause-leave : goal.pull_piece-requires-clause-leave
 pull_piece-requires-clause-leave g c =
     let sofar = c.loop-left.invariant.sofar in
-    let now = ends_of g.S.Input g.K.Sink g.N.Sink c.loop-left.reader c.loop-left.writer c.loop-left.notes in
+    let now = all_ends g.S.Input g.K.Sink g.N.Sink g.R.Sink c.loop-left.reader c.loop-left.writer c.loop-left.notes c.loop-left.rejects in
     c.requires.leave now (prompt_from (sym c.is_bare.ensures ∙ c.if-is_bare.false) (sofar_prompt sofar)) sofar.asks
 
 pub returns-in_err-pass_piece : goal.returns-in_err-pass_piece
 returns-in_err-pass_piece g c =
     let read = c.in-Ok.ensures in
     let reader = reader_of g.S.Input c.pull_piece.new.source in
-    let after = carry_of g.K.Sink g.N.Sink c.pass_piece.new.self c.pass_piece.new.writer c.pass_piece.new.notes in
+    let after = carry_of g.K.Sink g.N.Sink g.R.Sink c.pass_piece.new.self c.pass_piece.new.writer c.pass_piece.new.notes c.pass_piece.new.rejects in
     let behind = rw c.as_slice.ensures.value at c.behind-more.ensures.rest in
     rw (err_is _ _ c.from_residual-in_err-pass_piece.ensures.1)
     (runs_from (sym c.if-is_bare.false ∙ c.is_bare.ensures)
@@ -58,7 +58,7 @@ pub returns-then-due-eq0 : goal.returns-then-due-eq0
 returns-then-due-eq0 g c =
     let read = c.in-Ok.ensures in
     let reader = reader_of g.S.Input c.pull_piece.new.source in
-    let after = carry_of g.K.Sink g.N.Sink c.pass_piece.new.self c.pass_piece.new.writer c.pass_piece.new.notes in
+    let after = carry_of g.K.Sink g.N.Sink g.R.Sink c.pass_piece.new.self c.pass_piece.new.writer c.pass_piece.new.notes c.pass_piece.new.rejects in
     let behind = rw c.as_slice.ensures.value at c.behind-more.ensures.rest in
     runs_from (sym c.if-is_bare.false ∙ c.is_bare.ensures)
     (full_piece c.loop-left.invariant.sofar _ _ _ reader c.loop-left-test.true read.ok read.counted (omega (arith, read.failure)) behind after

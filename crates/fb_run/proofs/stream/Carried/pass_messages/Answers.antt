@@ -7,7 +7,7 @@ use Rattle.fb_run.proofs.stream.Carried.pass_messages.Goals as goal
 
 pub loop-rest-init : goal.loop-rest-init
 loop-rest-init g c = record {
-  passed = ([], refl, goes_none _ (carry_of g.K.Sink g.N.Sink c.args.self.now c.args.writer.now c.args.notes.now) c.requires.ready c.requires.unfailed);
+  passed = ([], refl, goes_none _ (carry_of g.K.Sink g.N.Sink g.R.Sink c.args.self.now c.args.writer.now c.args.notes.now c.args.rejects.now) c.requires.ready c.requires.unfailed);
   due = record { messages = omega arith; bad = omega arith };
 }
 
@@ -18,14 +18,14 @@ pub loop-rest-preserved : goal.loop-rest-preserved
 loop-rest-preserved g c =
     let (front, whole, goes) = c.loop-rest.invariant.passed in
     record {
-      passed = goes_more whole goes c.in_ok-used.used _ (carry_of g.K.Sink g.N.Sink c.pass_some.new.self c.pass_some.new.writer c.pass_some.new.notes) (take_rest c.loop-rest.rest.now c.in_ok-used.used) c.in_ok-used.ensures;
+      passed = goes_more whole goes c.in_ok-used.used _ (carry_of g.K.Sink g.N.Sink g.R.Sink c.pass_some.new.self c.pass_some.new.writer c.pass_some.new.notes c.pass_some.new.rejects) (take_rest c.loop-rest.rest.now c.in_ok-used.used) c.in_ok-used.ensures;
       due = due_less c.args.checker.now _ _ c.due-due.result (search rules) c.due-due.ensures.due c.in_ok-used.ensures.one;
     }
 
 pub returns-in_err-used : goal.returns-in_err-used
 returns-in_err-used g c =
     let (front, whole, goes) = c.loop-rest.invariant.passed in
-    err_exit _ _ (PassesAllBy _ _ _ _) c.from_residual.ensures.1 (stops_more whole goes (carry_of g.K.Sink g.N.Sink c.pass_some.new.self c.pass_some.new.writer c.pass_some.new.notes) _ c.in_err-used.ensures.0, c.in_err-used.ensures.1)
+    err_exit _ _ (PassesAllBy _ _ _ _) c.from_residual.ensures.1 (stops_more whole goes (carry_of g.K.Sink g.N.Sink g.R.Sink c.pass_some.new.self c.pass_some.new.writer c.pass_some.new.notes c.pass_some.new.rejects) _ c.in_err-used.ensures.0, c.in_err-used.ensures.1)
 
 pub returns-then-due-eq0 : goal.returns-then-due-eq0
 returns-then-due-eq0 g c =

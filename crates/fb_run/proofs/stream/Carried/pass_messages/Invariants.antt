@@ -5,7 +5,7 @@ use Rattle.fb_run.proofs.stream.Carried.pass_messages.Given as goal
 
 abbrev pub invariant-loop-rest : goal.invariant-loop-rest
 invariant-loop-rest g l = record {
-  passed : (front : List ℕ) × (l.piece ≡ front ++ l.rest) × GoesOn l.checker front (carry_of g.K.Sink g.N.Sink l.initial.self l.initial.writer l.initial.notes) (carry_of g.K.Sink g.N.Sink l.self l.writer l.notes);
+  passed : (front : List ℕ) × (l.piece ≡ front ++ l.rest) × GoesOn l.checker front (carry_of g.K.Sink g.N.Sink g.R.Sink l.initial.self l.initial.writer l.initial.notes l.initial.rejects) (carry_of g.K.Sink g.N.Sink g.R.Sink l.self l.writer l.notes l.rejects);
   due : HasDue l.checker (past_all l.checker l.self.output.counter) l.due;
 }
 

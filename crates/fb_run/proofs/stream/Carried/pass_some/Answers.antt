@@ -15,10 +15,10 @@ returns-in_err-add g c =
     let none : c.args.self.now.framer.held ≡ [] = nil_from_length c.args.self.now.framer.held (omega (arith, c.held.ensures.value)) in
     err_exit _ _ (PassesBy _ _ _ _) c.from_residual.ensures.1 (
       λ first bytes stands.
-          add_halts c.args.checker.now first bytes (take n rest) (drop n rest) rest message (carry_of g.K.Sink g.N.Sink c.args.self.now c.args.writer.now c.args.notes.now) (queues_of g.K.Sink g.N.Sink c.add.new.self c.add.new.writer c.add.new.notes) c.add.new.self.counter c.in_err-add.field-0.0
+          add_halts c.args.checker.now first bytes (take n rest) (drop n rest) rest message (carry_of g.K.Sink g.N.Sink g.R.Sink c.args.self.now c.args.writer.now c.args.notes.now c.args.rejects.now) (queues_of g.K.Sink g.N.Sink g.R.Sink c.add.new.self c.add.new.writer c.add.new.notes c.add.new.rejects) c.add.new.self.counter c.in_err-add.field-0.0
           (sym (take-append-drop n rest)) (c.in-Some.ensures.front ∙ ap (λ (l : List ℕ). l ++ take n rest) (sym none)) (subst (λ (u : Cut). IsMessage u message) c.cut.ensures.value c.in-Some.ensures.whole)
           c.requires.unfailed c.requires.due c.in_err-add.ensures.told stands,
-      added_sound c.args.checker.now _ message (queues_of g.K.Sink g.N.Sink c.args.self.now.output c.args.writer.now c.args.notes.now) (queues_of g.K.Sink g.N.Sink c.add.new.self c.add.new.writer c.add.new.notes) c.args.self.now.output.counter c.add.new.self.counter c.in_err-add.field-0.0 c.requires.unfailed c.in_err-add.ensures.told,
+      added_sound c.args.checker.now _ message (queues_of g.K.Sink g.N.Sink g.R.Sink c.args.self.now.output c.args.writer.now c.args.notes.now c.args.rejects.now) (queues_of g.K.Sink g.N.Sink g.R.Sink c.add.new.self c.add.new.writer c.add.new.notes c.add.new.rejects) c.args.self.now.output.counter c.add.new.self.counter c.in_err-add.field-0.0 c.requires.unfailed c.in_err-add.ensures.told,
     )
 
 pub returns-in-Some : goal.returns-in-Some
@@ -32,7 +32,7 @@ returns-in-Some g c =
       within = c.in-Some.ensures.within;
       some = c.in-Some.ensures.some;
       goes_on = record {
-        onward = λ first bytes stands. message_stands c.args.checker.now first bytes (take n rest) message (carry_of g.K.Sink g.N.Sink c.args.self.now c.args.writer.now c.args.notes.now) (carry_of g.K.Sink g.N.Sink (record c.args.self.now { room = c.add.new.room; output = c.add.new.self }) c.add.new.writer c.add.new.notes)
+        onward = λ first bytes stands. message_stands c.args.checker.now first bytes (take n rest) message (carry_of g.K.Sink g.N.Sink g.R.Sink c.args.self.now c.args.writer.now c.args.notes.now c.args.rejects.now) (carry_of g.K.Sink g.N.Sink g.R.Sink (record c.args.self.now { room = c.add.new.room; output = c.add.new.self }) c.add.new.writer c.add.new.notes c.add.new.rejects)
             (c.in-Some.ensures.front ∙ ap (λ (l : List ℕ). l ++ take n rest) (sym none)) (subst (λ (u : Cut). IsMessage u message) c.cut.ensures.value c.in-Some.ensures.whole) none c.requires.due added.0 stands;
         ready = still_ready c.requires.ready c.add.ensures.room;
         unfailed = added.1;
@@ -45,8 +45,8 @@ pub returns-in_err-taken : goal.returns-in_err-taken
 returns-in_err-taken g c =
     err_exit _ _ (PassesBy _ _ _ _) c.from_residual-in_err-taken.ensures.1 (
       λ first bytes stands.
-          feed_halts c.args.checker.now first bytes c.args.rest.now (carry_of g.K.Sink g.N.Sink c.args.self.now c.args.writer.now c.args.notes.now) c.feed.new.self c.in_err-taken.field-0.0 c.requires.ready.cut c.requires.unfailed c.requires.due (c.in_err-taken.ensures.fault c.requires.ready.fine) stands,
-      open_sound (queues_of g.K.Sink g.N.Sink c.args.self.now.output c.args.writer.now c.args.notes.now) c.requires.unfailed,
+          feed_halts c.args.checker.now first bytes c.args.rest.now (carry_of g.K.Sink g.N.Sink g.R.Sink c.args.self.now c.args.writer.now c.args.notes.now c.args.rejects.now) c.feed.new.self c.in_err-taken.field-0.0 c.requires.ready.cut c.requires.unfailed c.requires.due (c.in_err-taken.ensures.fault c.requires.ready.fine) stands,
+      open_sound (queues_of g.K.Sink g.N.Sink g.R.Sink c.args.self.now.output c.args.writer.now c.args.notes.now c.args.rejects.now) c.requires.unfailed,
     )
 
 pub returns-in_default-message : goal.returns-in_default-message
@@ -57,7 +57,7 @@ returns-in_default-message g c =
       within = feeds.within;
       some = search rules;
       goes_on = record {
-        onward = λ first bytes stands. held_stands c.args.checker.now first bytes c.args.rest.now c.in_ok-taken.taken.used c.in_ok-taken.taken.whole (carry_of g.K.Sink g.N.Sink c.args.self.now c.args.writer.now c.args.notes.now) c.feed.new.self c.requires.ready.cut feeds part stands;
+        onward = λ first bytes stands. held_stands c.args.checker.now first bytes c.args.rest.now c.in_ok-taken.taken.used c.in_ok-taken.taken.whole (carry_of g.K.Sink g.N.Sink g.R.Sink c.args.self.now c.args.writer.now c.args.notes.now c.args.rejects.now) c.feed.new.self c.requires.ready.cut feeds part stands;
         ready = record { fits = c.requires.ready.fits; fine = feeds.fine.1; cut = feeds.cut ∙ c.requires.ready.cut; short = rw feeds.cut c.requires.ready.short; part = part };
         unfailed = c.requires.unfailed;
         few = omega arith;
@@ -74,11 +74,11 @@ returns-in_err-add-2 g c =
     let bytes_are = c.in-Some-message.ensures.bytes in
     err_exit _ _ (PassesBy _ _ _ _) c.from_residual-in_err-add-2.ensures.1 (
       λ first bytes stands.
-          add_halts c.args.checker.now first bytes (take used rest) (drop used rest) rest c.in-Some-message.message.now (carry_of g.K.Sink g.N.Sink c.args.self.now c.args.writer.now c.args.notes.now) (queues_of g.K.Sink g.N.Sink c.add-2.new.self c.add-2.new.writer c.add-2.new.notes) c.add-2.new.self.counter
+          add_halts c.args.checker.now first bytes (take used rest) (drop used rest) rest c.in-Some-message.message.now (carry_of g.K.Sink g.N.Sink g.R.Sink c.args.self.now c.args.writer.now c.args.notes.now c.args.rejects.now) (queues_of g.K.Sink g.N.Sink g.R.Sink c.add-2.new.self c.add-2.new.writer c.add-2.new.notes c.add-2.new.rejects) c.add-2.new.self.counter
           c.in_err-add-2.field-0.0 (sym (take-append-drop used rest)) (bytes_are ∙ feeds.held)
           (subst (λ (u : Cut). IsMessage u c.in-Some-message.message.now) (feeds.cut ∙ c.requires.ready.cut) (subst (IsMessage c.feed.new.self.cut) (sym bytes_are) message.1))
           c.requires.unfailed c.requires.due c.in_err-add-2.ensures.told stands,
-      added_sound c.args.checker.now _ c.in-Some-message.message.now (queues_of g.K.Sink g.N.Sink c.args.self.now.output c.args.writer.now c.args.notes.now) (queues_of g.K.Sink g.N.Sink c.add-2.new.self c.add-2.new.writer c.add-2.new.notes) c.args.self.now.output.counter c.add-2.new.self.counter c.in_err-add-2.field-0.0 c.requires.unfailed c.in_err-add-2.ensures.told,
+      added_sound c.args.checker.now _ c.in-Some-message.message.now (queues_of g.K.Sink g.N.Sink g.R.Sink c.args.self.now.output c.args.writer.now c.args.notes.now c.args.rejects.now) (queues_of g.K.Sink g.N.Sink g.R.Sink c.add-2.new.self c.add-2.new.writer c.add-2.new.notes c.add-2.new.rejects) c.args.self.now.output.counter c.add-2.new.self.counter c.in_err-add-2.field-0.0 c.requires.unfailed c.in_err-add-2.ensures.told,
     )
 
 pub returns : goal.returns
@@ -94,8 +94,8 @@ returns g c =
       within = feeds.within;
       some = some;
       goes_on = record {
-        onward = λ first bytes stands. message_stands c.args.checker.now first bytes (take used rest) c.in-Some-message.message.now (carry_of g.K.Sink g.N.Sink c.args.self.now c.args.writer.now c.args.notes.now)
-            (carry_of g.K.Sink g.N.Sink (record c.args.self.now { room = c.add-2.new.room; framer = c.next.new.self; output = c.add-2.new.self }) c.add-2.new.writer c.add-2.new.notes)
+        onward = λ first bytes stands. message_stands c.args.checker.now first bytes (take used rest) c.in-Some-message.message.now (carry_of g.K.Sink g.N.Sink g.R.Sink c.args.self.now c.args.writer.now c.args.notes.now c.args.rejects.now)
+            (carry_of g.K.Sink g.N.Sink g.R.Sink (record c.args.self.now { room = c.add-2.new.room; framer = c.next.new.self; output = c.add-2.new.self }) c.add-2.new.writer c.add-2.new.notes c.add-2.new.rejects)
             (bytes_are ∙ feeds.held)
             (subst (λ (u : Cut). IsMessage u c.in-Some-message.message.now) (feeds.cut ∙ c.requires.ready.cut) (subst (IsMessage c.feed.new.self.cut) (sym bytes_are) message.1)) (ap (λ (f : Framing). f.held) (c.next.ensures.whole message)) c.requires.due added.0 stands;
         ready = search rules;
