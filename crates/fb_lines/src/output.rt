@@ -81,7 +81,14 @@ impl<A: Allocator> Output<A> {
     {
         if let Course::Brief = checker.course() {
             return match checker.report(room, &mut checker.metered(message)) {
-                Ok(report) => self.add_yes(checker.mode(), message, &report, writer, notes, rejects),
+                Ok(report) => self.add_yes(
+                    checker.mode(),
+                    message,
+                    &report,
+                    writer,
+                    notes,
+                    rejects,
+                ),
                 Err(fault) => self.add_no(checker, message, fault, writer, notes, rejects),
             };
         }
@@ -110,7 +117,14 @@ impl<A: Allocator> Output<A> {
     {
         if let Course::BriefStrictly = checker.course() {
             return match checker.report_strictly(room, checker.metered(message)) {
-                Ok(report) => self.add_yes(checker.mode(), message, &report, writer, notes, rejects),
+                Ok(report) => self.add_yes(
+                    checker.mode(),
+                    message,
+                    &report,
+                    writer,
+                    notes,
+                    rejects,
+                ),
                 Err(fault) => self.add_no(checker, message, fault, writer, notes, rejects),
             };
         }
@@ -358,7 +372,12 @@ impl<A: Allocator> Output<A> {
     /// Writes what waits where a message is told and much waits for the notes or the rejects: first for the writer. A write
     /// that failed is answered.
     #[inline(always)]
-    fn settle<K: Sink, N: Sink, R: Sink>(&mut self, writer: &mut K, notes: &mut N, rejects: &mut R) -> Result<(), RunFault>
+    fn settle<K: Sink, N: Sink, R: Sink>(
+        &mut self,
+        writer: &mut K,
+        notes: &mut N,
+        rejects: &mut R,
+    ) -> Result<(), RunFault>
         requires unfailed { self.old.notes.written.failed ≡ false }
         requires unfailed_rejects { self.old.rejects.written.failed ≡ false }
         ensures puts { PutsAll silent (queues_of K.Sink N.Sink R.Sink self.old writer.old notes.old rejects.old) (queues_of K.Sink N.Sink R.Sink self.new writer.new notes.new rejects.new) }
@@ -367,7 +386,8 @@ impl<A: Allocator> Output<A> {
         ensures few { OnOk result (length self.new.rejects.bytes.items < 65536) }
         ensures counted { self.new.counter ≡ self.old.counter }
     {
-        let much = self.notes.bytes.len() >= MOST_WAITING || self.rejects.bytes.len() >= MOST_WAITING;
+        let much = self.notes.bytes.len() >= MOST_WAITING
+            || self.rejects.bytes.len() >= MOST_WAITING;
         if self.out.written.failed || much {
             return self.flush(writer, notes, rejects);
         }
@@ -375,7 +395,12 @@ impl<A: Allocator> Output<A> {
     }
 
     /// Writes what waits, first for the writer, then for the notes, and then for the rejects.
-    pub fn flush<K: Sink, N: Sink, R: Sink>(&mut self, writer: &mut K, notes: &mut N, rejects: &mut R) -> Result<(), RunFault>
+    pub fn flush<K: Sink, N: Sink, R: Sink>(
+        &mut self,
+        writer: &mut K,
+        notes: &mut N,
+        rejects: &mut R,
+    ) -> Result<(), RunFault>
         requires sound { AreSound (queues_of K.Sink N.Sink R.Sink self.old writer.old notes.old rejects.old) }
         ensures puts { PutsAll silent (queues_of K.Sink N.Sink R.Sink self.old writer.old notes.old rejects.old) (queues_of K.Sink N.Sink R.Sink self.new writer.new notes.new rejects.new) }
         ensures so { AreSo (queues_of K.Sink N.Sink R.Sink self.new writer.new notes.new rejects.new) result }

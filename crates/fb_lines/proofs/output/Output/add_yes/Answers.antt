@@ -30,7 +30,7 @@ returns-clause-told g c keeps =
     let kept = ap (λ (p : Pending g.row.A.Denot). behind now.rejects.bytes.items p.written (writer_of g.R.Sink c.args.rejects.now)) alike in
     let held = held_of now in
     let waits = says_waits c.args.mode IsIt c.args.message.now verdict keeps _ _ (held_of old) held says
-        (ap (λ (p : Pending g.row.A.Denot). p.bytes.items) alike ∙ sym (append-nil old.rejects.bytes.items)) in
+    (ap (λ (p : Pending g.row.A.Denot). p.bytes.items) alike ∙ sym (append-nil old.rejects.bytes.items)) in
     waits_told c.args.mode IsIt c.args.message.now verdict keeps (queues_of g.K.Sink g.N.Sink g.R.Sink old c.args.writer.now c.args.notes.now c.args.rejects.now)
     (queues_of g.K.Sink g.N.Sink g.R.Sink now c.match-mode.writer c.args.notes.now c.args.rejects.now)
     (queues_of g.K.Sink g.N.Sink g.R.Sink c.settle.new.self c.settle.new.writer c.settle.new.notes c.settle.new.rejects) held waits noted kept c.settle.ensures.puts
