@@ -136,7 +136,8 @@ fn present(window: &Window<'_>, at: u64, slot: u16, place: u64, kind: Kind) -> R
 pub fn spot_of(window: &Window<'_>, at: u64, field: &FieldView<'_>) -> Result<Spot, Changed>
     requires short { length window.now < 2 ^ 31 }
     requires within { at + 4 ≤ length window.now }
-    ensures { MatchResult result (λ q. q ≡ field_spot window.now at (live_of_view field.now)) (λ _. HasVtable window.now at → IfSome (field_place window.now at (field.now).slot) (λ p. IsReadable window.now at (field.now).slot p (field.now).kind) → ⊥) }
+    ensures { MatchResult result (λ q. q ≡ field_spot window.now at (live_of_view field.now))
+        (λ _. HasVtable window.now at → IfSome (field_place window.now at (field.now).slot) (λ p. IsReadable window.now at (field.now).slot p (field.now).kind) → ⊥) }
 {
     match place_of(window, at, field.slot)? {
         None => Ok(absent(field)),

@@ -124,7 +124,8 @@ fn union_of_element(
     requires short { length window.now < 2 ^ 31 }
     requires count { at + 4 ≤ length window.now }
     requires types { types ≤ length window.now }
-    ensures { MatchResult result (λ q. q ≡ if_element (word window.now at 4) j (AtUnion union (word window.now (types + j) 1) (at + 4 + 4 * j))) (λ _. types + word window.now at 4 ≤ length window.now → ⊥) }
+    ensures { MatchResult result (λ q. q ≡ if_element (word window.now at 4) j (AtUnion union (word window.now (types + j) 1) (at + 4 + 4 * j)))
+        (λ _. types + word window.now at 4 ≤ length window.now → ⊥) }
 {
     let Some(place) = place_of_element(window, at, 4, j) else {
         return Ok(Spot::AtNoElement);

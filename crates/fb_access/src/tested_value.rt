@@ -78,7 +78,8 @@ fn array_at<'b>(at: u64, n: u16, size: u32) -> Seen<'b>
 fn text_at<'b>(window: &Window<'b>, at: u64) -> Result<Seen<'b>, Changed>
     requires short { length window.now < 2 ^ 31 }
     requires within { at + 4 ≤ length window.now }
-    ensures { MatchResult result (λ s. (shown s.answer ≡ text (bytes_at window.now (at + 4) (word window.now at 4))) × (s.extent ≡ Some (elements_at window.now at 1)) × (at + 4 + word window.now at 4 * 1 ≤ length window.now)) (λ _. IsCounted window.now at 1 → ⊥) }
+    ensures { MatchResult result (λ s. (shown s.answer ≡ text (bytes_at window.now (at + 4) (word window.now at 4))) × (s.extent ≡ Some (elements_at window.now at 1))
+        × (at + 4 + word window.now at 4 * 1 ≤ length window.now)) (λ _. IsCounted window.now at 1 → ⊥) }
 {
     let size = u64::from(count_of(window, at, 1)?);
     let at = at + 4;
@@ -92,7 +93,8 @@ fn text_at<'b>(window: &Window<'b>, at: u64) -> Result<Seen<'b>, Changed>
 fn vector_at<'b>(window: &Window<'b>, at: u64, size: u32) -> Result<Seen<'b>, Changed>
     requires short { length window.now < 2 ^ 31 }
     requires within { at + 4 ≤ length window.now }
-    ensures { MatchResult result (λ s. (shown s.answer ≡ vector (word window.now at 4)) × (s.extent ≡ Some (elements_at window.now at size)) × (at + 4 + word window.now at 4 * size ≤ length window.now)) (λ _. IsCounted window.now at size → ⊥) }
+    ensures { MatchResult result (λ s. (shown s.answer ≡ vector (word window.now at 4)) × (s.extent ≡ Some (elements_at window.now at size))
+        × (at + 4 + word window.now at 4 * size ≤ length window.now)) (λ _. IsCounted window.now at size → ⊥) }
 {
     let count = count_of(window, at, size)?;
     Ok(Seen {

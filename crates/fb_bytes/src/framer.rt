@@ -1,6 +1,7 @@
 //! A framer holds the message that is coming, however the stream is cut into pieces.
 
-ghost use Rattle.std.specs.Prelude.{IfOk, IfErr, MatchResult, IfSome, IsSome, OnOk, OnErr, IsOk, IsTrue, IsErrOf, Ok, Err, ◌≡◌, ◌↔◌, ◌⊎◌, ◌+◌, ◌-◌, ◌<◌, ◌≤◌, ℕ, true, false, [], ◌++◌, length, take, drop, min};
+ghost use Rattle.std.specs.Prelude.{IfOk, IfErr, MatchResult, IfSome, IsSome, OnOk, OnErr, IsOk, IsTrue, IsErrOf, Ok, Err, ◌≡◌};
+ghost use Rattle.std.specs.Prelude.{◌↔◌, ◌⊎◌, ◌+◌, ◌-◌, ◌<◌, ◌≤◌, ℕ, true, false, [], ◌++◌, length, take, drop, min};
 ghost use Rattle.fb_bytes.specs.Messages.{declared, little, IsMessage, IsOversize};
 ghost use Rattle.fb_bytes.specs.Framing.{Framing, IsHeld, Feeds, FeedFails, held_bytes};
 

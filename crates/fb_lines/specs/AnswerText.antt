@@ -3,7 +3,8 @@ use Rattle.std.specs.Prelude.{ℕ, List, [], ◌∷◌, ◌++◌, Option, Some, 
 use Rattle.std.specs.{Fmt.signed_decimal, List.flat_map}
 use Rattle.hex.specs.Hex.{encode_lower}
 use Rattle.json.specs.Print.{escape_byte}
-use Rattle.fb_lines.specs.declared.{value_text.Spelling.Spelling, value_text.Spelling.TheVariants.Quoted, value_text.Spelling.TheVariants.Json, value_text.Spelling.TheVariants.Digits, value_text.Spelling.TheVariants.Doubled}
+use Rattle.fb_lines.specs.declared.{value_text.Spelling.Spelling, value_text.Spelling.TheVariants.Quoted}
+use Rattle.fb_lines.specs.declared.{value_text.Spelling.TheVariants.Json, value_text.Spelling.TheVariants.Digits, value_text.Spelling.TheVariants.Doubled}
 use Rattle.fb_access.specs.declared.answer.Answer.{Answer}
 use Rattle.fb_access.specs.Denotes.{Shown, shown, nothing, no_element, other_member, truth, signed, unsigned, float, default_float, default_double, text, structure, vector, table, union}
 

@@ -1,5 +1,6 @@
 -- Lines of JSON (RFC 8259): each is one value, as the kit's definition of such reads it, and a newline.
-use Rattle.std.specs.Prelude.{◌≡◌, ℕ, ◌+◌, ◌≤◌, nat_lt, Bool, true, false, if◌then◌else◌, List, [], ◌∷◌, ◌++◌, Option, Some, None, codes, decimal, drop, from_bits, length, take, option_map, option_and_then, slice_get}
+use Rattle.std.specs.Prelude.{◌≡◌, ℕ, ◌+◌, ◌≤◌, nat_lt, Bool, true, false, if◌then◌else◌, List, [], ◌∷◌, ◌++◌, Option, Some}
+use Rattle.std.specs.Prelude.{None, codes, decimal, drop, from_bits, length, take, option_map, option_and_then, slice_get}
 use Rattle.std.specs.{Fmt.signed_decimal, Str.is_utf8}
 use Rattle.std.specs.Float.{Float, Format, binary32, binary64, nan, inf, fin}
 use Rattle.hex.specs.Hex.{encode_lower}

@@ -33,7 +33,8 @@ pub record JsonLines : Type 0 where
   pub yes : json_yes None seventh counts no_members ≡ codes "{\"message\":7,\"begin\":308,\"bytes\":64,\"ok\":true,\"tables\":1,\"depth\":1,\"reads\":8}\n"
   pub values : IsYes None first counts (codes "hp" ∷ codes "name" ∷ []) (signed (pos 300) ∷ text (codes "Orc") ∷ [])
       (codes "{\"message\":1,\"begin\":0,\"bytes\":28,\"ok\":true,\"tables\":1,\"depth\":1,\"reads\":8,\"values\":{\"hp\":300,\"name\":\"Orc\"}}\n")
-  pub of_a_file : json_yes (Some (codes "a b.bin")) seventh counts no_members ≡ codes "{\"file\":\"a b.bin\",\"message\":7,\"begin\":308,\"bytes\":64,\"ok\":true,\"tables\":1,\"depth\":1,\"reads\":8}\n"
+  pub of_a_file : json_yes (Some (codes "a b.bin")) seventh counts no_members
+      ≡ codes "{\"file\":\"a b.bin\",\"message\":7,\"begin\":308,\"bytes\":64,\"ok\":true,\"tables\":1,\"depth\":1,\"reads\":8}\n"
   pub no : json_no None seventh deliveries unended (Some (codes "items[1]@Note"))
       ≡ codes "{\"message\":7,\"begin\":308,\"bytes\":64,\"ok\":false,\"code\":\"V10\",\"reason\":\"NoTerminator\",\"at\":314,\"object\":\"post.Delivery\",\"field\":\"items\",\"reads\":63,\"place\":\"items[1]@Note\"}\n"
   pub no_field : json_no None first deliveries (record unended { field = None; reason = Misaligned }) None

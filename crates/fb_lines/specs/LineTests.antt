@@ -19,7 +19,8 @@ pub record Lines : Type 0 where
   pub values : verdict_line 12 (Ok (record { report = counts; answers = signed (negsuc 6) ∷ text [] ∷ nothing ∷ [] })) ≡ codes "12 ok tables=3 depth=2 reads=10 -7 \"\" absent\n"
   pub no : verdict_line 5 (Err (record { fault = unended; place = None })) ≡ codes "5 bad V10 NoTerminator at=314 object=1 field=6 reads=63\n"
   pub no_field : verdict_line 100 (Err (record { fault = record unended { field = None; reason = Misaligned }; place = None })) ≡ codes "100 bad V3 Misaligned at=314 object=1 field=- reads=63\n"
-  pub place : verdict_line 5 (Err (record { fault = unended; place = Some (codes "in tags[0] [Parcel.tags]") })) ≡ codes "5 bad V10 NoTerminator at=314 object=1 field=6 reads=63 in tags[0] [Parcel.tags]\n"
+  pub place : verdict_line 5 (Err (record { fault = unended; place = Some (codes "in tags[0] [Parcel.tags]") }))
+      ≡ codes "5 bad V10 NoTerminator at=314 object=1 field=6 reads=63 in tags[0] [Parcel.tags]\n"
 
 -- a value of each kind, with its text and its JSON
 abbrev pub of_each_kind : List (Shown × List ℕ × List ℕ)

@@ -4,7 +4,8 @@ ghost use Rattle.std.specs.Prelude.{IfOk, IfErr, IfSome, None, OnOk, IsTrue, ◌
 ghost use Rattle.fb_access.specs.Denotes.{shown};
 ghost use Rattle.fb_lines.specs.declared.options.Places.TheVariants.{Words};
 ghost use Rattle.fb_lines.specs.declared.checker.Course.TheVariants.{Brief, BriefStrictly};
-ghost use Rattle.fb_lines.specs.Job.{AreAnswers, HasRoom, IsChecked, IsVerdict, PathsFit, Serves, Verdict, VerifiesBy, asked_of, brief_verdict, buffer_in, course_by, course_of, cut_of, is_brief, job_of, limits_for, order_of, place_told, skip_of, start_of, verdict_beside, verdict_of};
+ghost use Rattle.fb_lines.specs.Job.{AreAnswers, HasRoom, IsChecked, IsVerdict, PathsFit, Serves, Verdict, VerifiesBy, asked_of, brief_verdict, buffer_in, course_by};
+ghost use Rattle.fb_lines.specs.Job.{course_of, cut_of, is_brief, job_of, limits_for, order_of, place_told, skip_of, start_of, verdict_beside, verdict_of};
 ghost use Rattle.fb_strict.specs.AsAsked.{StopsBy, StopsAlongBy};
 ghost use Rattle.fb_schema.specs.Rows.{Rows};
 ghost use Rattle.fb_lines.specs.{Line.front_in, Spot.IsDue, Spot.at_first};

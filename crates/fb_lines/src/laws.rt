@@ -2,7 +2,8 @@
 //! theorems.
 
 ghost use Rattle.fb_schema.specs.Rows.{Rows};
-ghost use Rattle.fb_lines.specs.{FilterLaws.PassesAgain, JobTests.Buffers, JsonLaws.DefaultsReadBack, JsonLaws.FloatsReadBack, JsonLaws.NoReadsBack, JsonLaws.YesReadsBack, JsonSums.Summaries, RejectLaws.RejectsPart, StrictLaws.StrictIsOk};
+ghost use Rattle.fb_lines.specs.{FilterLaws.PassesAgain, JobTests.Buffers, JsonLaws.DefaultsReadBack, JsonLaws.FloatsReadBack};
+ghost use Rattle.fb_lines.specs.{JsonLaws.NoReadsBack, JsonLaws.YesReadsBack, JsonSums.Summaries, RejectLaws.RejectsPart, StrictLaws.StrictIsOk};
 ghost use Rattle.fb_lines.specs.JsonTests.{JsonLines, JsonTexts, JsonValues};
 ghost use Rattle.fb_lines.specs.LineTests.{Lines, Names, Values, Texts};
 ghost use Rattle.fb_lines.specs.declared.options.Options.{Options};

@@ -177,9 +177,12 @@ impl<A: Allocator> Output<A> {
         requires few { count_of self.old.counter < 2 ^ 63 }
         requires short { length message.now < 2 ^ 31 }
         requires unfailed { AreOpen (queues_of K.Sink N.Sink R.Sink self.old writer.old notes.old rejects.old) }
-        ensures { AddsOr (Tells checker.now.mode checker.now.rejects (IsLine checker.now (spot_of (past_all checker.now self.old.counter) message.now) (brief_verdict (Err fault))) message.now (brief_verdict (Err fault))
-            (queues_of K.Sink N.Sink R.Sink self.old writer.old notes.old rejects.old) (queues_of K.Sink N.Sink R.Sink self.new writer.new notes.new rejects.new) × (self.new.counter ≡ tally_with message.now (brief_verdict (Err fault)) self.old.counter))
-            (queues_of K.Sink N.Sink R.Sink self.old writer.old notes.old rejects.old) (queues_of K.Sink N.Sink R.Sink self.new writer.new notes.new rejects.new) self.old.counter self.new.counter result }
+        ensures { AddsOr (Tells checker.now.mode checker.now.rejects
+            (IsLine checker.now (spot_of (past_all checker.now self.old.counter) message.now) (brief_verdict (Err fault))) message.now (brief_verdict (Err fault))
+            (queues_of K.Sink N.Sink R.Sink self.old writer.old notes.old rejects.old) (queues_of K.Sink N.Sink R.Sink self.new writer.new notes.new rejects.new)
+            × (self.new.counter ≡ tally_with message.now (brief_verdict (Err fault)) self.old.counter))
+            (queues_of K.Sink N.Sink R.Sink self.old writer.old notes.old rejects.old)
+            (queues_of K.Sink N.Sink R.Sink self.new writer.new notes.new rejects.new) self.old.counter self.new.counter result }
     {
         let verdict = Err(Wrong { fault, place: None });
         let spot = self.counter.spot(checker.begin(), message);
@@ -297,7 +300,8 @@ impl<A: Allocator> Output<A> {
         writer: &mut K,
     ) -> Result<(), AllocError>
         requires begin { begin.now ≡ label_text checker.now.label }
-        ensures ok { OnOk result (PutsSome (IsLineIn checker.now.form checker.now spot.now (verdict_of verdict.now)) (queue_of K.Sink self.old.out writer.old) (queue_of K.Sink self.new.out writer.new)) }
+        ensures ok { OnOk result (PutsSome (IsLineIn checker.now.form checker.now spot.now (verdict_of verdict.now))
+            (queue_of K.Sink self.old.out writer.old) (queue_of K.Sink self.new.out writer.new)) }
         ensures err { OnErr result (queue_of K.Sink self.new.out writer.new ≡ queue_of K.Sink self.old.out writer.old) }
         ensures notes { self.new.notes ≡ self.old.notes }
         ensures rejects { self.new.rejects ≡ self.old.rejects }

@@ -78,7 +78,8 @@ fn put_json<A: Allocator, K: Sink>(
     paths: &[AskedPath],
     answers: &[Answer<'_>],
 )
-    ensures { PutsSome (λ text. (values : Members) × IsValuesMember (map (λ p. p.text) paths.now) (map shown answers.now) values × (text ≡ following values ++ codes "\n")) (queue_of K.Sink out.old sink.old) (queue_of K.Sink out.new sink.new) }
+    ensures { PutsSome (λ text. (values : Members) × IsValuesMember (map (λ p. p.text) paths.now) (map shown answers.now) values × (text ≡ following values ++ codes "\n"))
+        (queue_of K.Sink out.old sink.old) (queue_of K.Sink out.new sink.new) }
 {
     if paths.is_empty() {
         out.put(sink, b"}\n");
@@ -96,7 +97,8 @@ fn put_members<A: Allocator, K: Sink>(
     paths: &[AskedPath],
     answers: &[Answer<'_>],
 )
-    ensures { PutsSome (λ text. (values : Members) × AreValues (map (λ p. p.text) paths.now) (map shown answers.now) values × (text ≡ members_text false values)) (queue_of K.Sink out.old sink.old) (queue_of K.Sink out.new sink.new) }
+    ensures { PutsSome (λ text. (values : Members) × AreValues (map (λ p. p.text) paths.now) (map shown answers.now) values × (text ≡ members_text false values))
+        (queue_of K.Sink out.old sink.old) (queue_of K.Sink out.new sink.new) }
 {
     for index in 0..paths.len().min(answers.len()) {
         put_key(out, sink, index > 0, paths[index].text());

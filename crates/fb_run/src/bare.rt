@@ -37,7 +37,8 @@ pub fn pass_bare<
     requires piece { length piece.old.items ≡ PIECE }
     requires reads { S.calls reader.old + turns < 2 ^ 100 }
     requires leave { HasLeave S.Input (all_ends S.Input K.Sink N.Sink R.Sink reader.old writer.old notes.old rejects.old) (IsBarePrompt checker.now) }
-    ensures { Runs true checker.now (all_ends S.Input K.Sink N.Sink R.Sink reader.old writer.old notes.old rejects.old) (all_ends S.Input K.Sink N.Sink R.Sink reader.new writer.new notes.new rejects.new) turns output.new.counter result }
+    ensures { Runs true checker.now (all_ends S.Input K.Sink N.Sink R.Sink reader.old writer.old notes.old rejects.old)
+        (all_ends S.Input K.Sink N.Sink R.Sink reader.new writer.new notes.new rejects.new) turns output.new.counter result }
 {
     let whole = read_whole(alloc, reader, piece, writer, notes, checker, turns)?;
     output.add(checker, room, whole.as_slice(), writer, notes, rejects)?;

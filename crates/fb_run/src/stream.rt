@@ -69,7 +69,8 @@ impl<A: Allocator> Carried<A> {
         requires few { S.calls reader.old < 2 ^ 64 }
         requires leave { HasLeave S.Input (all_ends S.Input K.Sink N.Sink R.Sink reader.old writer.old notes.old rejects.old) (IsPrompt checker.now) }
 
-        ensures { Runs checker.now.bare checker.now (all_ends S.Input K.Sink N.Sink R.Sink reader.old writer.old notes.old rejects.old) (all_ends S.Input K.Sink N.Sink R.Sink reader.new writer.new notes.new rejects.new) turns self.new.output.counter result }
+        ensures { Runs checker.now.bare checker.now (all_ends S.Input K.Sink N.Sink R.Sink reader.old writer.old notes.old rejects.old)
+            (all_ends S.Input K.Sink N.Sink R.Sink reader.new writer.new notes.new rejects.new) turns self.new.output.counter result }
     {
         if checker.is_bare() {
             return pass_bare(
@@ -121,7 +122,8 @@ impl<A: Allocator> Carried<A> {
         requires unfailed { AreOpen (queues_of K.Sink N.Sink R.Sink self.old.output writer.old notes.old rejects.old) }
         requires piece { length piece.now ≤ PIECE }
         requires few { count_of self.old.output.counter < 2 ^ 62 }
-        ensures { WritesBy checker.now piece.now (carry_of K.Sink N.Sink R.Sink self.old writer.old notes.old rejects.old) (carry_of K.Sink N.Sink R.Sink self.new writer.new notes.new rejects.new) result }
+        ensures { WritesBy checker.now piece.now (carry_of K.Sink N.Sink R.Sink self.old writer.old notes.old rejects.old)
+            (carry_of K.Sink N.Sink R.Sink self.new writer.new notes.new rejects.new) result }
     {
         let passed = self.pass_messages(checker, piece, writer, notes, rejects);
         self.output.flush(writer, notes, rejects)?;
@@ -142,7 +144,8 @@ impl<A: Allocator> Carried<A> {
         requires unfailed { AreOpen (queues_of K.Sink N.Sink R.Sink self.old.output writer.old notes.old rejects.old) }
         requires piece { length piece.now ≤ PIECE }
         requires few { count_of self.old.output.counter < 2 ^ 62 }
-        ensures { PassesAllBy checker.now piece.now (carry_of K.Sink N.Sink R.Sink self.old writer.old notes.old rejects.old) (carry_of K.Sink N.Sink R.Sink self.new writer.new notes.new rejects.new) result }
+        ensures { PassesAllBy checker.now piece.now (carry_of K.Sink N.Sink R.Sink self.old writer.old notes.old rejects.old)
+            (carry_of K.Sink N.Sink R.Sink self.new writer.new notes.new rejects.new) result }
     {
         let mut rest = piece;
         let mut due = 0;
@@ -176,7 +179,8 @@ impl<A: Allocator> Carried<A> {
         requires few { count_of self.old.output.counter < 2 ^ 63 }
         requires due { IsDue checker.now (past_all checker.now self.old.output.counter) }
 
-        ensures { PassesBy checker.now rest.now (carry_of K.Sink N.Sink R.Sink self.old writer.old notes.old rejects.old) (carry_of K.Sink N.Sink R.Sink self.new writer.new notes.new rejects.new) result }
+        ensures { PassesBy checker.now rest.now (carry_of K.Sink N.Sink R.Sink self.old writer.old notes.old rejects.old)
+            (carry_of K.Sink N.Sink R.Sink self.new writer.new notes.new rejects.new) result }
     {
         if self.framer.held() == 0 {
             if let Some(message) = front_message(rest, checker.cut()) {

@@ -8,13 +8,15 @@ use Rattle.fb_schema.specs.declared.fault.Code.TheVariants.{NoSuchObject, NoSuch
 use Rattle.fb_rules.specs.{Samples.table, Reasons.reason_number}
 use Rattle.fb_rules.specs.declared.{fault.Fault.Fault, start.Ident.TheVariants.Any, start.Ident.TheVariants.Want}
 use Rattle.fb_rules.specs.declared.start.Start.TheVariants.{Bare, Prefixed}
-use Rattle.fb_rules.specs.declared.fault.Reason.TheVariants.{WrongPrefix, OutOfBuffer, Misaligned, ZeroOffset, WrongIdentifier, TooDeep, TooManyTables, BadVtable, MissingRequired, NoTerminator, LengthsDiffer, PastTable, TooManyReads, FlexContent, NotUtf8, UnknownField}
+use Rattle.fb_rules.specs.declared.fault.Reason.TheVariants.{WrongPrefix, OutOfBuffer, Misaligned, ZeroOffset, WrongIdentifier, TooDeep, TooManyTables, BadVtable}
+use Rattle.fb_rules.specs.declared.fault.Reason.TheVariants.{MissingRequired, NoTerminator, LengthsDiffer, PastTable, TooManyReads, FlexContent, NotUtf8, UnknownField}
 use Rattle.fb_access.specs.Denotes as denotes
 use Rattle.fb_access.specs.declared.path_fault.PathFault.TheVariants as path
 use Rattle.fb_access.specs.declared.step.Step.TheVariants.{Field, Element, Member}
 use Rattle.fbcheck_calls.specs.declared.{answer.Answer.Answer, answer.Verdict.Verdict, options.Options.Options, steps.PlainPath.PlainPath}
 use Rattle.fbcheck_calls.specs.declared.steps.PlainStep.{PlainStep}
-use Rattle.fbcheck_calls.specs.declared.answer.Answer.TheVariants.{Done, Good, Bad, UnknownOptions, OutOfRange, NoIdent, NoRoot, TooLong, NoSchema, NoSpan, BadStream, BadPath, NoRoom, Misfit, NotPlanned, UnmarkedBytes, NoSuchTable}
+use Rattle.fbcheck_calls.specs.declared.answer.Answer.TheVariants.{Done, Good, Bad, UnknownOptions, OutOfRange, NoIdent, NoRoot, TooLong, NoSchema}
+use Rattle.fbcheck_calls.specs.declared.answer.Answer.TheVariants.{NoSpan, BadStream, BadPath, NoRoom, Misfit, NotPlanned, UnmarkedBytes, NoSuchTable}
 use Rattle.fb_strict.specs.{Demanded.demanded, Planned.Planned}
 use Rattle.fb_strict.specs.declared.demands.Demands.{Demands}
 use Rattle.fbcheck_calls.specs.Asked.{asks_marks, checks_asked, demands_of, ident_asked, known_demands, limits_of, plan_asked, published, root_asked, start_asked}

@@ -32,7 +32,9 @@ fn found_again(
     steps: &[PlainStep],
 ) -> Result<Option<Value>, Changed>
     requires { length window.now < 2 ^ 31 }
-    ensures { MatchResult result (λ o. MatchOption o (DontFit schema.now root steps.now) (λ v. ((q : ASpot) × EndAt window.now schema.now start root steps.now q × (v ≡ value_at window.now schema.now q)) × LiesWithin (length window.now) v)) (λ _. IsOther window.now schema.now start root) }
+    ensures { MatchResult result (λ o. MatchOption o (DontFit schema.now root steps.now)
+        (λ v. ((q : ASpot) × EndAt window.now schema.now start root steps.now q × (v ≡ value_at window.now schema.now q)) × LiesWithin (length window.now) v))
+        (λ _. IsOther window.now schema.now start root) }
 {
     schema.lawful();
     let mut spot = first_spot(window, schema, start, root)?;
@@ -66,7 +68,8 @@ fn tell_again(
 ) -> Result<(), u64>
     requires short { length window.now < 2 ^ 31 }
     requires fit { AllFit schema.now root paths.now }
-    ensures { MatchResult result (λ _. AreToldBelow window.now schema.now start root paths.now (length paths.now) values.old values.new) (λ place. (place < length paths.now) × AreToldBelow window.now schema.now start root paths.now place values.old values.new × IsOther window.now schema.now start root) }
+    ensures { MatchResult result (λ _. AreToldBelow window.now schema.now start root paths.now (length paths.now) values.old values.new)
+        (λ place. (place < length paths.now) × AreToldBelow window.now schema.now start root paths.now place values.old values.new × IsOther window.now schema.now start root) }
 {
     let count = paths.len().min(values.len());
     for place in 0..count {

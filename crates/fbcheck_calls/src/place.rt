@@ -53,7 +53,8 @@ fn tell_located(
 ) -> u32
     requires { IfErr found.now (λ (e : Located). e.links ≤ length links.now) }
     ensures told { verdict.new ≡ told (found_by (λ (v : Sealed). v.report) (λ (e : Located). e.fault) found.now) }
-    ensures text { MatchResult found.now (λ _. IsUntold text.old text.new written.old written.new) (λ (e : Located). IsTextTold (location_text schema.now e.fault (take e.links links.now)) text.old text.new written.new) }
+    ensures text { MatchResult found.now (λ _. IsUntold text.old text.new written.old written.new)
+        (λ (e : Located). IsTextTold (location_text schema.now e.fault (take e.links links.now)) text.old text.new written.new) }
     ensures status { result ≡ verdict.new.status }
 {
     match found {

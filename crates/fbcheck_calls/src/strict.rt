@@ -121,7 +121,8 @@ fn tell_read(
 ) -> u32
     requires { IfOk found.now (λ (v : VerifiedStrictly). AllFit (v.verified).schema (v.verified).root paths.now) }
     ensures told { verdict.new ≡ told (found_by (λ (v : VerifiedStrictly). v.report) (λ (f : Fault). f) found.now) }
-    ensures values { MatchResult found.now (λ (v : VerifiedStrictly). AreValues (v.verified).bytes (v.verified).schema (v.verified).start (v.verified).root paths.now values.new) (λ _. values.new ≡ values.old) }
+    ensures values { MatchResult found.now
+        (λ (v : VerifiedStrictly). AreValues (v.verified).bytes (v.verified).schema (v.verified).start (v.verified).root paths.now values.new) (λ _. values.new ≡ values.old) }
     ensures status { result ≡ verdict.new.status }
 {
     match found {
@@ -211,7 +212,8 @@ fn tell_located(
 ) -> u32
     requires { IfErr found.now (λ (e : Located). e.links ≤ length links.now) }
     ensures told { verdict.new ≡ told (found_by (λ (v : VerifiedStrictly). v.report) (λ (e : Located). e.fault) found.now) }
-    ensures text { MatchResult found.now (λ _. IsUntold text.old text.new written.old written.new) (λ (e : Located). IsTextTold (location_text schema.now e.fault (take e.links links.now)) text.old text.new written.new) }
+    ensures text { MatchResult found.now (λ _. IsUntold text.old text.new written.old written.new)
+        (λ (e : Located). IsTextTold (location_text schema.now e.fault (take e.links links.now)) text.old text.new written.new) }
     ensures status { result ≡ verdict.new.status }
 {
     match found {

@@ -96,7 +96,8 @@ pub fn placed(value: Value, extent: Option<Extent>) -> Value
 
 /// What stands at the end of these steps from the root table, none where they don't fit.
 fn found_at(verified: &Verified<'_, '_, '_>, steps: &[PlainStep]) -> Option<Value>
-    ensures found { IfSome result (λ v. (q : Spot) × EndAt (verified.now).bytes (verified.now).schema (verified.now).start (verified.now).root steps.now q × (v ≡ value_at (verified.now).bytes (verified.now).schema q)) }
+    ensures found { IfSome result (λ v. (q : Spot) × EndAt (verified.now).bytes (verified.now).schema (verified.now).start (verified.now).root steps.now q
+        × (v ≡ value_at (verified.now).bytes (verified.now).schema q)) }
     ensures misfit { IfNone result (DontFit (verified.now).schema (verified.now).root steps.now) }
 {
     let mut place = at_root(verified);

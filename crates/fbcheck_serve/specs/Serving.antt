@@ -1,12 +1,14 @@
 -- What the program does, from its words to its exit status.
-use Rattle.std.specs.Prelude.{◌≡◌, ℕ, ◌+◌, ◌<◌, ◌≤◌, ◌⊎◌, ◌++◌, Bool, ◌&&◌, true, false, length, if◌then◌else◌, List, [], Option, Some, None, Result, Ok, Err, Vec, String, IfSome, IsSome, codes, map, option_map, string_bytes, string_len, vec_items}
+use Rattle.std.specs.Prelude.{◌≡◌, ℕ, ◌+◌, ◌<◌, ◌≤◌, ◌⊎◌, ◌++◌, Bool, ◌&&◌, true, false, length, if◌then◌else◌, List, [], Option, Some, None}
+use Rattle.std.specs.Prelude.{Result, Ok, Err, Vec, String, IfSome, IsSome, codes, map, option_map, string_bytes, string_len, vec_items}
 use Rattle.fb_bytes.specs.Ends.{one_more}
 use Rattle.fb_rules.specs.Reasons.{reason_count}
 use Rattle.std.specs.{Borrow.Bor, Io.KnownBytes.Appends, Io.KnownBytes.Keeps, declared.alloc.AllocError.AllocError, declared.io.ErrorKind.ErrorKind}
 use Rattle.clap.specs.{Walk.Text, Faults.fault_of}
 use Rattle.fbcheck_serve.specs.Asked.{form_of}
 use Rattle.fbcheck_serve.specs.Checking.{IsIdle, IsPromptOverAsked, LacksJob, MayReadAsked}
-use Rattle.fbcheck_texts.specs.{Causes.is_unread, FaultJson.IsLineIn, FaultJson.fault_object, FaultJson.hint_object, Hints.IsHint, Hints.IsRunHint, Faults.HasFileFault, Faults.IsFile, Faults.ask_status}
+use Rattle.fbcheck_texts.specs.{Causes.is_unread, FaultJson.IsLineIn, FaultJson.fault_object, FaultJson.hint_object}
+use Rattle.fbcheck_texts.specs.{Hints.IsHint, Hints.IsRunHint, Faults.HasFileFault, Faults.IsFile, Faults.ask_status}
 use Rattle.fbcheck_texts.specs.Texts.{ask_text, file_text, list_text, run_text, stopped_text, unkept_text, unmade_text, unsummed_text, words_text}
 use Rattle.fbcheck_texts.specs.declared.{framing.By.By, framing.Manner.Manner}
 use Rattle.fbcheck_serve.specs.{Lists.AreNamed, Lists.LacksList, Names.Named}
@@ -78,7 +80,8 @@ IsNameless gives settings _ = ⊥
 
 -- what the program came to by these settings and this schema file
 abbrev pub ComesAsAsked : Maker → Folder → Option (Bor (List ℕ)) → Settings → Seen → Seen → Option Sums → Result Ending Stop → Type 0
-ComesAsAsked maker folder file settings before after sums (Ok (Checked tally manner)) = ChecksAsAsked maker file settings before.ends after.ends sums tally (Ok tt) × (manner.most_bad ≡ settings.most_bad)
+ComesAsAsked maker folder file settings before after sums (Ok (Checked tally manner)) = ChecksAsAsked maker file settings before.ends after.ends sums tally (Ok tt)
+    × (manner.most_bad ≡ settings.most_bad)
 ComesAsAsked maker folder file settings before after sums (Err (stop.Run fault tally manner)) = ChecksAsAsked maker file settings before.ends after.ends sums tally (Err fault)
 ComesAsAsked maker folder file settings before after sums (Ok (Passed course by)) = PassesAsAsked maker folder file settings before after sums course (Ok tt)
 ComesAsAsked maker folder file settings before after sums (Err (stop.Halted fault)) = (course : Course) × PassesAsAsked maker folder file settings before after sums course (Err fault)

@@ -3,7 +3,8 @@
 ghost use Rattle.std.specs.Prelude.{Err, IfErr, IfOk, OnErr, [], length, ◌≡◌, ◌⊎◌, ◌+◌, ◌<◌, ◌≤◌, ◌^◌};
 ghost use Rattle.fb_rules.specs.Reasons.{reason_count};
 ghost use Rattle.fbcheck_words.specs.Ranges.{AreInRange};
-ghost use Rattle.fbcheck_serve.specs.Checking.{EndsChecked, IsChecked, IsCheckedBeside, IsPromptAmongAsked, IsPromptAmongHeaded, IsPromptAsAsked, IsPromptHeaded, IsUnasked, MayReadHeaded, MayReadNamed};
+ghost use Rattle.fbcheck_serve.specs.Checking.{EndsChecked, IsChecked, IsCheckedBeside, IsPromptAmongAsked, IsPromptAmongHeaded};
+ghost use Rattle.fbcheck_serve.specs.Checking.{IsPromptAsAsked, IsPromptHeaded, IsUnasked, MayReadHeaded, MayReadNamed};
 ghost use Rattle.fbcheck_serve.specs.Heads.{RunsBehindHead, ServesBehindHead, head_of};
 ghost use Rattle.fbcheck_serve.specs.Keeping.{IsCheckedKeeping, IsServedKeeping, maker_of};
 ghost use Rattle.fbcheck_serve.specs.Inputs.{all_seen, folder_of, seen_of};
@@ -202,10 +203,12 @@ pub fn check_files<F: Files<K, N> + Makes, S: Input<K, N> + Explains, K: Sink, N
 ) -> Result<Kept<Passed>, Unbegun>
     requires ranges { AreInRange settings.now }
     requires few { S.calls reader.old < 2 ^ 64 }
-    requires leave { HasLeave S.Input (ends_of S.Input K.Sink N.Sink reader.old writer.old notes.old) (IsPromptAmongAsked (folder_of F.Files F.Opened.Input F.Opened.Explains files.now) schema_bytes settings.now names.now) }
+    requires leave { HasLeave S.Input (ends_of S.Input K.Sink N.Sink reader.old writer.old notes.old)
+        (IsPromptAmongAsked (folder_of F.Files F.Opened.Input F.Opened.Explains files.now) schema_bytes settings.now names.now) }
     requires files { MayReadNamed (folder_of F.Files F.Opened.Input F.Opened.Explains files.now) schema_bytes settings.now names.now (ends_of S.Input K.Sink N.Sink reader.old writer.old notes.old) }
 
-    ensures served { IsServedKeeping (maker_of F.Makes F.Made.Sink files.now) (folder_of F.Files F.Opened.Input F.Opened.Explains files.now) schema_bytes.entry settings.now names.now (seen_of S.Input S.Explains K.Sink N.Sink reader.old writer.old notes.old)
+    ensures served { IsServedKeeping (maker_of F.Makes F.Made.Sink files.now) (folder_of F.Files F.Opened.Input F.Opened.Explains files.now) schema_bytes.entry settings.now names.now
+        (seen_of S.Input S.Explains K.Sink N.Sink reader.old writer.old notes.old)
         (seen_of S.Input S.Explains K.Sink N.Sink reader.new writer.new notes.new) result }
     ensures places { IfOk result (λ kept. length kept.what.course.tally.reasons ≡ reason_count) }
     ensures unread { OnErr result (reader.new ≡ reader.old) }
@@ -275,7 +278,8 @@ fn pass_asked<F: Files<K, N>, S: Input<K, N> + Explains, K: Sink, N: Sink, R: Si
         (all_ends S.Input K.Sink N.Sink R.Sink reader.old writer.old notes.old rejects.old) }
 
     ensures served { ServesBehindHead (folder_of F.Files F.Opened.Input F.Opened.Explains files.now) (job_of asked.old.schema asked.old.options) names.now
-        (all_seen S.Input S.Explains K.Sink N.Sink R.Sink reader.old writer.old notes.old rejects.old) (all_seen S.Input S.Explains K.Sink N.Sink R.Sink reader.new writer.new notes.new rejects.new) result.course result.end }
+        (all_seen S.Input S.Explains K.Sink N.Sink R.Sink reader.old writer.old notes.old rejects.old)
+        (all_seen S.Input S.Explains K.Sink N.Sink R.Sink reader.new writer.new notes.new rejects.new) result.course result.end }
     ensures places { length result.course.tally.reasons ≡ reason_count }
     ensures turns { S.calls reader.new ≤ S.calls reader.old + MOST_TURNS }
 {

@@ -6,7 +6,8 @@ ghost use Rattle.fb_lines.specs.Ends.{all_outs, writer_of};
 ghost use Rattle.fb_run.specs.Leave.{HasLeave, all_ends};
 ghost use Rattle.fb_lines.specs.{Job.Serves, Job.job_of};
 ghost use Rattle.fb_run.specs.Prompt.{IsPrompt};
-ghost use Rattle.fbcheck_serve.specs.Inputs.{ComesOf, IsBehind, IsBehindEnd, IsBehindRun, IsFaultLine, IsHintLine, IsStopOf, IsPromptAmong, MayRead, MayReadEach, ServesEach, TellsFault, Tries, at_first, course_with, fault_line, no_course, folder_of, is_final, all_seen, label_of, stand, standard_after, sum_of, sums, are_named};
+ghost use Rattle.fbcheck_serve.specs.Inputs.{ComesOf, IsBehind, IsBehindEnd, IsBehindRun, IsFaultLine, IsHintLine, IsStopOf, IsPromptAmong, MayRead, MayReadEach, ServesEach, TellsFault};
+ghost use Rattle.fbcheck_serve.specs.Inputs.{Tries, at_first, course_with, fault_line, no_course, folder_of, is_final, all_seen, label_of, stand, standard_after, sum_of, sums, are_named};
 ghost use Rattle.fbcheck_serve.specs.Names.{is_standard};
 ghost use Rattle.fbcheck_serve.specs.declared.inputs.Standard.TheVariants.{Unread, Spent};
 ghost use Rattle.fbcheck_texts.specs.Hints.{IsHint};
@@ -115,11 +116,14 @@ pub fn pass_files<F: Files<K, N>, S: Input<K, N> + Explains, K: Sink, N: Sink, R
 ) -> Passed
     requires serves { Serves schema.now options.old }
     requires few { S.calls reader.old < 2 ^ 64 }
-    requires leave { HasLeave S.Input (all_ends S.Input K.Sink N.Sink R.Sink reader.old writer.old notes.old rejects.old) (IsPromptAmong (folder_of F.Files F.Opened.Input F.Opened.Explains files.now) (job_of schema.now options.old) names.now) }
-    requires files { MayReadEach (folder_of F.Files F.Opened.Input F.Opened.Explains files.now) (job_of schema.now options.old) names.now (all_ends S.Input K.Sink N.Sink R.Sink reader.old writer.old notes.old rejects.old) }
+    requires leave { HasLeave S.Input (all_ends S.Input K.Sink N.Sink R.Sink reader.old writer.old notes.old rejects.old)
+        (IsPromptAmong (folder_of F.Files F.Opened.Input F.Opened.Explains files.now) (job_of schema.now options.old) names.now) }
+    requires files { MayReadEach (folder_of F.Files F.Opened.Input F.Opened.Explains files.now) (job_of schema.now options.old) names.now
+        (all_ends S.Input K.Sink N.Sink R.Sink reader.old writer.old notes.old rejects.old) }
 
     ensures serves { ServesEach (folder_of F.Files F.Opened.Input F.Opened.Explains files.now) (job_of schema.now options.old) names.now
-        (at_first (all_seen S.Input S.Explains K.Sink N.Sink R.Sink reader.old writer.old notes.old rejects.old)) (stand (all_seen S.Input S.Explains K.Sink N.Sink R.Sink reader.new writer.new notes.new rejects.new) result.course) result.end }
+        (at_first (all_seen S.Input S.Explains K.Sink N.Sink R.Sink reader.old writer.old notes.old rejects.old))
+        (stand (all_seen S.Input S.Explains K.Sink N.Sink R.Sink reader.new writer.new notes.new rejects.new) result.course) result.end }
     ensures places { length result.course.tally.reasons ≡ reason_count }
     ensures turns { S.calls reader.new ≤ S.calls reader.old + MOST_TURNS }
 {
@@ -193,11 +197,14 @@ fn pass_file<F: Files<K, N>, S: Input<K, N> + Explains, K: Sink, N: Sink, R: Sin
     requires serves { Serves schema.now options.now }
     requires places { length course.old.tally.reasons ≡ reason_count }
     requires reads { course.old.standard ≡ Unread → S.calls reader.old < 2 ^ 64 }
-    requires leave { is_standard name.now ≡ true → course.old.standard ≡ Unread → HasLeave S.Input (all_ends S.Input K.Sink N.Sink R.Sink reader.old writer.old notes.old rejects.old) (IsPrompt (job_of schema.now options.now)) }
-    requires files { is_standard name.now ≡ false → MayRead (folder_of F.Files F.Opened.Input F.Opened.Explains files.now) (job_of schema.now options.now) name.now (all_outs K.Sink N.Sink R.Sink writer.old notes.old rejects.old) }
+    requires leave { is_standard name.now ≡ true → course.old.standard ≡ Unread
+        → HasLeave S.Input (all_ends S.Input K.Sink N.Sink R.Sink reader.old writer.old notes.old rejects.old) (IsPrompt (job_of schema.now options.now)) }
+    requires files { is_standard name.now ≡ false
+        → MayRead (folder_of F.Files F.Opened.Input F.Opened.Explains files.now) (job_of schema.now options.now) name.now (all_outs K.Sink N.Sink R.Sink writer.old notes.old rejects.old) }
 
     ensures tries { Tries (folder_of F.Files F.Opened.Input F.Opened.Explains files.now) (job_of schema.now options.now) name.now
-        (stand (all_seen S.Input S.Explains K.Sink N.Sink R.Sink reader.old writer.old notes.old rejects.old) course.old) (stand (all_seen S.Input S.Explains K.Sink N.Sink R.Sink reader.new writer.new notes.new rejects.new) course.new) result }
+        (stand (all_seen S.Input S.Explains K.Sink N.Sink R.Sink reader.old writer.old notes.old rejects.old) course.old)
+        (stand (all_seen S.Input S.Explains K.Sink N.Sink R.Sink reader.new writer.new notes.new rejects.new) course.new) result }
     ensures calls { (S.calls reader.new ≤ S.calls reader.old + MOST_TURNS) × (length course.new.tally.reasons ≡ reason_count)
         × (course.old.standard ≡ Spent → (course.new.standard ≡ Spent) × (reader.new ≡ reader.old))
         × (course.new.standard ≡ Unread → (course.old.standard ≡ Unread) × (reader.new ≡ reader.old)) }
@@ -234,10 +241,14 @@ fn run_file<F: Files<K, N>, S: Input<K, N> + Explains, K: Sink, N: Sink, R: Sink
 ) -> Came
     requires serves { Serves schema.now options.now }
     requires reads { standard ≡ Unread → S.calls reader.old < 2 ^ 64 }
-    requires leave { is_standard name.now ≡ true → standard ≡ Unread → HasLeave S.Input (all_ends S.Input K.Sink N.Sink R.Sink reader.old writer.old notes.old rejects.old) (IsPrompt (job_of schema.now options.now)) }
-    requires files { is_standard name.now ≡ false → MayRead (folder_of F.Files F.Opened.Input F.Opened.Explains files.now) (job_of schema.now options.now) name.now (all_outs K.Sink N.Sink R.Sink writer.old notes.old rejects.old) }
+    requires leave { is_standard name.now ≡ true → standard ≡ Unread
+        → HasLeave S.Input (all_ends S.Input K.Sink N.Sink R.Sink reader.old writer.old notes.old rejects.old) (IsPrompt (job_of schema.now options.now)) }
+    requires files { is_standard name.now ≡ false
+        → MayRead (folder_of F.Files F.Opened.Input F.Opened.Explains files.now) (job_of schema.now options.now) name.now (all_outs K.Sink N.Sink R.Sink writer.old notes.old rejects.old) }
 
-    ensures comes { ComesOf (folder_of F.Files F.Opened.Input F.Opened.Explains files.now) (job_of schema.now options.now) name.now standard (all_seen S.Input S.Explains K.Sink N.Sink R.Sink reader.old writer.old notes.old rejects.old) (all_seen S.Input S.Explains K.Sink N.Sink R.Sink reader.new writer.new notes.new rejects.new) result.what result.cause }
+    ensures comes { ComesOf (folder_of F.Files F.Opened.Input F.Opened.Explains files.now) (job_of schema.now options.now) name.now standard
+        (all_seen S.Input S.Explains K.Sink N.Sink R.Sink reader.old writer.old notes.old rejects.old)
+        (all_seen S.Input S.Explains K.Sink N.Sink R.Sink reader.new writer.new notes.new rejects.new) result.what result.cause }
     ensures calls { (S.calls reader.new ≤ S.calls reader.old + MOST_TURNS)
         × IfOk result.what (λ ran. length ran.tally.reasons ≡ reason_count) × (is_standard name.now ≡ false → reader.new ≡ reader.old) × (standard ≡ Spent → reader.new ≡ reader.old) }
 {

@@ -6,7 +6,8 @@ ghost use Rattle.fb_run.specs.Leave.{HasLeave, ends_of};
 ghost use Rattle.fbcheck_serve.specs.{Inputs.folder_of, Inputs.seen_of, Keeping.maker_of};
 ghost use Rattle.fbcheck_serve.specs.Checking.{IsPromptOverAsked, MayReadAsked};
 ghost use Rattle.fbcheck_serve.specs.Lists.{AreNamed};
-ghost use Rattle.fbcheck_serve.specs.Serving.{IsAlone, IsNameless, ComesAsAsked, ComesTo, EndsFiles, EndsRun, EndsSo, IsPromptAsGiven, IsServed, MayReadAsGiven, Rests, TellsAsGiven, Unserved, summed, words_of};
+ghost use Rattle.fbcheck_serve.specs.Serving.{IsAlone, IsNameless, ComesAsAsked, ComesTo, EndsFiles, EndsRun, EndsSo};
+ghost use Rattle.fbcheck_serve.specs.Serving.{IsPromptAsGiven, IsServed, MayReadAsGiven, Rests, TellsAsGiven, Unserved, summed, words_of};
 ghost use Rattle.fbcheck_words.specs.Ranges.{AreInRange};
 
 use crate::asked::{by, form, manner};
@@ -37,10 +38,12 @@ pub fn serve<F: Files<K, N> + Makes, S: Input<K, N> + Explains, K: Sink + Explai
     notes: &mut N,
 ) -> u8
     requires few { S.calls reader.old < 2 ^ 64 }
-    requires leave { HasLeave S.Input (ends_of S.Input K.Sink N.Sink reader.old writer.old notes.old) (IsPromptAsGiven (folder_of F.Files F.Opened.Input F.Opened.Explains files.now) (words_of words)) }
+    requires leave { HasLeave S.Input (ends_of S.Input K.Sink N.Sink reader.old writer.old notes.old)
+        (IsPromptAsGiven (folder_of F.Files F.Opened.Input F.Opened.Explains files.now) (words_of words)) }
     requires files { MayReadAsGiven (folder_of F.Files F.Opened.Input F.Opened.Explains files.now) (words_of words) (ends_of S.Input K.Sink N.Sink reader.old writer.old notes.old) }
 
-    ensures served { IsServed (maker_of F.Makes F.Made.Sink files.now) (folder_of F.Files F.Opened.Input F.Opened.Explains files.now) (words_of words) (seen_of S.Input S.Explains K.Sink N.Sink reader.old writer.old notes.old)
+    ensures served { IsServed (maker_of F.Makes F.Made.Sink files.now) (folder_of F.Files F.Opened.Input F.Opened.Explains files.now)
+        (words_of words) (seen_of S.Input S.Explains K.Sink N.Sink reader.old writer.old notes.old)
         (seen_of S.Input S.Explains K.Sink N.Sink reader.new writer.new notes.new) (K.Explains.cause writer.new) MOST_TURNS result }
     ensures turns { S.calls reader.new ≤ S.calls reader.old + MOST_TURNS }
 {
@@ -70,11 +73,13 @@ fn come_to<F: Files<K, N> + Makes, S: Input<K, N> + Explains, K: Sink, N: Sink>(
     told: &mut Form,
 ) -> Result<Ending, Stop>
     requires few { S.calls reader.old < 2 ^ 64 }
-    requires leave { HasLeave S.Input (ends_of S.Input K.Sink N.Sink reader.old writer.old notes.old) (IsPromptAsGiven (folder_of F.Files F.Opened.Input F.Opened.Explains files.now) (words_of words)) }
+    requires leave { HasLeave S.Input (ends_of S.Input K.Sink N.Sink reader.old writer.old notes.old)
+        (IsPromptAsGiven (folder_of F.Files F.Opened.Input F.Opened.Explains files.now) (words_of words)) }
     requires files { MayReadAsGiven (folder_of F.Files F.Opened.Input F.Opened.Explains files.now) (words_of words) (ends_of S.Input K.Sink N.Sink reader.old writer.old notes.old) }
 
     ensures form { TellsAsGiven (words_of words) result told.new }
-    ensures comes { ComesTo (maker_of F.Makes F.Made.Sink files.now) (folder_of F.Files F.Opened.Input F.Opened.Explains files.now) (words_of words) (seen_of S.Input S.Explains K.Sink N.Sink reader.old writer.old notes.old)
+    ensures comes { ComesTo (maker_of F.Makes F.Made.Sink files.now) (folder_of F.Files F.Opened.Input F.Opened.Explains files.now)
+        (words_of words) (seen_of S.Input S.Explains K.Sink N.Sink reader.old writer.old notes.old)
         (seen_of S.Input S.Explains K.Sink N.Sink reader.new writer.new notes.new) sums.new result
         × Rests (ends_of S.Input K.Sink N.Sink reader.old writer.old notes.old) (ends_of S.Input K.Sink N.Sink reader.new writer.new notes.new) sums.new result }
 {
@@ -117,10 +122,12 @@ fn check_by<F: Files<K, N> + Makes, S: Input<K, N> + Explains, K: Sink, N: Sink>
 ) -> Result<Ending, Stop>
     requires ranges { AreInRange settings.now }
     requires few { S.calls reader.old < 2 ^ 64 }
-    requires leave { HasLeave S.Input (ends_of S.Input K.Sink N.Sink reader.old writer.old notes.old) (IsPromptOverAsked (folder_of F.Files F.Opened.Input F.Opened.Explains files.now) file settings.now) }
+    requires leave { HasLeave S.Input (ends_of S.Input K.Sink N.Sink reader.old writer.old notes.old)
+        (IsPromptOverAsked (folder_of F.Files F.Opened.Input F.Opened.Explains files.now) file settings.now) }
     requires files { MayReadAsked (folder_of F.Files F.Opened.Input F.Opened.Explains files.now) file settings.now (ends_of S.Input K.Sink N.Sink reader.old writer.old notes.old) }
 
-    ensures { ComesAsAsked (maker_of F.Makes F.Made.Sink files.now) (folder_of F.Files F.Opened.Input F.Opened.Explains files.now) file.entry settings.now (seen_of S.Input S.Explains K.Sink N.Sink reader.old writer.old notes.old)
+    ensures { ComesAsAsked (maker_of F.Makes F.Made.Sink files.now) (folder_of F.Files F.Opened.Input F.Opened.Explains files.now) file.entry settings.now
+        (seen_of S.Input S.Explains K.Sink N.Sink reader.old writer.old notes.old)
         (seen_of S.Input S.Explains K.Sink N.Sink reader.new writer.new notes.new) sums.new result
         × Rests (ends_of S.Input K.Sink N.Sink reader.old writer.old notes.old) (ends_of S.Input K.Sink N.Sink reader.new writer.new notes.new) sums.new result }
 {

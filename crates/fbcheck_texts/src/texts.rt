@@ -3,7 +3,8 @@
 ghost use Rattle.std.specs.Prelude.{◌≡◌, ◌≤◌, ◌++◌, codes, decimal, length};
 ghost use Rattle.fb_lines.specs.{FaultText.fault_text, Line.field_text};
 ghost use Rattle.fb_lines.specs.declared.fault.RunFault.TheVariants.{WriteFault};
-ghost use Rattle.fbcheck_texts.specs.Texts.{ask_text, cause_text, file_text, ill_text, list_text, load_text, path_text, rows_text, run_text, step_text, stopped_text, unkept_text, unmade_text, unsummed_text, word_text, words_text};
+ghost use Rattle.fbcheck_texts.specs.Texts.{ask_text, cause_text, file_text, ill_text, list_text, load_text, path_text, rows_text, run_text};
+ghost use Rattle.fbcheck_texts.specs.Texts.{step_text, stopped_text, unkept_text, unmade_text, unsummed_text, word_text, words_text};
 
 use crate::causes::{Causes, known_reason};
 use crate::fault::{AskFault, FileFault, WordsFault};

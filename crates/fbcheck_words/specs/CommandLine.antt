@@ -97,7 +97,8 @@ abbrev pub demands : App
 demands = with_rule (with_rule (with_rule (with_rule checks (flag_rule (codes "strict"))) (flag_rule (codes "plain-bytes"))) (flag_rule (codes "known-fields"))) (flag_rule (codes "utf8"))
 
 abbrev pub outputs : App
-outputs = with_rule (with_rule (with_rule (with_rule (with_rule demands (by_letter (codes "q") (flag_rule (codes "quiet")))) (flag_rule (codes "filter"))) (flag_rule (codes "summary"))) (flag_rule (codes "names")))
+outputs = with_rule (with_rule
+    (with_rule (with_rule (with_rule demands (by_letter (codes "q") (flag_rule (codes "quiet")))) (flag_rule (codes "filter"))) (flag_rule (codes "summary"))) (flag_rule (codes "names")))
     (by_letter (codes "j") (flag_rule (codes "json")))
 
 abbrev pub program : App

@@ -1,11 +1,13 @@
 -- What words ask for.
-use Rattle.std.specs.Prelude.{◌+◌, ◌++◌, true, ◌==◌, count_by, sum_by, ◌≡◌, ◌↔◌, ◌&&◌, ◌||◌, ℕ, Bool, false, IsTrue, IfSome, IsSomeAnd, List, [], ◌∷◌, Option, Some, None, codes, if◌then◌else◌, is_some, length, map, nat_eq, nat_lt, not, option_map, string_bytes}
+use Rattle.std.specs.Prelude.{◌+◌, ◌++◌, true, ◌==◌, count_by, sum_by, ◌≡◌, ◌↔◌, ◌&&◌, ◌||◌, ℕ, Bool, false, IsTrue, IfSome, IsSomeAnd, List, [], ◌∷◌}
+use Rattle.std.specs.Prelude.{Option, Some, None, codes, if◌then◌else◌, is_some, length, map, nat_eq, nat_lt, not, option_map, string_bytes}
 use Rattle.std.specs.{List.ends_with, List.list_any, Str.bytes_eq}
 use Rattle.clap.specs.{Walk.Text, Faults.fault_of}
 use Rattle.fbcheck_words.specs.CommandLine.{program}
 use Rattle.fbcheck_words.specs.Values.{IsGiven, IsNumberOf, text_of, texts_of}
 use Rattle.fbcheck_words.specs.declared.{choices.Form.Form, choices.Form.TheVariants.Json, choices.Form.TheVariants.Plain, choices.Settings.Settings, choices.SettingsFault.SettingsFault}
-use Rattle.fbcheck_words.specs.declared.choices.SettingsFault.TheVariants.{PathInFilter, TwoIdents, TooManyPaths, BareDelimited, BareDelimitedBe, DelimitedTwice, PlainUnstrict, PathTwice, TooManySteps, SchemaAsInput, CsvAsJson, CsvInFilter, CsvInQuiet, CsvPathless, NamedTwice}
+use Rattle.fbcheck_words.specs.declared.choices.SettingsFault.TheVariants.{PathInFilter, TwoIdents, TooManyPaths, BareDelimited, BareDelimitedBe, DelimitedTwice, PlainUnstrict}
+use Rattle.fbcheck_words.specs.declared.choices.SettingsFault.TheVariants.{PathTwice, TooManySteps, SchemaAsInput, CsvAsJson, CsvInFilter, CsvInQuiet, CsvPathless, NamedTwice}
 
 -- the words say these settings
 pub record Say (given : List Text) (settings : Settings) : Type 0 where

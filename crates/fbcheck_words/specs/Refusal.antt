@@ -5,7 +5,8 @@ use Rattle.clap.specs.declared.error.kind.ErrorKind.{ErrorKind}
 use Rattle.clap.specs.declared.error.kind.ErrorKind.TheVariants as kind
 use Rattle.fbcheck_words.specs.{CommandLine.program, Given.Say, Given.contradiction, Values.text_of}
 use Rattle.fbcheck_words.specs.declared.{choices.Settings.Settings, choices.SettingsFault.SettingsFault}
-use Rattle.fbcheck_words.specs.declared.choices.SettingsFault.TheVariants.{Usage, BadIdent, PathInFilter, TwoIdents, TooManyPaths, BareDelimited, BareDelimitedBe, DelimitedTwice, PlainUnstrict, PathTwice, TooManySteps, SchemaAsInput, CsvAsJson, CsvInFilter, CsvInQuiet, CsvPathless, NamedTwice, OutOfMemory}
+use Rattle.fbcheck_words.specs.declared.choices.SettingsFault.TheVariants.{Usage, BadIdent, PathInFilter, TwoIdents, TooManyPaths, BareDelimited, BareDelimitedBe, DelimitedTwice, PlainUnstrict}
+use Rattle.fbcheck_words.specs.declared.choices.SettingsFault.TheVariants.{PathTwice, TooManySteps, SchemaAsInput, CsvAsJson, CsvInFilter, CsvInQuiet, CsvPathless, NamedTwice, OutOfMemory}
 
 -- `clap` refuses the words by an error of that kind; or it reads them, and the identifier isn't four bytes long; or they
 -- say settings that don't agree; or there was no memory

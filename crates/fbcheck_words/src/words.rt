@@ -1,6 +1,7 @@
 ghost use Rattle.std.specs.Prelude.{nat_lt, IfOk, IfErr, IfSome, IsSomeAnd, OnErr, ℕ, ◌≢◌, length, option_map, IsTrue, ◌≡◌, ◌↔◌, List, map, string_bytes, Some, codes};
 ghost use Rattle.clap.specs.Words.{Text, first_value, found_of, one_text};
-ghost use Rattle.fbcheck_words.specs.{Ranges.AreInRange, Given.AreGiven, Given.Say, Given.contradiction, Given.contradiction_of_csv, Given.contradiction_of_files, Given.has_twice, Given.is_among, Given.is_bfbs, Given.is_sign, Given.steps_in, Given.steps_of};
+ghost use Rattle.fbcheck_words.specs.{Ranges.AreInRange, Given.AreGiven, Given.Say, Given.contradiction, Given.contradiction_of_csv};
+ghost use Rattle.fbcheck_words.specs.{Given.contradiction_of_files, Given.has_twice, Given.is_among, Given.is_bfbs, Given.is_sign, Given.steps_in, Given.steps_of};
 ghost use Rattle.fbcheck_words.specs.{Values.HoldsNumber, Values.HoldsWideNumber, Values.IsNumberIn, Refusal.Refuses};
 ghost use Rattle.std.specs.List.{list_any};
 ghost use Rattle.fbcheck_words.specs.Matched.{IsReadOf, all_values};
