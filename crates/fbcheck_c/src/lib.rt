@@ -130,7 +130,7 @@ pub extern "C" fn fbcheck_verify_proved(
     ensures status { result ≡ verdict.new.status }
     ensures kept { room.new.inside ≡ room.old.inside }
 {
-    check(alloc, schema.held(), room, verdict, options, buffer)
+    check(alloc, schema.held(), room, options, buffer, verdict)
 }
 
 /// Checks one buffer by a schema, on the call's own stack.

@@ -1,6 +1,9 @@
 -- To whom a yes is due, and to whom a no.
-use Rattle.std.proofs.Common.{length, ◌≡◌, ◌==◌, ℕ, ◌≤◌, ◌<◌, ◌^◌, List, refl, sym, subst, arith, Bool, true, false, Option, Some, None, option_map, IsSome, IsSomeAnd, if◌then◌else◌, eqb-true}
+use Rattle.std.proofs.Common.{length, ◌≡◌, ◌==◌, ℕ, ◌≤◌, ◌<◌, ◌^◌, List, refl, sym, subst, arith, Bool, true, false, Option, Some, None, option_map, IfSome, IsSome, IsSomeAnd, IsTrue, if◌then◌else◌, eqb-true}
 use Rattle.std.proofs.lemmas.Bool.{ne_eqb}
+use Rattle.fb_schema.specs.Rows.{Rows, is_table}
+use Rattle.fb_bfbs.specs.Loads.{HasTableForRoot}
+use Rattle.fb_bfbs.specs.declared.loading.Loaded.{Loaded}
 use Rattle.fb_rules.specs.Question.{Question}
 use Rattle.fb_rules.specs.declared.start.Ident.{Ident}
 use Rattle.fb_rules.specs.declared.fault.Report.{Report}
@@ -8,7 +11,7 @@ use Rattle.fb_strict.specs.{AsAsked.HasNoneBy, AsAsked.ReportsBy, Planned.Planne
 use Rattle.fbcheck_calls.specs.declared.{answer.Answer.Answer, options.Options.Options}
 use Rattle.fbcheck_calls.specs.declared.answer.Answer.TheVariants.{Good, Bad, UnknownOptions, OutOfRange, NoIdent, NoRoot, TooLong, NotPlanned}
 use Rattle.fbcheck_calls.specs.Answered.{IsBadFrom, IsChecked, IsGoodFrom, IsUnserved, Serves}
-use Rattle.fbcheck_calls.specs.{AnswerLaws.CanServe, AnswerLaws.DemandsArePlanned, AnswerLaws.IsAsAsked, AnswerLaws.PlainIsPlain, Asked.ident_asked, Asked.plan_asked, Asked.plan_for, Asked.question_of, Asked.root_asked, Bases.Based, Told.told}
+use Rattle.fbcheck_calls.specs.{AnswerLaws.CanServe, AnswerLaws.DemandsArePlanned, AnswerLaws.IsAsAsked, AnswerLaws.PlainIsPlain, Asked.ident_asked, Asked.if_table, Asked.plan_asked, Asked.plan_for, Asked.question_of, Asked.root_asked, Bases.Based, Told.told}
 
 -- what holds of the value that there is
 at_value : {X : Type 0} (o : Option X) (x : X) (P : X → Type 0) → o ≡ Some x → IsSomeAnd o P → P x
@@ -22,6 +25,17 @@ none_asked (Some plan) q b none is = none is.0 is.1
 some_asked : (plan : Option Planned) (q : Question) (b : List ℕ) (r : Report) → ReportsBy plan q b r → IsAsAsked plan q b
 some_asked None q b r h = (h.found, h.well_formed, h.within)
 some_asked (Some plan) q b r h = (r, h)
+
+-- a root that is a table is the table of its number
+own_table : (rows : Rows) (root : Option ℕ) → IfSome root (λ n. IsTrue (is_table rows n)) → root ≡ if_table rows root
+own_table rows None h = refl
+own_table rows (Some n) h = rw h refl
+
+-- a schema's own root, which is a table, is the one that is asked for
+pub own_root : (l : Loaded) (o : Options) → HasTableForRoot l → o.root ≡ 4294967295 → l.root ≡ root_asked l o
+own_root l o h own =
+    let rows = l.schema in
+    subst (λ (n : ℕ). l.root ≡ (if n == 4294967295 then if_table rows l.root else (if n == 4294967294 then None else if_table rows (Some n)))) (sym own) (own_table rows l.root h)
 
 module _ (s : Based) (n : ℕ) (o : Options) (b : List ℕ) (plan : Option Planned) (root : ℕ) (ident : Ident) (c : CanServe s n o plan root ident) where
   served : (P : Option Planned → ℕ → Ident → Type 0) → Serves s n o P → P plan root ident

@@ -2,13 +2,13 @@
 
 ghost use Rattle.std.specs.Prelude.{◌≡◌, ◌↔◌, IfErr, IfOk, IfSome, IsSome, IsTrue, MatchResult, length, map, option_map, true};
 ghost use Rattle.fb_bfbs.specs.{Loads.IsLoaded, Marks.marked as mark_of};
-ghost use Rattle.fb_schema.specs.{Live.Live, Live.live_of_view};
+ghost use Rattle.fb_schema.specs.{Live.Live, Live.live_of_view, Rows.is_table};
 ghost use Rattle.fb_strict.specs.{Holding.has_bytes, Planned.IsPlan};
 ghost use Rattle.fbcheck_calls.specs.Answered.{AreMarksFor, IsInSlot, IsNotOpened, IsNotPlanned, IsNumbered, IsOpened, IsPlanFor};
-ghost use Rattle.fbcheck_calls.specs.Asked.{HasLimits, asks_marks, limits_of, plan_asked, plan_for};
+ghost use Rattle.fbcheck_calls.specs.Asked.{HasLimits, asks_marks, limits_of, plan_asked, plan_for, root_asked};
 
 use crate::answer::{Answer, FieldAt};
-use crate::options::{DEEPEST, Options, asks_marks, demands_of};
+use crate::options::{DEEPEST, OWN_ROOT, Options, asks_marks, demands_of};
 use fb_bfbs::{ByteField, LoadFault, Loaded, Mark, bytes_at, find_unmarked, load, load_marks};
 use fb_schema::Schema;
 use fb_strict::{Plan, PlanFault};
@@ -26,6 +26,7 @@ pub struct Basis {
 
 impl Model for Basis {
     ghost use Rattle.std.specs.Prelude.{IfSome};
+    ghost use Rattle.fb_bfbs.specs.Loads.{HasTableForRoot};
     ghost use Rattle.fb_strict.specs.Planned.{IsPlan};
     ghost use Rattle.fbcheck_calls.specs.Bases.{Based};
 
@@ -33,7 +34,7 @@ impl Model for Basis {
 
     ghost view = { λ b. record { loaded = b.loaded; demands = b.demands; plan = b.plan } };
 
-    ghost invariant = { λ b. IfSome b.plan (λ p. IsPlan b.loaded.schema p.demands p) };
+    ghost invariant = { λ b. IfSome b.plan (λ p. IsPlan b.loaded.schema p.demands p) × HasTableForRoot b.loaded };
 }
 
 impl Basis {
@@ -43,6 +44,20 @@ impl Basis {
         ensures { result.now ≡ self.now.loaded }
     {
         &self.loaded
+    }
+
+    /// The root table that the options ask of the schema, if there is one. The schema's own isn't tested again.
+    #[inline(always)]
+    #[tactic(auto, using(crate::proofs::AnswerLemmas::own_root))]
+    pub fn root(&self, options: &Options) -> Option<u32>
+        ensures root { result ≡ root_asked self.now.loaded options.now }
+        ensures table { IfSome result (λ n. IsTrue (is_table self.now.loaded.schema n)) }
+    {
+        if options.root == OWN_ROOT {
+            self.loaded.root
+        } else {
+            options.root(&self.loaded)
+        }
     }
 
     /// The plan for these demands; none where the schema was made with others.

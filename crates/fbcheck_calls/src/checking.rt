@@ -1,6 +1,6 @@
 //! The checks of buffers by a schema.
 
-ghost use Rattle.std.specs.Prelude.{◌≡◌, ◌<◌, ◌≤◌, ◌^◌, IfOk, MatchResult, length};
+ghost use Rattle.std.specs.Prelude.{◌≡◌, ◌<◌, ◌≤◌, ◌^◌, IfOk, IfSome, MatchResult, length};
 ghost use Rattle.fb_rules.specs.declared.fault.{Fault.Fault, Report.Report};
 ghost use Rattle.fb_verify.specs.Sealed.{Sealed};
 ghost use Rattle.fbcheck_calls.specs.Answered.{Begins, IfSchema, IsChecked, IsPriced, IsTold, IsUnchecked, IsUnservedBy, Starts, levels};
@@ -61,7 +61,7 @@ fn begin(basis: &Basis, levels: u32, options: &Options, length: u64) -> Result<B
     if !basis.serves(options) {
         return Err(21);
     }
-    let Some(table) = options.root(basis.loaded()) else {
+    let Some(table) = basis.root(options) else {
         return Err(6);
     };
     let Some(ident) = options.ident(basis.loaded()) else {
@@ -104,6 +104,37 @@ pub fn prepare(
     Ok(begun)
 }
 
+/// The same for options without demands that ask the published tests: none for others, or where a check can't begin or
+/// the buffer is too long, whatever of these it is. So what goes on from there has no status to tell, and these tests as
+/// constants.
+#[inline(always)]
+fn begin_usually(basis: &Basis, levels: u32, options: &Options, buffer: &[u8]) -> Option<Begun>
+    ensures starts { IfSome result (Starts basis.now levels options.now buffer.now) }
+    ensures depth { IfSome result (λ (begun : Begun). begun.limits.depth ≤ levels) }
+    ensures plain { IfSome result (λ _. options.now.demands ≡ 0) }
+{
+    let length = buffer.len() as u64;
+    if options.demands != 0 || options.no_alignment != 0 || options.inline_size != 0 {
+        return None;
+    }
+    if length > LONGEST || !options.have_limits(levels) || !basis.serves(options) {
+        return None;
+    }
+    let Some(root) = basis.root(options) else {
+        return None;
+    };
+    let Some(ident) = options.ident(basis.loaded()) else {
+        return None;
+    };
+    Some(Begun {
+        root,
+        start: options.start(),
+        ident,
+        limits: options.limits_of(length),
+        checks: options.checks(),
+    })
+}
+
 /// A buffer that isn't too long, with its reads.
 #[inline(always)]
 pub fn metered(buffer: &[u8]) -> Meter<'_>
@@ -129,16 +160,17 @@ fn tell_found(found: Result<Report, Fault>, verdict: &mut Verdict) -> u32
     }
 }
 
-/// Checks a buffer by a schema as the options ask, in room on the call's own stack. Writes the verdict, and answers its
-/// status.
+/// Checks a buffer by a schema as the options ask, whatever that is, in room on the call's own stack.
 #[inline(never)]
-pub fn check_alone(held: &Held, verdict: &mut Verdict, options: &Options, buffer: &[u8]) -> u32
-    ensures told { (a : Answer) × (verdict.new ≡ told a) × IfSchema held.now a (λ s. IsChecked s 64 options.now buffer.now a) }
+fn check_alone_apart(
+    basis: &Basis,
+    verdict: &mut Verdict,
+    options: &Options,
+    buffer: &[u8],
+) -> u32
+    ensures told { (a : Answer) × (verdict.new ≡ told a) × IsChecked basis.now 64 options.now buffer.now a }
     ensures status { result ≡ verdict.new.status }
 {
-    let Held::Schema(basis) = held else {
-        return tell_blank(6, verdict);
-    };
     if options.demands != 0 {
         return check_alone_strictly(basis, verdict, options, buffer);
     }
@@ -158,22 +190,44 @@ pub fn check_alone(held: &Held, verdict: &mut Verdict, options: &Options, buffer
     tell_found(found, verdict)
 }
 
-/// The same in the room that is given.
+/// Checks a buffer by a schema as the options ask, in room on the call's own stack: quickly where that is what most
+/// callers ask. Writes the verdict, and answers its status.
 #[inline(never)]
-fn check_within(
-    held: &Held,
+pub fn check_alone(held: &Held, verdict: &mut Verdict, options: &Options, buffer: &[u8]) -> u32
+    ensures told { (a : Answer) × (verdict.new ≡ told a) × IfSchema held.now a (λ s. IsChecked s 64 options.now buffer.now a) }
+    ensures status { result ≡ verdict.new.status }
+{
+    let Held::Schema(basis) = held else {
+        return tell_blank(6, verdict);
+    };
+    let Some(begun) = begin_usually(basis, SHALLOW, options, buffer) else {
+        return check_alone_apart(basis, verdict, options, buffer);
+    };
+    let found = walk_shallow(
+        &mut metered(buffer),
+        &basis.loaded().schema,
+        begun.root,
+        begun.start,
+        begun.ident,
+        begun.limits,
+        begun.checks,
+    );
+    tell_found(found, verdict)
+}
+
+/// Checks a buffer by a schema as the options ask, whatever that is, in the room that is given.
+#[inline(never)]
+fn check_apart(
+    basis: &Basis,
     room: &mut Room,
     verdict: &mut Verdict,
     options: &Options,
     buffer: &[u8],
 ) -> u32
-    ensures told { (a : Answer) × (verdict.new ≡ told a) × IfSchema held.now a (λ s. IsChecked s room.old options.now buffer.now a) }
+    ensures told { (a : Answer) × (verdict.new ≡ told a) × IsChecked basis.now room.old options.now buffer.now a }
     ensures status { result ≡ verdict.new.status }
     ensures kept { room.new ≡ room.old }
 {
-    let Held::Schema(basis) = held else {
-        return tell_blank(6, verdict);
-    };
     if options.demands != 0 {
         return check_within_strictly(basis, room, verdict, options, buffer);
     }
@@ -194,16 +248,49 @@ fn check_within(
     tell_found(found, verdict)
 }
 
+/// Checks a buffer by a schema as the options ask, in the room that is given: quickly where that is what most callers
+/// ask.
+#[inline(always)]
+fn check_within(
+    held: &Held,
+    room: &mut Room,
+    verdict: &mut Verdict,
+    options: &Options,
+    buffer: &[u8],
+) -> u32
+    ensures told { (a : Answer) × (verdict.new ≡ told a) × IfSchema held.now a (λ s. IsChecked s room.old options.now buffer.now a) }
+    ensures status { result ≡ verdict.new.status }
+    ensures kept { room.new ≡ room.old }
+{
+    let Held::Schema(basis) = held else {
+        return tell_blank(6, verdict);
+    };
+    let Some(begun) = begin_usually(basis, room.levels(), options, buffer) else {
+        return check_apart(basis, room, verdict, options, buffer);
+    };
+    let found = walk(
+        &mut metered(buffer),
+        &basis.loaded().schema,
+        begun.root,
+        begun.start,
+        begun.ident,
+        begun.limits,
+        begun.checks,
+        &mut room.scratch,
+    );
+    tell_found(found, verdict)
+}
+
 /// Checks a buffer by a schema: in the room of a handle, or on the call's own stack where it holds none. Writes the
 /// verdict, and answers its status.
-#[inline(always)]
+#[inline(never)]
 pub fn check(
     alloc: Global,
     held: &Held,
     handle: &mut Handle,
-    verdict: &mut Verdict,
     options: &Options,
     buffer: &[u8],
+    verdict: &mut Verdict,
 ) -> u32
     ensures told { (a : Answer) × (verdict.new ≡ told a) × IfSchema held.now a (λ s. IsChecked s (levels handle.old.inside) options.now buffer.now a) }
     ensures status { result ≡ verdict.new.status }

@@ -24,7 +24,7 @@ pub const DEEPEST: u32 = 4096;
 pub const LONGEST: u64 = 0x7FFF_FFFF;
 
 /// The number of no object: the schema's own root table is asked for.
-const OWN_ROOT: u32 = 0xFFFF_FFFF;
+pub const OWN_ROOT: u32 = 0xFFFF_FFFF;
 
 /// The number that stands for a table that isn't there.
 pub const NO_TABLE: u32 = 0xFFFF_FFFE;

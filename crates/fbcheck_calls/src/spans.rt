@@ -51,7 +51,7 @@ fn tell_tried(
     ensures kept { handle.new.inside ≡ handle.old.inside }
 {
     // A check of no bytes that begins finds them good or bad: 0 or 1.
-    let status = check(alloc, held, handle, verdict, options, &[]);
+    let status = check(alloc, held, handle, options, &[], verdict);
     if status > 1 {
         return status;
     }
@@ -82,7 +82,7 @@ fn check_span(
     ensures kept { handle.new.inside ≡ handle.old.inside }
 {
     let _status = match span.cut(block) {
-        Some(buffer) => check(alloc, held, handle, verdict, options, buffer),
+        Some(buffer) => check(alloc, held, handle, options, buffer, verdict),
         None => tell_tried(alloc, held, handle, options, Answer::NoSpan, verdict),
     };
 }
