@@ -58,6 +58,26 @@ fn has_frame_below(frames: &[Frame], depth: usize, waiting: u32) -> bool
     waiting as usize + 1 < frames.len() || depth <= frames.len()
 }
 
+/// Where a walk by this schema stops at the next field of a table of this object.
+#[cold]
+#[inline(never)]
+fn stop_by(schema: &Schema<'_>, object: u32, next: u32, at: u64, reason: Reason) -> Stop
+    requires table { IsTrue (is_table schema.now object) }
+    requires next { next < length (live_fields schema.now object) }
+    ensures refusal { result.refusal ≡ record { at = at; reason = reason } }
+    ensures object { (result.site).object ≡ object }
+    ensures field { (f : Live) → slice_get (live_fields schema.now object) next ≡ Some f → (result.site).field ≡ Some f.number }
+{
+    let field = schema.field_at(object, next);
+    Stop {
+        refusal: Refusal { at, reason },
+        site: Site {
+            object,
+            field: Some(field.number),
+        },
+    }
+}
+
 impl<'s, 'n> Walk<'s, 'n> {
     /// Stops there, where the words of so many frames lead.
     #[cold]
@@ -121,14 +141,7 @@ impl<'s, 'n> Walk<'s, 'n> {
         ensures object { (result.site).object ≡ object }
         ensures field { (f : Live) → slice_get (live_fields self.now.schema.now object) next ≡ Some f → (result.site).field ≡ Some f.number }
     {
-        let field = self.schema.field_at(object, next);
-        Stop {
-            refusal: Refusal { at, reason },
-            site: Site {
-                object,
-                field: Some(field.number),
-            },
-        }
+        stop_by(self.schema, object, next, at, reason)
     }
 
     /// How many reads there may be so that the budget allows whatever the fields of any table may cost: it is asked of
@@ -631,7 +644,7 @@ impl<'s, 'n> Walk<'s, 'n> {
 
     /// Passes the fields of an opened root table of which none leads on, quickly by the published checks where the
     /// budget allows whatever they may cost.
-    #[inline(never)]
+    #[inline(always)]
     fn pass_root(&mut self, loan: &mut Loan<'_>, table: Table) -> Turn
         ghost going: { Going }
         requires walk { going.walk ≡ self.old }
@@ -655,7 +668,26 @@ impl<'s, 'n> Walk<'s, 'n> {
         loan.settle(reads);
         match passed {
             Ok(_) => Turn::Up,
-            Err(reason) => self.stop_in_field(table.object, next, at, reason, 0),
+            Err(reason) => {
+                let stop = stop_by(schema, table.object, next, at, reason);
+                self.halt = stop.halt(0, LastLink::InField);
+                Turn::Halt
+            }
+        }
+    }
+
+    /// The same walk, in a place of its own.
+    #[inline(always)]
+    fn again(&self) -> Walk<'s, 'n>
+        ensures { result ≡ self.now }
+    {
+        Walk {
+            schema: self.schema,
+            limits: self.limits,
+            checks: self.checks,
+            tables: self.tables,
+            deepest: self.deepest,
+            halt: self.halt,
         }
     }
 
@@ -699,10 +731,16 @@ impl<'s, 'n> Walk<'s, 'n> {
             }
         }
         frames[0] = Frame::opened(table);
-        match self.go_on(loan, frames, 0) {
+        // A walk and a loan of their own, so that a plain root needs no place in memory for them.
+        let mut walk = self.again();
+        let mut rest = loan.hand_on();
+        let answer = match walk.go_on(&mut rest, frames, 0) {
             Ok(None) => Ok(()),
-            Ok(Some(waiting)) => self.go_deeper(loan, frames, waiting),
+            Ok(Some(waiting)) => walk.go_deeper(&mut rest, frames, waiting),
             Err(halt) => Err(halt),
-        }
+        };
+        *loan = rest;
+        *self = walk;
+        answer
     }
 }

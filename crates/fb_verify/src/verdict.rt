@@ -14,11 +14,18 @@ use fb_rules::begin::read_start;
 use fb_rules::checks::Checks;
 use fb_rules::fault::{Fault, Report};
 use fb_rules::limits::Limits;
-use fb_rules::site::{Halt, LastLink, NO_HALT, Site};
+use fb_rules::site::{Halt, LastLink, NO_HALT, Site, Stop};
 use fb_rules::start::{Ident, Start};
 use fb_rules::table::Child;
 use fb_schema::Schema;
 use std::alloc::Allocator;
+
+/// What is counted where no walk was made.
+pub const NO_REPORT: Report = Report {
+    tables: 0,
+    depth: 0,
+    reads: 0,
+};
 
 /// Checks a buffer of which nothing was read yet: from its start, and from its root table of this object on, by the
 /// schema and within the limits (FlatBuffers Internals). The scratch must have as many levels as the depth limit says,
@@ -58,6 +65,54 @@ pub fn walk<A: Allocator>(
     ensures settled { meter.new.count < while_lent }
     ensures scratch { scratch.new ≡ scratch.old }
 {
+    let mut report = NO_REPORT;
+    match walk_into(
+        meter,
+        schema,
+        root,
+        start,
+        ident,
+        limits,
+        checks,
+        scratch,
+        &mut report,
+    ) {
+        Ok(()) => Ok(report),
+        Err(stop) => Err(stop.fault(meter)),
+    }
+}
+
+/// Checks a buffer as [`walk`] does, and writes the report of a good one in its place: a report and a fault in one
+/// answer would share a place in memory, and be put together there and taken apart again.
+///
+/// # Errors
+///
+/// Where the walk stops, of which `walk` answers the fault.
+#[inline(always)]
+pub fn walk_into<A: Allocator>(
+    meter: &mut Meter<'_>,
+    schema: &Schema<'_>,
+    root: u32,
+    start: Start,
+    ident: Ident,
+    limits: Limits,
+    checks: Checks,
+    scratch: &mut Scratch<A>,
+    report: &mut Report,
+) -> Result<(), Stop>
+    requires fresh { meter.old.count ≡ 0 }
+    requires table { IsTrue (is_table schema.now root) }
+    requires room { limits.depth ≤ scratch.old }
+    ensures yes { IfOk result (λ _. Reports (question schema.now root start ident limits checks) meter.old.bytes report.new) }
+    ensures none { IfErr result (λ _. HasNone (question schema.now root start ident limits checks) meter.old.bytes) }
+    ensures no { IfErr result (λ s. Stops (question schema.now root start ident limits checks) meter.old.bytes (stopped s meter.new.count)) }
+    ensures price { meter.new.count ≤ most_reads schema.now limits (length meter.old.bytes) }
+    ensures read { IfOk result (λ _. meter.new.count ≡ report.new.reads) }
+    ensures bytes { meter.new.bytes ≡ meter.old.bytes }
+    ensures same { meter.new.mark ≡ meter.old.mark }
+    ensures settled { meter.new.count < while_lent }
+    ensures scratch { scratch.new ≡ scratch.old }
+{
     let mut loan = meter.lend();
     let answer = trace(
         &mut loan,
@@ -68,11 +123,12 @@ pub fn walk<A: Allocator>(
         limits,
         checks,
         &mut scratch.frames,
+        report,
     );
     meter.settle(loan);
     match answer {
-        Ok(report) => Ok(report),
-        Err(halt) => Err(halt.stop.fault(meter)),
+        Ok(()) => Ok(()),
+        Err(halt) => Err(halt.stop),
     }
 }
 
@@ -89,18 +145,19 @@ pub(crate) fn trace(
     limits: Limits,
     checks: Checks,
     frames: &mut [Frame],
-) -> Result<Report, Halt>
+    report: &mut Report,
+) -> Result<(), Halt>
     requires fresh { loan.old.count ≡ 0 }
     requires table { IsTrue (is_table schema.now root) }
     requires some { min limits.depth 1 ≤ length frames.old }
     requires room { limits.depth ≤ max 64 (length frames.old) }
-    ensures yes { IfOk result (λ r. Reports (question schema.now root start ident limits checks) loan.old.bytes r) }
+    ensures yes { IfOk result (λ _. Reports (question schema.now root start ident limits checks) loan.old.bytes report.new) }
     ensures none { IfErr result (λ _. HasNone (question schema.now root start ident limits checks) loan.old.bytes) }
     ensures deep { IfErr result (λ h. h.links + links_left h.last ≤ limits.depth) }
     ensures no { IfErr result (λ h. Stops (question schema.now root start ident limits checks) loan.old.bytes (stopped h.stop loan.new.count)) }
     ensures along { IfErr result (λ h. limits.depth ≤ length frames.new → HaltsAlong (question schema.now root start ident limits checks) loan.old.bytes (take h.links frames.new) h.last (stopped h.stop loan.new.count)) }
     ensures price { loan.new.count ≤ most_reads schema.now limits (length loan.old.bytes) }
-    ensures read { IfOk result (λ r. loan.new.count ≡ r.reads) }
+    ensures read { IfOk result (λ _. loan.new.count ≡ report.new.reads) }
     ensures bytes { loan.new.bytes ≡ loan.old.bytes }
 {
     schema.lawful();
@@ -122,11 +179,14 @@ pub(crate) fn trace(
     };
     let root = Child { object: root, at };
     match walk.run(loan, frames, site, root) {
-        Ok(()) => Ok(Report {
-            tables: walk.tables,
-            depth: walk.deepest,
-            reads: loan.reads(),
-        }),
+        Ok(()) => {
+            *report = Report {
+                tables: walk.tables,
+                depth: walk.deepest,
+                reads: loan.reads(),
+            };
+            Ok(())
+        }
         Err(halt) => Err(halt),
     }
 }

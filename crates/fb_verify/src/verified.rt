@@ -11,7 +11,7 @@ ghost use Rattle.fb_verify.specs.{Sealed.IsUnfolded, Stack.IsLinked, Stack.frame
 use crate::links::{Located, put_links};
 use crate::scratch::{BLANK, Frame, Scratch};
 use crate::shallow::walk_shallow;
-use crate::verdict::{trace, walk};
+use crate::verdict::{NO_REPORT, trace, walk};
 use fb_bytes::{Meter, Window};
 use fb_rules::checks::Checks;
 use fb_rules::fault::{Fault, Report};
@@ -294,12 +294,21 @@ fn locate_in<'b, 's, 'n>(
 {
     let mut meter = meter;
     let mut loan = meter.lend();
+    let mut report = NO_REPORT;
     let answer = trace(
-        &mut loan, schema, root, start, ident, limits, checks, frames,
+        &mut loan,
+        schema,
+        root,
+        start,
+        ident,
+        limits,
+        checks,
+        frames,
+        &mut report,
     );
     meter.settle(loan);
     match answer {
-        Ok(report) => Ok(Verified::of(meter, schema, root, start, ident, limits, checks, report)),
+        Ok(()) => Ok(Verified::of(meter, schema, root, start, ident, limits, checks, report)),
         Err(halt) => Err(located(meter, schema, checks, frames, halt, links)),
     }
 }

@@ -16,12 +16,14 @@ use fb_verify::Limits;
 use std::alloc::Global;
 use std::marker::Model;
 
-/// A schema, and the plan for the demands with which it was made, none where it was made without any.
+/// A schema, and the plan for the demands with which it was made, none where it was made without any. Beside these,
+/// whether its own root table leads to no table, by which a call chooses its way: contracts don't see it.
 #[derive(Drop)]
 pub struct Basis {
     loaded: Loaded<'static>,
     demands: u32,
     plan: Option<Plan>,
+    flat: bool,
 }
 
 impl Model for Basis {
@@ -44,6 +46,12 @@ impl Basis {
         ensures { result.now ≡ self.now.loaded }
     {
         &self.loaded
+    }
+
+    /// Whether the schema's own root table is likely to lead to no table.
+    #[inline(always)]
+    pub fn is_flat(&self) -> bool {
+        self.flat
     }
 
     /// The root table that the options ask of the schema, if there is one. The schema's own isn't tested again.
@@ -179,11 +187,18 @@ pub fn open(alloc: Global, file: &'static [u8], options: &Options) -> Result<Bas
     let marks = marks_asked(alloc, file, limits, options, &loaded)?;
     let demands = options.demands;
     match plan_of(alloc, &loaded.schema, &marks, demands) {
-        Ok(plan) => Ok(Basis {
-            loaded,
-            demands,
-            plan,
-        }),
+        Ok(plan) => {
+            let flat = match loaded.root {
+                Some(root) => loaded.schema.is_plain(root),
+                None => false,
+            };
+            Ok(Basis {
+                loaded,
+                demands,
+                plan,
+                flat,
+            })
+        }
         Err(why) => Err(why),
     }
 }

@@ -1,7 +1,8 @@
 //! The checks of buffers by a schema.
 
 ghost use Rattle.std.specs.Prelude.{◌≡◌, ◌<◌, ◌≤◌, ◌^◌, IfOk, IfSome, MatchResult, length};
-ghost use Rattle.fb_rules.specs.declared.fault.{Fault.Fault, Report.Report};
+ghost use Rattle.fb_rules.specs.Told.{stopped};
+ghost use Rattle.fb_rules.specs.declared.{fault.Fault.Fault, site.Stop.Stop};
 ghost use Rattle.fb_verify.specs.Sealed.{Sealed};
 ghost use Rattle.fbcheck_calls.specs.Answered.{Begins, IfSchema, IsChecked, IsPriced, IsTold, IsUnchecked, IsUnservedBy, Starts, levels};
 ghost use Rattle.fbcheck_calls.specs.{Steps.AllFit, Told.found_by, Told.told, Values.AreValues};
@@ -24,8 +25,8 @@ use fb_bfbs::Loaded;
 use fb_bytes::Meter;
 use fb_strict::most_reads_strictly;
 use fb_verify::{
-    Checks, Fault, Ident, Limits, Report, Start, Verified, most_reads, verify, verify_shallow,
-    walk, walk_shallow,
+    Checks, Fault, Ident, Limits, NO_REPORT, Report, Start, Stop, Verified, most_reads, verify,
+    verify_shallow, walk_flat_into, walk_into, walk_shallow_into,
 };
 use std::alloc::Global;
 
@@ -148,15 +149,20 @@ pub fn metered(buffer: &[u8]) -> Meter<'_>
     }
 }
 
-/// Writes what a check found, and answers the status.
+/// Writes what a check found in a buffer that was metered so, and answers the status.
 #[inline(always)]
-fn tell_found(found: Result<Report, Fault>, verdict: &mut Verdict) -> u32
-    ensures told { verdict.new ≡ told (found_by (λ (r : Report). r) (λ (f : Fault). f) found) }
+fn tell_found(
+    found: Result<(), Stop>,
+    report: Report,
+    meter: &Meter<'_>,
+    verdict: &mut Verdict,
+) -> u32
+    ensures told { verdict.new ≡ told (found_by (λ _. report) (λ (s : Stop). stopped s meter.now.count) found) }
     ensures status { result ≡ verdict.new.status }
 {
     match found {
-        Ok(report) => tell_good(report, verdict),
-        Err(fault) => tell_bad(fault, verdict),
+        Ok(()) => tell_good(report, verdict),
+        Err(stop) => tell_bad(stop.fault(meter), verdict),
     }
 }
 
@@ -178,16 +184,19 @@ fn check_alone_apart(
         Ok(begun) => begun,
         Err(status) => return status,
     };
-    let found = walk_shallow(
-        &mut metered(buffer),
+    let mut meter = metered(buffer);
+    let mut report = NO_REPORT;
+    let found = walk_shallow_into(
+        &mut meter,
         &basis.loaded().schema,
         begun.root,
         begun.start,
         begun.ident,
         begun.limits,
         begun.checks,
+        &mut report,
     );
-    tell_found(found, verdict)
+    tell_found(found, report, &meter, verdict)
 }
 
 /// Checks a buffer by a schema as the options ask, in room on the call's own stack: quickly where that is what most
@@ -203,16 +212,19 @@ pub fn check_alone(held: &Held, verdict: &mut Verdict, options: &Options, buffer
     let Some(begun) = begin_usually(basis, SHALLOW, options, buffer) else {
         return check_alone_apart(basis, verdict, options, buffer);
     };
-    let found = walk_shallow(
-        &mut metered(buffer),
+    let mut meter = metered(buffer);
+    let mut report = NO_REPORT;
+    let found = walk_shallow_into(
+        &mut meter,
         &basis.loaded().schema,
         begun.root,
         begun.start,
         begun.ident,
         begun.limits,
         begun.checks,
+        &mut report,
     );
-    tell_found(found, verdict)
+    tell_found(found, report, &meter, verdict)
 }
 
 /// Checks a buffer by a schema as the options ask, whatever that is, in the room that is given.
@@ -235,8 +247,10 @@ fn check_apart(
         Ok(begun) => begun,
         Err(status) => return status,
     };
-    let found = walk(
-        &mut metered(buffer),
+    let mut meter = metered(buffer);
+    let mut report = NO_REPORT;
+    let found = walk_into(
+        &mut meter,
         &basis.loaded().schema,
         begun.root,
         begun.start,
@@ -244,8 +258,9 @@ fn check_apart(
         begun.limits,
         begun.checks,
         &mut room.scratch,
+        &mut report,
     );
-    tell_found(found, verdict)
+    tell_found(found, report, &meter, verdict)
 }
 
 /// Checks a buffer by a schema as the options ask, in the room that is given: quickly where that is what most callers
@@ -268,8 +283,10 @@ fn check_within(
     let Some(begun) = begin_usually(basis, room.levels(), options, buffer) else {
         return check_apart(basis, room, verdict, options, buffer);
     };
-    let found = walk(
-        &mut metered(buffer),
+    let mut meter = metered(buffer);
+    let mut report = NO_REPORT;
+    let found = walk_into(
+        &mut meter,
         &basis.loaded().schema,
         begun.root,
         begun.start,
@@ -277,14 +294,15 @@ fn check_within(
         begun.limits,
         begun.checks,
         &mut room.scratch,
+        &mut report,
     );
-    tell_found(found, verdict)
+    tell_found(found, report, &meter, verdict)
 }
 
 /// Checks a buffer by a schema: in the room of a handle, or on the call's own stack where it holds none. Writes the
 /// verdict, and answers its status.
 #[inline(never)]
-pub fn check(
+fn check_framed(
     alloc: Global,
     held: &Held,
     handle: &mut Handle,
@@ -306,6 +324,67 @@ pub fn check(
     };
     handle.put(taken);
     status
+}
+
+/// The same, best where the schema's own root table leads to no table: such a check takes one frame, on its own stack.
+#[inline(never)]
+fn check_flat(
+    alloc: Global,
+    held: &Held,
+    handle: &mut Handle,
+    options: &Options,
+    buffer: &[u8],
+    verdict: &mut Verdict,
+) -> u32
+    ensures told { (a : Answer) × (verdict.new ≡ told a) × IfSchema held.now a (λ s. IsChecked s (levels handle.old.inside) options.now buffer.now a) }
+    ensures status { result ≡ verdict.new.status }
+    ensures kept { handle.new.inside ≡ handle.old.inside }
+{
+    let levels = handle.levels(alloc);
+    let Held::Schema(basis) = held else {
+        return tell_blank(6, verdict);
+    };
+    let Some(begun) = begin_usually(basis, levels, options, buffer) else {
+        return check_framed(alloc, held, handle, options, buffer, verdict);
+    };
+    if begun.limits.depth() > SHALLOW || !basis.loaded().schema.is_plain(begun.root) {
+        return check_framed(alloc, held, handle, options, buffer, verdict);
+    }
+    let mut meter = metered(buffer);
+    let mut report = NO_REPORT;
+    let found = walk_flat_into(
+        &mut meter,
+        &basis.loaded().schema,
+        begun.root,
+        begun.start,
+        begun.ident,
+        begun.limits,
+        begun.checks,
+        &mut report,
+    );
+    tell_found(found, report, &meter, verdict)
+}
+
+/// The same by the way that suits the schema.
+#[inline(always)]
+pub fn check(
+    alloc: Global,
+    held: &Held,
+    handle: &mut Handle,
+    options: &Options,
+    buffer: &[u8],
+    verdict: &mut Verdict,
+) -> u32
+    ensures told { (a : Answer) × (verdict.new ≡ told a) × IfSchema held.now a (λ s. IsChecked s (levels handle.old.inside) options.now buffer.now a) }
+    ensures status { result ≡ verdict.new.status }
+    ensures kept { handle.new.inside ≡ handle.old.inside }
+{
+    match held {
+        Held::Schema(basis) if basis.is_flat() => {
+            check_flat(alloc, held, handle, options, buffer, verdict)
+        }
+        _ => check_framed(alloc, held, handle, options, buffer, verdict),
+    }
 }
 
 /// What a check begins with that tells values at the ends of these paths, as [`prepare`] has it. `Misfit` of the first

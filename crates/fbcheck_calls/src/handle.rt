@@ -2,11 +2,12 @@
 
 ghost use Rattle.std.specs.Prelude.{◌≡◌, MatchResult, None, Option, Some, option_map};
 ghost use Rattle.std.specs.Ptr.{null_ptr};
-ghost use Rattle.fbcheck_calls.specs.Answered.{IsRoomMade, IsTaken};
+ghost use Rattle.fbcheck_calls.specs.Answered.{IsRoomMade, IsTaken, levels};
 ghost use Rattle.fbcheck_calls.specs.declared.held.Held.{Held};
 
 use crate::answer::Answer;
 use crate::basis::open;
+use crate::checking::SHALLOW;
 use crate::detached::Detached;
 use crate::held::{Held, Room};
 use crate::options::Options;
@@ -106,6 +107,24 @@ impl Handle {
         ensures { self.new.inside ≡ Some held.value }
     {
         *self = Handle::holding(Detached::of(held));
+    }
+
+    /// For how many levels a call has room with this handle: those of the room that it holds, or those on its own stack.
+    #[inline(always)]
+    pub fn levels(&mut self, alloc: Global) -> u32
+        ensures value { result ≡ levels self.old.inside }
+        ensures kept { self.new.inside ≡ self.old.inside }
+    {
+        let Some(mut taken) = self.take(alloc) else {
+            return SHALLOW;
+        };
+        let inside = &mut *taken;
+        let count = match inside {
+            Held::Room(room) => room.levels(),
+            Held::Schema(_) => SHALLOW,
+        };
+        self.put(taken);
+        count
     }
 
     /// Has the handle hold this, and frees what it held; where there is no memory for it, it holds what it held.

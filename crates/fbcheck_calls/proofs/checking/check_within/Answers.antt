@@ -1,5 +1,6 @@
 use Rattle.std.proofs.Common.{ap, None, subst, rules}
-use Rattle.fb_rules.specs.declared.fault.{Fault.Fault, Report.Report}
+use Rattle.fb_rules.specs.Told.{stopped}
+use Rattle.fb_rules.specs.declared.site.Stop.{Stop}
 use Rattle.fbcheck_calls.specs.{Answered.IsChecked, Told.found_by}
 use Rattle.fbcheck_calls.specs.declared.answer.Answer.{Answer, TheVariants.NoRoot}
 use Rattle.fb_bfbs.specs.declared.loading.Loaded.{Loaded}
@@ -17,10 +18,10 @@ returns-in_default-begin_usually-clause-told c =
 
 pub returns-clause-told : goal.returns-clause-told
 returns-clause-told c =
-    let found = c.walk-found in
+    let found = c.walk_into-found in
     let begun = c.in-Some.ensures in
-    let answer : Answer = found_by (λ (r : Report). r) (λ (f : Fault). f) found.result in (
+    let answer : Answer = found_by (λ _. found.new.report) (λ (s : Stop). stopped s found.new.meter.count) found.result in (
       answer,
       c.tell_found.ensures.told,
-      by_schema answer (λ s. IsChecked s c.args.room.now c.args.options.now c.args.buffer.now answer) c.in-Schema.is (subst (λ n. IsChecked c.in-Schema.basis n c.args.options.now c.args.buffer.now answer) c.levels.ensures (found_is_checked c.in-Schema.basis c.levels.result c.args.options.now c.args.buffer.now c.in-Some.begun begun.starts.0 begun.starts.1 c.metered.result.bytes c.metered.ensures.bytes c.loaded.result.now.schema (ap (λ (l : Loaded). l.schema) c.loaded.ensures) None (plain_is_plain c.in-Schema.basis c.args.options.now begun.plain) (λ r. r) (λ f. f) found.result found.ensures.yes found.ensures.none found.ensures.no)),
+      by_schema answer (λ s. IsChecked s c.args.room.now c.args.options.now c.args.buffer.now answer) c.in-Schema.is (subst (λ n. IsChecked c.in-Schema.basis n c.args.options.now c.args.buffer.now answer) c.levels.ensures (found_is_checked c.in-Schema.basis c.levels.result c.args.options.now c.args.buffer.now c.in-Some.begun begun.starts.0 begun.starts.1 c.metered-meter.result.bytes c.metered-meter.ensures.bytes c.loaded.result.now.schema (ap (λ (l : Loaded). l.schema) c.loaded.ensures) None (plain_is_plain c.in-Schema.basis c.args.options.now begun.plain) (λ _. found.new.report) (λ (s : Stop). stopped s found.new.meter.count) found.result found.ensures.yes found.ensures.none found.ensures.no)),
     )

@@ -1,8 +1,8 @@
 use Rattle.std.proofs.Common.{sym, subst}
 use Rattle.fbcheck_calls.specs.Answered.{IfSchema, IsChecked}
 use Rattle.fbcheck_calls.proofs.HandleLemmas.{levels_taken}
-use Rattle.fbcheck_calls.proofs.checking.check.Goals.{in-Room, in-Schema}
-use Rattle.fbcheck_calls.proofs.checking.check.Goals as goal
+use Rattle.fbcheck_calls.proofs.checking.check_framed.Goals.{in-Room, in-Schema}
+use Rattle.fbcheck_calls.proofs.checking.check_framed.Goals as goal
 
 pub returns-clause-told : goal.returns-clause-told
 returns-clause-told c =

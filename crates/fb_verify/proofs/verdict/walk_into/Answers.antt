@@ -1,6 +1,6 @@
 use Rattle.std.proofs.Common.{length, refl, ◌∙◌, ap, rules}
 use Rattle.fb_verify.proofs.Frames.{as_many_kept}
-use Rattle.fb_verify.proofs.verdict.walk.Goals as goal
+use Rattle.fb_verify.proofs.verdict.walk_into.Goals as goal
 
 pub returns-clause-read : goal.returns-clause-read
 returns-clause-read g c = search rules
