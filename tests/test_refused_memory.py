@@ -99,7 +99,7 @@ ANSWERS = [
     Plan("a number out of its range", ["--max-depth", "4097"], b"", 2),
     Plan("an option without its value", ["--schema"], b"", 2),
     # The letters of this word, and of each option that it may be meant for, are collected too.
-    Plan("a word that is no option", ["--pith"], b"", 2, guesses=95),
+    Plan("a word that is no option", ["--pith"], b"", 2, guesses=106),
     Plan("an identifier of three bytes", ["--ident", "abc"], b"", 2),
     Plan("a filter with a path", ["--filter", "--path", "name"], b"", 2),
     Plan("a schema file that isn't there", ["--schema", "/none/such"], b"", 2),
