@@ -137,6 +137,9 @@ class Rejects(Case):
         self.same("it is made", run(*BY_N, "--rejects", made, given=SEVEN), Ran(0, lines(good(1)), b""))
         self.same("and empty", (made.read_bytes(), stat.S_ISREG(made.stat().st_mode)), (b"", True))
         self.same("a name alone", run(*BY_N, "--rejects").status, 2)
+        self.file.write_bytes(SEVEN)
+        self.same("before the input is read, which is empty then", run(*BY_N, "--rejects", self.file, self.file),
+                  Ran(0, b"", b""))
 
     def test_messages_come_at_once(self):
         self.file.write_bytes(b"")
