@@ -65,7 +65,7 @@ def framed(message):
 # By what the list says was given: the words, and standard input.
 CALLS = {
     "a bare buffer, read as a stream: what follows its first four bytes is taken for an offset": [((), BARE)],
-    "a message after gRPC's five-byte header; below 256 bytes it's `V2` at 4, and for most of 1,024 or more `S1`": [
+    "a message after gRPC's five-byte header; those below 256 bytes give `V2` at 4, and most of 1,024 or more `S1`": [
         (BY_POST, framed(FIRST))
     ],
     "a file packed by `zstd`; by `zip` it's `declared=67324752`, and `gzip` from a pipe gives `S2`, or a bad first "
@@ -77,7 +77,7 @@ CALLS = {
         ((*BY_POST, "--bare"), FIRST), ((*BY_POST, "--bare"), POST)
     ],
     "a prefix before a message that has one already": [(BY_POST, prefixed(FIRST))],
-    "a prefix put before a finished bare buffer (such as a dump of a socket), which shifts every position by four": [
+    "a prefix put before a finished bare buffer (`Finish`), as in many protocols, which shifts every position by four": [
         ((), prefixed(BARE))
     ],
     "with `--bare` a message whose prefix was taken off": [((*BY_POST, "--bare"), FIRST[4:])],

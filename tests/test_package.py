@@ -114,7 +114,7 @@ class Package(LibraryCase):
         top = FOLDER / "prefix"
         top.mkdir()
         page = (TOP / "README.md").read_text()
-        words = re.search(r"tar xzf (\S+) -C PREFIX (--\S+)`", page)
+        words = re.search(r"tar xzf dist/(\S+) -C PREFIX (--\S+)`", page)
         self.same("it has the name that the README tells", words[1], TARBALL)
         subprocess.run(["tar", "xzf", self.dist / TARBALL, "-C", top, words[2]], check=True)
         self.used(top / "bin/fbcheck", top / "include", top / "lib", top / "lib/pkgconfig")
