@@ -11,6 +11,7 @@ A driver reads commands, one a line, and writes what each answers, and behind it
     threads FILE COUNT THREADS      how many of so many verdicts are alike
     loads FILE COUNT                kilobytes that so many loads take; time FILE COUNT the nanoseconds a check takes
     most LENGTH                     most reads; object NUMBER and field NUMBER NUMBER tell names; close frees the schema
+    commit                          the commit of the library, or a dash if it isn't known
 """
 
 import os
@@ -30,7 +31,7 @@ from tests.support.builder import buffer, changed, messages_of, prefixed
 from tests.support.every_kind import FILE, LITTLE, OPTIONS, PLACE, WHOLE, variants, words_of
 from tests.support.generated import Kept
 from tests.support.header import Reason
-from tests.support.library import OUT, LibraryCase, ran
+from tests.support.library import OUT, LibraryCase, module, ran
 from tests.support.naive import NAMES, Default, Reader
 from tests.support.program import TOP, file_of, folder_of, run
 from tests.support.schemas import INT, TEXT, U_BYTE, a_union, an_object, field, schema, table, union
@@ -377,6 +378,11 @@ class Binding:
         self.same("no message", nothing, "end")
         self.same("messages without a byte", len(re.findall(r"V2 OutOfBuffer at=4 ", blank)), 3)
         self.same("long messages", great, by_m)
+
+    def test_commit(self):
+        """The library's, which isn't known if its sources weren't committed when it was built."""
+        commit = module()._library().fbcheck_commit().decode()
+        self.same("the commit", self.told("commit"), [commit if re.fullmatch("[0-9a-f]{40}", commit) else "-"])
 
     def test_threads(self):
         """A million checks of one schema on four threads."""

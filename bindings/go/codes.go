@@ -2,7 +2,7 @@
 
 package fbcheck
 
-// A Reason tells why a message is refused: the number of its code, as 10 for V10.
+// A Reason says why a message is refused. It is the number of the code: 10 for V10.
 type Reason uint32
 
 // Why a message is refused.
@@ -26,10 +26,10 @@ const (
 	UnknownField    Reason = 16 // a table has a field that the schema lacks or deprecates
 )
 
-// A Kind tells what stands at the end of a path.
+// A Kind says what is at the end of a path.
 type Kind uint32
 
-// What stands at the end of a path, and which part of a Value has it.
+// What is at the end of a path, and which field of a Value has it.
 const (
 	Absent      Kind = 0  // nothing: a table on the way is absent, or the field is, and has no default
 	NoElement   Kind = 1  // nothing: the index is past the vector's end

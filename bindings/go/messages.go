@@ -9,7 +9,7 @@ import (
 	"io"
 )
 
-// Messages goes through the messages of a stream, each with its size in front (4 bytes, the lowest first).
+// Messages goes through the messages of a stream, each with its size in front (4 bytes, little-endian).
 //
 //	messages := schema.Messages(os.Stdin)
 //	for messages.Next() {
@@ -32,8 +32,8 @@ type Messages struct {
 	err      error
 }
 
-// Messages goes through the messages of a stream, each of at most 64 MiB. The schema must have been made with Prefixed,
-// as each message has its size in front.
+// Messages goes through the messages of a stream, each of at most 64 MiB (see MaxBytes). The schema's options must be
+// Prefixed, since each message has its size in front.
 func (s *Schema) Messages(reader io.Reader) *Messages {
 	if s.checker.options.prefixed == 0 {
 		panic("fbcheck: messages of a stream begin with their size, which Prefixed says")
@@ -41,8 +41,8 @@ func (s *Schema) Messages(reader io.Reader) *Messages {
 	return &Messages{schema: s, reader: reader, maxBytes: 64 << 20, piece: make([]byte, 1<<16)}
 }
 
-// MaxBytes allows at most so many bytes a message, its size included, from 8 to 2^31 - 1. It is called before Next. So
-// much room is taken at most, and kept: twice the longest message, as its size declares it.
+// MaxBytes sets the most bytes of a message, its size included, from 8 to 2^31 - 1. Call it before Next. It also bounds
+// the memory for messages, which grows to twice what the longest message declares, and is kept.
 func (m *Messages) MaxBytes(bytes int) *Messages {
 	if bytes < 8 || bytes > 1<<31-1 {
 		panic(fmt.Sprintf("fbcheck: MaxBytes(%d) isn't from 8 to 2^31 - 1", bytes))
@@ -54,7 +54,7 @@ func (m *Messages) MaxBytes(bytes int) *Messages {
 	return m
 }
 
-// Next goes on to the next message. It is false at the end, and where the stream goes no further, which Err tells.
+// Next goes on to the next message. It returns false at the stream's end, and if the stream can't go on: see Err.
 func (m *Messages) Next() bool {
 	m.checked = false
 	if m.room == nil {
@@ -116,13 +116,13 @@ func (m *Messages) fill() {
 	}
 }
 
-// Message is the message with its size in front, until the next call of Next. Nothing has checked it: Verdict does, and
-// Read and Check of the schema, by which other goroutines can check a copy.
+// Message returns the message with its size in front, valid until the next call of Next. It isn't checked yet: Verdict
+// checks it, or the schema's Check and Read; other goroutines can check a copy.
 func (m *Messages) Message() []byte {
 	return m.room[:m.framer.held:m.framer.held]
 }
 
-// Verdict is the verdict on the message, which is checked once.
+// Verdict returns the verdict on the message, which is checked at the first call.
 func (m *Messages) Verdict() Verdict {
 	if !m.checked {
 		m.verdict, m.checked = m.schema.Check(m.Message()), true
@@ -130,7 +130,7 @@ func (m *Messages) Verdict() Verdict {
 	return m.verdict
 }
 
-// Err is what has ended the stream: nil, the error of its reader, or *Error.
+// Err returns why Next returned false: nil at the stream's end, or else the reader's error or an *Error.
 func (m *Messages) Err() error {
 	if m.err == io.EOF {
 		return nil

@@ -11,7 +11,7 @@ import (
 	"unsafe"
 )
 
-// String is the code and name, as "V10 NoTerminator".
+// String returns the code and name, such as "V10 NoTerminator".
 func (r Reason) String() string {
 	if r == TooLong {
 		return "TooLong"
@@ -26,20 +26,20 @@ func faultName(status, reason C.uint32_t) string {
 	return string(text[:length])
 }
 
-// A Verdict is what a check tells of a message: its counts, or its first fault.
+// A Verdict is what a check reports about a message: its counts, or its first fault.
 type Verdict struct {
 	OK       bool
-	Tables   uint32 // of a good message: the tables visited
-	Depth    uint32 // of a good message: the most tables open at once
+	Tables   uint32 // of an ok message: the tables visited
+	Depth    uint32 // of an ok message: the greatest depth of nested tables; the root alone is 1
 	Reads    uint64 // the reads counted; of a bad message those up to its fault
 	Reason   Reason // of a bad message: why it's refused
-	Position uint64 // of a bad message: the position in bytes from the first one
+	Position uint64 // of a bad message: where its fault is, in bytes from its beginning; perhaps past its end
 	Object   uint32 // of a bad message: the number of the object under check, which ObjectName names
-	Field    int64  // of a bad message: the number of its field, or -1
+	Field    int64  // of a bad message: the number of the field under check, or -1
 	Place    string // of a bad message: the place in words, as "in items[2].name [game.Item.name]", at most 1,024 bytes
 }
 
-// String is what stands in a line of the program.
+// String returns what the program's line has.
 func (v Verdict) String() string {
 	if v.OK {
 		return fmt.Sprintf("ok tables=%d depth=%d reads=%d", v.Tables, v.Depth, v.Reads)
@@ -75,40 +75,40 @@ func refused(verdict C.fbcheck_verdict, place string) Verdict {
 	}
 }
 
-// A BadBuffer is the error that a message is bad.
+// A BadBuffer is the error for a bad message.
 type BadBuffer struct {
 	Verdict Verdict
 }
 
-// Error is what stands in a line of the program.
+// Error returns what the program's line has.
 func (b *BadBuffer) Error() string {
 	return "fbcheck: " + b.Verdict.String()
 }
 
-// A Status tells why a call couldn't be served.
+// A Status says why a call failed.
 type Status uint32
 
-// Why a call couldn't be served.
+// Why a call failed.
 const (
 	UnknownOptions Status = C.FBCHECK_UNKNOWN_OPTIONS // PlainBytes was asked for without Strict
 	OutOfRange     Status = C.FBCHECK_OUT_OF_RANGE    // MaxDepth is above 4096
-	NoIdent        Status = C.FBCHECK_NO_IDENT        // Ident hasn't 4 bytes; or the schema's own has some, but not 4
+	NoIdent        Status = C.FBCHECK_NO_IDENT        // Ident isn't 4 bytes, or came with OwnIdent; or the schema's own isn't
 	NoRoot         Status = C.FBCHECK_NO_ROOT         // the schema has no root table, or none of this name
 	LongFile       Status = C.FBCHECK_TOO_LONG        // the schema file has 2^31 bytes or more
-	NotWellFormed  Status = C.FBCHECK_NOT_WELL_FORMED // the file is no binary schema, or a damaged one
-	BadSchema      Status = C.FBCHECK_BAD_SCHEMA      // its rows are no schema
+	NotWellFormed  Status = C.FBCHECK_NOT_WELL_FORMED // the file isn't a binary schema, or is damaged
+	BadSchema      Status = C.FBCHECK_BAD_SCHEMA      // its contents aren't a legal schema
 	RootNotListed  Status = C.FBCHECK_ROOT_NOT_LISTED // its root table isn't listed in it
 	NoMemory       Status = C.FBCHECK_NO_MEMORY       // memory was refused
 	Oversize       Status = C.FBCHECK_OVERSIZE        // a message of the stream is longer than MaxBytes
 	Truncated      Status = C.FBCHECK_TRUNCATED       // the stream ends inside a message
 	Failed         Status = C.FBCHECK_FAILED          // the stream has failed before
-	BadPath        Status = C.FBCHECK_BAD_PATH        // the text is no path of the schema
+	BadPath        Status = C.FBCHECK_BAD_PATH        // the text isn't a path of the schema
 	TooManySteps   Status = C.FBCHECK_NO_ROOM         // the path has more than 31 steps
-	Misfit         Status = C.FBCHECK_MISFIT          // a path is none of this schema from this root
-	TooMuchShared  Status = C.FBCHECK_TOO_MUCH_SHARED // the file has more rows, or longer names, than its length pays for
-	NotPlanned     Status = C.FBCHECK_NOT_PLANNED     // a schema was asked for what it wasn't loaded with, as Strict
+	Misfit         Status = C.FBCHECK_MISFIT          // a path isn't one of this schema from this root table
+	TooMuchShared  Status = C.FBCHECK_TOO_MUCH_SHARED // the file has more rows, or longer names, than its length allows
+	NotPlanned     Status = C.FBCHECK_NOT_PLANNED     // the schema wasn't loaded with what is demanded, such as Strict
 	UnmarkedBytes  Status = C.FBCHECK_UNMARKED_BYTES  // Strict can't tell what a field of type [ubyte] holds
-	NoSuchTable    Status = C.FBCHECK_NO_SUCH_TABLE   // the file marks a nested buffer of a table that it doesn't have
+	NoSuchTable    Status = C.FBCHECK_NO_SUCH_TABLE   // the file marks a nested buffer of a table that it lacks
 )
 
 var texts = map[Status]string{
@@ -132,13 +132,13 @@ var texts = map[Status]string{
 // noSchema is said behind the fault of a file that isn't well-formed.
 const noSchema = "; this is no binary schema, which flatc --binary --schema makes"
 
-// An Error is that of a call that couldn't be served.
+// An Error says why a call failed.
 type Error struct {
 	Status Status
 	text   string
 }
 
-// Error is the text that the program tells, with the root or path that was asked for.
+// Error returns the program's text, with the root or path that was asked for.
 func (e *Error) Error() string {
 	return "fbcheck: " + e.text
 }
@@ -182,7 +182,7 @@ func naming(text, asked string) string {
 	return fmt.Sprintf("%s (%q)", text, asked)
 }
 
-// String is the name of the kind.
+// String returns the name of the kind.
 func (k Kind) String() string {
 	if int(k) >= len(kinds) {
 		return fmt.Sprintf("Kind(%d)", uint32(k))
@@ -190,13 +190,13 @@ func (k Kind) String() string {
 	return kinds[k]
 }
 
-// A Value is what stands at the end of a path. What its kind has not is 0.
+// A Value is what is at the end of a path. The fields that its kind doesn't have are 0.
 type Value struct {
 	Kind  Kind
 	Uint  uint64
 	Int   int64
 	Float float64
-	Bytes []byte // where they stand in the message
+	Bytes []byte // a slice of the message
 }
 
 func valueOf(told *C.fbcheck_value, message []byte) Value {
@@ -215,8 +215,8 @@ func valueOf(told *C.fbcheck_value, message []byte) Value {
 	return value
 }
 
-// String is a text as it stands, a Bool or number in words, and else the kind, with how many elements a vector has, or
-// a union's type.
+// String returns a string's text, a Bool or a number; otherwise the kind, with a vector's element count or a union's
+// type.
 func (v Value) String() string {
 	switch v.Kind {
 	case Bool:

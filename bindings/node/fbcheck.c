@@ -191,6 +191,14 @@ static napi_value begin(napi_env env, napi_callback_info info)
     return version;
 }
 
+/* commit(): the commit that last changed the library's sources, or undefined if they weren't committed. */
+static napi_value commit(napi_env env, napi_callback_info info)
+{
+    const char *text = fbcheck_commit();
+    (void)info;
+    return *text == '?' ? NULL : text_of(env, text, NAPI_AUTO_LENGTH);
+}
+
 /* A checker of these rows as a value, which frees it. */
 static napi_value holding(napi_env env, struct rows *rows, const fbcheck_options *options)
 {
@@ -462,10 +470,12 @@ NAPI_MODULE_INIT()
     static const struct {
         const char *name;
         napi_callback call;
-    } calls[] = { { "begin", begin },     { "load", load },          { "choose", choose },   { "close", close_schema },
-                  { "table", table },     { "locate", locate },      { "resolve", resolve }, { "read", read_values },
-                  { "pathHint", path_hint }, { "rootHint", root_hint }, { "mostReads", most_reads },
-                  { "name", name },       { "stream", stream_of },   { "feed", feed },       { "finish", finish } };
+    } calls[] = { { "begin", begin },         { "commit", commit },        { "load", load },
+                  { "choose", choose },       { "close", close_schema },   { "table", table },
+                  { "locate", locate },       { "resolve", resolve },      { "read", read_values },
+                  { "pathHint", path_hint },  { "rootHint", root_hint },   { "mostReads", most_reads },
+                  { "name", name },           { "stream", stream_of },     { "feed", feed },
+                  { "finish", finish } };
     for (size_t i = 0; i < sizeof calls / sizeof *calls; i++) {
         napi_value made;
         napi_create_function(env, calls[i].name, NAPI_AUTO_LENGTH, calls[i].call, NULL, &made);

@@ -373,4 +373,6 @@ async function* later(schema, stream, pieces) {
   finish(stream);
 }
 
-module.exports = { Schema, BadBuffer, FbcheckError };
+const commit = native.commit();
+
+module.exports = { Schema, BadBuffer, FbcheckError, commit };

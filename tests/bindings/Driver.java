@@ -1,6 +1,7 @@
 // Does what the lines of standard input say, by the package; tests/test_bindings.py tells what each line means.
 
 import fbcheck.BadBufferException;
+import fbcheck.Fbcheck;
 import fbcheck.FbcheckException;
 import fbcheck.FieldPath;
 import fbcheck.Messages;
@@ -255,6 +256,9 @@ final class Driver {
             }
             case "loads" -> {
                 return loads(rest);
+            }
+            case "commit" -> {
+                return Fbcheck.commit().orElse("-");
             }
             case "time" -> {
                 return time(bytes(rest.get(0)), Integer.parseInt(rest.get(1)));

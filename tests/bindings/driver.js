@@ -4,7 +4,7 @@
 const fs = require('node:fs');
 const assert = require('node:assert');
 const { Worker, isMainThread, parentPort, workerData } = require('node:worker_threads');
-const { BadBuffer, Schema } = require('../../bindings/node');
+const { BadBuffer, Schema, commit } = require('../../bindings/node');
 
 const NUMBERS = { max_depth: 'maxDepth', max_tables: 'maxTables', reads_per_byte: 'readsPerByte' };
 const SWITCHES = {
@@ -179,6 +179,7 @@ async function done([name, ...rest], to) {
     case 'misfit': return read(schema, [rest[2], schema.with(options([rest[0]])).path(rest[1])]);
     case 'threads': return threads(...loaded, rest);
     case 'loads': return loads(rest);
+    case 'commit': return commit ?? '-';
     case 'time': return time(schema, rest);
     case 'most': return String(schema.mostReads(BigInt(rest[0])));
     case 'object': return schema.objectName(Number(rest[0])) ?? '-';

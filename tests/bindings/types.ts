@@ -1,5 +1,5 @@
 // What the types of the module for Node let pass, and what they don't: tsc --strict compiles it.
-import { BadBuffer, FbcheckError, Schema, type Good, type Value } from '../../bindings/node';
+import { BadBuffer, FbcheckError, Schema, commit, type Good, type Value } from '../../bindings/node';
 
 export function texts(schema: Schema, message: Uint8Array, later: AsyncIterable<Uint8Array>): (string | number)[] {
   const [name, count, place] = schema.read(message, 'name', schema.path('count'), 'place');
@@ -13,6 +13,8 @@ export function texts(schema: Schema, message: Uint8Array, later: AsyncIterable<
   // @ts-expect-error: no such code
   if (error instanceof FbcheckError && error.code === 'NO_ROT') return [];
   if (error instanceof FbcheckError && error.code === 'UNMARKED_BYTES') return [];
+  // @ts-expect-error: it may be unknown
+  commit.toUpperCase();
   // @ts-expect-error: only a text has a string
   name.value.toUpperCase();
   // @ts-expect-error: no such option
@@ -26,5 +28,6 @@ export function texts(schema: Schema, message: Uint8Array, later: AsyncIterable<
     name.kind === 'text' ? name.value.toUpperCase() : '',
     count.kind === 'int' ? count.value.toString() : rest.length,
     good.depth,
+    commit ?? '',
   ];
 }

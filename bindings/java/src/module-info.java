@@ -1,4 +1,4 @@
-/** Checks FlatBuffers by a binary schema. On the module path {@code --enable-native-access=fbcheck} lets it call. */
+/** Checks FlatBuffers against a binary schema. On the module path it needs {@code --enable-native-access=fbcheck}. */
 module fbcheck {
     exports fbcheck;
 }

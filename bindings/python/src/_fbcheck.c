@@ -436,18 +436,18 @@ PyObject *schema_verify(Schema *self, PyObject *message)
 
 static PyMethodDef schema_methods[] = {
     { "check", (PyCFunction)schema_check, METH_O,
-      "check($self, message, /)\n--\n\nThe verdict on a message: whatever has bytes." },
+      "check($self, message, /)\n--\n\nChecks a message (anything with the buffer protocol); returns the verdict." },
     { "verify", (PyCFunction)schema_verify, METH_O,
-      "verify($self, message, /)\n--\n\nThe verdict on a good message; raises BadBuffer where it is bad." },
+      "verify($self, message, /)\n--\n\nChecks a message; returns the verdict if it is ok, or raises BadBuffer." },
     { "read", (PyCFunction)(void (*)(void))schema_read, METH_FASTCALL,
       "read($self, message, path, /, *paths)\n--\n\n"
       "Checks a message once, and reads the value at the end of a path, or a tuple of those at the end of several.\n\n"
-      "None says that nothing is there: the field, or one on the way, is absent and has no default, the vector has\n"
-      "fewer elements, or the union another type. Text is a str; bytes of it that aren't UTF-8 stand in it as with\n"
-      "os.fsdecode(), and text.encode('utf-8', 'surrogateescape') gives them back. A struct is a memoryview of its\n"
-      "bytes, and a vector of numbers one of these (of Bools and structs, of their bytes): read-only slices of the\n"
-      "message, which live as long as they are held, and show what is written there later.\n\n"
-      "Raises BadBuffer, whose place takes a second check, and PathError." },
+      "None means that nothing is there: the field, or one on the way, is absent and has no default, the vector has\n"
+      "fewer elements, or the union another type. A text is a str; bytes of it that aren't UTF-8 are as with\n"
+      "os.fsdecode(): text.encode('utf-8', 'surrogateescape') gives them back. A struct is a memoryview of its bytes,\n"
+      "and a vector of numbers one of these (of Bools and structs, of their bytes): read-only slices of the message,\n"
+      "which keep it alive, and show what is written there later.\n\n"
+      "Raises PathError, and BadBuffer: a bad message is walked once more, to name the place of its fault." },
     { "view", (PyCFunction)schema_view, METH_O,
       "view($self, message, /)\n--\n\n"
       "Checks a message once, and gives a View of it, which reads its values without another check. It keeps the\n"

@@ -282,7 +282,7 @@ static uint32_t add_values(Gathering *on)
     return FBCHECK_OK;
 }
 
-/* Keeps the number of the bad message in the room, and of the first ones the verdict, by a second check for its place. */
+/* Keeps a bad message's number in the room, and of the first ones the verdict, by a second check for its place. */
 static uint32_t add_bad(Gathering *on)
 {
     char place[FBCHECK_LONGEST_PLACE];

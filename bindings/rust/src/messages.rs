@@ -8,7 +8,7 @@ use crate::{calls, Schema, Verdict};
 /// How many bytes are asked of the reader at once.
 const PIECE: usize = 1 << 16;
 
-/// The messages of a stream, one after another, however it comes in pieces.
+/// The messages of a stream, one after another, whatever pieces it comes in.
 ///
 /// ```no_run
 /// # fn main() -> Result<(), Box<dyn std::error::Error>> {
@@ -50,11 +50,11 @@ impl<R: Read> Messages<R> {
         }
     }
 
-    /// At most so many bytes a message, its size included: 64 MiB. So much room is kept, of which the system gives
-    /// what the longest message takes.
+    /// The most bytes of a message, its size included. Default: 64 MiB. That much memory is reserved, but only what the
+    /// longest message takes is used.
     ///
     /// # Panics
-    /// Where it's below 8 or above 2^31 - 1, or a message was asked for already.
+    /// If it's below 8 or above 2^31 - 1, or a message was asked for already.
     #[must_use]
     #[track_caller]
     pub fn max_bytes(mut self, bytes: usize) -> Messages<R> {
@@ -65,10 +65,10 @@ impl<R: Read> Messages<R> {
         self
     }
 
-    /// The next message with its size in front, checked as such, or nothing at the end.
+    /// The next message, with its size in front, and the verdict on it; `None` at the stream's end.
     ///
     /// # Errors
-    /// The reader failed, or the stream is none of such messages. It ends there.
+    /// The reader failed, a message is too long, or the stream ends inside one.
     pub fn next_message(&mut self) -> Result<Option<(&[u8], Verdict)>, StreamError> {
         if self.next_unchecked()?.is_none() {
             return Ok(None);
@@ -77,10 +77,10 @@ impl<R: Read> Messages<R> {
         Ok(Some((message, self.schema.check(message))))
     }
 
-    /// The next message with its size in front, for [`Schema::read`], or another thread, to check it.
+    /// The next message, with its size in front, unchecked: [`Schema::read`] checks it, or another thread a copy of it.
     ///
     /// # Errors
-    /// As [`Messages::next_message`].
+    /// Those of [`Messages::next_message`].
     pub fn next_unchecked(&mut self) -> Result<Option<&[u8]>, StreamError> {
         if self.room.is_empty() {
             self.room = vec![0; self.max_bytes];
@@ -147,7 +147,7 @@ impl<R: Read> Messages<R> {
     }
 }
 
-/// Why a stream went no further.
+/// Why a stream can't go on.
 #[derive(Debug)]
 #[non_exhaustive]
 pub enum StreamError {
@@ -155,7 +155,7 @@ pub enum StreamError {
     Read(std::io::Error),
     /// A message is longer than [`Messages::max_bytes`].
     Oversize {
-        /// So many bytes, without its size.
+        /// How many bytes its size declares.
         declared: u32,
     },
     /// The stream ends inside a message.

@@ -1,19 +1,19 @@
-//! What is told of messages, values and schema files.
+//! What calls report about messages, values and schema files.
 
 use std::fmt;
 
 use crate::calls;
 use crate::reason::{Reason, REASONS};
 
-/// What a check tells of a message.
+/// What a check reports about a message: its counts, or its first fault.
 pub type Verdict = Result<Report, Fault>;
 
-/// The counts of a good message.
+/// The counts of an ok message.
 #[derive(Clone, Copy, Debug, PartialEq, Eq)]
 pub struct Report {
     /// The tables visited.
     pub tables: u32,
-    /// The most tables open at once.
+    /// The greatest depth of nested tables; the root alone is 1.
     pub depth: u32,
     /// The reads counted.
     pub reads: u64,
@@ -41,7 +41,7 @@ impl fmt::Display for Report {
 }
 
 impl Reason {
-    /// The number of its code: 10 for `V10`.
+    /// The number of its code: 10 for `V10`, 0 for `TooLong`.
     pub fn code(self) -> u32 {
         self as u32
     }
@@ -60,17 +60,17 @@ impl fmt::Display for Reason {
 #[derive(Clone, Debug, PartialEq, Eq)]
 #[non_exhaustive]
 pub struct Fault {
-    /// Why it is refused.
+    /// Why the message is refused.
     pub reason: Reason,
-    /// The position in bytes from the first one.
+    /// Where the fault is, in bytes from the message's beginning; a wrong offset may put it past the end.
     pub position: u64,
     /// The number of the object under check, which [`Schema::object_name`](crate::Schema::object_name) names.
     pub object: u32,
-    /// The number of its field, unless it's the whole object.
+    /// The number of the field under check, unless it's the whole object.
     pub field: Option<u32>,
-    /// The reads counted by then.
+    /// The reads counted up to then.
     pub reads: u64,
-    /// The place in words, as `in items[2].name [game.Item.name]`; at most 1,024 bytes of it.
+    /// The place in words, such as `in items[2].name [game.Item.name]`, cut after 1,024 bytes.
     pub place: String,
 }
 
@@ -92,7 +92,7 @@ fn number_or_dash(number: Option<u32>) -> String {
     number.map_or("-".to_owned(), |number| number.to_string())
 }
 
-/// As the program's line tells it behind `bad`.
+/// What the program's line has after `bad`.
 impl fmt::Display for Fault {
     fn fmt(&self, to: &mut fmt::Formatter) -> fmt::Result {
         let (reason, field) = (self.reason, number_or_dash(self.field));
@@ -107,7 +107,7 @@ impl fmt::Display for Fault {
 
 impl std::error::Error for Fault {}
 
-/// What stands at the end of a path. Bytes are the message's own.
+/// What is at the end of a path. Bytes are slices of the message.
 #[derive(Clone, Copy, Debug, PartialEq)]
 pub enum Value<'m> {
     /// Nothing: the field, or one on the way, is absent and has no default.
@@ -126,13 +126,13 @@ pub enum Value<'m> {
     Float(f64),
     /// The bytes of a string, which need not be UTF-8.
     Text(&'m [u8]),
-    /// The bytes of a struct as they stand, padding included.
+    /// The bytes of a struct, padding included.
     Struct(&'m [u8]),
-    /// How many elements a vector has; of scalars and structs their bytes in a row, else none.
+    /// How many elements a vector or array has, and their bytes if they are scalars or structs (else none).
     Vector(u64, &'m [u8]),
     /// A table.
     Table,
-    /// A union by its type, which is 0 for none.
+    /// A union, with its type, which is 0 for none.
     Union(u64),
 }
 
@@ -157,7 +157,7 @@ impl<'m> Value<'m> {
         }
     }
 
-    /// The text of a string that is UTF-8.
+    /// The text, if this is a string of UTF-8.
     pub fn as_str(&self) -> Option<&'m str> {
         match *self {
             Value::Text(bytes) => std::str::from_utf8(bytes).ok(),
@@ -166,7 +166,7 @@ impl<'m> Value<'m> {
     }
 }
 
-/// A text, a Bool or number in words, and else the kind, with how many elements a vector has, or a union's type.
+/// A string's text, a Bool or a number; otherwise the kind, with a vector's element count or a union's type.
 impl fmt::Display for Value<'_> {
     fn fmt(&self, to: &mut fmt::Formatter) -> fmt::Result {
         match *self {
@@ -190,19 +190,19 @@ fn float(bytes: &[u8]) -> f64 {
     }
 }
 
-/// Why there is no schema, or no path. Each is told as the program tells it, with the root or path that was asked for.
+/// Why no schema or path was made. Its text is the program's, with the root or path that was asked for.
 #[derive(Clone, Debug, PartialEq, Eq)]
 #[non_exhaustive]
 pub enum Error {
-    /// The file is no binary schema, or a damaged one.
+    /// The schema file isn't a binary schema, or is damaged.
     NotWellFormed(Fault),
-    /// Its rows are no schema.
+    /// Its contents aren't a legal schema.
     BadSchema {
         /// The number of the code: 2 for `C2`.
         code: u32,
         /// The number of the object or enum.
         owner: u32,
-        /// The place of the field or member in its list.
+        /// The index of the field or member in its list.
         part: Option<u32>,
     },
     /// Its root table isn't listed in it.
@@ -211,41 +211,41 @@ pub enum Error {
     NoMemory,
     /// The schema file has 2^31 bytes or more.
     TooLong,
-    /// It has more rows, or longer names, than its length pays for.
+    /// It has more rows, or longer names, than its length allows.
     TooMuchShared,
     /// The schema has no root table of its own.
     NoRoot,
     /// The schema has no table of this name.
     NoSuchRoot {
-        /// The name, which was asked for as the root.
+        /// The name that was asked for.
         root: String,
-        /// The names that there are.
+        /// The names of tables that exist.
         hint: String,
     },
-    /// The schema's own identifier was asked for, and it has some bytes, but not 4.
+    /// The schema's own identifier was asked for, and it declares one that isn't 4 bytes long.
     NoIdent,
     /// A depth above 4,096 was asked for.
     OutOfRange,
-    /// The text is no path of the schema.
+    /// The text isn't a path of the schema.
     BadPath {
         /// The number of the code: 2 for `P2`.
         code: u32,
-        /// With `P1` the place in the text, else the number of the step.
+        /// With `P1` the position in the text, else the index of the step.
         at: u64,
         /// The text.
         path: String,
-        /// The names that there are, and the one that may have been meant, or what is there instead; empty with `P1`.
+        /// The names that exist, with the one that may have been meant, or what is there instead; empty with `P1`.
         hint: String,
     },
     /// This path has more than 31 steps.
     TooManySteps(String),
     /// [`Options::plain_bytes`](crate::Options::plain_bytes) was asked for without `strict`.
     UnknownOptions,
-    /// A schema was asked for demands, such as [`Options::strict`](crate::Options::strict), that it wasn't loaded with.
+    /// The schema wasn't loaded with the demands of the options, such as [`Options::strict`](crate::Options::strict).
     NotPlanned,
     /// Strict checks can't tell whether this field of type `[ubyte]` is a nested buffer or flexbuffer.
     UnmarkedBytes(String),
-    /// The schema file marks this field as a nested buffer, of a table that it doesn't have.
+    /// The schema file marks this field as a nested buffer of a table that the file doesn't have.
     NoSuchTable(String),
 }
 

@@ -287,6 +287,8 @@ func done(schema **fbcheck.Schema, words []string, to io.Writer) (told string, e
 		return threads(*schema, rest), nil
 	case "loads":
 		return loads(rest), nil
+	case "commit":
+		return dash(fbcheck.Commit()), nil
 	case "time":
 		return timed(*schema, rest), nil
 	case "most":

@@ -1,6 +1,6 @@
 package fbcheck;
 
-/** A message was refused. */
+/** A message is bad. */
 public final class BadBufferException extends FbcheckException {
     private static final long serialVersionUID = 1;
 

@@ -28,6 +28,7 @@ final class Calls {
     private static final SymbolLookup LIBRARY = library(System.getProperty("fbcheck.library"));
     private static final Linker.Option CRITICAL = Linker.Option.critical(true);
 
+    private static final MethodHandle COMMIT = call("fbcheck_commit", Codes.COMMIT_WORDS);
     private static final MethodHandle LOCATE = call("fbcheck_locate", Codes.LOCATE_WORDS, CRITICAL);
     private static final MethodHandle LOCATE_LONG = call("fbcheck_locate", Codes.LOCATE_WORDS);
     private static final MethodHandle READ = call("fbcheck_read", Codes.READ_WORDS, CRITICAL);
@@ -101,6 +102,11 @@ final class Calls {
         } catch (Throwable thrown) {
             throw new AssertionError(thrown);
         }
+    }
+
+    static String commit() {
+        MemorySegment text = told(() -> (MemorySegment) COMMIT.invokeExact());
+        return text.reinterpret(Long.MAX_VALUE).getString(0);
     }
 
     /** Of a bad message it writes the place, as much of it as there is room for, and how many bytes the whole has. */

@@ -2,25 +2,25 @@ package fbcheck;
 
 import java.util.Optional;
 
-/** A call couldn't be served. */
+/** Says why a call failed. */
 public class FbcheckException extends RuntimeException {
     private static final long serialVersionUID = 1;
 
-    /** Why a call couldn't be served: the statuses of {@code fbcheck.h}. */
+    /** Why a call failed: the statuses of {@code fbcheck.h}. */
     public enum Status {
-        /** A message was refused: {@link BadBufferException} has the verdict. */
+        /** A message is bad: {@link BadBufferException} has the verdict. */
         BAD(Codes.BAD, ""),
         /** {@link Options#maxDepth} is above 4,096. */
         OUT_OF_RANGE(Codes.OUT_OF_RANGE, "maxDepth is above " + Codes.DEEPEST),
-        /** The schema's own identifier was asked for, and it has some bytes, but not 4. */
+        /** The schema's own identifier was asked for, and it declares one that isn't 4 bytes long. */
         NO_IDENT(Codes.NO_IDENT, "the schema's identifier isn't four bytes"),
         /** The schema has no root table of its own, or none of the name that was asked for. */
         NO_ROOT(Codes.NO_ROOT, "no root table"),
         /** The schema file has 2^31 bytes or more. */
         TOO_LONG(Codes.TOO_LONG, "schema: L5 TooLong"),
-        /** The file is no binary schema, or a damaged one. */
+        /** The schema file isn't a binary schema, or is damaged. */
         NOT_WELL_FORMED(Codes.NOT_WELL_FORMED, ""),
-        /** Its rows are no schema. */
+        /** Its contents aren't a legal schema. */
         BAD_SCHEMA(Codes.BAD_SCHEMA, ""),
         /** Its root table isn't listed in it. */
         ROOT_NOT_LISTED(Codes.ROOT_NOT_LISTED, "schema: L3 RootNotListed"),
@@ -32,20 +32,20 @@ public class FbcheckException extends RuntimeException {
         TRUNCATED(Codes.TRUNCATED, ""),
         /** The stream has failed before. */
         FAILED(Codes.FAILED, "stream: S4 Failed"),
-        /** The text is no path of the schema. */
+        /** The text isn't a path of the schema. */
         BAD_PATH(Codes.BAD_PATH, ""),
         /** The path has more than 31 steps. */
         TOO_MANY_STEPS(Codes.NO_ROOM, "the path has more than " + Codes.STEPS + " steps"),
-        /** A path is none of this schema from this root. */
+        /** A path isn't one of this schema from this root table. */
         MISFIT(Codes.MISFIT, "a path is none of this schema from this root"),
-        /** The schema file has more rows, or longer names, than its length pays for. */
+        /** The schema file has more rows, or longer names, than its length allows. */
         TOO_MUCH_SHARED(Codes.TOO_MUCH_SHARED, "schema: L6 TooMuchShared"),
-        /** A schema was asked for demands, such as {@link Demand#STRICT}, that it wasn't loaded with. */
+        /** The options have demands, such as {@link Demand#STRICT}, that the schema wasn't loaded with. */
         NOT_PLANNED(Codes.NOT_PLANNED, "the schema was loaded with other demands: ask for these when you load it"),
         /** Strict checks can't tell whether a field of type {@code [ubyte]} is a nested buffer or flexbuffer. */
         UNMARKED_BYTES(Codes.UNMARKED_BYTES, "strict can't tell which bytes are nested buffers or flexbuffers: %s;"
                 + " flatc --bfbs-builtins writes it to the .bfbs, plainBytes takes such fields as bytes"),
-        /** The schema file marks a field as a nested buffer, of a table that it doesn't have. */
+        /** The schema file marks a field as a nested buffer of a table that the file doesn't have. */
         NO_SUCH_TABLE(Codes.NO_SUCH_TABLE, "strict can't find the table of a nested buffer: %s;"
                 + " plainBytes takes such fields as bytes");
 
@@ -77,7 +77,7 @@ public class FbcheckException extends RuntimeException {
         this.status = status;
     }
 
-    /** Why the call couldn't be served. */
+    /** Why the call failed. */
     public Status status() {
         return status;
     }

@@ -1,8 +1,8 @@
 package fbcheck;
 
 /**
- * A path that was resolved, which serves every message that is checked by its schema from the same root table, and no
- * other: elsewhere it may lead to another field.
+ * A resolved path. It is for messages that are checked by the schema that resolved it, from the same root table: with
+ * another schema or root it may lead to a different field.
  */
 public final class FieldPath {
     final long[] steps;

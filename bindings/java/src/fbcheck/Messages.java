@@ -10,7 +10,7 @@ import java.util.Arrays;
 import java.util.Iterator;
 import java.util.NoSuchElementException;
 
-/** The messages of a stream, which are gone through once, by one thread at a time. */
+/** The messages of a stream, to go through once, by one thread at a time. */
 public final class Messages implements Iterable<Messages.Message>, Iterator<Messages.Message> {
     /** A message of a stream, which any thread may use. */
     public static final class Message {
@@ -23,12 +23,12 @@ public final class Messages implements Iterable<Messages.Message>, Iterator<Mess
             this.bytes = bytes;
         }
 
-        /** Its own bytes, with its size in front. Nothing has checked them: {@link #verdict} does, and the schema. */
+        /** Its own bytes, with its size in front, unchecked: {@link #verdict} and the schema check them. */
         public byte[] bytes() {
             return bytes;
         }
 
-        /** The verdict on it, which is checked when this is asked first. */
+        /** The verdict on it. The first call checks the message. */
         public synchronized Verdict verdict() {
             if (verdict == null) {
                 verdict = schema.check(bytes);

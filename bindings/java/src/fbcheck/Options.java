@@ -10,59 +10,60 @@ import java.util.HashSet;
 import java.util.Set;
 
 /**
- * What is asked of a message; the limits of loading a schema stay as they are. {@link #DEFAULT} asks what the verifier
- * of FlatBuffers for C++ does, with a budget of reads, and each method makes options with one thing changed. A limit of
- * 0 allows nothing. Numbers of the type long and those of tables are unsigned.
+ * What a check asks of a message. {@link #DEFAULT} asks for the plain checks within a budget of reads, and each method
+ * returns options with one thing changed. A limit of 0 allows nothing; all limits are unsigned. Schema files are always
+ * loaded within the default limits. The defaults are in parentheses.
  *
- * @param root the root table by its name with its namespace, as {@code game.Monster}; null for the schema's own
- * @param maxDepth at most so many tables one inside another: 64, and up to 4,096; each thread keeps room for as many
- * @param maxTables at most so many tables visited: 1,000,000
- * @param maxReads at most so many counted reads: 100,000,000
- * @param readsPerByte at most so many counted reads for each byte and for 64 more: 64
- * @param ident the file identifier that a message must have, of four bytes; null for any
- * @param ownIdent whether it must be the schema's own, or any where it declares none: false
- * @param prefixed whether a message begins with its size (4 bytes), from where positions count: false
- * @param alignment whether positions must be aligned: true
- * @param inlineSize whether a field must end within its table's inline size: false
- * @param demands what is demanded beside the rules: nothing
+ * @param root the root table, by its name with its namespace, such as {@code game.Monster} (null: the schema's own)
+ * @param maxDepth the most levels of tables, the root being the first (64; at most 4,096); each thread keeps room for
+ *     as many
+ * @param maxTables the most tables visited (1,000,000)
+ * @param maxReads the most counted reads (100,000,000)
+ * @param readsPerByte the most counted reads per byte, as if the message had 64 bytes more (64)
+ * @param ident the file identifier that a message must have, of four bytes (null: any, or none)
+ * @param ownIdent whether a message must have the schema's own file identifier, or any if it declares none (false)
+ * @param prefixed whether a message begins with its size, 4 bytes from which positions count (false)
+ * @param alignment whether positions must be aligned (true)
+ * @param inlineSize whether a field must end within its table's inline size (false)
+ * @param demands what is demanded beyond the rules of the format (nothing)
  */
 public record Options(String root, int maxDepth, int maxTables, long maxReads, int readsPerByte, String ident,
         boolean ownIdent, boolean prefixed, boolean alignment, boolean inlineSize, Set<Demand> demands) {
-    /** What is asked unless it's said otherwise. */
+    /** The defaults. */
     public static final Options DEFAULT =
             new Options(null, Codes.INIT_MAX_DEPTH, Codes.INIT_MAX_TABLES, Codes.INIT_MAX_READS,
                     Codes.INIT_READS_PER_BYTE, null, false, false, true, false, Set.of());
 
-    /** Keeps what is demanded as it is at this time. */
+    /** Copies the set of demands. */
     public Options {
         demands = Set.copyOf(demands);
     }
 
-    /** Begins at the table of this name. */
+    /** With the table of this name as the root; null for the schema's own. */
     public Options root(String name) {
         return new Options(name, maxDepth, maxTables, maxReads, readsPerByte, ident, ownIdent, prefixed, alignment,
                 inlineSize, demands);
     }
 
-    /** Allows at most so many tables one inside another. */
+    /** Allows at most this many levels of tables. */
     public Options maxDepth(int tables) {
         return new Options(root, tables, maxTables, maxReads, readsPerByte, ident, ownIdent, prefixed, alignment,
                 inlineSize, demands);
     }
 
-    /** Allows at most so many tables visited. */
+    /** Allows at most this many tables visited. */
     public Options maxTables(int tables) {
         return new Options(root, maxDepth, tables, maxReads, readsPerByte, ident, ownIdent, prefixed, alignment,
                 inlineSize, demands);
     }
 
-    /** Allows at most so many counted reads. */
+    /** Allows at most this many counted reads. */
     public Options maxReads(long reads) {
         return new Options(root, maxDepth, maxTables, reads, readsPerByte, ident, ownIdent, prefixed, alignment,
                 inlineSize, demands);
     }
 
-    /** Allows at most so many counted reads for each byte and for 64 more. */
+    /** Allows at most this many counted reads per byte, as if the message had 64 bytes more. */
     public Options readsPerByte(int reads) {
         return new Options(root, maxDepth, maxTables, maxReads, reads, ident, ownIdent, prefixed, alignment,
                 inlineSize, demands);
@@ -98,12 +99,12 @@ public record Options(String root, int maxDepth, int maxTables, long maxReads, i
                 asked, demands);
     }
 
-    /** Whether unions must also be as code that flatc generates relies on: {@link Demand#STRICT}. */
+    /** Whether to check also what code that flatc generates relies on: {@link Demand#STRICT}. */
     public Options strict(boolean asked) {
         return demanding(Demand.STRICT, asked);
     }
 
-    /** Whether tables may only have fields that the schema knows and doesn't deprecate: {@link Demand#KNOWN_FIELDS}. */
+    /** Whether to refuse fields that the schema lacks or deprecates: {@link Demand#KNOWN_FIELDS}. */
     public Options knownFields(boolean asked) {
         return demanding(Demand.KNOWN_FIELDS, asked);
     }
@@ -113,7 +114,7 @@ public record Options(String root, int maxDepth, int maxTables, long maxReads, i
         return demanding(Demand.UTF8, asked);
     }
 
-    /** Whether strict checks take fields of type {@code [ubyte]} for plain bytes: {@link Demand#PLAIN_BYTES}. */
+    /** Whether strict checks treat fields of type {@code [ubyte]} as plain bytes: {@link Demand#PLAIN_BYTES}. */
     public Options plainBytes(boolean asked) {
         return demanding(Demand.PLAIN_BYTES, asked);
     }
@@ -128,7 +129,7 @@ public record Options(String root, int maxDepth, int maxTables, long maxReads, i
         return demands(all);
     }
 
-    /** Demands all of these beside the rules, and nothing else. */
+    /** Demands all of these beyond the rules of the format, and nothing else. */
     public Options demands(Set<Demand> all) {
         return new Options(root, maxDepth, maxTables, maxReads, readsPerByte, ident, ownIdent, prefixed, alignment,
                 inlineSize, all);

@@ -1,6 +1,6 @@
 package fbcheck;
 
-/** Why a message is refused, by the number of its code. As a text it is code and name: {@code V10 NoTerminator}. */
+/** Why a message is refused. As a text it is the code and the name: {@code V10 NoTerminator}. */
 public enum Reason {
     // made from fbcheck.h by bindings/make; don't edit
     /** The message has 2^31 bytes or more; nothing of it was read. */

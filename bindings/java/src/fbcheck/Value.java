@@ -6,10 +6,9 @@ import java.lang.foreign.MemorySegment;
 import java.nio.charset.StandardCharsets;
 
 /**
- * What stands at the end of a path. Bytes are the message's own, where they stand; numbers in them are little-endian.
+ * What is at the end of a path. Bytes are slices of the message; numbers in them are little-endian.
  *
- * <p>As a text it is the string or number in words, and else the kind, with how many elements a vector has, or a
- * union's type.
+ * <p>As a text it is the string, Bool or number; otherwise the kind, with a vector's length or a union's type.
  */
 public sealed interface Value {
     /** Nothing: the field, or one on the way, is absent and has no default. */
@@ -52,7 +51,7 @@ public sealed interface Value {
         }
     }
 
-    /** A UType, UByte, UShort, UInt or ULong, which is unsigned: {@link Long#toUnsignedString} and the like know it. */
+    /** A UType, UByte, UShort, UInt or ULong. It is unsigned: use {@link Long#toUnsignedString} and the like. */
     record UInt(long value) implements Value {
         @Override
         public String toString() {
@@ -70,7 +69,7 @@ public sealed interface Value {
 
     /** The bytes of a string, which need not be UTF-8. */
     record Text(MemorySegment bytes) implements Value {
-        /** The string, in which what isn't UTF-8 is replaced. */
+        /** The string; what isn't UTF-8 is replaced. */
         public String string() {
             return new String(bytes.toArray(JAVA_BYTE), StandardCharsets.UTF_8);
         }
@@ -81,7 +80,7 @@ public sealed interface Value {
         }
     }
 
-    /** The bytes of a struct as they stand, padding included. */
+    /** The bytes of a struct, padding included. */
     record Struct(MemorySegment bytes) implements Value {
         @Override
         public String toString() {
@@ -89,7 +88,7 @@ public sealed interface Value {
         }
     }
 
-    /** How many elements a vector has; of scalars and structs their bytes in a row, else none. */
+    /** How many elements a vector or array has, and their bytes if they are scalars or structs (else none). */
     record Vector(long length, MemorySegment bytes) implements Value {
         @Override
         public String toString() {
@@ -105,7 +104,7 @@ public sealed interface Value {
         }
     }
 
-    /** A union by its type, which is 0 for none. */
+    /** A union, with its type, which is 0 for none. */
     record Union(int type) implements Value {
         @Override
         public String toString() {

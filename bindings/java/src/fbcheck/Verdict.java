@@ -2,16 +2,16 @@ package fbcheck;
 
 import java.util.OptionalInt;
 
-/** What a check tells of a message. As a text it is what stands in a line of the program. */
+/** What a check reports about a message. As a text it is what the program's line has. */
 public sealed interface Verdict {
-    /** Whether the message is good; {@link Schema} tells what that says. */
+    /** Whether the message is ok; {@link Schema} says what that means. */
     boolean ok();
 
     /**
-     * A good message.
+     * An ok message.
      *
      * @param tables the tables visited
-     * @param depth the most tables open at once
+     * @param depth the greatest depth of nested tables; the root alone is 1
      * @param reads the reads counted
      */
     record Good(long tables, int depth, long reads) implements Verdict {
@@ -30,11 +30,11 @@ public sealed interface Verdict {
      * A bad message: its first fault.
      *
      * @param reason why it's refused
-     * @param position the position in bytes from the first one
+     * @param position where the fault is, in bytes from the message's beginning; a wrong offset may put it past the end
      * @param object the number of the object under check, which {@link Schema#objectName} names
-     * @param field the number of its field, unless it's the whole object
-     * @param reads the reads counted by then
-     * @param place the place in words, as {@code in items[2].name [game.Item.name]}; at most 1,024 bytes of it
+     * @param field the number of the field under check, unless it's the whole object
+     * @param reads the reads counted up to then
+     * @param place the place in words, such as {@code in items[2].name [game.Item.name]}, cut after 1,024 bytes
      */
     record Bad(Reason reason, long position, int object, OptionalInt field, long reads, String place)
             implements Verdict {

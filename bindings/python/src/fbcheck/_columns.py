@@ -30,14 +30,14 @@ def _column(format: str, numbers: bytes, valid: bytes | None) -> Column:
 
 
 class Column(_fbcheck.Column, Sequence[_Number]):
-    """Numbers or Bools of the messages of a stream, in memory that whatever has the buffer protocol takes as it is:
-    numpy.asarray(column), memoryview(column). It is read-only.
+    """Numbers or Bools of the messages of a stream. It has the buffer protocol, so that numpy.asarray(column) and
+    memoryview(column) don't copy it. It is read-only.
 
     data    the numbers as a memoryview: 0, False or nan where a value is missing
-    format  what a memoryview calls these: "q", "d", "?"
-    valid   a memoryview of Bools: which values are there; None where all are
+    format  the memoryview's format, such as "q", "d" or "?"
+    valid   a memoryview of Bools: which values are there; None if all are
 
-    As a sequence it has None for a value that is missing.
+    As a sequence it has None where a value is missing.
     """
 
     __slots__ = ()
@@ -68,12 +68,12 @@ class Slices(Sequence[_Slice]):
     """Texts, structs or vectors of the messages of a stream, each a slice of `data`.
 
     data     all their bytes, or numbers, as a memoryview without gaps
-    offsets  a memoryview of "q": where each value begins, and the end; the i-th is data[offsets[i]:offsets[i + 1]], and
-             empty where it is missing
-    valid    a memoryview of Bools: which values are there; None where all are
+    offsets  a memoryview of "q": where each value begins, and the end; the i-th is data[offsets[i]:offsets[i + 1]],
+             which is empty if it is missing
+    valid    a memoryview of Bools: which values are there; None if all are
 
     As a sequence it has a str for each text, bytes for each struct and each vector of unsigned bytes, Bools or structs,
-    a memoryview for each vector of other numbers, and None for a value that is missing.
+    a memoryview for each vector of other numbers, and None where a value is missing.
     """
 
     __slots__ = ("_kind", "data", "offsets", "valid")
@@ -112,9 +112,9 @@ class Slices(Sequence[_Slice]):
 
 
 class Columns(tuple["Column | Slices", ...]):
-    """The columns of a stream, one for each path, in their order: each has a value of each good message.
+    """The columns of a stream, one for each path, in their order: each has a value for each ok message.
 
-    skipped   a Column with the numbers of the bad messages that were left out, as the first message is 1
+    skipped   a Column with the numbers of the bad messages that were left out; the stream's first message is 1
     verdicts  the verdicts on the first thousand of these
     """
 

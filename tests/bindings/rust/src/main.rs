@@ -195,6 +195,7 @@ fn done(schema: &mut Option<Schema>, words: &[&str], to: &mut impl Write) -> Tol
     match (*name, schema.as_ref()) {
         ("load", _) => *schema = Some(options(&rest[1..])?.load(&fs::read(rest[0])?)?),
         ("loads", _) => return loads(rest),
+        ("commit", _) => return Ok(text(fbcheck::commit())),
         ("with", Some(old)) => *schema = Some(old.with(&options(rest)?)?),
         ("check", Some(schema)) => return check(schema, rest[0]),
         ("misfit", Some(schema)) => return misfit(schema, rest),
