@@ -27,7 +27,7 @@ from tests.support.buffers import (
     ASKEW, HALVES, MEMBER, MEMBERS, NO_TEXT, NOTHING, ORC, PLACED, PLAIN, POST, THIRD_SLOT, TWINS, WILD, doubling,
     levels, lower_type, named,
 )
-from tests.support.builder import buffer, changed, messages_of, prefixed
+from tests.support.builder import Plain, buffer, changed, messages_of, prefixed
 from tests.support.every_kind import FILE, LITTLE, OPTIONS, PLACE, WHOLE, variants, words_of
 from tests.support.generated import Kept
 from tests.support.header import Reason
@@ -555,6 +555,83 @@ class Node(Binding, LibraryCase):
         values = '[{"kind":"text","value":"Orc"},{"kind":"int","value":300}]'
         self.same("as JSON", ran("node", "-e", code), (0, "\n".join(
             ['{"ok":true,"tables":1,"depth":1,"reads":8}', bad, values, ""]), ""))
+
+    def lines_of(self, rows, before=""):
+        """Runs a call of each row, and compares what it tells, as JSON or as an error with its code, with the other."""
+        code = (f"const {{ Schema }} = require('{TOP}/bindings/node'), fs = require('node:fs');\n"
+                "const bytes = (digits) => Buffer.from(digits, 'hex');\n"
+                "const plain = (key, value) => (typeof value === 'bigint' ? `${value}n` : value);\n"
+                "const told = (call) => { try { console.log(JSON.stringify(call(), plain) ?? 'undefined'); }\n"
+                f"  catch (error) {{ console.log(`${{error.code}} ${{error}}`); }} }};\n{before}\n")
+        code += "".join(f"told(() => {call});\n" for call, _ in rows)
+        status, out, err = ran("node", "-e", code)
+        self.same("it ends well", (status, out.count("\n"), err), (0, len(rows), ""))
+        for (call, want), got in zip(rows, out.splitlines()):
+            self.same(call, got, want)
+
+    def test_views(self):
+        """A view reads without a check, and tells that bytes were changed; [*] is each element."""
+        before = (f"const schema = new Schema('{ALL}'), whole = bytes('{buffer(WHOLE).hex()}');\n"
+                  f"const little = bytes('{buffer(LITTLE).hex()}'), view = schema.view(whole);\n"
+                  f"const orc = bytes('{ORC.hex()}'), of = new Schema('{FILES['M']}').view(orc);\n"
+                  "const all = (path) => view.read(path)[0], bad = new Uint8Array(8);\n"
+                  "const changed = (at, ...digits) => { orc.set(digits, at); return of.read('hp', 'name'); };")
+        place = '{"type":"Buffer","data":[1,0,0,0,254,255,255,255,3,0,0,0]}'
+        gone = "CHANGED FbcheckError: the bytes aren't those of a good message any more"
+        rows = [
+            ("view.schema === schema && view.message === whole && view.verdict",
+             '{"ok":true,"tables":11,"depth":4,"reads":109}'),
+            ("schema.view(bad)", "BAD BadBuffer: bad V4 ZeroOffset at=0 object=0 field=- reads=1 in . [All]"),
+            ("view.read()", "[]"),
+            ("view.read('short', schema.path('name'))", '[{"kind":"int","value":300},{"kind":"text","value":"name"}]'),
+            ("all('texts[*]')", '{"kind":"elements","value":["one","","three"]}'),
+            ("all('bytes[*]').value", "[97,98,99]"), ("all('longs[*]').value", "[1,2]"),
+            ("all('longs[*]').bytes.length", "16"), ("all('places[*].y').value", "[-2,-2]"),
+            ("all('places[*]').value", f"[{place},{place}]"), ("all('tables[*].v').value", "[5,0]"),
+            ("all('tables[*].next.next.v').value", "[6,null]"), ("all('many[*]').value", "[1,3,7,0,200,9]"),
+            ("all('many[*]@Text').value", '[null,null,"text",null,null,null]'),
+            ("all('many[*]@Below.v').value", "[5,null,null,null,null,null]"), ("all('name[*]')",
+             "BAD_PATH FbcheckError: path: P3 NotIndexable step=1 ('name[*]'); this is a string"),
+            ("all('tables[*].w')", "BAD_PATH FbcheckError: path: P2 NoSuchField step=2 ('tables[*].w'); fields: v next"),
+            ("all('texts[*][*]')", "BAD_PATH FbcheckError: path: P1 BadText at=9 ('texts[*][*]')"),
+            ("all('[*]')", "BAD_PATH FbcheckError: path: P1 BadText at=0 ('[*]')"),
+            ("schema.read(whole, schema.path('tables[*].v'), 'short').map(({ value }) => value)", "[[5,0],300]"),
+            ("schema.view(little).read('texts[*]', 'many[*]')",
+             '[{"kind":"absent"},{"kind":"elements","value":[]}]'),
+            ("schema.view(new Uint8Array(whole)).read('texts[*]')[0].value", '["one","","three"]'),
+            ("changed(28, 0x45, 0x6c, 0x66)[1].value", '"Elf"'), ("changed(24, 0, 1)", gone),
+            ("changed(12, 0, 0, 0, 127)", gone),
+        ]
+        self.lines_of(rows, before)
+
+    def test_many_elements(self):
+        """Each of a hundred thousand by itself, or all at once; texts that overlap aren't made one by one."""
+        flags = buffer({8: Plain(bytes(range(256)) * 400, 1, 102_400), 6: ""}, b"KIND")
+        once = buffer({6: "", 11: ["x" * 1000, *[""] * 249]})
+        text, first = once.index(b"x" * 1000) - 4, once.index(struct.pack("<I", 250)) + 4
+        shared = bytearray(once)  # all offsets of texts lead to the first one; and then to as many suffixes of it
+        for at in range(first, first + 1000, 4):
+            shared[at:at + 4] = struct.pack("<I", text - at)
+        overlapping = bytearray(shared)
+        for number in range(200):
+            at = text + 4 * number
+            overlapping[at:at + 4] = struct.pack("<I", 1000 - 4 * number)
+            overlapping[first + 4 * number:first + 4 * number + 4] = struct.pack("<I", at - first - 4 * number)
+        files = [file_of(name, bytes(data)) for name, data in
+                 [("flags", flags), ("shared", shared), ("overlapping", overlapping)]]
+        before = (f"const schema = new Schema('{ALL}');\n"
+                  f"const paths = {[str(path) for path in files]};\n"
+                  "const [flags, shared, overlapping] = paths.map((path) => fs.readFileSync(path));\n"
+                  "const one = (message, path) => schema.view(message).read(path)[0];\n"
+                  "const view = schema.view(flags), each = [];\n"
+                  "for (let i = 0; i < 102400; i++) each.push(view.read(`bytes[${i}]`)[0].value);\n"
+                  "const all = one(flags, 'bytes[*]').value;")
+        self.lines_of([("all.length", "102400"), ("all.every((value, i) => value === i % 256)", "true"),
+                       ("each.every((value, i) => value === all[i])", "true"),
+                       ("one(shared, 'texts[*]').value.filter((text) => text === 'x'.repeat(1000)).length", "250"),
+                       ("one(overlapping, 'texts[1]').kind", '"text"'),
+                       ("one(overlapping, 'texts[*]')",
+                        "OVERLAP FbcheckError: texts overlap, and are longer than the message together")], before)
 
     def pasted(self, folder, code):
         (folder / "page.js").write_text(code.replace("./bindings/node", f"{TOP}/bindings/node"))

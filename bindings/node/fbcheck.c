@@ -343,26 +343,87 @@ static napi_value root_hint(napi_env env, napi_callback_info info)
     return text_of(env, text, fbcheck_root_hint(checker->rows->schema, (const char *)name, length, text, sizeof text));
 }
 
-/* read(schema, message, paths, values): the status. Paths and values are the library's by their bytes. */
-static napi_value read_values(napi_env env, napi_callback_info info)
+/* What read() and again() take: paths and values are the library's by their bytes. */
+struct reading {
+    struct checker *checker;
+    uint8_t *message;
+    size_t length;
+    const fbcheck_path *paths;
+    fbcheck_value *values;
+    size_t count;
+};
+
+/* Whether the arguments (schema, message, paths, values) are such; where not, that is thrown. */
+static bool reading_of(napi_env env, napi_callback_info info, struct reading *reading)
 {
     napi_value words[4];
-    struct checker *checker = checker_of(env, info, words, 4);
+    uint8_t *paths, *values;
+    size_t paths_length, values_length;
+    reading->checker = checker_of(env, info, words, 4);
+    if (reading->checker == NULL || !bytes_of(env, words[1], &reading->message, &reading->length) ||
+        !bytes_of(env, words[2], &paths, &paths_length) || !bytes_of(env, words[3], &values, &values_length))
+        return false;
+    reading->paths = (const fbcheck_path *)(void *)paths;
+    reading->values = (fbcheck_value *)(void *)values;
+    reading->count = paths_length / sizeof(fbcheck_path);
+    if (values_length / sizeof(fbcheck_value) >= reading->count && (uintptr_t)values % 8 == 0 &&
+        (uintptr_t)paths % 8 == 0)
+        return true;
+    failed(env, "there is no room for the values");
+    return false;
+}
+
+/* read(schema, message, paths, values): checks the message, and gives the status. */
+static napi_value read_values(napi_env env, napi_callback_info info)
+{
+    struct reading of;
     fbcheck_scratch *scratch;
     fbcheck_verdict verdict;
-    uint8_t *message, *paths, *values;
-    size_t length, paths_length, values_length;
+    if (!reading_of(env, info, &of) || (scratch = scratch_for(env, of.checker)) == NULL)
+        return NULL;
+    fbcheck_read(of.checker->rows->schema, scratch, &of.checker->options, of.message, of.length, of.paths, of.values,
+                 of.count, &verdict);
+    return number(env, tell(of.checker->thread->told, &verdict));
+}
+
+/* again(schema, message, paths, values): the same for a message that was ok, without a check. */
+static napi_value read_again(napi_env env, napi_callback_info info)
+{
+    struct reading of;
+    fbcheck_verdict verdict;
+    if (!reading_of(env, info, &of))
+        return NULL;
+    fbcheck_read_again(of.checker->rows->schema, &of.checker->options, of.message, of.length, of.paths, of.values,
+                       of.count, &verdict);
+    return number(env, tell(of.checker->thread->told, &verdict));
+}
+
+/* each(schema, message, path, step, first, values): for a message that was ok, fills in what the path leads to from as
+   many elements as there is room for, beginning with this one; this step of the path names the element. Gives the
+   status. */
+static napi_value read_each(napi_env env, napi_callback_info info)
+{
+    napi_value words[6];
+    struct checker *checker = checker_of(env, info, words, 6);
+    fbcheck_path path;
+    uint8_t *message, *bytes, *room;
+    size_t length, path_length, room_length;
+    uint32_t step = 0, first = 0, status = FBCHECK_OK;
     if (checker == NULL || !bytes_of(env, words[1], &message, &length) ||
-        !bytes_of(env, words[2], &paths, &paths_length) || !bytes_of(env, words[3], &values, &values_length))
+        !bytes_of(env, words[2], &bytes, &path_length) || !bytes_of(env, words[5], &room, &room_length))
         return NULL;
-    size_t count = paths_length / sizeof(fbcheck_path);
-    if (values_length / sizeof(fbcheck_value) < count || (uintptr_t)values % 8 != 0 || (uintptr_t)paths % 8 != 0)
+    napi_get_value_uint32(env, words[3], &step);
+    napi_get_value_uint32(env, words[4], &first);
+    if (path_length != sizeof path || step >= FBCHECK_STEPS || (uintptr_t)room % 8 != 0)
         return failed(env, "there is no room for the values");
-    if ((scratch = scratch_for(env, checker)) == NULL)
-        return NULL;
-    fbcheck_read(checker->rows->schema, scratch, &checker->options, message, length,
-                 (const fbcheck_path *)(void *)paths, (fbcheck_value *)(void *)values, count, &verdict);
-    return number(env, tell(checker->thread->told, &verdict));
+    memcpy(&path, bytes, sizeof path);
+    fbcheck_value *values = (fbcheck_value *)(void *)room;
+    for (size_t at = 0; at < room_length / sizeof *values && status == FBCHECK_OK; at++) {
+        path.steps[step].number = first + (uint32_t)at;
+        status = fbcheck_read_again(checker->rows->schema, &checker->options, message, length, &path, values + at, 1,
+                                    NULL);
+    }
+    return number(env, status);
 }
 
 /* mostReads(schema, length): as a bigint, both. */
@@ -470,12 +531,12 @@ NAPI_MODULE_INIT()
     static const struct {
         const char *name;
         napi_callback call;
-    } calls[] = { { "begin", begin },         { "commit", commit },        { "load", load },
-                  { "choose", choose },       { "close", close_schema },   { "table", table },
-                  { "locate", locate },       { "resolve", resolve },      { "read", read_values },
-                  { "pathHint", path_hint },  { "rootHint", root_hint },   { "mostReads", most_reads },
-                  { "name", name },           { "stream", stream_of },     { "feed", feed },
-                  { "finish", finish } };
+    } calls[] = { { "begin", begin },         { "commit", commit },       { "load", load },
+                  { "choose", choose },       { "close", close_schema },  { "table", table },
+                  { "locate", locate },       { "resolve", resolve },     { "read", read_values },
+                  { "again", read_again },    { "each", read_each },      { "pathHint", path_hint },
+                  { "rootHint", root_hint },  { "mostReads", most_reads },{ "name", name },
+                  { "stream", stream_of },    { "feed", feed },           { "finish", finish } };
     for (size_t i = 0; i < sizeof calls / sizeof *calls; i++) {
         napi_value made;
         napi_create_function(env, calls[i].name, NAPI_AUTO_LENGTH, calls[i].call, NULL, &made);

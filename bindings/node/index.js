@@ -2,13 +2,14 @@
 
 const fs = require('node:fs');
 const {
-  CODES, KINDS, LIMITS, OPTIONS, OPTIONS_BYTES, PATH_BYTES, PATH_FAULTS, REASONS, STATUSES, VALUE, VALUE_BYTES, VERSION,
-  ...numbers
+  CODES, KINDS, LIMITS, OPTIONS, OPTIONS_BYTES, PATH, PATH_BYTES, PATH_FAULTS, REASONS, STATUSES, VALUE, VALUE_BYTES,
+  VERSION, ...numbers
 } = require('./codes.js');
 const native = require('./fbcheck.node');
 
 const {
-  BAD, BAD_TEXT, DEEPEST, DEFAULT_FLOAT, MORE, NONE, NO_ROOT, NO_SUCH_TABLE, NO_TABLE, OK, OVERSIZE, TOO_LONG, UNMARKED_BYTES,
+  BAD, BAD_TEXT, CHANGED, DEEPEST, DEFAULT_FLOAT, MORE, NONE, NO_ROOT, NO_SUCH_TABLE, NO_TABLE, OK, OVERSIZE, TOO_LONG,
+  UNMARKED_BYTES,
 } = numbers;
 
 // What a call tells beside its answer, by the places that the enum in fbcheck.c gives.
@@ -32,6 +33,7 @@ const TEXTS = {
   MISFIT: 'a path is none of this schema from this root',
   TOO_MUCH_SHARED: 'schema: L6 TooMuchShared',
   NOT_PLANNED: 'the schema was loaded with other demands: ask for these when you load it',
+  CHANGED: "the bytes aren't those of a good message any more",
 };
 
 // Why strict checks refuse a schema file with a field of bytes, whose name stands between.
@@ -195,17 +197,30 @@ function bytesOf(schema, options) {
 
 class Path {
   #bytes;
+  #each;
 
-  constructor(text, bytes) {
+  /** With [*], the bytes are those of the path up to it, and each has those of all with the place of [*] in them. */
+  constructor(text, bytes, each) {
     this.text = text;
     this.#bytes = bytes;
+    this.#each = each;
   }
 
   /** The bytes of paths in a row, aligned. */
   static join(paths) {
+    if (paths.length === 1) return paths[0].#bytes;
     const all = new Uint8Array(new ArrayBuffer(PATH_BYTES * paths.length));
     paths.forEach((path, n) => all.set(path.#bytes, n * PATH_BYTES));
     return all;
+  }
+
+  /** What is at the end of paths, by the values at the ends of their bytes. */
+  static values(paths, schema, message, words) {
+    return paths.map((path, n) => {
+      const value = new Value(message, words, n * VALUE_WORDS);
+      if (path.#each === undefined || value.kind !== 'vector') return value;
+      return Object.assign(value, { kind: 'elements', value: elements(schema, message, value.value, path.#each) });
+    });
   }
 }
 
@@ -215,39 +230,120 @@ function joined(high, low) {
   return Number.isSafeInteger(number) ? number : BigInt(high) * 2n ** 32n + BigInt(low);
 }
 
+const numberAt = (words, at) => joined(words[at + NUMBER + 1], words[at + NUMBER]);
+const beginAt = (words, at) => joined(words[at + BEGIN + 1], words[at + BEGIN]);
+const sizeAt = (words, at) => joined(words[at + SIZE + 1], words[at + SIZE]);
+
+function textAt(message, begin, end) {
+  if (Buffer.isBuffer(message)) return message.toString('utf8', begin, end);
+  return Buffer.from(message.buffer, message.byteOffset + begin, end - begin).toString();
+}
+
+function floatAt(message, words, at) {
+  if (words[at + KIND] === DEFAULT_FLOAT) {
+    return new Float64Array(words.slice(at + NUMBER, at + NUMBER + 2).buffer)[0];
+  }
+  const view = new DataView(message.buffer, message.byteOffset + beginAt(words, at));
+  return sizeAt(words, at) === 4 ? view.getFloat32(0, true) : view.getFloat64(0, true);
+}
+
+/** A value as it's read, by the words of the library's that begin there. */
+function valueAt(message, words, at) {
+  switch (KINDS[words[at + KIND]]) {
+    case 'bool': return words[at + NUMBER] === 1;
+    case 'int': return joined(words[at + INTEGER + 1] | 0, words[at + INTEGER]);
+    case 'uint': case 'vector': case 'union': return numberAt(words, at);
+    case 'text': return textAt(message, beginAt(words, at), beginAt(words, at) + sizeAt(words, at));
+    case 'struct': return message.subarray(beginAt(words, at), beginAt(words, at) + sizeAt(words, at));
+    case 'float': return floatAt(message, words, at);
+    default: return undefined;
+  }
+}
+
 /** What stands at the end of a path: the value as it's read, and its bytes where they stand in the message. */
 class Value {
   #message;
   #at;
   #end;
 
-  constructor(message, words) {
+  constructor(message, words, at) {
     this.#message = message;
-    this.#at = joined(words[BEGIN + 1], words[BEGIN]);
-    this.#end = this.#at + joined(words[SIZE + 1], words[SIZE]);
-    this.kind = KINDS[words[KIND]];
-    this.value = this.#valueOf(words);
+    this.#at = beginAt(words, at);
+    this.#end = this.#at + sizeAt(words, at);
+    this.kind = KINDS[words[at + KIND]];
+    this.value = valueAt(message, words, at);
   }
 
   get bytes() {
     return this.#message.subarray(this.#at, this.#end);
   }
+}
 
-  #valueOf(words) {
-    const { buffer, byteOffset, length } = this.bytes;
-    switch (this.kind) {
-      case 'bool': return words[NUMBER] === 1;
-      case 'int': return joined(words[INTEGER + 1] | 0, words[INTEGER]);
-      case 'uint': case 'vector': case 'union': return joined(words[NUMBER + 1], words[NUMBER]);
-      case 'text': return Buffer.from(buffer, byteOffset, length).toString();
-      case 'struct': return this.bytes;
-      case 'float': {
-        if (words[KIND] === DEFAULT_FLOAT) return new Float64Array(words.slice(NUMBER, NUMBER + 2).buffer)[0];
-        const view = new DataView(buffer, byteOffset);
-        return length === 4 ? view.getFloat32(0, true) : view.getFloat64(0, true);
-      }
-      default: return undefined;
+// How many elements are read at once.
+const ELEMENTS = 1024;
+
+/**
+ * What a path leads to from each of so many elements. A text to which several lead is made once, and texts that are
+ * longer than the message together are refused: so the array stays in proportion to the message.
+ */
+function elements(schema, message, count, { bytes, step }) {
+  if (count > message.length) throw errorOf(CHANGED);
+  const values = [];
+  const texts = new Map();
+  const words = new Uint32Array(VALUE_WORDS * Math.min(count, ELEMENTS));
+  let left = message.length;
+  const text = (at) => {
+    const begin = beginAt(words, at);
+    if (!texts.has(begin)) {
+      left -= sizeAt(words, at);
+      if (left < 0) throw new FbcheckError('OVERLAP', 'texts overlap, and are longer than the message together');
+      texts.set(begin, valueAt(message, words, at));
     }
+    return texts.get(begin);
+  };
+  for (let first = 0; first < count; first += ELEMENTS) {
+    const room = words.subarray(0, VALUE_WORDS * Math.min(count - first, ELEMENTS));
+    const status = native.each(schema, message, bytes, step, first, new Uint8Array(room.buffer, 0, room.byteLength));
+    if (status !== OK) throw errorOf(status);
+    for (let at = 0; at < room.length; at += VALUE_WORDS) {
+      values.push(KINDS[room[at + KIND]] === 'text' ? text(at) : valueAt(message, room, at));
+    }
+  }
+  return values;
+}
+
+/** A message that was ok when it was checked, of which values are read without another check. */
+class View {
+  #schema;
+  #handle;
+  #message;
+  #verdict;
+
+  constructor(schema, handle, message, verdict) {
+    this.#schema = schema;
+    this.#handle = handle;
+    this.#message = message;
+    this.#verdict = verdict;
+  }
+
+  get schema() {
+    return this.#schema;
+  }
+
+  get message() {
+    return this.#message;
+  }
+
+  get verdict() {
+    return this.#verdict;
+  }
+
+  read(...paths) {
+    const resolved = paths.map((path) => (path instanceof Path ? path : this.#schema.path(path)));
+    const words = new Uint32Array(VALUE_WORDS * paths.length);
+    const status = native.again(this.#handle, this.#message, Path.join(resolved), new Uint8Array(words.buffer));
+    if (status !== OK) throw errorOf(status);
+    return Path.values(resolved, this.#handle, this.#message, words);
   }
 }
 
@@ -292,12 +388,25 @@ class Schema {
     throw new BadBuffer(verdict);
   }
 
+  view(message) {
+    return new View(this, this.#schema, message, this.verify(message));
+  }
+
   path(text) {
     if (typeof text !== 'string') throw new TypeError('a path is a string, or what path() gives');
+    const star = text.indexOf('[*]');
+    if (star < 0) return new Path(text, this.#resolved(text, text));
+    const bytes = this.#resolved(text, text.replace('[*]', '[0]'));
+    const front = this.#resolved(text, text.slice(0, star));
+    return new Path(text, front, { bytes, step: front.readUInt32LE(PATH.count[0]) });
+  }
+
+  /** The bytes of a path, for one that was asked for. */
+  #resolved(asked, text) {
     const path = Buffer.from(text);
     const bytes = native.resolve(this.#schema, path);
-    if (bytes === undefined) throw errorOf(told[STATUS], text, { hint: native.pathHint(this.#schema, path) });
-    return new Path(text, bytes);
+    if (bytes === undefined) throw errorOf(told[STATUS], asked, { hint: native.pathHint(this.#schema, path) });
+    return bytes;
   }
 
   read(message, ...paths) {
@@ -306,7 +415,7 @@ class Schema {
     const status = native.read(this.#schema, message, Path.join(resolved), new Uint8Array(words.buffer));
     if (status === BAD || status === TOO_LONG) throw new BadBuffer(this.check(message));
     if (status !== OK) throw errorOf(status);
-    return paths.map((_, n) => new Value(message, words.subarray(n * VALUE_WORDS, (n + 1) * VALUE_WORDS)));
+    return Path.values(resolved, this.#schema, message, words);
   }
 
   messages(pieces, { maxBytes = 64 << 20, ...others } = {}) {

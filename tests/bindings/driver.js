@@ -101,6 +101,7 @@ function read(schema, [file, ...texts]) {
   const told = schema.read(message, ...texts).map(value);
   const [...each] = texts.map((text) => value(schema.read(message, schema.path(text))[0]));
   assert.deepStrictEqual(each, told);
+  assert.deepStrictEqual(schema.view(message).read(...texts).map(value), told);
   return told.join(' ');
 }
 

@@ -23,6 +23,8 @@ export function texts(schema: Schema, message: Uint8Array, later: AsyncIterable<
   schema.with({ strict: 1 });
   schema.with({ strict: true, knownFields: true, utf8: true, plainBytes: false });
   if (place.kind === 'struct') place.value.subarray(4);
+  const [names, first] = schema.view(message).read('items[*].name', schema.path('name'));
+  if (names.kind === 'elements') names.value.map((value) => (typeof value === 'string' ? value.toUpperCase() : first.kind));
   return [
     verdict.ok ? verdict.tables : verdict.reason,
     name.kind === 'text' ? name.value.toUpperCase() : '',
