@@ -604,6 +604,38 @@ class Node(Binding, LibraryCase):
         ]
         self.lines_of(rows, before)
 
+    def test_pushed(self):
+        """What is left of a piece isn't lost, whether a loop was left early or another one came between."""
+        before = (f"const stream = fs.readFileSync('{STREAM}'), schema = new Schema('{ORDERS}', {{ prefixed: true }});\n"
+                  "const begins = (messages) => Array.from(messages, ({ begin }) => begin);\n"
+                  "const halves = () => [stream.subarray(0, 700), stream.subarray(700)];\n"
+                  "const left = () => { const to = schema.stream(), all = []; for (const piece of halves())\n"
+                  "  for (const { begin } of to.push(piece)) { all.push(begin); break; }\n"
+                  "  all.push(...begins(to.push(new Uint8Array(0)))); to.end(); return all; };\n"
+                  "const between = () => { const to = schema.stream(), [one, other] = halves(), first = to.push(one);\n"
+                  "  return [first.next().value.begin, ...begins(to.push(other)), ...begins(first)]; };\n"
+                  "const untaken = () => { const to = schema.stream(); to.push(stream); to.end(); };\n"
+                  "const failed = (again) => { const to = schema.stream({ maxBytes: 600 }), all = [];\n"
+                  "  try { for (const { begin } of to.push(Buffer.concat([stream, Buffer.alloc(4, 255)]))) all.push(begin); }\n"
+                  "  catch ({ code }) { all.push(code); } if (again) again(to); return all; };\n"
+                  "const moved = () => [...schema.messages(stream)].map(({ message }) => {\n"
+                  "  const there = structuredClone(message, { transfer: [message.buffer] });\n"
+                  "  return [there.length - there.buffer.byteLength, message.length]; });")
+        begins = [sum(map(len, messages_of(POST)[:number])) for number in range(6)]
+        told = str(begins).replace(" ", "")
+        self.lines_of([
+            ("begins(schema.messages(stream))", told), ("begins(schema.messages([...halves()]))", told),
+            ("left()", told), ("between()", told),
+            ("untaken()", "undefined Error: messages of the last pieces that were pushed were not taken"),
+            ("failed()", f"{told[:-1]},\"OVERSIZE\"]"),
+            ("failed((to) => to.end())", f"OVERSIZE FbcheckError: stream: S1 Oversize declared={2 ** 32 - 1}"),
+            ("failed((to) => begins(to.push(stream)))",
+             f"OVERSIZE FbcheckError: stream: S1 Oversize declared={2 ** 32 - 1}"),
+            ("schema.stream().push('abc')", "undefined TypeError: a piece of a stream is a Buffer or Uint8Array"),
+            ("schema.stream({ most: 8 })", "undefined TypeError: no option most"),
+            ("schema.stream().end()", "undefined"), ("moved()", str([[0, 0]] * 6).replace(" ", "")),
+        ], before)
+
     def test_many_elements(self):
         """Each of a hundred thousand by itself, or all at once; texts that overlap aren't made one by one."""
         flags = buffer({8: Plain(bytes(range(256)) * 400, 1, 102_400), 6: ""}, b"KIND")

@@ -1,6 +1,7 @@
 'use strict';
 
 const fs = require('node:fs');
+const { isUint8Array } = require('node:util').types;
 const {
   CODES, KINDS, LIMITS, OPTIONS, OPTIONS_BYTES, PATH, PATH_BYTES, PATH_FAULTS, REASONS, STATUSES, VALUE, VALUE_BYTES,
   VERSION, ...numbers
@@ -9,7 +10,7 @@ const native = require('./fbcheck.node');
 
 const {
   BAD, BAD_TEXT, CHANGED, DEEPEST, DEFAULT_FLOAT, MORE, NONE, NO_ROOT, NO_SUCH_TABLE, NO_TABLE, OK, OVERSIZE, TOO_LONG,
-  UNMARKED_BYTES,
+  TRUNCATED, UNMARKED_BYTES,
 } = numbers;
 
 // What a call tells beside its answer, by the places that the enum in fbcheck.c gives.
@@ -347,6 +348,87 @@ class View {
   }
 }
 
+/** A message of a stream, which begins there. */
+class Checked {
+  #viewOf;
+
+  constructor(message, verdict, begin, viewOf) {
+    this.message = message;
+    this.verdict = verdict;
+    this.begin = begin;
+    this.#viewOf = viewOf;
+  }
+
+  get view() {
+    return this.verdict.ok ? this.#viewOf(this.message, this.verdict) : undefined;
+  }
+}
+
+/** A stream whose pieces are pushed. What isn't taken of a piece waits, so that no message is lost or out of order. */
+class Stream {
+  #framer;
+  #schema;
+  #viewOf;
+  #pieces = [];
+  #at = 0; // in the first piece
+  #left = 0; // of it, once it was begun
+  #begin = 0;
+  #fault; // after which the stream can't go on
+
+  constructor(most, schema, viewOf) {
+    this.#framer = native.stream(most);
+    this.#schema = schema;
+    this.#viewOf = viewOf;
+  }
+
+  push(piece) {
+    if (!isUint8Array(piece)) throw new TypeError('a piece of a stream is a Buffer or Uint8Array');
+    this.#pieces.push(piece);
+    return this.#messages();
+  }
+
+  end() {
+    if (this.#fault) throw this.#fault;
+    if (this.#pieces.length > 0) throw new Error('messages of the last pieces that were pushed were not taken');
+    const status = native.finish(this.#framer);
+    if (status === TRUNCATED) throw new FbcheckError('TRUNCATED', `stream: S2 Truncated held=${told[AT]}`);
+    if (status !== OK) throw errorOf(status);
+  }
+
+  *#messages() {
+    while (this.#pieces.length > 0) {
+      const message = this.#next();
+      if (message !== undefined) {
+        const begin = this.#begin;
+        this.#begin += message.length;
+        yield new Checked(message, this.#schema.check(message), begin, this.#viewOf);
+      }
+    }
+  }
+
+  /** The message that ends next in the first piece, which is dropped where none does. */
+  #next() {
+    if (this.#fault) throw this.#fault;
+    const rest = this.#left;
+    const message = native.feed(this.#framer, this.#pieces[0], this.#at);
+    this.#at += told[USED];
+    this.#left = told[LEFT];
+    if (told[USED] + told[LEFT] < rest) {
+      this.#fault = new TypeError('a piece of the stream became shorter while it was gone through');
+    } else if (message === undefined && told[STATUS] === OVERSIZE) {
+      this.#fault = new FbcheckError('OVERSIZE', `stream: S1 Oversize declared=${told[AT]}`);
+    } else if (message === undefined && told[STATUS] !== MORE) {
+      this.#fault = errorOf(told[STATUS]);
+    }
+    if (this.#fault) throw this.#fault;
+    if (this.#left === 0) {
+      this.#pieces.shift();
+      this.#at = 0;
+    }
+    return message;
+  }
+}
+
 class Schema {
   #schema;
   #options;
@@ -418,15 +500,20 @@ class Schema {
     return Path.values(resolved, this.#schema, message, words);
   }
 
-  messages(pieces, { maxBytes = 64 << 20, ...others } = {}) {
+  messages(pieces, options) {
+    const stream = this.stream(options);
+    if (isUint8Array(pieces)) pieces = [pieces];
+    if (pieces?.[Symbol.asyncIterator]) return later(stream, pieces);
+    if (pieces?.[Symbol.iterator]) return now(stream, pieces);
+    throw new TypeError('a stream is bytes, or an iterable of pieces of them');
+  }
+
+  stream({ maxBytes = 64 << 20, ...others } = {}) {
     for (const name in others) throw new TypeError(`no option ${name}`);
     if (!this.#options.prefixed) throw new TypeError('messages of a stream begin with their size: ask for prefixed');
     if (maxBytes < 8) throw new RangeError('maxBytes is below 8');
-    const stream = native.stream(Number(whole('maxBytes', maxBytes, 2n ** 31n - 1n)));
-    if (pieces instanceof Uint8Array) pieces = [pieces];
-    if (pieces?.[Symbol.asyncIterator]) return later(this, stream, pieces);
-    if (pieces?.[Symbol.iterator]) return now(this, stream, pieces);
-    throw new TypeError('a stream is bytes, or an iterable of pieces of them');
+    const most = Number(whole('maxBytes', maxBytes, 2n ** 31n - 1n));
+    return new Stream(most, this, (message, verdict) => new View(this, this.#schema, message, verdict));
   }
 
   mostReads(length) {
@@ -448,38 +535,14 @@ class Schema {
 
 if (Symbol.dispose) Schema.prototype[Symbol.dispose] = Schema.prototype.close;
 
-/** The messages that end in a piece of a stream, which must keep its bytes until then. */
-function* ending(schema, stream, piece) {
-  let at = 0;
-  let left = 0;
-  do {
-    const rest = left;
-    const message = native.feed(stream, piece, at);
-    at += told[USED];
-    left = told[LEFT];
-    if (told[USED] + left < rest) throw new TypeError('a piece of the stream became shorter while it was gone through');
-    if (message !== undefined) {
-      yield { message, verdict: schema.check(message) };
-    } else if (told[STATUS] === OVERSIZE) {
-      throw new FbcheckError('OVERSIZE', `stream: S1 Oversize declared=${told[AT]}`);
-    } else if (told[STATUS] !== MORE) {
-      throw errorOf(told[STATUS]);
-    }
-  } while (left > 0);
+function* now(stream, pieces) {
+  for (const piece of pieces) yield* stream.push(piece);
+  stream.end();
 }
 
-function finish(stream) {
-  if (native.finish(stream) !== OK) throw new FbcheckError('TRUNCATED', `stream: S2 Truncated held=${told[AT]}`);
-}
-
-function* now(schema, stream, pieces) {
-  for (const piece of pieces) yield* ending(schema, stream, piece);
-  finish(stream);
-}
-
-async function* later(schema, stream, pieces) {
-  for await (const piece of pieces) yield* ending(schema, stream, piece);
-  finish(stream);
+async function* later(stream, pieces) {
+  for await (const piece of pieces) yield* stream.push(piece);
+  stream.end();
 }
 
 const commit = native.commit();

@@ -70,30 +70,37 @@ function check(schema, message) {
   return String(verdict);
 }
 
+/** The lines of a stream in pieces, by what gives the messages, and how it ends. */
+async function lines(checked) {
+  const told = [];
+  let begin = 0;
+  try {
+    for await (const item of checked) {
+      assert.deepStrictEqual([item.begin, item.view?.message], [begin, item.verdict.ok ? item.message : undefined]);
+      begin += item.message.length;
+      told.push(String(item.verdict));
+    }
+    told.push('end');
+  } catch (error) {
+    told.push(`error ${error.message}`);
+  }
+  return told.map((line, number) => (number < told.length - 1 ? `${number + 1} ${line}` : line));
+}
+
+function* pushed(stream, pieces) {
+  for (const piece of pieces) yield* stream.push(piece);
+  stream.end();
+}
+
 async function stream(schema, [file, first, size, maxBytes], to) {
   const given = fs.readFileSync(file);
-  const lines = [];
-  const told = async (checked) => {
-    let number = 0;
-    for await (const { message, verdict } of checked) lines.push(`${++number} ${message.length} ${verdict}`);
-  };
+  const some = () => pieces(given, Number(first), Number(size));
   const most = { maxBytes: Number(maxBytes) };
-  let text = 'end';
-  try {
-    await told(schema.messages(pieces(given, Number(first), Number(size)), most));
-  } catch (error) {
-    text = `error ${error.message}`;
-  }
-  const synchronous = [...lines.splice(0), text];
-  text = 'end';
-  try {
-    await told(schema.messages(later(pieces(given, Number(first), Number(size))), most));
-  } catch (error) {
-    text = `error ${error.message}`;
-  }
-  assert.deepStrictEqual([...lines, text], synchronous);
-  for (const line of lines) to.push(line.replace(/ \d+/, ''));
-  return text;
+  const told = await lines((function* () { yield* schema.messages(some(), most); })());
+  assert.deepStrictEqual(await lines((async function* () { yield* schema.messages(later(some()), most); })()), told);
+  assert.deepStrictEqual(await lines((function* () { yield* pushed(schema.stream(most), some()); })()), told);
+  to.push(...told.slice(0, -1));
+  return told[told.length - 1];
 }
 
 function read(schema, [file, ...texts]) {

@@ -7,7 +7,15 @@ export function texts(schema: Schema, message: Uint8Array, later: AsyncIterable<
   const verdict = schema.check(message);
   const good: Good = schema.verify(message);
   schema.messages(later).next().then(({ value }) => value?.verdict);
-  for (const { verdict } of schema.messages([message])) verdict.reads.toFixed();
+  for (const { verdict, view, begin } of schema.messages([message], { maxBytes: undefined })) {
+    verdict.reads.toFixed(begin);
+    if (view) view.verdict.tables.toFixed();
+    // @ts-expect-error: a bad message has none
+    view.read('name');
+  }
+  const stream = schema.stream({ maxBytes: 4096 });
+  for (const { verdict } of stream.push(message)) verdict.reads.toFixed();
+  stream.end();
   const error: unknown = new Error();
   if (error instanceof BadBuffer) error.verdict.position.toFixed();
   // @ts-expect-error: no such code
@@ -24,7 +32,7 @@ export function texts(schema: Schema, message: Uint8Array, later: AsyncIterable<
   schema.with({ strict: true, knownFields: true, utf8: true, plainBytes: false });
   if (place.kind === 'struct') place.value.subarray(4);
   const [names, first] = schema.view(message).read('items[*].name', schema.path('name'));
-  if (names.kind === 'elements') names.value.map((value) => (typeof value === 'string' ? value.toUpperCase() : first.kind));
+  if (names.kind === 'elements') names.value.map((value) => (typeof value === 'string' ? value.trim() : first.kind));
   return [
     verdict.ok ? verdict.tables : verdict.reason,
     name.kind === 'text' ? name.value.toUpperCase() : '',
