@@ -604,6 +604,24 @@ class Node(Binding, LibraryCase):
         ]
         self.lines_of(rows, before)
 
+    def test_origins(self):
+        """A path serves the schema that resolved it and others of the same file and root, but no others it might fit."""
+        before = (f"const post = new Schema('{ORDERS}', {{ prefixed: true }}), person = post.with({{ root: 'post.Person' }});\n"
+                  f"const first = fs.readFileSync('{STREAM}').subarray(0, {len(messages_of(POST)[0])});\n"
+                  f"const again = new Schema('{ORDERS}', {{ prefixed: true }}), id = post.path('id');\n"
+                  "const name = person.path('name'), one = ([{ value }]) => value;")
+        misfit = "MISFIT FbcheckError: a path is none of this schema from this root"
+        self.lines_of([
+            ("one(post.read(first, id))", "1"), ("one(post.with({ maxDepth: 9 }).read(first, id))", "1"),
+            ("one(post.with({ root: 'post.Delivery' }).read(first, id))", "1"),
+            ("one(person.with({ root: undefined }).read(first, id))", "1"), ("again.read(first, id)", misfit),
+            ("again.view(first).read(id)", misfit), ("person.read(first, id)", misfit), ("post.read(first, name)", misfit),
+            ("post.read(first, 'id', name)", misfit), ("post.view(first).read(name, id)", misfit),
+            ("one(person.with({ root: 'post.Delivery' }).view(first).read(id))", "1"),
+            ("person.with({ maxDepth: 9 }).read(first.subarray(0, 9), name)",
+             "BAD BadBuffer: bad V1 WrongPrefix at=0 object=4 field=- reads=1 in . [post.Person]"),
+        ], before)
+
     def test_pushed(self):
         """What is left of a piece isn't lost, whether a loop was left early or another one came between."""
         before = (f"const stream = fs.readFileSync('{STREAM}'), schema = new Schema('{ORDERS}', {{ prefixed: true }});\n"

@@ -9,8 +9,8 @@ const {
 const native = require('./fbcheck.node');
 
 const {
-  BAD, BAD_TEXT, CHANGED, DEEPEST, DEFAULT_FLOAT, MORE, NONE, NO_ROOT, NO_SUCH_TABLE, NO_TABLE, OK, OVERSIZE, TOO_LONG,
-  TRUNCATED, UNMARKED_BYTES,
+  BAD, BAD_TEXT, CHANGED, DEEPEST, DEFAULT_FLOAT, MISFIT, MORE, NONE, NO_ROOT, NO_SUCH_TABLE, NO_TABLE, OK, OVERSIZE,
+  TOO_LONG, TRUNCATED, UNMARKED_BYTES,
 } = numbers;
 
 // What a call tells beside its answer, by the places that the enum in fbcheck.c gives.
@@ -197,21 +197,25 @@ function bytesOf(schema, options) {
 }
 
 class Path {
+  #origin;
   #bytes;
   #each;
 
   /** With [*], the bytes are those of the path up to it, and each has those of all with the place of [*] in them. */
-  constructor(text, bytes, each) {
+  constructor(text, origin, bytes, each) {
     this.text = text;
+    this.#origin = origin;
     this.#bytes = bytes;
     this.#each = each;
   }
 
-  /** The bytes of paths in a row, aligned. */
-  static join(paths) {
-    if (paths.length === 1) return paths[0].#bytes;
-    const all = new Uint8Array(new ArrayBuffer(PATH_BYTES * paths.length));
-    paths.forEach((path, n) => all.set(path.#bytes, n * PATH_BYTES));
+  /** The bytes of paths in a row, aligned, if all have this origin. */
+  static join(paths, origin) {
+    const all = paths.length === 1 ? paths[0].#bytes : new Uint8Array(new ArrayBuffer(PATH_BYTES * paths.length));
+    paths.forEach((path, n) => {
+      if (path.#origin !== origin) throw errorOf(MISFIT);
+      if (paths.length > 1) all.set(path.#bytes, n * PATH_BYTES);
+    });
     return all;
   }
 
@@ -317,12 +321,14 @@ function elements(schema, message, count, { bytes, step }) {
 class View {
   #schema;
   #handle;
+  #origin;
   #message;
   #verdict;
 
-  constructor(schema, handle, message, verdict) {
+  constructor(schema, handle, origin, message, verdict) {
     this.#schema = schema;
     this.#handle = handle;
+    this.#origin = origin;
     this.#message = message;
     this.#verdict = verdict;
   }
@@ -342,7 +348,8 @@ class View {
   read(...paths) {
     const resolved = paths.map((path) => (path instanceof Path ? path : this.#schema.path(path)));
     const words = new Uint32Array(VALUE_WORDS * paths.length);
-    const status = native.again(this.#handle, this.#message, Path.join(resolved), new Uint8Array(words.buffer));
+    const bytes = Path.join(resolved, this.#origin);
+    const status = native.again(this.#handle, this.#message, bytes, new Uint8Array(words.buffer));
     if (status !== OK) throw errorOf(status);
     return Path.values(resolved, this.#handle, this.#message, words);
   }
@@ -432,27 +439,32 @@ class Stream {
 class Schema {
   #schema;
   #options;
+  #origins; // by the number of a root table, what paths from there have; alike for all schemas of one loaded file
+  #origin;
 
   constructor(file, options = {}) {
     if (file instanceof Schema) {
       this.#options = { ...file.#options, ...options };
+      this.#origins = file.#origins;
       this.#schema = native.choose(file.#schema, bytesOf(file.#schema, this.#options));
     } else {
       const path = typeof file === 'string' || file instanceof URL ? file : undefined;
       const loaded = load(path === undefined ? file : fs.readFileSync(path), demandsOf(options), path);
       this.#options = options;
+      this.#origins = [];
       try {
         this.#schema = native.choose(loaded, bytesOf(loaded, options));
       } finally {
         native.close(loaded);
       }
     }
-    // A check of nothing tells whether the options can be served.
+    // A check of nothing tells whether the options can be served, and its fault is that of the root table.
     native.locate(this.#schema, Buffer.alloc(0));
     if (told[STATUS] > BAD) {
       this.close();
       throw errorOf(told[STATUS]);
     }
+    this.#origin = this.#origins[told[OBJECT]] ??= {};
   }
 
   with(options) {
@@ -471,16 +483,16 @@ class Schema {
   }
 
   view(message) {
-    return new View(this, this.#schema, message, this.verify(message));
+    return new View(this, this.#schema, this.#origin, message, this.verify(message));
   }
 
   path(text) {
     if (typeof text !== 'string') throw new TypeError('a path is a string, or what path() gives');
     const star = text.indexOf('[*]');
-    if (star < 0) return new Path(text, this.#resolved(text, text));
+    if (star < 0) return new Path(text, this.#origin, this.#resolved(text, text));
     const bytes = this.#resolved(text, text.replace('[*]', '[0]'));
     const front = this.#resolved(text, text.slice(0, star));
-    return new Path(text, front, { bytes, step: front.readUInt32LE(PATH.count[0]) });
+    return new Path(text, this.#origin, front, { bytes, step: front.readUInt32LE(PATH.count[0]) });
   }
 
   /** The bytes of a path, for one that was asked for. */
@@ -494,7 +506,8 @@ class Schema {
   read(message, ...paths) {
     const resolved = paths.map((path) => (path instanceof Path ? path : this.path(path)));
     const words = new Uint32Array(VALUE_WORDS * paths.length);
-    const status = native.read(this.#schema, message, Path.join(resolved), new Uint8Array(words.buffer));
+    const bytes = Path.join(resolved, this.#origin);
+    const status = native.read(this.#schema, message, bytes, new Uint8Array(words.buffer));
     if (status === BAD || status === TOO_LONG) throw new BadBuffer(this.check(message));
     if (status !== OK) throw errorOf(status);
     return Path.values(resolved, this.#schema, message, words);
@@ -513,7 +526,8 @@ class Schema {
     if (!this.#options.prefixed) throw new TypeError('messages of a stream begin with their size: ask for prefixed');
     if (maxBytes < 8) throw new RangeError('maxBytes is below 8');
     const most = Number(whole('maxBytes', maxBytes, 2n ** 31n - 1n));
-    return new Stream(most, this, (message, verdict) => new View(this, this.#schema, message, verdict));
+    return new Stream(most, this, (message, verdict) => (
+      new View(this, this.#schema, this.#origin, message, verdict)));
   }
 
   mostReads(length) {
