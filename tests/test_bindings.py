@@ -485,8 +485,11 @@ class Node(Binding, LibraryCase):
         cls.made(TOP / "bindings/node/build")
 
     def test_style(self):
+        """With the newest words of JavaScript, and with the oldest that its types need, none of which are Node's."""
         if there("tsc"):
-            self.made("tsc", "--noEmit", "--strict", "--target", "es2022", "--module", "commonjs", DRIVERS / "types.ts")
+            words = ["--noEmit", "--strict", "--exactOptionalPropertyTypes", "--module", "commonjs"]
+            for more in (["--target", "es2022"], ["--target", "es2018", "--lib", "es2018", "--typeRoots", FOLDER]):
+                self.made("tsc", *words, *more, DRIVERS / "types.ts")
 
     def test_wrong_words(self):
         """What isn't bytes, and options that aren't there; and texts that name what was asked for."""
@@ -621,6 +624,29 @@ class Node(Binding, LibraryCase):
             ("person.with({ maxDepth: 9 }).read(first.subarray(0, 9), name)",
              "BAD BadBuffer: bad V1 WrongPrefix at=0 object=4 field=- reads=1 in . [post.Person]"),
         ], before)
+
+    def test_undefined_options(self):
+        """Each has its default, for a schema that is loaded and for one with other options."""
+        names = ["root", "maxDepth", "maxTables", "maxReads", "readsPerByte", "ident", "prefixed", "alignment",
+                 "inlineSize", "strict", "knownFields", "utf8", "plainBytes"]
+        none = ", ".join(f"{name}: undefined" for name in names)
+        before = (f"const schema = new Schema('{FILES['M']}', {{ {none} }}), orc = bytes('{ORC.hex()}');\n"
+                  "const odd = schema.with({ maxDepth: 0, ident: 'KIND' });")
+        self.lines_of([
+            ("schema.check(orc).ok", "true"), ("odd.check(orc).ok", "false"),
+            (f"odd.with({{ {none} }}).check(orc).ok", "true"), ("odd.with({ ident: undefined }).check(orc).reason",
+             '"TooDeep"'), ("schema.with({ depth: undefined }).check(orc).ok", "true"),
+            ("[...schema.with({ prefixed: true }).messages(Buffer.alloc(0), { maxBytes: undefined })]", "[]"),
+        ], before)
+
+    def test_closed(self):
+        """What is thrown has a code, and so it has where a view is left."""
+        closed = "CLOSED FbcheckError: the schema is closed"
+        before = (f"const schema = new Schema('{FILES['M']}'), orc = bytes('{ORC.hex()}'), view = schema.view(orc);\n"
+                  "const path = schema.path('name'), other = schema.with({ maxDepth: 9 }); schema.close();")
+        calls = ["schema.check(orc)", "schema.read(orc, path)", "schema.path('name')", "schema.view(orc)",
+                 "view.read(path)", "view.read('name[*]')", "schema.with({ maxDepth: 5 })", "schema.mostReads(5)"]
+        self.lines_of([*((call, closed) for call in calls), ("other.read(orc, path)[0].value", '"Orc"')], before)
 
     def test_pushed(self):
         """What is left of a piece isn't lost, whether a loop was left early or another one came between."""

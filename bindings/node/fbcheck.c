@@ -13,9 +13,11 @@
 /* The places of the numbers that are told. */
 enum { STATUS, REASON, OBJECT, FIELD, TABLES, DEPTH, AT, READS, USED, LEFT };
 
-/* What a thread of Node has: the numbers that are told, and room for so many open tables. */
+/* What a thread of Node has: the numbers that are told, what makes an FbcheckError of a code and a text, and room for
+   so many open tables. */
 struct thread {
     double *told;
+    napi_ref error;
     fbcheck_scratch *scratch;
     uint32_t depth;
 };
@@ -69,10 +71,31 @@ static napi_value number(napi_env env, uint32_t value)
     return made;
 }
 
-static napi_value failed(napi_env env, const char *why)
+static napi_value text_of(napi_env env, const char *text, size_t length)
 {
-    napi_throw_error(env, NULL, why);
+    napi_value made = NULL;
+    napi_create_string_utf8(env, text, length, &made);
+    return made;
+}
+
+/* Throws an FbcheckError with this code, or any error where there is none. */
+static napi_value failed(napi_env env, const char *code, const char *why)
+{
+    napi_value make, error, words[2];
+    if (code == NULL || napi_get_reference_value(env, thread_of(env)->error, &make) != napi_ok) {
+        napi_throw_error(env, NULL, why);
+        return NULL;
+    }
+    words[0] = text_of(env, code, NAPI_AUTO_LENGTH);
+    words[1] = text_of(env, why, NAPI_AUTO_LENGTH);
+    if (napi_call_function(env, make, make, 2, words, &error) == napi_ok)
+        napi_throw(env, error);
     return NULL;
+}
+
+static napi_value no_memory(napi_env env)
+{
+    return failed(env, "NO_MEMORY", "out of memory");
 }
 
 /* Room for the open tables of a check, or null where memory is refused, which is thrown. A check would do with its own
@@ -85,7 +108,7 @@ static fbcheck_scratch *scratch_for(napi_env env, const struct checker *checker)
         thread->depth = checker->options.max_depth > FBCHECK_DEEP ? checker->options.max_depth : FBCHECK_DEEP;
         thread->scratch = fbcheck_scratch_new(thread->depth);
         if (thread->scratch == NULL)
-            failed(env, "out of memory");
+            no_memory(env);
     }
     return thread->scratch;
 }
@@ -105,7 +128,7 @@ static struct checker *checker_of(napi_env env, napi_callback_info info, napi_va
     struct checker *checker = arguments(env, info, words, count);
     if (checker != NULL && checker->rows != NULL)
         return checker;
-    failed(env, "the schema is closed");
+    failed(env, "CLOSED", "the schema is closed");
     return NULL;
 }
 
@@ -130,13 +153,6 @@ static bool is_detached(napi_env env, napi_value array)
     if (napi_get_typedarray_info(env, array, NULL, NULL, NULL, &buffer, NULL) == napi_ok)
         napi_is_detached_arraybuffer(env, buffer, &detached);
     return detached;
-}
-
-static napi_value text_of(napi_env env, const char *text, size_t length)
-{
-    napi_value made = NULL;
-    napi_create_string_utf8(env, text, length, &made);
-    return made;
 }
 
 static void leave(napi_env env, struct checker *checker)
@@ -173,16 +189,17 @@ static void free_stream(napi_env env, void *held, void *hint)
     free(stream);
 }
 
-/* begin(numbers): the Float64Array into which calls tell. */
+/* begin(numbers, error): the Float64Array into which calls tell, and what makes an FbcheckError of a code and text. */
 static napi_value begin(napi_env env, napi_callback_info info)
 {
-    napi_value words[1], version;
+    napi_value words[2], version;
     napi_ref kept;
     void *numbers;
     struct thread *thread = calloc(1, sizeof *thread);
     if (thread == NULL)
-        return failed(env, "out of memory");
-    arguments(env, info, words, 1);
+        return failed(env, NULL, "out of memory");
+    arguments(env, info, words, 2);
+    napi_create_reference(env, words[1], 1, &thread->error);
     napi_get_typedarray_info(env, words[0], NULL, NULL, &numbers, NULL, NULL);
     napi_create_reference(env, words[0], 1, &kept);
     thread->told = numbers;
@@ -205,13 +222,13 @@ static napi_value holding(napi_env env, struct rows *rows, const fbcheck_options
     struct checker *checker = malloc(sizeof *checker);
     napi_value made;
     if (checker == NULL)
-        return failed(env, "out of memory");
+        return no_memory(env);
     *checker = (struct checker){ rows, *options, thread_of(env) };
     rows->users++;
     if (napi_create_external(env, checker, free_checker, NULL, &made) == napi_ok)
         return made;
     free_checker(env, checker, NULL);
-    return failed(env, "out of memory");
+    return no_memory(env);
 }
 
 /* load(file, demands): a schema for checks with these demands, or undefined where there is none. */
@@ -230,7 +247,7 @@ static napi_value load(napi_env env, napi_callback_info info)
     napi_get_value_uint32(env, words[1], &options.demands);
     rows = calloc(1, sizeof *rows);
     if (rows == NULL)
-        return failed(env, "out of memory");
+        return no_memory(env);
     rows->users = 1;
     rows->size = 8 * (int64_t)length;
     napi_adjust_external_memory(env, rows->size, &all);
@@ -252,7 +269,7 @@ static napi_value choose(napi_env env, napi_callback_info info)
     if (checker == NULL || !bytes_of(env, words[1], &bytes, &length))
         return NULL;
     if (length != sizeof options)
-        return failed(env, "these are no options");
+        return failed(env, NULL, "these are no options");
     memcpy(&options, bytes, length);
     return holding(env, checker->rows, &options);
 }
@@ -369,7 +386,7 @@ static bool reading_of(napi_env env, napi_callback_info info, struct reading *re
     if (values_length / sizeof(fbcheck_value) >= reading->count && (uintptr_t)values % 8 == 0 &&
         (uintptr_t)paths % 8 == 0)
         return true;
-    failed(env, "there is no room for the values");
+    failed(env, NULL, "there is no room for the values");
     return false;
 }
 
@@ -415,7 +432,7 @@ static napi_value read_each(napi_env env, napi_callback_info info)
     napi_get_value_uint32(env, words[3], &step);
     napi_get_value_uint32(env, words[4], &first);
     if (path_length != sizeof path || step >= FBCHECK_STEPS || (uintptr_t)room % 8 != 0)
-        return failed(env, "there is no room for the values");
+        return failed(env, NULL, "there is no room for the values");
     memcpy(&path, bytes, sizeof path);
     fbcheck_value *values = (fbcheck_value *)(void *)room;
     for (size_t at = 0; at < room_length / sizeof *values && status == FBCHECK_OK; at++) {
@@ -451,13 +468,13 @@ static napi_value name(napi_env env, napi_callback_info info)
         return NULL;
     bool of_object = napi_get_value_uint32(env, words[2], &field) != napi_ok;
     if (napi_get_value_uint32(env, words[1], &object) != napi_ok)
-        return failed(env, "a number is needed");
+        return failed(env, NULL, "a number is needed");
     const fbcheck_schema *schema = checker->rows->schema;
     size_t length = of_object ? fbcheck_object_name(schema, object, NULL, 0)
                               : fbcheck_field_name(schema, object, field, NULL, 0);
     char *text = malloc(length + 1);
     if (text == NULL)
-        return failed(env, "out of memory");
+        return no_memory(env);
     if (of_object)
         fbcheck_object_name(schema, object, text, length);
     else
@@ -477,14 +494,14 @@ static napi_value stream_of(napi_env env, napi_callback_info info)
     struct stream *stream = calloc(1, sizeof *stream);
     if (stream == NULL || (stream->room = calloc(size, 1)) == NULL) {
         free(stream);
-        return failed(env, "out of memory");
+        return no_memory(env);
     }
     stream->size = size;
     stream->told = thread_of(env)->told;
     if (napi_create_external(env, stream, free_stream, NULL, &made) == napi_ok)
         return made;
     free_stream(env, stream, NULL);
-    return failed(env, "out of memory");
+    return no_memory(env);
 }
 
 /* feed(stream, piece, at): a message that is whole now, or undefined. Tells the status, how much was used of the piece

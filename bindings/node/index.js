@@ -16,7 +16,8 @@ const {
 // What a call tells beside its answer, by the places that the enum in fbcheck.c gives.
 const told = new Float64Array(16);
 const [STATUS, REASON, OBJECT, FIELD, TABLES, DEPTH, AT, READS, USED, LEFT] = Array(10).keys();
-if (native.begin(told) !== VERSION) throw new Error('another libfbcheck is linked');
+const errorFor = (code, text) => new FbcheckError(code, text);
+if (native.begin(told, errorFor) !== VERSION) throw new Error('another libfbcheck is linked');
 
 // Where the numbers of a value stand, in words of 32 bits.
 const VALUE_WORDS = VALUE_BYTES / 4;
@@ -143,6 +144,11 @@ function flag(name, value) {
   throw new TypeError(`${name} is true or false, and not ${value}`);
 }
 
+/** The options that aren't undefined; one that is has its default. */
+function given(options) {
+  return Object.fromEntries(Object.entries(options).filter(([, value]) => value !== undefined));
+}
+
 /** The bits of what these options demand. */
 function demandsOf(options) {
   const names = Object.keys(DEMANDS).filter((name) => name in options && flag(name, options[name]));
@@ -166,16 +172,15 @@ function load(file, demands, path) {
 function bytesOf(schema, options) {
   const bytes = Buffer.alloc(OPTIONS_BYTES);
   const put = (number, [at, size]) => bytes.writeUIntLE(number, at, size);
-  const given = { root: undefined, ...LIMITS, prefixed: false, alignment: true, inlineSize: false, ident: undefined,
-    ...options };
-  const root = given.root === undefined ? NONE : native.table(schema, Buffer.from(given.root));
+  const asked = { ...LIMITS, prefixed: false, alignment: true, inlineSize: false, ...options };
+  const root = asked.root === undefined ? NONE : native.table(schema, Buffer.from(asked.root));
   if (root === NO_TABLE) {
-    throw errorOf(NO_ROOT, given.root, { hint: native.rootHint(schema, Buffer.from(given.root)) });
+    throw errorOf(NO_ROOT, asked.root, { hint: native.rootHint(schema, Buffer.from(asked.root)) });
   }
   put(VERSION, OPTIONS.version);
   put(root, OPTIONS.root);
-  put(demandsOf(given), OPTIONS.demands);
-  for (const [name, value] of Object.entries(given)) {
+  put(demandsOf(asked), OPTIONS.demands);
+  for (const [name, value] of Object.entries(asked)) {
     if (name in LIMITS) {
       const [at, size] = OPTIONS[name];
       const number = whole(name, value, (1n << BigInt(8 * size)) - 1n);
@@ -184,12 +189,12 @@ function bytesOf(schema, options) {
       else put(Number(number), OPTIONS[name]);
     } else if (name in SWITCHES) {
       put(Number(flag(name, value) !== (name === 'alignment')), SWITCHES[name]);
-    } else if (name === 'ident' && value !== undefined) {
+    } else if (name === 'ident') {
       put(value === 'own' ? numbers.IDENT_OWN : numbers.IDENT_THIS, OPTIONS.identFrom);
       const four = value === 'own' ? Buffer.alloc(4) : Buffer.from(value, 'latin1');
       if (four.length !== 4) throw new RangeError(`ident must be four bytes, or 'own'`);
       four.copy(bytes, OPTIONS.ident[0]);
-    } else if (name !== 'root' && name !== 'ident' && !(name in DEMANDS)) {
+    } else if (name !== 'root' && !(name in DEMANDS)) {
       throw new TypeError(`no option ${name}`);
     }
   }
@@ -444,16 +449,16 @@ class Schema {
 
   constructor(file, options = {}) {
     if (file instanceof Schema) {
-      this.#options = { ...file.#options, ...options };
+      this.#options = given({ ...file.#options, ...options });
       this.#origins = file.#origins;
       this.#schema = native.choose(file.#schema, bytesOf(file.#schema, this.#options));
     } else {
       const path = typeof file === 'string' || file instanceof URL ? file : undefined;
-      const loaded = load(path === undefined ? file : fs.readFileSync(path), demandsOf(options), path);
-      this.#options = options;
+      this.#options = given(options);
       this.#origins = [];
+      const loaded = load(path === undefined ? file : fs.readFileSync(path), demandsOf(this.#options), path);
       try {
-        this.#schema = native.choose(loaded, bytesOf(loaded, options));
+        this.#schema = native.choose(loaded, bytesOf(loaded, this.#options));
       } finally {
         native.close(loaded);
       }

@@ -1,7 +1,10 @@
 // What the types of the module for Node let pass, and what they don't: tsc --strict compiles it.
-import { BadBuffer, FbcheckError, Schema, commit, type Good, type Value } from '../../bindings/node';
+import { BadBuffer, FbcheckError, Schema, commit, type Good, type Options, type Value } from '../../bindings/node';
 
-export function texts(schema: Schema, message: Uint8Array, later: AsyncIterable<Uint8Array>): (string | number)[] {
+export function texts(
+  schema: Schema, message: Uint8Array, later: AsyncIterable<Uint8Array>, ident: string | undefined,
+): (string | number)[] {
+  const asked: Options = { ident, root: undefined };
   const [name, count, place] = schema.read(message, 'name', schema.path('count'), 'place');
   const rest: Value[] = schema.read(message, ...['name', 'count']);
   const verdict = schema.check(message);
@@ -23,13 +26,15 @@ export function texts(schema: Schema, message: Uint8Array, later: AsyncIterable<
   if (error instanceof FbcheckError && error.code === 'UNMARKED_BYTES') return [];
   // @ts-expect-error: it may be unknown
   commit.toUpperCase();
+  new Schema({ href: 'file:///my.bfbs' });
   // @ts-expect-error: only a text has a string
   name.value.toUpperCase();
   // @ts-expect-error: no such option
   schema.with({ max_depth: 5 });
   // @ts-expect-error: it's true or false
   schema.with({ strict: 1 });
-  schema.with({ strict: true, knownFields: true, utf8: true, plainBytes: false });
+  schema.with({ strict: true, knownFields: true, utf8: true, plainBytes: false, maxReads: undefined });
+  schema.with(asked);
   if (place.kind === 'struct') place.value.subarray(4);
   const [names, first] = schema.view(message).read('items[*].name', schema.path('name'));
   if (names.kind === 'elements') names.value.map((value) => (typeof value === 'string' ? value.trim() : first.kind));
