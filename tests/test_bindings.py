@@ -94,6 +94,8 @@ class Binding:
     others = "the schema was loaded with other demands: ask for these when you load it"
     quoted = ' ("{}")'  # what was asked for, behind the text of an error
     names_files = False  # whether a schema file is loaded by its name, which an error tells too
+    names_first = False  # before what it tells of the file's bytes
+    damaged = NO_SCHEMA  # what it tells of a schema file that is damaged
     briefly = ()  # the driver's words, behind the first, by which a short run costs less
 
     @classmethod
@@ -324,10 +326,11 @@ class Binding:
         files = [file_of(f"wrong{number}.bfbs", data) for number, data in enumerate(given)]
         for path, got in zip(files, self.told(*[f"load {path}" for path in files])):
             want = self.fault("--schema", path)
+            no_schema = ""
             if want.startswith("schema: L1 "):
-                want += NO_SCHEMA
-            if self.names_files and want.startswith("schema: "):
-                want += self.quoted.format(path)
+                no_schema = self.damaged if path.read_bytes()[4:8] == b"BFBS" else NO_SCHEMA
+            named = self.quoted.format(path) if self.names_files and want.startswith("schema: ") else ""
+            want += f"{named}{no_schema}" if self.names_first else f"{no_schema}{named}"
             self.same(f"{path.name}", got, f"error {want}")
         first = file_of("first", messages_of(POST)[0])
         deep, none = ".".join(["next"] * 32), file_of("no_bytes", b"")
@@ -471,7 +474,8 @@ class Rust(Binding, LibraryCase):
 
 class Node(Binding, LibraryCase):
     language, folder, fence = "Node", "node", "js"
-    quoted, names_files = " ('{}')", True
+    quoted, names_files, names_first = " ('{}')", True, True
+    damaged = "; this binary schema is damaged"
     driver = ["node", DRIVERS / "driver.js"]
 
     @classmethod
@@ -513,7 +517,7 @@ class Node(Binding, LibraryCase):
                 ("schema.path('nam')", "FbcheckError: path: P2 NoSuchField step=0 ('nam'); did you mean name?; fields: "),
                 ("schema.with({ root: 'N' })", "FbcheckError: no root table ('N'); tables: M"),
                 (f"new Schema('{plain}')",
-                 f"FbcheckError: schema: L1 V5 WrongIdentifier at=4 object=9 field=- reads=1{NO_SCHEMA} ('{plain}')")]
+                 f"FbcheckError: schema: L1 V5 WrongIdentifier at=4 object=9 field=- reads=1 ('{plain}'){NO_SCHEMA}")]
         code = (f"const {{ Schema }} = require('{TOP}/bindings/node'); const schema = new Schema('{FILES['M']}');\n"
                 "const prefixed = schema.with({ prefixed: true });\n"
                 "const told = (call) => { try { console.log(call()); } catch (e) { console.log(String(e)); } };\n")

@@ -9,8 +9,8 @@ const {
 const native = require('./fbcheck.node');
 
 const {
-  BAD, BAD_TEXT, CHANGED, DEEPEST, DEFAULT_FLOAT, MISFIT, MORE, NONE, NO_ROOT, NO_SUCH_TABLE, NO_TABLE, OK, OVERSIZE,
-  TOO_LONG, TRUNCATED, UNMARKED_BYTES,
+  BAD, BAD_TEXT, CHANGED, DEEPEST, DEFAULT_FLOAT, MISFIT, MORE, NONE, NOT_WELL_FORMED, NO_ROOT, NO_SUCH_TABLE, NO_TABLE,
+  OK, OVERSIZE, TOO_LONG, TRUNCATED, UNMARKED_BYTES,
 } = numbers;
 
 // What a call tells beside its answer, by the places that the enum in fbcheck.c gives.
@@ -45,8 +45,9 @@ const REFUSALS = {
   NO_SUCH_TABLE: ["strict can't find the table of a nested buffer: ", '; plainBytes takes such fields as bytes'],
 };
 
-// What is said behind the fault of a file that isn't well-formed.
-const NO_SCHEMA = '; this is no binary schema, which flatc --binary --schema makes';
+// What is said behind the fault of a file that isn't well-formed, by whether it has the identifier of schema files.
+const NO_SCHEMA = 'this is no binary schema, which flatc --binary --schema makes';
+const DAMAGED = 'this binary schema is damaged';
 
 class FbcheckError extends Error {
   name = 'FbcheckError';
@@ -110,7 +111,7 @@ function errorOf(status, asked, { field, hint } = {}) {
   const code = told[REASON];
   let text = TEXTS[name];
   if (name === 'NOT_WELL_FORMED') {
-    text = `schema: L1 ${String(new Bad('')).slice('bad '.length)}${NO_SCHEMA}`;
+    text = `schema: L1 ${String(new Bad('')).slice('bad '.length)}`;
   } else if (name === 'BAD_SCHEMA') {
     const part = told[FIELD] === NONE ? '-' : told[FIELD];
     text = `schema: L2 C${code} ${CODES[code]} owner=${told[OBJECT]} part=${part}`;
@@ -161,6 +162,10 @@ function load(file, demands, path) {
   const loaded = native.load(file, demands);
   if (loaded !== undefined) return loaded;
   const [status, object, field] = [told[STATUS], told[OBJECT], told[FIELD]];
+  if (status === NOT_WELL_FORMED) {
+    const ident = Buffer.from(file.buffer, file.byteOffset, file.byteLength).toString('latin1', 4, 8);
+    throw errorOf(status, path, { hint: ident === 'BFBS' ? DAMAGED : NO_SCHEMA });
+  }
   if (status !== UNMARKED_BYTES && status !== NO_SUCH_TABLE) throw errorOf(status, path);
   const plain = load(file, 0, path);
   const name = `${native.name(plain, object)}.${native.name(plain, object, field)}`;
