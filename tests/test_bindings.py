@@ -14,12 +14,15 @@ A driver reads commands, one a line, and writes what each answers, and behind it
     commit                          the commit of the library, or a dash if it isn't known
 """
 
+import concurrent.futures
 import os
 import pathlib
 import re
 import shutil
+import socket
 import struct
 import subprocess
+import time
 import unittest
 
 from tests.support import real_defaults, schemas
@@ -423,6 +426,28 @@ class Binding:
         self.same("what the page's program writes", told, (0, want, ""))
 
 
+def received(peer):
+    """All that comes until the other one has ended."""
+    return b"".join(iter(lambda: peer.recv(65536), b""))
+
+
+def through(path, up, given):
+    """What a gateway passes on of these bytes, and what it answers. It has as long as it takes to begin."""
+    with socket.socket(socket.AF_UNIX) as sender:
+        begun = time.monotonic()
+        while sender.connect_ex(path) != 0:
+            if time.monotonic() - begun > 60:
+                raise AssertionError("the gateway doesn't begin")
+            time.sleep(0.01)
+        with up.accept()[0] as other, concurrent.futures.ThreadPoolExecutor() as threads:
+            passed, told = threads.submit(received, other), threads.submit(received, sender)
+            sender.sendall(given)
+            sender.shutdown(socket.SHUT_WR)
+            answer = told.result(60)
+            sender.close()
+            return passed.result(60), answer
+
+
 def chain(count):
     """By CHAIN: so many tables, one inside another."""
     root = {}
@@ -651,6 +676,52 @@ class Node(Binding, LibraryCase):
         calls = ["schema.check(orc)", "schema.read(orc, path)", "schema.path('name')", "schema.view(orc)",
                  "view.read(path)", "view.read('name[*]')", "schema.with({ maxDepth: 5 })", "schema.mostReads(5)"]
         self.lines_of([*((call, closed) for call in calls), ("other.read(orc, path)[0].value", '"Orc"')], before)
+
+    def shown(self, word):
+        """The program of the page that has this word."""
+        page = (TOP / "bindings/node/README.md").read_text()
+        return next(code for code in re.findall(r"```js\n(.*?)```", page, re.S) if word in code)
+
+    def test_page_of_pieces(self):
+        """The page's lines for pieces that are pushed go through a stream of one piece."""
+        code = (f"const {{ Schema }} = require('{TOP}/bindings/node'), piece = require('fs').readFileSync('{STREAM}');\n"
+                f"const schema = new Schema('{ORDERS}', {{ prefixed: true }});\n{self.shown('push')}")
+        bad = messages_of(POST)[4]
+        lines = "".join(f"{len(one)} {str(one != bad).lower()}\n" for one in messages_of(POST))
+        self.same("what they print", ran("node", "-e", code), (0, lines, ""))
+
+    def test_gateway(self):
+        """The page's gateway passes on what is ok, and answers, whether the sender is good, bad or cut off."""
+        code = self.shown("createServer")
+        here, there = str(FOLDER / "gateway"), str(FOLDER / "up")
+        for port, path in [("listen(7000)", here), ("connect(7001)", there)]:
+            self.same(port, code.count(port), 1)
+            code = code.replace(port, f"{port[:-6]}('{path}')")
+        page = file_of("gateway.js", code.replace("./bindings/node", f"{TOP}/bindings/node").encode())
+        first, *_, bad, _ = messages_of(POST)
+        fault = run("--names", "--schema", ORDERS, given=bad).out.decode()[2:]
+        held = len(POST) - len(messages_of(POST)[-1])
+        rows = [
+            (POST, POST.replace(bad, b""), "1 bad"), (bad * 12 + first, b"", "10 bad"), (b"", b"", "0 bad"),
+            (first * 40_000, first * 40_000, "0 bad"), (first + b"\0\0\x10\0" + first, first,
+                                                        "0 bad, stream: S1 Oversize declared=1048576"),
+            (POST[:-1], POST[:held].replace(bad, b""), f"1 bad, stream: S2 Truncated held={len(POST) - held - 1}"),
+        ]
+        with socket.socket(socket.AF_UNIX) as up, subprocess.Popen(
+                ["node", page], cwd=TOP, stdin=subprocess.DEVNULL, stderr=subprocess.PIPE, text=True) as gateway:
+            try:
+                up.bind(there)
+                up.listen()
+                for given, wanted, answer in rows:
+                    passed, told = through(here, up, given)
+                    self.same(f"{answer}: what it passes on", (len(passed), passed == wanted), (len(wanted), True))
+                    self.same("its answer", told, f"{answer}\n".encode())
+            finally:
+                gateway.terminate()
+            lines = gateway.communicate()[1].splitlines()
+        place = POST.index(bad)
+        places = [place, *range(0, 10 * len(bad), len(bad)), place]
+        self.same("what it tells", lines, [f"at {place}: {fault.strip()}" for place in places])
 
     def test_pushed(self):
         """What is left of a piece isn't lost, whether a loop was left early or another one came between."""

@@ -147,7 +147,9 @@ function flag(name, value) {
 
 /** The options that aren't undefined; one that is has its default. */
 function given(options) {
-  return Object.fromEntries(Object.entries(options).filter(([, value]) => value !== undefined));
+  const defined = { ...options };
+  for (const name in defined) if (defined[name] === undefined) delete defined[name];
+  return defined;
 }
 
 /** The bits of what these options demand. */
@@ -177,7 +179,8 @@ function load(file, demands, path) {
 function bytesOf(schema, options) {
   const bytes = Buffer.alloc(OPTIONS_BYTES);
   const put = (number, [at, size]) => bytes.writeUIntLE(number, at, size);
-  const asked = { ...LIMITS, prefixed: false, alignment: true, inlineSize: false, ...options };
+  const asked = { root: undefined, ...LIMITS, prefixed: false, alignment: true, inlineSize: false, ident: undefined,
+    ...options };
   const root = asked.root === undefined ? NONE : native.table(schema, Buffer.from(asked.root));
   if (root === NO_TABLE) {
     throw errorOf(NO_ROOT, asked.root, { hint: native.rootHint(schema, Buffer.from(asked.root)) });
@@ -194,15 +197,23 @@ function bytesOf(schema, options) {
       else put(Number(number), OPTIONS[name]);
     } else if (name in SWITCHES) {
       put(Number(flag(name, value) !== (name === 'alignment')), SWITCHES[name]);
-    } else if (name === 'ident') {
+    } else if (name === 'ident' && value !== undefined) {
       put(value === 'own' ? numbers.IDENT_OWN : numbers.IDENT_THIS, OPTIONS.identFrom);
       const four = value === 'own' ? Buffer.alloc(4) : Buffer.from(value, 'latin1');
       if (four.length !== 4) throw new RangeError(`ident must be four bytes, or 'own'`);
       four.copy(bytes, OPTIONS.ident[0]);
-    } else if (name !== 'root' && !(name in DEMANDS)) {
+    } else if (name !== 'root' && name !== 'ident' && !(name in DEMANDS)) {
       throw new TypeError(`no option ${name}`);
     }
   }
+  return bytes;
+}
+
+/** The bytes of a path by a schema of the library, for one that was asked for. */
+function resolved(schema, asked, text) {
+  const path = Buffer.from(text);
+  const bytes = native.resolve(schema, path);
+  if (bytes === undefined) throw errorOf(told[STATUS], asked, { hint: native.pathHint(schema, path) });
   return bytes;
 }
 
@@ -221,12 +232,12 @@ class Path {
 
   /** The bytes of paths in a row, aligned, if all have this origin. */
   static join(paths, origin) {
-    const all = paths.length === 1 ? paths[0].#bytes : new Uint8Array(new ArrayBuffer(PATH_BYTES * paths.length));
+    const joined = paths.length === 1 ? paths[0].#bytes : new Uint8Array(new ArrayBuffer(PATH_BYTES * paths.length));
     paths.forEach((path, n) => {
       if (path.#origin !== origin) throw errorOf(MISFIT);
-      if (paths.length > 1) all.set(path.#bytes, n * PATH_BYTES);
+      if (paths.length > 1) joined.set(path.#bytes, n * PATH_BYTES);
     });
-    return all;
+    return joined;
   }
 
   /** What is at the end of paths, by the values at the ends of their bytes. */
@@ -356,12 +367,12 @@ class View {
   }
 
   read(...paths) {
-    const resolved = paths.map((path) => (path instanceof Path ? path : this.#schema.path(path)));
+    const all = paths.map((path) => (path instanceof Path ? path : this.#schema.path(path)));
     const words = new Uint32Array(VALUE_WORDS * paths.length);
-    const bytes = Path.join(resolved, this.#origin);
+    const bytes = Path.join(all, this.#origin);
     const status = native.again(this.#handle, this.#message, bytes, new Uint8Array(words.buffer));
     if (status !== OK) throw errorOf(status);
-    return Path.values(resolved, this.#handle, this.#message, words);
+    return Path.values(all, this.#handle, this.#message, words);
   }
 }
 
@@ -499,28 +510,20 @@ class Schema {
   path(text) {
     if (typeof text !== 'string') throw new TypeError('a path is a string, or what path() gives');
     const star = text.indexOf('[*]');
-    if (star < 0) return new Path(text, this.#origin, this.#resolved(text, text));
-    const bytes = this.#resolved(text, text.replace('[*]', '[0]'));
-    const front = this.#resolved(text, text.slice(0, star));
+    if (star < 0) return new Path(text, this.#origin, resolved(this.#schema, text, text));
+    const bytes = resolved(this.#schema, text, text.replace('[*]', '[0]'));
+    const front = resolved(this.#schema, text, text.slice(0, star));
     return new Path(text, this.#origin, front, { bytes, step: front.readUInt32LE(PATH.count[0]) });
   }
 
-  /** The bytes of a path, for one that was asked for. */
-  #resolved(asked, text) {
-    const path = Buffer.from(text);
-    const bytes = native.resolve(this.#schema, path);
-    if (bytes === undefined) throw errorOf(told[STATUS], asked, { hint: native.pathHint(this.#schema, path) });
-    return bytes;
-  }
-
   read(message, ...paths) {
-    const resolved = paths.map((path) => (path instanceof Path ? path : this.path(path)));
+    const all = paths.map((path) => (path instanceof Path ? path : this.path(path)));
     const words = new Uint32Array(VALUE_WORDS * paths.length);
-    const bytes = Path.join(resolved, this.#origin);
+    const bytes = Path.join(all, this.#origin);
     const status = native.read(this.#schema, message, bytes, new Uint8Array(words.buffer));
     if (status === BAD || status === TOO_LONG) throw new BadBuffer(this.check(message));
     if (status !== OK) throw errorOf(status);
-    return Path.values(resolved, this.#schema, message, words);
+    return Path.values(all, this.#schema, message, words);
   }
 
   messages(pieces, options) {
