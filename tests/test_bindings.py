@@ -755,6 +755,38 @@ class Node(Binding, LibraryCase):
             ("schema.stream().end()", "undefined"), ("moved()", str([[0, 0]] * 6).replace(" ", "")),
         ], before)
 
+    def test_any_bytes(self):
+        """Whatever bytes come to be there, a view tells values, or that they changed, or that texts overlap."""
+        paths = [*PATHS, "texts[*]", "tables[*].next.v", "many[*]@Text", "places[*].z", "longs[*]", "bytes[*]"]
+        before = (f"const whole = bytes('{buffer(WHOLE, b'KIND').hex()}'), memory = Buffer.from(whole);\n"
+                  f"const view = new Schema('{ALL}').view(memory), paths = {paths}.map((text) => view.schema.path(text));\n"
+                  "const seen = { told: 0, CHANGED: 0, OVERLAP: 0 };\n"
+                  "let state = 7; const dice = (most) => (state = (state * 48271) % 2147483647) % most;\n"
+                  "const word = () => [0, 1, 4, 2 ** 31 - 1, 2 ** 32 - 1, dice(512)][dice(6)];\n"
+                  "for (let turn = 0; turn < 5000; turn++) { memory.set(whole);\n"
+                  "  for (let count = dice(5); count >= 0; count--) {\n"
+                  "    if (dice(2)) memory[dice(memory.length)] = dice(256);\n"
+                  "    else memory.writeUInt32LE(word(), dice(memory.length - 4)); }\n"
+                  "  for (const path of paths) try { view.read(path); seen.told++; } catch ({ code }) { seen[code]++; } }")
+        self.lines_of([("Object.keys(seen)", '["told","CHANGED","OVERLAP"]'), ("seen.told > 50000", "true"),
+                       ("seen.CHANGED > 5000", "true")], before)
+
+    def test_elsewhere(self):
+        """What the page says of numbers in JSON, floats, defaults, and verdicts that were posted."""
+        tenth, great = changed(HALVES, (16, "cdcccc3d")), buffer({3: ("q", 2**53), 6: ""}, b"KIND")
+        before = (f"const real = new Schema('{FILES['G']}'), one = (message) => real.read(message, 'f')[0];\n"
+                  f"const tenth = bytes('{tenth.hex()}'), empty = bytes('{PLAIN.hex()}'), great = bytes('{great.hex()}');\n"
+                  f"const long = new Schema('{ALL}').read(great, 'long')[0].value;\n"
+                  f"const bad = new Schema('{FILES['M']}').check(Buffer.alloc(0));")
+        self.lines_of([
+            ("one(tenth).value", "0.10000000149011612"), ("Number(one(tenth).value.toPrecision(7))", "0.1"),
+            ("[one(tenth).bytes.length, one(empty).kind, one(empty).bytes.length]",
+             '[4,"float",0]'),
+            ("[typeof long, String(long)]", '["bigint","9007199254740992"]'),
+            ("JSON.stringify(long)", "undefined TypeError: Do not know how to serialize a BigInt"),
+            ("String(structuredClone(bad))", '"[object Object]"'), ("bad.place", '"in . [M]"'),
+        ], before)
+
     def test_many_elements(self):
         """Each of a hundred thousand by itself, or all at once; texts that overlap aren't made one by one."""
         flags = buffer({8: Plain(bytes(range(256)) * 400, 1, 102_400), 6: ""}, b"KIND")
