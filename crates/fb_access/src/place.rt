@@ -79,6 +79,7 @@ impl<'v, 'b, 's, 'n> Place<'v, 'b, 's, 'n> {
 
     /// One step on. An absent field without a default, an element past the count and a member of another type lead to
     /// where nothing is; from there every step leads to the same.
+    #[inline(always)]
     pub fn go(&self, step: Step) -> Self
         requires { IsTrue (allows ((self.now).sealed).schema (self.now).spot step) }
         ensures same { result.sealed ≡ (self.now).sealed }

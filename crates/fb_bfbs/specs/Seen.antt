@@ -44,22 +44,13 @@ pub record MayHaveField (p : Placed) (number : ℕ) (kind : Kind) : Type 0 where
   pub at : IsAt p (Table object)
   pub field : next_kind fixed (Table object) (ToField number) ≡ Some kind
 
--- the table of such a field
-abbrev pub MayHaveTable : Placed → ℕ → Type 0
-MayHaveTable p number = (object : ℕ) × MayHaveField p number (Table object)
-
--- the vector of tables of such a field
-abbrev pub MayHaveTables : Placed → ℕ → Type 0
-MayHaveTables p number = (object : ℕ) × MayHaveField p number (Tables object)
-
 -- a vector of tables is here
 abbrev pub IsVector : Placed → Type 0
 IsVector p = (object : ℕ) × IsAt p (Tables object)
 
--- a vector of tables is here, each of which lists tables in its field of number 1, which is always there
-pub record IsListOfLists (p : Placed) : Type 0 where
+-- a vector of tables is here, each of which lists tables of this object in its field of number 1, which is always there
+pub record IsListOfLists (p : Placed) (listed : ℕ) : Type 0 where
   pub object : ℕ
-  pub listed : ℕ
   pub at : IsAt p (Tables object)
   pub sure : sure_kind fixed (Table object) (ToField 1) ≡ Some (Tables listed)
 

@@ -34,7 +34,7 @@ fn union_type(place: &Place) -> TypeRow
     requires { IsAt place.now (Kind.Table 2) }
     ensures { IsTypeOrNone (after (seen place.now) (ToField 3)) result }
 {
-    match table_or_none(place, 3) {
+    match table_or_none(place, 3, 0) {
         Some(ty) => type_row(&ty),
         None => TypeRow {
             base: 0,

@@ -1,15 +1,15 @@
 // The values in fields of a table that are always there, each as its row holds it.
 
-ghost use Rattle.std.specs.Prelude.{◌≡◌, ℕ, ◌*◌, ◌≤◌, [], ◌∷◌, length, IfSome, IfNone};
+ghost use Rattle.std.specs.Prelude.{◌≡◌, ◌*◌, ◌≤◌, [], ◌∷◌, length, IfSome, IfNone};
 ghost use Rattle.fb_schema.specs.declared.kinds.Scalar.TheVariants as scalar;
 ghost use Rattle.fb_access.specs.declared.step.Step.TheVariants.{Field as ToField};
 ghost use Rattle.fb_access.specs.Denotes.{nothing, text, truth, signed, unsigned, vector, value};
 ghost use Rattle.fb_access.specs.{Denotes.Leads, Here.HereGoesOn};
 ghost use Rattle.fb_bfbs.specs.Says.{after, text_or_nothing, HasDouble};
-ghost use Rattle.fb_bfbs.specs.Seen.{seen, HasField, HasInt, IsKnown, IsVector, MayHaveField, MayHaveTable, MayHaveTables, IsOneOn};
+ghost use Rattle.fb_bfbs.specs.Seen.{seen, HasField, HasInt, IsKnown, IsVector, MayHaveField, IsOneOn};
 
 use byteorder::{ByteOrder, LittleEndian};
-use fb_access::{Answer, KnownField, Place, Step};
+use fb_access::{Answer, KnownField, Place};
 use fb_schema::{Kind, Scalar};
 
 /// To a field of the fixed table whose kind and default are known, which has the slot of its number and isn't optional.
@@ -156,34 +156,36 @@ pub fn text_or_none<'b>(place: &Place<'_, 'b, '_, '_>, number: u16) -> Option<&'
     }
 }
 
-/// A table that may be absent.
-#[tactic(auto, using(crate::proofs::Sure::maybe_allowed))]
+/// A table of this object that may be absent.
+#[inline(always)]
 pub fn table_or_none<'v, 'b, 's, 'n>(
     place: &Place<'v, 'b, 's, 'n>,
     number: u16,
+    object: u32,
 ) -> Option<Place<'v, 'b, 's, 'n>>
-    requires { MayHaveTable place.now number }
-    ensures there { IfSome result (λ p. (k : ℕ) → MayHaveField place.now number (Kind.Table k) → IsOneOn place.now (ToField number) p (Kind.Table k)) }
+    requires { MayHaveField place.now number (Kind.Table object) }
+    ensures there { IfSome result (λ p. IsOneOn place.now (ToField number) p (Kind.Table object)) }
     ensures absent { IfNone result (seen place.now (ToField number ∷ []) nothing) }
 {
-    let field = place.go(Step::Field(number));
+    let field = go_to(place, number, Kind::Table(object), 0);
     match field.answer() {
         Answer::Table => Some(field),
         _ => None,
     }
 }
 
-/// A vector of tables that may be absent.
-#[tactic(auto, using(crate::proofs::Sure::maybe_allowed))]
+/// A vector of tables of this object that may be absent.
+#[inline(always)]
 pub fn tables_or_none<'v, 'b, 's, 'n>(
     place: &Place<'v, 'b, 's, 'n>,
     number: u16,
+    object: u32,
 ) -> Option<Place<'v, 'b, 's, 'n>>
-    requires { MayHaveTables place.now number }
-    ensures there { IfSome result (λ p. (k : ℕ) → MayHaveField place.now number (Kind.Tables k) → IsOneOn place.now (ToField number) p (Kind.Tables k)) }
+    requires { MayHaveField place.now number (Kind.Tables object) }
+    ensures there { IfSome result (λ p. IsOneOn place.now (ToField number) p (Kind.Tables object)) }
     ensures absent { IfNone result (seen place.now (ToField number ∷ []) nothing) }
 {
-    let field = place.go(Step::Field(number));
+    let field = go_to(place, number, Kind::Tables(object), 0);
     match field.answer() {
         Answer::Vector(_) => Some(field),
         _ => None,
