@@ -3,7 +3,9 @@
 use Rattle.std.proofs.Common.{◌≡◌, ℕ, zero, suc, ℤ, pos, ◌+◌, ◌*◌, ◌<◌, ◌==◌, ◌&&◌, nat_lt, Bool, true, false, not, List, [], ◌∷◌, slice_get, Option, Some, None, refl, sym, ◌∙◌, ap, subst, arith}
 use Rattle.std.specs.{Prelude.option_map, Prelude.option_and_then, List.list_all, Cmp.signed_Decides, Ordering.int_eq}
 use Rattle.std.proofs.lemmas.Bool.{and_parts, ltb-true, Decides.Decides-eqb}
-use Rattle.fb_schema.specs.{Rows.Object, Live.Live, Live.live_fields, Live.live_in, declared.kinds.Kind.Kind, declared.kinds.Kind.TheVariants.Scalar, declared.kinds.Kind.TheVariants.Table, declared.kinds.Scalar.TheVariants.Int}
+use Rattle.fb_schema.specs.{Rows.Object, Live.Live, Live.live_fields, Live.live_in}
+use Rattle.fb_access.specs.declared.known.KnownField.{KnownField}
+use Rattle.fb_schema.specs.{declared.kinds.Kind.Kind, declared.kinds.Kind.TheVariants.Scalar, declared.kinds.Kind.TheVariants.Table, declared.kinds.Scalar.TheVariants.Int}
 use Rattle.fb_access.specs.{Held.Placed, Fitting.numbered, Fitting.next_kind, Here.sure_field, Here.sure_kind, Known.known_of, Known.HasKnown}
 use Rattle.fb_access.proofs.{Found.found_there, Sure.sure_kind_of}
 use Rattle.fb_bfbs.specs.{Fixed.fixed, Seen.IsAt, Seen.HasField, Seen.HasInt, Seen.IsKnown, Seen.MayHaveField}
@@ -57,11 +59,15 @@ plain k n f e =
       default = rest.1;
     }
 
+-- what is known of a field with this number, kind and default
+abbrev pub by_number : ℕ → Kind → ℤ → KnownField
+by_number n kind d = record { number = n; slot = 4 + 2 * n; kind = kind; default = d; optional = false }
+
 -- a field of which kind and default are known is known
-pub known_here : (p : Placed) (n : ℕ) (kind : Kind) (d : ℤ) → IsKnown p n kind d → HasKnown (p.sealed).schema p.spot (record { number = n; slot = 4 + 2 * n; kind = kind; default = d; optional = false })
+pub known_here : (p : Placed) (n : ℕ) (kind : Kind) (d : ℤ) → IsKnown p n kind d → HasKnown (p.sealed).schema p.spot (by_number n kind d)
 known_here p n kind d h =
     let is = plain h.object n h.live h.found in
-    let same : known_of h.live ≡ record { number = n; slot = 4 + 2 * n; kind = kind; default = d; optional = false } = λ i. record { number = is.number i; slot = is.slot i; kind = h.kind_is i; default = h.default_is i; optional = is.optional i } in
+    let same : known_of h.live ≡ by_number n kind d = λ i. record { number = is.number i; slot = is.slot i; kind = h.kind_is i; default = h.default_is i; optional = is.optional i } in
     record { object = h.object; here = h.at.here; found = rw (h.at.by_fixed) (ap (option_map known_of) h.found ∙ ap Some same) }
 
 -- and its number is low

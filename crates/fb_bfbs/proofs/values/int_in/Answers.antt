@@ -15,9 +15,12 @@ pub unreachable-requires : goal.unreachable-requires
 unreachable-requires c = answers_signed _ _ _ _ c.answer.ensures.shown scalar.Int tt (field_here _ _ _ _ (int_field _ _ _ c.requires) c.go_to-field.ensures.here) c.in_default.not-Int
 
 pub overflow_cast-result : goal.overflow_cast-result
-overflow_cast-result c = kept w64 (FitsSigned w32) c.in-Int.value (fits_long scalar.Int c.in-Int.value (c.in-Int.ensures.narrow scalar.Int (field_here _ _ _ _ (int_field _ _ _ c.requires) c.go_to-field.ensures.here))) (c.in-Int.ensures.narrow scalar.Int (field_here _ _ _ _ (int_field _ _ _ c.requires) c.go_to-field.ensures.here))
+overflow_cast-result c =
+    let fits = c.in-Int.ensures.narrow scalar.Int (field_here _ _ _ _ (int_field _ _ _ c.requires) c.go_to-field.ensures.here) in
+    kept w64 (FitsSigned w32) c.in-Int.value (fits_long scalar.Int c.in-Int.value fits) fits
 
 pub returns : goal.returns
 returns c =
     let fits = c.in-Int.ensures.narrow scalar.Int (field_here _ _ _ _ (int_field _ _ _ c.requires) c.go_to-field.ensures.here) in
-    narrowed w32 (λ z. seen c.args.place.now (ToField c.args.number ∷ []) (signed z)) c.in-Int.value fits (fits_long scalar.Int c.in-Int.value fits) (seen_in _ _ _ _ c.go_to-field.ensures.same c.go_to-field.ensures.leads c.in-Int.ensures.shown)
+    let value = seen_in _ _ _ _ c.go_to-field.ensures.same c.go_to-field.ensures.leads c.in-Int.ensures.shown in
+    narrowed w32 (λ z. seen c.args.place.now (ToField c.args.number ∷ []) (signed z)) c.in-Int.value fits (fits_long scalar.Int c.in-Int.value fits) value
