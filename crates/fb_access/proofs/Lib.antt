@@ -5,6 +5,7 @@ pub mod FieldSpots
 pub mod StepKinds
 pub mod Sure
 pub mod Walks
+pub mod Knowing
 pub mod Callers
 pub mod Shapes
 pub mod Counted

@@ -4,6 +4,7 @@ pub mod Spots
 pub mod Denotes
 pub mod Extents
 pub mod Here
+pub mod Known
 pub mod PlaceLaws
 pub mod StepLaws
 pub mod Held

@@ -4,9 +4,10 @@ ghost use Rattle.std.specs.Prelude.{◌≡◌, ◌+◌, ◌-◌, ◌*◌, ◌^�
 ghost use Rattle.fb_bytes.specs.Word.{word};
 ghost use Rattle.fb_schema.specs.{Rows.is_table, Live.live_of_view};
 ghost use Rattle.fb_rules.specs.{Places.target, Places.vtable, Places.field_place, Fields.type_place, Fields.union_type, Fields.types_begin};
-ghost use Rattle.fb_access.specs.{Fitting.numbered, Held.HasVtable, Held.IsReadable};
+ghost use Rattle.fb_access.specs.{Fitting.numbered, Held.HasVtable, Held.IsReadable, Known.known_spot};
 ghost use Rattle.fb_access.specs.Spots.{present_spot, absent_spot, field_spot};
 
+use crate::known::KnownField;
 use crate::spot::Spot;
 use fb_bytes::Window;
 use fb_schema::{FieldView, Kind, Schema};
@@ -29,6 +30,7 @@ pub fn field_numbered<'s, 'n>(
 }
 
 /// Where the vtable of the table at a position stands.
+#[inline(always)]
 #[tactic(auto, unfolding(fb_rules::specs::Places::has_vtable, fb_rules::specs::Places::vtable))]
 fn vtable_of(window: &Window<'_>, at: u64) -> u64
     requires short { length window.now < 2 ^ 31 }
@@ -39,6 +41,7 @@ fn vtable_of(window: &Window<'_>, at: u64) -> u64
 }
 
 /// Where the field with this slot stands in the table at a position, none where it is absent.
+#[inline(always)]
 #[tactic(auto, unfolding(fb_rules::specs::Places::field_place))]
 fn place_of(window: &Window<'_>, at: u64, slot: u16) -> Option<u64>
     requires short { length window.now < 2 ^ 31 }
@@ -100,17 +103,19 @@ fn types_at(window: &Window<'_>, place: Option<u64>) -> u64
 }
 
 /// What an absent field is: a scalar that isn't optional has its default.
+#[inline(always)]
 #[tactic(auto, unfolding(crate::specs::Spots::absent_spot))]
-pub fn absent(field: &FieldView<'_>) -> Spot
-    ensures { result ≡ absent_spot (field.now).optional (field.now).default (field.now).kind }
+pub fn absent(optional: bool, default: i64, kind: Kind) -> Spot
+    ensures { result ≡ absent_spot optional default kind }
 {
-    match field.kind {
-        Kind::Scalar(scalar) if !field.optional => Spot::AtDefault(scalar, field.default),
+    match kind {
+        Kind::Scalar(scalar) if !optional => Spot::AtDefault(scalar, default),
         _ => Spot::AtAbsent,
     }
 }
 
 /// Where a field of the table at a position leads that is present at `place`.
+#[inline(always)]
 #[tactic(auto, unfolding(crate::specs::Spots::present_spot))]
 fn present(window: &Window<'_>, at: u64, slot: u16, place: u64, kind: Kind) -> Spot
     requires short { length window.now < 2 ^ 31 }
@@ -146,7 +151,21 @@ pub fn spot_of(window: &Window<'_>, at: u64, field: &FieldView<'_>) -> Spot
     ensures { result ≡ field_spot window.now at (live_of_view field.now) }
 {
     match place_of(window, at, field.slot) {
-        None => absent(field),
+        None => absent(field.optional, field.default, field.kind),
+        Some(place) => present(window, at, field.slot, place, field.kind),
+    }
+}
+
+/// Where a field of the table at a position leads of which this is known.
+#[inline(always)]
+pub fn known_spot(window: &Window<'_>, at: u64, field: KnownField) -> Spot
+    requires short { length window.now < 2 ^ 31 }
+    requires table { HasVtable window.now at }
+    requires readable { IfSome (field_place window.now at field.slot) (λ p. IsReadable window.now at field.slot p field.kind) }
+    ensures { result ≡ known_spot window.now at field }
+{
+    match place_of(window, at, field.slot) {
+        None => absent(field.optional, field.default, field.kind),
         Some(place) => present(window, at, field.slot, place, field.kind),
     }
 }

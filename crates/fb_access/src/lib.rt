@@ -7,6 +7,7 @@ pub mod examples;
 mod extent;
 mod field;
 mod hint;
+mod known;
 mod location;
 pub mod location_laws;
 mod misfit;
@@ -28,6 +29,7 @@ mod value;
 pub use answer::Answer;
 pub use extent::Extent;
 pub use hint::{Hint, path_hint, root_hint};
+pub use known::KnownField;
 pub use location::{
     LocationText, field_of, location_of, object_name, place_of, put_location, write_location,
 };

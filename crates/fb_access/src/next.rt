@@ -50,6 +50,7 @@ pub fn spot_of_part(at: u64, n: u16, kind: Kind) -> Spot
 
 /// Where element `j` stands of the vector at a position, whose elements have this many bytes; none where there are no
 /// more than `j`.
+#[inline(always)]
 fn place_of_element(window: &Window<'_>, at: u64, size: u64, j: u32) -> Option<u64>
     requires short { length window.now < 2 ^ 31 }
     requires counted { IsCounted window.now at size }
@@ -64,6 +65,7 @@ fn place_of_element(window: &Window<'_>, at: u64, size: u64, j: u32) -> Option<u
 }
 
 /// From a vector or an array to its element `j`.
+#[inline(always)]
 #[tactic(auto, unfolding(crate::specs::Spots::spot_of_element, crate::specs::Held::IsSpot))]
 fn spot_of_element(window: &Window<'_>, schema: &Schema<'_>, spot: Spot, j: u32) -> Option<Spot>
     requires short { length window.now < 2 ^ 31 }
@@ -154,6 +156,7 @@ fn spot_of_member(window: &Window<'_>, schema: &Schema<'_>, spot: Spot, value: u
 }
 
 /// The spot to which a step leads from this one, none where it has no such step.
+#[inline(always)]
 #[tactic(auto, unfolding(crate::specs::Denotes::next_spot))]
 pub fn next_spot(window: &Window<'_>, schema: &Schema<'_>, spot: Spot, step: Step) -> Option<Spot>
     requires short { length window.now < 2 ^ 31 }

@@ -6,10 +6,12 @@ ghost use Rattle.fb_rules.specs.WellFormed.{base};
 ghost use Rattle.fb_access.specs.{Fitting.StepsFit, Extents.extent};
 ghost use Rattle.fb_access.specs.Denotes.{Leads, allows, next_spot, root_spot, Denotes, value, shown, vector};
 ghost use Rattle.fb_access.specs.Here.{KindsGoOn, HereGoesOn, IsNarrow, IsHere};
+ghost use Rattle.fb_access.specs.{Known.HasKnown, declared.step.Step.TheVariants.Field};
 
 use crate::answer::Answer;
 use crate::extent::{Extent, extent_at};
-use crate::field::target_of;
+use crate::field::{known_spot, target_of};
+use crate::known::KnownField;
 use crate::next::next_spot;
 use crate::path::Path;
 use crate::spot::Spot;
@@ -77,6 +79,7 @@ impl<'v, 'b, 's, 'n> Place<'v, 'b, 's, 'n> {
 
     /// One step on. An absent field without a default, an element past the count and a member of another type lead to
     /// where nothing is; from there every step leads to the same.
+    #[inline(always)]
     pub fn go(&self, step: Step) -> Self
         requires { IsTrue (allows ((self.now).sealed).schema (self.now).spot step) }
         ensures same { result.sealed ≡ (self.now).sealed }
@@ -95,7 +98,28 @@ impl<'v, 'b, 's, 'n> Place<'v, 'b, 's, 'n> {
         }
     }
 
+    /// To a field of a table of which this is known: where [`Place::go`] leads, without a look-up.
+    #[inline(always)]
+    pub fn go_to(&self, field: KnownField) -> Self
+        requires { HasKnown ((self.now).sealed).schema (self.now).spot field }
+        ensures same { result.sealed ≡ (self.now).sealed }
+        ensures leads { Leads ((self.now).sealed).bytes ((self.now).sealed).schema (self.now).spot (Field field.number) result.spot }
+        ensures kinds { KindsGoOn ((self.now).sealed).schema (self.now).spot (Field field.number) result.spot }
+        ensures here { HereGoesOn ((self.now).sealed).schema (self.now).spot (Field field.number) result.spot }
+    {
+        let verified = self.verified;
+        verified.schema().lawful();
+        match self.spot {
+            Spot::AtTable(_, at) => Place {
+                verified,
+                spot: known_spot(verified.window(), at, field),
+            },
+            _ => unreachable!(),
+        }
+    }
+
     /// What is here.
+    #[inline(always)]
     pub fn answer(&self) -> Answer<'b>
         ensures shown { shown result ≡ value ((self.now).sealed).bytes ((self.now).sealed).schema (self.now).spot }
         // A number fits its scalar, and a float has as many bytes.

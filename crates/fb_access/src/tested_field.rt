@@ -140,7 +140,7 @@ pub fn spot_of(window: &Window<'_>, at: u64, field: &FieldView<'_>) -> Result<Sp
         (λ _. HasVtable window.now at → IfSome (field_place window.now at (field.now).slot) (λ p. IsReadable window.now at (field.now).slot p (field.now).kind) → ⊥) }
 {
     match place_of(window, at, field.slot)? {
-        None => Ok(absent(field)),
+        None => Ok(absent(field.optional, field.default, field.kind)),
         Some(place) => present(window, at, field.slot, place, field.kind),
     }
 }

@@ -21,6 +21,7 @@ pub fn struct_size(schema: &Schema<'_>, object: u32) -> u64
 }
 
 /// The answer whose bytes are this number, the lowest first. A float has none.
+#[inline(always)]
 #[tactic(auto, unfolding(crate::specs::Denotes::number))]
 fn number_of<'b>(scalar: Scalar, bytes: u64) -> Answer<'b>
     requires { bytes < 256 ^ scalar_size scalar }
@@ -40,6 +41,7 @@ fn number_of<'b>(scalar: Scalar, bytes: u64) -> Answer<'b>
 }
 
 /// The number in the bytes of a scalar at a position.
+#[inline(always)]
 fn word_of(window: &Window<'_>, at: u64, scalar: Scalar) -> u64
     requires { at + scalar_size scalar ≤ length window.now }
     ensures value { result ≡ word window.now at (scalar_size scalar) }
@@ -54,6 +56,7 @@ fn word_of(window: &Window<'_>, at: u64, scalar: Scalar) -> u64
 }
 
 /// A scalar at a position.
+#[inline(always)]
 #[tactic(auto, using(crate::proofs::Counted::number_fits), unfolding(crate::specs::Denotes::inline_value))]
 pub fn inline_at<'b>(window: &Window<'b>, at: u64, scalar: Scalar) -> Answer<'b>
     requires { at + scalar_size scalar ≤ length window.now }
@@ -75,6 +78,7 @@ fn nearest_single(bits: u64) -> u32
 }
 
 /// The lowest bytes of a number, as many as the scalar has.
+#[inline(always)]
 fn low_bytes(number: u64, scalar: Scalar) -> u64
     ensures { result ≡ number % 256 ^ scalar_size scalar }
 {
@@ -87,6 +91,7 @@ fn low_bytes(number: u64, scalar: Scalar) -> u64
 }
 
 /// An absent scalar with this default.
+#[inline(always)]
 #[tactic(auto, unfolding(crate::specs::Denotes::default_value))]
 pub fn default_at<'b>(default: i64, scalar: Scalar) -> Answer<'b>
     ensures shown { shown result ≡ default_value scalar default }
@@ -101,6 +106,7 @@ pub fn default_at<'b>(default: i64, scalar: Scalar) -> Answer<'b>
 }
 
 /// The value at a spot.
+#[inline(always)]
 #[tactic(auto, unfolding(crate::specs::Denotes::value, crate::specs::Held::IsSpot))]
 pub fn value_at<'b>(window: &Window<'b>, schema: &Schema<'_>, spot: Spot) -> Answer<'b>
     requires short { length window.now < 2 ^ 31 }

@@ -22,8 +22,8 @@ pub lists_here : (p r : Placed) (n : ℕ) → r.sealed ≡ p.sealed → Leads (p
 lists_here p r n same leads count = row_here Lists (λ D E m h a. h _ _ a) p n (seen_in p r (ToField 1) (vector n) same leads (sym count))
 
 -- an element of such a list is a table that lists tables
-pub element_lists : (p r : Placed) (j n : ℕ) → (h : IsListOfLists p) → value (p.sealed).bytes (p.sealed).schema p.spot ≡ vector n → j < n → r.sealed ≡ p.sealed → Leads (p.sealed).bytes (p.sealed).schema p.spot (Element j) r.spot → HasField r 1 (Tables h.listed)
-element_lists p r j n h count less same leads = always (at_element p r h.object j n h.at count less same leads) h.sure
+pub element_lists : (p r : Placed) (listed j n : ℕ) → (h : IsListOfLists p listed) → value (p.sealed).bytes (p.sealed).schema p.spot ≡ vector n → j < n → r.sealed ≡ p.sealed → Leads (p.sealed).bytes (p.sealed).schema p.spot (Element j) r.spot → HasField r 1 (Tables listed)
+element_lists p r listed j n h count less same leads = always (at_element p r h.object j n h.at count less same leads) h.sure
 
 -- whether two such lists are few
 pub over_told : (a b most : ℕ) → most < a → IsTrue false ↔ (a + b ≤ most)

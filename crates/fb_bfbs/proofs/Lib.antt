@@ -3,6 +3,7 @@ pub mod Sure
 pub mod Composed
 pub mod Narrow
 pub mod FixedFields
+pub mod KnownFields
 pub mod Outcomes
 pub mod OneFile
 pub mod Counts

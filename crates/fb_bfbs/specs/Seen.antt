@@ -1,9 +1,10 @@
 -- What is seen from a place in a schema file.
-use Rattle.std.specs.Prelude.{◌≡◌, ℕ, List, [], ◌∷◌, Some}
+use Rattle.std.specs.Prelude.{◌≡◌, ℕ, ℤ, List, [], ◌∷◌, Some, option_map}
 use Rattle.fb_schema.specs.declared.kinds.Kind.{Kind, TheVariants.Scalar as AScalar, TheVariants.Table, TheVariants.Tables}
-use Rattle.fb_schema.specs.declared.kinds.Scalar.{Scalar}
-use Rattle.fb_access.specs.{Fitting.next_kind, Denotes.Leads, Denotes.Shown, Held.Placed, declared.step.Step.Step, declared.step.Step.TheVariants.Field as ToField}
-use Rattle.fb_access.specs.Here.{IsHere, sure_kind, IsSigned, Shows}
+use Rattle.fb_schema.specs.declared.kinds.Scalar.TheVariants.{Int}
+use Rattle.fb_schema.specs.Live.{Live}
+use Rattle.fb_access.specs.{Fitting.numbered, Fitting.next_kind, Denotes.Leads, Denotes.Shown, Held.Placed, declared.step.Step.Step, declared.step.Step.TheVariants.Field as ToField}
+use Rattle.fb_access.specs.Here.{IsHere, sure_kind, Shows}
 use Rattle.fb_bfbs.specs.{Fixed.fixed, Says.Says, Says.after, Says.AreRows}
 
 -- which steps lead from here to which value
@@ -21,9 +22,21 @@ pub record HasField (p : Placed) (number : ℕ) (kind : Kind) : Type 0 where
   pub at : IsAt p (Table object)
   pub sure : sure_kind fixed (Table object) (ToField number) ≡ Some kind
 
--- a table is here whose field of this number is a number with a sign, and always there
-abbrev pub HasSigned : Placed → ℕ → Type 0
-HasSigned p number = (s : Scalar) × IsSigned s × HasField p number (AScalar s)
+-- a table is here whose field of this number is an Int with this default
+pub record HasInt (p : Placed) (number : ℕ) (default : ℤ) : Type 0 where
+  pub object : ℕ
+  pub at : IsAt p (Table object)
+  pub sure : sure_kind fixed (Table object) (ToField number) ≡ Some (AScalar Int)
+  pub default_is : option_map (λ f. f.default) (numbered fixed object number) ≡ Some default
+
+-- a table is here whose field of this number is of this kind, with this default
+pub record IsKnown (p : Placed) (number : ℕ) (kind : Kind) (default : ℤ) : Type 0 where
+  pub object : ℕ
+  pub at : IsAt p (Table object)
+  pub live : Live
+  pub found : numbered fixed object number ≡ Some live
+  pub kind_is : live.kind ≡ kind
+  pub default_is : live.default ≡ default
 
 -- a table is here whose field of this number is of this kind, and may be absent
 pub record MayHaveField (p : Placed) (number : ℕ) (kind : Kind) : Type 0 where
@@ -31,22 +44,13 @@ pub record MayHaveField (p : Placed) (number : ℕ) (kind : Kind) : Type 0 where
   pub at : IsAt p (Table object)
   pub field : next_kind fixed (Table object) (ToField number) ≡ Some kind
 
--- the table of such a field
-abbrev pub MayHaveTable : Placed → ℕ → Type 0
-MayHaveTable p number = (object : ℕ) × MayHaveField p number (Table object)
-
--- the vector of tables of such a field
-abbrev pub MayHaveTables : Placed → ℕ → Type 0
-MayHaveTables p number = (object : ℕ) × MayHaveField p number (Tables object)
-
 -- a vector of tables is here
 abbrev pub IsVector : Placed → Type 0
 IsVector p = (object : ℕ) × IsAt p (Tables object)
 
--- a vector of tables is here, each of which lists tables in its field of number 1, which is always there
-pub record IsListOfLists (p : Placed) : Type 0 where
+-- a vector of tables is here, each of which lists tables of this object in its field of number 1, which is always there
+pub record IsListOfLists (p : Placed) (listed : ℕ) : Type 0 where
   pub object : ℕ
-  pub listed : ℕ
   pub at : IsAt p (Tables object)
   pub sure : sure_kind fixed (Table object) (ToField 1) ≡ Some (Tables listed)
 

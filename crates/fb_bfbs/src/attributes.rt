@@ -55,7 +55,7 @@ pub fn attributes_in<'b>(
     requires { IsAt place.now (Kind.Table 4) }
     ensures { IfOk result (λ v. AreAttributes (after (seen place.now) (ToField 9)) (map attribute_of v.items)) }
 {
-    match tables_or_none(place, 9) {
+    match tables_or_none(place, 9, 1) {
         Some(list) => {
             let rows = rows_at(alloc, &list)?;
             Ok(rows)

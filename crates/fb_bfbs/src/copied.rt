@@ -8,8 +8,10 @@ ghost use Rattle.fb_bfbs.specs.{Says.after, Seen.seen, Seen.IsAt};
 ghost use Rattle.fb_bfbs.specs.Describes.{IsTypeRow, IsTypeOrNone, IsFieldRow, IsObjectRow, IsMemberRow, IsEnumRow, IsDefault, is_float};
 
 use crate::lists::{FromTable, rows_in};
-use crate::values::{bool_in, double_in, int_in, table_or_none, text_in, ushort_in};
-use fb_access::{Place, Step};
+use crate::values::{
+    bool_in, byte_in, double_in, go_to, int_in, long_in, table_or_none, text_in, ushort_in,
+};
+use fb_access::Place;
 use fb_schema::base_type::{DOUBLE, FLOAT};
 use fb_schema::{EnumRow, FieldRow, Kind, MemberRow, ObjectRow, TypeRow};
 use std::alloc::{AllocError, Global};
@@ -20,9 +22,9 @@ fn type_row(place: &Place) -> TypeRow
     ensures { IsTypeRow (seen place.now) result }
 {
     TypeRow {
-        base: int_in(place, 0) as i8,
-        element: int_in(place, 1) as i8,
-        index: int_in(place, 2) as i32,
+        base: byte_in(place, 0),
+        element: byte_in(place, 1),
+        index: int_in(place, 2, -1),
         fixed_length: ushort_in(place, 3),
     }
 }
@@ -32,7 +34,7 @@ fn union_type(place: &Place) -> TypeRow
     requires { IsAt place.now (Kind.Table 2) }
     ensures { IsTypeOrNone (after (seen place.now) (ToField 3)) result }
 {
-    match table_or_none(place, 3) {
+    match table_or_none(place, 3, 0) {
         Some(ty) => type_row(&ty),
         None => TypeRow {
             base: 0,
@@ -51,7 +53,7 @@ fn default_in(place: &Place, base: i8) -> i64
     if base == FLOAT || base == DOUBLE {
         double_in(place, 5).cast_signed()
     } else {
-        int_in(place, 4)
+        long_in(place, 4)
     }
 }
 
@@ -64,7 +66,7 @@ impl<'b> FromTable<'b> for FieldRow<'b> {
     ghost listed = { λ row. 0 };
 
     fn from_table(_alloc: Global, place: &Place<'_, 'b, '_, '_>) -> Result<Self, AllocError> {
-        let type_place = place.go(Step::Field(1));
+        let type_place = go_to(place, 1, Kind::Table(0), 0);
         let ty = type_row(&type_place);
         Ok(FieldRow {
             name: text_in(place, 0),
@@ -93,8 +95,8 @@ impl<'b> FromTable<'b> for ObjectRow<'b> {
             name: text_in(place, 0),
             fields,
             is_struct: bool_in(place, 2),
-            minalign: int_in(place, 3) as i32,
-            bytesize: int_in(place, 4) as i32,
+            minalign: int_in(place, 3, 0),
+            bytesize: int_in(place, 4, 0),
         })
     }
 }
@@ -110,7 +112,7 @@ impl<'b> FromTable<'b> for MemberRow<'b> {
     fn from_table(_alloc: Global, place: &Place<'_, 'b, '_, '_>) -> Result<Self, AllocError> {
         Ok(MemberRow {
             name: text_in(place, 0),
-            value: int_in(place, 1),
+            value: long_in(place, 1),
             ty: union_type(place),
         })
     }

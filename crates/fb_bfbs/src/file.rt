@@ -28,7 +28,7 @@ fn root_name<'b>(place: &Place<'_, 'b, '_, '_>) -> Option<&'b [u8]>
     requires { IsAt place.now (Kind.Table 9) }
     ensures { IsRootName (seen place.now) result }
 {
-    match table_or_none(place, 4) {
+    match table_or_none(place, 4, 5) {
         Some(object) => Some(text_in(&object, 0)),
         None => None,
     }

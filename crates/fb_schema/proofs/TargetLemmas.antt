@@ -1,11 +1,15 @@
 -- The targets of a union are found by the values that its members have.
-use Rattle.std.proofs.Common.{◌≡◌, ℕ, zero, suc, ◌+◌, ◌<◌, ◌≤◌, ◌==◌, nat_lt, min, if◌then◌else◌, ◌⊎◌, inl, inr, List, [], ◌∷◌, ◌++◌, length, get_or, take, map, true, refl, sym, subst, ◌∙◌, ap, arith, option_and_then}
+use Rattle.std.proofs.Common.{◌≡◌, ℕ, ℤ, pos, zero, suc, ◌+◌, ◌<◌, ◌≤◌, ◌==◌, nat_lt, min, if◌then◌else◌, ◌⊎◌, inl, inr, List, [], ◌∷◌, ◌++◌, length, get_or, take, map, true, refl, sym, subst, ◌∙◌, ap, arith, option_and_then, Option, None, int_cmp}
 use Rattle.std.proofs.lemmas.{Option.slice_get_within, List.get_or_append_left, List.get_or_past, List.length_push, Grind.take_at_read, Bool.Decides.nat_tests}
 use Rattle.std.proofs.Math.Seq.{get_or-append_seam}
 use Rattle.fb_schema.specs.declared.{flat.EnumPart.EnumPart, views.Target.Target, rows.MemberRow.MemberRow}
 use Rattle.fb_schema.specs.{Flat.part, Kinds.kind_of, Rows.Rows, Rows.Member, Rows.member_of_row}
-use Rattle.fb_schema.specs.Targets.{nothing, place_below, target_at, target_of, kind_among, AreTargets, HaveTargets, LeadBelow}
-use Rattle.fb_schema.proofs.{IndexLemmas.slice_get_end, UnionLemmas.none_for_zero, Numbers.lt_or_eq}
+use Rattle.std.specs.Cmp.{Equal-is, signed_Decides}
+use Rattle.std.proofs.lemmas.Cmp.{int_cmp_total}
+use Rattle.fb_schema.specs.declared.kinds.Kind.{Kind}
+use Rattle.fb_schema.specs.Sorting.{IsPlaceOf, member_value}
+use Rattle.fb_schema.specs.Targets.{nothing, place_below, target_at, target_of, kind_among, AreSorted, AreTargets, EndsValues, HaveTargets, LeadBelow}
+use Rattle.fb_schema.proofs.{IndexLemmas.slice_get_end, OrderLemmas.stands, UnionLemmas.none_for_zero, UnionLemmas.value_place, Numbers.le_or_lt, Numbers.lt_or_eq}
 
 -- the value 0 leads to nothing
 pub zero_target : (rows : Rows) (members : List Member) → nothing ≡ target_of rows (kind_among rows members 0)
@@ -50,6 +54,33 @@ module _ (wanted : ℕ → Target) (bound : ℕ) (places : List ℕ) (targets : 
   -- each value below the bound is found
   pub found_below : (value : ℕ) → value < bound → target_at places targets value ≡ wanted value
   found_below value lt = sought_from value lt (min (value + 1) (length places)) (omega arith) (λ j low high. (let w = h.skip j high in omega (arith, w, low, high)))
+
+-- where all values from the bound on lead to nothing, the bound may be greater
+pub lead_on : (wanted : ℕ → Target) (bound top : ℕ) (places : List ℕ) (targets : List Target) → bound ≤ top → ((v : ℕ) → bound ≤ v → v < top → wanted v ≡ nothing) → LeadBelow wanted bound places targets → LeadBelow wanted top places targets
+lead_on wanted bound top places targets le none h = record {
+  long = h.long;
+  few = omega (arith, h.few, le);
+  skip = h.skip;
+  rise = h.rise;
+  upto = λ k lt. (let low = h.upto k lt in omega (arith, low, le));
+  leads = h.leads;
+  others = λ v lt never. elim (le_or_lt bound v) [ inl past ↦ none v past lt | inr low ↦ h.others v low never ];
+}
+
+module _ (rows : Rows) (members : List MemberRow) (values : List (ℤ × ℕ)) (kinds : List (Option Kind)) (h : AreSorted rows members values kinds) where
+  module _ (end : ℕ) (ends : EndsValues values end) (v : ℕ) (le : end ≤ v) (lt : v < 256) where
+    -- no member has a value from the bound on
+    missing : IsPlaceOf int_cmp (map member_value members) (pos v) None
+    missing = λ k d within same.
+        let there = stands int_cmp int_cmp_total (map member_value members) values h.rise k d within in
+        let is : get_or (map member_value members) k d ≡ pos v = (signed_Decides _ (pos v)).0 ((Equal-is (int_cmp _ (pos v))).1 same) in
+        ends.none v there.0 (get_or (map member_value members) k d, k) le lt there.1 (ap (λ (e : ℤ × ℕ). e.0) there.2 ∙ is)
+
+    -- so it leads to nothing
+    pub none_beyond : target_of rows (kind_among rows (map member_of_row members) v) ≡ nothing
+    none_beyond =
+        let found = value_place rows members h.clear v (omega (arith, le, ends.low)) lt None missing in
+        ap (λ (m : Option Member). target_of rows (option_and_then (λ (m : Member). kind_of rows m.ty) m)) found
 
 -- the value is found, one place further down
 pub stopped_here : (values : List ℕ) (value k n : ℕ) → n ≡ suc k → get_or values k 0 ≡ value → place_below values value n ≡ k

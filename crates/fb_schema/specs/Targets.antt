@@ -71,6 +71,12 @@ pub record LeadBelow (wanted : ℕ → Target) (bound : ℕ) (places : List ℕ)
   pub leads : (k : ℕ) → k < length places → slice_index_or targets k nothing ≡ wanted (slice_index_or places k 0)
   pub others : (value : ℕ) → value < bound → ((k : ℕ) → k < length places → slice_index_or places k 0 ≡ value → ⊥) → wanted value ≡ nothing
 
+-- no value of these is one from this bound on that a type can be
+pub record EndsValues (values : List (ℤ × ℕ)) (end : ℕ) : Type 0 where
+  pub low : 1 ≤ end
+  pub high : end ≤ 256
+  pub none : (v k : ℕ) (d : ℤ × ℕ) → end ≤ v → v < 256 → k < length values → (slice_index_or values k d).0 ≡ pos v → ⊥
+
 -- the same of each union among these enums
 pub record HaveTargets (rows : Rows) (members : List MemberRow) (enums : List EnumPart) (places : List (List ℕ)) (targets : List (List Target)) : Type 0 where
   pub long_places : length places ≡ length enums

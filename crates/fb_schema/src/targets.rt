@@ -2,7 +2,7 @@
 
 ghost use Rattle.std.specs.Prelude.{◌≡◌, ◌+◌, ℕ, List, [], map, OnOk};
 ghost use Rattle.fb_schema.specs.{FlatRows.borrowed_rows, Rows.Rows, Rows.member_of_row};
-ghost use Rattle.fb_schema.specs.Targets.{nothing, kind_to, target_of, target_at, place_among, kind_among, AreTargets, AreSorted, LeadBelow};
+ghost use Rattle.fb_schema.specs.Targets.{nothing, kind_to, target_of, target_at, place_among, kind_among, AreTargets, AreSorted, EndsValues, LeadBelow};
 ghost use Rattle.fb_schema.specs.declared.views.Target.{Target};
 ghost use Rattle.fb_schema.specs.declared.rows.MemberRow.{MemberRow};
 
@@ -165,6 +165,20 @@ fn put_none<A: Allocator>(
     Ok(())
 }
 
+/// Behind the greatest of these values that a type can be, and 1 at least.
+fn end_of(values: &[(i64, u32)]) -> u64
+    ensures { EndsValues values.now result }
+{
+    let mut end = 1;
+    for (value, _) in values {
+        let size = value.unsigned_abs();
+        if size >= end && size < 256 {
+            end = size + 1;
+        }
+    }
+    end
+}
+
 /// Puts the targets of a union's members where none are yet, by the values in order and the kinds of these.
 pub fn put_targets<A: Allocator>(
     rows: &RowLists,
@@ -179,7 +193,7 @@ pub fn put_targets<A: Allocator>(
         → AreTargets (borrowed_rows rows.now) (map member_of_row members) places.new.items targets.new.items) }
 {
     put_none(values, places, targets)?;
-    for value in 1..256usize {
+    for value in 1..end_of(values) {
         let kind = kind_at(values, kinds, value as u8);
         add_target(rows, value as u8, kind, places, targets)?;
     }

@@ -6,16 +6,14 @@ use Rattle.fb_bfbs.proofs.attributes.attributes_in.Goals as goal
 
 pub tables_or_none-requires : goal.tables_or_none-requires
 unfolding computing
-tables_or_none-requires c = (1, (maybe c.requires refl))
+tables_or_none-requires c = maybe c.requires refl
 
 pub rows_at-requires : goal.rows_at-requires
-unfolding computing
-rows_at-requires c = λ k. ((refl, tt), (c.in-Some.ensures.there 1 (maybe c.requires refl)).at)
+rows_at-requires c = λ k. ((refl, tt), c.in-Some.ensures.there.at)
 
 pub returns-in_ok-rows-in-Some : goal.returns-in_ok-rows-in-Some
-unfolding computing
 returns-in_ok-rows-in-Some c =
-    let on = c.in-Some.ensures.there 1 (maybe c.requires refl) in
+    let on = c.in-Some.ensures.there in
     inl (mapped_rows IsAttribute _ attribute_of _ (c.in_ok-rows-in-Some.ensures.rows c.args.place.now (ToField 9 ∷ []) (seen_after c.args.place.now c.in-Some.list (ToField 9) on.same on.leads)))
 
 pub returns-in-None : goal.returns-in-None

@@ -6,16 +6,14 @@ use Rattle.fb_bfbs.proofs.copied.union_type.Goals as goal
 
 pub table_or_none-requires : goal.table_or_none-requires
 unfolding computing
-table_or_none-requires c = (0, (maybe c.requires refl))
+table_or_none-requires c = maybe c.requires refl
 
 pub type_row-requires : goal.type_row-requires
-unfolding computing
-type_row-requires c = (c.in-Some.ensures.there 0 (maybe c.requires refl)).at
+type_row-requires c = c.in-Some.ensures.there.at
 
 pub returns-in-Some : goal.returns-in-Some
-unfolding computing
 returns-in-Some c =
-    let on = c.in-Some.ensures.there 0 (maybe c.requires refl) in
+    let on = c.in-Some.ensures.there in
     inl (seen_in c.args.place.now c.in-Some.ty (ToField 3) table on.same on.leads (sym (table_is_here c.in-Some.ty on.at)), type_within _ _ _ (seen_after c.args.place.now c.in-Some.ty (ToField 3) on.same on.leads) c.type_row.ensures)
 
 pub returns-in-None : goal.returns-in-None

@@ -1,10 +1,10 @@
 use Rattle.fb_schema.specs.declared.kinds.Scalar.TheVariants as scalar
-use Rattle.fb_bfbs.proofs.Sure.{field_allowed, field_here}
+use Rattle.fb_bfbs.proofs.{KnownFields.field_known, Sure.field_here}
 use Rattle.fb_access.proofs.Shapes.{answers_truth}
 use Rattle.fb_bfbs.proofs.values.bool_in.Goals as goal
 
-pub go-field-requires : goal.go-field-requires
-go-field-requires c = field_allowed _ _ _ c.requires
+pub go_to-field-requires : goal.go_to-field-requires
+go_to-field-requires c = field_known _ _ _ tt c.requires
 
 pub unreachable-requires : goal.unreachable-requires
-unreachable-requires c = answers_truth _ _ _ _ c.answer.ensures.shown scalar.Bool tt (field_here _ _ _ _ c.requires c.go-field.ensures.here) c.in_default.not-Bool
+unreachable-requires c = answers_truth _ _ _ _ c.answer.ensures.shown scalar.Bool tt (field_here _ _ _ _ c.requires c.go_to-field.ensures.here) c.in_default.not-Bool

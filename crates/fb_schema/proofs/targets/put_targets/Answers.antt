@@ -1,7 +1,7 @@
-use Rattle.std.proofs.Common.{map, sym, ap, arith}
+use Rattle.std.proofs.Common.{ℕ, ◌≤◌, map, sym, ap, arith}
 use Rattle.fb_schema.specs.{FlatRows.borrowed_rows, Rows.member_of_row}
 use Rattle.fb_schema.specs.Targets.{target_of, kind_among}
-use Rattle.fb_schema.proofs.TargetLemmas.{zero_target, found_below}
+use Rattle.fb_schema.proofs.TargetLemmas.{zero_target, found_below, lead_on, none_beyond}
 use Rattle.fb_schema.proofs.targets.put_targets.Goals as goal
 
 pub loop-value-init : goal.loop-value-init
@@ -21,4 +21,10 @@ loop-value-preserved g c =
 pub returns : goal.returns
 returns g c = λ members h.
     let rows = borrowed_rows c.args.rows.now in
-    record { at = λ value low. found_below (λ v. target_of rows (kind_among rows (map member_of_row members) v)) _ _ _ (c.loop-value.invariant.lead members h) value (omega (arith, low, c.loop-value-test.false)) }
+    let wanted = λ (v : ℕ). target_of rows (kind_among rows (map member_of_row members) v) in
+    let ends = c.end_of-value-end.ensures in
+    let bound = c.loop-value.value in
+    let last : c.end_of-value-end.result ≤ bound = omega arith in
+    let high : bound ≤ 256 = omega (arith, ends.low, ends.high) in
+    let all = lead_on wanted bound 256 _ _ high (λ v le lt. none_beyond rows members _ _ h _ ends v (omega (arith, le, last)) lt) (c.loop-value.invariant.lead members h) in
+    record { at = λ value low. found_below wanted 256 _ _ all value low }
