@@ -346,6 +346,7 @@ impl<A: Allocator> Output<A> {
 
     /// Puts a bad message behind what waits for the rejects, where bad ones are kept. Where much waits, it is written, as
     /// `settle` does.
+    #[inline(always)]
     fn keep<K: Sink, N: Sink, R: Sink>(
         &mut self,
         keeps: Rejects,
@@ -372,6 +373,7 @@ impl<A: Allocator> Output<A> {
 
     /// Puts a bad message behind what waits for the rejects. One that is much by itself is written as it is, and so is one
     /// for which memory is refused.
+    #[inline(never)]
     fn keep_bad<K: Sink, N: Sink, R: Sink>(
         &mut self,
         message: &[u8],
