@@ -3,6 +3,7 @@
 One of them also shows where the budget of reads a byte ends that holds where no words say another.
 """
 
+import os
 import re
 import shutil
 import struct
@@ -11,7 +12,7 @@ import subprocess
 from tests.support import schemas
 from tests.support.builder import messages_of
 from tests.support.cases import Case
-from tests.support.program import TOP, file_of, folder_of, good, loaded, rootless, run, schemaless, unschemed
+from tests.support.program import TOP, Ran, file_of, folder_of, good, loaded, rootless, run, schemaless, unschemed
 
 FOLDER = folder_of(__name__)
 HOSTILE = loaded(TOP / "bench/hostile")
@@ -166,6 +167,14 @@ class Hostile(Case):
         ran = run("--bare", "--schema", file_of("shape.bfbs", schema), given=data)
         found = re.fullmatch(rb"1 ok .* reads=(\d+)\n", ran.out)
         self.holds(name, found and abs(int(found[1]) / len(data) - want) < 0.01 * want, ran)
+
+    def test_a_bad_message_that_is_kept(self):
+        shape, kept = BY_NAME["a bad message, kept"], file_of("kept", b"")
+        data = shape.made(100_000)
+        words = [kept if word == os.devnull else word for word in shape.words]
+        ran = run("--bare", *words_for(shape), *words, given=data)
+        self.same("its line", ran, Ran(1, b"1 bad V4 ZeroOffset at=0 object=0 field=- reads=1\n", b""))
+        self.holds("it is kept", kept.read_bytes() == data)
 
     def test_a_chain_of_21_tables(self):
         """By default the budget ends first; without one, the tables do; and with more of these it is ok. Each table

@@ -63,6 +63,15 @@ def big_file(name, prefix):
     return path
 
 
+def hollow_file(name, prefix):
+    """The path of a file with this and a bad buffer of SIZE bytes, which are all 0."""
+    path = FOLDER / name
+    with open(path, "wb") as file:
+        file.write(prefix)
+        file.truncate(len(prefix) + SIZE)
+    return path
+
+
 def parts_of_big():
     """The text of that value in a line, in parts."""
     whole, rest = divmod(SIZE, len(PATTERN))
@@ -92,12 +101,12 @@ def measured(*words, given):
     return child.returncode, usage.ru_maxrss * 1024, made
 
 
-def peak(*words, given):
+def peak(*words, given, **how):
     """The most memory of a run on this file, and how many bytes it writes. A process that has less memory than this one
     starts it, since a child's peak begins with that of its parent."""
     with tempfile.NamedTemporaryFile("r", dir=FOLDER) as told, open(given, "rb") as source:
         command = [sys.executable, "-S", "-E", "-c", MEASURE, told.name, PROGRAM, *words]
-        child = subprocess.Popen(command, stdin=source, stdout=subprocess.PIPE, bufsize=0, pipesize=1 << 20)
+        child = subprocess.Popen(command, stdin=source, stdout=subprocess.PIPE, bufsize=0, pipesize=1 << 20, **how)
         written = sum(map(len, iter(lambda: child.stdout.read(1 << 20), b"")))
         child.stdout.close()
         child.wait()
@@ -131,6 +140,15 @@ class LargeValues(Case):
             status, memory, made = measured(*BY_TEXT, "--filter", *words, given=big)
             self.same(f"through a filter {name}", (status, made.stat().st_size), (0, length))
             self.holds(f"memory of a filter {name}", memory <= length + MORE, (memory, length))
+
+    def test_a_large_bad_message(self):
+        """It is kept without being held twice, whatever else is told of it."""
+        for name, words, prefix in ("of a stream", (), struct.pack("<I", SIZE)), ("of a bare input", ("--bare",), b""):
+            given, kept = hollow_file("hollow", prefix), FOLDER / "kept"
+            for more in ("--quiet",), ("--filter",), ("--json", "--names"):
+                memory, _ = peak(*BY_TEXT, *words, *more, "--rejects", kept, given=given, stderr=subprocess.DEVNULL)
+                self.holds(f"it is kept {name}, {more}", holds(kept, [prefix], itertools.repeat(bytes(SIZE // 60), 60)))
+                self.holds(f"memory {name}, {more}", memory <= SIZE + MORE, memory)
 
     def test_sixteen_paths_to_one_large_text(self):
         """Whatever is written of it: plain lines, JSON, CSV, or the message itself."""

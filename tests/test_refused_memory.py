@@ -2,6 +2,7 @@
 tells its own want of memory and nothing else."""
 
 import dataclasses
+import os
 
 from tests.support import schemas
 from tests.support.buffers import POST, SEVEN, levels
@@ -84,6 +85,7 @@ RUNS = [
     Plan("the same bare input, by 100 bytes", [*LOADED, *PATH, "--bare", "--no-alignment"], BARE, 0, most=100),
     Plan("many words, over a stream", [*LOADED, *MANY_WORDS], POST, 1),
     Plan("strict checks, over a stream", [*LOADED, *PATH, "--strict"], POST, 1),
+    Plan("a file for bad messages, over a stream", [*LOADED, "--rejects", os.devnull], POST, 1),
     Plan("no schema, over a schema file", ["--bare"], SCHEMA.read_bytes(), 0),
     # Want of memory ends it all: no file behind is begun, and none is named beside it.
     Plan("two files, one behind another", [*LOADED, *PATH, *NAMED], b"", 1, waits=8),

@@ -2,19 +2,24 @@
 
 import pathlib
 import random
+import resource
 import stat
+import subprocess
 import tempfile
 
 from tests.support import schemas
 from tests.support.buffers import BY_POST, NOTHING, ODD, ORC, POST, SEVEN
 from tests.support.builder import messages_of, prefixed
 from tests.support.cases import Case
-from tests.support.program import Ran, Talk, lines, oversize, refused, run
+from tests.support.preloaded import ALONE, WITH_LATER, narrowed, refusing
+from tests.support.program import PROGRAM, SECONDS, Ran, Talk, lines, oversize, refused, run
 
 FILES = schemas.files()
 BY_M = ("--schema", FILES["M"])
 BY_N = ("--schema", FILES["N"])
 FULL = "write of rejects failed after {} bytes: no storage space"
+# A message of zeros is bad, and one of so many bytes or more is written as it is.
+LONG = 65_536
 
 
 def odd(number):
@@ -27,6 +32,21 @@ def nothing(number):
 
 def good(number):
     return f"{number} ok tables=1 depth=1 reads=5"
+
+
+def zeros(size):
+    """A bad message of so many bytes, its prefix included."""
+    return prefixed(bytes(size - 4))
+
+
+def zero(number):
+    return f"{number} bad V4 ZeroOffset at=4 object=0 field=- reads=2"
+
+
+def limited(room):
+    """How a run is started whose files may have so many bytes each; a write of more fails, and ends no program."""
+    limit = lambda: resource.setrlimit(resource.RLIMIT_FSIZE, (room, room))
+    return {"preexec_fn": limit, "restore_signals": False}
 
 
 class Rejects(Case):
@@ -72,6 +92,19 @@ class Rejects(Case):
             self.holds(f"{turn}: and the others", rejects == b"".join(m for m in messages if m is not SEVEN))
             again = run(*BY_N, "--max-bad", "1", given=rejects)
             self.same(f"{turn}: of which the first is bad", again.status, int(bool(rejects)))
+
+    def test_long_ones(self):
+        """Among short ones, in their order, whatever else is told of them."""
+        long = [zeros(size) for size in (LONG - 1, LONG, LONG + 1, 3 * LONG, 1_000_000, LONG - 1)]
+        given = b"".join(SEVEN + ODD + one + NOTHING for one in long) + SEVEN
+        want = b"".join(ODD + one + NOTHING for one in long)
+        for words in [(), ("--quiet",), ("--filter",), ("--json",), ("--csv", "--path", "v"), ("--names",)]:
+            ran, rejects = self.kept(*BY_N, *words, given=given)
+            self.same(f"{words}: the same is told as without rejects", ran, run(*BY_N, *words, given=given))
+            self.holds(f"{words}: and all bad ones are kept", rejects == want, len(rejects))
+        ran, rejects = self.kept(*BY_N, "--filter", given=b"".join(long))
+        self.holds("one behind another", rejects == b"".join(long), len(rejects))
+        self.same("all are told", ran, Ran(1, b"", lines(*map(zero, range(1, len(long) + 1)))))
 
     def test_a_bare_input(self):
         for name, given, want in [("a good one", ORC, b""), ("a bad one", ORC[:31], ORC[:31]),
@@ -125,6 +158,52 @@ class Rejects(Case):
                                 ("a folder", self.folder, "is a directory")]:
             ran = run(*BY_N, "--rejects", file, given=SEVEN)
             self.same(name, ran, Ran(3, b"", lines(f"fbcheck: cannot write rejects: {why}")))
+
+    def test_a_file_that_takes_a_part(self):
+        """A write fails before a long bad message, or within it. What goes to the other outputs is written by then."""
+        given, kept = SEVEN + ODD + zeros(5 * LONG) + SEVEN, ODD + zeros(5 * LONG)
+        for room in (0, len(ODD) - 1, len(ODD), len(ODD) + 1, LONG, 4 * LONG, len(kept) - 1):
+            fault = f"fbcheck: write of rejects failed after {room} bytes: file too large"
+            # What is told of the short ones is written before the rest of the long one is read.
+            told = [odd(2)] + [zero(3)] * (room >= len(ODD))
+            for words, out, err in [((), lines(good(1), *told), lines(fault)),
+                                    (("--filter",), SEVEN, lines(*told, fault))]:
+                ran = run(*BY_N, *words, "--rejects", self.file, given=given, **limited(room))
+                self.same(f"{words}, room for {room} bytes", ran, Ran(3, out, err))
+                self.holds(f"{words}, which are kept: {room}", self.file.read_bytes() == kept[:room])
+        ran = run(*BY_N, "--rejects", self.file, given=given, **limited(len(kept)))
+        self.same("room for all", ran, Ran(1, lines(good(1), odd(2), zero(3), good(4)), b""))
+        self.holds("all are kept", self.file.read_bytes() == kept)
+
+    def test_another_output_that_fails(self):
+        """Nothing of a long bad message is kept where a write of what is told of it, or before it, has failed."""
+        given, short = SEVEN + ODD + zeros(5 * LONG) + SEVEN, lines(good(1), odd(2))
+        for words, want in [((), short + lines(zero(3))), (("--filter",), SEVEN)]:
+            for room in (0, 1, len(want) - 1):
+                self.file.write_bytes(b"")
+                ran = narrowed(*BY_N, *words, "--rejects", self.file, given=given, room=room)
+                self.same(f"{words}, room for {room} bytes", (ran.status, ran.out), (3, want[:room]))
+                self.holds(f"{words}, the fault: {room}", b"fbcheck: write failed after %d bytes" % room in ran.err, ran.err)
+                self.same(f"{words}, what is kept: {room}", self.file.read_bytes(), ODD if room >= len(short) else b"")
+        with open("/dev/full", "wb") as full:
+            ran = subprocess.run([PROGRAM, *BY_N, "--filter", "--rejects", self.file], input=SEVEN + zeros(5 * LONG),
+                                 stdout=subprocess.PIPE, stderr=full, timeout=SECONDS)
+        self.same("of the notes", (ran.returncode, ran.stdout, self.file.read_bytes()), (3, SEVEN, b""))
+
+    def test_refused_memory(self):
+        """Whichever request is refused, the bad ones that are told are kept, and no others."""
+        messages = [SEVEN, ODD, zeros(300), zeros(LONG + 9), NOTHING, SEVEN, zeros(40_000), zeros(2 * LONG), ODD]
+        bad = {number: message for number, message in enumerate(messages, 1) if message is not SEVEN}
+        words = [PROGRAM, *BY_N, "--rejects", str(self.file)]
+        whole = refusing(words, b"".join(messages))
+        for extent in ALONE, WITH_LATER:
+            for first in range(1, whole.asked + 1):
+                self.file.write_bytes(b"")
+                ran = refusing(words, b"".join(messages), first, extent)
+                told = [int(line.split()[0]) for line in ran.lines() if " bad " in line]
+                name = f"request {first} is refused, {extent}"
+                self.holds(f"{name}: how it ends", ran.status in (whole.status, 3), ran.status)
+                self.holds(f"{name}: what is kept", self.file.read_bytes() == b"".join(bad[number] for number in told))
 
     def test_when_the_file_is_made(self):
         self.file.write_bytes(b"kept")

@@ -4,7 +4,10 @@ use Rattle.std.proofs.{KnownBytes.Appends-nil, lemmas.List.flat_map_more, lemmas
 use Rattle.std.specs.List.{flat_map}
 use Rattle.fb_bytes.specs.Ends.{one_more}
 use Rattle.fb_lines.specs.{Ends.Writer, Lines.WritesFront}
-use Rattle.fb_lines.specs.Puts.{Puts, PutsAs, Queue}
+use Rattle.fb_lines.specs.Puts.{AreCut, Puts, PutsAll, PutsAs, PutsFront, PutsTold, Queue, Queues}
+use Rattle.fb_lines.specs.Texts.{Texts, silent, to_rejects}
+use Rattle.fb_lines.specs.declared.fault.RunFault.{RunFault}
+use Rattle.fb_lines.specs.declared.fault.RunFault.TheVariants as run
 use Rattle.fb_lines.proofs.{AnswerLemmas.front_spelled, BehindLemmas.behind_more, BehindLemmas.front_behind, BehindLemmas.front_more, Pieces.front-more}
 
 -- both were put, however it came with each
@@ -92,3 +95,74 @@ module _ {A : Type 0} (f : A → List ℕ) (xs : List A) (head : List ℕ) (a b 
   puts_tail i tail c past first last =
       subst (λ l. Puts l a c) (append_assoc head (flat_map f (take i xs)) tail ∙ ap (λ l. head ++ (flat_map f l ++ tail)) (take_all i xs past))
       (puts_then (head ++ flat_map f (take i xs)) tail a b c first last)
+
+module _ {Holds : Type 0} (text : List ℕ) (a b : Queue) where
+  -- all of a text was put
+  pub front_all : Puts text a b → PutsFront Holds text a b
+  front_all puts = record { front = text; left = []; whole = sym (append-nil text); all = λ _. refl; puts = puts }
+
+  -- or none of it
+  front_none : (Holds → ⊥) → Puts [] a b → PutsFront Holds text a b
+  front_none never puts = record { front = []; left = text; whole = refl; all = λ holds. absurd (never holds); puts = puts }
+
+  -- where it holds, all of it was
+  pub front_whole : PutsFront Holds text a b → Holds → Puts text a b
+  front_whole part holds = puts_same text part.front a b (part.whole ∙ ap (λ l. part.front ++ l) (part.all holds) ∙ append-nil part.front) part.puts
+
+  -- and nothing more
+  pub front_still : (c : Queue) {Next : Type 0} → (Next → Holds) → PutsFront Holds text a b → Puts [] b c → PutsFront Next text a c
+  front_still c holds part none = record {
+    front = part.front;
+    left = part.left;
+    whole = part.whole;
+    all = λ next. part.all (holds next);
+    puts = puts_still part.front a c (puts_then part.front [] a b c part.puts none);
+  }
+
+-- all of a text was put, and a front of another behind it
+pub front_then : {Holds : Type 0} (text other : List ℕ) (a b c : Queue) → Puts text a b → PutsFront Holds other b c → PutsFront Holds (text ++ other) a c
+front_then text other a b c first part = record {
+  front = text ++ part.front;
+  left = part.left;
+  whole = ap (λ l. text ++ l) part.whole ∙ sym (append_assoc text part.front part.left);
+  all = part.all;
+  puts = puts_then text part.front a b c first part.puts;
+}
+
+-- behind a write that failed, nothing more is written
+puts_after : (text : List ℕ) (q : Queue) → q.failed ≡ true → Puts text q q
+puts_after text q cut = subst (λ f. PutsAs f f text q q) (sym cut) (refl, refl)
+
+-- all that is told was put
+pub all_told : (told : Texts) (before after : Queues) → PutsAll told before after → PutsTold told before after
+all_told told before after puts = (puts.0, puts.1, front_all told.rejects before.rejects after.rejects puts.2)
+
+module _ (message : List ℕ) (before after : Queues) where
+  -- a bad message waits
+  pub kept_told : (rejects : Queue) → rejects ≡ record before.rejects { waits = before.rejects.waits ++ message } → PutsAll silent (record before { rejects = rejects }) after → PutsTold (to_rejects message) before after
+  kept_told rejects is puts = (
+    puts.0,
+    puts.1,
+    front_all message before.rejects after.rejects
+        (puts_still message before.rejects after.rejects (puts_then message [] before.rejects rejects after.rejects (puts_waiting message before.rejects rejects is) puts.2)),
+  )
+
+  -- or it was put behind all that waited, which was written
+  pub passed_told : (mid : Queues) (rejects : Queue) → PutsAll silent before mid → Puts message mid.rejects rejects → PutsAll silent (record mid { rejects = rejects }) after → PutsTold (to_rejects message) before after
+  passed_told mid rejects first put last = (
+    puts_then [] [] before.out mid.out after.out first.0 last.0,
+    puts_then [] [] before.notes mid.notes after.notes first.1 last.1,
+    front_all message before.rejects after.rejects
+        (puts_still message before.rejects after.rejects (puts_then message [] before.rejects rejects after.rejects (puts_then [] message before.rejects mid.rejects rejects first.2 put) last.2)),
+  )
+
+  -- or a write of that failed
+  pub cut_told : (fault : RunFault) → AreCut after fault → PutsAll silent before after → PutsTold (to_rejects message) before after
+  cut_told (run.WriteFault written) cut puts = (puts.0, puts.1, front_none message before.rejects after.rejects (λ fine. true≢false (sym cut.0 ∙ fine.0)) puts.2)
+  cut_told (run.NoteFault written) cut puts = (puts.0, puts.1, front_none message before.rejects after.rejects (λ fine. true≢false (sym cut.0 ∙ fine.1)) puts.2)
+  cut_told (run.RejectFault written) cut puts = (
+    puts.0,
+    puts.1,
+    front_all message before.rejects after.rejects (puts_then [] message before.rejects after.rejects after.rejects puts.2 (puts_after message after.rejects cut.0)),
+  )
+  cut_told _ never puts = absurd never

@@ -1,8 +1,8 @@
 -- What a run that keeps bad messages makes of all of them.
-use Rattle.std.proofs.Common.{◌≡◌, ℕ, ◌+◌, ◌∙◌, ◌++◌, List, [], ◌∷◌, Ok, Err, refl, sym, ap, subst, arith, inl, inr, length}
-use Rattle.fb_lines.specs.{RejectLaws.ArePartedInto, RejectLaws.RejectsPart, RejectLaws.joined, Job.Job, Line.IsLine, Line.SaidBy, Line.TellsLine, Line.rejected, Lines.AreTold, Spot.Before, Spot.past, Spot.spot_of}
+use Rattle.std.proofs.Common.{◌≡◌, ℕ, ◌∙◌, ◌++◌, List, [], ◌∷◌, Ok, Err, refl, sym, ap, subst, arith, inl, inr}
+use Rattle.fb_lines.specs.{RejectLaws.RejectsPart, Line.IsLine, Line.SaidBy, Line.TellsLine, Line.rejected, Spot.past, Spot.spot_of}
 use Rattle.fb_lines.specs.Texts.{Texts, spoken, to_notes, to_out}
-use Rattle.fb_lines.specs.declared.{tally.Tally.Tally, options.Mode.TheVariants.Filter, options.Rejects.TheVariants.Kept}
+use Rattle.fb_lines.specs.declared.{tally.Tally.Tally}
 
 pub rejects_part : RejectsPart
 rejects_part job before [] text tally kept (e, none) = (

@@ -1,16 +1,15 @@
 -- What is told of a message by its verdict.
-use Rattle.std.proofs.Common.{◌≡◌, ◌≢◌, ◌⊎◌, inl, inr, ℕ, ◌+◌, ◌++◌, ◌∙◌, List, [], Result, Ok, Err, IsTrue, ap, append-nil, append_assoc, codes, length, refl, subst, sym, take}
-use Rattle.std.proofs.Math.Seq.{take-append_seam}
+use Rattle.std.proofs.Common.{◌≡◌, ◌≢◌, ◌⊎◌, inl, inr, ℕ, ◌+◌, ◌++◌, ◌∙◌, List, [], Result, Ok, Err, IsTrue, ap, append-nil, append_assoc, codes, false, refl, subst, sym}
 use Rattle.std.specs.Prelude.{map}
 use Rattle.fb_lines.specs.{AnswerText.label_text, Job.IsVerdict, Job.Job, Job.No, Job.Verdict, Job.Yes, Job.buffer_in, Job.is_brief, Sums.tally_with, Wanted.Wanted}
 use Rattle.fb_lines.specs.AnswerText.{answers_text}
 use Rattle.fb_lines.specs.Csv.{IsRow}
 use Rattle.fb_lines.specs.Json.{begin_part, counts_part, following}
-use Rattle.fb_lines.specs.Line.{IsLine, IsLineBy, IsLineIn, IsRest, SaidBy, ToldBy, front_in, rejected, short_line, verdict_line}
-use Rattle.fb_lines.specs.Puts.{Adds, AddsBy, AddsOr, AreSo, Held, Puts, PutsAll, PutsSome, Queue, Queues, Says, Tells, Waits, holding}
+use Rattle.fb_lines.specs.Line.{IsLine, IsLineBy, IsLineIn, IsRest, SaidBy, front_in, rejected, short_line, verdict_line}
+use Rattle.fb_lines.specs.Puts.{Adds, AddsBy, AddsOr, AreSo, Puts, PutsFront, PutsSome, PutsTold, Queue, Queues, Says, Tells}
 use Rattle.fb_lines.specs.Spot.{Before, spot_of}
 use Rattle.fb_lines.specs.declared.spot.Spot.{Spot}
-use Rattle.fb_lines.specs.Texts.{Texts, silent, spoken, to_notes, to_out}
+use Rattle.fb_lines.specs.Texts.{Texts, silent, spoken, to_notes, to_out, to_rejects}
 use Rattle.fb_lines.specs.declared.{fault.RunFault.RunFault, options.Form.Form, options.Mode.Mode, options.Rejects.Rejects, tally.Tally.Tally}
 use Rattle.fb_lines.specs.declared.fault.RunFault.TheVariants as run
 use Rattle.fb_lines.specs.declared.options.Form.TheVariants as form
@@ -118,31 +117,21 @@ added_so before after tally tally' (Err (run.RejectFault written)) added so = (a
 added_so before after tally tally' (Err _) added so = absurd so
 
 module _ (mode : Mode) (P : List ℕ → Type 0) (message : List ℕ) (v : Verdict) where
-  -- what is said and a bad message wait
-  pub says_waits : (keeps : Rejects) (before after : Queue) (held held' : Held) → Says mode P message v before after held.notes held'.notes → held'.rejects ≡ held.rejects ++ rejected v keeps message
-      → Waits mode keeps P message v before after held held'
-  says_waits keeps before after held held' says kept = record {
-    told = record says.said { rejects = rejected v keeps message };
-    is_told = (said_spoken mode P message v says.said says.is_said, refl);
-    puts = says.puts;
-    notes_are = says.notes_are;
-    rejects_are = kept;
-  }
-
-  -- what waits, and then what is written of it
-  pub waits_told : (keeps : Rejects) (before between after : Queues) (held : Held) → Waits mode keeps P message v before.out between.out (record { notes = before.notes.waits; rejects = before.rejects.waits }) held
-      → between.notes ≡ record before.notes { waits = held.notes } → between.rejects ≡ record before.rejects { waits = held.rejects } → PutsAll silent between after → Tells mode keeps P message v before after
-  waits_told keeps before between after held waits noted kept all = record {
-    told = waits.told;
-    is_told = waits.is_told;
-    puts = (
-      puts_still waits.told.out before.out after.out (puts_then waits.told.out [] before.out between.out after.out waits.puts all.0),
-      puts_still waits.told.notes before.notes after.notes (puts_then waits.told.notes [] before.notes between.notes after.notes
-          (puts_waiting waits.told.notes before.notes between.notes (noted ∙ ap (λ l. record before.notes { waits = l }) waits.notes_are)) all.1),
-      puts_still waits.told.rejects before.rejects after.rejects (puts_then waits.told.rejects [] before.rejects between.rejects after.rejects
-          (puts_waiting waits.told.rejects before.rejects between.rejects (kept ∙ ap (λ l. record before.rejects { waits = l }) waits.rejects_are)) all.2),
-    );
-  }
+  -- what is said of it, and then a bad message
+  pub says_told : (keeps : Rejects) (before between after : Queues) → Says mode P message v before.out between.out before.notes.waits between.notes.waits → between.notes ≡ record before.notes { waits = between.notes.waits }
+      → between.rejects ≡ before.rejects → PutsTold (to_rejects (rejected v keeps message)) between after → Tells mode keeps P message v before after
+  says_told keeps before between after says noted same puts =
+      let fine : Type 0 = (after.out.failed ≡ false) × (after.notes.failed ≡ false) in
+      record {
+        told = record says.said { rejects = rejected v keeps message };
+        is_told = (said_spoken mode P message v says.said says.is_said, refl);
+        puts = (
+          puts_still says.said.out before.out after.out (puts_then says.said.out [] before.out between.out after.out says.puts puts.0),
+          puts_still says.said.notes before.notes after.notes (puts_then says.said.notes [] before.notes between.notes after.notes
+              (puts_waiting says.said.notes before.notes between.notes (noted ∙ ap (λ l. record before.notes { waits = l }) says.notes_are)) puts.1),
+          subst (λ q. PutsFront fine (rejected v keeps message) q after.rejects) same puts.2,
+        );
+      }
 
   module _ (before after : Queue) (notes notes' : List ℕ) where
     -- a line came for the writer, or for the notes, or the message, or nothing
@@ -166,9 +155,3 @@ module _ (mode : Mode) (P : List ℕ → Type 0) (message : List ℕ) (v : Verdi
     pub note_said : (bad : No) (line : List ℕ) → v ≡ Err bad → (mode ≡ Filter) ⊎ (mode ≡ Csv) → P line → after ≡ before → notes' ≡ notes ++ line → Says mode P message v before after notes notes'
     note_said bad line is (inl filter) holds kept added = record { said = to_notes line; is_said = rw (filter, is) (line, holds, refl); puts = subst (λ q. Puts [] before q) (sym kept) (puts_none before); notes_are = added }
     note_said bad line is (inr csv) holds kept added = record { said = to_notes line; is_said = rw (csv, is) (line, holds, refl); puts = subst (λ q. Puts [] before q) (sym kept) (puts_none before); notes_are = added }
-
--- a bad message was put behind others, and taken off again
-pub held_again : (notes notes' rejects more rejects' : List ℕ) (n : ℕ) → notes' ≡ notes → n ≡ length rejects → rejects' ≡ take n (rejects ++ more)
-    → holding notes' rejects' ≡ holding notes rejects
-held_again notes notes' rejects more rejects' n same is taken =
-    ap (λ l. holding l rejects') same ∙ ap (λ l. holding notes l) (taken ∙ ap (λ k. take k (rejects ++ more)) is ∙ take-append_seam rejects more)

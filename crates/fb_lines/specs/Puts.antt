@@ -67,6 +67,20 @@ all_unused outs = record { out = unused outs.writer; notes = unused outs.notes; 
 abbrev pub PutsAll : Texts → Queues → Queues → Type 0
 PutsAll told before after = Puts told.out before.out after.out × Puts told.notes before.notes after.notes × Puts told.rejects before.rejects after.rejects
 
+-- a front of a text was put there, and all of it where this holds
+pub record PutsFront (Holds : Type 0) (text : List ℕ) (before after : Queue) : Type 0 where
+  pub front : List ℕ
+  pub left : List ℕ
+  pub whole : text ≡ front ++ left
+  pub all : Holds → left ≡ []
+  pub puts : Puts front before after
+
+-- what is told was put there: for the rejects last of all, and so in part where a write for the others has failed by then
+abbrev pub PutsTold : Texts → Queues → Queues → Type 0
+PutsTold told before after =
+    Puts told.out before.out after.out × Puts told.notes before.notes after.notes
+    × PutsFront ((after.out.failed ≡ false) × (after.notes.failed ≡ false)) told.rejects before.rejects after.rejects
+
 -- no write has failed
 abbrev pub AreOpen : Queues → Type 0
 AreOpen queues = (queues.out.failed ≡ false) × (queues.notes.failed ≡ false) × (queues.rejects.failed ≡ false)
@@ -100,18 +114,7 @@ AreSo queues (Err fault) = AreCut queues fault
 pub record Tells (mode : Mode) (keeps : Rejects) (IsItsLine : List ℕ → Type 0) (message : List ℕ) (verdict : Verdict) (before after : Queues) : Type 0 where
   pub told : Texts
   pub is_told : ToldBy mode keeps IsItsLine message verdict told
-  pub puts : PutsAll told before after
-
--- what waits for the notes and for the rejects, of which nothing is written yet
-pub record Held : Type 0 where
-  pub notes : List ℕ
-  pub rejects : List ℕ
-
-abbrev pub holding : List ℕ → List ℕ → Held
-holding notes rejects = record { notes = notes; rejects = rejects }
-
-abbrev pub held_of : {A : Type 0} → Output A → Held
-held_of output = holding output.notes.bytes.items output.rejects.bytes.items
+  pub puts : PutsTold told before after
 
 -- what is said of it was put there
 pub record Says (mode : Mode) (IsItsLine : List ℕ → Type 0) (message : List ℕ) (verdict : Verdict) (before after : Queue) (notes notes' : List ℕ) : Type 0 where
@@ -120,20 +123,12 @@ pub record Says (mode : Mode) (IsItsLine : List ℕ → Type 0) (message : List 
   pub puts : Puts said.out before after
   pub notes_are : notes' ≡ notes ++ said.notes
 
--- what is told of it was
-pub record Waits (mode : Mode) (keeps : Rejects) (IsItsLine : List ℕ → Type 0) (message : List ℕ) (verdict : Verdict) (before after : Queue) (held held' : Held) : Type 0 where
-  pub told : Texts
-  pub is_told : ToldBy mode keeps IsItsLine message verdict told
-  pub puts : Puts told.out before after
-  pub notes_are : held'.notes ≡ held.notes ++ told.notes
-  pub rejects_are : held'.rejects ≡ held.rejects ++ told.rejects
-
 -- what is told of the message behind so much was put there, and its verdict was counted
 pub record Adds (job : Job) (before_it : Before) (message : List ℕ) (before after : Queues) (tally tally' : Tally) : Type 0 where
   pub verdict : Verdict
   pub told : Texts
   pub is_told : IsTold job before_it message verdict told
-  pub puts : PutsAll told before after
+  pub puts : PutsTold told before after
   pub tally_is : tally' ≡ tally_with message verdict tally
 
 -- what holds where a message was added; without memory nothing is put and nothing counted

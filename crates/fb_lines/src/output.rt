@@ -1,11 +1,11 @@
 //! What a run tells: counted, and put behind what waits to be written.
 
 ghost use Rattle.std.specs.Prelude.{Err, Ok, OnOk, OnErr, IsTrue, ◌≡◌, ◌+◌, ◌<◌, ◌^◌, ◌++◌, [], false, length};
-ghost use Rattle.fb_lines.specs.{AnswerText.label_text, Ends.outs_of, Spot.HasDue, Spot.IsFull, Spot.past_all, Spot.spot_of, Sums.count_of, Sums.no_tally, Sums.tally_with, Texts.silent};
+ghost use Rattle.fb_lines.specs.{AnswerText.label_text, Ends.outs_of, Spot.HasDue, Spot.IsFull, Spot.past_all, Spot.spot_of, Sums.count_of, Sums.no_tally, Sums.tally_with, Texts.silent, Texts.to_rejects};
 ghost use Rattle.fb_lines.specs.Job.{HasRoom, brief_verdict, is_brief, verdict_of};
 ghost use Rattle.fb_lines.specs.Line.{IsLine, IsLineIn, front_in, rejected, verdict_line};
 ghost use Rattle.fb_lines.specs.declared.options.Rejects.{Rejects};
-ghost use Rattle.fb_lines.specs.Puts.{AddsBy, AddsOr, AreOpen, AreSo, AreSound, IsUnused, PutsAll, PutsSome, Says, Tells, Waits, held_of, queue_of, queues_of};
+ghost use Rattle.fb_lines.specs.Puts.{AddsBy, AddsOr, AreOpen, AreSo, AreSound, IsUnused, PutsAll, PutsSome, PutsTold, Says, Tells, queue_of, queues_of};
 
 use crate::checker::{Checker, Course, Found, Wrong};
 use crate::counter::Counter;
@@ -58,8 +58,8 @@ impl<'a, A: Allocator> Output<&'a A> {
 
 impl<A: Allocator> Output<A> {
     /// Adds what is told of the next message, and counts its verdict. Where much waits by then, it is written; a long
-    /// value is written while its line is made. Where memory is refused, nothing is told of the message, nor is it
-    /// counted; where a write fails, it is counted too.
+    /// value is written while its line is made, and a long bad message as it is. Where memory is refused, nothing is told
+    /// of the message, nor is it counted; where a write fails, it is counted too.
     #[inline(always)]
     pub fn add<B: Allocator, K: Sink, N: Sink, R: Sink>(
         &mut self,
@@ -186,9 +186,9 @@ impl<A: Allocator> Output<A> {
     {
         let verdict = Err(Wrong { fault, place: None });
         let spot = self.counter.spot(checker.begin(), message);
-        self.tell(checker, b"", &spot, message, &verdict, writer)?;
+        self.say(checker, b"", &spot, message, &verdict, writer)?;
         self.counter.count(message, &verdict);
-        self.settle(writer, notes, rejects)
+        self.keep(checker.rejects(), message, &verdict, writer, notes, rejects)
     }
 
     /// Adds what is told of the next message, also where a value or words are asked for, and counts its verdict.
@@ -213,38 +213,9 @@ impl<A: Allocator> Output<A> {
         let verdict = checker.verdict(room, message)?;
         let (verdict, begin) = checker.told(room, verdict);
         let spot = self.counter.spot(checker.begin(), message);
-        self.tell(checker, begin, &spot, message, &verdict, writer)?;
+        self.say(checker, begin, &spot, message, &verdict, writer)?;
         self.counter.count(message, &verdict);
-        self.settle(writer, notes, rejects)
-    }
-
-    /// Puts what is told of the message there by this verdict, where plain lines begin so. Of the notes and the rejects
-    /// nothing is written.
-    fn tell<K: Sink>(
-        &mut self,
-        checker: &Checker<'_, '_, '_>,
-        begin: &[u8],
-        spot: &Spot,
-        message: &[u8],
-        verdict: &Result<Found<'_>, Wrong<'_>>,
-        writer: &mut K,
-    ) -> Result<(), AllocError>
-        requires begin { begin.now ≡ label_text checker.now.label }
-        ensures ok { OnOk result (Waits checker.now.mode checker.now.rejects (IsLine checker.now spot.now (verdict_of verdict.now)) message.now (verdict_of verdict.now)
-            (queue_of K.Sink self.old.out writer.old) (queue_of K.Sink self.new.out writer.new) (held_of self.old) (held_of self.new)) }
-        ensures err { OnErr result (queue_of K.Sink self.new.out writer.new ≡ queue_of K.Sink self.old.out writer.old) }
-        ensures err_held { OnErr result (held_of self.new ≡ held_of self.old) }
-        ensures noted { self.new.notes.written ≡ self.old.notes.written }
-        ensures kept { self.new.rejects.written ≡ self.old.rejects.written }
-        ensures counted { self.new.counter ≡ self.old.counter }
-    {
-        let held = self.rejects.bytes.len();
-        keep(&mut self.rejects.bytes, checker.rejects(), message, verdict)?;
-        let said = self.say(checker, begin, spot, message, verdict, writer);
-        if said.is_err() {
-            self.rejects.bytes.truncate(held);
-        }
-        said
+        self.keep(checker.rejects(), message, &verdict, writer, notes, rejects)
     }
 
     /// Puts what is said of the message there by this verdict, where plain lines begin so. Of the notes nothing is
@@ -373,6 +344,84 @@ impl<A: Allocator> Output<A> {
         }
     }
 
+    /// Puts a bad message behind what waits for the rejects, where bad ones are kept. Where much waits, it is written, as
+    /// `settle` does.
+    #[inline(always)]
+    fn keep<K: Sink, N: Sink, R: Sink>(
+        &mut self,
+        keeps: Rejects,
+        message: &[u8],
+        verdict: &Result<Found<'_>, Wrong<'_>>,
+        writer: &mut K,
+        notes: &mut N,
+        rejects: &mut R,
+    ) -> Result<(), RunFault>
+        requires unfailed { self.old.notes.written.failed ≡ false }
+        requires unfailed_rejects { self.old.rejects.written.failed ≡ false }
+        ensures puts { PutsTold (to_rejects (rejected (verdict_of verdict.now) keeps message.now))
+            (queues_of K.Sink N.Sink R.Sink self.old writer.old notes.old rejects.old) (queues_of K.Sink N.Sink R.Sink self.new writer.new notes.new rejects.new) }
+        ensures so { AreSo (queues_of K.Sink N.Sink R.Sink self.new writer.new notes.new rejects.new) result }
+        ensures little { OnOk result (length self.new.notes.bytes.items < 65536) }
+        ensures few { OnOk result (length self.new.rejects.bytes.items < 65536) }
+        ensures counted { self.new.counter ≡ self.old.counter }
+    {
+        match (verdict, keeps) {
+            (Err(_), Rejects::Kept) => self.keep_bad(message, writer, notes, rejects),
+            _ => self.settle(writer, notes, rejects),
+        }
+    }
+
+    /// Puts a bad message behind what waits for the rejects. One that is much by itself is written as it is, and so is one
+    /// for which memory is refused.
+    #[inline(never)]
+    fn keep_bad<K: Sink, N: Sink, R: Sink>(
+        &mut self,
+        message: &[u8],
+        writer: &mut K,
+        notes: &mut N,
+        rejects: &mut R,
+    ) -> Result<(), RunFault>
+        requires unfailed { self.old.notes.written.failed ≡ false }
+        requires unfailed_rejects { self.old.rejects.written.failed ≡ false }
+        ensures puts { PutsTold (to_rejects message.now)
+            (queues_of K.Sink N.Sink R.Sink self.old writer.old notes.old rejects.old) (queues_of K.Sink N.Sink R.Sink self.new writer.new notes.new rejects.new) }
+        ensures so { AreSo (queues_of K.Sink N.Sink R.Sink self.new writer.new notes.new rejects.new) result }
+        ensures little { OnOk result (length self.new.notes.bytes.items < 65536) }
+        ensures few { OnOk result (length self.new.rejects.bytes.items < 65536) }
+        ensures counted { self.new.counter ≡ self.old.counter }
+    {
+        if message.len() >= MOST_WAITING {
+            return self.pass_bad(message, writer, notes, rejects);
+        }
+        match self.rejects.bytes.extend_from_slice(message) {
+            Ok(()) => self.settle(writer, notes, rejects),
+            Err(_) => self.pass_bad(message, writer, notes, rejects),
+        }
+    }
+
+    /// Writes all that waits, and then a bad message to the rejects.
+    #[inline(never)]
+    fn pass_bad<K: Sink, N: Sink, R: Sink>(
+        &mut self,
+        message: &[u8],
+        writer: &mut K,
+        notes: &mut N,
+        rejects: &mut R,
+    ) -> Result<(), RunFault>
+        requires unfailed { self.old.notes.written.failed ≡ false }
+        requires unfailed_rejects { self.old.rejects.written.failed ≡ false }
+        ensures puts { PutsTold (to_rejects message.now)
+            (queues_of K.Sink N.Sink R.Sink self.old writer.old notes.old rejects.old) (queues_of K.Sink N.Sink R.Sink self.new writer.new notes.new rejects.new) }
+        ensures so { AreSo (queues_of K.Sink N.Sink R.Sink self.new writer.new notes.new rejects.new) result }
+        ensures little { OnOk result (length self.new.notes.bytes.items < 65536) }
+        ensures few { OnOk result (length self.new.rejects.bytes.items < 65536) }
+        ensures counted { self.new.counter ≡ self.old.counter }
+    {
+        self.flush(writer, notes, rejects)?;
+        self.rejects.put(rejects, message);
+        self.flush(writer, notes, rejects)
+    }
+
     /// Writes what waits where a message is told and much waits for the notes or the rejects: first for the writer. A write
     /// that failed is answered.
     #[inline(always)]
@@ -465,21 +514,5 @@ impl<A: Allocator> Output<A> {
         ensures { result ≡ self.now.counter }
     {
         self.counter.tally()
-    }
-}
-
-/// Puts a bad message behind what waits for the rejects, where bad ones are kept.
-fn keep<A: Allocator>(
-    waits: &mut Vec<u8, A>,
-    keeps: Rejects,
-    message: &[u8],
-    verdict: &Result<Found<'_>, Wrong<'_>>,
-) -> Result<(), AllocError>
-    ensures ok { OnOk result (waits.new.items ≡ waits.old.items ++ rejected (verdict_of verdict.now) keeps message.now) }
-    ensures err { OnErr result (waits.new.items ≡ waits.old.items) }
-{
-    match (verdict, keeps) {
-        (Err(_), Rejects::Kept) => waits.extend_from_slice(message),
-        _ => Ok(()),
     }
 }

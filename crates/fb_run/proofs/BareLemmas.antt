@@ -7,18 +7,19 @@ use Rattle.std.proofs.lemmas.List.{append-nil, nil_from_length}
 use Rattle.std.proofs.Math.Seq.{take-append_seam}
 use Rattle.fb_bytes.specs.declared.ends.Sink as sink
 use Rattle.fb_lines.specs.declared.output.Output.{Output}
-use Rattle.fb_lines.specs.Ends.{Outs, Reader, all_outs, beside}
+use Rattle.fb_lines.specs.Ends.{Outs, Reader, Writer, all_outs, beside}
 use Rattle.fb_lines.specs.{Job.Job, Job.Verdict, Job.checked_in, Line.IsLine, Line.SaidBy, Spot.Before, Spot.at_first, Spot.past_all, Spot.spot_of, Sums.no_tally}
 use Rattle.fb_lines.specs.Faults.{End, EndsBeside}
-use Rattle.fb_lines.specs.Lines.{ComesBehind, TakesFront, WritesFront, WritesFronts}
-use Rattle.fb_lines.specs.Puts.{Adds, AddsBy, AreCut, AreSo, IsUnused, PutsAll, Queues, all_unused, queues_of}
+use Rattle.fb_lines.specs.Lines.{TakesFront, WritesFront, WritesFronts}
+use Rattle.fb_lines.specs.Puts.{Adds, AddsBy, AreCut, AreSo, IsUnused, PutsAll, Queues, all_unused, queues_of, unused}
 use Rattle.fb_lines.specs.Texts.{Texts, no_bytes, silent, spoken}
 use Rattle.fb_lines.specs.declared.{tally.Tally.Tally, fault.RunFault.RunFault, options.Mode.Mode}
 use Rattle.fb_lines.specs.declared.options.Mode.TheVariants.{Lines, BadLines, Filter, Csv}
 use Rattle.fb_lines.specs.declared.fault.RunFault.TheVariants as run
+use Rattle.fb_lines.proofs.PutsLemmas.{front_whole}
 use Rattle.fb_run.specs.{Bare.IsBareInput, Bare.WritesPart, Pieces.AreEmpty, Run.IsBareRun, Whole.ReadsWhole}
 use Rattle.fb_run.proofs.{RunLemmas.caused_at, StreamLemmas.still, TakesLemmas.cut_caused, TakesLemmas.none_failed, TakesLemmas.outs_in}
-use Rattle.fb_run.proofs.TakesLemmas.{put_behind, put_front, takes_all, written_all}
+use Rattle.fb_run.proofs.TakesLemmas.{Gone, part_behind, put_behind, put_front, takes_all, written_all}
 
 -- of an output that is unused nothing was put
 pub unused_queues : {A K N R : Type 0} (k : sink.Ghosts K) (n : sink.Ghosts N) (r : sink.Ghosts R) (output : Output A) (writer : K) (notes : N) (rejects : R) → IsUnused output
@@ -49,10 +50,10 @@ alone Filter P message (Err bad) told (line, is, there) = inl (ap (λ (t : Texts
 alone Csv P message (Ok found) told (line, is, there) = inr (ap (λ (t : Texts). t.notes) there)
 alone Csv P message (Err bad) told (line, is, there) = inl (ap (λ (t : Texts). t.out) there)
 
--- where nothing waited before, a front is written
-front_taken : (text waits : List ℕ) (sink sink' : Option (List ℕ)) (before written : ℕ) → ComesBehind [] text waits sink sink' before written → TakesFront text sink sink'
-front_taken text waits sink sink' before written behind =
-    (length behind.front, subst (Appends sink sink') (sym (ap (take (length behind.front)) behind.whole ∙ take-append_seam behind.front waits)) behind.wrote)
+-- where so much of a text is written, it is a front
+front_taken : (text : List ℕ) (writer now : Writer) → Gone text writer now → TakesFront text writer.bytes now.bytes
+front_taken text writer now some =
+    (length some.gone, subst (Appends writer.bytes now.bytes) (sym (ap (take (length some.gone)) some.whole ∙ take-append_seam some.gone some.left)) some.wrote)
 
 -- where nothing came, nothing changed
 keeps_nil : (a b : Option (List ℕ)) → Appends a b [] → Keeps a b
@@ -62,7 +63,7 @@ keeps_nil (Some xs) (Some ys) grown = grown ∙ append-nil xs
 
 module _ (job : Job) (bytes : List ℕ) (is_input : IsBareInput job bytes) (first : Outs) (now : Queues) (tally : Tally) (adds : Adds job (at_first job) (checked_in job bytes) (all_unused first) now no_tally tally) where
   fronted : now.rejects.failed ≡ false → TakesFront adds.told.rejects first.rejects.bytes now.rejects.writer.bytes
-  fronted fine = front_taken adds.told.rejects now.rejects.waits first.rejects.bytes now.rejects.writer.bytes 0 now.rejects.written (put_behind adds.told.rejects first.rejects now.rejects fine adds.puts.2).0
+  fronted fine = front_taken adds.told.rejects first.rejects now.rejects.writer (part_behind adds.told.rejects first.rejects now.rejects fine adds.puts.2)
 
   -- a write came to rest
   fronts : (fault : RunFault) → AreCut now fault → WritesFronts adds.told first (outs_in now) no_bytes fault
@@ -86,7 +87,7 @@ module _ (job : Job) (bytes : List ℕ) (is_input : IsBareInput job bytes) (firs
   fronts (run.RejectFault written) (cut, fine, right, none, unnoted, is) = (
     written_all adds.told.out first.writer now.out fine none adds.puts.0,
     written_all adds.told.notes first.notes now.notes right unnoted adds.puts.1,
-    subst (λ (n : ℕ). WritesFront adds.told.rejects first.rejects.bytes now.rejects.writer.bytes 0 n) (sym is) (put_front adds.told.rejects first.rejects now.rejects cut adds.puts.2).0,
+    subst (λ (n : ℕ). WritesFront adds.told.rejects first.rejects.bytes now.rejects.writer.bytes 0 n) (sym is) (put_front adds.told.rejects first.rejects now.rejects cut (front_whole adds.told.rejects (unused first.rejects) now.rejects adds.puts.2 (fine, right))).0,
   )
   fronts _ never = absurd never
 

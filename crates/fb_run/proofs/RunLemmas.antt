@@ -9,7 +9,7 @@ use Rattle.fb_bytes.specs.declared.cut.Cut.{Cut}
 use Rattle.fb_bytes.specs.declared.stream_fault.StreamFault.TheVariants as stream
 use Rattle.fb_lines.specs.{Ends.Ends, Ends.Outs, Ends.Reader, Ends.Takes, Ends.beside, Job.Job, Job.checked_in, Job.cut_of, Lines.AreTold, Spot.IsDue, Spot.IsFull, Spot.at_first, Spot.past_all, Sums.count_of, Sums.no_tally}
 use Rattle.fb_lines.specs.Faults.{End, EndsBeside, IsCaused, IsCausedOut, IsUnfailedOut, end_of, failed}
-use Rattle.fb_lines.specs.Puts.{AreOpen, Queues, all_unused}
+use Rattle.fb_lines.specs.Puts.{AreOpen, Queues, all_unused, unused}
 use Rattle.fb_lines.specs.Texts.{Texts, followed, silent, to_rejects}
 use Rattle.fb_lines.specs.declared.{fault.RunFault.RunFault, tally.Tally.Tally}
 use Rattle.fb_lines.specs.declared.fault.RunFault.TheVariants as run
@@ -18,10 +18,11 @@ use Rattle.fb_run.specs.Stream.{FailsStream, WhyStream}
 use Rattle.fb_run.specs.Pieces.{AreEmpty, AreSettled, Carry, Halts, IsReady, PassesFront, Stands, WritesBy}
 use Rattle.fb_run.specs.declared.skip.Skip.{Skip}
 use Rattle.fb_run.specs.declared.run.Ran.{Ran}
+use Rattle.fb_lines.proofs.PutsLemmas.{front_whole}
 use Rattle.fb_lines.proofs.Splitting.{empty_partial, splits_rest}
 use Rattle.fb_run.proofs.StreamLemmas.{due_not_full, front_gathers, stands_first}
 use Rattle.fb_run.proofs.SkipLemmas.{LeavesOut, checked_more, skips_more}
-use Rattle.fb_run.proofs.TakesLemmas.{cut_caused, none_failed, outs_in, put_behind, put_front, takes_all, takes_none, written_all}
+use Rattle.fb_run.proofs.TakesLemmas.{cut_caused, none_failed, outs_in, part_behind, put_behind, put_front, takes_all, takes_none, written_all}
 use Rattle.fb_run.proofs.TextsLemmas.{same_texts}
 
 -- what was read from the reader so far, of which all that is told is written, and the next message is told
@@ -63,9 +64,9 @@ halts_fails : (job : Job) (first reader : Reader) (before : Outs) (bytes : List 
 halts_fails job first reader before bytes tally queues (run.WriteFault written) read (some, (cut, fine, right, is)) settled =
     let front = (put_front some.text.out before.writer queues.out cut some.puts.0).0 in
     let notes = (put_behind some.text.notes before.notes queues.notes fine some.puts.1).0 in
-    let rejects = (put_behind some.text.rejects before.rejects queues.rejects right some.puts.2).0 in
-    let gone : Texts = record { out = take front.taken some.text.out; notes = notes.front; rejects = rejects.front } in
-    let more : Texts = record { out = drop front.taken some.text.out; notes = queues.notes.waits; rejects = queues.rejects.waits } in
+    let rejects = part_behind some.text.rejects before.rejects queues.rejects right some.puts.2 in
+    let gone : Texts = record { out = take front.taken some.text.out; notes = notes.front; rejects = rejects.gone } in
+    let more : Texts = record { out = drop front.taken some.text.out; notes = queues.notes.waits; rejects = rejects.left } in
     let whole : some.text ≡ followed gone more = same_texts _ _ _ _ _ _ (sym (take-append-drop front.taken some.text.out)) notes.whole rejects.whole in
     let long : length gone.out ≡ front.taken = length-take-le front.taken some.text.out (omega (arith, front.within)) in
     record {
@@ -96,9 +97,9 @@ halts_fails job first reader before bytes tally queues (run.WriteFault written) 
     }
 halts_fails job first reader before bytes tally queues (run.NoteFault written) read (some, (cut, fine, right, none, is)) settled =
     let front = (put_front some.text.notes before.notes queues.notes cut some.puts.1).0 in
-    let rejects = (put_behind some.text.rejects before.rejects queues.rejects right some.puts.2).0 in
-    let gone : Texts = record { out = some.text.out; notes = take front.taken some.text.notes; rejects = rejects.front } in
-    let more : Texts = record { out = []; notes = drop front.taken some.text.notes; rejects = queues.rejects.waits } in
+    let rejects = part_behind some.text.rejects before.rejects queues.rejects right some.puts.2 in
+    let gone : Texts = record { out = some.text.out; notes = take front.taken some.text.notes; rejects = rejects.gone } in
+    let more : Texts = record { out = []; notes = drop front.taken some.text.notes; rejects = rejects.left } in
     let whole : some.text ≡ followed gone more = same_texts _ _ _ _ _ _ (sym (append-nil some.text.out)) (sym (take-append-drop front.taken some.text.notes)) rejects.whole in
     let long : length gone.notes ≡ front.taken = length-take-le front.taken some.text.notes (omega (arith, front.within)) in
     record {
@@ -129,7 +130,7 @@ halts_fails job first reader before bytes tally queues (run.NoteFault written) r
       );
     }
 halts_fails job first reader before bytes tally queues (run.RejectFault written) read (some, (cut, fine, right, none, unnoted, is)) settled =
-    let front = (put_front some.text.rejects before.rejects queues.rejects cut some.puts.2).0 in
+    let front = (put_front some.text.rejects before.rejects queues.rejects cut (front_whole some.text.rejects (unused before.rejects) queues.rejects some.puts.2 (fine, right))).0 in
     let gone : Texts = record { out = some.text.out; notes = some.text.notes; rejects = take front.taken some.text.rejects } in
     let more = drop front.taken some.text.rejects in
     let whole : some.text ≡ followed gone (to_rejects more) =

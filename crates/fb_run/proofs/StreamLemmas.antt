@@ -7,13 +7,13 @@ use Rattle.fb_bytes.specs.declared.{cut.Cut.Cut, stream_fault.StreamFault.Stream
 use Rattle.fb_bytes.specs.declared.stream_fault.StreamFault.TheVariants as stream
 use Rattle.fb_bytes.proofs.MessageLemmas.{readings_some}
 use Rattle.fb_lines.specs.{Ends.Outs, Faults.feed_fault, Job.Beside, Job.HasRoom, Job.Job, Job.cut_of, Spot.Before, Spot.HasDue, Spot.IsDue, Spot.IsFull, Spot.past_all, Texts.Texts, Texts.followed, Texts.silent, Job.Verdict, Sums.no_tally, Sums.tally_with}
-use Rattle.fb_lines.specs.Puts.{Adds, AddsBy, AreCut, AreOpen, AreSound, PutsAll, Queues, all_unused, unused}
+use Rattle.fb_lines.specs.Puts.{Adds, AddsBy, AreCut, AreOpen, AreSound, PutsAll, PutsTold, Queues, all_unused, unused}
 use Rattle.fb_run.specs.Stream.{TellsMore}
 use Rattle.fb_run.specs.Pieces.{AreEmpty, AreSettled, Carry, Gathers, GoesOn, Halts, IsReady, Passes, PassesAllBy, PassesFront, Stands, Stops, TellsOne, WritesBy}
 use Rattle.fb_lines.specs.declared.{tally.Tally.Tally, fault.RunFault.RunFault}
 use Rattle.fb_lines.specs.declared.fault.RunFault.TheVariants as run
 use Rattle.fb_lines.proofs.{Pieces.front-more, Splitting.empty_partial, Splitting.splits_one, Splitting.splits_rest, Splitting.splits_then}
-use Rattle.fb_lines.proofs.PutsLemmas.{puts_none, puts_still, puts_then, was_unfailed}
+use Rattle.fb_lines.proofs.PutsLemmas.{all_told, front_still, front_then, front_whole, puts_none, puts_still, puts_then, was_unfailed}
 use Rattle.fb_run.proofs.LinesLemmas.{lines_more}
 
 module _ (job : Job) (first : Outs) where
@@ -24,13 +24,14 @@ module _ (job : Job) (first : Outs) where
     text = silent;
     splits = rw none (splits_rest (cut_of job) [] (inl (empty_partial (cut_of job))));
     told = rw counted (refl, refl);
-    puts = subst (PutsAll silent (all_unused first)) (sym unused) (puts_none (all_unused first).out, puts_none (all_unused first).notes, puts_none (all_unused first).rejects);
+    puts = all_told silent (all_unused first) now.queues
+        (subst (PutsAll silent (all_unused first)) (sym unused) (puts_none (all_unused first).out, puts_none (all_unused first).notes, puts_none (all_unused first).rejects));
   }
 
   -- a message was whole, and what is told of it was put
   pub message_stands : (bytes more message : List ℕ) (before after : Carry) → message ≡ before.framer.held ++ more → IsMessage (cut_of job) message → after.framer.held ≡ [] → IsDue job (past_all job before.tally)
-      → Adds job (past_all job before.tally) message before.queues after.queues before.tally after.tally → Stands job first bytes before → Stands job first (bytes ++ more) after
-  message_stands bytes more message before after at is gone due adds stands =
+      → AreOpen before.queues → Adds job (past_all job before.tally) message before.queues after.queues before.tally after.tally → Stands job first bytes before → Stands job first (bytes ++ more) after
+  message_stands bytes more message before after at is gone due fine adds stands =
       let one : Splits (cut_of job) (before.framer.held ++ more) (message ∷ []) [] = rw (← at) (splits_one (cut_of job) message is) in
       record {
         messages = stands.messages ++ message ∷ [];
@@ -40,7 +41,8 @@ module _ (job : Job) (first : Outs) where
         puts = (
           puts_then stands.text.out adds.told.out (unused first.writer) before.queues.out after.queues.out stands.puts.0 adds.puts.0,
           puts_then stands.text.notes adds.told.notes (unused first.notes) before.queues.notes after.queues.notes stands.puts.1 adds.puts.1,
-          puts_then stands.text.rejects adds.told.rejects (unused first.rejects) before.queues.rejects after.queues.rejects stands.puts.2 adds.puts.2,
+          front_then stands.text.rejects adds.told.rejects (unused first.rejects) before.queues.rejects after.queues.rejects
+              (front_whole stands.text.rejects (unused first.rejects) before.queues.rejects stands.puts.2 (fine.0, fine.1)) adds.puts.2,
         );
       }
 
@@ -104,7 +106,7 @@ module _ (job : Job) (first : Outs) where
       come one =
           let after : Carry = record before { tally = tally; framer = record before.framer { held = [] }; queues = queues } in
           subst (λ (l : List ℕ). Gathers job first l tally queues) (append_assoc bytes front tail ∙ ap (λ l. bytes ++ l) (sym whole))
-          (gathers_more (bytes ++ front) tail after (message_stands bytes front message before after at is refl due one stands))
+          (gathers_more (bytes ++ front) tail after (message_stands bytes front message before after at is refl due fine one stands))
 
       by : (f : RunFault) → AddsBy job (past_all job before.tally) message before.queues queues before.tally tally (Err f) → Halts job first (bytes ++ piece) tally queues f
       by run.OutOfMemory (same, counted) = rw (same, counted) (gathers_more bytes piece before stands, fine)
@@ -114,11 +116,11 @@ module _ (job : Job) (first : Outs) where
       by _ (one, never) = absurd never
 
   -- nothing more was put
-  pub still : (text : Texts) (a b : Queues) → PutsAll text (all_unused first) a → PutsAll silent a b → PutsAll text (all_unused first) b
+  pub still : (text : Texts) (a b : Queues) → PutsTold text (all_unused first) a → PutsAll silent a b → PutsTold text (all_unused first) b
   still text a b puts none = (
     puts_still text.out (unused first.writer) b.out (puts_then text.out [] (unused first.writer) a.out b.out puts.0 none.0),
     puts_still text.notes (unused first.notes) b.notes (puts_then text.notes [] (unused first.notes) a.notes b.notes puts.1 none.1),
-    puts_still text.rejects (unused first.rejects) b.rejects (puts_then text.rejects [] (unused first.rejects) a.rejects b.rejects puts.2 none.2),
+    front_still text.rejects (unused first.rejects) a.rejects b.rejects (λ fine. (was_unfailed [] a.out b.out none.0 fine.0, was_unfailed [] a.notes b.notes none.1 fine.1)) puts.2 none.2,
   )
 
   pub stands_still : (bytes : List ℕ) (now : Carry) (queues : Queues) → PutsAll silent now.queues queues → Stands job first bytes now → Stands job first bytes (record now { queues = queues })

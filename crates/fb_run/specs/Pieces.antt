@@ -4,7 +4,7 @@ use Rattle.fb_bytes.specs.{Framing.Framing, Messages.declared, Messages.IsOversi
 use Rattle.fb_bytes.specs.declared.ends.Sink as sink
 use Rattle.fb_bytes.specs.declared.stream_fault.StreamFault.TheVariants as stream
 use Rattle.fb_lines.specs.{Ends.Outs, Job.Beside, Job.HasRoom, Job.Job, Job.cut_of, Lines.AreTold, Spot.IsFull, Spot.at_first, Spot.past_all, Sums.count_of, Sums.no_tally, Texts.Texts}
-use Rattle.fb_lines.specs.Puts.{AreCut, AreOpen, AreSound, IsUnused, PutsAll, Queues, all_unused, queues_of}
+use Rattle.fb_lines.specs.Puts.{AreCut, AreOpen, AreSound, IsUnused, PutsTold, Queues, all_unused, queues_of}
 use Rattle.fb_lines.specs.declared.{fault.RunFault.RunFault, tally.Tally.Tally}
 use Rattle.fb_lines.specs.declared.fault.RunFault.TheVariants.{WriteFault, NoteFault, RejectFault, Stream, OutOfMemory}
 use Rattle.fb_run.specs.Stream.{TellsMore}
@@ -43,7 +43,7 @@ pub record Stands (job : Job) (first : Outs) (bytes : List ℕ) (now : Carry) : 
   pub text : Texts
   pub splits : Splits (cut_of job) bytes messages now.framer.held
   pub told : AreTold job (at_first job) messages text now.tally
-  pub puts : PutsAll text (all_unused first) now.queues
+  pub puts : PutsTold text (all_unused first) now.queues
 
 -- what is told of the first messages of these bytes was put behind these ends
 pub record Gathers (job : Job) (first : Outs) (bytes : List ℕ) (tally : Tally) (queues : Queues) : Type 0 where
@@ -53,7 +53,7 @@ pub record Gathers (job : Job) (first : Outs) (bytes : List ℕ) (tally : Tally)
   pub text : Texts
   pub splits : Splits (cut_of job) bytes (done ++ left) rest
   pub told : AreTold job (at_first job) done text tally
-  pub puts : PutsAll text (all_unused first) queues
+  pub puts : PutsTold text (all_unused first) queues
 
 -- why a run came to rest in them
 abbrev pub Why : Job → Tally → List (List ℕ) → List ℕ → Queues → RunFault → Type 0

@@ -1,6 +1,6 @@
 //! Reading from a source, a piece at a time.
 
-ghost use Rattle.std.specs.Prelude.{IfOk, OnErr, ◌≡◌, ◌+◌, ◌<◌, ◌≤◌, ◌^◌, length, take, true, false};
+ghost use Rattle.std.specs.Prelude.{IfOk, OnErr, OnOk, ◌≡◌, ◌+◌, ◌++◌, ◌<◌, ◌≤◌, ◌^◌, length, take, true, false};
 ghost use Rattle.std.specs.Io.KnownBytes.{Consumes, Keeps};
 ghost use Rattle.fb_bytes.specs.Ends.{failed};
 ghost use Rattle.fb_run.specs.{Leave.HasLeave, Leave.MayAsk, Leave.ends_of, Leave.reader_of, Prompt.IsBarePrompt, Whole.ReadsBy};
@@ -50,6 +50,18 @@ pub fn pull_piece<A: Allocator, S: Input<K, N>, K: Sink, N: Sink>(
     source.ask(piece.as_mut_slice(), writer, notes)
 }
 
+/// Adds a piece to what was read. Where the first one is full, there is room at once for more behind it, so that it isn't
+/// copied from where it stood.
+fn add_piece<A: Allocator>(whole: &mut Vec<u8, A>, more: &[u8]) -> Result<(), AllocError>
+    ensures ok { OnOk result (whole.new.items ≡ whole.old.items ++ more.now) }
+    ensures err { OnErr result (whole.new.items ≡ whole.old.items) }
+{
+    if whole.is_empty() && more.len() == PIECE {
+        whole.reserve(4 * PIECE)?;
+    }
+    whole.extend_from_slice(more)
+}
+
 /// Reads the whole input, in at most `turns` reads, beside these outputs, and answers what stands behind the bytes that
 /// are left out: at most as many bytes as a buffer may have. Whatever the outputs hold, they keep.
 #[tactic(auto, using(std::proofs::lemmas::Grind::common_steps))]
@@ -87,7 +99,7 @@ pub fn read_whole<A: Allocator, B: Allocator, S: Input<K, N>, K: Sink, N: Sink>(
         if more.len() > limit as usize - whole.len() {
             return Err(RunFault::BareTooLong { limit });
         }
-        let Ok(()) = whole.extend_from_slice(more) else {
+        let Ok(()) = add_piece(&mut whole, more) else {
             return Err(RunFault::OutOfMemory);
         };
     }

@@ -32,7 +32,9 @@ fn read_words(rt: &HostRuntime) -> io::Result<Vec<String>> {
     Ok(words.collect::<Vec<String>>(rt.alloc())?)
 }
 
-/// The first word that isn't a text; the system hands in no longer ones. Where there is none, an empty one.
+/// The first word that isn't a text; the system hands in no longer ones. Where there is none, an empty one. Its room
+/// would be on the stack of every run, were it part of `main`.
+#[inline(never)]
 fn wrong_word(rt: &HostRuntime) -> Result<WrongWord, AllocError> {
     let mut room = [0; LONGEST_WORD];
     for number in 0..usize::MAX {

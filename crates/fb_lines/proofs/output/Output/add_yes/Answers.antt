@@ -1,7 +1,8 @@
-use Rattle.std.proofs.Common.{Ok, ◌≡◌, List, ℕ, ◌+◌, ap, append-nil, refl, rules, sym, ◌∙◌}
-use Rattle.fb_lines.specs.{Ends.writer_of, Job.brief_verdict, Line.verdict_line, Puts.Says, Puts.behind, Puts.held_of, Puts.queue_of, Puts.queues_of, Sums.count_of}
+use Rattle.std.proofs.Common.{Ok, ◌≡◌, List, ℕ, ◌+◌, ap, refl, rules}
+use Rattle.fb_lines.specs.{Ends.writer_of, Job.brief_verdict, Line.verdict_line, Puts.Says, Puts.behind, Puts.queue_of, Puts.queues_of, Sums.count_of, Texts.silent}
 use Rattle.fb_lines.specs.declared.{output.Output.Output, writing.Pending.Pending}
-use Rattle.fb_lines.proofs.ToldLemmas.{good_line_said, message_said, none_said, says_waits, waits_told}
+use Rattle.fb_lines.proofs.PutsLemmas.{all_told}
+use Rattle.fb_lines.proofs.ToldLemmas.{good_line_said, message_said, none_said, says_told}
 use Rattle.fb_lines.proofs.output.Output.add_yes.Goals.{in-Lines, in-BadLines, in-Filter}
 use Rattle.fb_lines.proofs.output.Output.add_yes.Goals as goal
 
@@ -27,10 +28,8 @@ returns-clause-told g c keeps =
       | in-Filter w ↦ ap (λ (o : Output g.row.A.Denot). o.rejects) w.self-is
     ] in
     let noted = ap (λ (p : Pending g.row.A.Denot). behind now.notes.bytes.items p.written (writer_of g.N.Sink c.args.notes.now)) same in
-    let kept = ap (λ (p : Pending g.row.A.Denot). behind now.rejects.bytes.items p.written (writer_of g.R.Sink c.args.rejects.now)) alike in
-    let held = held_of now in
-    let waits = says_waits c.args.mode IsIt c.args.message.now verdict keeps _ _ (held_of old) held says
-    (ap (λ (p : Pending g.row.A.Denot). p.bytes.items) alike ∙ sym (append-nil old.rejects.bytes.items)) in
-    waits_told c.args.mode IsIt c.args.message.now verdict keeps (queues_of g.K.Sink g.N.Sink g.R.Sink old c.args.writer.now c.args.notes.now c.args.rejects.now)
-    (queues_of g.K.Sink g.N.Sink g.R.Sink now c.match-mode.writer c.args.notes.now c.args.rejects.now)
-    (queues_of g.K.Sink g.N.Sink g.R.Sink c.settle.new.self c.settle.new.writer c.settle.new.notes c.settle.new.rejects) held waits noted kept c.settle.ensures.puts
+    let kept = ap (λ (p : Pending g.row.A.Denot). queue_of g.R.Sink p c.args.rejects.now) alike in
+    let between = queues_of g.K.Sink g.N.Sink g.R.Sink now c.match-mode.writer c.args.notes.now c.args.rejects.now in
+    let after = queues_of g.K.Sink g.N.Sink g.R.Sink c.settle.new.self c.settle.new.writer c.settle.new.notes c.settle.new.rejects in
+    says_told c.args.mode IsIt c.args.message.now verdict keeps (queues_of g.K.Sink g.N.Sink g.R.Sink old c.args.writer.now c.args.notes.now c.args.rejects.now) between after says noted kept
+    (all_told silent between after c.settle.ensures.puts)

@@ -33,7 +33,7 @@ returns-in-Some g c =
       some = c.in-Some.ensures.some;
       goes_on = record {
         onward = λ first bytes stands. message_stands c.args.checker.now first bytes (take n rest) message (carry_of g.K.Sink g.N.Sink g.R.Sink c.args.self.now c.args.writer.now c.args.notes.now c.args.rejects.now) (carry_of g.K.Sink g.N.Sink g.R.Sink (record c.args.self.now { room = c.add.new.room; output = c.add.new.self }) c.add.new.writer c.add.new.notes c.add.new.rejects)
-            (c.in-Some.ensures.front ∙ ap (λ (l : List ℕ). l ++ take n rest) (sym none)) (subst (λ (u : Cut). IsMessage u message) c.cut.ensures.value c.in-Some.ensures.whole) none c.requires.due added.0 stands;
+            (c.in-Some.ensures.front ∙ ap (λ (l : List ℕ). l ++ take n rest) (sym none)) (subst (λ (u : Cut). IsMessage u message) c.cut.ensures.value c.in-Some.ensures.whole) none c.requires.due c.requires.unfailed added.0 stands;
         ready = still_ready c.requires.ready c.add.ensures.room;
         unfailed = added.1;
         few = omega (arith, c.in_ok-add.ensures.one, c.in-Some.ensures.some, length-take-le n rest c.in-Some.ensures.within);
@@ -97,7 +97,7 @@ returns g c =
         onward = λ first bytes stands. message_stands c.args.checker.now first bytes (take used rest) c.in-Some-message.message.now (carry_of g.K.Sink g.N.Sink g.R.Sink c.args.self.now c.args.writer.now c.args.notes.now c.args.rejects.now)
             (carry_of g.K.Sink g.N.Sink g.R.Sink (record c.args.self.now { room = c.add-2.new.room; framer = c.next.new.self; output = c.add-2.new.self }) c.add-2.new.writer c.add-2.new.notes c.add-2.new.rejects)
             (bytes_are ∙ feeds.held)
-            (subst (λ (u : Cut). IsMessage u c.in-Some-message.message.now) (feeds.cut ∙ c.requires.ready.cut) (subst (IsMessage c.feed.new.self.cut) (sym bytes_are) message.1)) (ap (λ (f : Framing). f.held) (c.next.ensures.whole message)) c.requires.due added.0 stands;
+            (subst (λ (u : Cut). IsMessage u c.in-Some-message.message.now) (feeds.cut ∙ c.requires.ready.cut) (subst (IsMessage c.feed.new.self.cut) (sym bytes_are) message.1)) (ap (λ (f : Framing). f.held) (c.next.ensures.whole message)) c.requires.due c.requires.unfailed added.0 stands;
         ready = search rules;
         unfailed = added.1;
         few = omega (arith, c.in_ok-add-2.ensures.one, some, length-take-le used rest feeds.within);
