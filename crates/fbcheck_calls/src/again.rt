@@ -13,8 +13,9 @@ use crate::fits::first_misfit;
 use crate::held::Held;
 use crate::options::{LONGEST, Options};
 use crate::steps::{PlainPath, PlainStep};
-use crate::values::{Value, placed, told_value};
-use fb_access::{Changed, first_spot, see, step_from};
+use crate::values::Value;
+use crate::walks::{tell, walk};
+use fb_access::{Changed, first_spot};
 use fb_bytes::Window;
 use fb_schema::Schema;
 use fb_verify::Start;
@@ -36,19 +37,11 @@ fn found_again(
         (λ v. ((q : ASpot) × EndAt window.now schema.now start root steps.now q × (v ≡ value_at window.now schema.now q)) × LiesWithin (length window.now) v))
         (λ _. IsOther window.now schema.now start root) }
 {
-    schema.lawful();
-    let mut spot = first_spot(window, schema, start, root)?;
-    for given in steps {
-        let Some(step) = given.step() else {
-            return Ok(None);
-        };
-        match step_from(window, schema, spot, step)? {
-            Some(to) => spot = to,
-            None => return Ok(None),
-        }
+    let first = first_spot(window, schema, start, root)?;
+    match walk(window, schema, first, steps)? {
+        Some(end) => Ok(Some(tell(window, schema, end)?)),
+        None => Ok(None),
     }
-    let seen = see(window, schema, spot)?;
-    Ok(Some(placed(told_value(seen.answer), seen.extent)))
 }
 
 /// Tells the values at the ends of paths that fit, each at the place of its path. Where there are more of paths or of

@@ -1,9 +1,9 @@
 use Rattle.std.proofs.Common.{ap, ◌≡◌, ◌∙◌, ◌+◌, ◌<◌, [], ◌∷◌, refl, sym, subst, add-one, drop, drop-cons, get_or, length, arith, Some}
 use Rattle.std.proofs.lemmas.List.{drop_all}
 use Rattle.fb_access.specs.{Denotes.shown, Denotes.value, Extents.extent}
-use Rattle.fbcheck_calls.specs.{Values.placed, Values.value_told, Steps.AreSteps, Steps.EndAt, Steps.step_of}
+use Rattle.fbcheck_calls.specs.{Values.placed, Values.value_told, Steps.AreSteps, Steps.EndAt, Steps.FitHere, Steps.step_of}
 use Rattle.fbcheck_calls.specs.declared.steps.PlainStep.{PlainStep}
-use Rattle.fbcheck_calls.proofs.StepLemmas.{FitHere, IsReachedBy, fit_more, reaches_more}
+use Rattle.fbcheck_calls.proofs.StepLemmas.{IsReachedBy, fit_more, reaches_more}
 use Rattle.fbcheck_calls.proofs.values.found_at.Goals as goal
 
 pub loop-given-preserved : goal.loop-given-preserved

@@ -2,8 +2,8 @@ use Rattle.std.proofs.Common.{◌≡◌, List, drop}
 use Rattle.fb_schema.specs.declared.kinds.Kind.TheVariants.{Table}
 use Rattle.fb_access.specs.declared.step.Step.{Step}
 use Rattle.fb_access.specs.Fitting.{StepsFit}
-use Rattle.fbcheck_calls.specs.Steps.{AreSteps, EndAt}
-use Rattle.fbcheck_calls.proofs.StepLemmas.{FitHere, IsReachedBy}
+use Rattle.fbcheck_calls.specs.Steps.{AreSteps, EndAt, FitHere}
+use Rattle.fbcheck_calls.proofs.StepLemmas.{IsReachedBy}
 use Rattle.fbcheck_calls.proofs.values.found_at.Given as goal
 
 -- where the steps that are left lead is where all end, and they fit here where all fit from the root
