@@ -446,7 +446,8 @@ static PyMethodDef schema_methods[] = {
       "fewer elements, or the union another type. Text is a str; bytes of it that aren't UTF-8 stand in it as with\n"
       "os.fsdecode(), and text.encode('utf-8', 'surrogateescape') gives them back. A struct is a memoryview of its\n"
       "bytes, and a vector of numbers one of these (of Bools and structs, of their bytes): read-only slices of the\n"
-      "message, which live as long as they are held, and show what is written there later.\n\n"
+      "message, which live as long as they are held, and show what is written there later. A path with [*] for an\n"
+      "index, once, leads to a list of the values at all indices, empty if there is no vector.\n\n"
       "Raises BadBuffer, whose place takes a second check, and PathError." },
     { "view", (PyCFunction)schema_view, METH_O,
       "view($self, message, /)\n--\n\n"
