@@ -5,7 +5,7 @@ ghost use Rattle.std.specs.Prelude.{◌≡◌, ◌<◌, ◌^◌, MatchOption, Ma
 ghost use Rattle.fb_access.specs.Tested.{IsOther};
 ghost use Rattle.fb_access.specs.declared.spot.Spot.{Spot as ASpot};
 ghost use Rattle.fbcheck_calls.specs.Again.{AreToldBelow, IsReadAgainBy, LiesWithin};
-ghost use Rattle.fbcheck_calls.specs.{Steps.AllFit, Steps.DontFit, Steps.EndAt, Values.value_at};
+ghost use Rattle.fbcheck_calls.specs.{Steps.AllFit, Steps.DontFit, Steps.EndAt, Values.AreValues, Values.value_at};
 
 use crate::answer::Answer;
 use crate::checking::metered;
@@ -18,7 +18,7 @@ use crate::walks::{tell, walk};
 use fb_access::{Changed, first_spot};
 use fb_bytes::Window;
 use fb_schema::Schema;
-use fb_verify::Start;
+use fb_verify::{Start, Verified};
 
 /// What stands at the end of these steps from the root table, none where they don't fit.
 ///
@@ -76,6 +76,26 @@ fn tell_again(
         }
     }
     Ok(())
+}
+
+/// Tells the values at the ends of paths that fit in a buffer that is good, each at the place of its path. Where there
+/// are more of paths or of values than of the others, these are left alone. It reads by tests that a good buffer passes:
+/// they take fewer instructions than to look up what the check knows.
+pub fn tell_values(verified: &Verified<'_, '_, '_>, paths: &[PlainPath], values: &mut [Value])
+    requires { AllFit (verified.now).schema (verified.now).root paths.now }
+    ensures { AreValues (verified.now).bytes (verified.now).schema (verified.now).start (verified.now).root paths.now values.new }
+{
+    match tell_again(
+        verified.window(),
+        verified.schema(),
+        verified.start(),
+        verified.root(),
+        paths,
+        values,
+    ) {
+        Ok(()) => {}
+        Err(_) => unreachable!(),
+    }
 }
 
 /// Tells the values at the ends of paths in bytes that aren't checked, if they are those of a good buffer as far as it

@@ -8,6 +8,7 @@ ghost use Rattle.fbcheck_calls.specs.{Steps.AllFit, Told.found_by, Told.told, Va
 ghost use Rattle.fbcheck_calls.specs.declared.{answer.Answer.Answer, checking.Begun.Begun};
 ghost use Rattle.fbcheck_calls.specs.Reached.{IsRead, IsReadBy, IsUnread, StartsRead};
 
+use crate::again::tell_values;
 use crate::answer::{Answer, Verdict, low, tell_bad, tell_blank, tell_good};
 use crate::basis::Basis;
 use crate::fits::first_misfit;
@@ -18,7 +19,7 @@ use crate::steps::PlainPath;
 use crate::strict::{
     check_alone_strictly, check_within_strictly, read_in_strictly, read_shallow_strictly,
 };
-use crate::values::{Value, tell_values};
+use crate::values::Value;
 use fb_bfbs::Loaded;
 use fb_bytes::Meter;
 use fb_strict::most_reads_strictly;
