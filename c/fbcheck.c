@@ -53,6 +53,9 @@ uint32_t fbcheck_read_proved(handle schema, handle *room, const fbcheck_options 
 uint32_t fbcheck_read_again_proved(handle schema, const fbcheck_options *options, const uint8_t *buffer, size_t length,
                                    const fbcheck_path *paths, size_t path_count, fbcheck_value *values,
                                    size_t value_count, fbcheck_verdict *verdict);
+uint32_t fbcheck_read_each_proved(handle schema, const fbcheck_options *options, const uint8_t *buffer, size_t length,
+                                  const fbcheck_path *path, size_t first, fbcheck_value *values, size_t value_count,
+                                  size_t *elements, fbcheck_verdict *verdict);
 uint32_t fbcheck_most_reads_proved(handle schema, const fbcheck_options *options, uint64_t length, uint64_t *reads);
 size_t fbcheck_reason_name_proved(uint32_t reason, uint8_t *text, size_t room);
 size_t fbcheck_fault_name_proved(uint32_t status, uint32_t number, uint8_t *text, size_t room);
@@ -233,6 +236,21 @@ uint32_t fbcheck_read_again(const fbcheck_schema *schema, const fbcheck_options 
                                      buffer != NULL ? buffer : no_bytes, length, paths != NULL ? paths : &no_path,
                                      count, values != NULL ? values : &no_value, count,
                                      verdict != NULL ? verdict : &unseen);
+}
+
+uint32_t fbcheck_read_each(const fbcheck_schema *schema, const fbcheck_options *options, const uint8_t *buffer,
+                           size_t length, const fbcheck_path *path, size_t first, fbcheck_value *values, size_t count,
+                           size_t *elements, fbcheck_verdict *verdict)
+{
+    fbcheck_verdict unseen;
+    fbcheck_value no_value;
+    if (schema == NULL || (buffer == NULL && length != 0) || path == NULL || (values == NULL && count != 0)
+        || elements == NULL)
+        return told(FBCHECK_NULL, verdict);
+    return fbcheck_read_each_proved(schema->owner, options != NULL ? options : &published,
+                                    buffer != NULL ? buffer : no_bytes, length, path, first,
+                                    values != NULL ? values : &no_value, count, elements,
+                                    verdict != NULL ? verdict : &unseen);
 }
 
 uint32_t fbcheck_most_reads(const fbcheck_schema *schema, const fbcheck_options *options, uint64_t length,

@@ -7,8 +7,10 @@
 //     if (const auto found = schema.read(buffer, paths))
 //         std::cout << found[0].text().value_or("") << found[1].real().value_or(0);
 //
-//     if (const auto good = schema.keep(buffer)) // a copy, of which values are read one by one
+//     if (const auto good = schema.keep(buffer)) { // a copy, of which values are read one by one
 //         std::cout << good->get("to.name").text().value_or("");
+//         for (const auto value : good->each("items[*]@Note.words")) std::cout << value.text().value_or("");
+//     }
 //
 // A bad buffer doesn't throw. These do, and say why in words: SchemaError (not a usable schema file), PathError (not a
 // path), StreamError (a stream that can't go on), and Misuse (unusable options or arguments: no root table, another
@@ -42,6 +44,7 @@
 #include <cstddef>
 #include <cstdint>
 #include <cstring>
+#include <iterator>
 #include <memory>
 #include <new>
 #include <optional>
@@ -381,6 +384,64 @@ class Schema {
     std::uint32_t demands_;
 };
 
+// The values of the elements to which a path with [*] leads (Good::each), for a loop: they are read 16 at a time, as
+// the loop comes to them, and nothing is allocated. It refers to its Good, which must outlive it.
+class Elements {
+  public:
+    class Iterator {
+      public:
+        using iterator_category = std::input_iterator_tag;
+        using value_type = Value;
+        using difference_type = std::ptrdiff_t;
+        using pointer = void;
+        using reference = Value;
+
+        Value operator*() const { return of_->at(place_); }
+        Iterator &operator++() noexcept { return ++place_, *this; }
+        Iterator operator++(int) noexcept { return Iterator(of_, place_++); }
+        friend bool operator==(const Iterator &one, const Iterator &other) noexcept {
+            return one.place_ == other.place_;
+        }
+        friend bool operator!=(const Iterator &one, const Iterator &other) noexcept { return !(one == other); }
+
+      private:
+        friend class Elements;
+        Iterator(Elements *of, std::size_t place) noexcept : of_(of), place_(place) {}
+        Elements *of_;
+        std::size_t place_;
+    };
+
+    Iterator begin() noexcept { return Iterator(this, 0); }
+    Iterator end() noexcept { return Iterator(this, size_); }
+    // How many elements there are; 0 if the vector isn't there.
+    std::size_t size() const noexcept { return size_; }
+    bool empty() const noexcept { return size_ == 0; }
+
+  private:
+    friend class Good;
+    Elements(const fbcheck_schema *schema, const Options &options, Bytes bytes, const Path &path)
+        : schema_(schema), options_(options), bytes_(bytes), path_(path) {
+        fill(0);
+    }
+    void fill(std::size_t first) {
+        const auto status = fbcheck_read_each(schema_, &options_, bytes_.data(), bytes_.size(), &path_, first,
+                                              block_.data(), block_.size(), &size_, nullptr);
+        if (status != FBCHECK_OK) throw Misuse(status);
+        first_ = first;
+    }
+    Value at(std::size_t place) {
+        if (place - first_ >= block_.size()) fill(place);
+        return Value(block_[place - first_], bytes_);
+    }
+
+    const fbcheck_schema *schema_;
+    Options options_;
+    Bytes bytes_;
+    Path path_;
+    std::array<fbcheck_value, 16> block_;
+    std::size_t first_ = 0, size_ = 0;
+};
+
 // An ok buffer, of which Schema::keep makes a copy. It shares the Schema's handle: what becomes of the Schema and of the
 // buffer doesn't matter. Any number of threads may use one const Good.
 class Good {
@@ -396,6 +457,11 @@ class Good {
     }
     Value get(std::string_view text) const & { return get(schema_.path(text, options_)); }
     template <class At> Value get(const At &) const && = delete;
+
+    // The values of all elements, by a path with [*] for an index, or its text; the same goes for them.
+    Elements each(const Path &path) const & { return Elements(schema_.get(), options_, bytes_, path); }
+    Elements each(std::string_view text) const & { return each(schema_.path(text, options_)); }
+    template <class At> Elements each(const At &) const && = delete;
 
     // The copy.
     Bytes bytes() const & noexcept { return bytes_; }

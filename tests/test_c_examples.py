@@ -7,7 +7,7 @@ import struct
 from tests.support import buffers, schemas
 from tests.support.buffers import ORC, POST
 from tests.support.builder import buffer, messages_of, prefixed
-from tests.support.every_kind import WHOLE
+from tests.support.every_kind import FILE, LITTLE, WHOLE
 from tests.support.library import OUT, SANITIZED, SHARED, STATIC, LibraryCase, cpp_of, module, ran
 from tests.support.program import TOP, file_of, folder_of, run
 from tests.support.schemas import INT, field, schema, table
@@ -119,6 +119,22 @@ class ExamplesInC(LibraryCase):
             is_good = int(name == "good")
             lines = [f"{text} by {count}" for text, count in zip((want, is_good, want, is_good), calls)]
             self.same(name, told, (0, "\n".join([*lines, ""]), ""))
+
+    def test_elements_in_cpp(self):
+        """Elements of a kept buffer are those of paths with their indices: of every kind, and 10,000 of them."""
+        if not CPP_17:
+            return
+        source, rows = TOP / "tests/c/each.cpp", file_of("all.bfbs", FILE)
+        whole = {**WHOLE, 5: ("12s", bytes(12))}
+        many = {6: "", 11: [f"text {i}" for i in range(10_000)], 12: [{0: ("i", i)} for i in range(10_000)]}
+        paths = ["texts[*]", "tables[*].v", "tables[*].next.v", "places[*].y", "many[*]@Text", "many_type[*]",
+                 "longs[*]"]
+        for made in (self.compiled("each_17", source, *SANITIZED, *STATIC, **CPP_17),
+                     self.compiled("each_20", source, *SHARED, **CPP_20)):
+            for name, root, want in [("whole", whole, [3, 2, 2, 2, 6, 6, 2]), ("little", LITTLE, [0] * 7),
+                                     ("many", many, [10_000, 10_000, 10_000, 0, 0, 0, 0])]:
+                told = ran(made, rows, file_of(f"{name}.bin", buffer(root)), *paths)
+                self.same(f"{name} by {made.name}", told, (0, "".join(f"{count}\n" for count in want), ""))
 
     def test_streams_and_values_in_cpp(self):
         """The classes of fbcheck.hpp for streams, paths and values: the program's lines, in pieces of any length."""

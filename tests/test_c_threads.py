@@ -3,7 +3,7 @@
 import shutil
 
 from tests.support import schemas
-from tests.support.buffers import ORC, POST
+from tests.support.buffers import POST
 from tests.support.builder import buffer, messages_of, prefixed
 from tests.support.every_kind import FILE, LITTLE, WHOLE, variants
 from tests.support.library import SANITIZED, SHARED, STATIC, LibraryCase, ran
@@ -40,14 +40,15 @@ class LibraryOnThreads(LibraryCase):
         status, _, err = ran(sane, ALL, bare, 2_000)
         self.same("and none under the sanitizers leaks", (status, err), (0, ""))
         heapless = self.compiled("heapless", TOP / "tests/c/heapless.c", *SHARED, "-lpthread")
-        small, orc = file_of("M.bfbs", schemas.M), file_of("orc", ORC)
-        self.same("no other call asks for memory", ran(heapless, small, orc, "name"), (0, "", ""))
+        few = file_of("few", buffer({6: "Orc", 11: ["one", "two"]}))
+        self.same("no other call asks for memory", ran(heapless, ALL, few, "name", "texts[*]"), (0, "", ""))
 
     def test_refused_memory(self):
         """Each request for memory that is made is refused once, and the call that made it tells so."""
         starved = self.compiled("starved", TOP / "tests/c/starved.c", *SHARED)
         good, bad = (file_of(f"post-{number}", messages_of(POST)[number]) for number in (0, 4))
-        statuses = [one.status for one in sweep([starved, ORDERS, good, bad, "items[0]@Parcel.tags[1]"], b"", ALONE)]
+        statuses = [one.status for one in sweep([starved, ORDERS, good, bad, "items[0]@Parcel.tags[1]",
+                                                    "items[*]@Parcel.tags[1]"], b"", ALONE)]
         self.same("by each call in its turn", list(dict.fromkeys(statuses)), [11, 12, 13])
         self.same("and by none out of it", statuses, sorted(statuses))
 

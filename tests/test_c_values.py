@@ -49,7 +49,7 @@ class ValuesForC(LibraryCase):
                     text = line.partition(b"reads=")[2].partition(b" ")[2].decode()
                     self.same(f"{path} of {number}", value_line(kind, value), text)
             path, schema = verifier.resolve("to.name"), verifier._schema
-            told = (path.count, path.reserved, [(step.kind, step.number) for step in path.steps][2:])
+            told = (path.count, path.each, [(step.kind, step.number) for step in path.steps][2:])
             self.same("the steps, and zeros behind them", told, (2, 0, [(0, 0)] * 29))
             value, verdict, options = python._Value(kind=77), python._Verdict(), python.Options(prefixed=1)
             bytes_of = lambda: (bytes(path), verdict.status)

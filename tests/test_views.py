@@ -13,7 +13,7 @@ import sys
 
 from tests.support import buffers, schemas
 from tests.support.buffers import ORC, PLAIN, POST, SEVEN
-from tests.support.builder import buffer, changed, messages_of
+from tests.support.builder import Plain, buffer, changed, messages_of
 from tests.support.every_kind import FILE, LITTLE, WHOLE, variants
 from tests.support.program import TOP, file_of
 from tests.support.python import PythonCase
@@ -31,6 +31,13 @@ PATHS = ["yes", "least", "short", "long", "real", "place", "place.x", "name", "b
          "many[1]@Place", "many[2]@Text", "many[5]@Wide.y", "many[9]", "last"]
 OF_ORDERS = ["id", "to.name", "to.home.x", "items", "items_type", "items[1]@Note", "route", "route[1].y", "stamps[1]",
              "notes", "price", "floor", "first@Letter.pages", "items[0]@Parcel.box.weight"]
+
+# With [*], to each element.
+ELEMENTS = ["bytes[*]", "longs[*]", "places[*]", "places[*].y", "texts[*]", "tables[*]", "tables[*].v",
+            "tables[*].next.v", "many_type[*]", "many[*]", "many[*]@Below.v", "many[*]@Place", "many[*]@Wide.y",
+            "many[*]@Text"]
+OF_ITEMS = ["items[*]", "items[*]@Note.words", "items[*]@Parcel.tags[1]", "items[0]@Parcel.tags[*]", "route[*].y",
+            "stamps[*]", "notes[*]"]
 
 # What a process of its own does many times over; it tells by how many KB its memory has grown meanwhile.
 LEAKS = """
@@ -95,6 +102,60 @@ class Views(PythonCase):
             wrong += [] if kept else [(data, "what is kept")]
         self.same("what differs", wrong[:3], [])
         self.holds("more than 1,000 good messages", count > 1000, count)
+
+    def test_elements(self):
+        """A path with [*] leads to a list of what paths with the indices lead to, by whatever reads."""
+        whole, orders = self.by(ALL), self.by(ORDERS, prefixed=True)
+        given = [(whole, buffer(root), path) for root in (WHOLE, LITTLE) for path in ELEMENTS]
+        given += [(orders, data, path) for data in messages_of(POST) for path in OF_ITEMS if orders.check(data)]
+        for checker, data, path in given:
+            view = checker.view(data)
+            vector = view[path.split("[*]")[0]]
+            places = range(0 if vector is None else len(vector))
+            if isinstance(vector, memoryview) and path.startswith(("places", "route")):
+                places = range(len(vector) // {"places": 12, "route": 8}[path[:6].rstrip("[")])
+            want = [self.shown(view[path.replace("*", str(place))]) for place in places]
+            reads = {"a view": view.read(path), "brackets": view[path], "a path": view[checker.path(path)],
+                     "a check": checker.read(data, path), "several": view.read(path.split("[")[0], path)[1],
+                     "several of a check": checker.read(data, path, path)[1], "nine": view.read(*[path] * 9)[8]}
+            for name, told in reads.items():
+                self.same(f"{path} by {name}", [type(told), *map(self.shown, told)], [list, *want])
+        told = [values for _, verdict, values in orders.messages(POST, paths=("id", "items[*]@Note.words"))]
+        want = [orders.read(one, "id", "items[*]@Note.words") if orders.check(one) else () for one in messages_of(POST)]
+        self.same("of a stream", told, want)
+
+    def test_many_elements(self):
+        """10,000 elements, of texts, tables and numbers."""
+        many = range(10_000)
+        data = buffer({6: "", 9: Plain(array.array("q", many).tobytes(), 8, len(many)),
+                       11: [f"text {i}" for i in many], 12: [{0: ("i", i)} for i in many]})
+        for read in (self.by(ALL).view(data).read, lambda *paths: self.by(ALL).read(data, *paths)):
+            texts, values, longs, none = read("texts[*]", "tables[*].v", "longs[*]", "tables[*].next.v")
+            self.same("texts", texts, [f"text {i}" for i in many])
+            self.same("numbers of tables", values, [*many])
+            self.same("numbers", longs, [*many])
+            self.same("what isn't there", none, [None] * len(many))
+
+    def test_elements_refused(self):
+        """Where no list is returned, [*] is refused; and where bytes changed."""
+        of, checker = self.module, self.by(ALL)
+        view = checker.view(buffer(WHOLE))
+        self.fails("a dict of each", of.PathError, r"with \[\*\]", lambda: view.to_dict("tables[*]"))
+        self.fails("a column of each", of.PathError, r"with \[\*\]",
+                   lambda: self.by(ORDERS, prefixed=True).columns(POST, ("id", "items[*]")))
+        for path, text in [("tables[*].w", "P2 at '.w'"), ("name[*]", r"P3 at '\[\*\]'"), ("tables[*][*]", "first 10"),
+                           ("[*]", "first 0")]:
+            self.fails(path, of.PathError, text, lambda: view[path])
+        memory = bytearray(buffer({6: "", 11: ["one"] * 100}))
+        view = checker.view(memoryview(memory).toreadonly())
+        self.same("before", view["texts[*]"], ["one"] * 100)
+        for at in range(0, len(memory) - 4, 4):
+            kept, memory[at:at + 4] = memory[at:at + 4], b"\xff\xff\xff\x7f"
+            try:
+                self.same("a list", type(view["texts[*]"]), list)
+            except of.Changed:
+                pass
+            memory[at:at + 4] = kept
 
     def test_what_is_kept(self):
         """What can't be written is kept as it is, and of what can, a copy."""

@@ -5,7 +5,8 @@
  * of it ends the process. Its values are those of fbcheck_read. Then each byte is changed to some others, the end is
  * cut off at each place, words at random places are random, and another thread changes bytes meanwhile. Each time a
  * path is told a value that lies inside, which is that of fbcheck_read if a check still says ok, or that bytes changed.
- * Prints how many reads were told a value, and how many that.
+ * A path with [*] is told, for each element, what the path to this element is told. Prints how many reads were told a
+ * value, and how many that bytes changed; and the same of reads of elements.
  */
 #include "../../examples/c/telling.h"
 
@@ -19,9 +20,9 @@
 
 static fbcheck_schema *schema;
 static fbcheck_options options = FBCHECK_OPTIONS_INIT;
-static fbcheck_path paths[MOST];
-static size_t count;
-static size_t told, changed;
+static fbcheck_path paths[MOST], wide[MOST];
+static size_t count, wide_count;
+static size_t told, changed, elements_told, elements_changed;
 static uint64_t dice = 88172645463325252u;
 static atomic_int is_over;
 
@@ -94,6 +95,81 @@ static void read_together(const uint8_t *buffer, size_t length, const uint32_t *
         demand(memcmp(&values[i], &before, sizeof before) == 0, "a value behind a change is told");
 }
 
+/* The path to one element, and that to all of them. */
+static fbcheck_path path_to(const fbcheck_path *path, size_t element)
+{
+    fbcheck_path one = *path;
+    one.each = 0;
+    one.steps[path->each - 1].number = (uint32_t)element;
+    return one;
+}
+
+static fbcheck_path path_to_all(const fbcheck_path *path)
+{
+    fbcheck_path all = *path;
+    all.each = 0;
+    all.count = path->each - 1;
+    return all;
+}
+
+/* Reads elements by a path with [*], and holds what is told against the buffer's length. */
+static uint32_t read_elements(const uint8_t *buffer, size_t length, const fbcheck_path *path, size_t first,
+                              size_t room, fbcheck_value *values, size_t *elements, size_t *filled)
+{
+    fbcheck_verdict verdict;
+    fbcheck_value before;
+    uint32_t status;
+    memset(&before, 85, sizeof before);
+    memset(values, 85, MOST * sizeof *values);
+    *elements = 77;
+    status = fbcheck_read_each(schema, &options, buffer, length, path, first, values, room, elements, &verdict);
+    demand(verdict.status == status && verdict.reads == 0, "the verdict of elements is of something else");
+    demand(status == FBCHECK_OK || status == FBCHECK_CHANGED, "another status of elements");
+    demand(status == FBCHECK_OK || *elements == 77, "elements are counted beside FBCHECK_CHANGED");
+    demand(status == FBCHECK_CHANGED || verdict.at == 0, "a place of elements that are told");
+    demand(status == FBCHECK_CHANGED || *elements <= length || *elements < 65536, "too many elements");
+    *filled = status == FBCHECK_CHANGED ? verdict.at : *elements < first ? 0 : *elements - first;
+    if (*filled > room)
+        *filled = room;
+    for (size_t i = 0; i < MOST; i++)
+        if (i < *filled)
+            demand(values[i].at <= length && values[i].size <= length - values[i].at, "an element lies outside");
+        else
+            demand(memcmp(&values[i], &before, sizeof before) == 0, "a value behind the elements is told");
+    return status;
+}
+
+/* Reads elements, and then each by a path of its own, which tells the same; of an ok buffer, what fbcheck_read does. */
+static void read_wide(const uint8_t *buffer, size_t length, const fbcheck_path *path, int is_ok)
+{
+    fbcheck_value values[MOST], one, vector;
+    size_t first = thrown() % 8 < 5 ? 0 : thrown() % 4, room = thrown() % MOST, elements, filled;
+    fbcheck_path all = path_to_all(path), next;
+    uint32_t status = read_elements(buffer, length, path, first, room, values, &elements, &filled), found;
+    found = fbcheck_read_again(schema, &options, buffer, length, &all, &vector, 1, NULL);
+    elements_told += filled;
+    elements_changed += status == FBCHECK_CHANGED;
+    demand(status == FBCHECK_OK || !is_ok, "an ok buffer's elements are said to have changed");
+    if (status == FBCHECK_OK)
+        demand(found == FBCHECK_OK && elements == (vector.kind == FBCHECK_VECTOR ? vector.number : 0),
+               "another count of elements");
+    for (size_t i = 0; i < filled; i++) {
+        next = path_to(path, first + i);
+        demand(read_one(buffer, length, &next, &one) == FBCHECK_OK && memcmp(&one, &values[i], sizeof one) == 0,
+               "an element's value isn't that of its path");
+        if (is_ok)
+            demand(fbcheck_read(schema, NULL, &options, buffer, length, &next, &one, 1, NULL) == FBCHECK_OK
+                       && memcmp(&one, &values[i], sizeof one) == 0,
+                   "an element's value isn't that of fbcheck_read");
+    }
+    next = path_to(path, first + filled);
+    if (status == FBCHECK_CHANGED)
+        demand(found == FBCHECK_CHANGED || read_one(buffer, length, &next, &one) == FBCHECK_CHANGED,
+               "bytes are said to have changed, and no path says so");
+    if (status == FBCHECK_CHANGED && found == FBCHECK_CHANGED)
+        demand(filled == 0, "elements are told of no vector");
+}
+
 /* Reads each path, and if the buffer is ok holds the values against those of fbcheck_read. */
 static int read_each(const uint8_t *buffer, size_t length)
 {
@@ -109,6 +185,8 @@ static int read_each(const uint8_t *buffer, size_t length)
     if (is_ok)
         demand(memcmp(values, want, count * sizeof *values) == 0, "a value isn't that of fbcheck_read");
     read_together(buffer, length, statuses, values);
+    for (size_t i = 0; i < wide_count; i++)
+        read_wide(buffer, length, &wide[i], is_ok);
     return is_ok;
 }
 
@@ -179,7 +257,8 @@ static void change_meanwhile(struct field field, const uint8_t *buffer, size_t l
 {
     struct changing changing = { field.first + field.length - length, buffer, length };
     const uint8_t *place = field.first + field.length - length;
-    fbcheck_value value;
+    fbcheck_value value, values[MOST];
+    size_t elements, filled;
     pthread_t thread;
     memcpy(field.first + field.length - length, buffer, length);
     demand(pthread_create(&thread, NULL, change, &changing) == 0, "no thread");
@@ -188,6 +267,12 @@ static void change_meanwhile(struct field field, const uint8_t *buffer, size_t l
             told++;
         else
             changed++;
+    for (size_t round = 0; round < 20 * rounds && wide_count > 0; round++) {
+        const fbcheck_path *path = &wide[round % wide_count];
+        uint32_t status = read_elements(place, length, path, round % 2, MOST - 2, values, &elements, &filled);
+        elements_told += filled;
+        elements_changed += status == FBCHECK_CHANGED;
+    }
     atomic_store(&is_over, 1);
     pthread_join(thread, NULL);
 }
@@ -204,15 +289,21 @@ int main(int number, char **words)
     rounds = strtoul(words[4], NULL, 10);
     schema = fbcheck_schema_new(file, file_length, NULL, NULL);
     demand(schema != NULL, "no schema");
-    for (; (int)count < number - 5; count++)
-        demand(fbcheck_resolve(schema, &options, words[5 + count], strlen(words[5 + count]), &paths[count], NULL)
-                   == FBCHECK_OK, words[5 + count]);
+    for (int at = 5; at < number; at++) {
+        fbcheck_path path;
+        demand(fbcheck_resolve(schema, &options, words[at], strlen(words[at]), &path, NULL) == FBCHECK_OK, words[at]);
+        demand((path.each != 0) == (strchr(words[at], '*') != NULL), "a path with [*] that isn't one");
+        if (path.each != 0)
+            wide[wide_count++] = path;
+        else
+            paths[count++] = path;
+    }
     field = field_of(length);
     spoil_each(field, buffer, length);
     cut_each(field, buffer, length);
     shuffle(field, buffer, length, rounds);
     change_meanwhile(field, buffer, length, rounds);
-    printf("told %zu changed %zu\n", told, changed);
+    printf("told %zu changed %zu elements %zu changed %zu\n", told, changed, elements_told, elements_changed);
     fbcheck_schema_free(schema);
     free(file);
     free(buffer);

@@ -1,7 +1,7 @@
 /*
  * Makes every call but those that make and free something, with a scratch and without, with demands and without, in a
- * thread with 32 KB of stack, while a request for memory ends the process: heapless SCHEMA.bfbs BUFFER PATH, of which
- * the buffer is good. Only fbcheck_resolve may ask.
+ * thread with 32 KB of stack, while a request for memory ends the process: heapless SCHEMA.bfbs BUFFER PATH
+ * PATH_WITH_STAR, of which the buffer is good. Only fbcheck_resolve may ask.
  */
 #include <fbcheck.h>
 #include <fcntl.h>
@@ -15,7 +15,7 @@ static size_t lengths[2];
 static int is_shut;
 static fbcheck_schema *schema;
 static fbcheck_scratch *scratch;
-static fbcheck_path path;
+static fbcheck_path path, wide;
 static fbcheck_options strict = FBCHECK_OPTIONS_INIT;
 
 void *__libc_malloc(size_t size);
@@ -54,7 +54,7 @@ static void call_each(fbcheck_scratch *scratch, const fbcheck_options *asked)
     fbcheck_options options;
     fbcheck_sizes sizes;
     fbcheck_verdict verdicts[2];
-    fbcheck_value value;
+    fbcheck_value value, values[2];
     fbcheck_span spans[2] = { { 0, 0 }, { 0, 3 } };
     spans[0].length = lengths[1];
     if (fbcheck_verify(schema, scratch, asked, bytes[1], lengths[1], verdicts) != FBCHECK_OK
@@ -62,6 +62,8 @@ static void call_each(fbcheck_scratch *scratch, const fbcheck_options *asked)
         || fbcheck_verify_each(schema, scratch, asked, bytes[1], lengths[1], spans, verdicts, 2) != FBCHECK_BAD
         || fbcheck_read(schema, scratch, asked, bytes[1], lengths[1], &path, &value, 1, verdicts) != FBCHECK_OK
         || fbcheck_read_again(schema, asked, bytes[1], lengths[1], &path, &value, 1, verdicts) != FBCHECK_OK
+        || fbcheck_read_each(schema, asked, bytes[1], lengths[1], &wide, 0, values, 2, &used, verdicts) != FBCHECK_OK
+        || values[1].kind != FBCHECK_TEXT
         || fbcheck_locate(schema, scratch, asked, bytes[1], lengths[1], name, 64, &written, verdicts) != FBCHECK_OK
         || fbcheck_locate(schema, scratch, asked, bytes[1], 3, name, 64, &written, verdicts) != FBCHECK_BAD
         || fbcheck_most_reads(schema, asked, 99, &reads) != FBCHECK_OK
@@ -96,7 +98,7 @@ int main(int count, char **words)
 {
     pthread_attr_t small;
     pthread_t thread;
-    if (count != 4)
+    if (count != 5)
         return 2;
     read_file(0, words[1]);
     read_file(1, words[2]);
@@ -104,7 +106,8 @@ int main(int count, char **words)
     schema = fbcheck_schema_new(bytes[0], lengths[0], &strict, NULL);
     scratch = fbcheck_scratch_new(FBCHECK_DEEPEST);
     if (schema == NULL || scratch == NULL
-        || fbcheck_resolve(schema, NULL, words[3], strlen(words[3]), &path, NULL) != FBCHECK_OK)
+        || fbcheck_resolve(schema, NULL, words[3], strlen(words[3]), &path, NULL) != FBCHECK_OK
+        || fbcheck_resolve(schema, NULL, words[4], strlen(words[4]), &wide, NULL) != FBCHECK_OK)
         return 5;
     if (pthread_attr_init(&small) != 0 || pthread_attr_setstacksize(&small, 32768) != 0
         || pthread_create(&thread, &small, call_all, NULL) != 0 || pthread_join(thread, NULL) != 0)

@@ -1,7 +1,7 @@
 /*
- * Makes a schema with demands and a scratch, and resolves a path, where a request for memory may be refused (tests/memory/refuse.c),
- * has a fault told in words, and asks the heap for nothing itself: starved SCHEMA.bfbs GOOD BAD PATH, of two buffers
- * with their size in front.
+ * Makes a schema with demands and a scratch, and resolves two paths, where a request for memory may be refused
+ * (tests/memory/refuse.c), has a fault told in words, and asks the heap for nothing itself: starved SCHEMA.bfbs GOOD BAD
+ * PATH PATH_WITH_STAR, of two buffers with their size in front.
  *
  * Ends with 0 where all was done, and with 11 to 13 where one of the first three told the want of memory, by which. What
  * it should have written is as it was then, nothing else is disturbed, and the next time, when nothing is refused, it
@@ -80,11 +80,11 @@ static void locate(const fbcheck_schema *schema, fbcheck_scratch *scratch, const
 int main(int count, char **words)
 {
     fbcheck_options options = FBCHECK_OPTIONS_INIT;
-    fbcheck_path path = { 0, 0, { { 0, 0 } } };
+    fbcheck_path path = { 0, 0, { { 0, 0 } } }, wide = path;
     fbcheck_value value;
     fbcheck_schema *schema;
     fbcheck_scratch *scratch;
-    if (count != 5)
+    if (count != 6)
         return 2;
     for (int which = 0; which < 3; which++)
         read_file(which, words[which + 1]);
@@ -92,6 +92,9 @@ int main(int count, char **words)
     schema = make_schema();
     scratch = make_scratch();
     resolve(schema, words[4], &path);
+    resolve(schema, words[5], &wide);
+    if (path.each != 0 || wide.each == 0)
+        return 8;
     locate(schema, scratch, &options);
     if (fbcheck_read(schema, scratch, &options, bytes[1], lengths[1], &path, &value, 1, NULL) != FBCHECK_OK
         || value.kind == FBCHECK_ABSENT)

@@ -187,7 +187,7 @@ class Step(ctypes.Structure):
 class Path(ctypes.Structure):
     _fields_ = [
         ("count", U32),
-        ("reserved", U32),
+        ("each", U32),
         ("steps", Step * 31),
     ]
 
@@ -232,6 +232,8 @@ CALLS = [
     (U32, "fbcheck_resolve", [ADDRESS, to(Options), TEXT, SIZE, to(Path), to(Verdict)]),
     (U32, "fbcheck_read", [ADDRESS, ADDRESS, to(Options), ADDRESS, SIZE, to(Path), to(Value), SIZE, to(Verdict)]),
     (U32, "fbcheck_read_again", [ADDRESS, to(Options), ADDRESS, SIZE, to(Path), to(Value), SIZE, to(Verdict)]),
+    (U32, "fbcheck_read_each", [ADDRESS, to(Options), ADDRESS, SIZE, to(Path), SIZE, to(Value), SIZE, to(SIZE),
+     to(Verdict)]),
     (U32, "fbcheck_most_reads", [ADDRESS, to(Options), U64, to(U64)]),
     (SIZE, "fbcheck_fault_name", [U32, U32, TEXT, SIZE]),
     (SIZE, "fbcheck_reason_name", [U32, TEXT, SIZE]),

@@ -651,7 +651,7 @@ PyObject *view_to_dict(View *self, PyObject *const *words, Py_ssize_t count)
         return NULL;
     }
     if (count == 1 && !(PyUnicode_Check(words[0]) && PyUnicode_GetLength(words[0]) == 0) &&
-        copy_steps(self->schema, words[0], &path, &letters) != 0)
+        copy_single(self->schema, words[0], &path, &letters) != 0)
         return NULL;
     if (!are_shaped(self->schema))
         return NULL;

@@ -446,7 +446,8 @@ static PyMethodDef schema_methods[] = {
       "fewer elements, or the union another type. A text is a str; bytes of it that aren't UTF-8 are as with\n"
       "os.fsdecode(): text.encode('utf-8', 'surrogateescape') gives them back. A struct is a memoryview of its bytes,\n"
       "and a vector of numbers one of these (of Bools and structs, of their bytes): read-only slices of the message,\n"
-      "which keep it alive, and show what is written there later.\n\n"
+      "which keep it alive, and show what is written there later. A path with [*] for an index, once, leads to a list\n"
+      "of the values at all indices, empty if there is no vector.\n\n"
       "Raises PathError, and BadBuffer: a bad message is walked once more, to name the place of its fault." },
     { "view", (PyCFunction)schema_view, METH_O,
       "view($self, message, /)\n--\n\n"

@@ -102,7 +102,7 @@ PyObject *schema_verify(Schema *self, PyObject *message);
 
 /* Of _values.c. */
 extern PyType_Spec view_spec;
-int copy_steps(Schema *self, PyObject *path, fbcheck_path *steps, Letters *letters);
+int copy_single(Schema *self, PyObject *path, fbcheck_path *steps, Letters *letters);
 PyObject *value_of(Schema *self, PyObject *message, const char *bytes, const fbcheck_value *value, char letter);
 PyObject *schema_resolve(Schema *self, PyObject *text);
 PyObject *schema_read(Schema *self, PyObject *const *words, Py_ssize_t count);

@@ -523,7 +523,7 @@ static int begin_columns(Gathering *on, PyObject *paths)
         return -1;
     }
     for (at = 0; at < on->count; at++)
-        if (copy_steps(on->schema, PyTuple_GetItem(paths, (Py_ssize_t)at), on->paths + at, &letters) != 0 ||
+        if (copy_single(on->schema, PyTuple_GetItem(paths, (Py_ssize_t)at), on->paths + at, &letters) != 0 ||
             begin_column(on->columns + at, letters) != 0)
             return -1;
     return 0;

@@ -100,26 +100,78 @@ PyObject *value_of(Schema *self, PyObject *message, const char *bytes, const fbc
     }
 }
 
-/* What is read of a message: of each path its steps, its letters, and the value. */
+/* What a path with [*] has, while it is the path to the vector; else 0. */
+typedef struct {
+    uint32_t count;
+    uint32_t each;
+} Whole;
+
+/* What is read of a message: of each path its steps, its letters, and the value, with [*] that of the vector. */
 typedef struct {
     size_t count;
     fbcheck_path *paths;
     fbcheck_value *values;
     Letters *letters;
+    Whole *wholes;
     PyObject *told;   /* the tuple of paths of who wants a tuple of values, with the verdict, or null */
     const View *view; /* the message, if it was checked before, or null */
 } Read;
 
+/* How many elements are read by one call. */
+#define BLOCK 32
+
+/* The value of each element to which a path with [*] leads, in a list. */
+static PyObject *elements_of(Schema *self, PyObject *message, const char *bytes, size_t length,
+                             const fbcheck_path *path, char letter)
+{
+    fbcheck_value values[BLOCK];
+    size_t first = 0, count = 0, at;
+    PyObject *told = NULL;
+    do {
+        size_t elements;
+        uint32_t status = fbcheck_read_each(self->schema, &self->options, (const uint8_t *)bytes, length, path, first,
+                                            values, BLOCK, &elements, NULL);
+        if (told == NULL) {
+            count = status == FBCHECK_OK ? elements : 0;
+            told = PyList_New((Py_ssize_t)count);
+        }
+        if (told != NULL && (status != FBCHECK_OK || elements != count)) {
+            Py_DECREF(told);
+            return refused(self, status != FBCHECK_OK ? status : FBCHECK_CHANGED);
+        }
+        for (at = 0; told != NULL && at < BLOCK && first + at < count; at++) {
+            PyObject *one = value_of(self, message, bytes, values + at, letter);
+            if (one == NULL || PyList_SetItem(told, (Py_ssize_t)(first + at), one) != 0)
+                Py_CLEAR(told);
+        }
+        first += BLOCK;
+    } while (told != NULL && first < count);
+    return told;
+}
+
+/* The value at one path, or those of the elements. */
+static PyObject *value_at(Schema *self, PyObject *message, const char *bytes, size_t length, const Read *read,
+                          size_t at)
+{
+    const Whole *whole = read->wholes + at;
+    fbcheck_path *path = read->paths + at;
+    if (whole->each == 0)
+        return value_of(self, message, bytes, read->values + at, read->letters[at].element);
+    path->count = whole->count;
+    path->each = whole->each;
+    return elements_of(self, message, bytes, length, path, read->letters[at].element);
+}
+
 /* The values that were read: one, or a tuple of several. */
-static PyObject *values_of(Schema *self, PyObject *message, const char *bytes, const Read *read)
+static PyObject *values_of(Schema *self, PyObject *message, const char *bytes, size_t length, const Read *read)
 {
     size_t at;
     PyObject *told;
     if (read->count == 1 && read->told == NULL)
-        return value_of(self, message, bytes, read->values, read->letters->element);
+        return value_at(self, message, bytes, length, read, 0);
     told = PyTuple_New((Py_ssize_t)read->count);
     for (at = 0; told != NULL && at < read->count; at++) {
-        PyObject *one = value_of(self, message, bytes, read->values + at, read->letters[at].element);
+        PyObject *one = value_at(self, message, bytes, length, read, at);
         if (one == NULL || PyTuple_SetItem(told, (Py_ssize_t)at, one) != 0)
             Py_CLEAR(told);
     }
@@ -127,7 +179,7 @@ static PyObject *values_of(Schema *self, PyObject *message, const char *bytes, c
 }
 
 /* Copies the steps of a text or path, and its letters. The first time the package resolves it, and keeps that. */
-int copy_steps(Schema *self, PyObject *path, fbcheck_path *steps, Letters *letters)
+static int copy_steps(Schema *self, PyObject *path, fbcheck_path *steps, Letters *letters)
 {
     PyObject *kept = PyDict_GetItemWithError(self->paths, path);
     Py_ssize_t size;
@@ -152,13 +204,26 @@ int copy_steps(Schema *self, PyObject *path, fbcheck_path *steps, Letters *lette
     return answer;
 }
 
+/* The same for a path to one value: one with [*] is refused. */
+int copy_single(Schema *self, PyObject *path, fbcheck_path *steps, Letters *letters)
+{
+    if (copy_steps(self, path, steps, letters) != 0)
+        return -1;
+    if (steps->each == 0)
+        return 0;
+    PyErr_SetString(self->path_error, "a path with [*] leads to several values, which only read() returns");
+    return -1;
+}
+
 /* Reads of a message that was checked before. */
 static PyObject *read_again(Schema *self, const Read *read)
 {
     const View *view = read->view;
     uint32_t status = fbcheck_read_again(self->schema, &self->options, view->buffer.buf, (size_t)view->buffer.len,
                                          read->paths, read->values, read->count, NULL);
-    return status == FBCHECK_OK ? values_of(self, view->message, view->buffer.buf, read) : refused(self, status);
+    if (status != FBCHECK_OK)
+        return refused(self, status);
+    return values_of(self, view->message, view->buffer.buf, (size_t)view->buffer.len, read);
 }
 
 /* Checks a message once, unless it was, and reads at these texts and paths, unless they are told. */
@@ -171,9 +236,15 @@ static PyObject *read_at(Schema *self, PyObject *message, PyObject *const *paths
     fbcheck_verdict told;
     PyObject *values;
     for (at = 0; at < read->count; at++) {
+        fbcheck_path *steps = read->paths + at;
         path = read->told != NULL ? PyTuple_GetItem(read->told, (Py_ssize_t)at) : paths[at];
-        if (copy_steps(self, path, read->paths + at, read->letters + at) != 0)
+        if (copy_steps(self, path, steps, read->letters + at) != 0)
             return NULL;
+        read->wholes[at] = (Whole){ steps->count, steps->each };
+        if (steps->each != 0) {
+            steps->count = steps->each - 1;
+            steps->each = 0;
+        }
     }
     if (read->view != NULL)
         return read_again(self, read);
@@ -184,7 +255,9 @@ static PyObject *read_at(Schema *self, PyObject *message, PyObject *const *paths
     if (status == FBCHECK_BAD)
         return read->told != NULL ? Py_BuildValue("N()", located(self, &check)) : raised(self, located(self, &check));
     resume(&check);
-    values = status == FBCHECK_OK ? values_of(self, message, (const char *)check.bytes, read) : refused(self, status);
+    values = status != FBCHECK_OK
+                 ? refused(self, status)
+                 : values_of(self, message, (const char *)check.bytes, (size_t)check.view.len, read);
     end(self, &check);
     return read->told != NULL && values != NULL ? Py_BuildValue("NN", judged(self, &told, NULL, 0), values) : values;
 }
@@ -196,15 +269,18 @@ static PyObject *reading(Schema *self, PyObject *message, const View *view, PyOb
     fbcheck_path few[FEW_PATHS];
     fbcheck_value values[FEW_PATHS];
     Letters letters[FEW_PATHS];
-    Read read = { count, few, values, letters, told, view };
+    Whole wholes[FEW_PATHS];
+    Read read = { count, few, values, letters, wholes, told, view };
     PyObject *found;
     if (read.count <= FEW_PATHS)
         return read_at(self, message, paths, &read);
-    read.paths = malloc(read.count * (sizeof *read.paths + sizeof *read.values + sizeof *read.letters));
+    read.paths = malloc(read.count *
+                        (sizeof *read.paths + sizeof *read.values + sizeof *read.wholes + sizeof *read.letters));
     if (read.paths == NULL)
         return PyErr_NoMemory();
     read.values = (fbcheck_value *)(read.paths + read.count);
-    read.letters = (Letters *)(read.values + read.count);
+    read.wholes = (Whole *)(read.values + read.count);
+    read.letters = (Letters *)(read.wholes + read.count);
     found = read_at(self, message, paths, &read);
     free(read.paths);
     return found;

@@ -205,7 +205,7 @@ pub struct Step {
 #[repr(C)]
 pub struct Path {
     pub count: u32,
-    pub reserved: u32,
+    pub each: u32,
     pub steps: [Step; 31],
 }
 
@@ -300,6 +300,18 @@ extern "C" {
         paths: *const Path,
         values: *mut Value,
         count: usize,
+        verdict: *mut Verdict,
+    ) -> u32;
+    pub fn fbcheck_read_each(
+        schema: *const Schema,
+        options: *const Options,
+        buffer: *const u8,
+        length: usize,
+        path: *const Path,
+        first: usize,
+        values: *mut Value,
+        count: usize,
+        elements: *mut usize,
         verdict: *mut Verdict,
     ) -> u32;
     pub fn fbcheck_most_reads(

@@ -7,7 +7,7 @@
 
 ghost use Rattle.std.specs.Prelude.{◌≡◌, ℕ, List, None, Option};
 ghost use Rattle.fbcheck_calls.specs.Answered.{IfSchema, IsChecked, IsPriceTold, IsRoomMade, IsTaken, levels};
-ghost use Rattle.fbcheck_calls.specs.{Again.IsReadAgainBy, Asked.published, Placed.IsLocatedBy, Reached.IsPath, Reached.IsReadBy, Spans.AreTold, Spans.IsEachAnswered};
+ghost use Rattle.fbcheck_calls.specs.{Again.IsReadAgainBy, Each.IsReadOfEachBy, Asked.published, Placed.IsLocatedBy, Reached.IsPath, Reached.IsReadBy, Spans.AreTold, Spans.IsEachAnswered};
 ghost use Rattle.fb_access.specs.Location.{field_name};
 ghost use Rattle.fbcheck_calls.specs.Told.{told};
 ghost use Rattle.fbcheck_calls.specs.Hinted.{IsHintTold, LacksPathHint, LacksRootHint};
@@ -19,7 +19,7 @@ use fb_bytes::Taken;
 use fbcheck_calls::{
     Framer, Handle, Options, PlainPath, Shared, Span, Value, Verdict, all_good, check, check_alone,
     check_each, fault_told, field_told, locate, object_told, path_hint, price, read, read_again,
-    reason_told, resolve, root_hint, status_told, table_of, try_options,
+    read_each, reason_told, resolve, root_hint, status_told, table_of, try_options,
 };
 use std::alloc::Global;
 
@@ -262,6 +262,36 @@ pub extern "C" fn fbcheck_read_again_proved(
     ensures status { result ≡ verdict.new.status }
 {
     let answered = read_again(schema.held(), options, buffer, paths, values).told();
+    *verdict = answered;
+    answered.status
+}
+
+/// Tells the values of the elements to which a path leads, from this one on, as many as there is room for, and how many
+/// there are, in a buffer that was good before, without a check.
+#[unsafe(no_mangle)]
+pub extern "C" fn fbcheck_read_each_proved(
+    schema: Shared,
+    options: &Options,
+    buffer: &[u8],
+    path: &PlainPath,
+    first: usize,
+    values: &mut [Value],
+    elements: &mut usize,
+    verdict: &mut Verdict,
+) -> u32
+    ensures told { (a : Answer) × (verdict.new ≡ told a) × IsReadOfEachBy schema.held options.now buffer.now path.now first values.old values.new elements.old elements.new a }
+    ensures status { result ≡ verdict.new.status }
+{
+    let answered = read_each(
+        schema.held(),
+        options,
+        buffer,
+        path,
+        first,
+        values,
+        elements,
+    )
+    .told();
     *verdict = answered;
     answered.status
 }

@@ -1,23 +1,25 @@
 -- How values are read in bytes that aren't checked.
-use Rattle.std.proofs.Common.{◌≡◌, ◌≢◌, ℕ, ◌+◌, ◌<◌, ◌≤◌, ◌^◌, List, [], ◌∷◌, length, get_or, get_or-set_other, arith, refl, sym, ap, subst, ◌∙◌, IsTrue, Option, Some, None, IfSome, IsSomeAnd}
+use Rattle.std.proofs.Common.{◌≡◌, ◌≢◌, ℕ, ◌+◌, ◌<◌, ◌≤◌, ◌^◌, List, [], ◌∷◌, ◌++◌, append-nil, inl, length, get_or, get_or-set_other, arith, refl, sym, ap, subst, ◌∙◌, IsTrue, Option, Some, None, IfSome, IsSomeAnd}
 use Rattle.std.proofs.Math.ListN.{set}
 use Rattle.std.proofs.lemmas.List.{get_or_default, length-set}
+use Rattle.fb_schema.specs.declared.kinds.Kind.TheVariants.{Table}
 use Rattle.fb_schema.specs.{Rows.Rows, Rows.is_table, Served.IsServed}
-use Rattle.fb_rules.specs.{Places.target, Question.Question, Question.question, Tree.size, Tree.depth, Verdict.Reports, WellFormed.base}
+use Rattle.fb_rules.specs.{Places.target, Question.Question, Verdict.Reports, WellFormed.base}
 use Rattle.fb_rules.specs.declared.{fault.Report.Report, start.Start.Start, start.Ident.Ident}
 use Rattle.fb_verify.specs.Sealed.{Sealed, IsUnfolded}
 use Rattle.fb_bfbs.specs.declared.loading.Loaded.{Loaded}
 use Rattle.fb_strict.specs.{AsAsked.ReportsBy, Planned.Planned, Strictly.sealed_by}
 use Rattle.fb_strict.proofs.OneVerdict.{strict_is_ok}
-use Rattle.fb_access.specs.declared.{extent.Extent.Extent, step.Step.Step, spot.Spot.Spot, tested_field.Changed.Changed}
+use Rattle.fb_access.specs.declared.{extent.Extent.Extent, step.Step.Step, spot.Spot.Spot}
 use Rattle.fb_access.specs.{Denotes.Leads, Denotes.Reaches, Denotes.Shown, Denotes.next_spot, Denotes.root_spot, Held.IsSpot, Tested.IsOther}
 use Rattle.fb_access.proofs.{Staying.step_stays, StepKinds.allowed_leads, StepKinds.kind_allows, Walks.root_placed}
 use Rattle.fbcheck_calls.specs.declared.{options.Options.Options, steps.PlainPath.PlainPath, steps.PlainStep.PlainStep, values.Value.Value}
 use Rattle.fbcheck_calls.specs.Again.{AreOther, AreToldBelow, GoodStaysRead, IsReadAgain, IsToldOf, LiesWithin, ValuesAreOne}
 use Rattle.fbcheck_calls.specs.{Answered.IsGoodFrom, Asked.AreKnown, Asked.ident_asked, Asked.if_table, Asked.limits_of, Asked.plan_asked, Asked.question_of, Asked.root_asked, Asked.start_asked}
-use Rattle.fbcheck_calls.specs.{Steps.AreSteps, Steps.EndAt, Steps.step_of, Steps.steps_in, Values.placed, Values.value_at, Values.value_told}
-use Rattle.fbcheck_calls.specs.declared.answer.Answer.TheVariants.{Changed as BytesChanged}
-use Rattle.fbcheck_calls.proofs.{SpanLemmas.one_more, StepLemmas.FitHere}
+use Rattle.fbcheck_calls.specs.{Answered.IsChecked, Bases.Based, Steps.AreSteps, Steps.DontFit, Steps.EndAt, Steps.FitFrom, Steps.FitHere, Steps.step_of, Steps.steps_in, Values.placed, Values.value_at, Values.value_told}
+use Rattle.fbcheck_calls.specs.Walks.{GoTo, IsToldAt, NoneFit}
+use Rattle.fbcheck_calls.specs.declared.answer.Answer.TheVariants.{Changed as BytesChanged, Good}
+use Rattle.fbcheck_calls.proofs.SpanLemmas.{one_more}
 
 -- if these are the bytes of a good buffer, this holds at the spot
 abbrev pub IsHeldAt : List ℕ → Rows → Start → ℕ → Spot → Type 0
@@ -34,6 +36,28 @@ module _ (b : List ℕ) (S : Rows) (start : Start) (root : ℕ) where
   -- where it doesn't hold, they aren't
   pub is_other : (q : Spot) → IsHeldAt b S start root q → (IsSpot b S q → ⊥) → IsOther b S start root
   is_other q held fails v bytes_are rows_are start_is root_is h = fails (held v bytes_are rows_are start_is root_is h)
+
+  -- where it fails at the root table, nor are they
+  pub root_is_other : (q : Spot) → q ≡ root_spot b start root → (IsSpot b S q → ⊥) → IsOther b S start root
+  root_is_other q same fails = is_other q (rw same root_held) fails
+
+  module _ (first q : Spot) (plain : List PlainStep) (same : first ≡ root_spot b start root) (go : GoTo b S first plain q) where
+    -- steps from the root table lead where those from there do
+    pub end_at : EndAt b S start root plain q
+    end_at = (go.lead.0, go.lead.1, subst (λ p. Reaches b S p go.lead.0 q) same go.lead.2)
+
+    pub end_told : (v : Value) → IsToldAt b S q v → ((q : Spot) × EndAt b S start root plain q × (v ≡ value_at b S q)) × LiesWithin (length b) v
+    end_told v told = ((q, end_at, told.value), told.within)
+
+    pub end_is_other : (IsSpot b S q → ⊥) → IsOther b S start root
+    end_is_other fails = root_is_other first same (λ h. fails (go.held h))
+
+  -- what fits from the root table fits there
+  pub from_root : (first : Spot) (plain : List PlainStep) → first ≡ root_spot b start root → FitFrom S (Table root) plain → FitHere S first plain
+  from_root first plain same (path, are, fits) = (path, Table root, are, rw same (inl refl), fits)
+
+  pub none_from_root : (first : Spot) (plain : List PlainStep) → first ≡ root_spot b start root → NoneFit S first plain → DontFit S root plain
+  none_from_root first plain same none path are fits = none [] (from_root first (plain ++ []) same (path, subst (λ xs. AreSteps xs path) (sym (append-nil plain)) are, fits))
 
 -- where a step doesn't lead on, the steps don't fit
 module _ (S : Rows) (p : Spot) (c : PlainStep) (cs : List PlainStep) where
@@ -119,12 +143,17 @@ good_unfolds l o b plan root ident r short root_is good other =
       reads = own.1.reads;
     })
 
-pub good_stays_read : GoodStaysRead
-good_stays_read s n o b r paths v v' place (short, (limits, served)) ((known, others), still) =
+-- where a check said that the bytes are good, they are no others
+pub good_is_no_other : (s : Based) (n : ℕ) (o : Options) (b : List ℕ) (r : Report) (P : ℕ → Type 0) → IsChecked s n o b (Good r) → IsSomeAnd (root_asked s.loaded o) P → ((root : ℕ) → P root → IsOther b s.loaded.schema (start_asked o) root) → ⊥
+good_is_no_other s n o b r P (short, (limits, served)) others other =
     let plan = some_of (plan_asked s o) (λ plan. IsSomeAnd (root_asked s.loaded o) (λ root. IsSomeAnd (ident_asked s.loaded o) (IsGoodFrom s o b r plan root))) served in
-    let root = some_both (root_asked s.loaded o) (λ root. IsSomeAnd (ident_asked s.loaded o) (IsGoodFrom s o b r plan.0 root)) (AreOther s.loaded o b paths v v' place) plan.2 others in
+    let root = some_both (root_asked s.loaded o) (λ root. IsSomeAnd (ident_asked s.loaded o) (IsGoodFrom s o b r plan.0 root)) P plan.2 others in
     let ident = some_of (ident_asked s.loaded o) (IsGoodFrom s o b r plan.0 root.0) root.2 in
-    good_unfolds s.loaded o b plan.0 root.0 ident.0 r short root.1 ident.2 root.3.other
+    good_unfolds s.loaded o b plan.0 root.0 ident.0 r short root.1 ident.2 (other root.0 root.3)
+
+pub good_stays_read : GoodStaysRead
+good_stays_read s n o b r paths v v' place good ((known, others), still) =
+    good_is_no_other s n o b r (AreOther s.loaded o b paths v v' place) good others (λ root h. h.other)
 
 -- steps and what they lead to are one
 steps_one : (plain : List PlainStep) (path other : List Step) → AreSteps plain path → AreSteps plain other → path ≡ other

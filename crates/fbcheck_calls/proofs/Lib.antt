@@ -1,6 +1,7 @@
 pub mod AgainLemmas
 pub mod AnswerLemmas
 pub mod BegunLemmas
+pub mod EachLemmas
 pub mod FaultNames
 pub mod FitLemmas
 pub mod FramerLemmas
@@ -11,6 +12,7 @@ pub mod MemberLemmas
 pub mod Owned
 pub mod Shown
 pub mod SpanLemmas
+pub mod StarLemmas
 pub mod StandLemmas
 pub mod StatusWords
 pub mod StepLemmas

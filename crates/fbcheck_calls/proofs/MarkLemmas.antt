@@ -4,8 +4,8 @@ use Rattle.std.specs.Prelude.{◌==◌, ◌&&◌, is_none}
 use Rattle.std.proofs.lemmas.Option.{slice_get_within}
 use Rattle.fb_schema.specs.{Live.Live, Rows.Rows}
 use Rattle.fb_bfbs.specs.{ByteFields.HasUnmarked, ByteFields.IsField, ByteFields.is_at, ByteFields.is_bytes, Loads.IsLoaded, Loads.IsLoadFault, Marks.AreMarks, Marks.Marked, Marks.marked}
-use Rattle.fb_bfbs.specs.declared.{loading.Loaded.Loaded, load_fault.LoadFault.TheVariants.OutOfMemory, marks.Mark.Mark, marks.Marks.Marks}
-use Rattle.fb_strict.specs.{Holding.IsPlanFault, Holding.has_bytes, Holding.is_lost, Holding.meant}
+use Rattle.fb_bfbs.specs.declared.{loading.Loaded.Loaded, marks.Mark.Mark, marks.Marks.Marks}
+use Rattle.fb_strict.specs.{Holding.IsPlanFault, Holding.has_bytes, Holding.meant}
 use Rattle.fb_strict.specs.declared.holding.PlanFault.TheVariants.{NoSuchTable as LostAt}
 use Rattle.fbcheck_calls.specs.declared.{answer.Answer.Answer, answer.FieldAt.FieldAt, options.Options.Options}
 use Rattle.fbcheck_calls.specs.declared.answer.Answer.TheVariants.{NoSchema, NoSuchTable}

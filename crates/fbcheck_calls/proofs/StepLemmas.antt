@@ -2,20 +2,15 @@
 use Rattle.std.proofs.Common.{◌≡◌, ℕ, ◌+◌, ◌<◌, get_or, add-one, List, [], ◌∷◌, ◌++◌, length, take, drop, sym, ap, subst, ◌∙◌, arith, append_assoc, drop-cons, length-take-le, Some}
 use Rattle.std.proofs.Math.ListN.{set}
 use Rattle.std.proofs.lemmas.{List.set_at, List.take_more, Slice.Zip.AllZip-long, Slice.Zip.all_zipped_more}
-use Rattle.fb_schema.specs.declared.kinds.Kind.{Kind}
 use Rattle.fb_schema.specs.Rows.{Rows}
 use Rattle.fb_access.specs.declared.{step.Step.Step, spot.Spot.Spot}
-use Rattle.fb_access.specs.{Denotes.Leads, Denotes.Reaches, Fitting.StepsFit, Fitting.next_kind, Here.IsOfKind, Here.KindsGoOn}
+use Rattle.fb_access.specs.{Denotes.Leads, Denotes.Reaches, Fitting.next_kind, Here.KindsGoOn}
 use Rattle.fbcheck_calls.specs.declared.steps.PlainStep.{PlainStep}
-use Rattle.fbcheck_calls.specs.Steps.{AreSteps, step_of}
+use Rattle.fbcheck_calls.specs.Steps.{AreSteps, FitHere, step_of}
 
 -- where the steps that are left lead is what was looked for
 abbrev pub IsReachedBy : List ℕ → Rows → Spot → List PlainStep → (Spot → Type 0) → Type 0
 IsReachedBy b S p plain W = (path : List Step) (x : Spot) → AreSteps plain path → Reaches b S p path x → W x
-
--- the steps that are left are those of a path that fits here
-abbrev pub FitHere : Rows → Spot → List PlainStep → Type 0
-FitHere S p plain = (path : List Step) × (kind : Kind) × AreSteps plain path × IsOfKind p kind × StepsFit S kind path
 
 module _ (S : Rows) (p : Spot) (c : PlainStep) (cs : List PlainStep) where
   pub reaches_more : (b : List ℕ) (W : Spot → Type 0) (s : Step) (q : Spot) → step_of c ≡ Some s → Leads b S p s q → IsReachedBy b S p (c ∷ cs) W → IsReachedBy b S q cs W

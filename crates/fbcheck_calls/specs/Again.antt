@@ -1,5 +1,5 @@
 -- What is answered where values are read in bytes that aren't checked: those of a buffer that was good before.
-use Rattle.std.specs.Prelude.{◌≡◌, ℕ, ◌+◌, ◌<◌, ◌≤◌, ◌^◌, List, length, slice_index_or, Option, Some, None, IsSomeAnd}
+use Rattle.std.specs.Prelude.{◌≡◌, ℕ, ◌+◌, ◌<◌, ◌≤◌, ◌^◌, List, length, slice_index_or, None, IsSomeAnd}
 use Rattle.fb_bfbs.specs.declared.loading.Loaded.{Loaded}
 use Rattle.fb_rules.specs.declared.fault.Report.{Report}
 use Rattle.fb_rules.specs.declared.start.Start.{Start}

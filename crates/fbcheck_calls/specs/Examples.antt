@@ -130,7 +130,7 @@ abbrev pub step : ℕ → ℕ → PlainStep
 step kind number = record { kind = kind; number = number }
 
 abbrev pub path_of : ℕ → PlainPath
-path_of count = record { count = count; reserved = 0; steps = step 1 7 ∷ replicate 30 no_step }
+path_of count = record { count = count; each = 0; steps = step 1 7 ∷ replicate 30 no_step }
 
 pub record Paths : Type 0 where
   pub field : map step_of (step 1 0 ∷ step 1 65535 ∷ step 1 65536 ∷ []) ≡ Some (Field 0) ∷ Some (Field 65535) ∷ None ∷ []

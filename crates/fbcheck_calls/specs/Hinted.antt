@@ -5,7 +5,7 @@ use Rattle.fb_schema.specs.Rows.{Rows, table_named}
 use Rattle.fb_access.specs.Resolving.{Resolves}
 use Rattle.fb_access.specs.declared.step.Step.{Step}
 use Rattle.fbcheck_calls.specs.declared.{held.Held.Held, held.Held.TheVariants.Schema, held.Held.TheVariants.Room}
-use Rattle.fbcheck_calls.specs.{Asked.published, Asked.root_asked, Placed.IsTextTold}
+use Rattle.fbcheck_calls.specs.{Asked.published, Asked.root_asked, Marked.IsFirstMark, Marked.plain_text, Placed.IsTextTold}
 
 -- a byte that is printable ASCII
 abbrev pub is_shown : ℕ → Bool
@@ -18,10 +18,17 @@ pub record IsHintTold (room room' : List ℕ) (told : ℕ) : Type 0 where
   pub short : length text ≤ 1024
   pub is : IsTextTold text room room' told
 
--- a path needs no hint that resolves from the root, nor where there is no root
+-- a text resolves from the root, with [0] for its first [*]
+pub record IsPathFrom (S : Rows) (root : ℕ) (text : List ℕ) : Type 0 where
+  pub mark : Option ℕ
+  pub first_mark : IsFirstMark text mark
+  pub steps : List Step
+  pub resolves : Resolves S root (plain_text text mark) steps
+
+-- a path needs no hint that resolves, nor where there is no root
 abbrev pub NeedsNoHint : Rows → List ℕ → Option ℕ → Type 0
 NeedsNoHint S path None = Unit {0}
-NeedsNoHint S path (Some root) = (steps : List Step) × Resolves S root path steps
+NeedsNoHint S path (Some root) = IsPathFrom S root path
 
 -- nothing is told of such a path
 abbrev pub LacksPathHint : Held → ℕ → List ℕ → ℕ → Type 0

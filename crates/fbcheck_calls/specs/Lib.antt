@@ -8,8 +8,13 @@ pub mod Spans
 pub mod Framers
 pub mod Steps
 pub mod Values
+pub mod Marked
 pub mod Reached
 pub mod Again
+pub mod Each
+pub mod Walks
+pub mod Around
+pub mod Resolved
 pub mod Placed
 pub mod Names
 pub mod Hinted

@@ -1,27 +1,39 @@
 -- What is answered of a path, and of the values at the ends of paths.
-use Rattle.std.specs.Prelude.{◌≡◌, ℕ, ◌<◌, List, length, None, IsSomeAnd}
+use Rattle.std.specs.Prelude.{◌≡◌, ℕ, ◌<◌, List, length, Option, None, IsSomeAnd}
 use Rattle.fb_schema.specs.declared.kinds.Kind.TheVariants.{Table}
-use Rattle.fb_access.specs.declared.step.Step.{Step}
+use Rattle.fb_access.specs.declared.{path_fault.PathFault.PathFault, step.Step.Step}
 use Rattle.fb_access.specs.{Fitting.StepsFit, Resolving.Resolves, Resolving.Refuses}
 use Rattle.fb_bfbs.specs.declared.loading.Loaded.{Loaded}
 use Rattle.fbcheck_calls.specs.declared.{answer.Answer.Answer, checking.Begun.Begun, held.Held.Held, held.Held.TheVariants.Schema, held.Held.TheVariants.Room}
 use Rattle.fbcheck_calls.specs.declared.{options.Options.Options, steps.PlainPath.PlainPath, values.Value.Value}
 use Rattle.fbcheck_calls.specs.declared.answer.Answer.TheVariants.{Done, Good, Bad, UnknownOptions, NoRoot, NoRoom, BadPath, Misfit, TooLong}
 use Rattle.fbcheck_calls.specs.{Answered.IsChecked, Answered.IsUnserved, Answered.Serves, Answered.Starts, Asked.AreKnown, Asked.root_asked, Asked.start_asked, Bases.Based}
-use Rattle.fbcheck_calls.specs.{Steps.AllFit, Steps.IsFirstMisfit, Steps.IsPathOf, Values.AreValues}
+use Rattle.fbcheck_calls.specs.{Marked.IsEach, Marked.IsFirstMark, Marked.plain_text, Steps.AllFit, Steps.IsFirstMisfit, Steps.IsPathOf, Values.AreValues}
 
--- the text resolves from the root to the steps of the path
+-- the text, with [0] for its first [*], resolves from the root to the steps of the path, of which that one stands for each
+-- element
 pub record ResolvesTo (l : Loaded) (text : List ℕ) (p : PlainPath) (root : ℕ) : Type 0 where
+  pub mark : Option ℕ
+  pub first_mark : IsFirstMark text mark
   pub path : List Step
-  pub resolves : Resolves l.schema root text path
+  pub resolves : Resolves l.schema root (plain_text text mark) path
   pub fits : StepsFit l.schema (Table root) path
   pub written : IsPathOf path p
+  pub each : IsEach l.schema root text mark path p.each
 
 -- it resolves to more steps than there is room for
 pub record LacksRoom (l : Loaded) (text : List ℕ) (root : ℕ) : Type 0 where
+  pub mark : Option ℕ
+  pub first_mark : IsFirstMark text mark
   pub path : List Step
-  pub resolves : Resolves l.schema root text path
+  pub resolves : Resolves l.schema root (plain_text text mark) path
   pub long : 31 < length path
+
+-- it has this fault, or memory ran out
+pub record IsRefused (l : Loaded) (text : List ℕ) (fault : PathFault) (root : ℕ) : Type 0 where
+  pub mark : Option ℕ
+  pub first_mark : IsFirstMark text mark
+  pub refuses : Refuses l.schema root (plain_text text mark) fault
 
 -- the path of a text, from the root that the options ask
 pub record IsResolved (l : Loaded) (o : Options) (text : List ℕ) (p : PlainPath) : Type 0 where
@@ -32,7 +44,7 @@ pub record IsResolved (l : Loaded) (o : Options) (text : List ℕ) (p : PlainPat
 abbrev pub IsUnresolved : Loaded → Options → List ℕ → Answer → Type 0
 IsUnresolved l o text UnknownOptions = AreKnown o → ⊥
 IsUnresolved l o text NoRoot = AreKnown o × (root_asked l o ≡ None)
-IsUnresolved l o text (BadPath fault) = AreKnown o × IsSomeAnd (root_asked l o) (λ root. Refuses l.schema root text fault)
+IsUnresolved l o text (BadPath fault) = AreKnown o × IsSomeAnd (root_asked l o) (IsRefused l text fault)
 IsUnresolved l o text NoRoom = AreKnown o × IsSomeAnd (root_asked l o) (LacksRoom l text)
 IsUnresolved l o text _ = ⊥
 

@@ -6,7 +6,7 @@ use Rattle.fb_schema.specs.Rows.{Rows}
 use Rattle.fb_rules.specs.declared.start.Start.{Start}
 use Rattle.fb_access.specs.declared.{step.Step.Step, step.Step.TheVariants.Field, step.Step.TheVariants.Element, step.Step.TheVariants.Member}
 use Rattle.fb_access.specs.declared.spot.Spot.{Spot}
-use Rattle.fb_access.specs.{Denotes.Reaches, Denotes.root_spot, Fitting.StepsFit}
+use Rattle.fb_access.specs.{Denotes.Reaches, Denotes.root_spot, Fitting.StepsFit, Here.IsOfKind}
 use Rattle.fbcheck_calls.specs.declared.{steps.PlainPath.PlainPath, steps.PlainStep.PlainStep}
 
 -- the step of this kind and number, if there is one
@@ -38,16 +38,23 @@ no_step = record { kind = 0; number = 0 }
 -- what C has of the path of these steps; zeros stand behind them
 pub record IsPathOf (path : List Step) (p : PlainPath) : Type 0 where
   pub count : p.count ≡ length path
-  pub reserved : p.reserved ≡ 0
   pub front : AreInFront path (replicate 31 no_step) p.steps
 
--- the steps of a path as C has it, none where they are said to be more than there is room for
+-- the steps that a path as C has it says, none where they are said to be more than there is room for
+abbrev pub steps_said : PlainPath → Option (List PlainStep)
+steps_said p = if nat_le p.count 31 then Some (take p.count p.steps) else None
+
+-- the steps to one value, none where one of them stands for each element
 abbrev pub steps_in : PlainPath → Option (List PlainStep)
-steps_in p = if nat_le p.count 31 then Some (take p.count p.steps) else None
+steps_in p = if p.each == 0 then steps_said p else None
 
 -- these are steps that fit, each the kind to which those before it lead
 abbrev pub FitFrom : Rows → Kind → List PlainStep → Type 0
 FitFrom S kind plain = (path : List Step) × AreSteps plain path × StepsFit S kind path
+
+-- these are steps that fit what is at a spot, each what those before it lead to
+abbrev pub FitHere : Rows → Spot → List PlainStep → Type 0
+FitHere S p plain = (path : List Step) × (kind : Kind) × AreSteps plain path × IsOfKind p kind × StepsFit S kind path
 
 -- they are no such steps from the root table
 abbrev pub DontFit : Rows → ℕ → List PlainStep → Type 0

@@ -5,7 +5,7 @@ ghost use Rattle.std.specs.Prelude.{◌≡◌, ◌<◌, ◌^◌, MatchOption, Ma
 ghost use Rattle.fb_access.specs.Tested.{IsOther};
 ghost use Rattle.fb_access.specs.declared.spot.Spot.{Spot as ASpot};
 ghost use Rattle.fbcheck_calls.specs.Again.{AreToldBelow, IsReadAgainBy, LiesWithin};
-ghost use Rattle.fbcheck_calls.specs.{Steps.AllFit, Steps.DontFit, Steps.EndAt, Values.value_at};
+ghost use Rattle.fbcheck_calls.specs.{Steps.AllFit, Steps.DontFit, Steps.EndAt, Values.AreValues, Values.value_at};
 
 use crate::answer::Answer;
 use crate::checking::metered;
@@ -13,11 +13,12 @@ use crate::fits::first_misfit;
 use crate::held::Held;
 use crate::options::{LONGEST, Options};
 use crate::steps::{PlainPath, PlainStep};
-use crate::values::{Value, placed, told_value};
-use fb_access::{Changed, first_spot, see, step_from};
+use crate::values::Value;
+use crate::walks::{tell, walk};
+use fb_access::{Changed, first_spot};
 use fb_bytes::Window;
 use fb_schema::Schema;
-use fb_verify::Start;
+use fb_verify::{Start, Verified};
 
 /// What stands at the end of these steps from the root table, none where they don't fit.
 ///
@@ -36,19 +37,11 @@ fn found_again(
         (λ v. ((q : ASpot) × EndAt window.now schema.now start root steps.now q × (v ≡ value_at window.now schema.now q)) × LiesWithin (length window.now) v))
         (λ _. IsOther window.now schema.now start root) }
 {
-    schema.lawful();
-    let mut spot = first_spot(window, schema, start, root)?;
-    for given in steps {
-        let Some(step) = given.step() else {
-            return Ok(None);
-        };
-        match step_from(window, schema, spot, step)? {
-            Some(to) => spot = to,
-            None => return Ok(None),
-        }
+    let first = first_spot(window, schema, start, root)?;
+    match walk(window, schema, first, steps)? {
+        Some(end) => Ok(Some(tell(window, schema, end)?)),
+        None => Ok(None),
     }
-    let seen = see(window, schema, spot)?;
-    Ok(Some(placed(told_value(seen.answer), seen.extent)))
 }
 
 /// Tells the values at the ends of paths that fit, each at the place of its path. Where there are more of paths or of
@@ -83,6 +76,26 @@ fn tell_again(
         }
     }
     Ok(())
+}
+
+/// Tells the values at the ends of paths that fit in a buffer that is good, each at the place of its path. Where there
+/// are more of paths or of values than of the others, these are left alone. It reads by tests that a good buffer passes:
+/// they take fewer instructions than to look up what the check knows.
+pub fn tell_values(verified: &Verified<'_, '_, '_>, paths: &[PlainPath], values: &mut [Value])
+    requires { AllFit (verified.now).schema (verified.now).root paths.now }
+    ensures { AreValues (verified.now).bytes (verified.now).schema (verified.now).start (verified.now).root paths.now values.new }
+{
+    match tell_again(
+        verified.window(),
+        verified.schema(),
+        verified.start(),
+        verified.root(),
+        paths,
+        values,
+    ) {
+        Ok(()) => {}
+        Err(_) => unreachable!(),
+    }
 }
 
 /// Tells the values at the ends of paths in bytes that aren't checked, if they are those of a good buffer as far as it

@@ -6,8 +6,9 @@ ghost use Rattle.fb_verify.specs.Sealed.{Sealed};
 ghost use Rattle.fbcheck_calls.specs.Answered.{Begins, IfSchema, IsChecked, IsPriced, IsTold, IsUnchecked, IsUnservedBy, Starts, levels};
 ghost use Rattle.fbcheck_calls.specs.{Steps.AllFit, Told.found_by, Told.told, Values.AreValues};
 ghost use Rattle.fbcheck_calls.specs.declared.{answer.Answer.Answer, checking.Begun.Begun};
-ghost use Rattle.fbcheck_calls.specs.Reached.{IsPath, IsRead, IsReadBy, IsResolved, IsUnread, IsUnresolved, StartsRead};
+ghost use Rattle.fbcheck_calls.specs.Reached.{IsRead, IsReadBy, IsUnread, StartsRead};
 
+use crate::again::tell_values;
 use crate::answer::{Answer, Verdict, low, tell_bad, tell_blank, tell_good};
 use crate::basis::Basis;
 use crate::fits::first_misfit;
@@ -18,8 +19,7 @@ use crate::steps::PlainPath;
 use crate::strict::{
     check_alone_strictly, check_within_strictly, read_in_strictly, read_shallow_strictly,
 };
-use crate::values::{Value, tell_values};
-use fb_access::Path;
+use crate::values::Value;
 use fb_bfbs::Loaded;
 use fb_bytes::Meter;
 use fb_strict::most_reads_strictly;
@@ -368,58 +368,6 @@ pub fn read(
     };
     handle.put(taken);
     status
-}
-
-/// The steps of the path that a text names from the root table that the options ask.
-///
-/// # Errors
-///
-/// `UnknownOptions`; `NoRoot`; `BadPath` as [`Path::resolve`] has it; `NoRoom` where they are more than there is room
-/// for.
-fn steps_of(
-    alloc: Global,
-    loaded: &Loaded<'static>,
-    options: &Options,
-    text: &[u8],
-) -> Result<PlainPath, Answer>
-    ensures { MatchResult result (IsResolved loaded.now options.now text.now) (IsUnresolved loaded.now options.now text.now) }
-{
-    if !options.are_known() {
-        return Err(Answer::UnknownOptions);
-    }
-    let Some(root) = options.root(loaded) else {
-        return Err(Answer::NoRoot);
-    };
-    let path = match Path::resolve(alloc, &loaded.schema, root, text) {
-        Ok(path) => path,
-        Err(fault) => return Err(Answer::BadPath(fault)),
-    };
-    match PlainPath::of(path.steps()) {
-        Some(plain) => Ok(plain),
-        None => Err(Answer::NoRoom),
-    }
-}
-
-/// Writes the path that a text names, as [`steps_of`] has it; where there is none, nothing is written.
-pub fn resolve(
-    alloc: Global,
-    held: &Held,
-    options: &Options,
-    text: &[u8],
-    path: &mut PlainPath,
-) -> Answer
-    ensures { IsPath held.now options.now text.now path.old path.new result }
-{
-    let Held::Schema(basis) = held else {
-        return Answer::NoRoot;
-    };
-    match steps_of(alloc, basis.loaded(), options, text) {
-        Ok(plain) => {
-            *path = plain;
-            Answer::Done
-        }
-        Err(answer) => answer,
-    }
 }
 
 /// How many reads a check of so many bytes makes at most, with those of the pass where the options have demands.

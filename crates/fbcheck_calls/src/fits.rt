@@ -4,7 +4,7 @@ ghost use Rattle.std.specs.Prelude.{◌≡◌, ◌↔◌, IsTrue, MatchOption, o
 ghost use Rattle.fb_access.specs.Fitting.{next_kind, numbered};
 ghost use Rattle.fb_schema.specs.declared.kinds.Kind.TheVariants.{Table};
 ghost use Rattle.fb_schema.specs.{Live.live_of_view, Members.member_of};
-ghost use Rattle.fbcheck_calls.specs.Steps.{AllFit, FitFrom, FitsFrom, IsFirstMisfit};
+ghost use Rattle.fbcheck_calls.specs.{Each.FitsEach, Steps.AllFit, Steps.FitFrom, Steps.FitsFrom, Steps.IsFirstMisfit};
 
 use crate::steps::{PlainPath, PlainStep};
 use fb_access::{Step, element_kind};
@@ -96,4 +96,17 @@ pub fn first_misfit(schema: &Schema<'_>, root: u32, paths: &[PlainPath]) -> Opti
         }
     }
     None
+}
+
+/// Whether a path leads to each element of a vector or array, and fits from the root table.
+pub fn fits_each(schema: &Schema<'_>, root: u32, path: &PlainPath) -> bool
+    ensures { IsTrue result ↔ FitsEach schema.now root path.now }
+{
+    let Some(_) = path.around() else {
+        return false;
+    };
+    let Some(steps) = path.said() else {
+        return false;
+    };
+    steps_fit(schema, root, steps)
 }

@@ -1,13 +1,18 @@
 //! What helps where a path or a root table isn't there, in words, copied into room that a caller gives.
 
-ghost use Rattle.std.specs.Prelude.{◌≡◌, [], IsTrue};
+ghost use Rattle.std.specs.Prelude.{◌≡◌, [], IfSome, IsTrue, List};
 ghost use Rattle.std.specs.List.{list_all};
-ghost use Rattle.fbcheck_calls.specs.Hinted.{IsHintTold, LacksPathHint, LacksRootHint, is_shown};
+ghost use Rattle.fb_schema.specs.Rows.{is_table};
+ghost use Rattle.fb_access.specs.{Resolving.Resolves, declared.step.Step.Step};
+ghost use Rattle.fbcheck_calls.specs.Hinted.{IsHintTold, IsPathFrom, LacksPathHint, LacksRootHint, is_shown};
+ghost use Rattle.fbcheck_calls.specs.Marked.{HasMark, at_zero};
 
 use crate::held::Held;
 use crate::options::Options;
 use crate::place::cut_into;
+use crate::resolving::first_mark;
 use arrayvec::ArrayVec;
+use fb_schema::Schema;
 
 /// The most bytes of a hint that are told, before the `..` of a longer one.
 const MOST: usize = 1_022;
@@ -17,6 +22,9 @@ const FRONT: usize = 1_023;
 
 /// The text of a hint: as many bytes as are told, and `..`.
 type HintText = ArrayVec<u8, 1_024>;
+
+/// The text of a path with `[0]` for its `[*]`.
+type PlainText = ArrayVec<u8, 1_024>;
 
 /// A byte of a hint as it is written: a name's byte that isn't printable stands as `?`.
 fn shown(byte: u8) -> u8
@@ -75,6 +83,43 @@ fn copy_hint(pieces: &[&[u8]], room: &mut [u8]) -> usize
     cut_into(text_of(pieces).as_slice(), room)
 }
 
+/// A text with `[0]` for the `[*]` at this place, if there is room for it.
+fn at_zero(text: &[u8], at: usize) -> Option<PlainText>
+    requires { HasMark text.now at }
+    ensures { IfSome result (λ plain. plain.items ≡ at_zero text.now at) }
+{
+    let mut plain = PlainText::new();
+    let Ok(()) = plain.try_extend_from_slice(text) else {
+        return None;
+    };
+    plain[at + 1] = b'0';
+    Some(plain)
+}
+
+/// Copies what helps where a text without `[*]` doesn't fit a table.
+fn plain_hint(schema: &Schema<'_>, table: u32, path: &[u8], room: &mut [u8]) -> usize
+    requires { IsTrue (is_table schema.now table) }
+    ensures told { IsHintTold room.old room.new result }
+    ensures none { (steps : List Step) → Resolves schema.now table path.now steps → result ≡ 0 }
+{
+    copy_hint(fb_access::path_hint(schema, table, path).as_slice(), room)
+}
+
+/// The same of any text; nothing of one that has `[*]` and more than 1,024 bytes.
+fn hint_at(schema: &Schema<'_>, table: u32, path: &[u8], room: &mut [u8]) -> usize
+    requires { IsTrue (is_table schema.now table) }
+    ensures told { IsHintTold room.old room.new result }
+    ensures none { IsPathFrom schema.now table path.now → result ≡ 0 }
+{
+    let Some(at) = first_mark(path) else {
+        return plain_hint(schema, table, path, room);
+    };
+    match at_zero(path, at) {
+        Some(plain) => plain_hint(schema, table, plain.as_slice(), room),
+        None => cut_into(b"", room),
+    }
+}
+
 /// Copies what helps where a path's text doesn't fit the table of this number, as much of it as there is room for. Its
 /// whole length, 0 where the text resolves, or is no path, or there is no such table.
 pub fn path_hint(held: &Held, root: u32, path: &[u8], room: &mut [u8]) -> usize
@@ -90,10 +135,7 @@ pub fn path_hint(held: &Held, root: u32, path: &[u8], room: &mut [u8]) -> usize
         ..Options::published()
     };
     match options.root(loaded) {
-        Some(table) => copy_hint(
-            fb_access::path_hint(&loaded.schema, table, path).as_slice(),
-            room,
-        ),
+        Some(table) => hint_at(&loaded.schema, table, path, room),
         None => cut_into(b"", room),
     }
 }

@@ -1,6 +1,7 @@
 //! What follows from the definitions of answers alone. These functions have no body: their contracts are the theorems.
 
 ghost use Rattle.fbcheck_calls.specs.Again.{GoodStaysRead, ValuesAreOne};
+ghost use Rattle.fbcheck_calls.specs.Each.{GoodStaysReadOfEach, MarkedPathsServe};
 ghost use Rattle.fbcheck_calls.specs.AnswerLaws.{BadGetsNo, DemandsArePlanned, GoodGetsYes, LongGetsItsNumber, PlainIsPlain, ValuesStand};
 ghost use Rattle.fbcheck_calls.specs.Names.{FaultsHaveTheirNames, StatusesHaveWords};
 
@@ -42,6 +43,16 @@ pub fn a_value_stands_where_told()
 #[tactic(auto, using(crate::proofs::AgainLemmas::good_stays_read))]
 pub fn good_bytes_stay_readable()
     ensures { GoodStaysRead }
+{}
+
+/// Nor does a read of each element.
+pub fn good_bytes_stay_readable_by_elements()
+    ensures { GoodStaysReadOfEach }
+{}
+
+/// The path of a text that has `[*]` serves to read each element.
+pub fn a_marked_path_serves()
+    ensures { MarkedPathsServe }
 {}
 
 /// All who tell the value at the end of a path tell the same.

@@ -1,7 +1,8 @@
 //! A path as C has it.
 
 ghost use Rattle.std.specs.Prelude.{◌≡◌, ◌<◌, MatchOption, Some, length, option_map};
-ghost use Rattle.fbcheck_calls.specs.Steps.{AreWritten, IsPathOf, step_of, steps_in};
+ghost use Rattle.fbcheck_calls.specs.{Around.IsAround, Each.HasEach};
+ghost use Rattle.fbcheck_calls.specs.Steps.{AreWritten, IsPathOf, step_of, steps_in, steps_said};
 
 use fb_access::Step;
 
@@ -27,10 +28,19 @@ const NO_STEP: PlainStep = PlainStep { kind: 0, number: 0 };
 pub struct PlainPath {
     /// How many steps it has.
     pub count: u32,
-    /// 0.
-    pub reserved: u32,
+    /// Which of its steps stands for each element, counted from 1 on; 0 for none.
+    pub each: u32,
     /// The steps, from the first on; behind them zeros.
     pub steps: [PlainStep; 31],
+}
+
+/// The steps of a path around the one that stands for each element.
+#[derive(Clone, Copy)]
+pub struct Around<'p> {
+    /// Those to the vector or array.
+    pub before: &'p [PlainStep],
+    /// Those from an element on.
+    pub after: &'p [PlainStep],
 }
 
 impl PlainStep {
@@ -74,9 +84,9 @@ pub fn write_steps(path: &[Step], room: &mut [PlainStep]) -> bool
 }
 
 impl PlainPath {
-    /// The path of these steps, none where they are more than 31.
+    /// The path of these steps to one value, none where they are more than 31.
     pub fn of(path: &[Step]) -> Option<PlainPath>
-        ensures { MatchOption result (31 < length path.now) (IsPathOf path.now) }
+        ensures { MatchOption result (31 < length path.now) (λ p. IsPathOf path.now p × (p.each ≡ 0)) }
     {
         let mut steps = [NO_STEP; 31];
         if !write_steps(path, &mut steps) {
@@ -84,18 +94,45 @@ impl PlainPath {
         }
         Some(PlainPath {
             count: path.len() as u32,
-            reserved: 0,
+            each: 0,
             steps,
         })
     }
 
-    /// Its steps, none where they are said to be more than 31.
-    pub fn steps(&self) -> Option<&[PlainStep]>
-        ensures { option_map (λ s. s.now) result ≡ steps_in self.now }
+    /// The steps that it says, none where they are said to be more than 31.
+    pub fn said(&self) -> Option<&[PlainStep]>
+        ensures { option_map (λ s. s.now) result ≡ steps_said self.now }
     {
         if self.count > STEPS {
             return None;
         }
         Some(&self.steps[..self.count as usize])
+    }
+
+    /// Its steps to one value, none where one of them stands for each element.
+    pub fn steps(&self) -> Option<&[PlainStep]>
+        ensures { option_map (λ s. s.now) result ≡ steps_in self.now }
+    {
+        if self.each != 0 {
+            return None;
+        }
+        self.said()
+    }
+
+    /// The steps around the one that stands for each element, none where there is none.
+    pub fn around(&self) -> Option<Around<'_>>
+        ensures { MatchOption result (HasEach self.now → ⊥) (IsAround self.now) }
+    {
+        if self.each == 0 || self.each > self.count || self.count > STEPS {
+            return None;
+        }
+        let each = self.each as usize;
+        if self.steps[each - 1].kind != 2 {
+            return None;
+        }
+        Some(Around {
+            before: &self.steps[..each - 1],
+            after: &self.steps[each..self.count as usize],
+        })
     }
 }

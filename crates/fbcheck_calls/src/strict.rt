@@ -10,6 +10,7 @@ ghost use Rattle.fbcheck_calls.specs.{Answered.IsChecked, Asked.plan_asked, Reac
 ghost use Rattle.fbcheck_calls.specs.Placed.{IsLocated, IsTextTold, IsUntold};
 ghost use Rattle.fbcheck_calls.specs.declared.answer.Answer.{Answer};
 
+use crate::again::tell_values;
 use crate::answer::{Verdict, tell_bad, tell_good};
 use crate::basis::Basis;
 use crate::checking::{SHALLOW, metered, prepare, prepare_read};
@@ -17,7 +18,7 @@ use crate::held::{NO_LINK, Room};
 use crate::options::Options;
 use crate::place::write_place;
 use crate::steps::PlainPath;
-use crate::values::{Value, tell_values};
+use crate::values::Value;
 use fb_schema::Schema;
 use fb_strict::{
     Plan, VerifiedStrictly, verify_strictly, verify_strictly_and_locate,

@@ -1,15 +1,11 @@
 //! The value at the end of a path, for C.
 
-ghost use Rattle.std.specs.Prelude.{◌≡◌, IfNone, IfSome};
+ghost use Rattle.std.specs.Prelude.{◌≡◌};
 ghost use Rattle.fb_access.specs.Denotes.{shown};
-ghost use Rattle.fb_access.specs.declared.spot.Spot.{Spot};
-ghost use Rattle.fbcheck_calls.specs.Steps.{AllFit, DontFit, EndAt};
-ghost use Rattle.fbcheck_calls.specs.Values.{AreValues, numbered, placed, plain, value_at, value_told, widened};
+ghost use Rattle.fbcheck_calls.specs.Values.{numbered, placed, plain, value_told, widened};
 
-use crate::steps::{PlainPath, PlainStep};
 use core::num::{f32_from_bits_with_nan, f32_to_f64_with_nan, f64_to_bits_with_nan};
-use fb_access::{Answer as Found, Extent, at_root};
-use fb_verify::Verified;
+use fb_access::{Answer as Found, Extent};
 
 /// What is told of a value (`fbcheck_value`). What isn't told is 0.
 #[repr(C)]
@@ -91,42 +87,5 @@ pub fn placed(value: Value, extent: Option<Extent>) -> Value
     match extent {
         Some(Extent { at, size }) => Value { at, size, ..value },
         None => value,
-    }
-}
-
-/// What stands at the end of these steps from the root table, none where they don't fit.
-fn found_at(verified: &Verified<'_, '_, '_>, steps: &[PlainStep]) -> Option<Value>
-    ensures found { IfSome result (λ v. (q : Spot) × EndAt (verified.now).bytes (verified.now).schema (verified.now).start (verified.now).root steps.now q
-        × (v ≡ value_at (verified.now).bytes (verified.now).schema q)) }
-    ensures misfit { IfNone result (DontFit (verified.now).schema (verified.now).root steps.now) }
-{
-    let mut place = at_root(verified);
-    for given in steps {
-        let Some(step) = given.step() else {
-            return None;
-        };
-        if !place.allows(step) {
-            return None;
-        }
-        place = place.go(step);
-    }
-    Some(placed(told_value(place.answer()), place.extent()))
-}
-
-/// Tells the values at the ends of paths that fit, each at the place of its path. Where there are more of paths or of
-/// values than of the others, these are left alone.
-pub fn tell_values(verified: &Verified<'_, '_, '_>, paths: &[PlainPath], values: &mut [Value])
-    requires { AllFit (verified.now).schema (verified.now).root paths.now }
-    ensures { AreValues (verified.now).bytes (verified.now).schema (verified.now).start (verified.now).root paths.now values.new }
-{
-    let count = paths.len().min(values.len());
-    for place in 0..count {
-        let Some(steps) = paths[place].steps() else {
-            unreachable!()
-        };
-        let Some(value) = found_at(verified, steps) else {
-            unreachable!()
-        };
-        values[place] = value;
     }
 }

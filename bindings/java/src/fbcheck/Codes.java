@@ -156,7 +156,7 @@ final class Codes {
 
     // fbcheck_path: the place of each field in it, and how many bytes it has
     static final int PATH_COUNT = 0;
-    static final int PATH_RESERVED = 4;
+    static final int PATH_EACH = 4;
     static final int PATH_STEPS = 8;
     static final int PATH_BYTES = 256;
 
@@ -205,6 +205,9 @@ final class Codes {
                     ADDRESS);
     static final FunctionDescriptor READ_AGAIN_WORDS =
             FunctionDescriptor.of(JAVA_INT, ADDRESS, ADDRESS, ADDRESS, JAVA_LONG, ADDRESS, ADDRESS, JAVA_LONG, ADDRESS);
+    static final FunctionDescriptor READ_EACH_WORDS =
+            FunctionDescriptor.of(JAVA_INT, ADDRESS, ADDRESS, ADDRESS, JAVA_LONG, ADDRESS, JAVA_LONG, ADDRESS,
+                    JAVA_LONG, ADDRESS, ADDRESS);
     static final FunctionDescriptor MOST_READS_WORDS =
             FunctionDescriptor.of(JAVA_INT, ADDRESS, ADDRESS, JAVA_LONG, ADDRESS);
     static final FunctionDescriptor FAULT_NAME_WORDS =

@@ -38,7 +38,7 @@ def letters_of(file: bytes, root: str | None, path: str, steps: bytes) -> str:
     first = schema.row(4)
     name = root.encode() if root is not None else first.text(0) if first is not None else b""
     base, element, index = OBJECT, 0, next(at for at, row in enumerate(objects) if row.text(0) == name)
-    for at, (kind, word) in enumerate(re.findall(r"([.@\[]?)(\w+)\]?", path)):
+    for at, (kind, word) in enumerate(re.findall(r"([.@\[]?)(\w+|\*)\]?", path)):
         if kind == "[":
             base, element = element, 0
             continue
