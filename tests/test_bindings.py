@@ -8,6 +8,7 @@ A driver reads commands, one a line, and writes what each answers, and behind it
     check FILE                      the verdict on a message, wherever its bytes are
     stream FILE FIRST SIZE MOST     the verdicts on a stream in pieces, the first of another size
     read FILE PATH..                values at paths; misfit OPTION PATH FILE by a path of a schema with this option
+    stranger SCHEMA PATH FILE       the same by a path of another load; zero FILE by a path that is nothing
     threads FILE COUNT THREADS      how many of so many verdicts are alike
     loads FILE COUNT                kilobytes that so many loads take; time FILE COUNT the nanoseconds a check takes
     most LENGTH                     most reads; object NUMBER and field NUMBER NUMBER tell names; close frees the schema
@@ -428,7 +429,35 @@ def chain(count):
     return root
 
 
-class Rust(Binding, LibraryCase):
+class Native(Binding):
+    """The cases of Rust and Go alone."""
+
+    def test_strange_paths(self):
+        """A path of another schema or root isn't followed, even where it would lead somewhere."""
+        first, none = file_of("first", messages_of(POST)[0]), file_of("none", b"")
+        misfit = "error a path is none of this schema from this root"
+        zeros = "max_depth=0 max_tables=0 max_reads=0 reads_per_byte=0"
+        rows = [(f"misfit max_depth=9 to.name {first}", "done"), (f"misfit root=post.Delivery to.name {first}", "done"),
+                (f"misfit root=post.Person name {first}", misfit), (f"misfit root=post.Parcel fragile {first}", misfit),
+                (f"stranger {ORDERS} to.name {first}", misfit), (f"stranger {ORDERS} to.name {none}", misfit),
+                (f"stranger {ORDERS} to.name {first} root=post.Delivery prefixed=1", misfit)]
+        told = self.told(f"load {ORDERS} prefixed=1", *(command for command, _ in rows))[1:]
+        for (command, want), got in zip(rows, told):
+            self.same(command, got, want)
+        if self.language == "Go":
+            self.same("no path", self.told(f"load {ORDERS} prefixed=1", f"zero {first}", f"zero {none}")[1:],
+                      [misfit] * 2)
+            zeros = "max_depth=1 max_tables=1 max_reads=1 reads_per_byte=1"
+        for asked in (zeros, "root=post.Person", f"root=post.Person {zeros}", "ident=own", "strict=1"):
+            told = self.told(f"load {ORDERS} {asked}", "with prefixed=1", f"misfit prefixed=1 to {none}",
+                             f"load {ORDERS} {asked}", f"misfit max_reads=5 to {none}",
+                             f"misfit root=post.Person name {none}")
+            same = "root=post.Person" in asked
+            self.same(f"{asked}: the root is known", (told[2] == misfit, told[4] == misfit, told[5] == misfit),
+                      (False, same, not same))
+
+
+class Rust(Native, LibraryCase):
     language, folder, fence = "Rust", "rust", "rust"
     max_depth, plain_bytes, closed = "max_depth", "plain_bytes", None
     target = FOLDER / "rust"
@@ -561,7 +590,7 @@ class Node(Binding, LibraryCase):
         return ["node", folder / "page.js"]
 
 
-class Go(Binding, LibraryCase):
+class Go(Native, LibraryCase):
     language, folder, fence = "Go", "go", "go"
     max_depth, strict, plain_bytes = "MaxDepth", "Strict", "PlainBytes"
     driver = [FOLDER / "driver_go"]

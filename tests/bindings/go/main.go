@@ -172,6 +172,20 @@ func misfit(schema *fbcheck.Schema, words []string) error {
 	return err
 }
 
+func stranger(schema *fbcheck.Schema, words []string) error {
+	other, err := fbcheck.NewSchema(file(words[0]), options(words[3:]))
+	if err != nil {
+		return err
+	}
+	defer other.Close()
+	path, err := other.Path(words[1])
+	if err != nil {
+		return err
+	}
+	_, err = schema.Read(file(words[2]), path)
+	return err
+}
+
 func threads(schema *fbcheck.Schema, words []string) string {
 	message, count := file(words[0]), int(number(words[1]))
 	want := schema.Check(message)
@@ -283,6 +297,11 @@ func done(schema **fbcheck.Schema, words []string, to io.Writer) (told string, e
 		return read(*schema, file(rest[0]), rest[1:])
 	case "misfit":
 		return "done", misfit(*schema, rest)
+	case "stranger":
+		return "done", stranger(*schema, rest)
+	case "zero":
+		_, err := (*schema).Read(file(rest[0]), fbcheck.Path{})
+		return "done", err
 	case "threads":
 		return threads(*schema, rest), nil
 	case "loads":

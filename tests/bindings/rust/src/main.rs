@@ -132,6 +132,14 @@ fn misfit(schema: &Schema, words: &[&str]) -> Told {
     Ok(read.map_or_else(|fault| format!("error bad {fault}"), |()| "done".to_owned()))
 }
 
+/// Reads by a path that another load of the schema file resolved, which panics.
+fn stranger(schema: &Schema, words: &[&str]) -> Told {
+    let other = options(&words[3..])?.load(&fs::read(words[0])?)?;
+    let (path, bytes) = (other.path(words[1])?, fs::read(words[2])?);
+    let read = quietly(|| schema.read_all(&bytes, &[path]).map(|_| ()))?;
+    Ok(read.map_or_else(|fault| format!("error bad {fault}"), |()| "done".to_owned()))
+}
+
 /// What a call gives, or the text by which it panics.
 fn quietly<T>(call: impl FnOnce() -> T) -> Result<T, Box<dyn std::error::Error>> {
     panic::set_hook(Box::new(|_| ()));
@@ -199,6 +207,7 @@ fn done(schema: &mut Option<Schema>, words: &[&str], to: &mut impl Write) -> Tol
         ("with", Some(old)) => *schema = Some(old.with(&options(rest)?)?),
         ("check", Some(schema)) => return check(schema, rest[0]),
         ("misfit", Some(schema)) => return misfit(schema, rest),
+        ("stranger", Some(schema)) => return stranger(schema, rest),
         ("stream", Some(schema)) => return stream(schema, rest, to),
         ("read", Some(schema)) => return read(schema, rest),
         ("threads", Some(schema)) => return threads(schema, rest),
