@@ -9,6 +9,9 @@ A driver reads commands, one a line, and writes what each answers, and behind it
     stream FILE FIRST SIZE MOST     the verdicts on a stream in pieces, the first of another size
     read FILE PATH..                values at paths; misfit OPTION PATH FILE by a path of a schema with this option
     stranger SCHEMA PATH FILE       the same by a path of another load; zero FILE by a path that is nothing
+    again FILE PATH..               values at paths, without a check
+    each FILE VECTOR PATH           those of a vector's elements and of one more, by one path with another index
+    allocations FILE PATH           how many Go makes for values into a slice, for those without a check, for new ones
     threads FILE COUNT THREADS      how many of so many verdicts are alike
     loads FILE COUNT                kilobytes that so many loads take; time FILE COUNT the nanoseconds a check takes
     most LENGTH                     most reads; object NUMBER and field NUMBER NUMBER tell names; close frees the schema
@@ -456,6 +459,42 @@ class Native(Binding):
             self.same(f"{asked}: the root is known", (told[2] == misfit, told[4] == misfit, told[5] == misfit),
                       (False, same, not same))
 
+    def test_reading_again(self):
+        """Without a check, the same values in the same bytes; and nothing outside of other ones."""
+        first = messages_of(POST)[0]
+        whole, ok = file_of("whole_again", buffer(WHOLE)), file_of("first", first)
+        told = self.told(f"load {ALL}", *(f"{word} {whole} {path}" for path in PATHS for word in ("read", "again")))
+        for path, read, again in zip(PATHS, told[1::2], told[2::2]):
+            self.same(path, again, read)
+        many = PATHS * 3
+        told = self.told(f"load {ALL}", f"read {whole} {' '.join(many)}", f"again {whole} {' '.join(many)}")
+        self.same("many at once", (told[1].count(" "), told[2]), (len(many) - 1, told[1]))
+        changed = "error the bytes aren't those of an ok message"
+        none, torn = file_of("none", b""), file_of("torn_again", first[:64])
+        told = self.told(f"load {ORDERS} prefixed=1", f"again {ok} to.name id", f"again {none} to.name",
+                         f"again {torn} to.name items[3]@Note", "with root=post.Person prefixed=1", f"again {ok} name")
+        self.same("the values of a good message", told[1], f"text:{b'Ada'.hex()} 1")
+        self.same("of none, and of a torn one", told[2:4], [changed] * 2)
+        words = []
+        for at in range(0, len(first), 4):
+            wild = file_of(f"wild_again{at}", first[:at] + b"\xff\xff\xff\x7f" + first[at + 4 :])
+            words += [f"again {wild} {path}" for path in ("to.name", "items[3]@Note", "notes[1]", "first@Parcel.tags[0]")]
+        for command, got in zip(words, self.told(f"load {ORDERS} prefixed=1", *words)[1:]):
+            self.holds(f"{command}: a value, or changed", got == changed or not got.startswith("error"), got)
+
+    def test_each_element(self):
+        """All elements of a vector by one path, and none past its end."""
+        first = file_of("first", messages_of(POST)[0])
+        rows = [("notes", "notes[0]", "notes[{}]"), ("helpers", "helpers[7].name", "helpers[{}].name"),
+                ("stamps", "stamps[0]", "stamps[{}]"), ("items", "items[1]@Parcel.fragile", "items[{}]@Parcel.fragile")]
+        for vector, path, each in rows:
+            words = [f"each {first} {vector} {path}", f"read {first} {vector}"]
+            _, got, count = self.told(f"load {ORDERS} prefixed=1", *words)
+            count = int(re.match(r"vector:(\d+):", count)[1])
+            paths = " ".join(each.format(number) for number in [*range(count + 1), 2**32 - 1])
+            self.same(f"{vector}", got, self.told(f"load {ORDERS} prefixed=1", f"read {first} {paths}")[1])
+            self.holds(f"{vector} has some", count > 0)
+
 
 class Rust(Native, LibraryCase):
     language, folder, fence = "Rust", "rust", "rust"
@@ -607,6 +646,11 @@ class Go(Native, LibraryCase):
         for folder in (TOP / "bindings/go", DRIVERS / "go"):
             self.made("gofmt", "-l", ".", folder=folder)
             self.made("go", "vet", "./...", folder=folder)
+
+    def test_allocations(self):
+        """Values into a slice take no memory, and others one piece."""
+        first = file_of("first", messages_of(POST)[0])
+        self.same("how many", self.told(f"load {ORDERS} prefixed=1", f"allocations {first} to.name")[1], "0 0 1")
 
     def test_room(self):
         """A stream takes room for its messages, however long they may be; and no shared library is needed."""

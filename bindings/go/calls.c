@@ -91,6 +91,12 @@ fbcheck_verdict read_values(const checker *checker, const uint8_t *message, size
 	return verdict;
 }
 
+uint32_t read_again(const checker *checker, const uint8_t *message, size_t length, const fbcheck_path *paths,
+                    fbcheck_value *values, size_t count)
+{
+	return fbcheck_read_again(schema_of(checker), &checker->options, message, length, paths, values, count, NULL);
+}
+
 uint64_t most_reads_of(const checker *checker, uint64_t length)
 {
 	uint64_t reads = 0;

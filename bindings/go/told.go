@@ -109,6 +109,7 @@ const (
 	NotPlanned     Status = C.FBCHECK_NOT_PLANNED     // the schema wasn't loaded with what is demanded, such as Strict
 	UnmarkedBytes  Status = C.FBCHECK_UNMARKED_BYTES  // Strict can't tell what a field of type [ubyte] holds
 	NoSuchTable    Status = C.FBCHECK_NO_SUCH_TABLE   // the file marks a nested buffer of a table that it lacks
+	Changed        Status = C.FBCHECK_CHANGED         // ReadAgain: the bytes aren't those of an ok message
 )
 
 var texts = map[Status]string{
@@ -123,6 +124,7 @@ var texts = map[Status]string{
 	TooManySteps:   fmt.Sprintf("the path has more than %d steps", C.FBCHECK_STEPS),
 	Misfit:         "a path is none of this schema from this root",
 	TooMuchShared:  "schema: L6 TooMuchShared",
+	Changed:        "the bytes aren't those of an ok message",
 	NotPlanned:     "the schema was loaded with other demands: ask for these when you load it",
 	UnmarkedBytes: "strict can't tell which bytes are nested buffers or flexbuffers: %s; flatc --bfbs-builtins writes it" +
 		" to the .bfbs, PlainBytes takes such fields as bytes",

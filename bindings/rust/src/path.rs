@@ -27,6 +27,25 @@ impl Path {
         Path { steps, origin }
     }
 
+    /// The path with another index at its last `[n]`, such as `items[7].name` instead of `items[0].name`. No vector has
+    /// more than 2^31 elements: with a greater index, values are [`Value::NoElement`](crate::Value::NoElement).
+    ///
+    /// # Panics
+    /// If it has no `[n]`.
+    #[must_use]
+    #[track_caller]
+    pub fn at(&self, index: u64) -> Path {
+        let mut path = *self;
+        let steps = &mut path.steps.steps[..self.steps.count as usize];
+        let mut backwards = steps.iter_mut().rev();
+        let element = backwards.find(|step| step.kind == calls::STEP_ELEMENT);
+        let Some(element) = element else {
+            panic!("the path has no [n]");
+        };
+        element.number = u32::try_from(index).unwrap_or(u32::MAX);
+        path
+    }
+
     /// Its steps for a call, which looks at no more than there are.
     fn lend(&self, to: &mut MaybeUninit<calls::Path>) {
         let count = self.steps.count as usize;

@@ -107,6 +107,18 @@ impl fmt::Display for Fault {
 
 impl std::error::Error for Fault {}
 
+/// The bytes aren't those of an ok message: see [`Schema::read_again`](crate::Schema::read_again).
+#[derive(Clone, Copy, Debug, PartialEq, Eq)]
+pub struct Changed(pub(crate) ());
+
+impl fmt::Display for Changed {
+    fn fmt(&self, to: &mut fmt::Formatter) -> fmt::Result {
+        to.write_str("the bytes aren't those of an ok message")
+    }
+}
+
+impl std::error::Error for Changed {}
+
 /// What is at the end of a path. Bytes are slices of the message.
 #[derive(Clone, Copy, Debug, PartialEq)]
 pub enum Value<'m> {

@@ -14,6 +14,7 @@ import (
 	"strings"
 	"sync"
 	"sync/atomic"
+	"testing"
 	"time"
 
 	"fbcheck.dev/fbcheck"
@@ -159,6 +160,83 @@ func read(schema *fbcheck.Schema, message []byte, texts []string) (string, error
 	return strings.Join(told, " "), nil
 }
 
+// again reads without a check: each value alone, and all into an array.
+func again(schema *fbcheck.Schema, message []byte, texts []string) (string, error) {
+	var paths []fbcheck.Path
+	for _, text := range texts {
+		path, err := schema.Path(text)
+		if err != nil {
+			return "", err
+		}
+		paths = append(paths, path)
+	}
+	values := make([]fbcheck.Value, len(paths))
+	if err := schema.ReadAgainInto(values, message, paths...); err != nil {
+		return "", err
+	}
+	var told []string
+	for i, one := range values {
+		again, _ := schema.ReadAgain(message, paths[i])
+		if fmt.Sprintf("%#v", again[0]) != fmt.Sprintf("%#v", one) {
+			return "one path tells otherwise", nil
+		}
+		told = append(told, value(one))
+	}
+	return strings.Join(told, " "), nil
+}
+
+// each reads the elements of a vector and one more, each without a check.
+func each(schema *fbcheck.Schema, words []string) (joined string, err error) {
+	message := file(words[0])
+	vector, err := schema.Path(words[1])
+	if err != nil {
+		return "", err
+	}
+	element, err := schema.Path(words[2])
+	if err != nil {
+		return "", err
+	}
+	values, err := schema.Read(message, vector)
+	if err != nil {
+		return "", err
+	}
+	var told []string
+	for _, index := range append(upTo(values[0].Uint), 1<<32) {
+		if err := schema.ReadAgainInto(values, message, element.At(index)); err != nil {
+			return "", err
+		}
+		told = append(told, value(values[0]))
+	}
+	defer func() {
+		if recover() != nil {
+			joined = strings.Join(told, " ")
+		}
+	}()
+	vector.At(0)
+	return "", nil
+}
+
+// upTo returns the numbers from 0 to this one.
+func upTo(last uint64) (numbers []uint64) {
+	for number := uint64(0); number <= last; number++ {
+		numbers = append(numbers, number)
+	}
+	return numbers
+}
+
+// allocations tells how many each of the reads that allocate least makes.
+func allocations(schema *fbcheck.Schema, message []byte, text string) (string, error) {
+	path, err := schema.Path(text)
+	if err != nil {
+		return "", err
+	}
+	paths, values := []fbcheck.Path{path, path, path}, make([]fbcheck.Value, 3)
+	into := testing.AllocsPerRun(1000, func() { err = schema.ReadInto(values, message, paths...) })
+	again := testing.AllocsPerRun(1000, func() { err = schema.ReadAgainInto(values, message, paths...) })
+	read := testing.AllocsPerRun(1000, func() { values, err = schema.Read(message, paths...) })
+	return fmt.Sprint(into, again, read), err
+}
+
 func misfit(schema *fbcheck.Schema, words []string) error {
 	other, err := schema.With(options(words[:1]))
 	if err != nil {
@@ -297,6 +375,12 @@ func done(schema **fbcheck.Schema, words []string, to io.Writer) (told string, e
 		return read(*schema, file(rest[0]), rest[1:])
 	case "misfit":
 		return "done", misfit(*schema, rest)
+	case "again":
+		return again(*schema, file(rest[0]), rest[1:])
+	case "each":
+		return each(*schema, rest)
+	case "allocations":
+		return allocations(*schema, file(rest[0]), rest[1])
 	case "stranger":
 		return "done", stranger(*schema, rest)
 	case "zero":

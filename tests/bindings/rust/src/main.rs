@@ -113,6 +113,35 @@ fn read(schema: &Schema, words: &[&str]) -> Told {
     Ok(values.iter().map(value).collect::<Vec<_>>().join(" "))
 }
 
+/// The values that are read without a check, each alone and all that fit an array.
+fn again(schema: &Schema, words: &[&str]) -> Told {
+    let bytes = fs::read(words[0])?;
+    let mut told = Vec::new();
+    for text in &words[1..] {
+        let path = schema.path(text)?;
+        let [one, same] = schema.read_again(&bytes, &[path, path])?;
+        assert_eq!(value(&one), value(&same));
+        told.push(value(&one));
+    }
+    Ok(told.join(" "))
+}
+
+/// The elements of a vector and one more, each without a check.
+fn each(schema: &Schema, words: &[&str]) -> Told {
+    let bytes = fs::read(words[0])?;
+    let (vector, element) = (schema.path(words[1])?, schema.path(words[2])?);
+    let [Value::Vector(count, _)] = schema.read(&bytes, &[vector])? else {
+        return Err("no vector".into());
+    };
+    let mut told = Vec::new();
+    for index in (0..=count).chain([1 << 32]) {
+        let [one] = schema.read_again(&bytes, &[element.at(index)])?;
+        told.push(value(&one));
+    }
+    quietly(|| vector.at(0)).expect_err("it has no [n]");
+    Ok(told.join(" "))
+}
+
 /// The verdict on a message, wherever it stands.
 fn check(schema: &Schema, file: &str) -> Told {
     let bytes = fs::read(file)?;
@@ -207,6 +236,8 @@ fn done(schema: &mut Option<Schema>, words: &[&str], to: &mut impl Write) -> Tol
         ("with", Some(old)) => *schema = Some(old.with(&options(rest)?)?),
         ("check", Some(schema)) => return check(schema, rest[0]),
         ("misfit", Some(schema)) => return misfit(schema, rest),
+        ("again", Some(schema)) => return again(schema, rest),
+        ("each", Some(schema)) => return each(schema, rest),
         ("stranger", Some(schema)) => return stranger(schema, rest),
         ("stream", Some(schema)) => return stream(schema, rest, to),
         ("read", Some(schema)) => return read(schema, rest),
