@@ -495,6 +495,13 @@ class Native(Binding):
             self.same(f"{vector}", got, self.told(f"load {ORDERS} prefixed=1", f"read {first} {paths}")[1])
             self.holds(f"{vector} has some", count > 0)
 
+    def test_room(self):
+        """A stream takes room for its messages, however long they may be; and no shared library is needed."""
+        given = f"load {ORDERS} prefixed=1\nstream {STREAM} 7 7 {2 ** 31 - 1}\n".encode()
+        status, out, _ = ran("prlimit", f"--as={2 ** 31 - 1}", *self.driver, given=given)
+        self.same("it ends well", (status, out.count("ok tables="), out[-7:]), (0, 5, "\nend\n.\n"))
+        self.holds("it's linked in", "fbcheck" not in ran("ldd", *self.driver)[1])
+
 
 class Rust(Native, LibraryCase):
     language, folder, fence = "Rust", "rust", "rust"
@@ -520,6 +527,15 @@ class Rust(Native, LibraryCase):
                 self.made("cargo", "fmt", "--check", folder=folder)
             if there("cargo-clippy"):
                 self.cargo(folder, "clippy", "--release", "--", "-D", "warnings")
+
+    def test_refused_memory(self):
+        """Where there's no room for a message, that is told, and asked again it's the same."""
+        size = 2**30
+        long = file_of("declares", messages_of(POST)[0] + struct.pack("<I", size - 4))
+        given = f"load {ORDERS} prefixed=1\nstream {long} 7 7 {2 ** 31 - 1}\nstream {STREAM} 7 7 600\n".encode()
+        status, out, err = ran("prlimit", f"--as={size}", *self.driver, given=given)
+        self.same("it ends well", (status, err, out.count("ok tables=")), (0, "", 6))
+        self.holds("it's told", f"\nerror out of memory for {2 ** 31 - 1} bytes" in out, out)
 
     def test_documented(self):
         """The examples in the crate's documentation run."""
@@ -651,13 +667,6 @@ class Go(Native, LibraryCase):
         """Values into a slice take no memory, and others one piece."""
         first = file_of("first", messages_of(POST)[0])
         self.same("how many", self.told(f"load {ORDERS} prefixed=1", f"allocations {first} to.name")[1], "0 0 1")
-
-    def test_room(self):
-        """A stream takes room for its messages, however long they may be; and no shared library is needed."""
-        given = f"load {ORDERS} prefixed=1\nstream {STREAM} 7 7 {2 ** 31 - 1}\n".encode()
-        status, out, _ = ran("prlimit", f"--as={2 ** 31 - 1}", *self.driver, given=given)
-        self.same("it ends well", (status, out.count("ok tables="), out[-7:]), (0, 5, "\nend\n.\n"))
-        self.holds("it's linked in", "fbcheck" not in ran("ldd", *self.driver)[1])
 
     def pasted(self, folder, code):
         (folder / "main.go").write_text(code)

@@ -5,7 +5,7 @@ use std::io::{stdin, stdout, BufWriter, Read, Write};
 use std::time::Instant;
 use std::{fs, panic, thread};
 
-use fbcheck::{Options, Path, Schema, Value, Verdict};
+use fbcheck::{Options, Path, Schema, StreamError, Value, Verdict};
 
 type Told = Result<String, Box<dyn std::error::Error>>;
 
@@ -93,11 +93,22 @@ fn stream(schema: &Schema, words: &[&str], to: &mut impl Write) -> Told {
     let begun = quietly(|| schema.messages(reader).max_bytes(most));
     let mut messages = begun?;
     let mut number = 0;
-    while let Some((_, verdict)) = messages.next_message()? {
-        number += 1;
-        writeln!(to, "{number} {}", line(&verdict))?;
+    loop {
+        match messages.next_message() {
+            Ok(None) => return Ok("end".to_owned()),
+            Ok(Some((_, verdict))) => {
+                number += 1;
+                writeln!(to, "{number} {}", line(&verdict))?;
+            }
+            Err(error) => {
+                let again = messages.next_message().map(|_| "a message");
+                let again = again.expect_err("it can't go on").to_string();
+                let lasts = matches!(error, StreamError::NoMemory { .. });
+                assert_eq!(again == error.to_string(), lasts, "{again}");
+                return Err(error.into());
+            }
+        }
     }
-    Ok("end".to_owned())
 }
 
 fn read(schema: &Schema, words: &[&str]) -> Told {
