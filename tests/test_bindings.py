@@ -11,6 +11,8 @@ A driver reads commands, one a line, and writes what each answers, and behind it
     stranger SCHEMA PATH FILE       the same by a path of another load; zero FILE by a path that is nothing
     again FILE PATH..               values at paths, without a check
     each FILE VECTOR PATH           those of a vector's elements and of one more, by one path with another index
+    patient FILE SIZE EMPTY ERROR   the verdicts on a stream whose reader first returns nothing so often, then an error
+    numbers FILE PATH..             values as a uint64, an int64 and a float64, each a dash where it doesn't fit
     allocations FILE PATH           how many Go makes for values into a slice, for those without a check, for new ones
     threads FILE COUNT THREADS      how many of so many verdicts are alike
     loads FILE COUNT                kilobytes that so many loads take; time FILE COUNT the nanoseconds a check takes
@@ -495,6 +497,20 @@ class Native(Binding):
             self.same(f"{vector}", got, self.told(f"load {ORDERS} prefixed=1", f"read {first} {paths}")[1])
             self.holds(f"{vector} has some", count > 0)
 
+    def test_hindered_streams(self):
+        """A reader's error costs no byte of a stream: it goes on at the next call."""
+        want = run("--names", "--schema", ORDERS, given=POST).out.decode()
+        rows = [("deadline", empty, "deadline=true idle=false") for empty in (0, 3)]
+        if self.language == "Go":
+            rows += [("none", 97, "deadline=false idle=false"), ("none", 99, "deadline=false idle=true"),
+                     ("deadline", 250, "deadline=true idle=true")]
+        for hindrance, empty, end in rows:
+            sizes = [1, 3, 7, 100, 65536]
+            told = self.told(f"load {ORDERS} prefixed=1",
+                             *(f"patient {STREAM} {size} {empty} {hindrance}" for size in sizes))[1:]
+            for size, got in zip(sizes, told):
+                self.same(f"{hindrance}, nothing {empty} times, pieces of {size}", got, f"{want}end {end}")
+
     def test_room(self):
         """A stream takes room for its messages, however long they may be; and no shared library is needed."""
         given = f"load {ORDERS} prefixed=1\nstream {STREAM} 7 7 {2 ** 31 - 1}\n".encode()
@@ -662,6 +678,14 @@ class Go(Native, LibraryCase):
         for folder in (TOP / "bindings/go", DRIVERS / "go"):
             self.made("gofmt", "-l", ".", folder=folder)
             self.made("go", "vet", "./...", folder=folder)
+
+    def test_elsewhere(self):
+        """Where cgo is missing, or on another machine, the compiler says what is needed."""
+        for more in ({"CGO_ENABLED": "0"}, {"GOOS": "darwin"}, {"GOARCH": "arm64"}, {"GOOS": "darwin", "CGO_ENABLED": "1"}):
+            status, _, err = ran("env", "-C", TOP / "bindings/go", "go", "build", "./...", **FOUND, **more)
+            told = [line for line in err.splitlines() if not line.startswith("#")]
+            self.same(f"{more}", (status != 0, [line.partition(" ")[2] for line in told]),
+                      (True, ["undefined: fbcheck_needs_cgo_on_linux_amd64"]))
 
     def test_allocations(self):
         """Values into a slice take no memory, and others one piece."""

@@ -1,3 +1,5 @@
+//go:build linux && amd64
+
 package fbcheck
 
 // #include "calls.h"
@@ -26,11 +28,16 @@ type Messages struct {
 	room     []byte // as much as the messages up to now have needed
 	piece    []byte
 	rest     []byte // what of the piece isn't fed yet
-	ended    error  // what the reader said at last
+	ended    error  // what the reader said with that
+	message  []byte // nil where there is none
 	checked  bool
 	verdict  Verdict
 	err      error
+	over     bool // err isn't one of the reader, after which it may go on
 }
+
+// idle is how often a reader may return nothing and no error, one time after another.
+const idle = 100
 
 // Messages goes through the messages of a stream, each of at most 64 MiB (see MaxBytes). The schema's options must be
 // Prefixed, since each message has its size in front.
@@ -54,17 +61,28 @@ func (m *Messages) MaxBytes(bytes int) *Messages {
 	return m
 }
 
-// Next goes on to the next message. It returns false at the stream's end, and if the stream can't go on: see Err.
+// Next goes on to the next message. It returns false at the stream's end, and if the stream can't go on: see Err. After
+// a reader's error, such as a deadline, it may be called again: nothing is lost.
 func (m *Messages) Next() bool {
-	m.checked = false
+	m.checked, m.message = false, nil
+	if m.over {
+		return false
+	}
+	m.err = nil
 	if m.room == nil {
 		m.makeRoom(256)
 	}
 	C.fbcheck_framer_next(&m.framer, first(m.room), C.size_t(len(m.room)))
-	for m.err == nil && !m.feed() {
-		m.fill()
+	for !m.feed() {
+		if m.err == nil {
+			m.fill()
+		}
+		if m.err != nil {
+			return false
+		}
 	}
-	return m.err == nil
+	m.message = m.room[:m.framer.held:m.framer.held]
+	return true
 }
 
 // makeRoom begins a message in room for so many bytes, or for what is allowed.
@@ -92,45 +110,56 @@ func (m *Messages) feed() bool {
 			m.makeRoom(2 * (int(declared) + 4))
 			return m.feed()
 		}
-		m.err = &Error{Oversize, fmt.Sprintf("stream: S1 Oversize declared=%d", declared)}
+		m.end(&Error{Oversize, fmt.Sprintf("stream: S1 Oversize declared=%d", declared)})
 	default:
-		m.err = &Error{Failed, texts[Failed]}
+		m.end(&Error{Failed, texts[Failed]})
 	}
 	return false
 }
 
-// fill reads the next piece, unless that has failed already, or the stream has ended.
+// end ends the stream for good.
+func (m *Messages) end(err error) {
+	m.err, m.over = err, true
+}
+
+// fill reads the next piece, unless the reader has an error, or the stream has ended.
 func (m *Messages) fill() {
-	if m.err != nil {
-		return
-	}
-	if m.ended == nil {
+	for tries := 0; m.ended == nil; tries++ {
+		if tries == idle {
+			m.ended = io.ErrNoProgress
+			break
+		}
 		var length int
 		length, m.ended = m.reader.Read(m.piece)
-		m.rest = m.piece[:length]
-		return
+		if m.rest = m.piece[:length]; length > 0 {
+			return
+		}
 	}
-	m.err = m.ended
-	if m.ended == io.EOF && C.fbcheck_framer_finish(&m.framer, first(m.room), C.size_t(len(m.room))) != C.FBCHECK_OK {
-		m.err = &Error{Truncated, fmt.Sprintf("stream: S2 Truncated held=%d", m.framer.held)}
+	if m.ended != io.EOF {
+		m.err, m.ended = m.ended, nil
+	} else if C.fbcheck_framer_finish(&m.framer, first(m.room), C.size_t(len(m.room))) != C.FBCHECK_OK {
+		m.end(&Error{Truncated, fmt.Sprintf("stream: S2 Truncated held=%d", m.framer.held)})
+	} else {
+		m.end(io.EOF)
 	}
 }
 
-// Message returns the message with its size in front, valid until the next call of Next. It isn't checked yet: Verdict
-// checks it, or the schema's Check and Read; other goroutines can check a copy.
+// Message returns the message with its size in front, valid until the next call of Next, or nil if that returned false.
+// It isn't checked yet: Verdict checks it, or the schema's Check and Read; other goroutines can check a copy.
 func (m *Messages) Message() []byte {
-	return m.room[:m.framer.held:m.framer.held]
+	return m.message
 }
 
 // Verdict returns the verdict on the message, which is checked at the first call.
 func (m *Messages) Verdict() Verdict {
 	if !m.checked {
-		m.verdict, m.checked = m.schema.Check(m.Message()), true
+		m.verdict, m.checked = m.schema.Check(m.message), true
 	}
 	return m.verdict
 }
 
-// Err returns why Next returned false: nil at the stream's end, or else the reader's error or an *Error.
+// Err returns why Next returned false: nil at the stream's end, or else an *Error, or what the reader returned
+// (io.ErrNoProgress, if that was nothing 100 times).
 func (m *Messages) Err() error {
 	if m.err == io.EOF {
 		return nil

@@ -1,3 +1,5 @@
+//go:build linux && amd64
+
 package fbcheck
 
 // #include "calls.h"

@@ -39,6 +39,56 @@ func (p *pieces) Read(to []byte) (int, error) {
 	return length, nil
 }
 
+// hindered is a reader that doesn't come to a piece at once: first it returns nothing a few times, then an error, if it
+// has one, and every other piece comes with that.
+type hindered struct {
+	pieces
+	empty int
+	err   error
+	calls int
+}
+
+func (h *hindered) Read(to []byte) (int, error) {
+	h.calls++
+	switch h.calls % (h.empty + 3) {
+	case 0:
+		return h.pieces.Read(to)
+	case 1:
+		length, err := h.pieces.Read(to)
+		if err == nil {
+			err = h.err
+		}
+		return length, err
+	case 2:
+		return 0, h.err
+	}
+	return 0, nil
+}
+
+// patient goes through a stream whose reader is hindered, and tells how often that was told.
+func patient(schema *fbcheck.Schema, words []string, to io.Writer) (string, error) {
+	size, empty := int(number(words[1])), int(number(words[2]))
+	hindrance, told := map[string]error{"deadline": os.ErrDeadlineExceeded, "none": nil}[words[3]], map[error]bool{}
+	messages := schema.Messages(&hindered{pieces{file(words[0]), size, size}, empty, hindrance, 0})
+	for count := 0; ; {
+		if messages.Next() {
+			count++
+			fmt.Fprintln(to, count, messages.Verdict())
+			continue
+		}
+		if messages.Message() != nil {
+			return "there is a message", nil
+		}
+		if err := messages.Err(); err == nil {
+			return fmt.Sprintf("end deadline=%v idle=%v", told[os.ErrDeadlineExceeded], told[io.ErrNoProgress]), nil
+		} else if err != io.ErrNoProgress && err != os.ErrDeadlineExceeded {
+			return "", err
+		} else {
+			told[err] = true
+		}
+	}
+}
+
 func number(word string) uint64 {
 	told, err := strconv.ParseUint(word, 10, 64)
 	if err != nil {
@@ -237,6 +287,37 @@ func allocations(schema *fbcheck.Schema, message []byte, text string) (string, e
 	return fmt.Sprint(into, again, read), err
 }
 
+// numbers tells values as each kind of number, where they fit, and which fields have them.
+func numbers(schema *fbcheck.Schema, message []byte, texts []string) (string, error) {
+	var told []string
+	for _, text := range texts {
+		path, err := schema.Path(text)
+		if err != nil {
+			return "", err
+		}
+		values, err := schema.Read(message, path)
+		if err != nil {
+			return "", err
+		}
+		value := values[0]
+		unsigned, fitsUnsigned := value.Uint64()
+		signed, fitsSigned := value.Int64()
+		real, fitsReal := value.Float64()
+		if fitsUnsigned && unsigned != value.Uint || fitsSigned && signed != value.Int {
+			return "the fields say otherwise", nil
+		}
+		told = append(told, fit(unsigned, fitsUnsigned), fit(signed, fitsSigned), fit(real, fitsReal))
+	}
+	return strings.Join(told, " "), nil
+}
+
+func fit(number any, fits bool) string {
+	if !fits {
+		return "-"
+	}
+	return fmt.Sprintf("%v", number)
+}
+
 func misfit(schema *fbcheck.Schema, words []string) error {
 	other, err := schema.With(options(words[:1]))
 	if err != nil {
@@ -375,6 +456,10 @@ func done(schema **fbcheck.Schema, words []string, to io.Writer) (told string, e
 		return read(*schema, file(rest[0]), rest[1:])
 	case "misfit":
 		return "done", misfit(*schema, rest)
+	case "patient":
+		return patient(*schema, rest, to)
+	case "numbers":
+		return numbers(*schema, file(rest[0]), rest[1:])
 	case "again":
 		return again(*schema, file(rest[0]), rest[1:])
 	case "each":

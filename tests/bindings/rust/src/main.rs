@@ -1,7 +1,7 @@
 //! Does what the lines of standard input say, by the crate; tests/test_bindings.py tells what each line means.
 
 use std::fmt::Display;
-use std::io::{stdin, stdout, BufWriter, Read, Write};
+use std::io::{stdin, stdout, BufWriter, ErrorKind, Read, Write};
 use std::time::Instant;
 use std::{fs, panic, thread};
 
@@ -25,6 +25,46 @@ impl Read for Pieces {
         to[..length].copy_from_slice(&piece[..length]);
         self.at += length;
         Ok(length)
+    }
+}
+
+/// A reader that has an error before each piece.
+struct Hindered(Pieces, bool);
+
+impl Read for Hindered {
+    fn read(&mut self, to: &mut [u8]) -> std::io::Result<usize> {
+        self.1 = !self.1;
+        match self.1 {
+            true => Err(ErrorKind::TimedOut.into()),
+            false => self.0.read(to),
+        }
+    }
+}
+
+/// Goes through a stream whose reader is hindered.
+fn patient(schema: &Schema, words: &[&str], to: &mut impl Write) -> Told {
+    let (bytes, at, size) = (fs::read(words[0])?, 0, words[1].parse()?);
+    let first = size;
+    let mut messages = schema.messages(Hindered(
+        Pieces {
+            bytes,
+            at,
+            first,
+            size,
+        },
+        false,
+    ));
+    let (mut number, mut hindered) = (0, false);
+    loop {
+        match messages.next_message() {
+            Ok(None) => return Ok(format!("end deadline={hindered} idle=false")),
+            Ok(Some((_, verdict))) => {
+                number += 1;
+                writeln!(to, "{number} {}", line(&verdict))?;
+            }
+            Err(StreamError::Read(error)) if error.kind() == ErrorKind::TimedOut => hindered = true,
+            Err(error) => return Err(error.into()),
+        }
     }
 }
 
@@ -247,6 +287,7 @@ fn done(schema: &mut Option<Schema>, words: &[&str], to: &mut impl Write) -> Tol
         ("with", Some(old)) => *schema = Some(old.with(&options(rest)?)?),
         ("check", Some(schema)) => return check(schema, rest[0]),
         ("misfit", Some(schema)) => return misfit(schema, rest),
+        ("patient", Some(schema)) => return patient(schema, rest, to),
         ("again", Some(schema)) => return again(schema, rest),
         ("each", Some(schema)) => return each(schema, rest),
         ("stranger", Some(schema)) => return stranger(schema, rest),
