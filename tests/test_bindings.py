@@ -100,6 +100,7 @@ class Binding:
     others = "the schema was loaded with other demands: ask for these when you load it"
     quoted = ' ("{}")'  # what was asked for, behind the text of an error
     names_files = False  # whether a schema file is loaded by its name, which an error tells too
+    in_stream = {}  # what is behind the text of a stream's error
     briefly = ()  # the driver's words, behind the first, by which a short run costs less
 
     @classmethod
@@ -376,10 +377,14 @@ class Binding:
         self.holds("a schema without prefixes is refused", "begin with their size" in self.told(
             f"load {ORDERS}", f"stream {none} 1 1 8")[1])
         held = len(messages[2]) - 1
-        self.same("one that ends in a message", cut, f"{''.join(lines[:2])}error stream: S2 Truncated held={held}")
+        begin = len(messages[0] + messages[1])
+        behind = self.in_stream.get("S2", "").format(number=3, begin=begin, size=held + 1)
+        self.same("one that ends in a message", cut, f"{''.join(lines[:2])}error stream: S2 Truncated held={held}{behind}")
         self.same("room enough", enough, want)
         first = next(number for number, message in enumerate(messages) if len(message) == longest)
-        declared = f"error stream: S1 Oversize declared={longest - 4}"
+        behind = self.in_stream.get("S1", "").format(number=first + 1, begin=sum(map(len, messages[:first])),
+                                                     most=longest - 1)
+        declared = f"error stream: S1 Oversize declared={longest - 4}{behind}"
         self.same("one byte too few", oversize, f"{''.join(lines[:first])}{declared}")
         self.same("no message", nothing, "end")
         self.same("messages without a byte", len(re.findall(r"V2 OutOfBuffer at=4 ", blank)), 3)
@@ -436,6 +441,26 @@ def chain(count):
 
 class Native(Binding):
     """The cases of Rust and Go alone."""
+
+    max_bytes = "max_bytes"
+
+    @property
+    def in_stream(self):
+        return {"S1": f"; message {{number}} at {{begin}} is longer than {self.max_bytes}, {{most}}",
+                "S2": "; message {number} at {begin} has {size} bytes"}
+
+    def test_short_streams(self):
+        """One that ends inside a message's size, and one that ends in its first message."""
+        first = messages_of(POST)[0]
+        for begun, count in [(b"", 0), (first, 1), (first * 2, 2)]:
+            lines = run("--names", "--schema", ORDERS, given=begun).out.decode()
+            for held in (1, 2, 3, 4, 5, 300, len(first) - 1):
+                cut = file_of(f"short{count}-{held}", begun + first[:held])
+                told = self.told(f"load {ORDERS} prefixed=1", f"stream {cut} 2 7 65536", f"stream {cut} 9999 9999 65536")
+                where = f"message {count + 1} at {len(begun)}"
+                how = "ends inside its size" if held < 4 else f"has {len(first)} bytes"
+                want = f"{lines}error stream: S2 Truncated held={held}; {where} {how}"
+                self.same(f"{held} bytes of {count + 1}", told[1:], [want] * 2)
 
     def test_strange_paths(self):
         """A path of another schema or root isn't followed, even where it would lead somewhere."""
@@ -551,7 +576,8 @@ class Rust(Native, LibraryCase):
         given = f"load {ORDERS} prefixed=1\nstream {long} 7 7 {2 ** 31 - 1}\nstream {STREAM} 7 7 600\n".encode()
         status, out, err = ran("prlimit", f"--as={size}", *self.driver, given=given)
         self.same("it ends well", (status, err, out.count("ok tables=")), (0, "", 6))
-        self.holds("it's told", f"\nerror out of memory for {2 ** 31 - 1} bytes" in out, out)
+        told = f"\nerror out of memory: {2 ** 31 - 1} bytes for message 2 at {len(messages_of(POST)[0])}\n"
+        self.holds("it's told", told in out, out)
 
     def test_documented(self):
         """The examples in the crate's documentation run."""
@@ -663,7 +689,7 @@ class Node(Binding, LibraryCase):
 
 class Go(Native, LibraryCase):
     language, folder, fence = "Go", "go", "go"
-    max_depth, strict, plain_bytes = "MaxDepth", "Strict", "PlainBytes"
+    max_depth, strict, plain_bytes, max_bytes = "MaxDepth", "Strict", "PlainBytes", "MaxBytes"
     driver = [FOLDER / "driver_go"]
 
     @classmethod

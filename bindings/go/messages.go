@@ -34,6 +34,9 @@ type Messages struct {
 	verdict  Verdict
 	err      error
 	over     bool // err isn't one of the reader, after which it may go on
+	count    uint64
+	begin    uint64
+	next     uint64 // where the next message begins
 }
 
 // idle is how often a reader may return nothing and no error, one time after another.
@@ -82,7 +85,18 @@ func (m *Messages) Next() bool {
 		}
 	}
 	m.message = m.room[:m.framer.held:m.framer.held]
+	m.count, m.begin, m.next = m.count+1, m.next, m.next+uint64(len(m.message))
 	return true
+}
+
+// Count returns how many messages came up to now, which is the number of the last one.
+func (m *Messages) Count() uint64 {
+	return m.count
+}
+
+// Begin returns where that one begins in the stream, in bytes.
+func (m *Messages) Begin() uint64 {
+	return m.begin
 }
 
 // makeRoom begins a message in room for so many bytes, or for what is allowed.
@@ -110,16 +124,25 @@ func (m *Messages) feed() bool {
 			m.makeRoom(2 * (int(declared) + 4))
 			return m.feed()
 		}
-		m.end(&Error{Oversize, fmt.Sprintf("stream: S1 Oversize declared=%d", declared)})
+		m.fail(&StreamError{Status: Oversize, Size: uint64(declared) + 4})
 	default:
-		m.end(&Error{Failed, texts[Failed]})
+		m.fail(&StreamError{Status: Failed})
 	}
 	return false
 }
 
-// end ends the stream for good.
-func (m *Messages) end(err error) {
+// fail ends the stream by an error in the message that was due.
+func (m *Messages) fail(err *StreamError) {
+	err.Number, err.Begin, err.MaxBytes = m.count+1, m.next, m.maxBytes
 	m.err, m.over = err, true
+}
+
+// sizeOfMessage is how many bytes the message has, or 0 where its size hasn't come.
+func (m *Messages) sizeOfMessage() uint64 {
+	if m.framer.held < 4 {
+		return 0
+	}
+	return uint64(binary.LittleEndian.Uint32(m.room)) + 4
 }
 
 // fill reads the next piece, unless the reader has an error, or the stream has ended.
@@ -138,9 +161,9 @@ func (m *Messages) fill() {
 	if m.ended != io.EOF {
 		m.err, m.ended = m.ended, nil
 	} else if C.fbcheck_framer_finish(&m.framer, first(m.room), C.size_t(len(m.room))) != C.FBCHECK_OK {
-		m.end(&Error{Truncated, fmt.Sprintf("stream: S2 Truncated held=%d", m.framer.held)})
+		m.fail(&StreamError{Status: Truncated, Held: uint64(m.framer.held), Size: m.sizeOfMessage()})
 	} else {
-		m.end(io.EOF)
+		m.err, m.over = io.EOF, true
 	}
 }
 
@@ -158,11 +181,37 @@ func (m *Messages) Verdict() Verdict {
 	return m.verdict
 }
 
-// Err returns why Next returned false: nil at the stream's end, or else an *Error, or what the reader returned
+// Err returns why Next returned false: nil at the stream's end, or else a *StreamError, or what the reader returned
 // (io.ErrNoProgress, if that was nothing 100 times).
 func (m *Messages) Err() error {
 	if m.err == io.EOF {
 		return nil
 	}
 	return m.err
+}
+
+// A StreamError says why a stream can't go on: a message is too long (Oversize), or the stream ends inside one
+// (Truncated). Where a number of bytes includes a message's size, that counts as 4.
+type StreamError struct {
+	Status   Status
+	Number   uint64 // the message's, from 1
+	Begin    uint64 // where it begins in the stream, in bytes
+	Size     uint64 // how many bytes it has, its size included; 0 if its size hasn't come
+	Held     uint64 // Truncated: how many of them came
+	MaxBytes int    // how many were allowed
+}
+
+// Error returns the program's text, and what it doesn't say.
+func (e *StreamError) Error() string {
+	message := fmt.Sprintf("; message %d at %d", e.Number, e.Begin)
+	switch {
+	case e.Status == Oversize:
+		return fmt.Sprintf("fbcheck: stream: S1 Oversize declared=%d%s is longer than MaxBytes, %d", e.Size-4, message,
+			e.MaxBytes)
+	case e.Status != Truncated:
+		return "fbcheck: " + texts[Failed]
+	case e.Size > 0:
+		return fmt.Sprintf("fbcheck: stream: S2 Truncated held=%d%s has %d bytes", e.Held, message, e.Size)
+	}
+	return fmt.Sprintf("fbcheck: stream: S2 Truncated held=%d%s ends inside its size", e.Held, message)
 }

@@ -42,6 +42,10 @@ pub struct Messages<R> {
     /// What of the piece isn't fed yet.
     at: usize,
     end: usize,
+    count: u64,
+    begin: u64,
+    /// Where the next message begins.
+    next: u64,
 }
 
 impl<R: Read> Messages<R> {
@@ -55,6 +59,9 @@ impl<R: Read> Messages<R> {
             piece: vec![0; PIECE],
             at: 0,
             end: 0,
+            count: 0,
+            begin: 0,
+            next: 0,
         }
     }
 
@@ -74,10 +81,21 @@ impl<R: Read> Messages<R> {
         self
     }
 
+    /// How many messages came up to now: the number of the last one.
+    pub fn count(&self) -> u64 {
+        self.count
+    }
+
+    /// Where that one begins in the stream, in bytes.
+    pub fn begin(&self) -> u64 {
+        self.begin
+    }
+
     /// The next message, with its size in front, and the verdict on it; `None` at the stream's end.
     ///
     /// # Errors
-    /// The reader failed, a message is too long, memory was refused, or the stream ends inside a message.
+    /// The reader failed, a message is too long, memory was refused, or the stream ends inside a message. After
+    /// [`StreamError::Read`] and [`StreamError::NoMemory`] you may call again: nothing is lost.
     pub fn next_message(&mut self) -> Result<Option<(&[u8], Verdict)>, StreamError> {
         if self.next_unchecked()?.is_none() {
             return Ok(None);
@@ -92,7 +110,7 @@ impl<R: Read> Messages<R> {
     /// Those of [`Messages::next_message`].
     pub fn next_unchecked(&mut self) -> Result<Option<&[u8]>, StreamError> {
         if self.room.capacity() == 0 {
-            self.room = room_for(FIRST.min(self.max_bytes))?;
+            self.room = self.room_for(FIRST)?;
         }
         let size = self.size();
         // SAFETY: the room has its size, and the framer is this room's.
@@ -102,12 +120,35 @@ impl<R: Read> Messages<R> {
                 return self.finish().map(|()| None);
             }
         }
+        self.count += 1;
+        self.begin = self.next;
+        self.next += self.framer.held as u64;
         Ok(Some(self.held()))
     }
 
     /// How many bytes the room has for the framer, as long as it's the same room.
     fn size(&self) -> usize {
         self.room.capacity().min(self.max_bytes)
+    }
+
+    /// Room for so many bytes, or for what is allowed. None of it is set.
+    fn room_for(&self, bytes: usize) -> Result<Vec<u8>, StreamError> {
+        let mut room = Vec::new();
+        let bytes = bytes.min(self.max_bytes);
+        match room.try_reserve_exact(bytes) {
+            Ok(()) => Ok(room),
+            Err(_) => Err(StreamError::NoMemory {
+                number: self.count + 1,
+                begin: self.next,
+                bytes,
+            }),
+        }
+    }
+
+    /// How many bytes the message has, if its size has come.
+    fn size_of_message(&self) -> Option<usize> {
+        let prefix = self.held().get(..PREFIX)?.try_into().ok()?;
+        Some(PREFIX + u32::from_le_bytes(prefix) as usize)
     }
 
     /// What of a message has come.
@@ -155,10 +196,15 @@ impl<R: Read> Messages<R> {
         let declared = self.framer.declared;
         let size = declared as usize + PREFIX;
         if size > self.max_bytes {
-            return Err(StreamError::Oversize { declared });
+            return Err(StreamError::Oversize {
+                number: self.count + 1,
+                begin: self.next,
+                declared,
+                max_bytes: self.max_bytes,
+            });
         }
         self.framer = before;
-        self.room = room_for((2 * size).min(self.max_bytes))?;
+        self.room = self.room_for(2 * size)?;
         self.framer = calls::FRAMER_INIT;
         self.at += PREFIX - before.held;
         let (room, prefix, mut used) = (self.size(), declared.to_le_bytes(), 0);
@@ -188,21 +234,16 @@ impl<R: Read> Messages<R> {
         match unsafe { calls::fbcheck_framer_finish(framer, self.room.as_ptr(), size) } {
             calls::OK => Ok(()),
             _ => Err(StreamError::Truncated {
+                number: self.count + 1,
+                begin: self.next,
                 held: self.framer.held,
+                size: self.size_of_message(),
             }),
         }
     }
 }
 
-/// Room for so many bytes, none of which is set.
-fn room_for(bytes: usize) -> Result<Vec<u8>, StreamError> {
-    let mut room = Vec::new();
-    let made = room.try_reserve_exact(bytes);
-    made.map_err(|_| StreamError::NoMemory { bytes })?;
-    Ok(room)
-}
-
-/// Why a stream can't go on.
+/// Why a stream can't go on. Messages are numbered from 1, and begin where their size does.
 #[derive(Debug)]
 #[non_exhaustive]
 pub enum StreamError {
@@ -210,16 +251,32 @@ pub enum StreamError {
     Read(std::io::Error),
     /// A message is longer than [`Messages::max_bytes`].
     Oversize {
-        /// How many bytes its size declares.
+        /// Its number.
+        number: u64,
+        /// Where it begins in the stream, in bytes.
+        begin: u64,
+        /// How many bytes its size declares, which aren't counted in it.
         declared: u32,
+        /// How many were allowed, its size included.
+        max_bytes: usize,
     },
     /// The stream ends inside a message.
     Truncated {
-        /// How many of its bytes came.
+        /// Its number.
+        number: u64,
+        /// Where it begins in the stream, in bytes.
+        begin: u64,
+        /// How many of its bytes came, those of its size included.
         held: usize,
+        /// How many it has, if its size came.
+        size: Option<usize>,
     },
     /// Memory for a message was refused.
     NoMemory {
+        /// Its number.
+        number: u64,
+        /// Where it begins in the stream, in bytes.
+        begin: u64,
         /// How many bytes were asked for.
         bytes: usize,
     },
@@ -227,15 +284,46 @@ pub enum StreamError {
     Failed,
 }
 
+/// The program's text, and what it doesn't say.
 impl fmt::Display for StreamError {
     fn fmt(&self, to: &mut fmt::Formatter) -> fmt::Result {
-        match self {
-            StreamError::Read(error) => write!(to, "read failed: {error}"),
-            StreamError::Oversize { declared } => {
-                write!(to, "stream: S1 Oversize declared={declared}")
+        match *self {
+            StreamError::Read(ref error) => write!(to, "read failed: {error}"),
+            StreamError::Oversize {
+                number,
+                begin,
+                declared,
+                max_bytes,
+            } => {
+                write!(
+                    to,
+                    "stream: S1 Oversize declared={declared}; message {number} at {begin} "
+                )?;
+                write!(to, "is longer than max_bytes, {max_bytes}")
             }
-            StreamError::Truncated { held } => write!(to, "stream: S2 Truncated held={held}"),
-            StreamError::NoMemory { bytes } => write!(to, "out of memory for {bytes} bytes"),
+            StreamError::Truncated {
+                number,
+                begin,
+                held,
+                size,
+            } => {
+                write!(
+                    to,
+                    "stream: S2 Truncated held={held}; message {number} at {begin} "
+                )?;
+                match size {
+                    Some(size) => write!(to, "has {size} bytes"),
+                    None => write!(to, "ends inside its size"),
+                }
+            }
+            StreamError::NoMemory {
+                number,
+                begin,
+                bytes,
+            } => write!(
+                to,
+                "out of memory: {bytes} bytes for message {number} at {begin}"
+            ),
             StreamError::Failed => write!(to, "stream: S4 Failed"),
         }
     }

@@ -177,7 +177,11 @@ func check(schema *fbcheck.Schema, message []byte) string {
 func stream(schema *fbcheck.Schema, words []string, to io.Writer) error {
 	reader := &pieces{file(words[0]), int(number(words[1])), int(number(words[2]))}
 	messages := schema.Messages(reader).MaxBytes(int(number(words[3])))
-	for count := 1; messages.Next(); count++ {
+	for count, next := uint64(1), uint64(0); messages.Next(); count++ {
+		if messages.Count() != count || messages.Begin() != next {
+			return errors.New("its count or beginning is wrong")
+		}
+		next += uint64(len(messages.Message()))
 		if messages.Verdict() != schema.Check(messages.Message()) {
 			return errors.New("Check says otherwise")
 		}

@@ -132,12 +132,15 @@ fn stream(schema: &Schema, words: &[&str], to: &mut impl Write) -> Told {
     let most = most.parse()?;
     let begun = quietly(|| schema.messages(reader).max_bytes(most));
     let mut messages = begun?;
-    let mut number = 0;
+    let (mut number, mut next) = (0, 0);
     loop {
         match messages.next_message() {
             Ok(None) => return Ok("end".to_owned()),
-            Ok(Some((_, verdict))) => {
+            Ok(Some((message, verdict))) => {
+                let begin = next;
                 number += 1;
+                next += message.len() as u64;
+                assert_eq!((messages.count(), messages.begin()), (number, begin));
                 writeln!(to, "{number} {}", line(&verdict))?;
             }
             Err(error) => {
