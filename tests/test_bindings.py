@@ -509,6 +509,33 @@ class Native(Binding):
         for command, got in zip(words, self.told(f"load {ORDERS} prefixed=1", *words)[1:]):
             self.holds(f"{command}: a value, or changed", got == changed or not got.startswith("error"), got)
 
+    def test_numbers(self):
+        """A number as each type that holds it, and as no other; and several paths at once."""
+        fields = [("b", schemas.BYTE), ("l", schemas.LONG), ("u", schemas.U_LONG), ("f", schemas.FLOAT),
+                  ("d", schemas.DOUBLE), ("s", TEXT), ("y", schemas.BOOL)]
+        file = file_of("numbers.bfbs", schema([table("T", *(field(name, kind, 4 + 2 * number) for number, (name, kind)
+                                                            in enumerate(fields)))], root="T"))
+        rows = []
+        for longs, unsigned in [(-1, 2**64 - 1), (2**53, 2**53), (2**53 + 1, 2**53 + 1), (-2**53, 2**63), (-2**63, 0),
+                                (-2**53 - 1, 2**63 - 1), (2**63 - 1, 7)]:
+            data = file_of(f"numbers{len(rows)}", buffer({
+                0: ("b", -5), 1: ("q", longs), 2: ("Q", unsigned), 3: ("f", 1.5), 4: ("d", -0.25), 5: "text",
+                6: ("B", 1)}))
+            want = []
+            for number in (-5, longs, unsigned):
+                want += [number if 0 <= number else "-", number if number < 2**63 else "-",
+                         number if abs(number) <= 2**53 else "-"]
+            want += ["-", "-", 1.5, "-", "-", -0.25, *"------"]
+            rows.append((data, want))
+        told = self.told(f"load {file}", *(f"numbers {data} b l u f d s y" for data, _ in rows))[1:]
+        for (data, want), got in zip(rows, told):
+            got = [word if word == "-" else float(word) if at % 3 == 2 else int(word)
+                   for at, word in enumerate(got.split(" "))]
+            self.same(f"{data.name}", got, want)
+        first = file_of("first", messages_of(POST)[0])
+        told = self.told(f"load {ORDERS} prefixed=1", f"{'again' if self.language == 'Go' else 'numbers'} {first} id nam")
+        self.holds("one of several paths", told[1].startswith('error path: P2 NoSuchField step=0 ("nam")'), told)
+
     def test_each_element(self):
         """All elements of a vector by one path, and none past its end."""
         first = file_of("first", messages_of(POST)[0])

@@ -39,6 +39,19 @@ func (s *Schema) Path(text string) (Path, error) {
 	return path, nil
 }
 
+// Paths is Path for several texts. It returns the first error.
+func (s *Schema) Paths(texts ...string) ([]Path, error) {
+	paths := make([]Path, len(texts))
+	for i, text := range texts {
+		path, err := s.Path(text)
+		if err != nil {
+			return nil, err
+		}
+		paths[i] = path
+	}
+	return paths, nil
+}
+
 // At returns the path with another index at its last [n], such as "items[7].name" instead of "items[0].name". No vector
 // has more than 2^31 elements: with a greater index, values are NoElement. It panics if the path has no [n].
 func (p Path) At(index uint64) Path {

@@ -119,6 +119,9 @@ impl fmt::Display for Changed {
 
 impl std::error::Error for Changed {}
 
+/// The number up to which an `f64` holds all whole numbers.
+const EXACT: u64 = 1 << 53;
+
 /// What is at the end of a path. Bytes are slices of the message.
 #[derive(Clone, Copy, Debug, PartialEq)]
 pub enum Value<'m> {
@@ -166,6 +169,34 @@ impl<'m> Value<'m> {
             calls::TABLE => Value::Table,
             calls::UNION => Value::Union(value.number),
             kind => unreachable!("fbcheck tells no kind {kind}"),
+        }
+    }
+
+    /// The number, if this is an [`Int`](Value::Int) or [`UInt`](Value::UInt) that fits.
+    pub fn as_u64(&self) -> Option<u64> {
+        match *self {
+            Value::UInt(number) => Some(number),
+            Value::Int(number) => number.try_into().ok(),
+            _ => None,
+        }
+    }
+
+    /// The number, if this is an [`Int`](Value::Int) or [`UInt`](Value::UInt) that fits.
+    pub fn as_i64(&self) -> Option<i64> {
+        match *self {
+            Value::UInt(number) => number.try_into().ok(),
+            Value::Int(number) => Some(number),
+            _ => None,
+        }
+    }
+
+    /// The number, if this is one that an `f64` holds exactly (of whole numbers those up to 2^53).
+    pub fn as_f64(&self) -> Option<f64> {
+        match *self {
+            Value::Float(number) => Some(number),
+            Value::UInt(number) => (number <= EXACT).then_some(number as f64),
+            Value::Int(number) => (number.unsigned_abs() <= EXACT).then_some(number as f64),
+            _ => None,
         }
     }
 

@@ -216,13 +216,9 @@ func read(schema *fbcheck.Schema, message []byte, texts []string) (string, error
 
 // again reads without a check: each value alone, and all into an array.
 func again(schema *fbcheck.Schema, message []byte, texts []string) (string, error) {
-	var paths []fbcheck.Path
-	for _, text := range texts {
-		path, err := schema.Path(text)
-		if err != nil {
-			return "", err
-		}
-		paths = append(paths, path)
+	paths, err := schema.Paths(texts...)
+	if err != nil {
+		return "", err
 	}
 	values := make([]fbcheck.Value, len(paths))
 	if err := schema.ReadAgainInto(values, message, paths...); err != nil {

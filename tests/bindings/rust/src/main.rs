@@ -5,7 +5,7 @@ use std::io::{stdin, stdout, BufWriter, ErrorKind, Read, Write};
 use std::time::Instant;
 use std::{fs, panic, thread};
 
-use fbcheck::{Options, Path, Schema, StreamError, Value, Verdict};
+use fbcheck::{Options, Path, Reason, Schema, StreamError, Value, Verdict};
 
 type Told = Result<String, Box<dyn std::error::Error>>;
 
@@ -94,6 +94,9 @@ fn options(words: &[&str]) -> Result<Options, Box<dyn std::error::Error>> {
 }
 
 fn line(verdict: &Verdict) -> String {
+    if let Err(fault) = verdict {
+        assert!(fault.reason >= Reason::TooLong);
+    }
     match verdict {
         Ok(report) => format!("ok {report}"),
         Err(fault) => format!("bad {fault}"),
@@ -165,6 +168,18 @@ fn read(schema: &Schema, words: &[&str]) -> Told {
         assert_eq!(value(&one), value(told));
     }
     Ok(values.iter().map(value).collect::<Vec<_>>().join(" "))
+}
+
+/// Values as each kind of number, where they fit.
+fn numbers(schema: &Schema, words: &[&str]) -> Told {
+    let bytes = fs::read(words[0])?;
+    let mut told = Vec::new();
+    for name in &words[1..] {
+        let [path, _] = schema.paths([name, name])?;
+        let [one] = schema.read(&bytes, &[path])?;
+        told.extend([text(one.as_u64()), text(one.as_i64()), text(one.as_f64())]);
+    }
+    Ok(told.join(" "))
 }
 
 /// The values that are read without a check, each alone and all that fit an array.
@@ -291,6 +306,7 @@ fn done(schema: &mut Option<Schema>, words: &[&str], to: &mut impl Write) -> Tol
         ("check", Some(schema)) => return check(schema, rest[0]),
         ("misfit", Some(schema)) => return misfit(schema, rest),
         ("patient", Some(schema)) => return patient(schema, rest, to),
+        ("numbers", Some(schema)) => return numbers(schema, rest),
         ("again", Some(schema)) => return again(schema, rest),
         ("each", Some(schema)) => return each(schema, rest),
         ("stranger", Some(schema)) => return stranger(schema, rest),
