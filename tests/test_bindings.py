@@ -100,6 +100,7 @@ class Binding:
     others = "the schema was loaded with other demands: ask for these when you load it"
     quoted = ' ("{}")'  # what was asked for, behind the text of an error
     names_files = False  # whether a schema file is loaded by its name, which an error tells too
+    damaged = NO_SCHEMA  # what is behind the text of a schema file's error, though it has the right identifier
     in_stream = {}  # what is behind the text of a stream's error
     briefly = ()  # the driver's words, behind the first, by which a short run costs less
 
@@ -332,7 +333,7 @@ class Binding:
         for path, got in zip(files, self.told(*[f"load {path}" for path in files])):
             want = self.fault("--schema", path)
             if want.startswith("schema: L1 "):
-                want += NO_SCHEMA
+                want += self.damaged if path.read_bytes()[4:8] == b"BFBS" else NO_SCHEMA
             if self.names_files and want.startswith("schema: "):
                 want += self.quoted.format(path)
             self.same(f"{path.name}", got, f"error {want}")
@@ -443,11 +444,25 @@ class Native(Binding):
     """The cases of Rust and Go alone."""
 
     max_bytes = "max_bytes"
+    damaged = "; this binary schema is damaged or incomplete"
 
     @property
     def in_stream(self):
         return {"S1": f"; message {{number}} at {{begin}} is longer than {self.max_bytes}, {{most}}",
                 "S2": "; message {number} at {begin} has {size} bytes"}
+
+    def test_cut_schema_files(self):
+        """A schema file that was cut off is damaged, if at least its identifier came; other files are no schema."""
+        file = ORDERS.read_bytes()
+        cuts = [*range(13), *range(13, len(file) - 100, 97)]
+        told = self.told(*(f"load {file_of(f'cut{cut}.bfbs', file[:cut])}" for cut in cuts))
+        for cut, got in zip(cuts, told):
+            want = self.damaged if cut >= 8 else NO_SCHEMA
+            self.holds(f"{cut} bytes", got.startswith("error schema: L1 V") and got.endswith(want), got)
+        others = [TOP / "README.md", TOP / "examples/deliveries.fbs", STREAM, file_of("brace", b"{"),
+                  file_of("numbers.json", b'{"a": 1}'), file_of("orc.bin", ORC), file_of("zeros", bytes(64))]
+        for other, got in zip(others, self.told(*(f"load {other}" for other in others))):
+            self.holds(f"{other}", got.startswith("error schema: L1 V") and got.endswith(NO_SCHEMA), got)
 
     def test_short_streams(self):
         """One that ends inside a message's size, and one that ends in its first message."""

@@ -133,8 +133,13 @@ var texts = map[Status]string{
 	NoSuchTable: "strict can't find the table of a nested buffer: %s; PlainBytes takes such fields as bytes",
 }
 
-// noSchema is said behind the fault of a file that isn't well-formed.
-const noSchema = "; this is no binary schema, which flatc --binary --schema makes"
+// guess is what a file may be that isn't well-formed: its identifier is read before all else.
+func guess(verdict C.fbcheck_verdict) string {
+	if verdict.reason == C.FBCHECK_WRONG_IDENTIFIER || verdict.reads == 0 {
+		return "this is no binary schema, which flatc --binary --schema makes"
+	}
+	return "this binary schema is damaged or incomplete"
+}
 
 // An Error says why a call failed.
 type Error struct {
@@ -153,7 +158,7 @@ func errorOf(verdict C.fbcheck_verdict, asked string) *Error {
 	text := texts[status]
 	switch status {
 	case NotWellFormed:
-		text = "schema: L1 " + refused(verdict, "").String()[len("bad "):] + noSchema
+		text = "schema: L1 " + refused(verdict, "").String()[len("bad "):] + "; " + guess(verdict)
 	case BadSchema:
 		owner, field := uint32(verdict.object), dash(part(verdict.field))
 		text = fmt.Sprintf("schema: L2 %s owner=%d part=%s", name, owner, field)

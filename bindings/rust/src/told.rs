@@ -237,7 +237,7 @@ fn float(bytes: &[u8]) -> f64 {
 #[derive(Clone, Debug, PartialEq, Eq)]
 #[non_exhaustive]
 pub enum Error {
-    /// The schema file isn't a binary schema, or is damaged.
+    /// The schema file isn't a binary schema ([`Reason::WrongIdentifier`], or it's shorter than one), or is damaged.
     NotWellFormed(Fault),
     /// Its contents aren't a legal schema.
     BadSchema {
@@ -299,7 +299,8 @@ fn fault_name(status: u32, reason: u32) -> String {
         .unwrap_or_default()
 }
 
-/// What is said behind the fault of a file that isn't well-formed.
+/// What is said behind the fault of a file that isn't well-formed, which has a schema's identifier or hasn't.
+const DAMAGED: &str = "; this binary schema is damaged or incomplete";
 const NO_SCHEMA: &str = "; this is no binary schema, which flatc --binary --schema makes";
 
 /// Why strict checks refuse a schema file with a field of bytes, and what lets them take it.
@@ -310,6 +311,15 @@ const AS_BYTES: &str = "plain_bytes takes such fields as bytes";
 
 /// What is said where a schema is asked for other demands.
 const OTHERS: &str = "the schema was loaded with other demands: ask for these when you load it";
+
+/// What a file may be that isn't well-formed: its identifier is read before all else.
+fn guess(fault: &Fault) -> &'static str {
+    match fault.reason {
+        Reason::WrongIdentifier => NO_SCHEMA,
+        _ if fault.reads == 0 => NO_SCHEMA,
+        _ => DAMAGED,
+    }
+}
 
 /// A hint behind a text, where there is one.
 fn behind(hint: &str) -> String {
@@ -350,7 +360,7 @@ impl Error {
 impl fmt::Display for Error {
     fn fmt(&self, to: &mut fmt::Formatter) -> fmt::Result {
         match *self {
-            Error::NotWellFormed(ref fault) => write!(to, "schema: L1 {fault}{NO_SCHEMA}"),
+            Error::NotWellFormed(ref fault) => write!(to, "schema: L1 {fault}{}", guess(fault)),
             Error::BadSchema { code, owner, part } => {
                 let (name, part) = (fault_name(calls::BAD_SCHEMA, code), number_or_dash(part));
                 write!(to, "schema: L2 {name} owner={owner} part={part}")
