@@ -380,7 +380,8 @@ class Binding:
         held = len(messages[2]) - 1
         begin = len(messages[0] + messages[1])
         behind = self.in_stream.get("S2", "").format(number=3, begin=begin, size=held + 1)
-        self.same("one that ends in a message", cut, f"{''.join(lines[:2])}error stream: S2 Truncated held={held}{behind}")
+        truncated = f"error stream: S2 Truncated held={held}{behind}"
+        self.same("one that ends in a message", cut, f"{''.join(lines[:2])}{truncated}")
         self.same("room enough", enough, want)
         first = next(number for number, message in enumerate(messages) if len(message) == longest)
         behind = self.in_stream.get("S1", "").format(number=first + 1, begin=sum(map(len, messages[:first])),
@@ -424,12 +425,16 @@ class Binding:
 
     def test_page(self):
         """The program of its page, as it's pasted, writes what stands behind it."""
-        page = (TOP / "bindings" / self.folder / "README.md").read_text()
-        code, want = re.search(rf"```{self.fence}\n(.*?)```.*?```text\n(.*?)```", page, re.S).groups()
-        folder = FOLDER / f"{self.folder}_page"
+        code, want = re.search(rf"```{self.fence}\n(.*?)```.*?```text\n(.*?)```", self.page(), re.S).groups()
+        self.same("what the page's program writes", self.ran_as_pasted("page", code), (0, want, ""))
+
+    def page(self):
+        return (TOP / "bindings" / self.folder / "README.md").read_text()
+
+    def ran_as_pasted(self, name, code):
+        folder = FOLDER / f"{self.folder}_{name}"
         folder.mkdir()
-        told = ran("env", "-C", TOP, *self.pasted(folder, code), given=STREAM.read_bytes(), **FOUND)
-        self.same("what the page's program writes", told, (0, want, ""))
+        return ran("env", "-C", TOP, *self.pasted(folder, code), given=STREAM.read_bytes(), **FOUND)
 
 
 def chain(count):
@@ -451,6 +456,18 @@ class Native(Binding):
         return {"S1": f"; message {{number}} at {{begin}} is longer than {self.max_bytes}, {{most}}",
                 "S2": "; message {number} at {begin} has {size} bytes"}
 
+    def test_elements_of_page(self):
+        """The page's loops write the texts of one vector, and the numbers of another."""
+        code = next(code for code in re.findall(rf"```{self.fence}\n(.*?)```", self.page(), re.S) if "stamps" in code)
+        line = run("--schema", ORDERS, *(word for path in ("notes", "stamps") for at in range(3)
+                                         for word in ("--path", f"{path}[{at}]")), given=messages_of(POST)[0])
+        told = line.out.decode().partition("reads=")[2].split()[1:]
+        self.same("the program's", len(told), 6)
+        want = "".join(f"{word.strip(chr(34))}\n" for word in told)
+        first = file_of("first", messages_of(POST)[0])
+        whole = self.around.replace("CODE", code).replace("SCHEMA", str(ORDERS)).replace("MESSAGE", str(first))
+        self.same("what the loops write", self.ran_as_pasted("elements", whole), (0, want, ""))
+
     def test_cut_schema_files(self):
         """A schema file that was cut off is damaged, if at least its identifier came; other files are no schema."""
         file = ORDERS.read_bytes()
@@ -471,7 +488,7 @@ class Native(Binding):
             lines = run("--names", "--schema", ORDERS, given=begun).out.decode()
             for held in (1, 2, 3, 4, 5, 300, len(first) - 1):
                 cut = file_of(f"short{count}-{held}", begun + first[:held])
-                told = self.told(f"load {ORDERS} prefixed=1", f"stream {cut} 2 7 65536", f"stream {cut} 9999 9999 65536")
+                told = self.told(f"load {ORDERS} prefixed=1", f"stream {cut} 2 7 65536", f"stream {cut} 999 999 65536")
                 where = f"message {count + 1} at {len(begun)}"
                 how = "ends inside its size" if held < 4 else f"has {len(first)} bytes"
                 want = f"{lines}error stream: S2 Truncated held={held}; {where} {how}"
@@ -517,10 +534,10 @@ class Native(Binding):
                          f"again {torn} to.name items[3]@Note", "with root=post.Person prefixed=1", f"again {ok} name")
         self.same("the values of a good message", told[1], f"text:{b'Ada'.hex()} 1")
         self.same("of none, and of a torn one", told[2:4], [changed] * 2)
-        words = []
+        words, paths = [], ["to.name", "items[3]@Note", "notes[1]", "first@Parcel.tags[0]"]
         for at in range(0, len(first), 4):
             wild = file_of(f"wild_again{at}", first[:at] + b"\xff\xff\xff\x7f" + first[at + 4 :])
-            words += [f"again {wild} {path}" for path in ("to.name", "items[3]@Note", "notes[1]", "first@Parcel.tags[0]")]
+            words += [f"again {wild} {path}" for path in paths]
         for command, got in zip(words, self.told(f"load {ORDERS} prefixed=1", *words)[1:]):
             self.holds(f"{command}: a value, or changed", got == changed or not got.startswith("error"), got)
 
@@ -548,7 +565,8 @@ class Native(Binding):
                    for at, word in enumerate(got.split(" "))]
             self.same(f"{data.name}", got, want)
         first = file_of("first", messages_of(POST)[0])
-        told = self.told(f"load {ORDERS} prefixed=1", f"{'again' if self.language == 'Go' else 'numbers'} {first} id nam")
+        word = "again" if self.language == "Go" else "numbers"
+        told = self.told(f"load {ORDERS} prefixed=1", f"{word} {first} id nam")
         self.holds("one of several paths", told[1].startswith('error path: P2 NoSuchField step=0 ("nam")'), told)
 
     def test_each_element(self):
@@ -587,6 +605,15 @@ class Native(Binding):
 
 
 class Rust(Native, LibraryCase):
+    around = """
+use fbcheck::Value;
+fn main() -> Result<(), Box<dyn std::error::Error>> {
+    let schema = fbcheck::Options::new().prefixed(true).load(&std::fs::read("SCHEMA")?)?;
+    let message = &std::fs::read("MESSAGE")?;
+    CODE
+    Ok(())
+}
+"""
     language, folder, fence = "Rust", "rust", "rust"
     max_depth, plain_bytes, closed = "max_depth", "plain_bytes", None
     target = FOLDER / "rust"
@@ -730,6 +757,25 @@ class Node(Binding, LibraryCase):
 
 
 class Go(Native, LibraryCase):
+    around = """
+package main
+import ("encoding/binary"; "fmt"; "os"; "fbcheck.dev/fbcheck")
+func told() error {
+	file, _ := os.ReadFile("SCHEMA")
+	message, _ := os.ReadFile("MESSAGE")
+	schema, err := fbcheck.NewSchema(file, fbcheck.Options{Prefixed: true})
+	if err != nil {
+		return err
+	}
+	CODE
+	return nil
+}
+func main() {
+	if err := told(); err != nil {
+		panic(err)
+	}
+}
+"""
     language, folder, fence = "Go", "go", "go"
     max_depth, strict, plain_bytes, max_bytes = "MaxDepth", "Strict", "PlainBytes", "MaxBytes"
     driver = [FOLDER / "driver_go"]
@@ -749,7 +795,8 @@ class Go(Native, LibraryCase):
 
     def test_elsewhere(self):
         """Where cgo is missing, or on another machine, the compiler says what is needed."""
-        for more in ({"CGO_ENABLED": "0"}, {"GOOS": "darwin"}, {"GOARCH": "arm64"}, {"GOOS": "darwin", "CGO_ENABLED": "1"}):
+        other = {"GOOS": "darwin", "CGO_ENABLED": "1"}
+        for more in ({"CGO_ENABLED": "0"}, {"GOOS": "darwin"}, {"GOARCH": "arm64"}, other):
             status, _, err = ran("env", "-C", TOP / "bindings/go", "go", "build", "./...", **FOUND, **more)
             told = [line for line in err.splitlines() if not line.startswith("#")]
             self.same(f"{more}", (status != 0, [line.partition(" ")[2] for line in told]),

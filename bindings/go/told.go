@@ -199,8 +199,8 @@ func (k Kind) String() string {
 	return kinds[k]
 }
 
-// A Value is what is at the end of a path. The fields that its kind doesn't have are 0; but a whole number is in Uint and
-// in Int, if it fits there. Uint64, Int64 and Float64 tell whether it fits.
+// A Value is what is at the end of a path. The fields that its kind doesn't have are 0; but a whole number is in Uint
+// and in Int, if it fits there. Uint64, Int64 and Float64 say whether it fits.
 type Value struct {
 	Kind  Kind
 	Uint  uint64
@@ -219,7 +219,7 @@ func (v Value) Int64() (int64, bool) {
 	return v.Int, v.Kind == Int || v.Kind == Uint && v.Uint <= math.MaxInt64
 }
 
-// Float64 returns a number that a float64 can hold exactly (of whole numbers those up to 2^53), and whether this is one.
+// Float64 returns a number that a float64 holds exactly (of whole numbers those up to 2^53), and whether this is one.
 func (v Value) Float64() (float64, bool) {
 	switch v.Kind {
 	case Float:

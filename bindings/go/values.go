@@ -136,10 +136,10 @@ func (s *Schema) ReadInto(values []Value, message []byte, paths ...Path) error {
 }
 
 // ReadAgain returns the value at the end of each path in a message that was ok, without another check: Check or Read of
-// this schema said so of these bytes, with options that have the same Prefixed. A path of a few steps takes some 0.2 µs,
-// however long the message is. Nothing relies on that check: each position is tested before it is read, whatever the
-// bytes are. If they aren't those of an ok message, it returns an *Error with Changed; for a path of another schema or
-// root, one with Misfit.
+// this schema said so of these bytes, with options that have the same Prefixed. A path of a few steps takes 0.2 µs or
+// so, however long the message is. Nothing relies on that check: each position is tested before it is read, whatever
+// the bytes are. If they aren't those of an ok message, it returns an *Error with Changed; for a path of another schema
+// or root, one with Misfit.
 func (s *Schema) ReadAgain(message []byte, paths ...Path) ([]Value, error) {
 	values := make([]Value, len(paths))
 	if err := s.ReadAgainInto(values, message, paths...); err != nil {
