@@ -20,8 +20,8 @@ type origin struct {
 // A Path is a resolved path. It serves the schema that resolved it, and those that With made with the same root table.
 // Reading by another schema or root, or by Path{}, fails with Misfit.
 type Path struct {
-	steps  C.fbcheck_path
 	origin origin
+	steps  C.fbcheck_path
 }
 
 // Path resolves a path from the root table, such as "items[0]@Parcel.name". Elements are numbered from 0; a member of a
@@ -84,23 +84,28 @@ func (s *Schema) lend(values []Value, paths []Path) (*reading, error) {
 	if len(values) != len(paths) {
 		panic(fmt.Sprintf("fbcheck: %d values for %d paths", len(values), len(paths)))
 	}
-	from := s.origin()
-	for i := range paths {
-		if paths[i].origin != from {
-			return nil, &Error{Misfit, texts[Misfit]}
-		}
-	}
 	room := readings.Get().(*reading)
 	// One more than is asked for, so that there is a first one.
 	if need := len(paths) + 1; len(room.values) < need {
 		room.paths, room.values = make([]C.fbcheck_path, need), make([]C.fbcheck_value, need)
 	}
+	origin := s.origin()
 	for i := range paths {
-		from, to := &paths[i].steps, &room.paths[i]
-		to.count = from.count
-		copy(to.steps[:from.count], from.steps[:from.count])
+		if paths[i].origin != origin {
+			readings.Put(room)
+			return nil, &Error{Misfit, texts[Misfit]}
+		}
+		lend(&room.paths[i], &paths[i].steps)
 	}
 	return room, nil
+}
+
+// lend copies the steps of a path; a call looks at no more than there are.
+func lend(to, from *C.fbcheck_path) {
+	to.count, to.reserved = from.count, from.reserved
+	for i := range from.steps[:from.count] {
+		to.steps[i] = from.steps[i]
+	}
 }
 
 // Read checks a message, and if it is ok returns the value at the end of each path. It returns a *BadBuffer if the

@@ -17,9 +17,10 @@ pub(crate) struct Origin {
 /// It serves the schema that resolved it, its clones, and what [`Schema::with`](crate::Schema::with) makes from it with
 /// the same root table. Reading by another schema or root panics.
 #[derive(Clone, Copy, Debug)]
+#[repr(C)] // what a short path needs comes first
 pub struct Path {
-    steps: calls::Path,
     origin: Origin,
+    steps: calls::Path,
 }
 
 impl Path {
@@ -47,54 +48,67 @@ impl Path {
     }
 
     /// Its steps for a call, which looks at no more than there are.
+    #[inline]
     fn lend(&self, to: &mut MaybeUninit<calls::Path>) {
         let count = self.steps.count as usize;
-        let to = to.as_mut_ptr();
-        // SAFETY: all places are in the path; no reference is made to one that isn't set.
+        let (from, to) = (self.steps.steps.as_ptr(), to.as_mut_ptr());
+        // SAFETY: all places are in the paths, which have as many steps; no reference is made to one that isn't set.
         unsafe {
             addr_of_mut!((*to).count).write(self.steps.count);
             addr_of_mut!((*to).reserved).write(self.steps.reserved);
             let steps = addr_of_mut!((*to).steps).cast::<calls::Step>();
-            steps.copy_from_nonoverlapping(self.steps.steps[..count].as_ptr(), count);
+            steps.copy_from_nonoverlapping(from, SHORT); // by no call
+            if count > SHORT {
+                let more = count - SHORT;
+                steps
+                    .add(SHORT)
+                    .copy_from_nonoverlapping(from.add(SHORT), more);
+            }
         }
     }
 }
 
-/// So many paths need no memory.
-const FEW: usize = 8;
+/// So many steps are copied at least.
+const SHORT: usize = 4;
 
-/// Room for the paths of a call.
-pub(crate) struct Lent {
-    few: [MaybeUninit<calls::Path>; FEW],
-    many: Vec<MaybeUninit<calls::Path>>,
+/// Room for what a call takes or gives, of which few need no memory.
+pub(crate) struct Room<T> {
+    few: [MaybeUninit<T>; 8],
+    many: Vec<MaybeUninit<T>>,
 }
 
-impl Lent {
-    pub fn new() -> Lent {
-        Lent {
-            few: [MaybeUninit::uninit(); FEW],
+impl<T: Copy> Room<T> {
+    #[inline(always)]
+    pub fn new() -> Room<T> {
+        Room {
+            few: [MaybeUninit::uninit(); 8],
             many: Vec::new(),
         }
     }
 
-    /// Where the paths are for a call, as long as this isn't changed.
-    ///
-    /// # Panics
-    /// If one is of another schema or root.
-    #[track_caller]
-    pub fn of(&mut self, paths: &[Path], origin: Origin) -> *const calls::Path {
-        let to = match self.few.get_mut(..paths.len()) {
+    /// Room for so many, none of which is set.
+    #[inline]
+    pub fn of(&mut self, count: usize) -> &mut [MaybeUninit<T>] {
+        match self.few.get_mut(..count) {
             Some(few) => few,
             None => {
-                self.many.resize(paths.len(), MaybeUninit::uninit());
-                &mut self.many[..]
+                self.many.resize(count, MaybeUninit::uninit());
+                &mut self.many
             }
-        };
-        for (path, to) in paths.iter().zip(to.iter_mut()) {
-            let same = path.origin == origin;
-            assert!(same, "a path is none of this schema from this root");
-            path.lend(to);
         }
-        to.as_ptr().cast::<calls::Path>()
+    }
+}
+
+/// Puts paths for a call into as much room.
+///
+/// # Panics
+/// If one is of another schema or root.
+#[inline]
+#[track_caller]
+pub(crate) fn lend(paths: &[Path], origin: Origin, room: &mut [MaybeUninit<calls::Path>]) {
+    for (path, to) in paths.iter().zip(room) {
+        let same = path.origin == origin;
+        assert!(same, "a path is none of this schema from this root");
+        path.lend(to);
     }
 }

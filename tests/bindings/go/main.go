@@ -177,7 +177,8 @@ func check(schema *fbcheck.Schema, message []byte) string {
 func stream(schema *fbcheck.Schema, words []string, to io.Writer) error {
 	reader := &pieces{file(words[0]), int(number(words[1])), int(number(words[2]))}
 	messages := schema.Messages(reader).MaxBytes(int(number(words[3])))
-	for count, next := uint64(1), uint64(0); messages.Next(); count++ {
+	count, next := uint64(1), uint64(0)
+	for ; messages.Next(); count++ {
 		if messages.Count() != count || messages.Begin() != next {
 			return errors.New("its count or beginning is wrong")
 		}
@@ -186,6 +187,14 @@ func stream(schema *fbcheck.Schema, words []string, to io.Writer) error {
 			return errors.New("Check says otherwise")
 		}
 		fmt.Fprintln(to, count, messages.Verdict())
+	}
+	var failed *fbcheck.StreamError
+	if errors.As(messages.Err(), &failed) {
+		what := [3]uint64{failed.Number, failed.Begin, uint64(failed.MaxBytes)}
+		longer := failed.Size > uint64(failed.MaxBytes)
+		if what != [3]uint64{count, next, number(words[3])} || longer != (failed.Status == fbcheck.Oversize) {
+			return errors.New("its error says otherwise")
+		}
 	}
 	return messages.Err()
 }

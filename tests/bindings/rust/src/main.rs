@@ -150,6 +150,27 @@ fn stream(schema: &Schema, words: &[&str], to: &mut impl Write) -> Told {
                 let again = messages.next_message().map(|_| "a message");
                 let again = again.expect_err("it can't go on").to_string();
                 let lasts = matches!(error, StreamError::NoMemory { .. });
+                match error {
+                    StreamError::Truncated {
+                        number: at,
+                        begin,
+                        held,
+                        size,
+                    } => {
+                        assert_eq!((at, begin), (number + 1, next));
+                        assert!(size.map_or(held < 4, |size| held < size));
+                    }
+                    StreamError::Oversize {
+                        number: at,
+                        begin,
+                        declared,
+                        max_bytes,
+                    } => {
+                        assert_eq!((at, begin, max_bytes), (number + 1, next, most));
+                        assert!(declared as usize + 4 > most);
+                    }
+                    _ => {}
+                }
                 assert_eq!(again == error.to_string(), lasts, "{again}");
                 return Err(error.into());
             }
