@@ -357,6 +357,19 @@ func stranger(schema *fbcheck.Schema, words []string) error {
 func threads(schema *fbcheck.Schema, words []string) string {
 	message, count := file(words[0]), int(number(words[1]))
 	want := schema.Check(message)
+	alike := func() bool { return schema.Check(message) == want }
+	if len(words) > 3 {
+		path, err := schema.Path(words[3])
+		if err != nil {
+			return err.Error()
+		}
+		first, _ := schema.Read(message, path)
+		alike = func() bool {
+			values, _ := schema.Read(message, path)
+			again, _ := schema.ReadAgain(message, path)
+			return values[0].String() == first[0].String() && again[0].String() == first[0].String()
+		}
+	}
 	var sum int64
 	var all sync.WaitGroup
 	for thread := number(words[2]); thread > 0; thread-- {
@@ -364,7 +377,7 @@ func threads(schema *fbcheck.Schema, words []string) string {
 		go func() {
 			defer all.Done()
 			for i := 0; i < count; i++ {
-				if schema.Check(message) == want {
+				if alike() {
 					atomic.AddInt64(&sum, 1)
 				}
 			}

@@ -271,7 +271,16 @@ fn threads(schema: &Schema, words: &[&str]) -> Told {
     let bytes = fs::read(words[0])?;
     let (count, threads): (usize, usize) = (words[1].parse()?, words[2].parse()?);
     let want = schema.check(&bytes);
-    let alike = || (0..count).filter(|_| schema.check(&bytes) == want).count();
+    let path = words.get(3).map(|text| schema.path(text)).transpose()?;
+    let values = path.map(|path| schema.read(&bytes, &[path])).transpose()?;
+    let same = || match (path, values) {
+        (Some(path), Some([value])) => {
+            schema.read(&bytes, &[path]) == Ok([value])
+                && schema.read_again(&bytes, &[path]) == Ok([value])
+        }
+        _ => schema.check(&bytes) == want,
+    };
+    let alike = || (0..count).filter(|_| same()).count();
     let sum: usize = thread::scope(|scope| {
         let running: Vec<_> = (0..threads).map(|_| scope.spawn(alike)).collect();
         running.into_iter().map(|one| one.join().unwrap()).sum()
