@@ -8,7 +8,13 @@ A driver reads commands, one a line, and writes what each answers, and behind it
     check FILE                      the verdict on a message, wherever its bytes are
     stream FILE FIRST SIZE MOST     the verdicts on a stream in pieces, the first of another size
     read FILE PATH..                values at paths; misfit OPTION PATH FILE by a path of a schema with this option
-    threads FILE COUNT THREADS      how many of so many verdicts are alike
+    stranger SCHEMA PATH FILE       the same by a path of another load; zero FILE by a path that is nothing
+    again FILE PATH..               values at paths, without a check
+    each FILE VECTOR PATH           those of a vector's elements and of one more, by one path with another index
+    patient FILE SIZE EMPTY ERROR   the verdicts on a stream whose reader first returns nothing so often, then an error
+    numbers FILE PATH..             values as a uint64, an int64 and a float64, each a dash where it doesn't fit
+    allocations FILE PATH           how many Go makes for values into a slice, for those without a check, for new ones
+    threads FILE COUNT THREADS      how many of so many verdicts are alike; with a path behind, how many values
     loads FILE COUNT                kilobytes that so many loads take; time FILE COUNT the nanoseconds a check takes
     most LENGTH                     most reads; object NUMBER and field NUMBER NUMBER tell names; close frees the schema
     commit                          the commit of the library, or a dash if it isn't known
@@ -28,32 +34,21 @@ from tests.support.buffers import (
     levels, lower_type, named,
 )
 from tests.support.builder import buffer, changed, messages_of, prefixed
-from tests.support.every_kind import FILE, LITTLE, OPTIONS, PLACE, WHOLE, variants, words_of
+from tests.support.every_kind import LITTLE, OPTIONS, PLACE, WHOLE, variants, words_of
 from tests.support.generated import Kept
 from tests.support.header import Reason
 from tests.support.library import OUT, LibraryCase, module, ran
 from tests.support.naive import NAMES, Default, Reader
 from tests.support.program import TOP, file_of, folder_of, run
-from tests.support.schemas import INT, TEXT, U_BYTE, a_union, an_object, field, schema, table, union
+from tests.support.rust_and_go import ALL, NO_SCHEMA, ORDERS, PATHS, STREAM, RustAndGo
+from tests.support.schemas import INT, TEXT, a_union, an_object, field, schema, table, union
 from tests.support.strict_messages import MESSAGES
 from tests.support.tools import jdk_of_22, node_headers, there
 
 FOLDER = folder_of(__name__)
 DRIVERS = TOP / "tests/bindings"
-NO_SCHEMA = "; this is no binary schema, which flatc --binary --schema makes"
 FOUND = {"PKG_CONFIG_PATH": str(OUT), "LD_LIBRARY_PATH": str(OUT)}
-ORDERS = TOP / "examples/deliveries.bfbs"
-STREAM = TOP / "examples/deliveries.bin"
-ALL = file_of("all.bfbs", FILE)
 FILES = schemas.files()
-
-# The paths of each kind of value in every_kind.py.
-PATHS = [
-    "yes", "least", "short", "long", "real", "place", "name", "below", "below.next.v", "below.next.next", "bytes",
-    "bytes[1]", "longs", "longs[1]", "longs[2]", "places", "places[0]", "texts", "texts[0]", "texts[1]", "texts[3]",
-    "tables", "tables[1]", "one_type", "one", "one@Wide", "one@Text", "many_type", "many", "many[0]", "many[0]@Below.v",
-    "many[1]@Place", "many[2]@Text", "many[3]", "many[5]@Wide", "many[6]", "last",
-]
 
 
 def options_of(options):
@@ -95,7 +90,8 @@ class Binding:
     quoted = ' ("{}")'  # what was asked for, behind the text of an error
     names_files = False  # whether a schema file is loaded by its name, which an error tells too
     names_first = False  # before what it tells of the file's bytes
-    damaged = NO_SCHEMA  # what it tells of a schema file that is damaged
+    damaged = NO_SCHEMA  # what is behind the text of a schema file's error, though it has the right identifier
+    in_stream = {}  # what is behind the text of a stream's error
     briefly = ()  # the driver's words, behind the first, by which a short run costs less
 
     @classmethod
@@ -373,10 +369,15 @@ class Binding:
         self.holds("a schema without prefixes is refused", "begin with their size" in self.told(
             f"load {ORDERS}", f"stream {none} 1 1 8")[1])
         held = len(messages[2]) - 1
-        self.same("one that ends in a message", cut, f"{''.join(lines[:2])}error stream: S2 Truncated held={held}")
+        begin = len(messages[0] + messages[1])
+        behind = self.in_stream.get("S2", "").format(number=3, begin=begin, size=held + 1)
+        truncated = f"error stream: S2 Truncated held={held}{behind}"
+        self.same("one that ends in a message", cut, f"{''.join(lines[:2])}{truncated}")
         self.same("room enough", enough, want)
         first = next(number for number, message in enumerate(messages) if len(message) == longest)
-        declared = f"error stream: S1 Oversize declared={longest - 4}"
+        behind = self.in_stream.get("S1", "").format(number=first + 1, begin=sum(map(len, messages[:first])),
+                                                     most=longest - 1)
+        declared = f"error stream: S1 Oversize declared={longest - 4}{behind}"
         self.same("one byte too few", oversize, f"{''.join(lines[:first])}{declared}")
         self.same("no message", nothing, "end")
         self.same("messages without a byte", len(re.findall(r"V2 OutOfBuffer at=4 ", blank)), 3)
@@ -415,12 +416,16 @@ class Binding:
 
     def test_page(self):
         """The program of its page, as it's pasted, writes what stands behind it."""
-        page = (TOP / "bindings" / self.folder / "README.md").read_text()
-        code, want = re.search(rf"```{self.fence}\n(.*?)```.*?```text\n(.*?)```", page, re.S).groups()
-        folder = FOLDER / f"{self.folder}_page"
+        code, want = re.search(rf"```{self.fence}\n(.*?)```.*?```text\n(.*?)```", self.page(), re.S).groups()
+        self.same("what the page's program writes", self.ran_as_pasted("page", code), (0, want, ""))
+
+    def page(self):
+        return (TOP / "bindings" / self.folder / "README.md").read_text()
+
+    def ran_as_pasted(self, name, code):
+        folder = FOLDER / f"{self.folder}_{name}"
         folder.mkdir()
-        told = ran("env", "-C", TOP, *self.pasted(folder, code), given=STREAM.read_bytes(), **FOUND)
-        self.same("what the page's program writes", told, (0, want, ""))
+        return ran("env", "-C", TOP, *self.pasted(folder, code), given=STREAM.read_bytes(), **FOUND)
 
 
 def chain(count):
@@ -431,7 +436,16 @@ def chain(count):
     return root
 
 
-class Rust(Binding, LibraryCase):
+class Rust(RustAndGo, Binding, LibraryCase):
+    around = """
+use fbcheck::Value;
+fn main() -> Result<(), Box<dyn std::error::Error>> {
+    let schema = fbcheck::Options::new().prefixed(true).load(&std::fs::read("SCHEMA")?)?;
+    let message = &std::fs::read("MESSAGE")?;
+    CODE
+    Ok(())
+}
+"""
     language, folder, fence = "Rust", "rust", "rust"
     max_depth, plain_bytes, closed = "max_depth", "plain_bytes", None
     target = FOLDER / "rust"
@@ -455,6 +469,16 @@ class Rust(Binding, LibraryCase):
                 self.made("cargo", "fmt", "--check", folder=folder)
             if there("cargo-clippy"):
                 self.cargo(folder, "clippy", "--release", "--", "-D", "warnings")
+
+    def test_refused_memory(self):
+        """Where there's no room for a message, that is told, and asked again it's the same."""
+        size = 2**30
+        long = file_of("declares", messages_of(POST)[0] + struct.pack("<I", size - 4))
+        given = f"load {ORDERS} prefixed=1\nstream {long} 7 7 {2 ** 31 - 1}\nstream {STREAM} 7 7 600\n".encode()
+        status, out, err = ran("prlimit", f"--as={size}", *self.driver, given=given)
+        self.same("it ends well", (status, err, out.count("ok tables=")), (0, "", 6))
+        told = f"\nerror out of memory: {2 ** 31 - 1} bytes for message 2 at {len(messages_of(POST)[0])}\n"
+        self.holds("it's told", told in out, out)
 
     def test_documented(self):
         """The examples in the crate's documentation run."""
@@ -568,9 +592,28 @@ class Node(Binding, LibraryCase):
         return ["node", folder / "page.js"]
 
 
-class Go(Binding, LibraryCase):
+class Go(RustAndGo, Binding, LibraryCase):
+    around = """
+package main
+import ("encoding/binary"; "fmt"; "os"; "fbcheck.dev/fbcheck")
+func told() error {
+	file, _ := os.ReadFile("SCHEMA")
+	message, _ := os.ReadFile("MESSAGE")
+	schema, err := fbcheck.NewSchema(file, fbcheck.Options{Prefixed: true})
+	if err != nil {
+		return err
+	}
+	CODE
+	return nil
+}
+func main() {
+	if err := told(); err != nil {
+		panic(err)
+	}
+}
+"""
     language, folder, fence = "Go", "go", "go"
-    max_depth, strict, plain_bytes = "MaxDepth", "Strict", "PlainBytes"
+    max_depth, strict, plain_bytes, max_bytes = "MaxDepth", "Strict", "PlainBytes", "MaxBytes"
     driver = [FOLDER / "driver_go"]
 
     @classmethod
@@ -586,12 +629,19 @@ class Go(Binding, LibraryCase):
             self.made("gofmt", "-l", ".", folder=folder)
             self.made("go", "vet", "./...", folder=folder)
 
-    def test_room(self):
-        """A stream takes room for its messages, however long they may be; and no shared library is needed."""
-        given = f"load {ORDERS} prefixed=1\nstream {STREAM} 7 7 {2 ** 31 - 1}\n".encode()
-        status, out, _ = ran("prlimit", f"--as={2 ** 31 - 1}", *self.driver, given=given)
-        self.same("it ends well", (status, out.count("ok tables="), out[-7:]), (0, 5, "\nend\n.\n"))
-        self.holds("it's linked in", "fbcheck" not in ran("ldd", *self.driver)[1])
+    def test_elsewhere(self):
+        """Where cgo is missing, or on another machine, the compiler says what is needed."""
+        other = {"GOOS": "darwin", "CGO_ENABLED": "1"}
+        for more in ({"CGO_ENABLED": "0"}, {"GOOS": "darwin"}, {"GOARCH": "arm64"}, other):
+            status, _, err = ran("env", "-C", TOP / "bindings/go", "go", "build", "./...", **FOUND, **more)
+            told = [line for line in err.splitlines() if not line.startswith("#")]
+            self.same(f"{more}", (status != 0, [line.partition(" ")[2] for line in told]),
+                      (True, ["undefined: fbcheck_needs_cgo_on_linux_amd64"]))
+
+    def test_allocations(self):
+        """Values into a slice take no memory, and others one piece."""
+        first = file_of("first", messages_of(POST)[0])
+        self.same("how many", self.told(f"load {ORDERS} prefixed=1", f"allocations {first} to.name")[1], "0 0 1")
 
     def pasted(self, folder, code):
         (folder / "main.go").write_text(code)

@@ -242,6 +242,44 @@ class Packages(LibraryCase):
         told = ran("ldd", folder / "target/debug/page")[1]
         self.holds("the library is in the program", "fbcheck" not in told, told)
 
+    def page(self, package, language):
+        """The first program of its page, what it writes, and the last command there that is typed in a user's folder."""
+        text = (package / "README.md").read_text()
+        code, want = re.search(rf"```{language}\n(.*?)```.*?```text\n(.*?)```", text, re.S).groups()
+        return code, want, re.search(r"cp -r \S+/examples \.", text)[0]
+
+    def test_page_of_crate(self):
+        """What stands on its page can be done where it's unpacked, and its documentation is tested in a workspace."""
+        crate = self.unpacked(self.need("*.crate", "cargo"))
+        code, want, copy = self.page(crate, "rust")
+        folder = FOLDER / "rust-page"
+        (folder / "src").mkdir(parents=True)
+        shutil.copytree(crate, folder / crate.name)
+        (folder / "src/main.rs").write_text(code)
+        (folder / "Cargo.toml").write_text('[package]\nname = "page"\nversion = "0.0.0"\nedition = "2021"\n')
+        words = ["--quiet", "--offline"]
+        self.same("cargo adds it", alone("cargo", "add", *words, "--path", crate.name, folder=folder)[0], 0)
+        self.same("the examples are copied", alone(*copy.split(), folder=folder), (0, ""))
+        self.same("the page's program", alone("cargo", "run", *words, folder=folder), (0, want))
+        with open(folder / "Cargo.toml", "a") as file:
+            file.write(f'[workspace]\nmembers = ["{crate.name}"]\n')
+        told = alone("cargo", "test", *words, "--workspace", folder=folder, seconds=300)
+        self.holds("a workspace's tests pass", told[0] == 0 and "2 passed" in told[1], told)
+
+    def test_page_of_module(self):
+        module = self.unpacked(self.need("fbcheck-go-*", "go"))
+        code, want, copy = self.page(module, "go")
+        folder = FOLDER / "go-page"
+        folder.mkdir()
+        shutil.copytree(module, folder / module.name)
+        (folder / "main.go").write_text(code)
+        (folder / "go.mod").write_text("module page\n\ngo 1.19\n")
+        edit = re.search(r"go mod edit -require.*", (module / "README.md").read_text())[0]
+        for words in (edit, copy, "go build -o page ."):
+            self.same(words, alone(*words.split(), folder=folder, GOPROXY="off", GOFLAGS="-mod=mod"), (0, ""))
+        told = ran("sh", "-c", f"cd {folder} && ./page < examples/deliveries.bin")
+        self.same("the page's program", told, (0, want, ""))
+
     def test_package_for_node(self):
         package = self.need("*.tgz", "node", "npm")
         for name in ("node", "node-built"):
@@ -349,7 +387,7 @@ class Packages(LibraryCase):
             if made(package) is None:
                 continue
             folder = self.unpacked(made(package))
-            for page in ("README.md", "docs/REFERENCE.md"):
+            for page in ("README.md", "docs/REFERENCE.md", "docs/SECURITY.md"):
                 links = re.findall(r"\]\(((?!http)[^)#]+)", (folder / page).read_text())
                 dead = [link for link in links if not ((folder / page).parent / link).exists()]
                 self.same(f"{package}: dead links of {page}", dead, [])

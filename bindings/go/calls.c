@@ -1,3 +1,5 @@
+//go:build cgo && linux && amd64
+
 #include "calls.h"
 
 #include <pthread.h>
@@ -89,6 +91,12 @@ fbcheck_verdict read_values(const checker *checker, const uint8_t *message, size
 	fbcheck_read(schema_of(checker), scratch_for(checker), &checker->options, message, length, paths, values, count,
 	             &verdict);
 	return verdict;
+}
+
+uint32_t read_again(const checker *checker, const uint8_t *message, size_t length, const fbcheck_path *paths,
+                    fbcheck_value *values, size_t count)
+{
+	return fbcheck_read_again(schema_of(checker), &checker->options, message, length, paths, values, count, NULL);
 }
 
 uint64_t most_reads_of(const checker *checker, uint64_t length)

@@ -32,6 +32,8 @@ located check_message(const checker *checker, const uint8_t *message, size_t len
 fbcheck_verdict resolve_path(const checker *checker, const uint8_t *text, size_t length, fbcheck_path *path);
 fbcheck_verdict read_values(const checker *checker, const uint8_t *message, size_t length, const fbcheck_path *paths,
                             fbcheck_value *values, size_t count);
+uint32_t read_again(const checker *checker, const uint8_t *message, size_t length, const fbcheck_path *paths,
+                    fbcheck_value *values, size_t count);
 uint64_t most_reads_of(const checker *checker, uint64_t length);
 size_t name_of(const checker *checker, int of_field, uint32_t object, uint32_t field, char *text, size_t room);
 size_t path_hint_of(const checker *checker, const uint8_t *path, size_t length, char *text, size_t room);

@@ -1,3 +1,5 @@
+//go:build linux && amd64
+
 package fbcheck
 
 // #include <fbcheck.h>
@@ -109,6 +111,7 @@ const (
 	NotPlanned     Status = C.FBCHECK_NOT_PLANNED     // the schema wasn't loaded with what is demanded, such as Strict
 	UnmarkedBytes  Status = C.FBCHECK_UNMARKED_BYTES  // Strict can't tell what a field of type [ubyte] holds
 	NoSuchTable    Status = C.FBCHECK_NO_SUCH_TABLE   // the file marks a nested buffer of a table that it lacks
+	Changed        Status = C.FBCHECK_CHANGED         // ReadAgain: the bytes aren't those of an ok message
 )
 
 var texts = map[Status]string{
@@ -123,14 +126,20 @@ var texts = map[Status]string{
 	TooManySteps:   fmt.Sprintf("the path has more than %d steps", C.FBCHECK_STEPS),
 	Misfit:         "a path is none of this schema from this root",
 	TooMuchShared:  "schema: L6 TooMuchShared",
+	Changed:        "the bytes aren't those of an ok message",
 	NotPlanned:     "the schema was loaded with other demands: ask for these when you load it",
 	UnmarkedBytes: "strict can't tell which bytes are nested buffers or flexbuffers: %s; flatc --bfbs-builtins writes it" +
 		" to the .bfbs, PlainBytes takes such fields as bytes",
 	NoSuchTable: "strict can't find the table of a nested buffer: %s; PlainBytes takes such fields as bytes",
 }
 
-// noSchema is said behind the fault of a file that isn't well-formed.
-const noSchema = "; this is no binary schema, which flatc --binary --schema makes"
+// guess is what a file may be that isn't well-formed: its identifier is read before all else.
+func guess(verdict C.fbcheck_verdict) string {
+	if verdict.reason == C.FBCHECK_WRONG_IDENTIFIER || verdict.reads == 0 {
+		return "this is no binary schema, which flatc --binary --schema makes"
+	}
+	return "this binary schema is damaged or incomplete"
+}
 
 // An Error says why a call failed.
 type Error struct {
@@ -149,7 +158,7 @@ func errorOf(verdict C.fbcheck_verdict, asked string) *Error {
 	text := texts[status]
 	switch status {
 	case NotWellFormed:
-		text = "schema: L1 " + refused(verdict, "").String()[len("bad "):] + noSchema
+		text = "schema: L1 " + refused(verdict, "").String()[len("bad "):] + "; " + guess(verdict)
 	case BadSchema:
 		owner, field := uint32(verdict.object), dash(part(verdict.field))
 		text = fmt.Sprintf("schema: L2 %s owner=%d part=%s", name, owner, field)
@@ -190,7 +199,8 @@ func (k Kind) String() string {
 	return kinds[k]
 }
 
-// A Value is what is at the end of a path. The fields that its kind doesn't have are 0.
+// A Value is what is at the end of a path. The fields that its kind doesn't have are 0; but a whole number is in Uint
+// and in Int, if it fits there. Uint64, Int64 and Float64 say whether it fits.
 type Value struct {
 	Kind  Kind
 	Uint  uint64
@@ -199,20 +209,65 @@ type Value struct {
 	Bytes []byte // a slice of the message
 }
 
+// Uint64 returns a whole number that isn't negative, and whether this is one.
+func (v Value) Uint64() (uint64, bool) {
+	return v.Uint, v.Kind == Uint || v.Kind == Int && v.Int >= 0
+}
+
+// Int64 returns a whole number that an int64 can hold, and whether this is one.
+func (v Value) Int64() (int64, bool) {
+	return v.Int, v.Kind == Int || v.Kind == Uint && v.Uint <= math.MaxInt64
+}
+
+// Float64 returns a number that a float64 holds exactly (of whole numbers those up to 2^53), and whether this is one.
+func (v Value) Float64() (float64, bool) {
+	switch v.Kind {
+	case Float:
+		return v.Float, true
+	case Int:
+		if -exact <= v.Int && v.Int <= exact {
+			return float64(v.Int), true
+		}
+	case Uint:
+		if v.Uint <= exact {
+			return float64(v.Uint), true
+		}
+	}
+	return 0, false
+}
+
+// exact is the number up to which a float64 holds all whole numbers.
+const exact = 1 << 53
+
 func valueOf(told *C.fbcheck_value, message []byte) Value {
+	if told.kind == C.FBCHECK_DEFAULT_FLOAT {
+		return Value{Kind: Float, Float: math.Float64frombits(uint64(told.number))}
+	}
 	value := Value{Kind: Kind(told.kind), Uint: uint64(told.number), Int: int64(told.integer)}
 	bytes := message[told.at : told.at+told.size : told.at+told.size]
-	switch {
-	case told.kind == C.FBCHECK_DEFAULT_FLOAT:
-		return Value{Kind: Float, Float: math.Float64frombits(uint64(told.number))}
-	case value.Kind != Float:
+	switch value.Kind {
+	case Int:
+		if value.Int >= 0 {
+			value.Uint = uint64(value.Int)
+		}
+	case Uint:
+		if value.Uint <= math.MaxInt64 {
+			value.Int = int64(value.Uint)
+		}
+	case Float:
+		value.Float = floatOf(bytes)
+	case Text, Struct, Vector:
 		value.Bytes = bytes
-	case len(bytes) == 4:
-		value.Float = float64(math.Float32frombits(binary.LittleEndian.Uint32(bytes)))
-	default:
-		value.Float = math.Float64frombits(binary.LittleEndian.Uint64(bytes))
 	}
 	return value
+}
+
+// floatOf is the number of 4 or 8 bytes.
+func floatOf(bytes []byte) float64 {
+	if len(bytes) == 4 {
+		return float64(math.Float32frombits(binary.LittleEndian.Uint32(bytes)))
+	}
+	return math.Float64frombits(binary.LittleEndian.Uint64(bytes))
 }
 
 // String returns a string's text, a Bool or a number; otherwise the kind, with a vector's element count or a union's

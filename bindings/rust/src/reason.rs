@@ -2,7 +2,7 @@
 //! Why a message is refused.
 
 /// Why a message is refused.
-#[derive(Clone, Copy, Debug, PartialEq, Eq, Hash)]
+#[derive(Clone, Copy, Debug, PartialEq, Eq, PartialOrd, Ord, Hash)]
 #[non_exhaustive]
 pub enum Reason {
     /// The message has 2^31 bytes or more; nothing of it was read.

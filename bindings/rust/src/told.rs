@@ -107,6 +107,21 @@ impl fmt::Display for Fault {
 
 impl std::error::Error for Fault {}
 
+/// The bytes aren't those of an ok message: see [`Schema::read_again`](crate::Schema::read_again).
+#[derive(Clone, Copy, Debug, PartialEq, Eq)]
+pub struct Changed(pub(crate) ());
+
+impl fmt::Display for Changed {
+    fn fmt(&self, to: &mut fmt::Formatter) -> fmt::Result {
+        to.write_str("the bytes aren't those of an ok message")
+    }
+}
+
+impl std::error::Error for Changed {}
+
+/// The number up to which an `f64` holds all whole numbers.
+const EXACT: u64 = 1 << 53;
+
 /// What is at the end of a path. Bytes are slices of the message.
 #[derive(Clone, Copy, Debug, PartialEq)]
 pub enum Value<'m> {
@@ -157,6 +172,34 @@ impl<'m> Value<'m> {
         }
     }
 
+    /// The number, if this is an [`Int`](Value::Int) or [`UInt`](Value::UInt) that fits.
+    pub fn as_u64(&self) -> Option<u64> {
+        match *self {
+            Value::UInt(number) => Some(number),
+            Value::Int(number) => number.try_into().ok(),
+            _ => None,
+        }
+    }
+
+    /// The number, if this is an [`Int`](Value::Int) or [`UInt`](Value::UInt) that fits.
+    pub fn as_i64(&self) -> Option<i64> {
+        match *self {
+            Value::UInt(number) => number.try_into().ok(),
+            Value::Int(number) => Some(number),
+            _ => None,
+        }
+    }
+
+    /// The number, if this is one that an `f64` holds exactly (of whole numbers those up to 2^53).
+    pub fn as_f64(&self) -> Option<f64> {
+        match *self {
+            Value::Float(number) => Some(number),
+            Value::UInt(number) => (number <= EXACT).then_some(number as f64),
+            Value::Int(number) => (number.unsigned_abs() <= EXACT).then_some(number as f64),
+            _ => None,
+        }
+    }
+
     /// The text, if this is a string of UTF-8.
     pub fn as_str(&self) -> Option<&'m str> {
         match *self {
@@ -194,7 +237,7 @@ fn float(bytes: &[u8]) -> f64 {
 #[derive(Clone, Debug, PartialEq, Eq)]
 #[non_exhaustive]
 pub enum Error {
-    /// The schema file isn't a binary schema, or is damaged.
+    /// The schema file isn't a binary schema ([`Reason::WrongIdentifier`], or it's shorter than one), or is damaged.
     NotWellFormed(Fault),
     /// Its contents aren't a legal schema.
     BadSchema {
@@ -256,7 +299,8 @@ fn fault_name(status: u32, reason: u32) -> String {
         .unwrap_or_default()
 }
 
-/// What is said behind the fault of a file that isn't well-formed.
+/// What is said behind the fault of a file that isn't well-formed, which has a schema's identifier or hasn't.
+const DAMAGED: &str = "; this binary schema is damaged or incomplete";
 const NO_SCHEMA: &str = "; this is no binary schema, which flatc --binary --schema makes";
 
 /// Why strict checks refuse a schema file with a field of bytes, and what lets them take it.
@@ -267,6 +311,15 @@ const AS_BYTES: &str = "plain_bytes takes such fields as bytes";
 
 /// What is said where a schema is asked for other demands.
 const OTHERS: &str = "the schema was loaded with other demands: ask for these when you load it";
+
+/// What a file may be that isn't well-formed: its identifier is read before all else.
+fn guess(fault: &Fault) -> &'static str {
+    match fault.reason {
+        Reason::WrongIdentifier => NO_SCHEMA,
+        _ if fault.reads == 0 => NO_SCHEMA,
+        _ => DAMAGED,
+    }
+}
 
 /// A hint behind a text, where there is one.
 fn behind(hint: &str) -> String {
@@ -307,7 +360,7 @@ impl Error {
 impl fmt::Display for Error {
     fn fmt(&self, to: &mut fmt::Formatter) -> fmt::Result {
         match *self {
-            Error::NotWellFormed(ref fault) => write!(to, "schema: L1 {fault}{NO_SCHEMA}"),
+            Error::NotWellFormed(ref fault) => write!(to, "schema: L1 {fault}{}", guess(fault)),
             Error::BadSchema { code, owner, part } => {
                 let (name, part) = (fault_name(calls::BAD_SCHEMA, code), number_or_dash(part));
                 write!(to, "schema: L2 {name} owner={owner} part={part}")

@@ -14,6 +14,7 @@ import (
 	"strings"
 	"sync"
 	"sync/atomic"
+	"testing"
 	"time"
 
 	"fbcheck.dev/fbcheck"
@@ -36,6 +37,56 @@ func (p *pieces) Read(to []byte) (int, error) {
 	length := copy(to, p.rest[:size])
 	p.rest, p.first = p.rest[length:], p.size
 	return length, nil
+}
+
+// hindered is a reader that doesn't come to a piece at once: first it returns nothing a few times, then an error, if it
+// has one, and every other piece comes with that.
+type hindered struct {
+	pieces
+	empty int
+	err   error
+	calls int
+}
+
+func (h *hindered) Read(to []byte) (int, error) {
+	h.calls++
+	switch h.calls % (h.empty + 3) {
+	case 0:
+		return h.pieces.Read(to)
+	case 1:
+		length, err := h.pieces.Read(to)
+		if err == nil {
+			err = h.err
+		}
+		return length, err
+	case 2:
+		return 0, h.err
+	}
+	return 0, nil
+}
+
+// patient goes through a stream whose reader is hindered, and tells how often that was told.
+func patient(schema *fbcheck.Schema, words []string, to io.Writer) (string, error) {
+	size, empty := int(number(words[1])), int(number(words[2]))
+	hindrance, told := map[string]error{"deadline": os.ErrDeadlineExceeded, "none": nil}[words[3]], map[error]bool{}
+	messages := schema.Messages(&hindered{pieces{file(words[0]), size, size}, empty, hindrance, 0})
+	for count := 0; ; {
+		if messages.Next() {
+			count++
+			fmt.Fprintln(to, count, messages.Verdict())
+			continue
+		}
+		if messages.Message() != nil {
+			return "there is a message", nil
+		}
+		if err := messages.Err(); err == nil {
+			return fmt.Sprintf("end deadline=%v idle=%v", told[os.ErrDeadlineExceeded], told[io.ErrNoProgress]), nil
+		} else if err != io.ErrNoProgress && err != os.ErrDeadlineExceeded {
+			return "", err
+		} else {
+			told[err] = true
+		}
+	}
 }
 
 func number(word string) uint64 {
@@ -126,11 +177,24 @@ func check(schema *fbcheck.Schema, message []byte) string {
 func stream(schema *fbcheck.Schema, words []string, to io.Writer) error {
 	reader := &pieces{file(words[0]), int(number(words[1])), int(number(words[2]))}
 	messages := schema.Messages(reader).MaxBytes(int(number(words[3])))
-	for count := 1; messages.Next(); count++ {
+	count, next := uint64(1), uint64(0)
+	for ; messages.Next(); count++ {
+		if messages.Count() != count || messages.Begin() != next {
+			return errors.New("its count or beginning is wrong")
+		}
+		next += uint64(len(messages.Message()))
 		if messages.Verdict() != schema.Check(messages.Message()) {
 			return errors.New("Check says otherwise")
 		}
 		fmt.Fprintln(to, count, messages.Verdict())
+	}
+	var failed *fbcheck.StreamError
+	if errors.As(messages.Err(), &failed) {
+		what := [3]uint64{failed.Number, failed.Begin, uint64(failed.MaxBytes)}
+		longer := failed.Size > uint64(failed.MaxBytes)
+		if what != [3]uint64{count, next, number(words[3])} || longer != (failed.Status == fbcheck.Oversize) {
+			return errors.New("its error says otherwise")
+		}
 	}
 	return messages.Err()
 }
@@ -159,6 +223,110 @@ func read(schema *fbcheck.Schema, message []byte, texts []string) (string, error
 	return strings.Join(told, " "), nil
 }
 
+// again reads without a check: each value alone, and all into an array.
+func again(schema *fbcheck.Schema, message []byte, texts []string) (string, error) {
+	paths, err := schema.Paths(texts...)
+	if err != nil {
+		return "", err
+	}
+	values := make([]fbcheck.Value, len(paths))
+	if err := schema.ReadAgainInto(values, message, paths...); err != nil {
+		return "", err
+	}
+	var told []string
+	for i, one := range values {
+		again, _ := schema.ReadAgain(message, paths[i])
+		if fmt.Sprintf("%#v", again[0]) != fmt.Sprintf("%#v", one) {
+			return "one path tells otherwise", nil
+		}
+		told = append(told, value(one))
+	}
+	return strings.Join(told, " "), nil
+}
+
+// each reads the elements of a vector and one more, each without a check.
+func each(schema *fbcheck.Schema, words []string) (joined string, err error) {
+	message := file(words[0])
+	vector, err := schema.Path(words[1])
+	if err != nil {
+		return "", err
+	}
+	element, err := schema.Path(words[2])
+	if err != nil {
+		return "", err
+	}
+	values, err := schema.Read(message, vector)
+	if err != nil {
+		return "", err
+	}
+	var told []string
+	for _, index := range append(upTo(values[0].Uint), 1<<32) {
+		if err := schema.ReadAgainInto(values, message, element.At(index)); err != nil {
+			return "", err
+		}
+		told = append(told, value(values[0]))
+	}
+	defer func() {
+		if recover() != nil {
+			joined = strings.Join(told, " ")
+		}
+	}()
+	vector.At(0)
+	return "", nil
+}
+
+// upTo returns the numbers from 0 to this one.
+func upTo(last uint64) (numbers []uint64) {
+	for number := uint64(0); number <= last; number++ {
+		numbers = append(numbers, number)
+	}
+	return numbers
+}
+
+// allocations tells how many each of the reads that allocate least makes.
+func allocations(schema *fbcheck.Schema, message []byte, text string) (string, error) {
+	path, err := schema.Path(text)
+	if err != nil {
+		return "", err
+	}
+	paths, values := []fbcheck.Path{path, path, path}, make([]fbcheck.Value, 3)
+	into := testing.AllocsPerRun(1000, func() { err = schema.ReadInto(values, message, paths...) })
+	again := testing.AllocsPerRun(1000, func() { err = schema.ReadAgainInto(values, message, paths...) })
+	read := testing.AllocsPerRun(1000, func() { values, err = schema.Read(message, paths...) })
+	return fmt.Sprint(into, again, read), err
+}
+
+// numbers tells values as each kind of number, where they fit, and which fields have them.
+func numbers(schema *fbcheck.Schema, message []byte, texts []string) (string, error) {
+	var told []string
+	for _, text := range texts {
+		path, err := schema.Path(text)
+		if err != nil {
+			return "", err
+		}
+		values, err := schema.Read(message, path)
+		if err != nil {
+			return "", err
+		}
+		value := values[0]
+		unsigned, fitsUnsigned := value.Uint64()
+		signed, fitsSigned := value.Int64()
+		real, fitsReal := value.Float64()
+		if fitsUnsigned && unsigned != value.Uint || fitsSigned && signed != value.Int {
+			return "the fields say otherwise", nil
+		}
+		told = append(told, fit(unsigned, fitsUnsigned), fit(signed, fitsSigned), fit(real, fitsReal))
+	}
+	return strings.Join(told, " "), nil
+}
+
+func fit(number any, fits bool) string {
+	if !fits {
+		return "-"
+	}
+	return fmt.Sprintf("%v", number)
+}
+
 func misfit(schema *fbcheck.Schema, words []string) error {
 	other, err := schema.With(options(words[:1]))
 	if err != nil {
@@ -172,9 +340,36 @@ func misfit(schema *fbcheck.Schema, words []string) error {
 	return err
 }
 
+func stranger(schema *fbcheck.Schema, words []string) error {
+	other, err := fbcheck.NewSchema(file(words[0]), options(words[3:]))
+	if err != nil {
+		return err
+	}
+	defer other.Close()
+	path, err := other.Path(words[1])
+	if err != nil {
+		return err
+	}
+	_, err = schema.Read(file(words[2]), path)
+	return err
+}
+
 func threads(schema *fbcheck.Schema, words []string) string {
 	message, count := file(words[0]), int(number(words[1]))
 	want := schema.Check(message)
+	alike := func() bool { return schema.Check(message) == want }
+	if len(words) > 3 {
+		path, err := schema.Path(words[3])
+		if err != nil {
+			return err.Error()
+		}
+		first, _ := schema.Read(message, path)
+		alike = func() bool {
+			values, _ := schema.Read(message, path)
+			again, _ := schema.ReadAgain(message, path)
+			return values[0].String() == first[0].String() && again[0].String() == first[0].String()
+		}
+	}
 	var sum int64
 	var all sync.WaitGroup
 	for thread := number(words[2]); thread > 0; thread-- {
@@ -182,7 +377,7 @@ func threads(schema *fbcheck.Schema, words []string) string {
 		go func() {
 			defer all.Done()
 			for i := 0; i < count; i++ {
-				if schema.Check(message) == want {
+				if alike() {
 					atomic.AddInt64(&sum, 1)
 				}
 			}
@@ -283,6 +478,21 @@ func done(schema **fbcheck.Schema, words []string, to io.Writer) (told string, e
 		return read(*schema, file(rest[0]), rest[1:])
 	case "misfit":
 		return "done", misfit(*schema, rest)
+	case "patient":
+		return patient(*schema, rest, to)
+	case "numbers":
+		return numbers(*schema, file(rest[0]), rest[1:])
+	case "again":
+		return again(*schema, file(rest[0]), rest[1:])
+	case "each":
+		return each(*schema, rest)
+	case "allocations":
+		return allocations(*schema, file(rest[0]), rest[1])
+	case "stranger":
+		return "done", stranger(*schema, rest)
+	case "zero":
+		_, err := (*schema).Read(file(rest[0]), fbcheck.Path{})
+		return "done", err
 	case "threads":
 		return threads(*schema, rest), nil
 	case "loads":

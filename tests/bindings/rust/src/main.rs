@@ -1,11 +1,11 @@
 //! Does what the lines of standard input say, by the crate; tests/test_bindings.py tells what each line means.
 
 use std::fmt::Display;
-use std::io::{stdin, stdout, BufWriter, Read, Write};
+use std::io::{stdin, stdout, BufWriter, ErrorKind, Read, Write};
 use std::time::Instant;
 use std::{fs, panic, thread};
 
-use fbcheck::{Options, Path, Schema, Value, Verdict};
+use fbcheck::{Options, Path, Reason, Schema, StreamError, Value, Verdict};
 
 type Told = Result<String, Box<dyn std::error::Error>>;
 
@@ -25,6 +25,46 @@ impl Read for Pieces {
         to[..length].copy_from_slice(&piece[..length]);
         self.at += length;
         Ok(length)
+    }
+}
+
+/// A reader that has an error before each piece.
+struct Hindered(Pieces, bool);
+
+impl Read for Hindered {
+    fn read(&mut self, to: &mut [u8]) -> std::io::Result<usize> {
+        self.1 = !self.1;
+        match self.1 {
+            true => Err(ErrorKind::TimedOut.into()),
+            false => self.0.read(to),
+        }
+    }
+}
+
+/// Goes through a stream whose reader is hindered.
+fn patient(schema: &Schema, words: &[&str], to: &mut impl Write) -> Told {
+    let (bytes, at, size) = (fs::read(words[0])?, 0, words[1].parse()?);
+    let first = size;
+    let mut messages = schema.messages(Hindered(
+        Pieces {
+            bytes,
+            at,
+            first,
+            size,
+        },
+        false,
+    ));
+    let (mut number, mut hindered) = (0, false);
+    loop {
+        match messages.next_message() {
+            Ok(None) => return Ok(format!("end deadline={hindered} idle=false")),
+            Ok(Some((_, verdict))) => {
+                number += 1;
+                writeln!(to, "{number} {}", line(&verdict))?;
+            }
+            Err(StreamError::Read(error)) if error.kind() == ErrorKind::TimedOut => hindered = true,
+            Err(error) => return Err(error.into()),
+        }
     }
 }
 
@@ -54,6 +94,9 @@ fn options(words: &[&str]) -> Result<Options, Box<dyn std::error::Error>> {
 }
 
 fn line(verdict: &Verdict) -> String {
+    if let Err(fault) = verdict {
+        assert!(fault.reason >= Reason::TooLong);
+    }
     match verdict {
         Ok(report) => format!("ok {report}"),
         Err(fault) => format!("bad {fault}"),
@@ -92,12 +135,47 @@ fn stream(schema: &Schema, words: &[&str], to: &mut impl Write) -> Told {
     let most = most.parse()?;
     let begun = quietly(|| schema.messages(reader).max_bytes(most));
     let mut messages = begun?;
-    let mut number = 0;
-    while let Some((_, verdict)) = messages.next_message()? {
-        number += 1;
-        writeln!(to, "{number} {}", line(&verdict))?;
+    let (mut number, mut next) = (0, 0);
+    loop {
+        match messages.next_message() {
+            Ok(None) => return Ok("end".to_owned()),
+            Ok(Some((message, verdict))) => {
+                let begin = next;
+                number += 1;
+                next += message.len() as u64;
+                assert_eq!((messages.count(), messages.begin()), (number, begin));
+                writeln!(to, "{number} {}", line(&verdict))?;
+            }
+            Err(error) => {
+                let again = messages.next_message().map(|_| "a message");
+                let again = again.expect_err("it can't go on").to_string();
+                let lasts = matches!(error, StreamError::NoMemory { .. });
+                match error {
+                    StreamError::Truncated {
+                        number: at,
+                        begin,
+                        held,
+                        size,
+                    } => {
+                        assert_eq!((at, begin), (number + 1, next));
+                        assert!(size.map_or(held < 4, |size| held < size));
+                    }
+                    StreamError::Oversize {
+                        number: at,
+                        begin,
+                        declared,
+                        max_bytes,
+                    } => {
+                        assert_eq!((at, begin, max_bytes), (number + 1, next, most));
+                        assert!(declared as usize + 4 > most);
+                    }
+                    _ => {}
+                }
+                assert_eq!(again == error.to_string(), lasts, "{again}");
+                return Err(error.into());
+            }
+        }
     }
-    Ok("end".to_owned())
 }
 
 fn read(schema: &Schema, words: &[&str]) -> Told {
@@ -111,6 +189,47 @@ fn read(schema: &Schema, words: &[&str]) -> Told {
         assert_eq!(value(&one), value(told));
     }
     Ok(values.iter().map(value).collect::<Vec<_>>().join(" "))
+}
+
+/// Values as each kind of number, where they fit.
+fn numbers(schema: &Schema, words: &[&str]) -> Told {
+    let bytes = fs::read(words[0])?;
+    let mut told = Vec::new();
+    for name in &words[1..] {
+        let [path, _] = schema.paths([name, name])?;
+        let [one] = schema.read(&bytes, &[path])?;
+        told.extend([text(one.as_u64()), text(one.as_i64()), text(one.as_f64())]);
+    }
+    Ok(told.join(" "))
+}
+
+/// The values that are read without a check, each alone and all that fit an array.
+fn again(schema: &Schema, words: &[&str]) -> Told {
+    let bytes = fs::read(words[0])?;
+    let mut told = Vec::new();
+    for text in &words[1..] {
+        let path = schema.path(text)?;
+        let [one, same] = schema.read_again(&bytes, &[path, path])?;
+        assert_eq!(value(&one), value(&same));
+        told.push(value(&one));
+    }
+    Ok(told.join(" "))
+}
+
+/// The elements of a vector and one more, each without a check.
+fn each(schema: &Schema, words: &[&str]) -> Told {
+    let bytes = fs::read(words[0])?;
+    let (vector, element) = (schema.path(words[1])?, schema.path(words[2])?);
+    let [Value::Vector(count, _)] = schema.read(&bytes, &[vector])? else {
+        return Err("no vector".into());
+    };
+    let mut told = Vec::new();
+    for index in (0..=count).chain([1 << 32]) {
+        let [one] = schema.read_again(&bytes, &[element.at(index)])?;
+        told.push(value(&one));
+    }
+    quietly(|| vector.at(0)).expect_err("it has no [n]");
+    Ok(told.join(" "))
 }
 
 /// The verdict on a message, wherever it stands.
@@ -132,6 +251,14 @@ fn misfit(schema: &Schema, words: &[&str]) -> Told {
     Ok(read.map_or_else(|fault| format!("error bad {fault}"), |()| "done".to_owned()))
 }
 
+/// Reads by a path that another load of the schema file resolved, which panics.
+fn stranger(schema: &Schema, words: &[&str]) -> Told {
+    let other = options(&words[3..])?.load(&fs::read(words[0])?)?;
+    let (path, bytes) = (other.path(words[1])?, fs::read(words[2])?);
+    let read = quietly(|| schema.read_all(&bytes, &[path]).map(|_| ()))?;
+    Ok(read.map_or_else(|fault| format!("error bad {fault}"), |()| "done".to_owned()))
+}
+
 /// What a call gives, or the text by which it panics.
 fn quietly<T>(call: impl FnOnce() -> T) -> Result<T, Box<dyn std::error::Error>> {
     panic::set_hook(Box::new(|_| ()));
@@ -144,7 +271,16 @@ fn threads(schema: &Schema, words: &[&str]) -> Told {
     let bytes = fs::read(words[0])?;
     let (count, threads): (usize, usize) = (words[1].parse()?, words[2].parse()?);
     let want = schema.check(&bytes);
-    let alike = || (0..count).filter(|_| schema.check(&bytes) == want).count();
+    let path = words.get(3).map(|text| schema.path(text)).transpose()?;
+    let values = path.map(|path| schema.read(&bytes, &[path])).transpose()?;
+    let same = || match (path, values) {
+        (Some(path), Some([value])) => {
+            schema.read(&bytes, &[path]) == Ok([value])
+                && schema.read_again(&bytes, &[path]) == Ok([value])
+        }
+        _ => schema.check(&bytes) == want,
+    };
+    let alike = || (0..count).filter(|_| same()).count();
     let sum: usize = thread::scope(|scope| {
         let running: Vec<_> = (0..threads).map(|_| scope.spawn(alike)).collect();
         running.into_iter().map(|one| one.join().unwrap()).sum()
@@ -199,6 +335,11 @@ fn done(schema: &mut Option<Schema>, words: &[&str], to: &mut impl Write) -> Tol
         ("with", Some(old)) => *schema = Some(old.with(&options(rest)?)?),
         ("check", Some(schema)) => return check(schema, rest[0]),
         ("misfit", Some(schema)) => return misfit(schema, rest),
+        ("patient", Some(schema)) => return patient(schema, rest, to),
+        ("numbers", Some(schema)) => return numbers(schema, rest),
+        ("again", Some(schema)) => return again(schema, rest),
+        ("each", Some(schema)) => return each(schema, rest),
+        ("stranger", Some(schema)) => return stranger(schema, rest),
         ("stream", Some(schema)) => return stream(schema, rest, to),
         ("read", Some(schema)) => return read(schema, rest),
         ("threads", Some(schema)) => return threads(schema, rest),
