@@ -74,6 +74,8 @@ class Bytes {
     std::size_t size() const noexcept { return size_; }
     const std::uint8_t *begin() const noexcept { return data_; }
     const std::uint8_t *end() const noexcept { return data_ + size_; }
+    // Without the first count bytes, of which there must be so many.
+    Bytes from(std::size_t count) const noexcept { return {data_ + count, size_ - count}; }
 
   private:
     const std::uint8_t *data_;
@@ -426,38 +428,43 @@ enum class Framing { Prefixed, Delimited };
 
 // Splits a stream that comes in pieces into messages, each preceded by its size.
 class Framer {
+    // Whether a callback may pause: it returns bool.
+    template <class Each>
+    static constexpr bool pauses = std::is_same_v<std::decay_t<std::invoke_result_t<Each &, const Bytes &>>, bool>;
+
   public:
-    // most is the maximum size of a message, with the 4 bytes of its size; that much is allocated at once.
+    // most is the maximum size of a message, with the 4 bytes of its size. So much is allocated at once, but not
+    // touched before bytes come.
     explicit Framer(std::size_t most, Framing framing = Framing::Prefixed)
-        : apart_(framing == Framing::Delimited ? 4 : 0) {
+        : apart_(framing == Framing::Delimited ? 4 : 0), size_(most) {
         if (most < 8 || most > INT32_MAX) throw Misuse(FBCHECK_OUT_OF_RANGE);
-        room_.resize(apart_ + most);
+        room_.reset(new std::uint8_t[apart_ + most]);
     }
 
     // Calls each(Bytes) with each message that ends in this piece; for Delimited, with the bare buffer. Its bytes lie
-    // in the framer, aligned for numbers of 8 bytes (no greater force_align), until each returns. If each throws, or
-    // returns false, the rest of the piece is discarded. Throws a StreamError if the stream is at fault.
-    template <class Each> void feed(Bytes piece, Each &&each) {
-        for (std::size_t at = 0, used = 0; at < piece.size(); at += used) {
-            const auto status =
-                fbcheck_framer_feed(&framer_, room(), size(), piece.data() + at, piece.size() - at, &used);
-            if (status == FBCHECK_MORE) return;
-            if (status != FBCHECK_OK) throw StreamError(status, framer_);
-            const Bytes message(room() + apart_, framer_.held - apart_);
-            fbcheck_framer_next(&framer_, room(), size());
-            if constexpr (std::is_same_v<decltype(each(message)), bool>) {
-                if (!each(message)) return;
-            } else {
-                each(message);
-            }
-        }
+    // in the framer, aligned for numbers of 8 bytes (no greater force_align), until each returns. Throws a StreamError
+    // if the stream is at fault. If each throws, the rest of the piece is lost, and the stream has failed: so catch in
+    // each what a single message may throw.
+    template <class Each> std::enable_if_t<!pauses<Each>> feed(Bytes piece, Each &&each) {
+        split(piece, [&each](const Bytes &message) { return static_cast<void>(each(message)), true; });
+    }
+
+    // The same for an each that returns bool. False doesn't say that a message is bad: it is a pause after this message
+    // (or the end). Returns how many bytes were used, with which the caller drops them, or goes on:
+    //
+    //     while (piece.size() > 0) piece = piece.from(framer.feed(piece, each));
+    template <class Each> [[nodiscard]] std::enable_if_t<pauses<Each>, std::size_t> feed(Bytes piece, Each &&each) {
+        return split(piece, each);
     }
 
     // Says that the stream has ended. Throws a StreamError if that is inside a message.
     void finish() {
-        const auto status = fbcheck_framer_finish(&framer_, room(), size());
+        const auto status = fbcheck_framer_finish(&framer_, room(), size_);
         if (status != FBCHECK_OK) throw StreamError(status, framer_);
     }
+
+    // Begins another stream, whatever became of the last one.
+    void reset() noexcept { framer_ = FBCHECK_FRAMER_INIT; }
 
     // How many bytes are held of the current message and, after FBCHECK_OVERSIZE, the size that its prefix declared.
     const fbcheck_framer &told() const noexcept { return framer_; }
@@ -465,12 +472,35 @@ class Framer {
   private:
     // The room of the framer, null if it was moved from. For Delimited it starts 4 bytes into the allocation, so that
     // the buffer after the 4 bytes of its size is aligned.
-    std::uint8_t *room() noexcept { return room_.empty() ? nullptr : room_.data() + apart_; }
-    std::size_t size() const noexcept { return room_.size() - apart_; }
+    std::uint8_t *room() noexcept { return room_ ? room_.get() + apart_ : nullptr; }
+
+    // Goes through a piece, up to its end or to a pause. Returns how many of its bytes were used.
+    template <class Each> std::size_t split(Bytes piece, Each &&each) {
+        std::size_t at = 0;
+        for (bool more = true; more && at < piece.size();) {
+            std::size_t used = 0;
+            const auto status =
+                fbcheck_framer_feed(&framer_, room(), size_, piece.data() + at, piece.size() - at, &used);
+            if (status != FBCHECK_OK && status != FBCHECK_MORE) throw StreamError(status, framer_);
+            at += used;
+            if (status == FBCHECK_OK) more = hand_on(each);
+        }
+        return at;
+    }
+
+    // Hands the message that is held to each, and releases it. The stream has failed if each throws.
+    template <class Each> bool hand_on(Each &&each) try {
+        const Bytes message(room() + apart_, framer_.held - apart_);
+        fbcheck_framer_next(&framer_, room(), size_);
+        return each(message);
+    } catch (...) {
+        framer_.failed = 1;
+        throw;
+    }
 
     fbcheck_framer framer_ = FBCHECK_FRAMER_INIT;
-    std::size_t apart_;
-    std::vector<std::uint8_t> room_;
+    std::size_t apart_, size_;
+    std::unique_ptr<std::uint8_t[]> room_;
 };
 
 }  // namespace fbcheck

@@ -133,7 +133,10 @@ int main(int number, char **words) try {
     std::string piece(std::stoul(words[3]), 0);
     while (std::cin.read(piece.data(), std::streamsize(piece.size())) || std::cin.gcount() > 0) {
         const std::string_view given(piece.data(), std::size_t(std::cin.gcount()));
-        some ? framer.feed(given, each_of_some) : framer.feed(given, each);
+        if (some)
+            static_cast<void>(framer.feed(given, each_of_some));
+        else
+            framer.feed(given, each);
         if (some && left == 0) return 0;
     }
     framer.finish();

@@ -1,0 +1,35 @@
+"""The classes of fbcheck.hpp: what their calls promise beyond the calls of fbcheck.h, and what doesn't compile."""
+
+from tests.support.buffers import POST
+from tests.support.builder import messages_of
+from tests.support.library import SANITIZED, SHARED, STATIC, STRICT, LibraryCase, cpp_of, ran
+from tests.support.program import TOP, file_of
+from tests.support.tools import there
+
+ORDERS = TOP / "examples/deliveries.bfbs"
+SOURCES = TOP / "tests/c"
+WARNING = ["-Wconversion"]
+
+
+class ClassesForCpp(LibraryCase):
+    def both(self, name):
+        """A program of tests/c by C++17 with the sanitizers, and by C++20; also by clang++ and C++23 if it is there."""
+        source = SOURCES / f"{name}.cpp"
+        made = [self.compiled(f"{name}_17", source, *WARNING, *SANITIZED, *STATIC, **cpp_of(17)),
+                self.compiled(f"{name}_20", source, *WARNING, *SHARED, **cpp_of(20))]
+        if there("clang++"):
+            made.append(self.compiled(f"{name}_23", source, *WARNING, *STATIC, compiler="clang++",
+                                      standard="-std=c++2b"))
+        return made
+
+    def setUp(self):
+        if not there("c++"):
+            self.skipTest("c++ isn't there")
+
+    def test_framers(self):
+        """A callback that pauses loses nothing, after one that throws the stream has failed, and a framer is reset."""
+        failed = "the stream has failed before"
+        want = ["thrown by a callback", failed, failed, "thrown by another", failed,
+                "a message is too long for the room: 2147483647", ""]
+        for program in self.both("feeds"):
+            self.same(f"{program.name}", ran(program, ORDERS, file_of("stream", POST), 512), (0, "\n".join(want), ""))
