@@ -258,6 +258,7 @@ class Scratch {
 };
 
 class Good;
+class Kept;
 
 // A schema, made from the bytes of a schema file, which it copies. Movable, not copyable. Its checks have the demands
 // of the options that it is made with, and refuse more of them (Misuse).
@@ -332,14 +333,31 @@ class Schema {
         const auto status = fbcheck_read(get(), room(scratch), &asked, buffer.data(), buffer.size(), paths.data(),
                                          found.data(), Count, &told);
         if (served(status, told.at) != FBCHECK_OK) return {check(buffer, options, scratch), {}};
-        Reading<Count> reading{Verdict(told, {}), {}};
-        std::transform(found.begin(), found.end(), reading.values.begin(),
-                       [buffer](const fbcheck_value &value) { return Value(value, buffer); });
-        return reading;
+        return {Verdict(told, {}), values_of(found, buffer)};
     }
 
-    // Copies a buffer, and keeps the copy if it is ok, to read values of it one by one; nullopt if it is bad.
-    std::optional<Good> keep(Bytes buffer, const Options &options = {}) const;
+    // Copies a buffer, and keeps the copy if it is ok, to read values of it one by one; nullopt if it is bad. To log
+    // each message and keep it, begin with this: then get() values, and check() only what wasn't kept, for the place.
+    // So an ok message is checked once.
+    Kept keep(Bytes buffer, const Options &options = {}, Scratch *scratch = nullptr) const;
+    // The same without a copy: the buffer is taken if it is ok, and left as it is otherwise.
+    Kept keep(std::vector<std::uint8_t> &&buffer, const Options &options = {}, Scratch *scratch = nullptr) const;
+
+    // The values at the paths in a buffer that was ok before (with this schema, root and prefixed), without a check;
+    // nullopt if it shows that the bytes have changed since. If it doesn't show, these are values by the bytes that are
+    // there now. They lie inside the buffer in any case, and nothing outside it is read.
+    template <std::size_t Count>
+    std::optional<std::array<Value, Count>> read_again(Bytes buffer, const std::array<Path, Count> &paths,
+                                                       const Options &options = {}) const {
+        std::array<fbcheck_value, Count> found;
+        if (!found_again(buffer, paths.data(), found.data(), Count, options)) return std::nullopt;
+        return values_of(found, buffer);
+    }
+    std::optional<Value> read_again(Bytes buffer, const Path &path, const Options &options = {}) const {
+        fbcheck_value found;
+        if (!found_again(buffer, &path, &found, 1, options)) return std::nullopt;
+        return Value(found, buffer);
+    }
 
     // The handle for the calls of fbcheck.h; it is freed with this Schema and with what it keeps.
     const fbcheck_schema *get() const noexcept { return schema_.get(); }
@@ -368,6 +386,21 @@ class Schema {
         if (status != FBCHECK_OK && status != FBCHECK_BAD && status != FBCHECK_TOO_LONG) throw Misuse(status, at);
         return status;
     }
+    template <std::size_t Count>
+    static std::array<Value, Count> values_of(const std::array<fbcheck_value, Count> &found, Bytes buffer) {
+        std::array<Value, Count> values;
+        std::transform(found.begin(), found.end(), values.begin(),
+                       [buffer](const fbcheck_value &value) { return Value(value, buffer); });
+        return values;
+    }
+    // Whether the values at these paths were found in a buffer that was ok before.
+    bool found_again(Bytes buffer, const Path *paths, fbcheck_value *found, std::size_t count,
+                     const Options &options) const {
+        fbcheck_verdict told;
+        const auto status =
+            fbcheck_read_again(get(), &options, buffer.data(), buffer.size(), paths, found, count, &told);
+        return status != FBCHECK_CHANGED && served(status, told.at) == FBCHECK_OK;
+    }
     // What helps with a text that isn't a path from this root; empty if nothing does.
     std::string hint(std::string_view text, std::uint32_t root) const {
         char told[FBCHECK_LONGEST_HINT];
@@ -383,43 +416,59 @@ class Schema {
     std::uint32_t demands_;
 };
 
-// An ok buffer, of which Schema::keep makes a copy. It shares the Schema's handle: what becomes of the Schema and of the
-// buffer doesn't matter. Any number of threads may use one const Good.
+// An ok buffer that Schema::keep has copied or taken. It shares the Schema's handle: what becomes of the Schema and of
+// the original doesn't matter. Any number of threads may use one const Good.
 class Good {
   public:
+    // The values at several paths, as get() has each.
+    template <std::size_t Count> std::array<Value, Count> get(const std::array<Path, Count> &paths) const & {
+        const auto found = schema_.read_again(bytes_, paths, options_);
+        return found ? *found : throw Misuse(FBCHECK_CHANGED);
+    }
     // The value at a path, or at a path's text (which takes memory, and throws PathError). Its bytes lie in this Good,
     // which must outlive it. Nothing is checked again: a path of a few steps takes some 0.1 microseconds.
     Value get(const Path &path) const & {
-        fbcheck_value found;
-        const auto status = fbcheck_read_again(schema_.get(), &options_, bytes_.data(), bytes_.size(), &path, &found, 1,
-                                               nullptr);
-        if (status != FBCHECK_OK) throw Misuse(status);
-        return Value(found, bytes_);
+        const auto found = schema_.read_again(bytes_, path, options_);
+        return found ? *found : throw Misuse(FBCHECK_CHANGED);
     }
     Value get(std::string_view text) const & { return get(schema_.path(text, options_)); }
     template <class At> Value get(const At &) const && = delete;
 
-    // The copy.
+    // The bytes; for read_again() by paths of a number that is only known at run time, too.
     Bytes bytes() const & noexcept { return bytes_; }
+    Bytes bytes() const && = delete;
+    // Gives the bytes away, without a copy: std::move(*kept).release().
+    std::vector<std::uint8_t> release() && noexcept { return std::move(bytes_); }
 
   private:
     friend class Schema;
-    Good(const Schema &schema, Bytes buffer, const Options &options)
-        : schema_(schema), options_(options), bytes_(buffer.begin(), buffer.end()) {}
-    // What a check needs beyond FBCHECK_DEEP, or nothing.
-    static std::unique_ptr<Scratch> room(const Options &options) {
-        return options.max_depth > FBCHECK_DEEP ? std::make_unique<Scratch>(options.max_depth) : nullptr;
-    }
+    Good(const Schema &schema, std::vector<std::uint8_t> &&bytes, const Options &options)
+        : schema_(schema), options_(options), bytes_(std::move(bytes)) {}
 
     Schema schema_;
     Options options_;
     std::vector<std::uint8_t> bytes_;
 };
 
-inline std::optional<Good> Schema::keep(Bytes buffer, const Options &options) const {
-    std::optional<Good> kept = Good(*this, buffer, options);
-    if (!good(kept->bytes_, options, Good::room(options).get())) kept.reset();
-    return kept;
+// A Good or nothing. Values lie in the Good, so ask a named Kept for them: of one that ends with the expression,
+// schema.keep(buffer)->get(..) doesn't compile.
+class Kept : public std::optional<Good> {
+  public:
+    using std::optional<Good>::optional;
+    Good *operator->() & noexcept { return std::optional<Good>::operator->(); }
+    const Good *operator->() const & noexcept { return std::optional<Good>::operator->(); }
+    const Good *operator->() const && = delete;
+};
+
+inline Kept Schema::keep(Bytes buffer, const Options &options, Scratch *scratch) const {
+    return keep(std::vector<std::uint8_t>(buffer.begin(), buffer.end()), options, scratch);
+}
+
+inline Kept Schema::keep(std::vector<std::uint8_t> &&buffer, const Options &options, Scratch *scratch) const {
+    std::optional<Scratch> own;
+    if (scratch == nullptr && options.max_depth > FBCHECK_DEEP) scratch = &own.emplace(options.max_depth);
+    if (!good(buffer, options, scratch)) return std::nullopt;
+    return Good(*this, std::move(buffer), options);
 }
 
 // Whether the size before each message of a stream is part of the buffer (Prefixed: FinishSizePrefixed; set

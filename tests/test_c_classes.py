@@ -33,3 +33,22 @@ class ClassesForCpp(LibraryCase):
                 "a message is too long for the room: 2147483647", ""]
         for program in self.both("feeds"):
             self.same(f"{program.name}", ran(program, ORDERS, file_of("stream", POST), 512), (0, "\n".join(want), ""))
+
+    def test_kept(self):
+        """Buffers that are kept, taken and given back, and values that are read again."""
+        message = file_of("message", messages_of(POST)[0])
+        for program in self.both("keeps"):
+            for paths in [("to.name", "items"), ("stamps", "items[0]@Parcel.tags[1]"), ("floor", "items[9]")]:
+                self.same(f"{program.name}, {paths}", ran(program, ORDERS, message, *paths), (0, "", ""))
+
+    def test_what_does_not_compile(self):
+        """Values of what ends before they are used, what only an rvalue has, and a pause that is overlooked."""
+        compilers = [["c++", f"-std=c++{year}"] for year in (17, 23)]
+        if there("clang++"):
+            compilers.append(["clang++", "-std=c++17"])
+        for compiler in compilers:
+            for line, words in [(0, ""), *((line, "delete") for line in range(1, 7)), (7, "release"),
+                                (8, "nodiscard")]:
+                status, _, err = ran(*compiler, *STRICT, *WARNING, f"-DLINE={line}", "-fsyntax-only",
+                                     SOURCES / "unmade.cpp")
+                self.same(f"{' '.join(compiler)}, {line}", (status == 0, words in err), (line == 0, True))
