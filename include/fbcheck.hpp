@@ -5,10 +5,12 @@
 //
 //     const auto paths = schema.paths("to.name", "price");
 //     if (const auto found = schema.read(buffer, paths))
-//         std::cout << found[0].text().value_or("") << found[1].real().value_or(0);
+//         std::cout << fbcheck::escaped(found[0].text().value_or("")) << " " << found[1].real().value_or(0) << "\n";
 //
 //     if (const auto good = schema.keep(buffer)) // a copy, of which values are read one by one
-//         std::cout << good->get("to.name").text().value_or("");
+//         std::cout << fbcheck::escaped(good->get("to.name").text().value_or("")) << "\n";
+//
+// A text has the bytes that the sender chose: in a log, escape it, so that none ends a line or begins another.
 //
 // A bad buffer doesn't throw. These do, and say why in words: SchemaError (not a usable schema file), PathError (not a
 // path), StreamError (a stream that can't go on), and Misuse (unusable options or arguments: no root table, another
@@ -81,6 +83,23 @@ class Bytes {
     const std::uint8_t *data_;
     std::size_t size_;
 };
+
+// A text as the program prints it between quotes: \" and \\, and \x with two digits for each byte that isn't printable
+// ASCII.
+inline std::string escaped(std::string_view text) {
+    std::string told;
+    told.reserve(text.size());
+    for (const char one : text) {
+        const auto byte = static_cast<unsigned char>(one);
+        if (byte < 32 || byte > 126) {
+            told.append("\\x").append(1, "0123456789abcdef"[byte >> 4]).append(1, "0123456789abcdef"[byte & 15]);
+        } else {
+            if (one == '"' || one == '\\') told += '\\';
+            told += one;
+        }
+    }
+    return told;
+}
 
 // A verdict that isn't FBCHECK_OK in words, with its details, for example "V2 OutOfBuffer at=28 object=1 field=-".
 inline std::string why(const fbcheck_verdict &told) {
@@ -195,17 +214,22 @@ class Value {
     fbcheck_kind kind() const noexcept { return static_cast<fbcheck_kind>(told_.kind); }
     const fbcheck_value &told() const noexcept { return told_; }
 
-    // Each returns nullopt for values of another kind.
+    // Each returns nullopt for values of another kind, too: value_or() takes a mistake about the type for an absent
+    // value. If that matters, look at kind().
     std::optional<std::string_view> text() const noexcept {
         if (kind() != FBCHECK_TEXT) return std::nullopt;
         return std::string_view(reinterpret_cast<const char *>(bytes_.data()), bytes_.size());
     }
-    // A Byte, Short, Int or Long.
+    // A Bool or a whole number, signed or not; nullopt if it is a ULong of 2^63 or more.
     std::optional<std::int64_t> integer() const noexcept {
-        return kind() == FBCHECK_INT ? std::optional(told_.integer) : std::nullopt;
+        if (kind() == FBCHECK_INT) return told_.integer;
+        const bool is = (kind() == FBCHECK_BOOL || kind() == FBCHECK_UINT) && told_.number <= INT64_MAX;
+        return is ? std::optional(static_cast<std::int64_t>(told_.number)) : std::nullopt;
     }
-    // A Bool, a UType, UByte, UShort, UInt or ULong, the count of a vector, the type of a union.
+    // A Bool or a whole number, signed or not; nullopt if it is negative. Also the count of a vector, the type of a
+    // union.
     std::optional<std::uint64_t> number() const noexcept {
+        if (kind() == FBCHECK_INT && told_.integer >= 0) return static_cast<std::uint64_t>(told_.integer);
         const bool is = kind() == FBCHECK_BOOL || kind() == FBCHECK_UINT || kind() == FBCHECK_VECTOR ||
                         kind() == FBCHECK_UNION;
         return is ? std::optional(told_.number) : std::nullopt;

@@ -1,14 +1,17 @@
 """The classes of fbcheck.hpp: what their calls promise beyond the calls of fbcheck.h, and what doesn't compile."""
 
 from tests.support.buffers import POST
-from tests.support.builder import messages_of
+from tests.support.builder import Plain, buffer, messages_of
 from tests.support.library import SANITIZED, SHARED, STATIC, STRICT, LibraryCase, cpp_of, ran
-from tests.support.program import TOP, file_of
+from tests.support.program import TOP, file_of, run
+from tests.support.schemas import BOOL, FLOAT, LONG, TEXT, U_LONG, field, schema, table, vector
 from tests.support.tools import there
 
 ORDERS = TOP / "examples/deliveries.bfbs"
 SOURCES = TOP / "tests/c"
 WARNING = ["-Wconversion"]
+NUMBERS = schema([table("T", field("u", U_LONG, 4), field("i", LONG, 6), field("b", BOOL, 8), field("s", TEXT, 10),
+                        field("v", vector(LONG), 12), field("f", FLOAT, 14), field("d", LONG, 16, -7))], root="T")
 
 
 class ClassesForCpp(LibraryCase):
@@ -40,6 +43,26 @@ class ClassesForCpp(LibraryCase):
         for program in self.both("keeps"):
             for paths in [("to.name", "items"), ("stamps", "items[0]@Parcel.tags[1]"), ("floor", "items[9]")]:
                 self.same(f"{program.name}, {paths}", ran(program, ORDERS, message, *paths), (0, "", ""))
+
+    def test_values(self):
+        """Whole numbers of either sign as both kinds that they fit, and texts as the program writes them."""
+        file, words = file_of("numbers.bfbs", NUMBERS), ("u", "i", "b", "s", "v", "f", "d")
+        every = bytes(range(256))
+        text = buffer({3: "?" * 256}).replace(b"?" * 256, every)
+        program = run("--bare", "--schema", str(file), "--path", "s", given=text).out.decode().strip()
+        made = self.both("values")
+        for name, data, want in [
+            ("great", buffer({0: ("Q", 2**63), 1: ("q", -2**63), 2: ("B", 1), 3: "", 4: Plain(bytes(16), 8, 2),
+                              5: ("f", 1.0)}),
+             [f"- {2**63} -", f"{-2**63} - -", "1 1 -", '- - ""', "- 2 -", "- - -", "-7 - -"]),
+            ("small", buffer({0: ("Q", 2**63 - 1), 1: ("q", 2**63 - 1), 3: "a"}),
+             [f"{2**63 - 1} {2**63 - 1} -"] * 2 + ["0 0 -", '- - "a"', "- - -", "- - -", "-7 - -"]),
+            ("each byte", text, ["0 0 -"] * 3 + [f"- - {program.partition(' reads=')[2].partition(' ')[2]}"] +
+             ["- - -", "- - -", "-7 - -"]),
+        ]:
+            for one in made:
+                self.same(f"{name}, {one.name}", ran(one, file, file_of("values.bin", data), *words),
+                          (0, "\n".join([*want, ""]), ""))
 
     def test_what_does_not_compile(self):
         """Values of what ends before they are used, what only an rvalue has, and a pause that is overlooked."""

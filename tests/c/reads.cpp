@@ -29,7 +29,7 @@ static std::string words_of(const fbcheck::Value &value) {
         case FBCHECK_UINT: return std::to_string(*value.number());
         case FBCHECK_FLOAT:
         case FBCHECK_DEFAULT_FLOAT: return "real:" + std::to_string(*value.real());
-        case FBCHECK_TEXT: return "\"" + std::string(*value.text()) + "\"";
+        case FBCHECK_TEXT: return "\"" + fbcheck::escaped(*value.text()) + "\"";
         case FBCHECK_STRUCT: return "struct:" + hexadecimal();
         case FBCHECK_VECTOR: return "vector:" + std::to_string(*value.number());
         case FBCHECK_TABLE: return "table";
