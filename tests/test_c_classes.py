@@ -16,14 +16,10 @@ NUMBERS = schema([table("T", field("u", U_LONG, 4), field("i", LONG, 6), field("
 
 class ClassesForCpp(LibraryCase):
     def both(self, name):
-        """A program of tests/c by C++17 with the sanitizers, and by C++20; also by clang++ and C++23 if it is there."""
-        source = SOURCES / f"{name}.cpp"
-        made = [self.compiled(f"{name}_17", source, *WARNING, *SANITIZED, *STATIC, **cpp_of(17)),
-                self.compiled(f"{name}_20", source, *WARNING, *SHARED, **cpp_of(20))]
-        if there("clang++"):
-            made.append(self.compiled(f"{name}_23", source, *WARNING, *STATIC, compiler="clang++",
-                                      standard="-std=c++2b"))
-        return made
+        """A program of tests/c by C++17 with the sanitizers, and by C++23, if there is another compiler by that."""
+        source, other = SOURCES / f"{name}.cpp", "clang++" if there("clang++") else "c++"
+        return [self.compiled(f"{name}_17", source, *WARNING, *SANITIZED, *STATIC, **cpp_of(17)),
+                self.compiled(f"{name}_23", source, *WARNING, *SHARED, compiler=other, standard="-std=c++2b")]
 
     def setUp(self):
         if not there("c++"):
@@ -64,9 +60,35 @@ class ClassesForCpp(LibraryCase):
                 self.same(f"{name}, {one.name}", ran(one, file, file_of("values.bin", data), *words),
                           (0, "\n".join([*want, ""]), ""))
 
+    def test_texts(self):
+        """What is thrown says what is wrong, and calls without options have those of the Schema."""
+        version, unchecked = "the options are of another version", "nothing was checked: "
+        depth, made_by = "a depth or a room is out of range: max_depth is", "which flatc --binary --schema makes"
+        want = [*[f"{unchecked}{text}" for text in [
+            *[f"{version}: version is 2"] * 2, *[f"{version}, or unknown: ident_from is 3"] * 2,
+            *[f"{version}, or unknown: demands is 8"] * 2, *[f"{depth} 4097, of at most 4096"] * 2,
+            f"{depth} 65, which needs a Scratch for it", "no root table",
+            "the schema was made with other demands", "a pointer is null"]],
+            "bad V2 OutOfBuffer at=508 object=1 field=- reads=2 in . [post.Delivery]; it begins as with a prefix: if "
+            "it has one, set prefixed",
+            "no root table: nobody; tables: post.Delivery post.Letter post.Parcel post.Person",
+            *["no path: to: P2 NoSuchField step=0; fields: name age home"] * 2,
+            f"{unchecked}a pointer is null, or the schema was moved from"]
+        ill, binary = "V5 WrongIdentifier at=4", f"this is no binary schema (a message?), {made_by}"
+        message, bare = (file_of(name, messages_of(POST)[0][at:]) for name, at in [("message", 0), ("bare", 4)])
+        looks = {ORDERS.with_suffix(".fbs"): f"{ill}; this is text (.fbs?): flatc --binary --schema makes the .bfbs",
+                 ORDERS.with_suffix(".jsonl"): f"{ill}; this looks like JSON, and no binary schema, {made_by}",
+                 ORDERS.with_suffix(".bin"): f"{ill}; {binary}", bare: f"{ill}; {binary}",
+                 file_of("none.bfbs", b""): "V2 OutOfBuffer at=4; this is empty",
+                 file_of("text", b"table"): "V2 OutOfBuffer at=4; this is text (.fbs?): flatc --binary --schema makes "
+                 "the .bfbs", file_of("cut.bfbs", ORDERS.read_bytes()[:9]): "V2 OutOfBuffer at=32"}
+        lines = "\n".join([*want, *[f"no schema: {look}" for look in looks.values()], ""])
+        for program in self.both("texts"):
+            self.same(f"{program.name}", ran(program, ORDERS, message, "post.Person", *looks), (0, lines, ""))
+
     def test_what_does_not_compile(self):
         """Values of what ends before they are used, what only an rvalue has, and a pause that is overlooked."""
-        compilers = [["c++", f"-std=c++{year}"] for year in (17, 23)]
+        compilers = [["c++", f"-std=c++{year}"] for year in (17, 20, 23)]
         if there("clang++"):
             compilers.append(["clang++", "-std=c++17"])
         for compiler in compilers:

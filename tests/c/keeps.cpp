@@ -43,6 +43,9 @@ static void try_taking(const fbcheck::Schema &schema, const std::vector<std::uin
     demand(other && other->bytes().data() != buffer.data(), "an lvalue isn't copied");
     std::optional<fbcheck::Good> plain = schema.keep(buffer, options);
     demand(plain && same(plain->get(paths[0]), read[0]), "as an optional");
+    const auto &lives = *schema.keep(buffer, options), &lives_too = schema.keep(buffer, options).value();
+    demand(same(lives.get(paths[0]), read[0]) && same(lives_too.get(paths[1]), read[1]), "out of what has ended");
+    demand(same(kept.value().get(paths[0]), read[0]) && same(other.value().get(paths[0]), read[0]), "by value()");
     const auto released = std::move(*kept).release();
     demand(released.data() == at && released == buffer, "its bytes aren't given back");
     demand(misuse([&] { kept->get(paths); }) == FBCHECK_CHANGED, "values of bytes that were given back");
@@ -74,16 +77,17 @@ static void try_again(const fbcheck::Schema &schema, std::vector<std::uint8_t> b
     demand(!schema.read_again({buffer.data(), 8}, paths[0], options), "its first bytes have values");
     const fbcheck::Path wrong{1, 0, {{1, 9999}}};
     demand(misuse([&] { schema.read_again(buffer, std::array{paths[0], wrong}, options); }) == FBCHECK_MISFIT, "fits");
-    std::size_t changed = 0;
+    std::size_t changed = 0, sum = 0;
     for (auto &byte : buffer) {
         byte = std::uint8_t(~byte);
         const auto bent = schema.read_again(buffer, paths, options);
         changed += bent ? 0 : 1;
         for (const auto &value : bent ? *bent : decltype(read)())
-            for (const auto one : value.bytes()) demand(one <= 255, "outside");
+            for (const auto one : value.bytes()) sum += one;
         byte = std::uint8_t(~byte);
     }
     demand(changed > 0, "no change shows");
+    demand(sum > 0 || read[0].bytes().size() + read[1].bytes().size() == 0, "there are no bytes");
 }
 
 int main(int, char **words) try {
