@@ -70,7 +70,7 @@ namespace fbcheck {
 // bare buffer (Delimited: Finish).
 enum class Framing { Prefixed, Delimited };
 
-// What is asked of a buffer; initialised by FBCHECK_OPTIONS_INIT, and so for bare buffers.
+// What is asked of a buffer; initialised by FBCHECK_OPTIONS_INIT, so for a bare buffer.
 struct Options : fbcheck_options {
     Options() noexcept : fbcheck_options FBCHECK_OPTIONS_INIT {}
     // For the messages of a Framer with this framing.
@@ -165,20 +165,21 @@ class SchemaError : public std::runtime_error {
 class RootError : public std::runtime_error {
   public:
     RootError(std::string_view name, const std::string &hint)
-        : std::runtime_error("no root table: " + std::string(name) + (hint.empty() ? "" : "; " + hint)) {}
+        : std::runtime_error("no root table: " + escaped(name) + (hint.empty() ? "" : "; " + hint)) {}
 };
 
-// A text isn't a path from the root; verdict has the reason, and the hint says which names there are.
+// A text isn't a path from the root; verdict has the reason, and the hint says which names there are. The text stands
+// escaped in what(), as a name in a RootError.
 class PathError : public std::runtime_error {
   public:
     PathError(std::string_view text, const fbcheck_verdict &told, const std::string &hint = {})
-        : std::runtime_error("no path: " + std::string(text) + ": " + why(told) + (hint.empty() ? "" : "; " + hint)),
+        : std::runtime_error("no path: " + escaped(text) + ": " + why(told) + (hint.empty() ? "" : "; " + hint)),
           verdict(told) {}
     fbcheck_verdict verdict;
 };
 
 // A stream ended inside a message (FBCHECK_TRUNCATED), a message exceeds the maximum (FBCHECK_OVERSIZE), or the Framer
-// was used after such an error (FBCHECK_FAILED) or after it was moved from (FBCHECK_NULL).
+// was used after such an error or after a callback threw (FBCHECK_FAILED), or after it was moved from (FBCHECK_NULL).
 class StreamError : public std::runtime_error {
   public:
     StreamError(std::uint32_t told, const fbcheck_framer &framer)

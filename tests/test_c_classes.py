@@ -72,7 +72,9 @@ class ClassesForCpp(LibraryCase):
             "bad V2 OutOfBuffer at=508 object=1 field=- reads=2 in . [post.Delivery]; it begins as with a prefix: if "
             "it has one, set prefixed",
             "no root table: nobody; tables: post.Delivery post.Letter post.Parcel post.Person",
-            *["no path: to: P2 NoSuchField step=0; fields: name age home"] * 2,
+            r"no root table: no\x0abody; tables: post.Delivery post.Letter post.Parcel post.Person",
+            "no path: to: P2 NoSuchField step=0; fields: name age home", r"no path: to\x0a: P1 BadText at=2",
+            "no path: to: P2 NoSuchField step=0; fields: name age home",
             f"{unchecked}a pointer is null, or the schema was moved from"]
         ill, binary = "V5 WrongIdentifier at=4", f"this is no binary schema (a message?), {made_by}"
         message, bare = (file_of(name, messages_of(POST)[0][at:]) for name, at in [("message", 0), ("bare", 4)])
@@ -87,7 +89,7 @@ class ClassesForCpp(LibraryCase):
             self.same(f"{program.name}", ran(program, ORDERS, message, "post.Person", *looks), (0, lines, ""))
 
     def test_what_does_not_compile(self):
-        """Values of what ends before they are used, what only an rvalue has, and a pause that is overlooked."""
+        """Values of what ends before they are used, what only an rvalue has, a pause that is overlooked, and C++14."""
         compilers = [["c++", f"-std=c++{year}"] for year in (17, 20, 23)]
         if there("clang++"):
             compilers.append(["clang++", "-std=c++17"])
@@ -97,3 +99,6 @@ class ClassesForCpp(LibraryCase):
                 status, _, err = ran(*compiler, *STRICT, *WARNING, f"-DLINE={line}", "-fsyntax-only",
                                      SOURCES / "unmade.cpp")
                 self.same(f"{' '.join(compiler)}, {line}", (status == 0, words in err), (line == 0, True))
+        for name in sorted({words[0] for words in compilers}):
+            status, _, err = ran(name, "-std=c++14", *STRICT, "-fsyntax-only", SOURCES / "unmade.cpp")
+            self.same(f"{name}, C++14", (status == 0, "fbcheck.hpp needs C++17" in err), (False, True))

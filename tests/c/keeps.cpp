@@ -81,7 +81,7 @@ static void try_again(const fbcheck::Schema &schema, std::vector<std::uint8_t> b
     for (auto &byte : buffer) {
         byte = std::uint8_t(~byte);
         const auto bent = schema.read_again(buffer, paths, options);
-        changed += bent ? 0 : 1;
+        changed += bent ? 0U : 1U;
         for (const auto &value : bent ? *bent : decltype(read)())
             for (const auto one : value.bytes()) sum += one;
         byte = std::uint8_t(~byte);

@@ -67,8 +67,10 @@ static void try_own(const std::string &file, const std::string &message, const c
     std::cout << bad.verdict << "\n";
     demand(schema.root(root) == schema.table(root) && schema.table("nobody") == FBCHECK_NO_TABLE, "the root");
     tell<fbcheck::RootError>([&] { return schema.root("nobody"); });
+    tell<fbcheck::RootError>([&] { return schema.root("no\nbody"); });
     schema.choose_root(root);
     tell<fbcheck::PathError>([&] { schema.path("to"); });
+    tell<fbcheck::PathError>([&] { schema.path("to\n"); });
     const fbcheck::Schema moved(std::move(schema));
     tell<fbcheck::PathError>([&] { moved.path("to"); });
     tell<fbcheck::Misuse>([&] { return schema.root(root); });
