@@ -86,14 +86,15 @@ class ExamplesInC(LibraryCase):
                     line = told.out.decode().removeprefix("1 ").strip()
                 self.same(f"{name}, check_cpp", (status, out.strip(), bool(err)), (wanted, line, wanted == 2))
         for name, words, text, text_of_cpp in [
-            ("no schema", [orc, orc], "no schema: 8, reason 5 at 4", "no schema: V5 WrongIdentifier at=4"),
+            ("no schema", [orc, orc], "no schema: 8, reason 5 at 4", "no schema: V5 WrongIdentifier at=4; this is no "
+             "binary schema (a message?), which flatc --binary --schema makes"),
             ("rows that are none", [file_of("bent", schema([table("T", field("a", INT, 5))])), orc],
              "no schema: 9, reason 4 at 0", "no schema: C4 BadSlot object=0 field=0"),
             ("no schema file", [FOLDER / "nowhere", orc], *[f"{FOLDER}/nowhere can't be read"] * 2),
             ("no buffer", [small, FOLDER / "nowhere"], *[f"{FOLDER}/nowhere can't be read"] * 2),
             ("a folder", [small, FOLDER], *[f"{FOLDER} can't be read"] * 2),
             ("no root table", [file_of("rootless", schema([table("T")])), orc], "nothing was checked: 6",
-             "nothing was checked: no root table"),
+             "nothing was checked: no root table of the schema's own, so set root"),
         ]:
             self.same(f"{name}, told by check_c", ran(check, *words), (2, "", f"check: {text}\n"))
             if CPP_17:
@@ -105,6 +106,23 @@ class ExamplesInC(LibraryCase):
                         "nothing was checked: a pointer is null, or the schema was moved from",
                         *["a pointer is null, or the framer was moved from"] * 2, "the stream ends inside a message"]
                 self.same(f"what is moved, {how['standard']}", ran(moved, small, orc), (0, "\n".join([*want, ""]), ""))
+
+    def test_opening_comments(self):
+        """The commands that the opening comments of check.c and check.cpp have of a clone: the message is ok."""
+        commands = set()
+        for source, how in [("check.c", {}), ("check.cpp", CPP_17)]:
+            if how is None:
+                continue
+            text = (TOP / "examples/c" / source).read_text()
+            shown = re.findall(r"(?m)^(?: \*|//)     ((?:head|\./check --prefixed examples/).*)$", text)
+            commands.add("\n".join(shown))
+            folder = FOLDER / source
+            folder.mkdir()
+            (folder / "examples").symlink_to(TOP / "examples")
+            self.compiled(f"{source}/check", TOP / "examples/c" / source, *SHARED, **how)
+            told = ran("env", "-C", folder, "sh", "-c", "\n".join(shown))
+            self.same(source, told, (0, "ok tables=8 depth=2 reads=111\n", ""))
+        self.same("they are the same, two lines", [text.count("\n") for text in commands], [1])
 
     def test_once_in_cpp(self):
         """A buffer is gone through once for its place, however long that is, once more where a bad one is read, and

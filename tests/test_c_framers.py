@@ -38,6 +38,13 @@ class FramersForC(LibraryCase):
             return answer, used.value, framer._framer.held
 
         framer = python.Framer(len(m))
+        other = python.Framer(2 * len(m))
+        steps = [fed(framer, m), calls.fbcheck_framer_next(*framer._room)]
+        other._framer = framer._framer
+        other._room = (framer._framer, *other._room[1:])
+        steps += [fed(other, m[:7]), fed(other, m[7:]), calls.fbcheck_framer_next(*other._room)]
+        self.same("another room, of another size, between two messages", steps,
+                  [(0, len(m), len(m)), 0, (13, 7, 7), (0, len(m) - 7, len(m)), 0])
         finish = lambda: calls.fbcheck_framer_finish(*framer._room)
         steps = [fed(framer, m + m), fed(framer, m), finish(), calls.fbcheck_framer_next(*framer._room),
                  fed(framer, b"")]

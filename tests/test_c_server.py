@@ -1,5 +1,6 @@
 """The server of examples/c: many connections, each in a thread, whose lines are those of the program."""
 
+import json
 import re
 import socket
 import subprocess
@@ -8,7 +9,7 @@ from tests.support import schemas
 from tests.support.buffers import BY_POST, POST
 from tests.support.builder import changed, messages_of, prefixed
 from tests.support.every_kind import FILE, variants
-from tests.support.library import SANITIZED, SHARED, STATIC, LibraryCase, ran
+from tests.support.library import SANITIZED, SHARED, STATIC, LibraryCase, cpp_of, ran
 from tests.support.program import TOP, file_of, folder_of, run
 from tests.support.schemas import INT, field, schema, table
 
@@ -106,6 +107,44 @@ class ServerForC(LibraryCase):
                 want = "usage: server SCHEMA.bfbs ROOT PATH CONNECTION..\n" if told is None else "".join(
                     f"server: {line}\n" for line in told)
                 self.same(f"{name}, {program.name}", (got, out.count("\n"), err), (status, lines, want))
+
+    def test_in_cpp(self):
+        """The server in C++: what it logs of good and bad messages and reads again, and what ends it."""
+        if not cpp_of(17):
+            self.skipTest("c++ isn't there")
+        source = TOP / "examples/c/server.cpp"
+        good, stream, odd = file_of("good", MESSAGES[0] * 2), file_of("stream", POST), file_of("odd", STRANGE[0])
+        cut = file_of("cut", MESSAGES[0] + POST[:9])
+        lines = [f'ok id={number} to="{name}" stamps={sum_of}' for number, name, sum_of in [
+            (1, "Ada", 100 - 5 + 32767), (2**64 - 1, "Eve", 0), (3, "Fay", 0), (4, "Gus", 0), (5, "Hal", 0)]]
+        bad = [run(*ASKED, "id", given=POST).out.decode().splitlines()[4].removeprefix("-: 5 ")]
+        told = map(json.loads, run("--json", *BY_POST, "--path", "price", given=POST).out.splitlines())
+        price = sum(one["values"]["price"] for one in told if one["ok"])
+        for how in ("17", "20"):
+            words = [*SANITIZED, *STATIC] if how == "17" else SHARED
+            program = self.compiled(f"server_cpp_{how}", source, "-Wconversion", *words, "-pthread", **cpp_of(how))
+            for name, words, status, out, err in [
+                ("good ones", [good], 0, {good: [*lines[:1] * 2, "2 kept, price=5"]}, ""),
+                ("several", [good, stream], 1,
+                 {good: [*lines[:1] * 2, "2 kept, price=5"],
+                  stream: [*lines[:4], *bad, lines[4], f"5 kept, price={price:g}"]}, ""),
+                ("a forged line", [odd], 0, {odd: [lines[0].replace("Ada", r"\"\\\x0a"), "1 kept, price=2.5"]}, ""),
+                ("cut off", [cut], 3, {cut: lines[:1]}, f"server: {cut}: the stream ends inside a message\n"),
+                ("nowhere", [FOLDER / "nowhere"], 3, {}, f"server: {FOLDER}/nowhere: it can't be read\n"),
+            ]:
+                got = ran(program, ORDERS, *words)
+                told = {file: [line.removeprefix(f"{file}: ") for line in got[1].splitlines()
+                               if line.startswith(f"{file}: ")] for file in out}
+                self.same(f"{name}, C++{how}", (got[0], told, got[2], got[1].count("\n")),
+                          (status, out, err, sum(map(len, out.values()))))
+            for name, words, why in [
+                ("no words", [], "usage: server SCHEMA.bfbs CONNECTION.."),
+                ("no schema", [good, good], "no schema: V5 WrongIdentifier at=4; this is no binary schema (a "
+                 "message?), which flatc --binary --schema makes"),
+                ("another schema", [file_of("M.bfbs", schemas.M), good],
+                 "no path: id: P2 NoSuchField step=0; fields: hp name"),
+            ]:
+                self.same(f"{name}, C++{how}", ran(program, *words), (2, "", f"server: {why}\n"))
 
     def test_names_of_a_refused_file(self):
         """The program reads them by the numbers of the fault, as the header says."""

@@ -91,6 +91,19 @@ class ValuesForC(LibraryCase):
                 words[place] = None
                 self.same(f"no word {place} to read", calls.fbcheck_read(*words), status.NULL)
 
+    def test_numbers_of_elements(self):
+        """One path goes through a vector, as the number of its step for an element is changed."""
+        python = module()
+        calls, data, options = python._library(), messages_of(POST)[0], python.Options(prefixed=1)
+        with python.Verifier(ORDERS.read_bytes()) as verifier:
+            path, value, told = verifier.resolve("stamps[0]"), python._Value(), []
+            self.same("its last step", path.steps[path.count - 1].kind, 2)
+            for number in (0, 1, 2, 3, 2**32 - 1):
+                path.steps[path.count - 1].number = number
+                got = calls.fbcheck_read(verifier._schema, None, options, data, len(data), path, value, 1, None)
+                told.append((got, value.kind, value.integer))
+            self.same("its values", told, [(0, 4, 100), (0, 4, -5), (0, 4, 32767), (0, 1, 0), (0, 1, 0)])
+
     def test_many_values(self):
         """Values of every kind at once: each tells what it does alone, and where its bytes stand in the buffer."""
         python = module()

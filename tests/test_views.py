@@ -36,7 +36,7 @@ OF_ORDERS = ["id", "to.name", "to.home.x", "items", "items_type", "items[1]@Note
 ELEMENTS = ["bytes[*]", "longs[*]", "places[*]", "places[*].y", "texts[*]", "tables[*]", "tables[*].v",
             "tables[*].next.v", "many_type[*]", "many[*]", "many[*]@Below.v", "many[*]@Place", "many[*]@Wide.y",
             "many[*]@Text"]
-OF_ITEMS = ["items[*]", "items[*]@Note.words", "items[*]@Parcel.tags[1]", "items[0]@Parcel.tags[*]", "route[*].y",
+OF_ITEMS = ["items[*]", "items[*]@Note", "items[*]@Parcel.tags[1]", "items[0]@Parcel.tags[*]", "route[*].y",
             "stamps[*]", "notes[*]"]
 
 # What a process of its own does many times over; it tells by how many KB its memory has grown meanwhile.
@@ -120,8 +120,8 @@ class Views(PythonCase):
                      "several of a check": checker.read(data, path, path)[1], "nine": view.read(*[path] * 9)[8]}
             for name, told in reads.items():
                 self.same(f"{path} by {name}", [type(told), *map(self.shown, told)], [list, *want])
-        told = [values for _, verdict, values in orders.messages(POST, paths=("id", "items[*]@Note.words"))]
-        want = [orders.read(one, "id", "items[*]@Note.words") if orders.check(one) else () for one in messages_of(POST)]
+        told = [values for _, verdict, values in orders.messages(POST, paths=("id", "items[*]@Note"))]
+        want = [orders.read(one, "id", "items[*]@Note") if orders.check(one) else () for one in messages_of(POST)]
         self.same("of a stream", told, want)
 
     def test_many_elements(self):
@@ -140,10 +140,10 @@ class Views(PythonCase):
         """Where no list is returned, [*] is refused; and where bytes changed."""
         of, checker = self.module, self.by(ALL)
         view = checker.view(buffer(WHOLE))
-        self.fails("a dict of each", of.PathError, r"with \[\*\]", lambda: view.to_dict("tables[*]"))
-        self.fails("a column of each", of.PathError, r"with \[\*\]",
-                   lambda: self.by(ORDERS, prefixed=True).columns(POST, ("id", "items[*]")))
-        for path, text in [("tables[*].w", "P2 at '.w'"), ("name[*]", r"P3 at '\[\*\]'"), ("tables[*][*]", "first 10"),
+        self.fails("a dict of each", of.PathError, "with [*]", lambda: view.to_dict("tables[*]"))
+        self.fails("a column of each", of.PathError, "with [*]",
+                   lambda: self.by(ORDERS, prefixed=True).columns(POST, ("id", "items[*]@Note")))
+        for path, text in [("tables[*].w", "P2 at '.w'"), ("name[*]", "P3 at '[*]'"), ("tables[*][*]", "first 10"),
                            ("[*]", "first 0")]:
             self.fails(path, of.PathError, text, lambda: view[path])
         memory = bytearray(buffer({6: "", 11: ["one"] * 100}))

@@ -2,7 +2,13 @@
  * Checks one buffer against a schema file, and prints the verdict.
  *
  *     cc check.c $(pkg-config --cflags --libs fbcheck) -o check
- *     ./check SCHEMA.bfbs BUFFER [ROOT]
+ *     ./check [--prefixed] SCHEMA.bfbs BUFFER [ROOT]
+ *
+ * With --prefixed, the buffer begins with its prefix, as each message of examples/deliveries.bin does. The first of
+ * these has 512 bytes, and is ok:
+ *
+ *     head -c 512 examples/deliveries.bin > first.bin
+ *     ./check --prefixed examples/deliveries.bfbs first.bin
  *
  * In a clone, make library puts the library and fbcheck.pc into out/. There it is built so:
  *
@@ -37,17 +43,15 @@ static void tell_names(const fbcheck_schema *schema, const fbcheck_verdict *verd
         printf("in %.*s%s%.*s\n", (int)lengths[0], table, lengths[1] > 0 ? "." : "", (int)lengths[1], field);
 }
 
-/* Checks the buffer in a file against a schema, from this root table. */
-static int check(const fbcheck_schema *schema, uint32_t root, const char *path)
+/* Checks the buffer in a file against a schema. */
+static int check(const fbcheck_schema *schema, const fbcheck_options *options, const char *path)
 {
-    fbcheck_options options = FBCHECK_OPTIONS_INIT;
     fbcheck_verdict verdict;
     size_t length;
     uint8_t *buffer = contents(path, &length);
     if (buffer == NULL)
         return 2;
-    options.root = root;
-    fbcheck_verify(schema, NULL, &options, buffer, length, &verdict);
+    fbcheck_verify(schema, NULL, options, buffer, length, &verdict);
     free(buffer);
     if (verdict.status > FBCHECK_BAD) {
         fprintf(stderr, "check: nothing was checked: %" PRIu32 "\n", verdict.status);
@@ -62,14 +66,19 @@ static int check(const fbcheck_schema *schema, uint32_t root, const char *path)
 
 int main(int count, char **words)
 {
+    fbcheck_options options = FBCHECK_OPTIONS_INIT;
     fbcheck_schema *schema;
     fbcheck_verdict why;
     size_t length;
     uint8_t *file;
-    uint32_t root = FBCHECK_NONE;
     int status = 2;
+    if (count > 1 && strcmp(words[1], "--prefixed") == 0) {
+        options.prefixed = 1;
+        words++;
+        count--;
+    }
     if (count < 3 || count > 4) {
-        fprintf(stderr, "usage: check SCHEMA.bfbs BUFFER [ROOT]\n");
+        fprintf(stderr, "usage: check [--prefixed] SCHEMA.bfbs BUFFER [ROOT]\n");
         return 2;
     }
     file = contents(words[1], &length);
@@ -83,11 +92,11 @@ int main(int count, char **words)
         return 2;
     }
     if (count == 4)
-        root = fbcheck_table(schema, words[3], strlen(words[3]));
-    if (root == FBCHECK_NO_TABLE)
+        options.root = fbcheck_table(schema, words[3], strlen(words[3]));
+    if (options.root == FBCHECK_NO_TABLE)
         fprintf(stderr, "check: no table %s\n", words[3]);
     else
-        status = check(schema, root, words[2]);
+        status = check(schema, &options, words[2]);
     fbcheck_schema_free(schema);
     return status;
 }

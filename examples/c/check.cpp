@@ -1,6 +1,12 @@
-// Checks one buffer against a schema file: check SCHEMA.bfbs BUFFER [ROOT]
+// Checks one buffer against a schema file: check [--prefixed] SCHEMA.bfbs BUFFER [ROOT]
 //
 //     c++ -std=c++17 check.cpp $(pkg-config --cflags --libs fbcheck) -o check
+//
+// With --prefixed, the buffer begins with its prefix, as each message of examples/deliveries.bin does. The first of
+// these has 512 bytes, and is ok:
+//
+//     head -c 512 examples/deliveries.bin > first.bin
+//     ./check --prefixed examples/deliveries.bfbs first.bin
 #include <fbcheck.hpp>
 
 #include <fstream>
@@ -19,13 +25,14 @@ static std::vector<char> bytes_of(const char *path) try {
 }
 
 int main(int count, char **words) try {
-    if (count < 3 || count > 4) throw std::runtime_error("usage: check SCHEMA.bfbs BUFFER [ROOT]");
+    const bool prefixed = count > 1 && words[1] == std::string("--prefixed");
+    count -= prefixed, words += prefixed;
+    if (count < 3 || count > 4) throw std::runtime_error("usage: check [--prefixed] SCHEMA.bfbs BUFFER [ROOT]");
     const auto file = bytes_of(words[1]);
     const auto buffer = bytes_of(words[2]);
-    const fbcheck::Schema schema(file);
-    fbcheck::Options options;
-    if (count == 4) options.root = schema.table(words[3]);
-    const fbcheck::Verdict verdict = schema.check(buffer, options);
+    fbcheck::Schema schema(file, fbcheck::Options(prefixed ? fbcheck::Framing::Prefixed : fbcheck::Framing::Delimited));
+    if (count == 4) schema.choose_root(words[3]);
+    const fbcheck::Verdict verdict = schema.check(buffer);
     std::cout << verdict << "\n";
     return verdict ? 0 : 1;
 } catch (const std::exception &error) {

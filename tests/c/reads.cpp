@@ -29,7 +29,7 @@ static std::string words_of(const fbcheck::Value &value) {
         case FBCHECK_UINT: return std::to_string(*value.number());
         case FBCHECK_FLOAT:
         case FBCHECK_DEFAULT_FLOAT: return "real:" + std::to_string(*value.real());
-        case FBCHECK_TEXT: return "\"" + std::string(*value.text()) + "\"";
+        case FBCHECK_TEXT: return "\"" + fbcheck::escaped(*value.text()) + "\"";
         case FBCHECK_STRUCT: return "struct:" + hexadecimal();
         case FBCHECK_VECTOR: return "vector:" + std::to_string(*value.number());
         case FBCHECK_TABLE: return "table";
@@ -133,7 +133,10 @@ int main(int number, char **words) try {
     std::string piece(std::stoul(words[3]), 0);
     while (std::cin.read(piece.data(), std::streamsize(piece.size())) || std::cin.gcount() > 0) {
         const std::string_view given(piece.data(), std::size_t(std::cin.gcount()));
-        some ? framer.feed(given, each_of_some) : framer.feed(given, each);
+        if (some)
+            static_cast<void>(framer.feed(given, each_of_some));
+        else
+            framer.feed(given, each);
         if (some && left == 0) return 0;
     }
     framer.finish();
