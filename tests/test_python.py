@@ -3,6 +3,7 @@
 import array
 import asyncio
 import copy
+import gzip
 import io
 import mmap
 import os
@@ -663,9 +664,120 @@ class Python(LibraryCase):
         self.same("no line's end", len(asyncio.run(told(reader(long * 3)))), 3)
         got = asyncio.run(told(pieces(POST[:-3], 100)))
         self.same("an end too early", (len(got), got[-1]), (
-            len(want), f"the stream ends inside a message, of which {len(want[-1]) - 3} bytes came"))
+            len(want), "the stream ends inside message 6, which begins at byte 1352: 197 of its 200 bytes came"))
         got = asyncio.run(told(pieces(POST, 100), max_bytes=99))
-        self.same("a long one", got, [f"a message of 4 + {len(want[0]) - 4} bytes, where at most 99 are allowed"])
+        self.same("a long one", got, ["message 1, which begins at byte 0, has 4 + 508 bytes, where at most 99 are"
+                                      " allowed; max_bytes allows longer messages"])
+
+    def test_streams_that_go_on(self):
+        """After an exception of its source an iterator goes on with what it holds."""
+        checker, want = self.module.Schema(ORDERS, prefixed=True), messages_of(POST)
+
+        def after(messages, kind, times):
+            """What comes of an iterator, the source of which raises so often such an exception."""
+            came, raised = [], 0
+            while raised <= times:
+                try:
+                    came.append(next(messages)[0])
+                except kind:
+                    raised += 1
+                except StopIteration:
+                    break
+            return came, raised
+
+        for buffering in (-1, 0):
+            end, begin = os.pipe()
+            os.set_blocking(end, False)
+            with open(end, "rb", buffering) as stream, open(begin, "wb", 0) as writer:
+                messages, came = checker.messages(stream), []
+                for at in range(0, len(POST), 100):
+                    writer.write(POST[at:at + 100])
+                    came += after(messages, BlockingIOError, 0)[0]
+                self.fails("no bytes yet", BlockingIOError, "non-blocking", lambda: next(messages))
+                writer.close()
+                self.same("a pipe that doesn't wait", (came, [*messages]), (want, []))
+
+        class Line:
+            """Pieces of a connection that is lost before each of them."""
+
+            def __init__(self, data, size):
+                self.pieces, self.turns = [data[at:at + size] for at in range(0, len(data), size)], 0
+
+            def __iter__(self):
+                return self
+
+            def __next__(self):
+                self.turns += 1
+                if self.turns % 2:
+                    raise ConnectionError("lost")
+                if not self.pieces:
+                    raise StopIteration
+                return self.pieces.pop(0)
+
+        for size in (1, 100, 512, 9999):
+            turns = 1 + (len(POST) + size - 1) // size
+            came = after(checker.messages(Line(POST, size)), ConnectionError, turns)
+            self.same(f"pieces of {size} that fail once each", came, (want, turns))
+        messages = checker.messages(Line(POST[:-3], 100))
+        self.same("they end inside a message", len(after(messages, (ConnectionError, EOFError), 99)[0]), 5)
+        for _ in range(2):
+            self.fails("and this is told again", self.module.Truncated, "197 of its 200 bytes", lambda: next(messages))
+        messages = checker.messages(POST[:512] + b"\xff" * 9)
+        next(messages)
+        for _ in range(2):
+            self.fails("as one that is too long is", self.module.Oversize, "message 2", lambda: next(messages))
+
+        def dies():
+            yield POST[:99]
+            raise ConnectionError("lost")
+
+        messages = checker.messages(dies())
+        self.fails("a generator", ConnectionError, "lost", lambda: next(messages))
+        self.fails("which can't go on", self.module.Truncated, "99 of its 512 bytes", lambda: next(messages))
+
+    def test_waits_that_are_cancelled(self):
+        """An iterator that is asynchronous goes on after a wait that was given up."""
+        checker, want = self.module.Schema(ORDERS, prefixed=True), messages_of(POST)
+
+        async def given_up(cut, **words):
+            """What comes of a reader whose bytes come in two parts, with a wait between them."""
+            reader, came = asyncio.StreamReader(), []
+            messages = checker.messages(reader, **words)
+            reader.feed_data(POST[:cut])
+            for part in (POST[cut:], b""):
+                try:
+                    while True:
+                        came.append((await asyncio.wait_for(anext(messages), 0.01))[0])
+                except asyncio.TimeoutError:
+                    reader.feed_data(part) if part else reader.feed_eof()
+            return came + [one async for one in messages]
+
+        for cut in (1, 3, 4, 99, 511, 512, 600):
+            for words in ({}, {"paths": ("id",)}, {"views": True}):
+                self.same(f"after {cut} bytes, {words}", asyncio.run(given_up(cut, **words)), want)
+
+        async def together():
+            """Two waits at once, of which one is refused."""
+            reader = asyncio.StreamReader()
+            messages = checker.messages(reader)
+            first = asyncio.ensure_future(anext(messages))
+            await asyncio.sleep(0)
+            try:
+                await anext(messages)
+            except RuntimeError as error:
+                told = str(error)
+            reader.feed_data(POST[:600])
+            reader.feed_eof()
+            got, faults = (await first)[0], []
+            for _ in range(3):
+                try:
+                    await anext(messages)
+                except self.module.Truncated as error:
+                    faults.append(error.held)
+            return told, got, faults
+
+        self.same("two at once", asyncio.run(together()), (
+            "another call waits for the next message of this stream", want[0], [24] * 2))
 
     def test_faults_of_streams(self):
         of, checker = self.module, self.by("M", prefixed=True)
@@ -685,13 +797,17 @@ class Python(LibraryCase):
 
         for end in range(len(whole)):
             given = whole * 2 + whole[:end]
-            want = [whole] * 2 if end == 0 else ([whole] * 2, of.Truncated, {"held": end},
-                                                 f"the stream ends inside a message, of which {end} bytes came")
+            size, part = (36, f"{end} of its 36 bytes") if end >= 4 else (None, f"{end} of the 4 bytes of its size")
+            has = {"held": end, "size": size, "number": 3, "start": 72, "hint": ""}
+            want = [whole] * 2 if end == 0 else ([whole] * 2, of.Truncated, has, "the stream ends inside message 3,"
+                                                 f" which begins at byte 72: {part} came")
             for size in (1, 3, len(given)):
                 got = told([given[at:at + size] for at in range(0, len(given), size)])
                 self.same(f"{end} bytes at the end, in pieces of {size}", got, want)
         self.same("room for one", told(whole, max_bytes=len(whole)), [whole])
-        want = [], of.Oversize, {"declared": 32, "limit": 35}, "a message of 4 + 32 bytes, where at most 35 are allowed"
+        longer = "max_bytes allows longer messages"
+        want = [], of.Oversize, {"declared": 32, "limit": 35, "number": 1, "start": 0, "hint": longer}, (
+            f"message 1, which begins at byte 0, has 4 + 32 bytes, where at most 35 are allowed; {longer}")
         self.same("and for less", (len(whole), told(whole, max_bytes=35)), (36, want))
         got = told([whole, whole[:9], whole[9:] + b"\xff" * 4 + whole])
         self.same("the messages before come", got[:2], ([whole] * 2, of.Oversize))
@@ -705,6 +821,54 @@ class Python(LibraryCase):
             self.fails("no schema's", TypeError, "a path or a bytes-like object, and not 'TextIOWrapper'",
                        lambda: of.Schema(text))
         self.holds("an end too early is an EOFError too", issubclass(of.Truncated, EOFError))
+
+    def test_what_is_no_stream(self):
+        """A stream that can't go on tells what it looks like, and what may help."""
+        of, checker = self.module, self.by("M", prefixed=True)
+        big = struct.pack(">I", len(ORC)) + ORC
+        for name, given, kind, words in [
+            ("gzip", gzip.compress(prefixed(ORC)), (of.Oversize, of.Truncated), "; the stream looks like gzip: gzip.open() reads it"),
+            ("JSON", b'{"name": "Orc"}', of.Oversize,
+             "; the stream looks like JSON, of which flatc --binary --size-prefixed makes messages"),
+            ("lists of JSON", b' \n[{"name"', of.Oversize, "; the stream looks like JSON"),
+            ("text", b"name,hp\nOrc,300\n", of.Oversize, "; the stream looks like text"),
+            ("sizes the other way round", big * 2, of.Oversize, "; the size may be big-endian"),
+            ("a schema file", ORDERS.read_bytes() + b"\xff" * 9, (of.Oversize, of.Truncated),
+             "; the stream looks like a schema file (.bfbs)"),
+            ("a bare buffer", ORC + bytes(5), (of.Oversize, of.Truncated), "; no message before was ok"),
+            ("a long message", prefixed(bytes(2**26 + 999)), of.Oversize, "; max_bytes allows longer messages"),
+            ("a good one before it", prefixed(ORC) + b"{}{}{}", of.Oversize, "; max_bytes allows longer messages"),
+            ("what nothing allows", prefixed(ORC) + b"\xff" * 9, of.Oversize, " are allowed"),
+        ]:
+            for call in (lambda: [*checker.messages(given)], lambda: checker.columns(given, ("hp",), bad="skip")):
+                try:
+                    told = call()
+                except of.StreamError as error:
+                    told = error
+                self.holds(name, isinstance(told, kind) and words in str(told), (type(told), str(told)))
+                self.same(f"{name}: the hint ends its text", str(told).partition("; ")[2], told.hint)
+        for call in (checker.messages, lambda stream: checker.columns(stream, ("hp",))):
+            self.fails("a path", TypeError, 'no PosixPath: open its file with "rb"', lambda: call(pathlib.Path("x.bin")))
+            self.fails("its name", TypeError, 'no str: open its file with "rb"', lambda: call("x.bin"))
+            for wrong in (5, None):
+                self.fails(f"{wrong}", TypeError, f"pieces, and not {type(wrong).__name__!r}", lambda: call(wrong))
+
+    def test_sizes_in_front(self):
+        """A bad message tells where its size is asked for or not, against what its first bytes show."""
+        of, bare, checker = self.module, self.by("M"), self.by("M", prefixed=True)
+        has, hasnt = "its first 4 bytes are the number", "its first 4 bytes aren't the number"
+        for name, by, given, words in [("a size", bare, prefixed(ORC), has), ("no size", checker, ORC, hasnt),
+                                       ("another size", checker, prefixed(ORC) + b"?", hasnt)]:
+            verdict = by.check(given)
+            self.holds(name, verdict.hint.startswith(words) and repr(verdict) == f"<Verdict {verdict}; {verdict.hint}>",
+                       verdict)
+            for call in (by.verify, by.view, by.to_dict, lambda given: by.read(given, "hp")):
+                error = self.fails(name, of.BadBuffer, f"{verdict}; {words}", lambda: call(given))
+                self.same(f"{name}: pickled", str(pickle.loads(pickle.dumps(error))), str(error))
+        for name, by, given in [("a good one", bare, ORC), ("one that is cut", bare, ORC[:-1]), ("nothing", bare, b""),
+                                ("one with its size", checker, prefixed(ORC)), ("few bytes", bare, b"\0\0\0\0"),
+                                ("a bad one with its size", checker, prefixed(ORC[:-1]))]:
+            self.same(name, (by.check(given).hint, by.check(bytearray(given)).hint), (None, None))
 
     def test_long_streams(self):
         """A stream costs in proportion to its bytes, though it comes in one piece."""
