@@ -650,15 +650,27 @@ class Columns(LibraryCase):
         self.holds("3,000 calls of each kind leak nothing", few, (status, out, err))
         self.same("where memory is refused, that is told", self.alone(STARVED, *words), (0, "400000 refused\n", ""))
 
+    def with_numpy(self, *others):
+        """A Python that has numpy, and others."""
+        modules = ", ".join(["numpy", *others])
+        asked = f"import sys, {modules}; sys.exit(sys.version_info < (3, 11))"
+        for python in (sys.executable, "/usr/bin/python3"):
+            if os.path.exists(python) and subprocess.run([python, "-c", asked], capture_output=True).returncode == 0:
+                return python
+        self.skipTest(f"{modules} isn't there (Debian's packages python3-numpy, python3-pandas)")
+
     def test_in_numpy(self):
         """numpy takes the columns without a copy, and keeps their memory."""
-        asked = "import sys, numpy; sys.exit(sys.version_info < (3, 11))"
-        has = [python for python in (sys.executable, "/usr/bin/python3") if os.path.exists(python)
-               and subprocess.run([python, "-c", asked], capture_output=True).returncode == 0]
-        if not has:
-            self.skipTest("numpy isn't there (Debian's package python3-numpy)")
-        told = self.alone(IN_NUMPY, ORDERS, TOP / "examples/deliveries.bin", python=has[0])
+        told = self.alone(IN_NUMPY, ORDERS, TOP / "examples/deliveries.bin", python=self.with_numpy())
         self.same("what it has", told, (0, OF_NUMPY, ""))
+
+    def test_the_page_in_numpy(self):
+        """The README's program for numpy and pandas prints what stands behind it."""
+        python = self.with_numpy("pandas")
+        page = (BINDING / "README.md").read_text().split("In numpy and pandas:\n")[1]
+        code, want = (page.split(f"```{kind}\n")[1].split("```")[0] for kind in ("python", "text"))
+        told = ran("env", "-C", TOP, python, "-B", "-c", code, PYTHONPATH=str(self.folder), seconds=300)
+        self.same("its lines", told, (0, want, ""))
 
     def test_the_page(self):
         """The README's program for columns does what stands behind it."""
@@ -666,5 +678,6 @@ class Columns(LibraryCase):
         code = page.split("```python\n")[1].split("```")[0]
         told = ran("env", "-C", TOP, sys.executable, "-c", code, PYTHONPATH=str(self.folder))
         self.same("its lines", told, (0, "".join(f"{line}\n" for line in re.findall(r"^# (.*)$", code, re.M)), ""))
-        names = ["Column", "Slices", "data", "format", "offsets", "valid", "skipped", "verdicts", "number"]
+        names = ["Column", "Slices", "data", "format", "offsets", "valid", "skipped", "verdicts", "number", "starts",
+                 "skipped_starts", "reasons", "start", "mask()", "columns.paths"]
         self.same("what columns have", [name for name in names if f"`{name}`" not in page], [])

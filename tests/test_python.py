@@ -827,7 +827,8 @@ class Python(LibraryCase):
         of, checker = self.module, self.by("M", prefixed=True)
         big = struct.pack(">I", len(ORC)) + ORC
         for name, given, kind, words in [
-            ("gzip", gzip.compress(prefixed(ORC)), (of.Oversize, of.Truncated), "; the stream looks like gzip: gzip.open() reads it"),
+            ("gzip", gzip.compress(prefixed(ORC)), (of.Oversize, of.Truncated),
+             "; the stream looks like gzip: gzip.open() reads it"),
             ("JSON", b'{"name": "Orc"}', of.Oversize,
              "; the stream looks like JSON, of which flatc --binary --size-prefixed makes messages"),
             ("lists of JSON", b' \n[{"name"', of.Oversize, "; the stream looks like JSON"),
@@ -848,7 +849,7 @@ class Python(LibraryCase):
                 self.holds(name, isinstance(told, kind) and words in str(told), (type(told), str(told)))
                 self.same(f"{name}: the hint ends its text", str(told).partition("; ")[2], told.hint)
         for call in (checker.messages, lambda stream: checker.columns(stream, ("hp",))):
-            self.fails("a path", TypeError, 'no PosixPath: open its file with "rb"', lambda: call(pathlib.Path("x.bin")))
+            self.fails("a path", TypeError, 'no PosixPath: open its file with "rb"', lambda: call(ORDERS))
             self.fails("its name", TypeError, 'no str: open its file with "rb"', lambda: call("x.bin"))
             for wrong in (5, None):
                 self.fails(f"{wrong}", TypeError, f"pieces, and not {type(wrong).__name__!r}", lambda: call(wrong))
@@ -860,8 +861,8 @@ class Python(LibraryCase):
         for name, by, given, words in [("a size", bare, prefixed(ORC), has), ("no size", checker, ORC, hasnt),
                                        ("another size", checker, prefixed(ORC) + b"?", hasnt)]:
             verdict = by.check(given)
-            self.holds(name, verdict.hint.startswith(words) and repr(verdict) == f"<Verdict {verdict}; {verdict.hint}>",
-                       verdict)
+            self.holds(name, verdict.hint.startswith(words), verdict.hint)
+            self.same(f"{name}: as a text", repr(verdict), f"<Verdict {verdict}; {verdict.hint}>")
             for call in (by.verify, by.view, by.to_dict, lambda given: by.read(given, "hp")):
                 error = self.fails(name, of.BadBuffer, f"{verdict}; {words}", lambda: call(given))
                 self.same(f"{name}: pickled", str(pickle.loads(pickle.dumps(error))), str(error))

@@ -90,7 +90,9 @@ static PyObject *told_of(Messages *self, PyObject *message)
         return made;
     }
     words = self->views ? NULL : Py_BuildValue("OO", message, self->paths);
-    told = self->views ? schema_viewed(self->schema, message) : words != NULL ? schema_found(self->schema, words) : NULL;
+    told = self->views     ? schema_viewed(self->schema, message)
+           : words != NULL ? schema_found(self->schema, words)
+                           : NULL;
     made = told != NULL ? PyTuple_Pack(3, message, PyTuple_GetItem(told, 0), PyTuple_GetItem(told, 1)) : NULL;
     Py_XDECREF(words);
     Py_XDECREF(told);
@@ -161,10 +163,11 @@ static PyObject *messages_front(Messages *self, PyObject *nothing)
 {
     uint32_t declared = self->framer.declared;
     const char bytes[] = { (char)declared, (char)(declared >> 8), (char)(declared >> 16), (char)(declared >> 24) };
+    Py_ssize_t held = (Py_ssize_t)self->framer.held;
     (void)nothing;
     if (self->framer.failed)
         return PyBytes_FromStringAndSize(bytes, sizeof bytes);
-    return PyBytes_FromStringAndSize((const char *)self->room, self->framer.held < 4 ? (Py_ssize_t)self->framer.held : 4);
+    return PyBytes_FromStringAndSize((const char *)self->room, held < 4 ? held : 4);
 }
 
 static PyObject *messages_ident(PyObject *self, void *nothing)

@@ -206,7 +206,7 @@ static uint32_t add_values(Gathering *on)
     return FBCHECK_OK;
 }
 
-/* Keeps of the bad message in the room what was told of it, and of the first ones the verdict, by a second check for its
+/* Keeps what was told of the bad message in the room, and of the first ones the verdict, by a second check for its
    place. */
 static uint32_t add_bad(Gathering *on, const fbcheck_verdict *told)
 {
