@@ -363,6 +363,22 @@ class Python(LibraryCase):
         eleven = self.by("M").read(ORC, *["hp"] * 50)
         self.same("fifty too", eleven, (300,) * 50)
 
+    def test_names_of_types(self):
+        """A union tells the name of its type, if the schema has one."""
+        of, data = self.module, messages_of(POST)[0]
+        by_root, checker, by_orders = self.by("X", root="R"), self.by("X"), of.Schema(ORDERS, prefixed=True)
+        for name, by, given, path, number, want in [
+            ("of a field", by_root, MEMBER, "u", 1, "A"), ("an unknown one", by_root, lower_type(9), "u", 9, None),
+            ("of an element", checker, MEMBERS, "us[0]", 3, "T"), ("none", checker, MEMBERS, "us[1]", 0, "NONE"),
+            ("of another union", by_orders, data, "first", 2, "Letter"),
+        ]:
+            for turn in ("first", "again"):
+                told = by.read(given, path)
+                self.same(f"{name}, {turn}", (told.type, told.name, told), (number, want, of.Union(number)))
+            view = by.view(given)
+            several = [view.read(path, path)[1], by.read(given, by.path(path)), pickle.loads(pickle.dumps(told))]
+            self.same(f"{name}, in other ways", [(one.type, one.name) for one in several], [(number, want)] * 3)
+
     def test_numbers_anywhere(self):
         """A vector's numbers have their type wherever a path leads to it, however few they are."""
         inner = schemas.a_struct("game.P", 8, 2, field("hs", schemas.array(SHORT, 4), 0))

@@ -198,6 +198,7 @@ static void schema_free(PyObject *object)
     Py_XDECREF(self->told[0]);
     Py_XDECREF(self->told[1]);
     Py_XDECREF(self->paths);
+    Py_XDECREF(self->unions);
     Py_XDECREF(self->kept);
     Py_XDECREF(self->shaped);
     freed(object);
@@ -212,8 +213,7 @@ static uint32_t tried(Schema *self)
 }
 
 /* Schema(handle, (root, ident_from, ident, prefixed, alignment, inline_size, max_depth, max_tables, max_reads,
-   reads_per_byte, demands), (Verdict, BadBuffer, fault, Table(), Union, Vector, "type", "count", View, Overlap,
-   PathError)) */
+   reads_per_byte, demands), (Verdict, BadBuffer, fault, Table(), _union, Vector, "count", View, Overlap, PathError)) */
 static PyObject *schema_new(PyTypeObject *type, PyObject *words, PyObject *named)
 {
     fbcheck_options asked = FBCHECK_OPTIONS_INIT;
@@ -241,10 +241,11 @@ static PyObject *schema_new(PyTypeObject *type, PyObject *words, PyObject *named
     self->handle = Py_NewRef(handle);
     self->kept = Py_NewRef(kept);
     status = FBCHECK_NULL;
-    if (PyArg_ParseTuple(kept, "OOOOOOOOOOO", &self->verdict, &self->bad_buffer, &self->fault, &self->table,
-                         &self->a_union, &self->vector, &self->type, &self->count, &self->view, &self->overlap,
+    if (PyArg_ParseTuple(kept, "OOOOOOOOOO", &self->verdict, &self->bad_buffer, &self->fault, &self->table,
+                         &self->a_union, &self->vector, &self->count, &self->view, &self->overlap,
                          &self->path_error) &&
-        (self->paths = PyDict_New()) != NULL && (self->schema = PyCapsule_GetPointer(handle, HANDLE)) != NULL)
+        (self->paths = PyDict_New()) != NULL && (self->unions = PyDict_New()) != NULL &&
+        (self->schema = PyCapsule_GetPointer(handle, HANDLE)) != NULL)
         status = tried(self);
     if (status != FBCHECK_BAD) {
         if (!PyErr_Occurred())

@@ -32,10 +32,11 @@ typedef struct {
     fbcheck_scratch *idle; /* room for tables that no call has at the moment, or null */
     PyObject *told[2];     /* the verdicts that were told last, or null */
     PyObject *paths;       /* by each text or path that was read at, the bytes of _resolve() with its letters behind */
+    PyObject *unions;      /* by its number and its type, each value of a union that was made */
     PyObject *kept;
     PyObject *verdict, *bad_buffer, *fault; /* the class of verdicts, the exception with one, and that of a status */
-    PyObject *table, *a_union, *vector;     /* what stands for a table, and the classes of unions and vectors, */
-    PyObject *type, *count;                 /* with the names of what these two have */
+    PyObject *table, *a_union;              /* what stands for a table, what makes the value of a union, */
+    PyObject *vector, *count;               /* and the class of vectors, with the name of what they have */
     PyObject *view;                         /* the class of views, */
     PyObject *overlap, *path_error;         /* and exceptions */
     PyObject *shaped;     /* what owns the shapes, or null until a dict is asked for, */
@@ -82,9 +83,13 @@ typedef struct {
 
 /* What the schema file says of the end of a path, as _formats.py writes it. */
 typedef struct {
-    char element; /* what a memoryview calls the numbers of a vector */
-    char column;  /* what a column of such values has */
+    char element;     /* what a memoryview calls the numbers of a vector */
+    char column;      /* what a column of such values has */
+    uint8_t owner[4]; /* the number of the union in the file, or that of none */
 } Letters;
+
+/* The number of no union. */
+#define NO_UNION 0xffffffff
 
 /* How many paths are without memory of their own. */
 #define FEW_PATHS 8

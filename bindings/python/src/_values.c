@@ -43,6 +43,21 @@ static PyObject *numbered(PyObject *class, PyObject *name, uint64_t number)
     return made;
 }
 
+/* The value of a union by its number in the schema file: the same each time, for one type. */
+static PyObject *union_of(Schema *self, uint32_t owner, uint64_t type)
+{
+    PyObject *key = PyLong_FromUnsignedLongLong(((uint64_t)owner << 8) + type);
+    PyObject *made = key != NULL ? PyDict_GetItemWithError(self->unions, key) : NULL;
+    Py_XINCREF(made);
+    if (made == NULL && !PyErr_Occurred()) {
+        made = PyObject_CallFunction(self->a_union, "OIK", self, owner, (unsigned long long)type);
+        if (made != NULL && PyDict_SetItem(self->unions, key, made) != 0)
+            Py_CLEAR(made);
+    }
+    Py_XDECREF(key);
+    return made;
+}
+
 /* What a method of a view answers, which takes the place of the view; a view that is null stays so. */
 static PyObject *instead(PyObject *view, const char *method, const char *letter)
 {
@@ -94,10 +109,21 @@ PyObject *value_of(Schema *self, PyObject *message, const char *bytes, const fbc
     case FBCHECK_TABLE:
         return Py_NewRef(self->table);
     case FBCHECK_UNION:
-        return numbered(self->a_union, self->type, value->number);
+        return union_of(self, NO_UNION, value->number);
     default:
         return value->at == 0 ? numbered(self->vector, self->count, value->number) : part_of(message, value, letter);
     }
+}
+
+/* The same at the end of a path with these letters, which know a union. */
+static PyObject *at_end(Schema *self, PyObject *message, const char *bytes, const fbcheck_value *value,
+                        const Letters *letters)
+{
+    uint32_t owner;
+    if (value->kind != FBCHECK_UNION)
+        return value_of(self, message, bytes, value, letters->element);
+    memcpy(&owner, letters->owner, sizeof owner);
+    return union_of(self, owner, value->number);
 }
 
 /* What is read of a message: of each path its steps, its letters, and the value. */
@@ -116,10 +142,10 @@ static PyObject *values_of(Schema *self, PyObject *message, const char *bytes, c
     size_t at;
     PyObject *told;
     if (read->count == 1 && read->told == NULL)
-        return value_of(self, message, bytes, read->values, read->letters->element);
+        return at_end(self, message, bytes, read->values, read->letters);
     told = PyTuple_New((Py_ssize_t)read->count);
     for (at = 0; told != NULL && at < read->count; at++) {
-        PyObject *one = value_of(self, message, bytes, read->values + at, read->letters[at].element);
+        PyObject *one = at_end(self, message, bytes, read->values + at, read->letters + at);
         if (one == NULL || PyTuple_SetItem(told, (Py_ssize_t)at, one) != 0)
             Py_CLEAR(told);
     }

@@ -30,6 +30,9 @@ first, second = schema.read(b"", "name", schema.path("hp"))
 match value:
     case str():
         value.encode()
+    case fbcheck.Union(number, member):
+        number.bit_length()
+        member.upper()  # error
     case fbcheck.Vector(count):
         count.bit_length()
 
