@@ -131,6 +131,8 @@ print(valid.dtype, valid.tolist(), numpy.asarray(floors)[valid].tolist(), numpy.
 numbers, offsets = numpy.asarray(stamps.data), numpy.asarray(stamps.offsets)
 print(numbers.dtype, numbers.tolist(), offsets.dtype, offsets.tolist())
 print(numpy.asarray(names).tolist(), numpy.asarray(names.data).dtype, ages.valid)
+values = schema.read(next(schema.messages(open(sys.argv[2], "rb")))[0], "items", "to", "first")
+print([type(value).__name__ for value in numpy.array(values, dtype=object)])
 first = numpy.asarray(ids)
 del schema, columns, ids
 print(first.tolist())
@@ -143,6 +145,7 @@ uint64 [5] True False
 bool [True, False, False, True, False] [0, 12] [9]
 int16 [100, -5, 32767] int64 [0, 3, 3, 3, 3, 3]
 ['Ada', 'Eve', 'Fay', 'Gus', 'Hal'] uint8 None
+['Vector', 'Table', 'Union']
 [1, 18446744073709551615, 3, 4, 5]
 """
 

@@ -195,12 +195,11 @@ class Views(PythonCase):
         checker = self.by(ORDERS, prefixed=True)
         view = checker.view(messages_of(POST)[0])
         for name, call, words in [
-            ("a table", lambda: view["to"]["name"], "a Table holds no values: read its fields by longer paths"
-                                                    ", such as path + '.name'"),
-            ("a vector", lambda: view["items"][1], "a Vector holds no values: read an element by path +"
-                                                   " '[1]', or all by path + '[*]'"),
-            ("all elements", lambda: [*view["items"]], "or all by path + '[*]'"),
-            ("a union", lambda: view["first"]["pages"], "such as path + '@Name.pages'"),
+            ("a table", lambda: view["to"]["name"], "a Table holds no values: read its fields by longer paths,"
+                                                    " such as path + '.name'"),
+            ("a vector", lambda: [*view["items"]], "a Vector holds no values: read an element by path + '[0]', or all by"
+                                                   " path + '[*]'"),
+            ("a union", lambda: view["first"]["pages"], "such as path + '@Letter.pages'"),
             ("two paths", lambda: view["id", "price"], "a path is a str, not 'tuple'; view.read(*paths)"),
         ]:
             self.fails(name, TypeError, words, call)
