@@ -301,6 +301,12 @@ class Columns(LibraryCase):
                                lambda: checker.columns(messages, ("hp",), bad="skip"))
             self.fails("also for a loop", of.Truncated, "inside message 7", lambda: next(messages))
 
+        messages = checker.messages(given)
+        next(messages)
+        self.same("as a text", repr(messages), "<Messages behind 1, at byte 36>")
+        for call in (of.Messages, of.AsyncMessages, lambda: of.Messages.__new__(of.Messages)):
+            self.fails("one of nothing", TypeError, "", call)
+
         def again():
             yield whole
             yield checker.columns(messages, ("hp",))
@@ -350,6 +356,12 @@ class Columns(LibraryCase):
             return [one async for one in checker.messages(pieces(), paths=OF_ORDERS)]
 
         self.same("the same", asyncio.run(told()), [*checker.messages(POST, paths=OF_ORDERS)])
+
+        async def beside():
+            columns = await asyncio.to_thread(checker.columns, POST, ("id",), bad="skip")
+            return [*columns["id"]]
+
+        self.same("columns in another thread", len(asyncio.run(beside())), 5)
 
     def test_real_defaults(self):
         """Absent floats have their defaults, which aren't missing even where they are nan."""

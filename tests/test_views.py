@@ -197,8 +197,8 @@ class Views(PythonCase):
         for name, call, words in [
             ("a table", lambda: view["to"]["name"], "a Table holds no values: read its fields by longer paths,"
                                                     " such as path + '.name'"),
-            ("a vector", lambda: [*view["items"]], "a Vector holds no values: read an element by path + '[0]', or all by"
-                                                   " path + '[*]'"),
+            ("a vector", lambda: [*view["items"]], "a Vector holds no values: read an element by path + '[0]', or"
+                                                   " all by path + '[*]'"),
             ("a union", lambda: view["first"]["pages"], "such as path + '@Letter.pages'"),
             ("two paths", lambda: view["id", "price"], "a path is a str, not 'tuple'; view.read(*paths)"),
         ]:

@@ -64,14 +64,19 @@ async def _read_later(stream: Any) -> Buffer:
     return piece
 
 
+def file_hint(ident: bytes) -> str:
+    """What a stream is whose first message would have this identifier, if that had no size in front."""
+    return "the stream looks like a schema file (.bfbs)" if ident == b"BFBS" else ""
+
+
 def hint_of(front: bytes, ident: bytes, has_good: bool, is_long: bool) -> str:
-    """What helps where a stream can't go on: `front` is the size of the message that comes, or a part of it, `ident`
-    where the first message of a schema file would have its identifier, and `is_long` means that the size is too great.
+    """What helps where a stream can't go on: `front` is the size of the message that comes, or a part of it, `ident` is
+    that of file_hint(), and `is_long` means that the size is too great.
     """
     declared = int.from_bytes(front, "little")
     longer = "max_bytes allows longer messages" if is_long and declared <= _LONGEST - 4 else ""
-    if ident == b"BFBS":
-        return "the stream looks like a schema file (.bfbs)"
+    if of_file := file_hint(ident):
+        return of_file
     if has_good:
         return longer
     if is_long and _PLAIN.issuperset(front):
