@@ -472,7 +472,7 @@ class Python(LibraryCase):
         self.same("31 steps", self.by("CHAIN").read(buffers.levels(2), long), None)
         self.fails("32 steps", of.PathError, "31 steps", lambda: self.by("CHAIN").path(".".join(["next"] * 32)))
         for path in (3, None, b"name", ["name"], ("name", "hp"), {"name"}):
-            words = f"not {type(path).__name__!r}; read(message, *paths) takes several"
+            words = f"not {type(path).__name__!r}; view.read(*paths) and read(message, *paths) take several"
             for call in (lambda: checker.read(ORC, path), lambda: checker.read(ORC, "hp", path),
                          lambda: checker.path(path)):
                 self.fails(f"a path that is {path!r}", TypeError, words, call)
