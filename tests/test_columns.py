@@ -67,6 +67,13 @@ def each(number):
             except (fbcheck.Error, TypeError, KeyError):
                 pass
     list(schema.messages(some + bad, paths=("name", "hp")))
+    for going in (schema.messages(some + bad), schema.messages([some, some + bad, "text"])):
+        next(going)
+        try:
+            schema.columns(going, ("name",), bad="skip")["name"].mask()
+            next(going)
+        except (StopIteration, TypeError):
+            pass
 def peak(times):
     for number in range(times):
         each(number)
