@@ -317,6 +317,17 @@ class Streams(PythonCase):
             for wrong in (5, None):
                 self.fails(f"{wrong}", TypeError, f"pieces, and not {type(wrong).__name__!r}", lambda: call(wrong))
 
+    def test_messages_of_messages(self):
+        """An iterator of messages is no stream of another one, and loses nothing."""
+        checker = self.by("M", prefixed=True)
+        messages = checker.messages(prefixed(ORC) * 2)
+        next(messages)
+        self.fails("given again", TypeError, "an iterator of messages already", lambda: checker.messages(messages))
+        self.fails("its pairs", TypeError, "bytes-like", lambda: next(checker.messages(one for one in messages)))
+        messages = checker.messages(prefixed(ORC) * 2)
+        again = checker.messages(one for one, _ in messages)
+        self.same("its messages", len([*again]), 2)
+
     def test_long_streams(self):
         """A stream costs in proportion to its bytes, though it comes in one piece."""
         checker, one = self.by("M", prefixed=True), prefixed(ORC)
