@@ -4,6 +4,7 @@ import array
 import asyncio
 import copy
 import io
+import itertools
 import math
 import os
 import pickle
@@ -66,6 +67,13 @@ def each(number):
             except (fbcheck.Error, TypeError, KeyError):
                 pass
     list(schema.messages(some + bad, paths=("name", "hp")))
+    for going in (schema.messages(some + bad), schema.messages([some, some + bad, "text"])):
+        next(going)
+        try:
+            schema.columns(going, ("name",), bad="skip")["name"].mask()
+            next(going)
+        except (StopIteration, TypeError):
+            pass
 def peak(times):
     for number in range(times):
         each(number)
@@ -130,6 +138,8 @@ print(valid.dtype, valid.tolist(), numpy.asarray(floors)[valid].tolist(), numpy.
 numbers, offsets = numpy.asarray(stamps.data), numpy.asarray(stamps.offsets)
 print(numbers.dtype, numbers.tolist(), offsets.dtype, offsets.tolist())
 print(numpy.asarray(names).tolist(), numpy.asarray(names.data).dtype, ages.valid)
+values = schema.read(next(schema.messages(open(sys.argv[2], "rb")))[0], "items", "to", "first")
+print([type(value).__name__ for value in numpy.array(values, dtype=object)])
 first = numpy.asarray(ids)
 del schema, columns, ids
 print(first.tolist())
@@ -142,6 +152,7 @@ uint64 [5] True False
 bool [True, False, False, True, False] [0, 12] [9]
 int16 [100, -5, 32767] int64 [0, 3, 3, 3, 3, 3]
 ['Ada', 'Eve', 'Fay', 'Gus', 'Hal'] uint8 None
+['Vector', 'Table', 'Union']
 [1, 18446744073709551615, 3, 4, 5]
 """
 
@@ -214,6 +225,12 @@ class Columns(LibraryCase):
                 self.same(f"{name}: {path}", self.listed(columns[at]), want)
             self.same(f"{name}: numbers of bad ones", [*columns.skipped], [number for number, _ in faults])
             self.same(f"{name}: verdicts", [*columns.verdicts], [verdict for _, verdict in faults[:1000]])
+            self.same(f"{name}: reasons", [*columns.reasons], [verdict.reason for _, verdict in faults])
+            starts = [0, *itertools.accumulate(len(message) for message, _ in told)]
+            self.same(f"{name}: where good ones begin", [*columns.starts],
+                      [start for start, (_, verdict) in zip(starts, told) if verdict])
+            self.same(f"{name}: where bad ones begin", [*columns.skipped_starts],
+                      [starts[number - 1] for number, _ in faults])
             rows = [[self.plain(value) for value in row] for row in values]
             got = [*checker.messages(given, paths=paths)]
             self.same(f"{name}: messages with values", [one[:2] for one in got], told)
@@ -251,6 +268,88 @@ class Columns(LibraryCase):
         names, = by_m.columns([named(3_000_000), named(9_000_000)] * 2, ["name"])
         self.same("messages of megabytes", [len(name) for name in names], [2999967, 8999967] * 2)
 
+    def test_what_was_read_ahead(self):
+        """Columns go on where the iterator stands that messages() returned, which holds what was read ahead."""
+        of, checker = self.module, self.by("M")
+        whole, bad = prefixed(ORC), prefixed(ORC[:-1])
+        given = whole * 3 + bad + whole * 2
+        files = {"a file": lambda: io.BytesIO(given), "bytes": lambda: given,
+                 **{f"pieces of {size}": lambda size=size: [given[at:at + size] for at in range(0, len(given), size)]
+                    for size in (1, 7, 35, 50)}}
+        for name, stream in files.items():
+            for before in range(7):
+                messages = checker.messages(stream())
+                for _ in itertools.islice(messages, before):
+                    pass
+                columns = checker.columns(messages, ("hp", "name"), bad="skip")
+                want = [(at * 36 - (at > 3), at != 3) for at in range(before, 6)]
+                told = [*columns["hp"]], [*columns.starts], [*columns.skipped], [*columns.skipped_starts]
+                self.same(f"{name}, behind {before}", told, (
+                    [300] * sum(good for _, good in want), [start for start, good in want if good],
+                    [4] * (before < 4), [108] * (before < 4)))
+                self.same("and then the end", ([*messages], len(checker.columns(messages, ("hp",))[0])), ([], 0))
+            messages = checker.messages(stream(), paths=("hp",))
+            error = self.fails(f"{name}: a bad one", of.BadBuffer, "message 4: bad V2",
+                               lambda: checker.columns(messages, ("hp",)))
+            self.same("what came before", [*error.columns["hp"]], [300] * 3)
+            self.same("and it goes on behind it", (next(messages)[2], [*checker.columns(messages, ("hp",))[0]]),
+                      ((300,), [300]))
+        with open(file_of("ahead.bin", given), "rb") as file:
+            messages = checker.messages(file)
+            next(messages)
+            self.same("others find nothing", len(checker.columns(file, ("hp",))[0]), 0)
+            self.same("it has the rest", [*checker.columns((one for one, _ in messages), ("hp",), bad="skip")[0]],
+                      [300] * 4)
+        messages = checker.messages(given + whole[:9], max_bytes=36)
+        self.fails("another limit", ValueError, "36 of this iterator", lambda: checker.columns(
+            messages, ("hp",), max_bytes=99))
+        for _ in range(2):
+            error = self.fails("an end too early", of.Truncated, "inside message 7",
+                               lambda: checker.columns(messages, ("hp",), bad="skip"))
+            self.fails("also for a loop", of.Truncated, "inside message 7", lambda: next(messages))
+
+        messages = checker.messages(given)
+        next(messages)
+        self.same("as a text", repr(messages), "<Messages behind 1, at byte 36>")
+        for call in (of.Messages, of.AsyncMessages, lambda: of.Messages.__new__(of.Messages)):
+            self.fails("one of nothing", TypeError, "", call)
+
+        def again():
+            yield whole
+            yield checker.columns(messages, ("hp",))
+
+        messages = checker.messages(again())
+        for call in (lambda: checker.columns(messages, ("hp",)), lambda: [*messages]):
+            messages = checker.messages(again())
+            self.fails("one call inside another", ValueError, "another call takes messages of this stream", call)
+
+    def test_by_name(self):
+        """A column by its path, and what columns tell of themselves."""
+        checker = self.by(ORDERS)
+        paths = "id", checker.path("to.name"), "id"
+        columns = checker.columns(POST, paths, bad="skip")
+        self.same("paths", columns.paths, ("id", "to.name", "id"))
+        self.holds("by name", columns["id"] is columns[0] and columns["to.name"] is columns[1])
+        self.same("slices", columns[1:], (columns[1], columns[2]))
+        self.fails("another", KeyError, "no column 'items'; columns: id to.name id", lambda: columns["items"])
+        self.fails("one past the end", IndexError, "", lambda: columns[3])
+        self.same("as a text", (repr(columns), repr(checker.columns(b"", ()))), (
+            "<Columns of 5 messages: id, to.name, id; 1 skipped>", "<Columns of 0 messages: no path; 0 skipped>"))
+        self.same("reasons", (columns.reasons.format, [self.module.Reason(one).name for one in columns.reasons]),
+                  ("B", ["NO_TERMINATOR"]))
+        for again in (pickle.loads(pickle.dumps(columns)), copy.deepcopy(columns)):
+            self.same("pickled", (again.paths, [*again["id"]], [*again.starts], [*again.skipped_starts]),
+                      (columns.paths, [*columns[0]], [*columns.starts], [840]))
+
+    def test_masks(self):
+        """What is missing, also where nothing is."""
+        floors, names, ids = self.by(ORDERS).columns(POST, ("floor", "to.name", "id"), bad="skip")
+        home, = self.by(ORDERS).columns(POST, ("to.home",), bad="skip")
+        for name, column in [("some numbers", floors), ("no texts", names), ("no numbers", ids), ("structs", home)]:
+            mask = column.mask()
+            self.same(name, (mask.format, mask.readonly, mask.tolist()),
+                      ("?", True, [value is None for value in column]))
+
     def test_messages_that_come_later(self):
         """Values with the messages of a stream that is asynchronous."""
         checker = self.by(ORDERS)
@@ -264,6 +363,12 @@ class Columns(LibraryCase):
             return [one async for one in checker.messages(pieces(), paths=OF_ORDERS)]
 
         self.same("the same", asyncio.run(told()), [*checker.messages(POST, paths=OF_ORDERS)])
+
+        async def beside():
+            columns = await asyncio.to_thread(checker.columns, POST, ("id",), bad="skip")
+            return [*columns["id"]]
+
+        self.same("columns in another thread", len(asyncio.run(beside())), 5)
 
     def test_real_defaults(self):
         """Absent floats have their defaults, which aren't missing even where they are nan."""
@@ -375,13 +480,15 @@ class Columns(LibraryCase):
             error = self.fails(f"{before} before it", of.BadBuffer, "bad V2", lambda: checker.columns(given, paths))
             again = pickle.loads(pickle.dumps(error))
             for name, one in [("raised", error), ("pickled", again)]:
-                self.same(f"{before} before it, {name}", (one.verdict, one.number, str(one)),
-                          (checker.check(bad), before + 1, str(checker.check(bad))))
+                self.same(f"{before} before it, {name}", (one.verdict, one.number, one.start, str(one)),
+                          (checker.check(bad), before + 1, 36 * before, f"message {before + 1}: {checker.check(bad)}"))
+                self.same(f"{before} before it, {name}: what came before", ([*one.columns[0]], [*one.columns.skipped]),
+                          ([300] * before, [before + 1]))
             columns = checker.columns(given, paths, bad="skip")
             self.same(f"{before} before it, skipped", ([*columns[0]], [*columns.skipped], columns.verdicts),
                       ([300] * (before + 1), [before + 1, before + 3], (checker.check(bad),) * 2))
-        self.same("of a message alone there is no number", self.fails(
-            "verify", of.BadBuffer, "V2", lambda: checker.verify(bad)).number, None)
+        error = self.fails("verify", of.BadBuffer, "bad V2", lambda: checker.verify(bad))
+        self.same("of a message alone there is no number", (error.number, error.start, error.columns), (None,) * 3)
         given = b"".join(prefixed(ORC[:at % len(ORC)]) for at in range(3000))
         columns = checker.columns([given, prefixed(ORC)], paths, bad="skip")
         told = [*columns[1]], columns.skipped.format, [*columns.skipped]
@@ -403,15 +510,19 @@ class Columns(LibraryCase):
         for size in (1, 7, 1000):
             pieces = lambda data: [data[at:at + size] for at in range(0, len(data), size)]
             for end in range(1, len(whole)):
-                error = self.fails(f"an end after {end} bytes, in pieces of {size}", of.Truncated, f"{end} bytes",
+                all_of = f"{end} of its 36 bytes" if end >= 4 else f"{end} of the 4 bytes of its size"
+                error = self.fails(f"an end after {end} bytes, in pieces of {size}", of.Truncated,
+                                   f"the stream ends inside message 3, which begins at byte 72: {all_of} came",
                                    lambda: checker.columns(pieces(whole * 2 + whole[:end]), ("hp",)))
-                self.same("what came before", (error.held, [*error.columns[0]]), (end, [300] * 2))
+                told = error.held, error.size, error.number, error.start, [*error.columns[0]]
+                self.same("what came before", told, (end, 36 if end >= 4 else None, 3, 72, [300] * 2))
             error = self.fails(f"one that is too long, in pieces of {size}", of.Oversize, "4 + 32 bytes",
                                lambda: checker.columns(pieces(whole), ("hp",), max_bytes=35))
             self.same("it is told", (error.declared, error.limit, [*error.columns[0]]), (32, 35, []))
-            error = self.fails(f"behind others, in pieces of {size}", of.Oversize, "4294967295",
+            error = self.fails(f"behind others, in pieces of {size}", of.Oversize,
+                               "message 4, which begins at byte 108, has 4 + 4294967295 bytes",
                                lambda: checker.columns(pieces(whole * 3 + b"\xff" * 4 + whole), ("name",)))
-            self.same("what came before", [*error.columns[0]], ["Orc"] * 3)
+            self.same("what came before", (error.number, error.start, [*error.columns[0]]), (4, 108, ["Orc"] * 3))
         self.same("messages() has no columns", self.fails(
             "its fault", of.Truncated, "", lambda: [*checker.messages(whole[:9])]).columns, None)
         self.same("room for one", [*checker.columns(whole, ("hp",), max_bytes=len(whole))[0]], [300])
@@ -561,15 +672,27 @@ class Columns(LibraryCase):
         self.holds("3,000 calls of each kind leak nothing", few, (status, out, err))
         self.same("where memory is refused, that is told", self.alone(STARVED, *words), (0, "400000 refused\n", ""))
 
+    def with_numpy(self, *others):
+        """A Python that has numpy, and others."""
+        modules = ", ".join(["numpy", *others])
+        asked = f"import sys, {modules}; sys.exit(sys.version_info < (3, 11))"
+        for python in (sys.executable, "/usr/bin/python3"):
+            if os.path.exists(python) and subprocess.run([python, "-c", asked], capture_output=True).returncode == 0:
+                return python
+        self.skipTest(f"{modules} isn't there (Debian's packages python3-numpy, python3-pandas)")
+
     def test_in_numpy(self):
         """numpy takes the columns without a copy, and keeps their memory."""
-        asked = "import sys, numpy; sys.exit(sys.version_info < (3, 11))"
-        has = [python for python in (sys.executable, "/usr/bin/python3") if os.path.exists(python)
-               and subprocess.run([python, "-c", asked], capture_output=True).returncode == 0]
-        if not has:
-            self.skipTest("numpy isn't there (Debian's package python3-numpy)")
-        told = self.alone(IN_NUMPY, ORDERS, TOP / "examples/deliveries.bin", python=has[0])
+        told = self.alone(IN_NUMPY, ORDERS, TOP / "examples/deliveries.bin", python=self.with_numpy())
         self.same("what it has", told, (0, OF_NUMPY, ""))
+
+    def test_the_page_in_numpy(self):
+        """The README's program for numpy and pandas prints what stands behind it."""
+        python = self.with_numpy("pandas")
+        page = (BINDING / "README.md").read_text().split("In numpy and pandas:\n")[1]
+        code, want = (page.split(f"```{kind}\n")[1].split("```")[0] for kind in ("python", "text"))
+        told = ran("env", "-C", TOP, python, "-B", "-c", code, PYTHONPATH=str(self.folder), seconds=300)
+        self.same("its lines", told, (0, want, ""))
 
     def test_the_page(self):
         """The README's program for columns does what stands behind it."""
@@ -577,5 +700,6 @@ class Columns(LibraryCase):
         code = page.split("```python\n")[1].split("```")[0]
         told = ran("env", "-C", TOP, sys.executable, "-c", code, PYTHONPATH=str(self.folder))
         self.same("its lines", told, (0, "".join(f"{line}\n" for line in re.findall(r"^# (.*)$", code, re.M)), ""))
-        names = ["Column", "Slices", "data", "format", "offsets", "valid", "skipped", "verdicts", "number"]
+        names = ["Column", "Slices", "data", "format", "offsets", "valid", "skipped", "verdicts", "number", "starts",
+                 "skipped_starts", "reasons", "start", "mask()", "columns.paths"]
         self.same("what columns have", [name for name in names if f"`{name}`" not in page], [])

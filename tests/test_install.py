@@ -31,8 +31,8 @@ PLACES = {
     "lib/cmake/fbcheck/fbcheck-config.cmake": 0o644,
     "lib/cmake/fbcheck/fbcheck-config-version.cmake": 0o644,
 }
-PACKAGE = ["__init__.py", "_codes.py", "_columns.py", "_fbcheck.pyi", "_formats.py", "_rows.py", "_shapes.py", "py.typed",
-           "_fbcheck.abi3.so"]
+PACKAGE = ["__init__.py", "_codes.py", "_columns.py", "_fbcheck.pyi", "_formats.py", "_rows.py", "_shapes.py", "_streams.py",
+           "py.typed", "_fbcheck.abi3.so"]
 PAGE = (TOP / "docs/fbcheck.1").read_text()
 VERSION = (TOP / "VERSION").read_text().strip()
 

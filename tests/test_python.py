@@ -1,7 +1,6 @@
 """The package for Python beside the program: the same verdicts and values, and what a caller in Python may do."""
 
 import array
-import asyncio
 import copy
 import io
 import mmap
@@ -10,7 +9,6 @@ import pathlib
 import pickle
 import pydoc
 import re
-import socket
 import struct
 import subprocess
 import sys
@@ -362,6 +360,22 @@ class Python(LibraryCase):
         eleven = self.by("M").read(ORC, *["hp"] * 50)
         self.same("fifty too", eleven, (300,) * 50)
 
+    def test_names_of_types(self):
+        """A union tells the name of its type, if the schema has one."""
+        of, data = self.module, messages_of(POST)[0]
+        by_root, checker, by_orders = self.by("X", root="R"), self.by("X"), of.Schema(ORDERS, prefixed=True)
+        for name, by, given, path, number, want in [
+            ("of a field", by_root, MEMBER, "u", 1, "A"), ("an unknown one", by_root, lower_type(9), "u", 9, None),
+            ("of an element", checker, MEMBERS, "us[0]", 3, "T"), ("none", checker, MEMBERS, "us[1]", 0, "NONE"),
+            ("of another union", by_orders, data, "first", 2, "Letter"),
+        ]:
+            for turn in ("first", "again"):
+                told = by.read(given, path)
+                self.same(f"{name}, {turn}", (told.type, told.name, told), (number, want, of.Union(number)))
+            view = by.view(given)
+            several = [view.read(path, path)[1], by.read(given, by.path(path)), pickle.loads(pickle.dumps(told))]
+            self.same(f"{name}, in other ways", [(one.type, one.name) for one in several], [(number, want)] * 3)
+
     def test_numbers_anywhere(self):
         """A vector's numbers have their type wherever a path leads to it, however few they are."""
         inner = schemas.a_struct("game.P", 8, 2, field("hs", schemas.array(SHORT, 4), 0))
@@ -458,7 +472,7 @@ class Python(LibraryCase):
         self.same("31 steps", self.by("CHAIN").read(buffers.levels(2), long), None)
         self.fails("32 steps", of.PathError, "31 steps", lambda: self.by("CHAIN").path(".".join(["next"] * 32)))
         for path in (3, None, b"name", ["name"], ("name", "hp"), {"name"}):
-            words = f"not {type(path).__name__!r}; read(message, *paths) takes several"
+            words = f"not {type(path).__name__!r}; view.read(*paths) and read(message, *paths) take several"
             for call in (lambda: checker.read(ORC, path), lambda: checker.read(ORC, "hp", path),
                          lambda: checker.path(path)):
                 self.fails(f"a path that is {path!r}", TypeError, words, call)
@@ -569,156 +583,22 @@ class Python(LibraryCase):
         told = tried(lambda: turns_beside(checker.check, chain), lambda turns: turns > 10)
         self.holds("turns of the other thread", told[-1] > 10, told)
 
-    def test_streams(self):
-        """The same messages and verdicts however a stream is cut and handed over."""
-        checker, want = self.module.Schema(ORDERS, prefixed=True), messages_of(POST)
-        lines = run("--schema", ORDERS, "--names", given=POST).out.decode().splitlines()
-        pieces = lambda size: [POST[at:at + size] for at in range(0, len(POST), size)]
-        forms = {f"pieces of {size}": pieces(size) for size in [*range(1, 100), 512, 1000, len(POST)]}
-        forms |= {"bytes": POST, "a bytearray": bytearray(POST), "a view": memoryview(POST),
-                  "an array": array.array("B", POST), "a file": io.BytesIO(POST),
-                  "a bare file": io.FileIO(TOP / "examples/deliveries.bin"),
-                  "with empty pieces": [b"", *pieces(7), b""], "a generator": (bytearray(one) for one in pieces(9))}
-        for name, stream in forms.items():
-            told = [*checker.messages(stream)]
-            self.same(name, ([message for message, _ in told], lines_of(verdict for _, verdict in told)), (want, lines))
-        forms["a bare file"].close()
-        mine, theirs = socket.socketpair()
-        with mine, theirs, theirs.makefile("rb") as stream:
-            messages = checker.messages(stream)
-            for one in want:
-                mine.sendall(one)
-                self.same("a message comes as soon as it is whole", next(messages)[0], one)
-            mine.shutdown(socket.SHUT_WR)
-            self.same("and then the end", [*messages], [])
-        self.same("no message", [*checker.messages(b"")], [])
-        bare = checker.replace(prefixed=False)
-        self.fails("a schema of other messages", ValueError, "prefixed=True", lambda: bare.messages(POST))
-
-    def test_streams_that_have_no_bytes_yet(self):
-        """A pipe that doesn't wait has no end while another process may write it."""
-        checker, told = self.module.Schema(ORDERS, prefixed=True), []
-
-        def go_through(stream):
-            for message, _ in checker.messages(stream):
-                told.append(message)
-
-        for buffering in (-1, 0):
-            end, begin = os.pipe()
-            os.set_blocking(end, False)
-            with open(end, "rb", buffering) as stream:
-                with open(begin, "wb", 0) as writer:
-                    for given in (POST, POST[:9]):
-                        writer.write(given)
-                        self.fails("no bytes yet", BlockingIOError, "non-blocking", lambda: go_through(stream))
-                self.same("and then the end", go_through(stream), None)
-        self.same("what came by then", told, messages_of(POST) * 2)
-
-    def test_streams_that_come_later(self):
-        """The same by `async for`: of pieces, and of a reader, whose bytes are no lines."""
-        checker, want = self.module.Schema(ORDERS, prefixed=True), messages_of(POST)
-        lines = run("--schema", ORDERS, "--names", given=POST).out.decode().splitlines()
-
-        async def pieces(data, size):
-            for at in range(0, len(data), size):
-                await asyncio.sleep(0)
-                yield data[at:at + size]
-
-        async def reader(data):
-            made = asyncio.StreamReader()
-            made.feed_data(data)
-            made.feed_eof()
-            return made
-
-        async def told(stream, **words):
-            stream, found = await stream if asyncio.iscoroutine(stream) else stream, []
-            try:
-                async for one in checker.messages(stream, **words):
-                    found.append(one)
-            except self.module.StreamError as error:
-                found.append(str(error))
-            return found
-
-        streams_of_post = {f"pieces of {size}": pieces(POST, size) for size in (1, 7, 512, 9999)}
-        for name, stream in {"a reader": reader(POST), **streams_of_post}.items():
-            got = asyncio.run(told(stream))
-            self.same(name, ([message for message, _ in got], lines_of(verdict for _, verdict in got)), (want, lines))
-
-        async def slowly(end, begin):
-            """What comes of a pipe that has no bytes for a while, more than once."""
-            reader, loop = asyncio.StreamReader(), asyncio.get_running_loop()
-            await loop.connect_read_pipe(lambda: asyncio.StreamReaderProtocol(reader), end)
-            going = asyncio.create_task(told(reader))
-            for at in range(0, len(POST), 300):
-                await asyncio.sleep(0.01)
-                os.write(begin, POST[at:at + 300])
-            os.close(begin)
-            return await going
-
-        end, begin = os.pipe()
-        with open(end, "rb", 0) as stream:
-            got = asyncio.run(slowly(stream, begin))
-        self.same("a pipe", [message for message, _ in got], want)
-        long = prefixed(bytes(1 << 18))
-        self.same("no line's end", len(asyncio.run(told(reader(long * 3)))), 3)
-        got = asyncio.run(told(pieces(POST[:-3], 100)))
-        self.same("an end too early", (len(got), got[-1]), (
-            len(want), f"the stream ends inside a message, of which {len(want[-1]) - 3} bytes came"))
-        got = asyncio.run(told(pieces(POST, 100), max_bytes=99))
-        self.same("a long one", got, [f"a message of 4 + {len(want[0]) - 4} bytes, where at most 99 are allowed"])
-
-    def test_faults_of_streams(self):
-        of, checker = self.module, self.by("M", prefixed=True)
-        whole = prefixed(ORC)
-
-        def told(stream, **words):
-            """The messages that come, and the fault."""
-            found = []
-            try:
-                for message, _ in checker.messages(stream, **words):
-                    found.append(message)
-            except of.StreamError as error:
-                again = pickle.loads(pickle.dumps(error))
-                self.same("pickled", (type(again), str(again)), (type(error), str(error)))
-                return found, type(error), vars(error), str(error)
-            return found
-
-        for end in range(len(whole)):
-            given = whole * 2 + whole[:end]
-            want = [whole] * 2 if end == 0 else ([whole] * 2, of.Truncated, {"held": end},
-                                                 f"the stream ends inside a message, of which {end} bytes came")
-            for size in (1, 3, len(given)):
-                got = told([given[at:at + size] for at in range(0, len(given), size)])
-                self.same(f"{end} bytes at the end, in pieces of {size}", got, want)
-        self.same("room for one", told(whole, max_bytes=len(whole)), [whole])
-        want = [], of.Oversize, {"declared": 32, "limit": 35}, "a message of 4 + 32 bytes, where at most 35 are allowed"
-        self.same("and for less", (len(whole), told(whole, max_bytes=35)), (36, want))
-        got = told([whole, whole[:9], whole[9:] + b"\xff" * 4 + whole])
-        self.same("the messages before come", got[:2], ([whole] * 2, of.Oversize))
-        for limit in (7, 2**31):
-            self.fails(f"room for {limit}", ValueError, "max_bytes", lambda: checker.messages(b"", max_bytes=limit))
-        for wrong in ("text", ["text"], io.StringIO("text"), 5, None, [5]):
-            words = "" if wrong in (5, None, [5]) else 'open its file with "rb"'
-            self.fails(f"a stream that is {wrong!r}", TypeError, words, lambda: [*checker.messages(wrong)])
-        with open(TOP / "examples/deliveries.bin", encoding="utf-8") as text:
-            self.fails("a file of a text", TypeError, 'open its file with "rb"', lambda: checker.messages(text))
-            self.fails("no schema's", TypeError, "a path or a bytes-like object, and not 'TextIOWrapper'",
-                       lambda: of.Schema(text))
-        self.holds("an end too early is an EOFError too", issubclass(of.Truncated, EOFError))
-
-    def test_long_streams(self):
-        """A stream costs in proportion to its bytes, though it comes in one piece."""
-        checker, one = self.by("M", prefixed=True), prefixed(ORC)
-        seconds = {}
-        for count in (50_000, 200_000):
-            begun = time.process_time()
-            self.same(f"{count} messages in a piece", sum(1 for _ in checker.messages(one * count)), count)
-            seconds[count] = time.process_time() - begun
-        linear = seconds[200_000] < 12 * seconds[50_000] + 0.2
-        self.holds("four times as many take some four times as long", linear, seconds)
-        self.holds("a piece of 7 MB takes less than two seconds", seconds[200_000] < 2, seconds)
-        told = [len(message) for message, verdict in checker.messages(named(9_000_000) * 3) if verdict]
-        self.same("messages of 9 MB", told, [9_000_000] * 3)
+    def test_sizes_in_front(self):
+        """A bad message tells where its size is asked for or not, against what its first bytes show."""
+        of, bare, checker = self.module, self.by("M"), self.by("M", prefixed=True)
+        has, hasnt = "its first 4 bytes are the number", "its first 4 bytes aren't the number"
+        for name, by, given, words in [("a size", bare, prefixed(ORC), has), ("no size", checker, ORC, hasnt),
+                                       ("another size", checker, prefixed(ORC) + b"?", hasnt)]:
+            verdict = by.check(given)
+            self.holds(name, verdict.hint.startswith(words), verdict.hint)
+            self.same(f"{name}: as a text", repr(verdict), f"<Verdict {verdict}; {verdict.hint}>")
+            for call in (by.verify, by.view, by.to_dict, lambda given: by.read(given, "hp")):
+                error = self.fails(name, of.BadBuffer, f"{verdict}; {words}", lambda: call(given))
+                self.same(f"{name}: pickled", str(pickle.loads(pickle.dumps(error))), str(error))
+        for name, by, given in [("a good one", bare, ORC), ("one that is cut", bare, ORC[:-1]), ("nothing", bare, b""),
+                                ("one with its size", checker, prefixed(ORC)), ("few bytes", bare, b"\0\0\0\0"),
+                                ("a bad one with its size", checker, prefixed(ORC[:-1]))]:
+            self.same(name, (by.check(given).hint, by.check(bytearray(given)).hint), (None, None))
 
     def test_types(self):
         """A type checker finds no fault in the package, and in what uses it those that a line says, and no others."""

@@ -251,6 +251,25 @@ class Views(PythonCase):
             self.fails(f"its {name} stays", AttributeError, "", lambda: setattr(view, name, None))
         self.fails("no elements", TypeError, "not iterable", lambda: iter(view))
 
+    def test_parts(self):
+        """What has no parts of its own tells how they are read; a default stands for what isn't there."""
+        checker = self.by(ORDERS, prefixed=True)
+        view = checker.view(messages_of(POST)[0])
+        for name, call, words in [
+            ("a table", lambda: view["to"]["name"], "a Table holds no values: read its fields by longer paths,"
+                                                    " such as path + '.name'"),
+            ("a vector", lambda: [*view["items"]], "a Vector holds no values: read an element by path + '[0]', or"
+                                                   " all by path + '[*]'"),
+            ("a union", lambda: view["first"]["pages"], "such as path + '@Letter.pages'"),
+            ("two paths", lambda: view["id", "price"], "a path is a str, not 'tuple'; view.read(*paths)"),
+        ]:
+            self.fails(name, TypeError, words, call)
+        self.same("how many", (len(view["items"]), self.module.Vector(4) == view["items"]), (4, True))
+        none = self.by("M").view(PLAIN)
+        told = none.get("hp"), none.get("name"), none.get("name", "?"), none.get("hp", 5), view.get(checker.path("id"))
+        self.same("defaults", told, (100, None, "?", 100, 1))
+        self.fails("no field", self.module.PathError, "P2", lambda: none.get("nam", 5))
+
     def test_shipped(self):
         """A view is pickled by its schema and message, which is checked anew."""
         view = self.by(ORDERS, prefixed=True).view(bytearray(messages_of(POST)[0]))
@@ -306,7 +325,7 @@ class Views(PythonCase):
         self.same("its lines", (told.returncode, told.stdout.splitlines(), told.stderr),
                   (0, re.findall(r"^# (.*)$", code, re.M), ""))
         parts = [name for name in dir(self.module.View) if not name.startswith("_")]
-        self.same("what a view has", parts, ["message", "read", "schema", "to_dict", "verdict"])
+        self.same("what a view has", parts, ["get", "message", "read", "schema", "to_dict", "verdict"])
         for name in parts:
             self.holds(f"View.{name} is documented", getattr(self.module.View, name).__doc__)
         for name in ("view", "to_dict"):

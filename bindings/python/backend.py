@@ -27,8 +27,9 @@ import zipfile
 
 HERE = pathlib.Path(__file__).resolve().parent
 TOP = HERE.parents[1]
-PARTS = ("__init__.py", "_codes.py", "_columns.py", "_fbcheck.pyi", "_formats.py", "_rows.py", "_shapes.py", "py.typed")
-SOURCES = ("_dicts.c", "_fbcheck.c", "_shapes.c", "_streams.c", "_values.c")
+PARTS = ("__init__.py", "_codes.py", "_columns.py", "_fbcheck.pyi", "_formats.py", "_rows.py", "_shapes.py", "_streams.py",
+         "py.typed")
+SOURCES = ("_dicts.c", "_fbcheck.c", "_messages.c", "_shapes.c", "_streams.c", "_values.c")
 HEADERS = ("_fbcheck.h", "_shapes.h")
 EXTENSION = "_fbcheck.abi3.so"
 WARNINGS = ("-Wall", "-Wextra")

@@ -13,7 +13,7 @@ def path_of(module, steps):
     """The path of these steps, each a kind and a number, for the package."""
     rest = [(0, 0)] * (STEPS - len(steps))
     words = [len(steps), 0, *[word for step in [*steps, *rest] for word in step]]
-    return module.Path(str(steps), struct.pack(f"<{len(words)}I", *words) + b"B-")
+    return module.Path(str(steps), struct.pack(f"<{len(words)}I", *words) + b"B-\xff\xff\xff\xff")
 
 
 class Told:

@@ -19,7 +19,11 @@ typedef struct {
     PyObject *place;
     PyObject *object;
     PyObject *field;
+    uint32_t framing; /* what the first bytes of a bad message show */
 } Verdict;
+
+/* They are its size though that isn't asked for, or aren't though it is. */
+enum { FRAMED = 1, UNFRAMED = 2 };
 
 /* Gives back an object whose parts were given up. */
 void freed(PyObject *self)
@@ -43,11 +47,12 @@ static PyObject *verdict_new(PyTypeObject *type, PyObject *words, PyObject *name
 {
     fbcheck_verdict told = { 0 };
     unsigned long long at, reads;
+    uint32_t framing;
     PyObject *place, *object, *field;
     Verdict *self;
     (void)named;
-    if (!PyArg_ParseTuple(words, "IIIIIIKKOOO", &told.status, &told.reason, &told.object, &told.field, &told.tables,
-                          &told.depth, &at, &reads, &place, &object, &field))
+    if (!PyArg_ParseTuple(words, "IIIIIIKKOOOI", &told.status, &told.reason, &told.object, &told.field, &told.tables,
+                          &told.depth, &at, &reads, &place, &object, &field, &framing))
         return NULL;
     told.at = at;
     told.reads = reads;
@@ -56,6 +61,7 @@ static PyObject *verdict_new(PyTypeObject *type, PyObject *words, PyObject *name
         self->place = Py_NewRef(place);
         self->object = Py_NewRef(object);
         self->field = Py_NewRef(field);
+        self->framing = framing;
     }
     return (PyObject *)self;
 }
@@ -88,6 +94,7 @@ static PyMemberDef verdict_members[] = {
     { "_field_number", T_UINT, TOLD(field), READONLY, NULL },
     { "_at", T_ULONGLONG, TOLD(at), READONLY, NULL },
     { "_place", T_OBJECT, offsetof(Verdict, place), READONLY, NULL },
+    { "_framing", T_UINT, offsetof(Verdict, framing), READONLY, NULL },
     { NULL, 0, 0, 0, NULL },
 };
 
@@ -191,6 +198,7 @@ static void schema_free(PyObject *object)
     Py_XDECREF(self->told[0]);
     Py_XDECREF(self->told[1]);
     Py_XDECREF(self->paths);
+    Py_XDECREF(self->unions);
     Py_XDECREF(self->kept);
     Py_XDECREF(self->shaped);
     freed(object);
@@ -205,8 +213,7 @@ static uint32_t tried(Schema *self)
 }
 
 /* Schema(handle, (root, ident_from, ident, prefixed, alignment, inline_size, max_depth, max_tables, max_reads,
-   reads_per_byte, demands), (Verdict, BadBuffer, fault, Table(), Union, Vector, "type", "count", View, Overlap,
-   PathError)) */
+   reads_per_byte, demands), (Verdict, BadBuffer, fault, Table(), _union, Vector, "count", View, Overlap, PathError)) */
 static PyObject *schema_new(PyTypeObject *type, PyObject *words, PyObject *named)
 {
     fbcheck_options asked = FBCHECK_OPTIONS_INIT;
@@ -234,10 +241,11 @@ static PyObject *schema_new(PyTypeObject *type, PyObject *words, PyObject *named
     self->handle = Py_NewRef(handle);
     self->kept = Py_NewRef(kept);
     status = FBCHECK_NULL;
-    if (PyArg_ParseTuple(kept, "OOOOOOOOOOO", &self->verdict, &self->bad_buffer, &self->fault, &self->table,
-                         &self->a_union, &self->vector, &self->type, &self->count, &self->view, &self->overlap,
+    if (PyArg_ParseTuple(kept, "OOOOOOOOOO", &self->verdict, &self->bad_buffer, &self->fault, &self->table,
+                         &self->a_union, &self->vector, &self->count, &self->view, &self->overlap,
                          &self->path_error) &&
-        (self->paths = PyDict_New()) != NULL && (self->schema = PyCapsule_GetPointer(handle, HANDLE)) != NULL)
+        (self->paths = PyDict_New()) != NULL && (self->unions = PyDict_New()) != NULL &&
+        (self->schema = PyCapsule_GetPointer(handle, HANDLE)) != NULL)
         status = tried(self);
     if (status != FBCHECK_BAD) {
         if (!PyErr_Occurred())
@@ -380,6 +388,7 @@ static Verdict *another(Schema *self, const fbcheck_verdict *told)
     }
     verdict = (Verdict *)Py_NewRef(kept);
     verdict->told = *told;
+    verdict->framing = 0;
     Py_CLEAR(verdict->place);
     Py_CLEAR(verdict->object);
     Py_CLEAR(verdict->field);
@@ -400,16 +409,36 @@ PyObject *judged(Schema *self, const fbcheck_verdict *told, const char *place, s
     return (PyObject *)verdict;
 }
 
+/* What the first bytes of a bad message show. */
+static uint32_t framing_of(const Schema *self, const Check *check, const fbcheck_verdict *told)
+{
+    const uint8_t *bytes = check->bytes;
+    size_t length = (size_t)check->view.len;
+    if (self->options.prefixed)
+        return told->reason == FBCHECK_WRONG_PREFIX ? UNFRAMED : 0;
+    if (length < 8)
+        return 0;
+    return bytes[0] + 256u * bytes[1] + 65536u * bytes[2] + 16777216u * bytes[3] == length - 4 ? FRAMED : 0;
+}
+
 /* The verdict on a message that begin() took. */
 PyObject *located(Schema *self, Check *check)
 {
     char place[FBCHECK_LONGEST_PLACE];
     size_t length = 0;
     fbcheck_verdict told;
+    uint32_t framing;
+    PyObject *verdict;
     uint32_t status = fbcheck_locate(self->schema, check->scratch, &self->options, check->bytes,
                                      (size_t)check->view.len, place, sizeof place, &length, &told);
+    framing = status == FBCHECK_BAD ? framing_of(self, check, &told) : 0;
     end(self, check);
-    return status <= FBCHECK_BAD ? judged(self, &told, place, length) : refused(self, status);
+    if (status > FBCHECK_BAD)
+        return refused(self, status);
+    verdict = judged(self, &told, place, length);
+    if (verdict != NULL)
+        ((Verdict *)verdict)->framing = framing;
+    return verdict;
 }
 
 PyObject *schema_check(Schema *self, PyObject *message)
@@ -466,6 +495,7 @@ static PyMethodDef schema_methods[] = {
     { "_found", (PyCFunction)schema_found, METH_VARARGS, NULL },
     { "_viewed", (PyCFunction)schema_viewed, METH_O, NULL },
     { "_shapes", (PyCFunction)schema_shapes, METH_VARARGS, NULL },
+    { "_stream", (PyCFunction)schema_stream, METH_VARARGS, NULL },
     { "_columns", (PyCFunction)schema_columns, METH_VARARGS, NULL },
     { NULL, NULL, 0, NULL },
 };
@@ -491,8 +521,9 @@ static PyType_Spec schema_spec = {
 
 static int module_exec(PyObject *module)
 {
-    PyType_Spec *const specs[] = { &verdict_spec, &schema_spec, &view_spec, &framer_spec, &column_spec };
-    static const char *const names[] = { "Verdict", "Schema", "View", "Framer", "Column" };
+    PyType_Spec *const specs[] = { &verdict_spec, &schema_spec, &view_spec, &messages_spec, &later_spec,
+                                  &column_spec };
+    static const char *const names[] = { "Verdict", "Schema", "View", "Messages", "AsyncMessages", "Column" };
     size_t at;
     if (fbcheck_version() != FBCHECK_VERSION) {
         PyErr_Format(PyExc_ImportError, "libfbcheck has version %u, and the header %u", (unsigned)fbcheck_version(),

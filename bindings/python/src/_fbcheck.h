@@ -1,7 +1,7 @@
 /*
  * What the files of the extension share: _fbcheck.c has verdicts and schemas, _values.c the values of a message and
- * views of messages, _dicts.c and _shapes.c whole tables as dicts, _streams.c the messages of a stream and the columns
- * that are read of it.
+ * views of messages, _dicts.c and _shapes.c whole tables as dicts, _messages.c the messages of a stream, _streams.c the
+ * columns that are read of it.
  *
  * All are written against the limited API of Python 3.11.
  */
@@ -32,10 +32,11 @@ typedef struct {
     fbcheck_scratch *idle; /* room for tables that no call has at the moment, or null */
     PyObject *told[2];     /* the verdicts that were told last, or null */
     PyObject *paths;       /* by each text or path that was read at, the bytes of _resolve() with its letters behind */
+    PyObject *unions;      /* by its number and its type, each value of a union that was made */
     PyObject *kept;
     PyObject *verdict, *bad_buffer, *fault; /* the class of verdicts, the exception with one, and that of a status */
-    PyObject *table, *a_union, *vector;     /* what stands for a table, and the classes of unions and vectors, */
-    PyObject *type, *count;                 /* with the names of what these two have */
+    PyObject *table, *a_union;              /* what stands for a table, what makes the value of a union, */
+    PyObject *vector, *count;               /* and the class of vectors, with the name of what they have */
     PyObject *view;                         /* the class of views, */
     PyObject *overlap, *path_error;         /* and exceptions */
     PyObject *shaped;     /* what owns the shapes, or null until a dict is asked for, */
@@ -61,11 +62,34 @@ typedef struct {
     Py_buffer buffer;
 } View;
 
+/* The messages of a stream, of which the next one comes to stand in `room`. */
+typedef struct {
+    PyObject_HEAD
+    Schema *schema;
+    PyObject *paths; /* a tuple of those whose values come with each message, or null */
+    int views;       /* whether a view does */
+    char is_taken;   /* while a call goes on */
+    char is_over;    /* once the source told its end */
+    char has_good;   /* once a message was good */
+    char ident[4];   /* where the first one may have an identifier */
+    fbcheck_framer framer;
+    uint8_t *room;
+    size_t size;
+    PyObject *piece; /* that is gone through, or null, */
+    size_t at;       /* up to this place */
+    uint64_t count;  /* how many messages were whole, */
+    uint64_t begin;  /* and where the next one begins in the stream */
+} Messages;
+
 /* What the schema file says of the end of a path, as _formats.py writes it. */
 typedef struct {
-    char element; /* what a memoryview calls the numbers of a vector */
-    char column;  /* what a column of such values has */
+    char element;     /* what a memoryview calls the numbers of a vector */
+    char column;      /* what a column of such values has */
+    uint8_t owner[4]; /* the number of the union in the file, or that of none */
 } Letters;
+
+/* The number of no union. */
+#define NO_UNION 0xffffffff
 
 /* How many paths are without memory of their own. */
 #define FEW_PATHS 8
@@ -117,8 +141,17 @@ PyObject *schema_shapes(Schema *self, PyObject *words);
 PyObject *schema_to_dict(Schema *self, PyObject *message);
 PyObject *view_to_dict(View *self, PyObject *const *words, Py_ssize_t count);
 
+/* Of _messages.c. */
+extern PyType_Spec messages_spec, later_spec;
+int begin_turn(Messages *self);
+int get_piece(Messages *self, Py_buffer *piece);
+void give_piece(Messages *self, Py_buffer *piece);
+int ask_piece(Messages *self);
+void pass_message(Messages *self, int is_good);
+PyObject *schema_stream(Schema *self, PyObject *words);
+
 /* Of _streams.c. */
-extern PyType_Spec framer_spec, column_spec;
+extern PyType_Spec column_spec;
 PyObject *schema_columns(Schema *self, PyObject *words);
 
 #pragma GCC visibility pop

@@ -1,6 +1,6 @@
 /*
- * The messages of a stream, and columns of what is read of them: memory that whatever has the buffer protocol takes
- * without a copy.
+ * Columns of what is read of the messages of a stream: memory that whatever has the buffer protocol takes without a
+ * copy.
  */
 #include "_fbcheck.h"
 
@@ -11,88 +11,6 @@
 
 /* Of how many bad messages the verdicts are kept. */
 #define MOST_VERDICTS 1000
-
-/* The messages of a stream, of which the next one stands in `room`. */
-typedef struct {
-    PyObject_HEAD
-    fbcheck_framer framer;
-    uint8_t *room;
-    Py_ssize_t size;
-} Framer;
-
-static PyObject *framer_new(PyTypeObject *type, PyObject *words, PyObject *named)
-{
-    Py_ssize_t size;
-    Framer *self;
-    (void)named;
-    if (!PyArg_ParseTuple(words, "n", &size))
-        return NULL;
-    self = (Framer *)PyType_GenericAlloc(type, 0);
-    if (self == NULL)
-        return NULL;
-    self->size = size;
-    self->room = malloc((size_t)size);
-    if (self->room == NULL) {
-        Py_DECREF(self);
-        return PyErr_NoMemory();
-    }
-    return (PyObject *)self;
-}
-
-static void framer_free(PyObject *self)
-{
-    free(((Framer *)self)->room);
-    freed(self);
-}
-
-/* feed(piece, at): the status, how many bytes were taken from this place of the piece on, and what there is: the next
-   message, or of one that is too long how many bytes its prefix declares. */
-static PyObject *framer_feed(Framer *self, PyObject *words)
-{
-    Py_buffer piece;
-    Py_ssize_t at;
-    size_t used = 0;
-    uint32_t status;
-    PyObject *message;
-    if (!PyArg_ParseTuple(words, "y*n", &piece, &at))
-        return NULL;
-    if (at < 0 || at > piece.len)
-        at = piece.len;
-    status = fbcheck_framer_feed(&self->framer, self->room, (size_t)self->size, (const uint8_t *)piece.buf + at,
-                                 (size_t)(piece.len - at), &used);
-    PyBuffer_Release(&piece);
-    if (status != FBCHECK_OK)
-        return Py_BuildValue("InI", status, (Py_ssize_t)used, self->framer.declared);
-    message = PyBytes_FromStringAndSize((const char *)self->room, (Py_ssize_t)self->framer.held);
-    if (message == NULL)
-        return NULL;
-    fbcheck_framer_next(&self->framer, self->room, (size_t)self->size);
-    return Py_BuildValue("InN", status, (Py_ssize_t)used, message);
-}
-
-/* held(): how many bytes of a message that goes on are held. */
-static PyObject *framer_held(Framer *self, PyObject *nothing)
-{
-    (void)nothing;
-    return PyLong_FromSize_t(self->framer.held);
-}
-
-static PyMethodDef framer_methods[] = {
-    { "feed", (PyCFunction)framer_feed, METH_VARARGS, NULL },
-    { "held", (PyCFunction)framer_held, METH_NOARGS, NULL },
-    { NULL, NULL, 0, NULL },
-};
-
-static PyType_Slot framer_slots[] = {
-    { Py_tp_new, framer_new },
-    { Py_tp_dealloc, framer_free },
-    { Py_tp_methods, framer_methods },
-    { 0, NULL },
-};
-
-PyType_Spec framer_spec = {
-    "fbcheck._fbcheck.Framer", sizeof(Framer), 0, Py_TPFLAGS_DEFAULT, framer_slots,
-};
 
 /* ---- columns ---- */
 
@@ -148,35 +66,41 @@ typedef struct {
 typedef struct {
     Schema *schema;
     fbcheck_scratch *scratch;
-    fbcheck_framer framer;
-    uint8_t *room, *copy; /* `copy` is null until a piece comes that may be written */
-    size_t size, count;
+    Messages *from;
+    uint8_t *copy; /* null until a piece comes that may be written */
+    size_t count;
     fbcheck_path *paths;
     fbcheck_value *values;
     Making *columns;
-    uint64_t messages;
     int skips;
-    Growing skipped;     /* the numbers of bad messages, */
-    Growing bad, places; /* and what was told of the first ones */
+    Growing starts;                            /* where each good message begins in the stream, */
+    Growing skipped, skipped_starts, reasons;  /* of the bad ones their numbers, and why they are bad, */
+    Growing bad, places;                       /* and what was told of the first ones */
 } Gathering;
 
-/* Room for so many bytes more behind those that are there; null where memory is refused. */
-static char *more(Growing *to, size_t size)
+/* Makes room for so many bytes more than are there; 0 where memory is refused. */
+static int grow(Growing *to, size_t size)
 {
-    if (to->bytes == NULL || size > to->room - to->used) {
-        size_t room = to->used + size > 2 * to->room ? to->used + size + 64 : 2 * to->room;
-        char *bytes = size < PY_SSIZE_T_MAX - to->used - 64 ? realloc(to->bytes, room) : NULL;
-        if (bytes == NULL)
-            return NULL;
-        to->bytes = bytes;
-        to->room = room;
-    }
+    size_t room = to->used + size > 2 * to->room ? to->used + size + 64 : 2 * to->room;
+    char *bytes = size < PY_SSIZE_T_MAX - to->used - 64 ? realloc(to->bytes, room) : NULL;
+    if (bytes == NULL)
+        return 0;
+    to->bytes = bytes;
+    to->room = room;
+    return 1;
+}
+
+/* Room for so many bytes more behind those that are there; null where memory is refused. */
+static inline char *more(Growing *to, size_t size)
+{
+    if ((to->bytes == NULL || size > to->room - to->used) && !grow(to, size))
+        return NULL;
     to->used += size;
     return to->bytes + to->used - size;
 }
 
 /* The same with these bytes in it. */
-static int add(Growing *to, const void *bytes, size_t size)
+static inline int add(Growing *to, const void *bytes, size_t size)
 {
     char *room = more(to, size);
     if (room != NULL && size != 0)
@@ -272,7 +196,7 @@ static uint32_t add_values(Gathering *on)
         uint32_t status;
         if (is_there && !is_of(to->form, value))
             return FBCHECK_MISFIT;
-        status = (to->width != 0 ? add_bytes : add_number)(to, on->room, value, is_there);
+        status = (to->width != 0 ? add_bytes : add_number)(to, on->from->room, value, is_there);
         if (status != FBCHECK_OK)
             return status;
         if (!add_valid(to, is_there))
@@ -282,100 +206,108 @@ static uint32_t add_values(Gathering *on)
     return FBCHECK_OK;
 }
 
-/* Keeps a bad message's number in the room, and of the first ones the verdict, by a second check for its place. */
-static uint32_t add_bad(Gathering *on)
+/* Keeps what was told of the bad message in the room, and of the first ones the verdict, by a second check for its
+   place. */
+static uint32_t add_bad(Gathering *on, const fbcheck_verdict *told)
 {
+    const Messages *from = on->from;
     char place[FBCHECK_LONGEST_PLACE];
+    uint64_t number = from->count + 1;
+    uint8_t reason = (uint8_t)told->reason;
     Bad bad = { .length = 0 };
     uint32_t status;
-    if (!add(&on->skipped, &on->messages, sizeof on->messages))
+    if (!add(&on->skipped, &number, sizeof number) || !add(&on->skipped_starts, &from->begin, sizeof from->begin) ||
+        !add(&on->reasons, &reason, sizeof reason))
         return FBCHECK_NO_MEMORY;
     if (on->bad.used == MOST_VERDICTS * sizeof bad)
         return FBCHECK_OK;
-    status = fbcheck_locate(on->schema->schema, on->scratch, &on->schema->options, on->room, on->framer.held, place,
+    status = fbcheck_locate(on->schema->schema, on->scratch, &on->schema->options, from->room, from->framer.held, place,
                             sizeof place, &bad.length, &bad.told);
     if (status != FBCHECK_BAD)
         return FBCHECK_FAILED;
     return add(&on->bad, &bad, sizeof bad) && add(&on->places, place, bad.length) ? FBCHECK_OK : FBCHECK_NO_MEMORY;
 }
 
-/* Checks and reads the message in the room. */
+/* Checks and reads the message in the room, and goes past it. */
 static uint32_t gather_message(Gathering *on)
 {
-    uint32_t status = fbcheck_read(on->schema->schema, on->scratch, &on->schema->options, on->room, on->framer.held,
-                                   on->paths, on->values, on->count, NULL);
-    on->messages++;
+    Messages *from = on->from;
+    fbcheck_verdict told;
+    uint32_t status = fbcheck_read(on->schema->schema, on->scratch, &on->schema->options, from->room, from->framer.held,
+                                   on->paths, on->values, on->count, &told);
+    int is_bad = status == FBCHECK_BAD;
     if (status == FBCHECK_OK)
-        return add_values(on);
-    if (status == FBCHECK_BAD)
-        status = add_bad(on);
-    return status == FBCHECK_OK && !on->skips ? FBCHECK_BAD : status;
+        status = add(&on->starts, &from->begin, sizeof from->begin) ? add_values(on) : FBCHECK_NO_MEMORY;
+    else if (is_bad)
+        status = add_bad(on, &told);
+    if (status == FBCHECK_OK)
+        pass_message(from, !is_bad);
+    return is_bad && status == FBCHECK_OK && !on->skips ? FBCHECK_BAD : status;
 }
 
-/* Goes through the messages that end in these bytes. It ends by FBCHECK_MORE, or what keeps it from going on. */
-static uint32_t gather(Gathering *on, const uint8_t *bytes, size_t length)
+/* Goes through the messages that end in these bytes, and tells how many were taken. It ends by FBCHECK_MORE, or what
+   keeps it from going on. */
+static uint32_t gather(Gathering *on, const uint8_t *bytes, size_t length, size_t *taken)
 {
-    size_t at = 0, used = 0;
+    Messages *from = on->from;
+    size_t used = 0;
     uint32_t status = FBCHECK_OK;
+    *taken = 0;
     while (status == FBCHECK_OK) {
-        status = fbcheck_framer_feed(&on->framer, on->room, on->size, bytes + at, length - at, &used);
+        status = fbcheck_framer_feed(&from->framer, from->room, from->size, bytes + *taken, length - *taken, &used);
+        *taken += used;
         if (status != FBCHECK_OK)
             break;
-        at += used;
         status = gather_message(on);
-        fbcheck_framer_next(&on->framer, on->room, on->size);
     }
     return status;
 }
 
-/* Goes through a part of a piece, of which what others may write is copied first. They run meanwhile, unless it is
+/* Goes through a part of the piece, of which what others may write is copied first. They run meanwhile, unless it is
    short. */
-static uint32_t gather_part(Gathering *on, const Py_buffer *piece, size_t at, size_t length)
+static uint32_t gather_part(Gathering *on, const Py_buffer *piece)
 {
-    const uint8_t *bytes = (const uint8_t *)piece->buf + at;
+    Messages *from = on->from;
+    size_t left = (size_t)piece->len - from->at, length = left < PART ? left : PART, taken;
+    const uint8_t *bytes = (const uint8_t *)piece->buf + from->at;
     PyThreadState *others = NULL;
     uint32_t status;
-    if (!piece->readonly && on->copy == NULL && (on->copy = malloc(PART)) == NULL)
+    if (length != 0 && !piece->readonly && on->copy == NULL && (on->copy = malloc(PART)) == NULL)
         return FBCHECK_NO_MEMORY;
-    if (is_long(on->schema, on->framer.held + length))
+    if (is_long(on->schema, from->framer.held + length))
         others = PyEval_SaveThread();
-    if (!piece->readonly)
+    if (length != 0 && !piece->readonly)
         bytes = memcpy(on->copy, bytes, length);
-    status = gather(on, bytes, length);
+    status = gather(on, bytes, length, &taken);
     if (others != NULL)
         PyEval_RestoreThread(others);
+    from->at += taken;
     return status;
 }
 
-/* Goes through a piece of the stream. */
-static uint32_t gather_piece(Gathering *on, const Py_buffer *piece)
+/* Goes through what is left of the piece. */
+static uint32_t gather_piece(Gathering *on)
 {
-    uint32_t status = FBCHECK_MORE;
-    size_t at, length;
-    for (at = 0; status == FBCHECK_MORE && at < (size_t)piece->len; at += length) {
-        length = (size_t)piece->len - at < PART ? (size_t)piece->len - at : PART;
-        status = gather_part(on, piece, at, length);
+    Py_buffer piece;
+    uint32_t status = FBCHECK_FAILED;
+    if (get_piece(on->from, &piece) != 0)
+        return status;
+    do {
+        status = gather_part(on, &piece);
         if (PyErr_CheckSignals() != 0)
             status = FBCHECK_FAILED;
-    }
+    } while (status == FBCHECK_MORE && on->from->at < (size_t)piece.len);
+    give_piece(on->from, &piece);
     return status;
 }
 
 /* Goes through all pieces. */
-static uint32_t gather_all(Gathering *on, PyObject *pieces)
+static uint32_t gather_all(Gathering *on)
 {
-    uint32_t status = FBCHECK_MORE;
-    PyObject *given;
-    while (status == FBCHECK_MORE && (given = PyIter_Next(pieces)) != NULL) {
-        Py_buffer piece;
-        if (PyObject_GetBuffer(given, &piece, PyBUF_SIMPLE) == 0) {
-            status = gather_piece(on, &piece);
-            PyBuffer_Release(&piece);
-        }
-        Py_DECREF(given);
-        if (PyErr_Occurred())
-            status = FBCHECK_FAILED;
-    }
+    uint32_t status;
+    do
+        status = gather_piece(on);
+    while (status == FBCHECK_MORE && ask_piece(on->from));
     return PyErr_Occurred() ? FBCHECK_FAILED : status;
 }
 
@@ -437,23 +369,15 @@ static PyObject *verdicts_of(const Gathering *on)
     return told;
 }
 
-/* Raises that the message that came last is bad, with its number. */
-static PyObject *raised_at(const Gathering *on)
+/* Numbers of all messages, which take over what is given. */
+static PyObject *whole_column(PyObject *class, Growing *from, char format, size_t size)
 {
-    PyObject *verdicts = verdicts_of(on), *why = NULL;
-    if (verdicts != NULL)
-        why = Py_BuildValue("OK", PyTuple_GetItem(verdicts, 0), (unsigned long long)on->messages);
-    if (why != NULL)
-        PyErr_SetObject(on->schema->bad_buffer, why);
-    Py_XDECREF(verdicts);
-    Py_XDECREF(why);
-    return NULL;
+    return column_of(class, from, format, size, Py_NewRef(Py_None));
 }
 
 /* How the stream ended, with what was read of it. */
 static PyObject *told_of(Gathering *on, uint32_t status, PyObject *class)
 {
-    uint32_t number = status == FBCHECK_OVERSIZE ? on->framer.declared : (uint32_t)on->framer.held;
     PyObject *columns = PyTuple_New((Py_ssize_t)on->count);
     size_t at;
     for (at = 0; columns != NULL && at < on->count; at++) {
@@ -461,9 +385,12 @@ static PyObject *told_of(Gathering *on, uint32_t status, PyObject *class)
         if (one == NULL || PyTuple_SetItem(columns, (Py_ssize_t)at, one) != 0)
             Py_CLEAR(columns);
     }
-    return columns == NULL ? NULL
-                           : Py_BuildValue("IINNN", status, number, columns,
-                                           column_of(class, &on->skipped, 'Q', 8, Py_NewRef(Py_None)), verdicts_of(on));
+    return columns == NULL
+               ? NULL
+               : Py_BuildValue("INNNNNN", status, columns, whole_column(class, &on->starts, 'q', 8),
+                               whole_column(class, &on->skipped, 'Q', 8),
+                               whole_column(class, &on->skipped_starts, 'q', 8),
+                               whole_column(class, &on->reasons, 'B', 1), verdicts_of(on));
 }
 
 /* The form of this letter, or null. */
@@ -513,11 +440,10 @@ static int begin_columns(Gathering *on, PyObject *paths)
 {
     size_t at;
     Letters letters;
-    on->room = malloc(on->size);
     on->paths = calloc(on->count + 1, sizeof *on->paths);
     on->values = calloc(on->count + 1, sizeof *on->values);
     on->columns = calloc(on->count + 1, sizeof *on->columns);
-    if (on->room == NULL || on->paths == NULL || on->values == NULL || on->columns == NULL ||
+    if (on->paths == NULL || on->values == NULL || on->columns == NULL ||
         take_scratch(on->schema, &on->scratch) != 0) {
         PyErr_NoMemory();
         return -1;
@@ -540,36 +466,36 @@ static void end_columns(Gathering *on)
     free(on->columns);
     free(on->values);
     free(on->paths);
-    free(on->room);
     free(on->copy);
+    free(on->starts.bytes);
     free(on->skipped.bytes);
+    free(on->skipped_starts.bytes);
+    free(on->reasons.bytes);
     free(on->bad.bytes);
     free(on->places.bytes);
     give_scratch(on->schema, on->scratch);
 }
 
-/* _columns(pieces, paths, max_bytes, skips, Column): by which status the stream ended and its number, the columns, the
-   numbers of bad messages, and the verdicts on the first ones. */
+/* _columns(messages, paths, skips, Column): by which status the stream ended, the columns, where the messages in them
+   begin, and of the bad ones the numbers, where they begin, the reasons, and the verdicts on the first ones. */
 PyObject *schema_columns(Schema *self, PyObject *words)
 {
     Gathering on = { .schema = self };
-    PyObject *pieces, *paths, *class, *told = NULL;
-    Py_ssize_t size;
-    if (!PyArg_ParseTuple(words, "OO!npO", &pieces, &PyTuple_Type, &paths, &size, &on.skips, &class))
+    PyObject *paths, *class, *told = NULL;
+    if (!PyArg_ParseTuple(words, "OO!pO", &on.from, &PyTuple_Type, &paths, &on.skips, &class) ||
+        begin_turn(on.from) != 0)
         return NULL;
-    on.size = (size_t)size;
     on.count = (size_t)PyTuple_Size(paths);
     if (begin_columns(&on, paths) == 0) {
-        uint32_t status = gather_all(&on, pieces);
+        uint32_t status = gather_all(&on);
         if (PyErr_Occurred())
             told = NULL;
-        else if (status == FBCHECK_BAD)
-            told = raised_at(&on);
-        else if (status == FBCHECK_MORE || status == FBCHECK_OVERSIZE)
+        else if (status == FBCHECK_BAD || status == FBCHECK_MORE || on.from->framer.failed)
             told = told_of(&on, status, class);
         else
             told = refused(self, status);
     }
+    on.from->is_taken = 0;
     end_columns(&on);
     return told;
 }

@@ -43,6 +43,21 @@ static PyObject *numbered(PyObject *class, PyObject *name, uint64_t number)
     return made;
 }
 
+/* The value of a union by its number in the schema file: the same each time, for one type. */
+static PyObject *union_of(Schema *self, uint32_t owner, uint64_t type)
+{
+    PyObject *key = PyLong_FromUnsignedLongLong(((uint64_t)owner << 8) + type);
+    PyObject *made = key != NULL ? PyDict_GetItemWithError(self->unions, key) : NULL;
+    Py_XINCREF(made);
+    if (made == NULL && !PyErr_Occurred()) {
+        made = PyObject_CallFunction(self->a_union, "OIK", self, owner, (unsigned long long)type);
+        if (made != NULL && PyDict_SetItem(self->unions, key, made) != 0)
+            Py_CLEAR(made);
+    }
+    Py_XDECREF(key);
+    return made;
+}
+
 /* What a method of a view answers, which takes the place of the view; a view that is null stays so. */
 static PyObject *instead(PyObject *view, const char *method, const char *letter)
 {
@@ -94,10 +109,21 @@ PyObject *value_of(Schema *self, PyObject *message, const char *bytes, const fbc
     case FBCHECK_TABLE:
         return Py_NewRef(self->table);
     case FBCHECK_UNION:
-        return numbered(self->a_union, self->type, value->number);
+        return union_of(self, NO_UNION, value->number);
     default:
         return value->at == 0 ? numbered(self->vector, self->count, value->number) : part_of(message, value, letter);
     }
+}
+
+/* The same at the end of a path with these letters, which know a union. */
+static PyObject *at_end(Schema *self, PyObject *message, const char *bytes, const fbcheck_value *value,
+                        const Letters *letters)
+{
+    uint32_t owner;
+    if (value->kind != FBCHECK_UNION)
+        return value_of(self, message, bytes, value, letters->element);
+    memcpy(&owner, letters->owner, sizeof owner);
+    return union_of(self, owner, value->number);
 }
 
 /* What a path with [*] has, while it is the path to the vector; else 0. */
@@ -120,11 +146,40 @@ typedef struct {
 /* How many elements are read by one call. */
 #define BLOCK 32
 
+/* The texts of elements: each is made once, though many elements may lead to it. */
+typedef struct {
+    PyObject *known; /* a dict of them by their places, or null while there is none */
+    uint64_t left;   /* how many bytes more they may have, or else they overlap, and could fill any memory */
+} Texts;
+
+/* The text at a place, which was made before, or is made. */
+static PyObject *text_once(Schema *self, Texts *texts, const char *bytes, const fbcheck_value *value)
+{
+    PyObject *place = PyLong_FromUnsignedLongLong(value->at), *text = NULL;
+    if (texts->known == NULL)
+        texts->known = PyDict_New();
+    if (place != NULL && texts->known != NULL)
+        text = Py_XNewRef(PyDict_GetItemWithError(texts->known, place));
+    if (text == NULL && !PyErr_Occurred()) {
+        if (value->size > texts->left) {
+            PyErr_SetString(self->overlap, "texts of the message overlap, and are longer than the message");
+        } else {
+            texts->left -= value->size;
+            text = value_of(self, NULL, bytes, value, 0);
+            if (text != NULL && PyDict_SetItem(texts->known, place, text) != 0)
+                Py_CLEAR(text);
+        }
+    }
+    Py_XDECREF(place);
+    return text;
+}
+
 /* The value of each element to which a path with [*] leads, in a list. */
 static PyObject *elements_of(Schema *self, PyObject *message, const char *bytes, size_t length,
-                             const fbcheck_path *path, char letter)
+                             const fbcheck_path *path, const Letters *letters)
 {
     fbcheck_value values[BLOCK];
+    Texts texts = { NULL, length };
     size_t first = 0, count = 0, at;
     PyObject *told = NULL;
     do {
@@ -136,16 +191,18 @@ static PyObject *elements_of(Schema *self, PyObject *message, const char *bytes,
             told = PyList_New((Py_ssize_t)count);
         }
         if (told != NULL && (status != FBCHECK_OK || elements != count)) {
-            Py_DECREF(told);
-            return refused(self, status != FBCHECK_OK ? status : FBCHECK_CHANGED);
+            Py_CLEAR(told);
+            refused(self, status != FBCHECK_OK ? status : FBCHECK_CHANGED);
         }
         for (at = 0; told != NULL && at < BLOCK && first + at < count; at++) {
-            PyObject *one = value_of(self, message, bytes, values + at, letter);
+            PyObject *one = values[at].kind == FBCHECK_TEXT ? text_once(self, &texts, bytes, values + at)
+                                                            : at_end(self, message, bytes, values + at, letters);
             if (one == NULL || PyList_SetItem(told, (Py_ssize_t)(first + at), one) != 0)
                 Py_CLEAR(told);
         }
         first += BLOCK;
     } while (told != NULL && first < count);
+    Py_XDECREF(texts.known);
     return told;
 }
 
@@ -156,10 +213,10 @@ static PyObject *value_at(Schema *self, PyObject *message, const char *bytes, si
     const Whole *whole = read->wholes + at;
     fbcheck_path *path = read->paths + at;
     if (whole->each == 0)
-        return value_of(self, message, bytes, read->values + at, read->letters[at].element);
+        return at_end(self, message, bytes, read->values + at, read->letters + at);
     path->count = whole->count;
     path->each = whole->each;
-    return elements_of(self, message, bytes, length, path, read->letters[at].element);
+    return elements_of(self, message, bytes, length, path, read->letters + at);
 }
 
 /* The values that were read: one, or a tuple of several. */

@@ -30,6 +30,9 @@ first, second = schema.read(b"", "name", schema.path("hp"))
 match value:
     case str():
         value.encode()
+    case fbcheck.Union(number, member):
+        number.bit_length()
+        member.upper()  # error
     case fbcheck.Vector(count):
         count.bit_length()
 
@@ -59,6 +62,29 @@ for column in columns:
         column.valid.tolist()
     column.valid.tolist()  # error
 columns.skipped.data.tolist()
+columns["name"].mask().tolist()
+columns[0].valid
+columns[1:][0].mask()
+columns["name", "hp"]  # error
+columns.paths[0].upper()
+columns.starts.data[0] + columns.skipped_starts.data[0]
+fbcheck.Reason(columns.reasons.data[0]).name
+going = schema.messages(b"")
+schema.columns(going, ("name",))
+next(going)[1].hint
+for message, verdict in going:
+    message.hex()
+typed: fbcheck.Messages[tuple[bytes, fbcheck.Verdict]] = going
+wrong: fbcheck.Messages[tuple[bytes, fbcheck.Verdict]] = schema.messages(b"", views=True)  # error
+try:
+    schema.columns(b"", ("name",))
+except fbcheck.BadBuffer as fault:
+    fault.start
+    fault.columns["name"]  # error
+except fbcheck.Truncated as end:
+    end.size + 1  # error
+    end.start + end.number + end.held
+    end.hint.upper()
 columns.verdicts[0].place
 schema.columns(b"", ["name"], bad="drop")  # error
 schema.columns("my.bin", ["name"])  # error
@@ -75,12 +101,20 @@ async def later(reader: asyncio.StreamReader) -> None:
     for message, verdict in schema.messages(reader):  # error
         message.hex()
     schema.columns(reader, ("name",))  # error
+    later: fbcheck.AsyncMessages[tuple[bytes, fbcheck.Verdict]] = schema.messages(reader)
+    schema.columns(later, ("name",))  # error
+    (await anext(later))[1].hint
 
 view = schema.view(bytearray())
 read: fbcheck.Value = view["name"]
 one, two = view.read("name", schema.path("hp"))
 view[5]  # error
 view["name"] = 5  # error
+view["name"]["part"]  # error
+fbcheck.Table()["part"]  # error
+given: fbcheck.Value | bytes = view.get("name", b"")
+view.get("name", b"").hex()  # error
+view.get("name").upper()  # error
 view.read()  # error
 view.verdict.tables + 1
 view.schema.options.strict
@@ -102,5 +136,5 @@ for message, verdict in schema.messages(b"", views=True):  # error
 schema.messages(b"", views=True, paths=("name",))  # error
 try:
     view.to_dict()
-except (fbcheck.Changed, fbcheck.Overlap) as fault:
-    fault.args
+except (fbcheck.Changed, fbcheck.Overlap) as other_fault:
+    other_fault.args

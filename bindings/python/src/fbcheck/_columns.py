@@ -4,7 +4,7 @@ from __future__ import annotations
 
 import itertools
 from collections.abc import Iterator, Sequence
-from typing import TYPE_CHECKING, Any, TypeAlias
+from typing import TYPE_CHECKING, Any, SupportsIndex, TypeAlias, overload
 
 from fbcheck import _fbcheck
 
@@ -25,6 +25,12 @@ def _missing(valid: memoryview | None) -> int:
     return 0 if valid is None else bytes(valid).count(0)
 
 
+def _mask(valid: memoryview | None, count: int) -> memoryview:
+    """What tells which of so many values are missing."""
+    missing = bytes(count) if valid is None else bytes(valid).translate(b"\1" + bytes(255))
+    return memoryview(missing).cast("?")
+
+
 def _column(format: str, numbers: bytes, valid: bytes | None) -> Column:
     return Column(format, numbers, _bools(valid))
 
@@ -41,6 +47,10 @@ class Column(_fbcheck.Column, Sequence[_Number]):
     """
 
     __slots__ = ()
+
+    def mask(self) -> memoryview:
+        """A memoryview of Bools, as many as there are values: which of them are missing, as numpy.ma has it."""
+        return _mask(self.valid, len(self))
 
     def __getitem__(self, index: Any) -> Any:
         if isinstance(index, slice):
@@ -84,6 +94,10 @@ class Slices(Sequence[_Slice]):
     def __len__(self) -> int:
         return len(self.offsets) - 1
 
+    def mask(self) -> memoryview:
+        """A memoryview of Bools, as many as there are values: which of them are missing, as numpy.ma has it."""
+        return _mask(self.valid, len(self))
+
     def __getitem__(self, index: Any) -> Any:
         places = range(len(self))[index]
         if isinstance(places, range):
@@ -112,21 +126,46 @@ class Slices(Sequence[_Slice]):
 
 
 class Columns(tuple["Column | Slices", ...]):
-    """The columns of a stream, one for each path, in their order: each has a value for each ok message.
+    """The columns of a stream, one for each path, in their order: each has a value for each ok message. columns[path]
+    is the first one of this path.
 
-    skipped   a Column with the numbers of the bad messages that were left out; the stream's first message is 1
-    verdicts  the verdicts on the first thousand of these
+    paths           the paths, as texts
+    starts          a Column that tells where in the stream each ok message begins, with its size in front
+    skipped         a Column with the numbers of the bad messages that were left out; the stream's first message is 1
+    skipped_starts  a Column that tells where in the stream these begin
+    reasons         a Column that tells why they are bad: numbers of Reason
+    verdicts        the verdicts on the first thousand of them
     """
 
+    paths: tuple[str, ...]
+    starts: Column
     skipped: Column
+    skipped_starts: Column
+    reasons: Column
     verdicts: tuple[Verdict, ...]
+
+    @overload
+    def __getitem__(self, index: SupportsIndex | str) -> Column | Slices: ...
+    @overload
+    def __getitem__(self, index: slice) -> tuple[Column | Slices, ...]: ...
+    def __getitem__(self, index: SupportsIndex | str | slice) -> Any:
+        if not isinstance(index, str):
+            return super().__getitem__(index)
+        if index in self.paths:
+            return super().__getitem__(self.paths.index(index))
+        raise KeyError(f"no column {index!r}; columns: {' '.join(self.paths)}")
+
+    def __repr__(self) -> str:
+        named = ", ".join(self.paths) or "no path"
+        return f"<{type(self).__name__} of {len(self.starts)} messages: {named}; {len(self.skipped)} skipped>"
 
 
 def columns_of(
-    parts: tuple[Column | tuple[str, memoryview, memoryview, memoryview | None], ...], skipped: Column,
-    verdicts: tuple[Verdict, ...],
+    paths: tuple[str, ...], parts: tuple[Column | tuple[str, memoryview, memoryview, memoryview | None], ...],
+    starts: Column, skipped: Column, skipped_starts: Column, reasons: Column, verdicts: tuple[Verdict, ...],
 ) -> Columns:
     """The columns of what the extension made."""
     made = Columns(part if isinstance(part, Column) else Slices(*part) for part in parts)
-    made.skipped, made.verdicts = skipped, verdicts
+    made.paths, made.starts, made.skipped, made.skipped_starts = paths, starts, skipped, skipped_starts
+    made.reasons, made.verdicts = reasons, verdicts
     return made

@@ -7,9 +7,10 @@ from __future__ import annotations
 
 import re
 import struct
+from typing import Final
 
 from fbcheck import _codes
-from fbcheck._rows import ARRAY, LETTERS, OBJECT, TEXT, VECTOR, Row, schema_of
+from fbcheck._rows import ARRAY, LETTERS, OBJECT, TEXT, UNION, VECTOR, Row, schema_of
 
 
 def _field(fields: list[Row], name: bytes) -> Row:
@@ -28,8 +29,19 @@ def _letters(base: int, element: int, is_struct: bool) -> str:
     return "B" + ("r" if base == OBJECT and is_struct else "s" if base == TEXT else LETTERS.get(base, "-"))
 
 
-def letters_of(file: bytes, root: str | None, path: str, steps: bytes) -> str:
-    """The letters for what a path leads to.
+NO_UNION: Final = 2**32 - 1
+
+
+def member_of(file: bytes, number: int, value: int) -> str | None:
+    """The name of the member of a union that has this value, if there is one."""
+    unions = schema_of(file).rows(1)
+    members = unions[number].rows(1) if number < len(unions) else []
+    names = (member.text(0) for member in members if member.number(1, "q") == value)
+    return next((name.decode("utf-8", "surrogateescape") for name in names), None)
+
+
+def letters_of(file: bytes, root: str | None, path: str, steps: bytes) -> bytes:
+    """The letters for what a path leads to, with the number of the union behind them, if it is one.
 
     `steps` are the library's: what they have that `path` hasn't is the value of each union's member.
     """
@@ -49,7 +61,7 @@ def letters_of(file: bytes, root: str | None, path: str, steps: bytes) -> str:
         else:
             row = _field(objects[index].rows(1), word.encode()).row(1)
         if row is None:
-            return "B-"
+            return struct.pack("<2sI", b"B-", NO_UNION)
         base, element, index = row.number(0, "b"), row.number(1, "b"), row.number(2, "i", -1)
     is_struct = OBJECT in (base, element) and bool(objects[index].number(2, "B"))
-    return _letters(base, element, is_struct)
+    return struct.pack("<2sI", _letters(base, element, is_struct).encode(), index if base == UNION else NO_UNION)
