@@ -69,7 +69,7 @@ def faults():
     reference = (TOP / "docs/REFERENCE.md").read_text()
     texts = re.findall(r"^- `([^`]+)`", reference.split("## Errors")[1].split("\n## ")[0], re.M)
     paths = re.findall(r"^- `(P[1-6] [^`]+)`", reference, re.M)
-    return [text for text in texts if text != "path: .."] + [f"path: {text}" for text in paths]
+    return [text for text in texts if text != "path: TEXT"] + [f"path: {text}" for text in paths]
 
 
 def codes():
