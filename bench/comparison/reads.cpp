@@ -4,8 +4,8 @@
 //
 //   reads DELIVERIES.bfbs DELIVERY NAMES.bfbs NAMES
 //
-// Of a delivery these are a number, a text one table further on, and a vector's count; of a thousand names the last, and
-// then all: by fbcheck_read_each, 16 at a time, and by a path for each, all of them in one call.
+// Of a delivery these are a number, a text one table further on, and a vector's count; of a thousand names the last,
+// and then all: by fbcheck_read_each, 16 at a time, and by a path for each, all of them in one call.
 
 #include <fbcheck.hpp>
 

@@ -1,7 +1,7 @@
 /*
  * Makes a schema with demands and a scratch, and resolves two paths, where a request for memory may be refused
- * (tests/memory/refuse.c), has a fault told in words, and asks the heap for nothing itself: starved SCHEMA.bfbs GOOD BAD
- * PATH PATH_WITH_STAR, of two buffers with their size in front.
+ * (tests/memory/refuse.c), has a fault told in words, and asks the heap for nothing itself: starved SCHEMA.bfbs GOOD
+ * BAD PATH PATH_WITH_STAR, of two buffers with their size in front.
  *
  * Ends with 0 where all was done, and with 11 to 13 where one of the first three told the want of memory, by which. What
  * it should have written is as it was then, nothing else is disturbed, and the next time, when nothing is refused, it
