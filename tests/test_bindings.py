@@ -90,6 +90,7 @@ class Binding:
     quoted = ' ("{}")'  # what was asked for, behind the text of an error
     names_files = False  # whether a schema file is loaded by its name, which an error tells too
     names_first = False  # before what it tells of the file's bytes
+    refused = ["items[*]"]  # texts of paths that the library alone takes
     damaged = NO_SCHEMA  # what is behind the text of a schema file's error, though it has the right identifier
     in_stream = {}  # what is behind the text of a stream's error
     briefly = ()  # the driver's words, behind the first, by which a short run costs less
@@ -330,7 +331,8 @@ class Binding:
             self.same(f"{path.name}", got, f"error {want}")
         first = file_of("first", messages_of(POST)[0])
         deep, none = ".".join(["next"] * 32), file_of("no_bytes", b"")
-        texts = ["to..x", "to.nobody", "to[0]", "items@Parcel", "first@Nobody", "to.name.x", "items[4294967296]"]
+        texts = ["to..x", "to.nobody", "to[0]", "items@Parcel", "first@Nobody", "to.name.x", "items[4294967296]",
+                 *self.refused]
         torn = file_of("torn", messages_of(POST)[4])
         commands = [f"load {ORDERS} prefixed=1", *[f"read {first} {text}" for text in texts], f"read {torn} to.name",
                     f"misfit root=post.Parcel tags[0] {first}", f"load {FILES['CHAIN']}", f"read {none} {deep}"]
@@ -498,7 +500,7 @@ fn main() -> Result<(), Box<dyn std::error::Error>> {
 
 class Node(Binding, LibraryCase):
     language, folder, fence = "Node", "node", "js"
-    quoted, names_files, names_first = " ('{}')", True, True
+    quoted, names_files, names_first, refused = " ('{}')", True, True, []
     damaged = "; this binary schema is damaged"
     driver = ["node", DRIVERS / "driver.js"]
 

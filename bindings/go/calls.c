@@ -80,7 +80,14 @@ located check_message(const checker *checker, const uint8_t *message, size_t len
 fbcheck_verdict resolve_path(const checker *checker, const uint8_t *text, size_t length, fbcheck_path *path)
 {
 	fbcheck_verdict verdict;
-	fbcheck_resolve(schema_of(checker), &checker->options, (const char *)text, length, path, &verdict);
+	uint32_t status = fbcheck_resolve(schema_of(checker), &checker->options, (const char *)text, length, path, &verdict);
+	if (status == FBCHECK_OK && path->each != 0) {
+		/* A text with [*] is a path to several elements for the library, which has no value of its own here. */
+		verdict.status = FBCHECK_BAD_PATH;
+		verdict.reason = FBCHECK_BAD_TEXT;
+		while (verdict.at < length && text[verdict.at] != '*')
+			verdict.at++;
+	}
 	return verdict;
 }
 

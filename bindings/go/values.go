@@ -102,7 +102,7 @@ func (s *Schema) lend(values []Value, paths []Path) (*reading, error) {
 
 // lend copies the steps of a path; a call looks at no more than there are.
 func lend(to, from *C.fbcheck_path) {
-	to.count, to.reserved = from.count, from.reserved
+	to.count, to.each = from.count, from.each
 	for i := range from.steps[:from.count] {
 		to.steps[i] = from.steps[i]
 	}

@@ -415,31 +415,29 @@ static napi_value read_again(napi_env env, napi_callback_info info)
     return number(env, tell(of.checker->thread->told, &verdict));
 }
 
-/* each(schema, message, path, step, first, values): for a message that was ok, fills in what the path leads to from as
-   many elements as there is room for, beginning with this one; this step of the path names the element. Gives the
-   status. */
+/* each(schema, message, path, first, values): for a message that was ok, fills in what the path with [*] leads to from as
+   many elements as there is room for, beginning with this one. Gives the status. */
 static napi_value read_each(napi_env env, napi_callback_info info)
 {
-    napi_value words[6];
-    struct checker *checker = checker_of(env, info, words, 6);
+    napi_value words[5];
+    struct checker *checker = checker_of(env, info, words, 5);
     fbcheck_path path;
     uint8_t *message, *bytes, *room;
-    size_t length, path_length, room_length;
-    uint32_t step = 0, first = 0, status = FBCHECK_OK;
+    size_t length, path_length, room_length, elements = 0;
+    uint32_t first = 0;
     if (checker == NULL || !bytes_of(env, words[1], &message, &length) ||
-        !bytes_of(env, words[2], &bytes, &path_length) || !bytes_of(env, words[5], &room, &room_length))
+        !bytes_of(env, words[2], &bytes, &path_length) || !bytes_of(env, words[4], &room, &room_length))
         return NULL;
-    napi_get_value_uint32(env, words[3], &step);
-    napi_get_value_uint32(env, words[4], &first);
-    if (path_length != sizeof path || step >= FBCHECK_STEPS || (uintptr_t)room % 8 != 0)
+    napi_get_value_uint32(env, words[3], &first);
+    if (path_length != sizeof path || (uintptr_t)room % 8 != 0)
         return failed(env, NULL, "there is no room for the values");
     memcpy(&path, bytes, sizeof path);
     fbcheck_value *values = (fbcheck_value *)(void *)room;
-    for (size_t at = 0; at < room_length / sizeof *values && status == FBCHECK_OK; at++) {
-        path.steps[step].number = first + (uint32_t)at;
-        status = fbcheck_read_again(checker->rows->schema, &checker->options, message, length, &path, values + at, 1,
-                                    NULL);
-    }
+    size_t count = room_length / sizeof *values;
+    uint32_t status = fbcheck_read_each(checker->rows->schema, &checker->options, message, length, &path, first, values,
+                                        count, &elements, NULL);
+    if (status == FBCHECK_OK && elements < first + count)
+        status = FBCHECK_CHANGED; /* the message had as many when they were counted */
     return number(env, status);
 }
 

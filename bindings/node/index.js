@@ -222,7 +222,7 @@ class Path {
   #bytes;
   #each;
 
-  /** With [*], the bytes are those of the path up to it, and each has those of all with the place of [*] in them. */
+  /** With [*], the bytes are those of the path up to it, and each has those of all of it. */
   constructor(text, origin, bytes, each) {
     this.text = text;
     this.#origin = origin;
@@ -312,7 +312,7 @@ const ELEMENTS = 1024;
  * What a path leads to from each of so many elements. A text to which several lead is made once, and texts that are
  * longer than the message together are refused: so the array stays in proportion to the message.
  */
-function elements(schema, message, count, { bytes, step }) {
+function elements(schema, message, count, bytes) {
   if (count > message.length) throw errorOf(CHANGED);
   const values = [];
   const texts = new Map();
@@ -329,7 +329,7 @@ function elements(schema, message, count, { bytes, step }) {
   };
   for (let first = 0; first < count; first += ELEMENTS) {
     const room = words.subarray(0, VALUE_WORDS * Math.min(count - first, ELEMENTS));
-    const status = native.each(schema, message, bytes, step, first, new Uint8Array(room.buffer, 0, room.byteLength));
+    const status = native.each(schema, message, bytes, first, new Uint8Array(room.buffer, 0, room.byteLength));
     if (status !== OK) throw errorOf(status);
     for (let at = 0; at < room.length; at += VALUE_WORDS) {
       values.push(KINDS[room[at + KIND]] === 'text' ? text(at) : valueAt(message, room, at));
@@ -511,9 +511,9 @@ class Schema {
     if (typeof text !== 'string') throw new TypeError('a path is a string, or what path() gives');
     const star = text.indexOf('[*]');
     if (star < 0) return new Path(text, this.#origin, resolved(this.#schema, text, text));
-    const bytes = resolved(this.#schema, text, text.replace('[*]', '[0]'));
+    const bytes = resolved(this.#schema, text, text);
     const front = resolved(this.#schema, text, text.slice(0, star));
-    return new Path(text, this.#origin, front, { bytes, step: front.readUInt32LE(PATH.count[0]) });
+    return new Path(text, this.#origin, front, bytes);
   }
 
   read(message, ...paths) {

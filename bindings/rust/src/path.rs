@@ -55,7 +55,7 @@ impl Path {
         // SAFETY: all places are in the paths, which have as many steps; no reference is made to one that isn't set.
         unsafe {
             addr_of_mut!((*to).count).write(self.steps.count);
-            addr_of_mut!((*to).reserved).write(self.steps.reserved);
+            addr_of_mut!((*to).each).write(self.steps.each);
             let steps = addr_of_mut!((*to).steps).cast::<calls::Step>();
             steps.copy_from_nonoverlapping(from, SHORT); // by no call
             if count > SHORT {
