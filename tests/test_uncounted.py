@@ -25,6 +25,7 @@ KNOWN = {
     ("fbcheck_texts/unsupported.rt", "Meter::new("): 1,  # a schema file, which `verify` takes, for its field's name
     ("fbcheck_calls/checking.rt", "Meter::new("): 1,  # a call's buffer, which a walk is lent or `verify` takes
     ("fbcheck_calls/again.rt", "seal("): 1,  # a buffer in which values are read again, each position tested, uncounted
+    ("fbcheck_calls/each.rt", "seal("): 1,  # the same for elements
     ("fbcheck_calls/framer.rt", "Meter::new("): 1,  # a message's prefix
     ("fbcheck_calls/framer.rt", "seal("): 1,
     ("fbcheck_calls/handle.rt", "mem::"): 1,  # a handle, which holds no buffer
