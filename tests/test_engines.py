@@ -276,7 +276,7 @@ class OnDask(LibraryCase):
             for path in (first, last):
                 path.unlink()
             first.write_bytes(whole[:7])
-            for name, path, text in [("a file that ends early", folder, "part-0: the stream ends inside a message"),
+            for name, path, text in [("a file that ends early", folder, "part-0: the stream ends inside message 1"),
                                      ("no stream", FOLDER / "nowhere", "nowhere")]:
                 ran = subprocess.run([*script, "--scheduler", address, BY_POST, path], env=environment,
                                      capture_output=True, text=True, timeout=PATIENCE)
