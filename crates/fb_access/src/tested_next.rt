@@ -263,6 +263,7 @@ fn next_spot(
 /// # Errors
 ///
 /// `Changed` where this is no spot of a good buffer.
+#[inline(always)]
 pub fn step_from(
     window: &Window<'_>,
     schema: &Schema<'_>,

@@ -111,6 +111,7 @@ fn vector_at<'b>(window: &Window<'b>, at: u64, size: u32) -> Result<Seen<'b>, Ch
 /// # Errors
 ///
 /// `Changed` where this is no spot of a good buffer.
+#[inline(always)]
 #[tactic(auto, unfolding(crate::specs::Denotes::value, crate::specs::Extents::extent, crate::specs::Tested::IsTested, crate::specs::Held::IsSpot))]
 pub fn see<'b>(window: &Window<'b>, schema: &Schema<'_>, spot: Spot) -> Result<Seen<'b>, Changed>
     requires short { length window.now < 2 ^ 31 }

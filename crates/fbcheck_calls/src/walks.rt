@@ -16,6 +16,7 @@ use fb_schema::Schema;
 /// # Errors
 ///
 /// `Changed` where this is no spot of a good buffer.
+#[inline(always)]
 pub fn walk(
     window: &Window<'_>,
     schema: &Schema<'_>,
@@ -45,6 +46,7 @@ pub fn walk(
 /// # Errors
 ///
 /// `Changed` where this is no spot of a good buffer.
+#[inline(always)]
 pub fn tell(window: &Window<'_>, schema: &Schema<'_>, spot: Spot) -> Result<Value, Changed>
     requires short { length window.now < 2 ^ 31 }
     requires tested { IsTested window.now schema.now spot }
