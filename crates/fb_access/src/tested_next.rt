@@ -238,6 +238,7 @@ fn spot_of_member(
 
 /// The spot to which a step leads from this one, none where it has no such step.
 #[tactic(auto, unfolding(crate::specs::Denotes::next_spot))]
+#[inline(always)]
 fn next_spot(
     window: &Window<'_>,
     schema: &Schema<'_>,
