@@ -1,22 +1,17 @@
--- Vectors have no more elements than there is room for, what has bytes of its own lies in the buffer, and numbers fit
--- their scalars.
-use Rattle.std.proofs.Common.{◌≡◌, ℕ, ℤ, ◌+◌, ◌*◌, ◌≤◌, ◌<◌, ◌^◌, ◌%◌, List, length, arith, w64, Option, IfSome}
+-- Vectors have no more elements than there is room for, and numbers fit their scalars.
+use Rattle.std.proofs.Common.{◌≡◌, ℕ, ℤ, ◌*◌, ◌≤◌, ◌<◌, ◌^◌, ◌%◌, List, length, arith, w64}
 use Rattle.std.specs.Int.{cast_unsigned}
 use Rattle.std.proofs.Math.Facts.{sfits_to_z}
 use Rattle.fb_schema.specs.declared.kinds.Scalar.{Scalar, TheVariants.Float, TheVariants.Double}
 use Rattle.fb_schema.specs.Kinds.{scalar_size}
 use Rattle.fb_schema.specs.declared.kinds.Kind.TheVariants.{Tables}
 use Rattle.fb_schema.specs.Rows.{Rows}
-use Rattle.fb_access.specs.declared.{spot.Spot.Spot, extent.Extent.Extent, answer.Answer.Answer}
-use Rattle.fb_access.specs.{Extents.extent, Denotes.vector, Denotes.value, Denotes.number, Denotes.default_value, Denotes.shown, Held.IsSpot, Here.IsHere, Here.FitsScalar}
+use Rattle.fb_access.specs.declared.{spot.Spot.Spot, answer.Answer.Answer}
+use Rattle.fb_access.specs.{Denotes.vector, Denotes.value, Denotes.number, Denotes.default_value, Denotes.shown, Held.IsSpot, Here.IsHere, Here.FitsScalar}
 
 pub tables_fit : (b : List ℕ) (S : Rows) (p : Spot) (k n : ℕ) → IsSpot b S p → IsHere p (Tables k) → vector n ≡ value b S p → 4 * n ≤ length b
 unfolding IsSpot value
 tables_fit b S p k n spot here v = grind arith
-
-pub extent_within : (b : List ℕ) (S : Rows) (p : Spot) (o : Option Extent) → IsSpot b S p → o ≡ extent b S p → IfSome o (λ e. e.at + e.size ≤ length b)
-unfolding IsSpot extent
-extent_within b S p o spot e = grind arith
 
 pub number_fits : (s : Scalar) (n : ℕ) (a : Answer) → n < 256 ^ scalar_size s → shown a ≡ number s n → FitsScalar s a
 unfolding number

@@ -6,7 +6,7 @@ use Rattle.fb_rules.specs.declared.start.Start.{Start}
 use Rattle.fb_verify.specs.Sealed.{Sealed, IsUnfolded}
 use Rattle.fb_access.specs.declared.{spot.Spot.Spot, tested_value.Seen.Seen}
 use Rattle.fb_access.specs.declared.spot.Spot.TheVariants.{AtTable, AtInline, AtStruct, AtText, AtScalars, AtStructs, AtScalarArray, AtStructArray, AtTexts, AtTables, AtUnions, AtUnion}
-use Rattle.fb_access.specs.{Denotes.shown, Denotes.value, Extents.extent, Held.IsStructAt, Held.AreStructsFrom}
+use Rattle.fb_access.specs.{Denotes.shown, Denotes.value, Extents.extent, Held.IsStructAt, Held.AreStructsFrom, Here.IsNarrow}
 
 -- of a table its first four bytes; of a value in place, and of an array of these, all its bytes; of a string or a vector
 -- its count, of a vector of unions also where the types begin; and what is named of the schema is there
@@ -29,9 +29,10 @@ IsTested b S _ = Unit {0}
 abbrev pub IsLedTo : List ℕ → Rows → Option Spot → Option Spot → Type 0
 IsLedTo b S led o = (o ≡ led) × IfSome o (IsTested b S)
 
--- what is seen at a spot is its value, and its bytes lie in these
+-- what is seen at a spot is its value, as wide as its scalar, and its bytes lie in these
 pub record IsSeen (b : List ℕ) (S : Rows) (q : Spot) (seen : Seen) : Type 0 where
   pub shows : shown seen.answer ≡ value b S q
+  pub narrow : IsNarrow q seen.answer
   pub stands : seen.extent ≡ extent b S q
   pub within : IfSome seen.extent (λ e. e.at + e.size ≤ length b)
 

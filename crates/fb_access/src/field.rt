@@ -1,4 +1,4 @@
-// Where a field of a verified table leads.
+// A field of a table by its number, and where a known one leads in a verified buffer.
 
 ghost use Rattle.std.specs.Prelude.{◌≡◌, ◌+◌, ◌-◌, ◌*◌, ◌^◌, ◌<◌, ◌≤◌, length, IfSome, IsTrue, Some, None, ℕ, option_map};
 ghost use Rattle.fb_bytes.specs.Word.{word};
@@ -140,19 +140,6 @@ fn present(window: &Window<'_>, at: u64, slot: u16, place: u64, kind: Kind) -> S
             let types = types_at(window, type_place(window, at, slot));
             Spot::AtUnions(union, types, target_of(window, place))
         }
-    }
-}
-
-/// Where a field of the table at a position leads.
-pub fn spot_of(window: &Window<'_>, at: u64, field: &FieldView<'_>) -> Spot
-    requires short { length window.now < 2 ^ 31 }
-    requires table { HasVtable window.now at }
-    requires readable { IfSome (field_place window.now at (field.now).slot) (λ p. IsReadable window.now at (field.now).slot p (field.now).kind) }
-    ensures { result ≡ field_spot window.now at (live_of_view field.now) }
-{
-    match place_of(window, at, field.slot) {
-        None => absent(field.optional, field.default, field.kind),
-        Some(place) => present(window, at, field.slot, place, field.kind),
     }
 }
 

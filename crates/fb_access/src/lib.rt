@@ -11,7 +11,6 @@ mod known;
 mod location;
 pub mod location_laws;
 mod misfit;
-mod next;
 mod path;
 mod path_fault;
 pub mod path_laws;

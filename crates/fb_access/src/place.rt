@@ -6,17 +6,17 @@ ghost use Rattle.fb_rules.specs.WellFormed.{base};
 ghost use Rattle.fb_access.specs.{Fitting.StepsFit, Extents.extent};
 ghost use Rattle.fb_access.specs.Denotes.{Leads, allows, next_spot, root_spot, Denotes, value, shown, vector};
 ghost use Rattle.fb_access.specs.Here.{KindsGoOn, HereGoesOn, IsNarrow, IsHere};
-ghost use Rattle.fb_access.specs.{Known.HasKnown, declared.step.Step.TheVariants.Field};
+ghost use Rattle.fb_access.specs.{Known.HasKnown, Held.IsPlaced, Tested.IsSeen, declared.step.Step.TheVariants.Field};
 
 use crate::answer::Answer;
-use crate::extent::{Extent, extent_at};
+use crate::extent::Extent;
 use crate::field::{known_spot, target_of};
 use crate::known::KnownField;
-use crate::next::next_spot;
 use crate::path::Path;
 use crate::spot::Spot;
 use crate::step::Step;
-use crate::value::value_at;
+use crate::tested_next::next_spot;
+use crate::tested_value::{Seen, see};
 use fb_verify::{Start, Verified};
 use std::alloc::Allocator;
 use std::marker::Model;
@@ -63,18 +63,40 @@ pub fn at_root<'v, 'b, 's, 'n>(verified: &'v Verified<'b, 's, 'n>) -> Place<'v, 
 }
 
 impl<'v, 'b, 's, 'n> Place<'v, 'b, 's, 'n> {
+    /// The spot to which a step leads from here, none where what is here has no such step.
+    #[inline(always)]
+    fn next(&self, step: Step) -> Option<Spot>
+        ensures { result ≡ next_spot ((self.now).sealed).bytes ((self.now).sealed).schema (self.now).spot step }
+    {
+        match next_spot(
+            self.verified.window(),
+            self.verified.schema(),
+            self.spot,
+            step,
+        ) {
+            Ok(led) => led,
+            Err(_) => unreachable!(),
+        }
+    }
+
+    /// What is here, and where its bytes stand.
+    #[inline(always)]
+    fn see(&self) -> Seen<'b>
+        ensures seen { IsSeen ((self.now).sealed).bytes ((self.now).sealed).schema (self.now).spot result }
+        ensures placed { IsPlaced self.now }
+    {
+        match see(self.verified.window(), self.verified.schema(), self.spot) {
+            Ok(seen) => seen,
+            Err(_) => unreachable!(),
+        }
+    }
+
     /// Whether what is here has this step: a table its live fields, a vector every element's number, a union the
     /// members of its enum. Where nothing is, every step is allowed.
     pub fn allows(&self, step: Step) -> bool
         ensures { result ≡ allows ((self.now).sealed).schema (self.now).spot step }
     {
-        next_spot(
-            self.verified.window(),
-            self.verified.schema(),
-            self.spot,
-            step,
-        )
-        .is_some()
+        self.next(step).is_some()
     }
 
     /// One step on. An absent field without a default, an element past the count and a member of another type lead to
@@ -90,9 +112,8 @@ impl<'v, 'b, 's, 'n> Place<'v, 'b, 's, 'n> {
         ensures here { HereGoesOn ((self.now).sealed).schema (self.now).spot step result.spot }
     {
         let verified = self.verified;
-        let schema = verified.schema();
-        schema.lawful();
-        match next_spot(verified.window(), schema, self.spot, step) {
+        verified.schema().lawful();
+        match self.next(step) {
             Some(spot) => Place { verified, spot },
             None => unreachable!(),
         }
@@ -127,7 +148,7 @@ impl<'v, 'b, 's, 'n> Place<'v, 'b, 's, 'n> {
         // There are no more tables in a vector than their `uoffset`s have room.
         ensures tables { (k n : ℕ) → IsHere (self.now).spot (Tables k) → shown result ≡ vector n → 4 * n ≤ length ((self.now).sealed).bytes }
     {
-        value_at(self.verified.window(), self.verified.schema(), self.spot)
+        self.see().answer
     }
 
     /// Where the bytes of what is here stand in the buffer: of a float, a string, a struct, and of the elements of a
@@ -136,7 +157,7 @@ impl<'v, 'b, 's, 'n> Place<'v, 'b, 's, 'n> {
         ensures value { result ≡ extent ((self.now).sealed).bytes ((self.now).sealed).schema (self.now).spot }
         ensures within { IfSome result (λ e. e.at + e.size ≤ length ((self.now).sealed).bytes) }
     {
-        extent_at(self.verified.window(), self.verified.schema(), self.spot)
+        self.see().extent
     }
 }
 

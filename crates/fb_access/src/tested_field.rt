@@ -18,6 +18,7 @@ use fb_schema::{FieldView, Kind};
 pub struct Changed;
 
 /// Where the vtable of the table at a position stands.
+#[inline(always)]
 #[tactic(auto, unfolding(fb_rules::specs::Places::has_vtable, fb_rules::specs::Places::vtable))]
 fn vtable_of(window: &Window<'_>, at: u64) -> Result<u64, Changed>
     requires short { length window.now < 2 ^ 31 }
@@ -35,6 +36,7 @@ fn vtable_of(window: &Window<'_>, at: u64) -> Result<u64, Changed>
 }
 
 /// Where the field with this slot stands in the table at a position, none where it is absent.
+#[inline(always)]
 #[tactic(auto, unfolding(fb_rules::specs::Places::field_place))]
 fn place_of(window: &Window<'_>, at: u64, slot: u16) -> Result<Option<u64>, Changed>
     requires short { length window.now < 2 ^ 31 }
@@ -57,6 +59,7 @@ fn place_of(window: &Window<'_>, at: u64, slot: u16) -> Result<Option<u64>, Chan
 }
 
 /// Where the offset word at a position leads.
+#[inline(always)]
 pub fn target_of(window: &Window<'_>, at: u64) -> Result<u64, Changed>
     ensures { MatchResult result (λ q. q ≡ target window.now at) (λ _. at + 4 ≤ length window.now → ⊥) }
 {
@@ -109,6 +112,7 @@ fn types_of(window: &Window<'_>, at: u64, slot: u16) -> Result<u64, Changed>
 }
 
 /// Where a field of the table at a position leads that is present at `place`.
+#[inline(always)]
 #[tactic(auto, unfolding(crate::specs::Spots::present_spot))]
 fn present(window: &Window<'_>, at: u64, slot: u16, place: u64, kind: Kind) -> Result<Spot, Changed>
     requires short { length window.now < 2 ^ 31 }

@@ -4,13 +4,12 @@ ghost use Rattle.std.specs.Prelude.{◌≡◌, ◌↔◌, ◌+◌, ◌*◌, ◌<
 ghost use Rattle.fb_bytes.specs.Word.{word};
 ghost use Rattle.fb_schema.specs.{Kinds.struct_size, Served.MemberHolds};
 ghost use Rattle.fb_rules.specs.{Fields.lead_of, Places.target};
-ghost use Rattle.fb_access.specs.Spots.{if_element, spot_of_field, spot_of_element, spot_of_member, member_spot};
+ghost use Rattle.fb_access.specs.Spots.{if_element, spot_of_field, spot_of_part, spot_of_element, spot_of_member, member_spot};
 ghost use Rattle.fb_access.specs.{Denotes.next_spot, Denotes.root_spot, Held.AreStructsFrom, Held.IsCounted, Held.IsSpot, Held.IsLed};
 ghost use Rattle.fb_access.specs.declared.spot.Spot.TheVariants.{AtUnion};
 ghost use Rattle.fb_access.specs.Tested.{IsLedTo, IsOther, IsTested};
 
 use crate::field::field_numbered;
-use crate::next::spot_of_part;
 use crate::place::base_of;
 use crate::spot::Spot;
 use crate::step::Step;
@@ -87,8 +86,23 @@ fn spot_of_field(
     }
 }
 
+/// The field of a struct that stands at a position, of `n` values if it is an array.
+#[tactic(auto, unfolding(crate::specs::Spots::spot_of_part))]
+fn spot_of_part(at: u64, n: u16, kind: Kind) -> Spot
+    ensures { result ≡ spot_of_part at n kind }
+{
+    match kind {
+        Kind::Scalar(scalar) => Spot::AtInline(scalar, at),
+        Kind::Struct(object) => Spot::AtStruct(object, at),
+        Kind::Scalars(scalar) => Spot::AtScalarArray(scalar, n, at),
+        Kind::Structs(object) => Spot::AtStructArray(object, n, at),
+        _ => Spot::AtAbsent,
+    }
+}
+
 /// Where element `j` stands of the vector at a position, whose elements have this many bytes; none where there are no
 /// more than `j`.
+#[inline(always)]
 fn place_of_element(window: &Window<'_>, at: u64, size: u32, j: u32) -> Option<u64>
     requires short { length window.now < 2 ^ 31 }
     requires within { at + 4 ≤ length window.now }
@@ -102,6 +116,7 @@ fn place_of_element(window: &Window<'_>, at: u64, size: u32, j: u32) -> Option<u
 }
 
 /// Where the offset word leads that is element `j` of the vector at a position; none where there are no more than `j`.
+#[inline(always)]
 fn target_of_element(window: &Window<'_>, at: u64, j: u32) -> Result<Option<u64>, Changed>
     requires short { length window.now < 2 ^ 31 }
     requires within { at + 4 ≤ length window.now }
@@ -138,6 +153,7 @@ fn union_of_element(
 }
 
 /// From a vector or an array to its element `j`.
+#[inline(always)]
 #[tactic(auto, unfolding(crate::specs::Spots::spot_of_element, crate::specs::Tested::IsTested, crate::specs::Held::IsSpot))]
 fn spot_of_element(
     window: &Window<'_>,
@@ -236,10 +252,14 @@ fn spot_of_member(
     }
 }
 
-/// The spot to which a step leads from this one, none where it has no such step.
+/// The spot to which a step leads from one that was tested, none where it has no such step.
+///
+/// # Errors
+///
+/// `Changed` where this is no spot of a good buffer.
 #[tactic(auto, unfolding(crate::specs::Denotes::next_spot))]
 #[inline(always)]
-fn next_spot(
+pub fn next_spot(
     window: &Window<'_>,
     schema: &Schema<'_>,
     spot: Spot,

@@ -24,6 +24,7 @@ pub struct Seen<'b> {
 }
 
 /// How many elements the vector at a position has, all of which lie in the bytes, so many of these each.
+#[inline(always)]
 fn count_of(window: &Window<'_>, at: u64, size: u32) -> Result<u32, Changed>
     requires short { length window.now < 2 ^ 31 }
     requires within { at + 4 ≤ length window.now }
@@ -37,6 +38,7 @@ fn count_of(window: &Window<'_>, at: u64, size: u32) -> Result<u32, Changed>
 }
 
 /// What has no bytes of its own.
+#[inline(always)]
 fn bare<'b>(answer: Answer<'b>) -> Seen<'b>
     ensures shows { shown result.answer ≡ shown answer.entry }
     ensures stands { result.extent ≡ None }
@@ -48,6 +50,7 @@ fn bare<'b>(answer: Answer<'b>) -> Seen<'b>
 }
 
 /// The struct of so many bytes at a position.
+#[inline(always)]
 fn struct_at<'b>(window: &Window<'b>, at: u64, size: u32) -> Seen<'b>
     requires { at + size ≤ length window.now }
     ensures shows { shown result.answer ≡ structure (bytes_at window.now at size) }
@@ -61,6 +64,7 @@ fn struct_at<'b>(window: &Window<'b>, at: u64, size: u32) -> Seen<'b>
 }
 
 /// The array of so many elements at a position, of so many bytes each.
+#[inline(always)]
 fn array_at<'b>(at: u64, n: u16, size: u32) -> Seen<'b>
     ensures shows { shown result.answer ≡ vector n }
     ensures stands { result.extent ≡ Some (bytes_from at (n * size)) }
@@ -75,6 +79,7 @@ fn array_at<'b>(at: u64, n: u16, size: u32) -> Seen<'b>
 }
 
 /// The string at a position.
+#[inline(always)]
 fn text_at<'b>(window: &Window<'b>, at: u64) -> Result<Seen<'b>, Changed>
     requires short { length window.now < 2 ^ 31 }
     requires within { at + 4 ≤ length window.now }
@@ -90,6 +95,7 @@ fn text_at<'b>(window: &Window<'b>, at: u64) -> Result<Seen<'b>, Changed>
 }
 
 /// The vector at a position, whose elements stand in place, with so many bytes each.
+#[inline(always)]
 fn vector_at<'b>(window: &Window<'b>, at: u64, size: u32) -> Result<Seen<'b>, Changed>
     requires short { length window.now < 2 ^ 31 }
     requires within { at + 4 ≤ length window.now }

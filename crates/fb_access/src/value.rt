@@ -1,24 +1,15 @@
-// The value at a spot.
+// The value of a scalar.
 
 ghost use Rattle.std.specs.Prelude.{◌≡◌, ◌+◌, ◌*◌, ◌^◌, ◌%◌, ◌<◌, ◌≤◌, length};
 ghost use Rattle.fb_bytes.specs.Word.{word};
-ghost use Rattle.fb_schema.specs.Kinds.{scalar_size, struct_size};
-ghost use Rattle.fb_access.specs.Denotes.{number, nearest_single, inline_value, default_value, value, shown};
-ghost use Rattle.fb_access.specs.{Held.IsSpot, Here.FitsScalar, Here.IsNarrow};
+ghost use Rattle.fb_schema.specs.Kinds.{scalar_size};
+ghost use Rattle.fb_access.specs.Denotes.{number, nearest_single, inline_value, default_value, shown};
+ghost use Rattle.fb_access.specs.Here.{FitsScalar};
 
 use crate::answer::Answer;
-use crate::spot::Spot;
 use fb_bytes::Window;
-use fb_schema::{Scalar, Schema};
+use fb_schema::Scalar;
 use std::num::{f32_to_bits_with_nan, f64_from_bits_with_nan, nearest_f64_to_f32_with_nan};
-
-/// The bytes of a struct.
-pub fn struct_size(schema: &Schema<'_>, object: u32) -> u64
-    requires { object < length schema.now.objects }
-    ensures { result ≡ struct_size schema.now object }
-{
-    u64::from(schema.object(object).bytesize.unsigned_abs())
-}
 
 /// The answer whose bytes are this number, the lowest first. A float has none.
 #[inline(always)]
@@ -102,33 +93,5 @@ pub fn default_at<'b>(default: i64, scalar: Scalar) -> Answer<'b>
         Scalar::Float => Answer::DefaultFloat(nearest_single(bits)),
         Scalar::Double => Answer::DefaultDouble(bits),
         _ => number_of(scalar, low_bytes(bits, scalar)),
-    }
-}
-
-/// The value at a spot.
-#[inline(always)]
-#[tactic(auto, unfolding(crate::specs::Denotes::value, crate::specs::Held::IsSpot))]
-pub fn value_at<'b>(window: &Window<'b>, schema: &Schema<'_>, spot: Spot) -> Answer<'b>
-    requires short { length window.now < 2 ^ 31 }
-    requires spot { IsSpot window.now schema.now spot }
-    ensures shown { shown result ≡ value window.now schema.now spot }
-    ensures narrow { IsNarrow spot result }
-{
-    match spot {
-        Spot::AtTable(_, _) => Answer::Table,
-        Spot::AtInline(scalar, at) => inline_at(window, at, scalar),
-        Spot::AtStruct(object, at) => Answer::Struct(window.bytes(at, struct_size(schema, object))),
-        Spot::AtText(at) => { Answer::Text(window.bytes(at + 4, u64::from(window.u32_at(at)))) }
-        Spot::AtScalars(_, at)
-        | Spot::AtStructs(_, at)
-        | Spot::AtTexts(at)
-        | Spot::AtTables(_, at)
-        | Spot::AtUnions(_, _, at) => Answer::Vector(window.u32_at(at)),
-        Spot::AtScalarArray(_, n, _) | Spot::AtStructArray(_, n, _) => Answer::Vector(u32::from(n)),
-        Spot::AtUnion(_, value, _) => Answer::Union(value),
-        Spot::AtDefault(scalar, default) => default_at(default, scalar),
-        Spot::AtAbsent => Answer::Absent,
-        Spot::AtNoElement => Answer::NoElement,
-        Spot::AtOtherMember => Answer::OtherMember,
     }
 }

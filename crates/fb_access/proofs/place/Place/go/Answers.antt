@@ -4,25 +4,22 @@ use Rattle.fb_access.proofs.{StepKinds.allowed_leads, StepKinds.kinds_go_on, Sta
 use Rattle.fb_access.proofs.place.Place.go.Goals as goal
 
 pub unreachable-requires : goal.unreachable-requires
-unreachable-requires c =
-    let l = rw (c.window.ensures.value, c.schema-schema.ensures.value, c.in-None.is) at c.next_spot.ensures in
-    allowed_leads _ _ _ _ (rw (← c.self.view_is) at c.requires) (sym l)
+unreachable-requires c = allowed_leads _ _ _ _ c.requires (sym (rw c.in-None.is at c.next.ensures))
 
 pub returns-clause-same : goal.returns-clause-same
 returns-clause-same c = ap (λ (p : Placed). p.sealed) c.self.view_is
 
 pub returns-clause-kinds : goal.returns-clause-kinds
-returns-clause-kinds c =
-    let l = rw (c.window.ensures.value, c.schema-schema.ensures.value, c.in-Some.is) at c.next_spot.ensures in
-    rw (← c.self.view_is) (kinds_go_on _ _ _ _ _ (sym l))
+returns-clause-kinds c = kinds_go_on _ _ _ _ _ (sym (rw c.in-Some.is at c.next.ensures))
 
 pub returns-clause-here : goal.returns-clause-here
 returns-clause-here c =
-    let l = rw (c.window.ensures.value, c.schema-schema.ensures.value, c.in-Some.is) at c.next_spot.ensures in
-    rw (← c.self.view_is) (here_goes_on _ _ _ _ _ (rw c.schema-schema.ensures.value at c.lawful.ensures.served) c.self.invariant.spot (sym l))
+    let l = rw (← c.self.view_is, c.in-Some.is) at c.next.ensures in
+    let served = rw c.schema.ensures.value at c.lawful.ensures.served in
+    rw (← c.self.view_is) (here_goes_on _ _ _ _ _ served c.self.invariant.spot (sym l))
 
 pub invariant_of-result : goal.invariant_of-result
 invariant_of-result c =
-    let l = rw (c.window.ensures.value, c.schema-schema.ensures.value, c.in-Some.is) at c.next_spot.ensures in
-    let served = rw c.schema-schema.ensures.value at c.lawful.ensures.served in
+    let l = rw (← c.self.view_is, c.in-Some.is) at c.next.ensures in
+    let served = rw c.schema.ensures.value at c.lawful.ensures.served in
     record { unfolds = c.self.invariant.unfolds; spot = step_stays _ _ _ _ _ served c.self.invariant.spot (sym l) }
