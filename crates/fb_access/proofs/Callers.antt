@@ -5,27 +5,13 @@ use Rattle.std.proofs.lemmas.Bool.Decides.{nat_tests}
 use Rattle.fb_schema.specs.{Rows.Rows, Live.Live, declared.kinds.Kind.Kind, declared.kinds.Kind.TheVariants.Table}
 use Rattle.fb_access.specs.declared.{step.Step.Step, step.Step.TheVariants.Field, step.Step.TheVariants.Element, spot.Spot.Spot}
 use Rattle.fb_access.specs.declared.spot.Spot.TheVariants.{AtScalars, AtStructs, AtScalarArray, AtStructArray, AtTexts, AtTables, AtUnions, AtNoElement}
-use Rattle.fb_access.specs.{Fitting.numbered, Fitting.element_kind, Fitting.next_kind, Spots.field_spot, Spots.spot_of_element, Here.IsHere, Here.MayBeHere, Here.sure_kind, Here.Shows}
+use Rattle.fb_access.specs.{Fitting.numbered, Fitting.element_kind, Fitting.next_kind, Spots.field_spot, Spots.spot_of_element, Here.IsHere, Here.MayBeHere, Here.Shows}
 use Rattle.fb_access.specs.Denotes.{next_spot, Leads, allows, Reaches, Shown, vector, value}
-use Rattle.fb_access.proofs.{StepKinds.kind_allows, StepKinds.field_kind, Sure.is_sure, Sure.sure_kind_of, Sure.table_here}
+use Rattle.fb_access.proofs.{StepKinds.kind_allows, StepKinds.field_kind, Sure.table_here}
 
 -- what is here allows the steps of its kind
 pub here_allows : (S : Rows) (p : Spot) (s : Step) (kind onward : Kind) → IsHere p kind → next_kind S kind s ≡ Some onward → IsTrue (allows S p s)
 here_allows S p s kind onward h e = kind_allows S p s kind onward (inl h) e
-
-field_fits : (S : Rows) (k n : ℕ) (f : Live) → numbered S k n ≡ Some f → next_kind S (Table k) (Field n) ≡ Some f.kind
-unfolding next_kind
-field_fits S k n f e = grind arith
-
--- a sure step is a step of the kind
-pub sure_fits : (S : Rows) (kind : Kind) (s : Step) (onward : Kind) → sure_kind S kind s ≡ Some onward → next_kind S kind s ≡ Some onward
-sure_fits S kind s onward e =
-    let i = is_sure S kind s onward e in
-    let fits = field_fits S i.object i.number i.field i.found ∙ ap Some (sure_kind_of i.field onward i.sure) in
-    subst (λ x. next_kind S x s ≡ Some onward) (sym i.is_table) (subst (λ x. next_kind S (Table i.object) x ≡ Some onward) (sym i.is_field) fits)
-
-pub sure_allows : (S : Rows) (p : Spot) (s : Step) (kind onward : Kind) → IsHere p kind → sure_kind S kind s ≡ Some onward → IsTrue (allows S p s)
-sure_allows S p s kind onward h e = grind (arith, here_allows, sure_fits)
 
 module _ (b : List ℕ) (S : Rows) where
   -- a field of a table that is here is here, or absent

@@ -1,14 +1,10 @@
 -- What holds at a spot, by what is there.
 use Rattle.std.proofs.Common.{◌≡◌, ℕ, List}
 use Rattle.fb_schema.specs.Rows.{Rows}
-use Rattle.fb_access.specs.declared.{spot.Spot.Spot, spot.Spot.TheVariants.AtTable, spot.Spot.TheVariants.AtStruct}
-use Rattle.fb_access.specs.Held.{IsSpot, IsTableAt, IsStructAt}
+use Rattle.fb_access.specs.declared.{spot.Spot.Spot, spot.Spot.TheVariants.AtTable}
+use Rattle.fb_access.specs.Held.{IsSpot, IsTableAt}
 
 module _ (b : List ℕ) (S : Rows) (q : Spot) where
   pub at_table : (k t : ℕ) → q ≡ AtTable k t → IsSpot b S q → IsTableAt b S k t
   unfolding IsSpot
   at_table k t e h = rw e at h
-
-  pub at_struct : (k p : ℕ) → q ≡ AtStruct k p → IsSpot b S q → IsStructAt b S k p
-  unfolding IsSpot
-  at_struct k p e h = rw e at h

@@ -1,11 +1,11 @@
 -- Spots of a good buffer pass the tests of those that nobody vouches for.
-use Rattle.std.proofs.Common.{◌≡◌, ◌↔◌, ℕ, ◌+◌, ◌*◌, ◌≤◌, ◌<◌, List, length, arith, subst, sym, IsTrue, Bool, false, Some, refl}
+use Rattle.std.proofs.Common.{◌≡◌, ◌↔◌, ℕ, ◌+◌, ◌*◌, ◌≤◌, ◌<◌, List, length, arith, sym, IsTrue, Bool, false, Some, refl}
 use Rattle.std.specs.Prelude.{IfSome, IsErrAnd, MatchResult, Result, Ok, Err}
 use Rattle.fb_schema.specs.{Rows.Rows, Kinds.scalar_size, Kinds.struct_size, Live.Live, Members.member_of, Served.IsServed, declared.kinds.Kind.Kind, declared.kinds.Scalar.Scalar}
 use Rattle.fb_rules.specs.{Places.target, Places.field_place, WellFormed.base, Fields.lead_of, declared.start.Start.Start}
 use Rattle.fb_access.specs.declared.{step.Step.Step, spot.Spot.Spot, spot.Spot.TheVariants.AtTable, spot.Spot.TheVariants.AtStruct, spot.Spot.TheVariants.AtScalarArray, spot.Spot.TheVariants.AtStructArray, spot.Spot.TheVariants.AtUnion, tested_field.Changed.Changed}
 use Rattle.fb_access.specs.{Fitting.numbered, Denotes.Leads, Denotes.root_spot, Held.IsSpot, Held.IsTableAt, Held.HasVtable, Held.IsLed, Held.IsReadable, Held.IsStructAt, Tested.IsTested, Tested.IsOther}
-use Rattle.fb_access.proofs.{FieldSpots.field_readable, Staying.step_stays, Staying.values_lie_inside, TableFields.table_has_vtable, Walks.root_placed}
+use Rattle.fb_access.proofs.{FieldSpots.field_readable, Staying.step_stays, TableFields.table_has_vtable, Walks.root_placed}
 
 -- where it is answered that the bytes changed
 pub changed : {A : Type 0} (r : Result A Changed) (e : Changed) (P : A → Type 0) (Q : Type 0) → IsErrAnd r (λ x. x ≡ e) → Q → MatchResult r P (λ x. Q)
@@ -51,11 +51,6 @@ module _ (b : List ℕ) (S : Rows) where
   -- a field of a table that can't be followed
   pub field_fails : (k t n : ℕ) (f : Live) → IsServed S → numbered S k n ≡ Some f → (HasVtable b t → IfSome (field_place b t f.slot) (λ p. IsReadable b t f.slot p f.kind) → ⊥) → IsTableAt b S k t → ⊥
   field_fails k t n f served e fails h = fails (table_has_vtable b S k t h) (field_readable b S k t n f served h e)
-
--- a buffer whose root offset doesn't fit, or leads to no table
-pub base_fails : (b : List ℕ) (S : Rows) (start : Start) (root : ℕ) → IsServed S → (base start + 4 ≤ length b → ⊥) → IsOther b S start root
-base_fails b S start root served fails v bytes_are rows_are start_is root_is h =
-    fails (subst (λ x. base x + 4 ≤ length b) start_is (subst (λ x. base v.start + 4 ≤ length x) bytes_are (values_lie_inside v (subst IsServed (sym rows_are) served) h).0))
 
 pub root_fails : (b : List ℕ) (S : Rows) (start : Start) (root : ℕ) → (IsTested b S (root_spot b start root) → ⊥) → IsOther b S start root
 root_fails b S start root fails v bytes_are rows_are start_is root_is h =

@@ -5,14 +5,11 @@ use Rattle.fb_schema.specs.Rows.{Rows}
 use Rattle.fb_access.specs.declared.{step.Step.TheVariants.Field as ToField, step.Step.TheVariants.Element, spot.Spot.Spot, spot.Spot.TheVariants.AtTable}
 use Rattle.fb_access.specs.{Fitting.next_kind, Held.Placed, Here.IsHere, Here.MayBeHere, Here.HereGoesOn, Denotes.Leads, Denotes.allows, Denotes.nothing, Denotes.table, Denotes.vector, Denotes.value}
 use Rattle.fb_access.proofs.Shapes.{is_here}
-use Rattle.fb_access.proofs.Callers.{here_allows, sure_allows, field_may_be_here, element_is_here}
+use Rattle.fb_access.proofs.Callers.{here_allows, field_may_be_here, element_is_here}
 use Rattle.fb_bfbs.specs.Fixed.{fixed}
 use Rattle.fb_bfbs.specs.Seen.{IsAt, HasField, MayHaveField, IsOneOn}
 
 -- a field that is always there
-pub field_allowed : (p : Placed) (n : ℕ) (kind : Kind) → HasField p n kind → IsTrue (allows (p.sealed).schema p.spot (ToField n))
-field_allowed p n kind h = rw (h.at.by_fixed) (sure_allows fixed p.spot (ToField n) (Table h.object) kind h.at.here h.sure)
-
 pub field_here : (p : Placed) (n : ℕ) (kind : Kind) (q : Spot) → HasField p n kind → HereGoesOn (p.sealed).schema p.spot (ToField n) q → IsHere q kind
 field_here p n kind q h goes = goes (Table h.object) kind h.at.here (rw (h.at.by_fixed) h.sure)
 

@@ -90,7 +90,7 @@ impl<'b> FromTable<'b> for ObjectRow<'b> {
     ghost listed = { λ row. vec_len row.fields };
 
     fn from_table(alloc: Global, place: &Place<'_, 'b, '_, '_>) -> Result<Self, AllocError> {
-        let fields = rows_in(alloc, place, 1)?;
+        let fields = rows_in(alloc, place, 1, 4)?;
         Ok(ObjectRow {
             name: text_in(place, 0),
             fields,
@@ -127,7 +127,7 @@ impl<'b> FromTable<'b> for EnumRow<'b> {
     ghost listed = { λ row. vec_len row.members };
 
     fn from_table(alloc: Global, place: &Place<'_, 'b, '_, '_>) -> Result<Self, AllocError> {
-        let members = rows_in(alloc, place, 1)?;
+        let members = rows_in(alloc, place, 1, 2)?;
         Ok(EnumRow {
             name: text_in(place, 0),
             members,

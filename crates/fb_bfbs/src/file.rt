@@ -40,8 +40,8 @@ fn schema_rows<'b>(alloc: Global, place: &Place<'_, 'b, '_, '_>) -> Result<FileR
     requires short { length ((place.now).sealed).bytes < 2 ^ 31 }
     ensures { IfOk result (IsTold (seen place.now)) }
 {
-    let objects = rows_in(alloc, place, 0)?;
-    let enums = rows_in(alloc, place, 1)?;
+    let objects = rows_in(alloc, place, 0, 5)?;
+    let enums = rows_in(alloc, place, 1, 3)?;
     Ok(FileRows {
         objects,
         enums,

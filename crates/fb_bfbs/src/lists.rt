@@ -1,11 +1,11 @@
 // The lists of a schema file: one reader for all of them.
 
-ghost use Rattle.std.specs.Prelude.{ℕ, ◌≤◌, ◌*◌, length, All, vec_len, IfOk};
+ghost use Rattle.std.specs.Prelude.{ℕ, ◌≡◌, ◌≤◌, ◌*◌, length, All, vec_len, IfOk};
 ghost use Rattle.fb_access.specs.declared.step.Step.TheVariants.{Field as ToField};
 ghost use Rattle.fb_bfbs.specs.Says.{Says, after, AreRows};
 ghost use Rattle.fb_bfbs.specs.Seen.{seen, IsAt, HasField, IsRowAt, AreRowsAt};
 
-use crate::values::count_at;
+use crate::values::{count_at, go_to};
 use fb_access::{Place, Step};
 use fb_schema::Kind;
 use std::alloc::{AllocError, Global};
@@ -48,18 +48,20 @@ pub fn rows_at<'b, R: FromTable<'b>>(
     Ok(rows)
 }
 
-/// The rows in a field that is a vector of tables and always there.
+/// The rows in a field that is a vector of tables of this object and always there.
 pub fn rows_in<'b, R: FromTable<'b>>(
     alloc: Global,
     place: &Place<'_, 'b, '_, '_>,
     number: u16,
+    object: u32,
 ) -> Result<Vec<R>, AllocError>
-    requires { HasField place.now number (Kind.Tables R.number) }
+    requires field { HasField place.now number (Kind.Tables object) }
+    requires object { object ≡ R.number }
     ensures rows { IfOk result (λ v. AreRows R.is_row (after (seen place.now) (ToField number)) v.items) }
     ensures few { IfOk result (λ v. 4 * vec_len v ≤ length ((place.now).sealed).bytes) }
     ensures few_listed { IfOk result (λ v. All (λ r. 4 * R.listed r ≤ length ((place.now).sealed).bytes) v.items) }
 {
-    let list = place.go(Step::Field(number));
+    let list = go_to(place, number, Kind::Tables(object), 0);
     let rows = rows_at(alloc, &list)?;
     Ok(rows)
 }

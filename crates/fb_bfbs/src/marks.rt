@@ -138,7 +138,7 @@ fn marks_at<'b>(alloc: Global, place: &Place<'_, 'b, '_, '_>) -> Result<Marks<'b
     requires short { length ((place.now).sealed).bytes < 2 ^ 31 }
     ensures { IfOk result (AreToldMarks (seen place.now)) }
 {
-    let objects: Vec<TaggedObject<'b>> = rows_in(alloc, place, 0)?;
+    let objects: Vec<TaggedObject<'b>> = rows_in(alloc, place, 0, 5)?;
     let objects = objects.as_slice();
     Ok(Marks {
         fields: marks_of(alloc, objects)?,

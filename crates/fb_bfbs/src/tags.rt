@@ -88,7 +88,7 @@ impl<'b> FromTable<'b> for TaggedObject<'b> {
     ghost listed = { λ row. vec_len row.fields };
 
     fn from_table(alloc: Global, place: &Place<'_, 'b, '_, '_>) -> Result<Self, AllocError> {
-        let fields = rows_in(alloc, place, 1)?;
+        let fields = rows_in(alloc, place, 1, 4)?;
         Ok(TaggedObject { fields })
     }
 }
