@@ -152,8 +152,9 @@ static uint32_t verify_untold(const fbcheck_schema *schema, fbcheck_scratch *scr
     return fbcheck_verify(schema, scratch, options, buffer, length, &unseen);
 }
 
-uint32_t fbcheck_verify(const fbcheck_schema *schema, fbcheck_scratch *scratch, const fbcheck_options *options,
-                        const uint8_t *buffer, size_t length, fbcheck_verdict *verdict)
+/* The same where a pointer is null. It stands apart, so that a call without such pays one test for each. */
+static uint32_t verify_with_null(const fbcheck_schema *schema, fbcheck_scratch *scratch, const fbcheck_options *options,
+                                 const uint8_t *buffer, size_t length, fbcheck_verdict *verdict)
 {
     if (schema == NULL || (buffer == NULL && length != 0))
         return told(FBCHECK_NULL, verdict);
@@ -165,6 +166,14 @@ uint32_t fbcheck_verify(const fbcheck_schema *schema, fbcheck_scratch *scratch, 
         buffer = no_bytes;
     if (scratch == NULL)
         return fbcheck_verify_alone_proved(schema->owner, verdict, options, buffer, length);
+    return fbcheck_verify_proved(schema->owner, &scratch->owner, options, buffer, length, verdict);
+}
+
+uint32_t fbcheck_verify(const fbcheck_schema *schema, fbcheck_scratch *scratch, const fbcheck_options *options,
+                        const uint8_t *buffer, size_t length, fbcheck_verdict *verdict)
+{
+    if (schema == NULL || buffer == NULL || scratch == NULL || options == NULL || verdict == NULL)
+        return verify_with_null(schema, scratch, options, buffer, length, verdict);
     return fbcheck_verify_proved(schema->owner, &scratch->owner, options, buffer, length, verdict);
 }
 

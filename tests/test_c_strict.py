@@ -8,6 +8,7 @@ from tests.support import schemas
 from tests.support.buffers import ORC
 from tests.support.builder import Plain, buffer, prefixed
 from tests.support.generated import Kept
+from tests.support.header import KNOWN_FIELDS, PLAIN_BYTES, STRICT, UTF8
 from tests.support.library import SANITIZED, SHARED, STATIC, LibraryCase, ran
 from tests.support.library import module as module_anew
 from tests.support.naive import Schema, number_at
@@ -24,7 +25,6 @@ from tests.test_strict import Made, attributed, damaged, mark
 # The module once, so that its classes are the same ones everywhere.
 module = functools.cache(module_anew)
 
-STRICT, KNOWN_FIELDS, UTF8, PLAIN_BYTES = 1, 2, 4, 8
 STRICTLY_PLAIN = STRICT | PLAIN_BYTES
 WORDS = {STRICT: "--strict", KNOWN_FIELDS: "--known-fields", UTF8: "--utf8", PLAIN_BYTES: "--plain-bytes"}
 # Demands that need no strict checks, and with which such ones are made.

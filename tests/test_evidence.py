@@ -23,7 +23,7 @@ def functions(crate):
                 within = path.stem
             if name := re.match(r" *(?:pub(?:\(\w+\))? )?(?:unsafe )?(?:extern \"C\" )?fn (\w+)", line):
                 found.append((name[1], set(re.findall(r"\w+", within)), set()))
-            elif clause := re.match(r" +(?:ensures|requires) (\w+) \{", line):
+            elif clause := re.match(r" +(?:ensures\*?|requires) (\w+) \{", line):
                 found[-1][2].add(clause[1])
     return found
 

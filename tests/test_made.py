@@ -80,11 +80,10 @@ class Made(Case):
         made = changed(MORE_REASONS)
         folder = "bindings/java/src/fbcheck"
         self.same("in all languages", made.keys(), {
-            "bindings/rust/src/calls.rs", "bindings/rust/src/reason.rs", "bindings/go/codes.go", f"{folder}/Codes.java",
-            f"{folder}/Reason.java", "bindings/node/codes.js", "bindings/node/index.d.ts",
-            "bindings/python/src/fbcheck/__init__.py", "tests/support/header.py", "docs/fbcheck.1"})
+            "bindings/rust/src/reason.rs", "bindings/go/codes.go", f"{folder}/Reason.java", "bindings/node/codes.js",
+            "bindings/node/index.d.ts", "bindings/python/src/fbcheck/__init__.py", "tests/support/header.py",
+            "docs/fbcheck.1"})
         for name, text in [
-            ("bindings/rust/src/calls.rs", f"pub const OUT_OF_ORDER: u32 = {NEXT};\n"),
             ("bindings/rust/src/reason.rs", "    /// The keys of a vector aren't in order.\n"),
             ("bindings/rust/src/reason.rs", f"    OutOfOrder = {NEXT},\n"),
             ("bindings/rust/src/reason.rs", f"const REASONS: [Reason; {NEXT + 1}] ="),
@@ -151,10 +150,11 @@ class Made(Case):
 class Completions(Case):
     SOURCE = (TOP / COMPLETIONS.SOURCE).read_text()
 
-    def more(self, name, takes, text):
-        """The source with an option more."""
+    def more(self, takes, text, letter="None"):
+        """The source with an option more, `sorted`."""
         count = re.search(r"CHOICES: \[Choice<'static>; (\d+)\]", self.SOURCE)[1]
-        choice = f'    Choice {{\n        name: "{name}",\n        takes: {takes},\n        help: "{text}",\n    }},\n'
+        rows = ['name: "sorted"', f"letter: {letter}", f"takes: {takes}", f'help: "{text}"']
+        choice = f"    Choice {{\n{''.join(f'        {row},{chr(10)}' for row in rows)}    }},\n"
         source = self.SOURCE.replace(f"; {count}]", f"; {int(count) + 1}]")
         return source.replace('    Choice {\n        name: "files",', choice + '    Choice {\n        name: "files",')
 
@@ -164,22 +164,22 @@ class Completions(Case):
 
     def test_an_option(self):
         """One that the program gains is offered by both shells, and is in the manual page."""
-        for takes, bash, zsh, page in [
-            ("Takes::Nothing", " --sorted ", "'--sorted[Ask for keys]'", ".B \\-\\-sorted\nAsk for keys.\n"),
-            ("Takes::Letter('S')", "        -S) word=--sorted ;;", "'(-S --sorted)'{-S,--sorted}'[Ask for keys]'",
+        for letter, takes, bash, zsh, page in [
+            ("None", "Takes::Nothing", " --sorted ", "'--sorted[Ask for keys]'", ".B \\-\\-sorted\nAsk for keys.\n"),
+            ("Some('S')", "Takes::Nothing", " -S) word=--sorted ;;", "'(-S --sorted)'{-S,--sorted}'[Ask for keys]'",
              '.BR \\-S ", " \\-\\-sorted\nAsk for keys.\n'),
-            ('Takes::Texts("KEY")', " | --sorted) ;;", "'*--sorted=[Ask for keys]:sorted:'",
+            ("None", 'Takes::Texts("KEY")', " | --sorted) ;;", "'*--sorted=[Ask for keys]:sorted:'",
              '.BI \\-\\-sorted " KEY"\nAsk for keys.\n'),
-            ('Takes::Number(ValueParser::Signed(0, 9), "7")', " | --sorted) ;;",
+            ("None", 'Takes::Number(ValueParser::Signed(0, 9), "7")', " | --sorted) ;;",
              "'--sorted=[Ask for keys]:number [7]:'", '.BI \\-\\-sorted " N"\nAsk for keys (7).\n'),
         ]:
-            made = COMPLETIONS.made(self.more("sorted", takes, "Ask for keys"))
+            made = COMPLETIONS.made(self.more(takes, "Ask for keys", letter))
             for name, want in zip(made, (bash, zsh, page)):
                 self.holds(f"{name}, {takes}", want in made[name].replace("\\\n", ""), made[name])
 
     def test_what_it_cant_read(self):
-        for name, source in [("a bracket", self.more("sorted", "Takes::Nothing", "Ask for [keys]")),
-                             ("an option of another form", self.more("sorted", "Takes::Nothing", "Ask").replace(
+        for name, source in [("a bracket", self.more("Takes::Nothing", "Ask for [keys]")),
+                             ("an option of another form", self.more("Takes::Nothing", "Ask").replace(
                                  'name: "sorted"', "name: SORTED"))]:
             with self.assertRaises(COMPLETIONS.Unreadable, msg=name):
                 COMPLETIONS.made(source)

@@ -178,8 +178,8 @@ class Node(LibraryCase):
 
     def test_undefined_options(self):
         """Each has its default, for a schema that is loaded and for one with other options."""
-        names = ["root", "maxDepth", "maxTables", "maxReads", "readsPerByte", "ident", "prefixed", "alignment",
-                 "inlineSize", "strict", "knownFields", "utf8", "plainBytes"]
+        types = (TOP / "bindings/node/index.d.ts").read_text()
+        names = re.findall(r"^  (\w+)\?:", types.split("interface Options {")[1].split("\n}")[0], re.M)
         none = ", ".join(f"{name}: undefined" for name in names)
         before = (f"const schema = new Schema('{FILES['M']}', {{ {none} }}), orc = bytes('{ORC.hex()}');\n"
                   "const odd = schema.with({ maxDepth: 0, ident: 'KIND' });")

@@ -6,22 +6,14 @@ const assert = require('node:assert');
 const { Worker, isMainThread, parentPort, workerData } = require('node:worker_threads');
 const { BadBuffer, Schema, commit } = require('../../bindings/node');
 
-const NUMBERS = { max_depth: 'maxDepth', max_tables: 'maxTables', reads_per_byte: 'readsPerByte' };
-const SWITCHES = {
-  prefixed: 'prefixed', alignment: 'alignment', inline_size: 'inlineSize', strict: 'strict',
-  known_fields: 'knownFields', utf8: 'utf8', plain_bytes: 'plainBytes',
-};
+const NUMBERS = { max_depth: Number, max_tables: Number, max_reads: BigInt, reads_per_byte: Number };
 
 function options(words) {
-  const asked = {};
-  for (const word of words) {
+  return Object.fromEntries(words.map((word) => {
     const [name, value] = word.split('=');
-    if (name in NUMBERS) asked[NUMBERS[name]] = Number(value);
-    else if (name in SWITCHES) asked[SWITCHES[name]] = value === '1';
-    else if (name === 'max_reads') asked.maxReads = BigInt(value);
-    else asked[name] = value;
-  }
-  return asked;
+    const read = name === 'root' || name === 'ident' ? String : NUMBERS[name] ?? ((value) => value === '1');
+    return [name.replace(/_./g, ([, letter]) => letter.toUpperCase()), read(value)];
+  }));
 }
 
 function* pieces(bytes, first, size) {

@@ -9,6 +9,8 @@ import math
 import re
 import struct
 
+from tests.support.header import Reason
+
 SIZES = [0, 1, 1, 1, 1, 2, 2, 4, 4, 8, 8, 4, 8]
 LETTERS = " BBbBhHiIqQfd"
 # How the numbers that these letters stand for are unpacked, and the four bytes of an identifier.
@@ -19,11 +21,9 @@ TEXT, VECTOR, OBJECT, UNION, ARRAY = 13, 14, 15, 16, 17
 MARKS = {byte: f"\\x{byte:02x}" for byte in range(256) if not 0x20 <= byte <= 0x7E} | {0x22: '\\"', 0x5C: "\\\\"}
 # What a piece of a path is: a field or a union's member by its name, an element by its number.
 FIELD, ELEMENT, MEMBER = 1, 2, 3
-NAMES = {
-    "V1": "WrongPrefix", "V2": "OutOfBuffer", "V3": "Misaligned", "V4": "ZeroOffset", "V5": "WrongIdentifier",
-    "V6": "TooDeep", "V7": "TooManyTables", "V8": "BadVtable", "V9": "MissingRequired", "V10": "NoTerminator",
-    "V11": "LengthsDiffer", "V12": "PastTable", "V13": "TooManyReads",
-}
+# The names of all reasons by their codes, as the header has them, and of those that a plain check gives.
+ALL_NAMES = {f"V{reason}": reason.name.title().replace("_", "") for reason in Reason}
+NAMES = {code: name for code, name in ALL_NAMES.items() if int(code[1:]) <= Reason.TOO_MANY_READS}
 
 
 class Fault(Exception):

@@ -6,12 +6,11 @@ a table, as an attribute writes it, or FLEX.
 
 import dataclasses
 
-from tests.support.naive import NAMES, OBJECT, TEXT, UNION, UNPACK, VECTOR, Fault, Walk, number_at
+from tests.support.naive import ALL_NAMES, OBJECT, TEXT, UNION, UNPACK, VECTOR, Fault, Walk, number_at
 
 # What the bytes of a field hold that isn't a buffer.
 FLEX = 0
 U_BYTE, LEAST = 4, 12
-ALL_NAMES = {**NAMES, "V14": "FlexContent", "V15": "NotUtf8", "V16": "UnknownField"}
 
 
 @dataclasses.dataclass(frozen=True)

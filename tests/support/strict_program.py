@@ -4,15 +4,14 @@ import subprocess
 
 from tests.support.builder import prefixed
 from tests.support.every_kind import words_of
-from tests.support.program import PROGRAM, run
+from tests.support.program import PROGRAM
 from tests.support.naive import Schema
 from tests.support.strict import EVERYTHING, FLEX, STRICT, Demands, found_from, lacks_marks, marks_of
 
 # What options demand: --strict with --plain-bytes and by itself, --known-fields, --utf8, and some of them together.
-DEMANDED = Demands(unions=True)
 ASKED = [
-    DEMANDED, STRICT, Demands(known_fields=True), Demands(utf8=True), Demands(unions=True, known_fields=True),
-    EVERYTHING, Demands(known_fields=True, utf8=True),
+    Demands(unions=True), STRICT, Demands(known_fields=True), Demands(utf8=True),
+    Demands(unions=True, known_fields=True), EVERYTHING, Demands(known_fields=True, utf8=True),
 ]
 UNMARKED = "strict can't tell which bytes are nested buffers or flexbuffers"
 LOST = "strict can't find the table of a nested buffer"
@@ -27,11 +26,6 @@ def refusal_of(objects):
     return LOST if any(found_from(schema, owner, name) is None for owner, name in names) else None
 
 
-def strict_words(objects):
-    """The words that make strict checks by a schema file with these rows which don't look inside."""
-    return ["--strict", "--plain-bytes"] if marks_of(objects) or lacks_marks(objects) else ["--strict"]
-
-
 def words_of_demands(demands):
     """The words by which the program demands this."""
     flags = [
@@ -44,18 +38,6 @@ def words_of_demands(demands):
 def words_of_limits(limits):
     """The words that ask for these limits and checks, and for no other budget."""
     return ["--reads-per-byte", str(2**32 - 1), *words_of(limits)]
-
-
-def has(word):
-    """Whether the program knows this word."""
-    try:
-        return word.encode() in run("--help").out
-    except OSError:
-        return False
-
-
-def has_strict():
-    return has("--strict")
 
 
 def lines_of(file, messages, *words, prefix=False):

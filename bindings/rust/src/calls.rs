@@ -44,34 +44,6 @@ pub const UNMARKED_BYTES: u32 = 22;
 pub const NO_SUCH_TABLE: u32 = 23;
 pub const CHANGED: u32 = 24;
 
-// enum fbcheck_reason
-pub const WRONG_PREFIX: u32 = 1;
-pub const OUT_OF_BUFFER: u32 = 2;
-pub const MISALIGNED: u32 = 3;
-pub const ZERO_OFFSET: u32 = 4;
-pub const WRONG_IDENTIFIER: u32 = 5;
-pub const TOO_DEEP: u32 = 6;
-pub const TOO_MANY_TABLES: u32 = 7;
-pub const BAD_VTABLE: u32 = 8;
-pub const MISSING_REQUIRED: u32 = 9;
-pub const NO_TERMINATOR: u32 = 10;
-pub const LENGTHS_DIFFER: u32 = 11;
-pub const PAST_TABLE: u32 = 12;
-pub const TOO_MANY_READS: u32 = 13;
-pub const FLEX_CONTENT: u32 = 14;
-pub const NOT_UTF8: u32 = 15;
-pub const UNKNOWN_FIELD: u32 = 16;
-
-// enum fbcheck_code
-pub const NO_SUCH_OBJECT: u32 = 1;
-pub const NO_SUCH_ENUM: u32 = 2;
-pub const UNSUPPORTED: u32 = 3;
-pub const BAD_SLOT: u32 = 4;
-pub const NO_TYPE_FIELD: u32 = 5;
-pub const BAD_STRUCT: u32 = 6;
-pub const BAD_MEMBER: u32 = 7;
-pub const NAME_TWICE: u32 = 8;
-
 // enum fbcheck_path_fault
 pub const BAD_TEXT: u32 = 1;
 pub const NO_SUCH_FIELD: u32 = 2;

@@ -4,7 +4,7 @@
 use fb_access::{Answer, Path, get};
 use fb_bfbs::load;
 use fb_bytes::Meter;
-use fb_verify::{Checks, Ident, Limits, Scratch, Start, verify};
+use fb_verify::{Checks, Ident, Limits, Question, Scratch, Start, verify};
 use std::alloc::Global;
 
 /// The string at `to.name`, if the buffer is good and has one.
@@ -18,18 +18,15 @@ pub fn name_in<'b>(alloc: Global, schema_file: &[u8], buffer: &'b [u8]) -> Optio
 
     // For each buffer; this takes no memory and copies nothing.
     let meter = Meter::new(buffer).ok()?;
-    let limits = limits.of_length(64, meter.len());
-    let verified = verify(
-        meter,
-        &loaded.schema,
+    let question = Question {
+        schema: &loaded.schema,
         root,
-        Start::Bare,
-        Ident::Any,
-        limits,
-        Checks::published(),
-        &mut scratch,
-    )
-    .ok()?;
+        start: Start::Bare,
+        ident: Ident::Any,
+        limits: limits.of_length(64, meter.len()),
+        checks: Checks::published(),
+    };
+    let verified = verify(meter, &question, scratch.lend()).ok()?;
     match get(&verified, &path) {
         Answer::Text(text) => Some(text),
         _ => None,

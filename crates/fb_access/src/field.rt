@@ -1,6 +1,6 @@
 // A field of a table by its number, and where a known one leads in a verified buffer.
 
-ghost use Rattle.std.specs.Prelude.{◌≡◌, ◌+◌, ◌-◌, ◌*◌, ◌^◌, ◌<◌, ◌≤◌, length, IfSome, IsTrue, Some, None, ℕ, option_map};
+ghost use Rattle.std.specs.Prelude.{◌≡◌, ◌+◌, ◌-◌, ◌*◌, ◌^◌, ◌<◌, ◌≤◌, ◌==◌, length, find, map, IfSome, IsTrue, Some, None, ℕ, option_map};
 ghost use Rattle.fb_bytes.specs.Word.{word};
 ghost use Rattle.fb_schema.specs.{Rows.is_table, Live.live_of_view};
 ghost use Rattle.fb_rules.specs.{Places.target, Places.vtable, Places.field_place, Fields.type_place, Fields.union_type, Fields.types_begin};
@@ -12,7 +12,19 @@ use crate::spot::Spot;
 use fb_bytes::Window;
 use fb_schema::{FieldView, Kind, Schema};
 
-/// The live field of a table with this number.
+/// The first of these fields with this number.
+fn first_numbered<'s, 'n>(fields: &'s [FieldView<'n>], number: u16) -> Option<&'s FieldView<'n>>
+    ensures { option_map (λ f. live_of_view f.now) result ≡ find (λ f. f.number == number) (map live_of_view fields.now) }
+{
+    for field in fields {
+        if field.number == number {
+            return Some(field);
+        }
+    }
+    None
+}
+
+/// The live field of a table with this number. Mostly no field before it is missing, so that it stands at its number.
 pub fn field_numbered<'s, 'n>(
     schema: &'s Schema<'n>,
     object: u32,
@@ -21,12 +33,12 @@ pub fn field_numbered<'s, 'n>(
     requires { IsTrue (is_table schema.now object) }
     ensures { option_map (λ f. live_of_view f.now) result ≡ numbered schema.now object number }
 {
-    for field in schema.fields_of(object) {
-        if field.number == number {
-            return Some(field);
-        }
+    schema.lawful();
+    let fields = schema.fields_of(object);
+    match fields.get(number as usize) {
+        Some(field) if field.number == number => Some(field),
+        _ => first_numbered(fields, number),
     }
-    None
 }
 
 /// Where the vtable of the table at a position stands.

@@ -35,6 +35,7 @@ fn are_structs(window: &Window<'_>, schema: &Schema<'_>, object: u32, n: u16, at
 }
 
 /// Whether what is read first at a spot lies in the bytes.
+#[inline(always)]
 #[tactic(auto, unfolding(crate::specs::Tested::IsTested))]
 fn is_tested(window: &Window<'_>, schema: &Schema<'_>, spot: Spot) -> bool
     ensures { IsTrue result ↔ IsTested window.now schema.now spot }
@@ -58,6 +59,7 @@ fn is_tested(window: &Window<'_>, schema: &Schema<'_>, spot: Spot) -> bool
 }
 
 /// From a table to its live field with this number, or from a struct to its field at this place.
+#[inline(always)]
 #[tactic(auto, unfolding(crate::specs::Tested::IsTested))]
 fn spot_of_field(
     window: &Window<'_>,

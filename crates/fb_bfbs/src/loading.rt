@@ -9,7 +9,7 @@ use crate::fixed::reflection;
 use crate::load_fault::LoadFault;
 use fb_bytes::Meter;
 use fb_schema::Schema;
-use fb_verify::{Checks, Ident, Limits, Scratch, ScratchFault, Start, Verified, verify};
+use fb_verify::{Checks, Ident, Limits, Question, Scratch, ScratchFault, Start, Verified, verify};
 use std::alloc::{AllocError, Global};
 
 /// The number of the table Schema in the fixed table.
@@ -91,18 +91,15 @@ pub fn verified_by<'b, 's>(
     ensures no { IfErr result (λ fault. IsVerifyFault meter.entry.bytes limits fault) }
 {
     let mut scratch = scratch_of(alloc, limits)?;
-    let ident = Ident::Want(*b"BFBS");
-    let checks = Checks::published();
-    let verified = verify(
-        meter,
-        table,
-        SCHEMA,
-        Start::Bare,
-        ident,
+    let question = Question {
+        schema: table,
+        root: SCHEMA,
+        start: Start::Bare,
+        ident: Ident::Want(*b"BFBS"),
         limits,
-        checks,
-        &mut scratch,
-    )?;
+        checks: Checks::published(),
+    };
+    let verified = verify(meter, &question, scratch.lend())?;
     Ok(verified)
 }
 

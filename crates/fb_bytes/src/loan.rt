@@ -70,6 +70,19 @@ impl<'a> Loan<'a> {
         }
     }
 
+    /// Hands the loan on: the bytes, under a count that goes on from this one. This one has no bytes then.
+    #[inline(always)]
+    pub fn hand_on(&mut self) -> Loan<'a>
+        ensures same { result ≡ self.old }
+        ensures bare { self.new ≡ record self.old { bytes = [] } }
+    {
+        let window = mem::replace(&mut self.window, Window::over(&[]));
+        Loan {
+            window,
+            count: self.count,
+        }
+    }
+
     /// Takes bytes back, with the count of all their reads.
     #[inline(always)]
     pub fn settle(&mut self, reads: Reads<'a>)

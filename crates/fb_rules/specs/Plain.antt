@@ -1,5 +1,5 @@
 -- Fields, by their steps, up to one that may lead to a table.
-use Rattle.std.specs.Prelude.{◌≡◌, ◌⊎◌, ℕ, ◌+◌, ◌^◌, ◌<◌, ◌%◌, ◌==◌, ◌&&◌, nat_le, if◌then◌else◌, IsTrue, List, not, Option, Some, None, Result, IfOk, IfErr, false}
+use Rattle.std.specs.Prelude.{◌≡◌, ◌⊎◌, ℕ, ◌+◌, ◌^◌, ◌<◌, ◌≤◌, ◌%◌, ◌==◌, ◌&&◌, nat_le, if◌then◌else◌, IsTrue, List, length, not, Option, Some, None, Result, IfOk, IfErr, false}
 use Rattle.std.specs.List.{All, sum_by}
 use Rattle.fb_bytes.specs.Word.{Lent}
 use Rattle.fb_schema.specs.declared.{views.Act.Act, views.Step.Step}
@@ -24,6 +24,12 @@ pub record IsTested (m new : Lent) (at : ℕ) (chain : Option Failure) (n : ℕ)
   pub counted : result ≡ None → new.count ≡ m.count + n
   pub bytes : new.bytes ≡ m.bytes
   pub base : new.base ≡ m.base
+
+-- a uoffset at p can be read
+pub record StandsAt (c : Checks) (b : List ℕ) (p : ℕ) : Type 0 where
+  pub near : p < 2 ^ 32
+  pub within : p + 4 ≤ length b
+  pub aligned : IsTrue (is_aligned c p 4)
 
 -- the first word of the table at t, which leads to its vtable
 unfoldable pub first_word_failure : Checks → List ℕ → ℕ → Option Failure

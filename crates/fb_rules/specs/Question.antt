@@ -14,6 +14,6 @@ pub record Question : Type 0 where
   pub limits : Bounds
   pub checks : Checks
 
--- the same of the parameters of a call
+-- the same of its parts
 abbrev pub question : Rows → ℕ → Start → Ident → Bounds → Checks → Question
 question S root start ident L c = record { rows = S; root = root; start = start; ident = ident; limits = L; checks = c }

@@ -1,21 +1,18 @@
 // The start of a buffer: its prefix, its identifier and its root offset.
 
-ghost use Rattle.std.specs.Prelude.{◌≡◌, ◌+◌, ◌^◌, ◌<◌, ◌≤◌, IfOk, None};
+ghost use Rattle.std.specs.Prelude.{◌≡◌, ◌+◌, ◌^◌, ◌<◌, ◌≤◌, None};
 ghost use Rattle.fb_bytes.specs.Word.{word};
-ghost use Rattle.fb_rules.specs.{Places.target, Order.prefix_failure, Order.ident_failure, Order.start_failure, Plain.IsTested, Told.IsAskedAt};
+ghost use Rattle.fb_rules.specs.{Places.target, Order.prefix_failure, Order.ident_failure, Order.start_failure, Plain.IsTested};
 ghost use Rattle.fb_rules.specs.WellFormed.{base, prefix_reads, ident_reads, start_reads};
 
-use crate::budget::answer;
 use crate::checks::Checks;
 use crate::fault::Reason;
-use crate::limits::Limits;
 use crate::plain::{fails, test_offset};
-use crate::site::{Site, Stop};
 use crate::start::{Ident, Start};
-use fb_bytes::{Loan, Reads};
+use fb_bytes::Reads;
 
 /// Where the root offset stands.
-fn base_of(start: Start) -> u64
+pub fn base_of(start: Start) -> u64
     ensures value { result ≡ base start }
     ensures near { result ≤ 4 }
 {
@@ -79,7 +76,7 @@ fn test_ident(reads: &mut Reads<'_>, at: u64, ident: Ident) -> Option<Reason>
 /// Tests all that stands before the root table, and moves the position to where that stands, or to where a test fails.
 #[inline(always)]
 #[tactic(auto, unfolding(crate::specs::Order::start_failure))]
-fn test_start(
+pub fn test_start(
     reads: &mut Reads<'_>,
     checks: Checks,
     start: Start,
@@ -101,27 +98,4 @@ fn test_start(
     }
     *at = base;
     test_offset(reads, checks, at)
-}
-
-/// Reads all that stands before the root table, asks the budget, and answers where that table stands. What fails does
-/// so at this site.
-#[inline(always)]
-pub fn read_start(
-    loan: &mut Loan<'_>,
-    limits: Limits,
-    checks: Checks,
-    site: Site,
-    start: Start,
-    ident: Ident,
-) -> Result<u64, Stop>
-    requires few { loan.old.count < 2 ^ 98 }
-    ensures asked { IsAskedAt site limits loan.old loan.new (start_failure checks loan.old.bytes start ident) (start_reads start ident) (base start) result }
-    ensures value { IfOk result (λ t. t ≡ target loan.old.bytes (base start)) }
-    ensures near { IfOk result (λ t. t < 2 ^ 33) }
-{
-    let mut reads = loan.lend();
-    let mut at = 0;
-    let failed = test_start(&mut reads, checks, start, ident, &mut at);
-    answer(loan, reads, limits, site, failed, at, base_of(start))?;
-    Ok(at)
 }

@@ -15,6 +15,7 @@ pub mod most;
 pub mod offset_row;
 pub mod passed;
 pub mod plain;
+pub mod question;
 pub mod site;
 pub mod start;
 pub mod table;

@@ -11,7 +11,8 @@ ghost use Rattle.fb_rules.specs.declared.offset_row.Referent.TheVariants.{Table 
 ghost use Rattle.fb_rules.specs.declared.plain.Came.TheVariants.{Past, ToFault};
 ghost use Rattle.fb_rules.specs.declared.fault.Reason.TheVariants.{OutOfBuffer, Misaligned};
 ghost use Rattle.fb_rules.specs.Order.{after, head_failure, table_failure, offset_failure, string_failure, vector_failure, inline_failure, inline_field_failure, vector_field_failure, lead_failure};
-ghost use Rattle.fb_rules.specs.Plain.{tested_by, vtable_failure, vtable_reads, FindsVtable, IsTested, IsSmall, place_from, IsStep, HasBit, IsCame, Filled, Stepped};
+ghost use Rattle.fb_rules.specs.declared.plain.Standing.TheVariants.{Known};
+ghost use Rattle.fb_rules.specs.Plain.{StandsAt, tested_by, vtable_failure, vtable_reads, FindsVtable, IsTested, IsSmall, place_from, IsStep, HasBit, IsCame, Filled, Stepped};
 
 use crate::checks::Checks;
 use crate::fault::Reason;
@@ -84,6 +85,27 @@ pub fn test_offset(reads: &mut Reads<'_>, checks: Checks, at: &mut u64) -> Optio
     }
     *at += offset;
     None
+}
+
+/// Goes where the `uoffset` at a position leads, which is known to stand there, so that only its value is tested. Of
+/// the checks the contract alone speaks.
+#[inline(always)]
+#[tactic(auto, unfolding(crate::specs::Order::offset_failure))]
+pub fn follow(reads: &mut Reads<'_>, checks: Checks, at: &mut u64) -> Option<Reason>
+    requires few { reads.old.count < reads.old.base + 2 ^ 62 }
+    requires stands { StandsAt checks reads.old.bytes at.old }
+    ensures tested { IsTested reads.old reads.new at.new (offset_failure checks reads.old.bytes at.old) 1 result }
+    ensures value { result ≡ None → at.new ≡ target reads.old.bytes at.old }
+    ensures near { result ≡ None → at.new < 2 ^ 33 }
+{
+    let _checks = checks;
+    match reads.u32_at(*at) {
+        0 => fails(Reason::ZeroOffset),
+        offset => {
+            *at += u64::from(offset);
+            None
+        }
+    }
 }
 
 /// Tests the string at a position: its count, so many bytes, and a byte 0. It goes on to that byte.
@@ -373,6 +395,36 @@ fn test_text(reads: &mut Reads<'_>, checks: Checks, at: &mut u64) -> Option<Reas
     test_string(reads, checks, at)
 }
 
+/// Whether a `uoffset` is known to stand where it is read.
+#[derive(Clone, Copy)]
+pub enum Standing {
+    /// It is.
+    Known,
+    /// It may not.
+    Unknown,
+}
+
+/// Tests the `uoffset` at a position, where it isn't known to stand there, and goes on where it leads.
+#[inline(always)]
+fn test_word(
+    reads: &mut Reads<'_>,
+    checks: Checks,
+    at: &mut u64,
+    standing: Standing,
+) -> Option<Reason>
+    requires few { reads.old.count < reads.old.base + 2 ^ 61 }
+    requires near { at.old < 2 ^ 35 }
+    requires stands { standing ≡ Known → StandsAt checks reads.old.bytes at.old }
+    ensures tested { IsTested reads.old reads.new at.new (offset_failure checks reads.old.bytes at.old) 1 result }
+    ensures value { result ≡ None → at.new ≡ target reads.old.bytes at.old }
+    ensures near { result ≡ None → at.new < 2 ^ 33 }
+{
+    match standing {
+        Standing::Known => follow(reads, checks, at),
+        Standing::Unknown => test_offset(reads, checks, at),
+    }
+}
+
 /// Tests the `uoffset` at a position, with the string or struct that it leads to; where it leads to a table, it goes
 /// on there.
 #[inline(always)]
@@ -381,9 +433,11 @@ pub fn test_lead(
     checks: Checks,
     at: &mut u64,
     referent: Referent,
+    standing: Standing,
 ) -> Option<Reason>
     requires few { reads.old.count < reads.old.base + 2 ^ 60 }
     requires near { at.old < 2 ^ 35 }
+    requires stands { standing ≡ Known → StandsAt checks reads.old.bytes at.old }
     requires align { IsSized referent }
     ensures told { tested_by at.new reads.new.count result ≡ after reads.old.count (lead_failure checks reads.old.bytes at.old (lead_to referent)) }
     ensures value { result ≡ None → (object : ℕ) → referent ≡ ATable object → at.new ≡ target reads.old.bytes at.old }
@@ -392,13 +446,19 @@ pub fn test_lead(
     ensures bytes { reads.new.bytes ≡ reads.old.bytes }
     ensures base { reads.new.base ≡ reads.old.base }
 {
-    led_by(reads, checks, at, referent)
+    led_by(reads, checks, at, referent, standing)
 }
 
 /// The same, told in one clause.
 #[inline(always)]
-fn led_by(reads: &mut Reads<'_>, checks: Checks, at: &mut u64, referent: Referent) -> Option<Reason>
-    requires { (reads.old.count < reads.old.base + 2 ^ 60) × (at.old < 2 ^ 35) × IsSized referent }
+fn led_by(
+    reads: &mut Reads<'_>,
+    checks: Checks,
+    at: &mut u64,
+    referent: Referent,
+    standing: Standing,
+) -> Option<Reason>
+    requires { (reads.old.count < reads.old.base + 2 ^ 60) × (at.old < 2 ^ 35) × IsSized referent × (standing ≡ Known → StandsAt checks reads.old.bytes at.old) }
     ensures { (tested_by at.new reads.new.count result ≡ after reads.old.count (lead_failure checks reads.old.bytes at.old (lead_to referent)))
         × (result ≡ None → ((object : ℕ) → referent ≡ ATable object → (at.new ≡ target reads.old.bytes at.old) × (at.new < 2 ^ 33))
         × (reads.new.count ≡ reads.old.count + lead_reads (lead_to referent)))
@@ -406,10 +466,15 @@ fn led_by(reads: &mut Reads<'_>, checks: Checks, at: &mut u64, referent: Referen
 {
     match referent {
         Referent::Nothing => None,
-        Referent::Text => test_text(reads, checks, at),
-        Referent::Table(_) => test_offset(reads, checks, at),
+        Referent::Text => {
+            if let Some(reason) = test_word(reads, checks, at, standing) {
+                return Some(reason);
+            }
+            test_string(reads, checks, at)
+        }
+        Referent::Table(_) => test_word(reads, checks, at, standing),
         Referent::Struct(size, align) => {
-            if let Some(reason) = test_offset(reads, checks, at) {
+            if let Some(reason) = test_word(reads, checks, at, standing) {
                 return Some(reason);
             }
             test_inline(reads, checks, *at, size, align)

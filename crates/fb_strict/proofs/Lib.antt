@@ -44,5 +44,4 @@ pub mod Reached
 pub mod OneVerdict
 pub mod Price
 pub mod Saturating
-pub mod Calls
 pub mod Locating

@@ -1,7 +1,7 @@
 -- At most one strict answer applies to a question, and what a strict ok says beside.
 use Rattle.std.proofs.Common.{◌≡◌, ℕ, inl, inr, List, Result, Ok, Err, ap, subst}
 use Rattle.fb_rules.specs.declared.{fault.Fault.Fault, fault.Report.Report}
-use Rattle.fb_rules.specs.{Question.Question, Places.target, WellFormed.base, Verdict.HasNone}
+use Rattle.fb_rules.specs.{Question.Question, Places.target, WellFormed.base}
 use Rattle.fb_rules.proofs.{Overruns.one_tree, Overruns.stops_nowhere, OneFault.stops_once}
 use Rattle.fb_strict.specs.Planned.{Planned}
 use Rattle.fb_strict.specs.Nested.{Refused, ComeTo, EndsWith, IsBad, spent_alone, asked_of}
@@ -61,12 +61,9 @@ module _ (p : Planned) (q : Question) (b : List ℕ) where
       let same : x ≡ y = cc in
       ap (λ (e : Refused). e.fault) same
 
-  -- where something isn't met, nothing can be reported, nor where no tree is well formed
-  pub bad_has_none : (f : Fault) → IsBad p q b f → HasNoneStrictly p q b
-  bad_has_none f h r g = not_both r f g h
-
-  pub none_at_all : HasNone q b → HasNoneStrictly p q b
-  none_at_all h r g = h g.found g.well_formed g.within
+  -- where it stops, nothing can be reported
+  pub stops_has_none : (f : Fault) → StopsStrictly p q b f → HasNoneStrictly p q b
+  stops_has_none f h r g = never_both r f g h
 
 pub one_verdict : HasOneStrictVerdict
 one_verdict p q b (Ok r) (Ok s) g h = ap Ok (one_report p q b r s g h)

@@ -1,11 +1,11 @@
 -- The walk of a buffer inside, within what is left.
-use Rattle.std.proofs.Common.{◌≡◌, ◌⊎◌, ℕ, ◌+◌, ◌*◌, ◌^◌, ◌<◌, ◌≤◌, min, List, ◌++◌, length, take, drop, inl, inr, sym, ap, subst, ◌∙◌, arith, length-take, length-drop, length-append}
+use Rattle.std.proofs.Common.{◌≡◌, ◌⊎◌, ℕ, ◌+◌, ◌-◌, ◌*◌, ◌^◌, ◌<◌, ◌≤◌, min, List, ◌++◌, length, take, drop, inl, inr, sym, ap, subst, ◌∙◌, arith, length-take, length-drop, length-append}
 use Rattle.std.proofs.Math.Seq.{drop-append_seam}
 use Rattle.fb_schema.specs.{Rows.Rows, Live.widest}
 use Rattle.fb_rules.specs.declared.{fault.Fault.Fault, fault.Report.Report, link.Link.Link}
 use Rattle.fb_rules.specs.{Bounds.Bounds, Question.Question, MostReads.most_reads, Stops.Stops, Links.StopsAlong, Verdict.Reports}
 use Rattle.fb_strict.specs.declared.levels.Level.{Level}
-use Rattle.fb_strict.specs.Levels.{Whole, IsAsking, bytes_of, walk_at, WalkStops}
+use Rattle.fb_strict.specs.Levels.{Whole, IsAsking, AreEnough, bytes_of, walk_at, WalkStops}
 use Rattle.fb_strict.specs.Nested.{later}
 use Rattle.fb_schema.proofs.Numbers.{le_or_lt}
 use Rattle.fb_strict.proofs.Nesting.{along}
@@ -28,9 +28,20 @@ short_bytes w l h =
     let d = length-drop l.begin w.bytes in
     omega (arith, t, d, h.short)
 
+-- what serves for walks of the whole serves inside, whose links are put behind those around
+pub enough_inside : (above : ℕ) {depth frames row inside own : ℕ} → AreEnough depth frames row → inside ≡ depth - above → own ≡ row - min above row → AreEnough inside frames own
+enough_inside above {depth} {frames} {row} {inside} {own} e deep behind = record { some = omega (arith, e.some, deep); room = omega (arith, e.room, deep); located = located (le_or_lt depth row) }
+  where
+    located : (depth ≤ row) ⊎ (row < depth) → inside ≤ own → inside ≤ frames
+    located (inl le) h = omega (arith, e.located le, deep)
+    located (inr lt) h = omega (arith, lt, h, deep, behind)
+
+pub enough_still : {depth d frames f row r : ℕ} → AreEnough depth frames row → d ≡ depth → f ≡ frames → r ≡ row → AreEnough d f r
+enough_still h deep same long = rw (deep, same, long) h
+
 -- it stops: the links that lead to the fault are told where there is room for them behind those around it
 pub walk_stops : (w : Whole) (spent : Report) (row front own : List Link) (level : Level) (root : ℕ) → row ≡ front ++ own → (old : ℕ) → old ≡ length own → length front ≡ min level.above (old + length front) → level.above ≤ ((w.question).limits).depth
-    → (q : Question) → q ≡ walk_at w level root spent → (b : List ℕ) → b ≡ bytes_of w level → (f f' : Fault) (many : ℕ) → Stops q b f → ((q.limits).depth ≤ old → StopsAlong q b f (take many own)) → ((q.limits).depth ≤ old → many ≤ length own)
+    → (q : Question) → q ≡ walk_at w level root spent → (b : List ℕ) → b ≡ bytes_of w level → (f f' : Fault) (many : ℕ) → Stops q b f → ((q.limits).depth ≤ old → StopsAlong q b f (take many own)) → many ≤ length own
     → f' ≡ later spent.reads f → WalkStops w spent row level root f' many
 walk_stops w spent row front own level root joined old old-is front-is deep q q-is b b-is f f' many stops along-it room later-is = by (le_or_lt ((w.question).limits).depth (length row))
   where
@@ -50,7 +61,7 @@ walk_stops w spent row front own level root joined old old-is front-is deep q q-
           links = take many own;
           stops = subst (λ q. StopsAlong q (bytes_of w level) f (take many own)) q-is (subst (λ b. StopsAlong q b f (take many own)) b-is (along-it enough));
           fault = later-is;
-          told = λ h. (behind e, omega (arith, long, e, room enough));
+          told = λ h. (behind e, omega (arith, long, e, room));
         }
     by (inr lt) =
         let a = along q b f stops in

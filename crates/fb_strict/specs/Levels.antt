@@ -1,5 +1,5 @@
 -- The buffers that are open while a buffer is asked with those inside it, from the innermost out.
-use Rattle.std.specs.Prelude.{◌≡◌, ℕ, zero, suc, ◌+◌, ◌-◌, ◌*◌, ◌^◌, ◌<◌, ◌≤◌, ◌⊎◌, List, [], ◌∷◌, ◌++◌, length, take, drop, get_or, IsTrue, Option, Some, None, Result, Ok, Err}
+use Rattle.std.specs.Prelude.{◌≡◌, ℕ, zero, suc, ◌+◌, ◌-◌, ◌*◌, ◌^◌, ◌<◌, ◌≤◌, ◌⊎◌, max, min, List, [], ◌∷◌, ◌++◌, length, take, drop, get_or, IsTrue, Option, Some, None, Result, Ok, Err}
 use Rattle.fb_bytes.specs.Word.{Lent}
 use Rattle.fb_schema.specs.Served.{IsServed}
 use Rattle.fb_rules.specs.declared.{fault.Fault.Fault, fault.Report.Report, link.Link.Link}
@@ -67,6 +67,12 @@ resting w = record { plan = w.plan; rows = (w.question).rows; limits = (w.questi
 
 abbrev pub passing_of : Whole → (spent : Report) → Passing
 passing_of w spent = record (resting w) { limits = limits_left (w.question).limits spent.reads }
+
+-- so many frames serve for walks to this depth, which put the way to a fault where a row of links has room for it
+pub record AreEnough (depth frames row : ℕ) : Type 0 where
+  pub some : min depth 1 ≤ frames
+  pub room : depth ≤ max 64 frames
+  pub located : depth ≤ row → depth ≤ frames
 
 -- the bytes of an open buffer
 abbrev pub bytes_of : Whole → Level → List ℕ

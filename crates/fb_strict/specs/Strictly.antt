@@ -5,7 +5,6 @@ use Rattle.fb_rules.specs.{Question.Question, Tree.Tree}
 use Rattle.fb_rules.specs.{WellFormed.cost, Stops.Stops}
 use Rattle.fb_rules.specs.declared.{link.Link.Link}
 use Rattle.fb_rules.specs.{Links.StopsAlong}
-use Rattle.fb_verify.specs.{Sealed.Sealed}
 use Rattle.fb_strict.specs.{Planned.Planned, Planned.wants_in}
 use Rattle.fb_strict.specs.Nested.{IsGood, IsBad, EndsWith}
 use Rattle.fb_strict.specs.Asked.{demands_of, demands_reads}
@@ -30,7 +29,3 @@ StopsStrictly p q b f = Stops q b f ⊎ IsBad p q b f
 -- the same, with the links that lead there
 abbrev pub StopsAlongStrictly : Planned → Question → List ℕ → Fault → List Link → Type 0
 StopsAlongStrictly p q b f links = StopsAlong q b f links ⊎ EndsWith p q b (Err (record { fault = f; links = links }))
-
--- a buffer that was verified by this question, as contracts see it
-abbrev pub sealed_by : Question → List ℕ → Report → Sealed
-sealed_by q b r = record { bytes = b; schema = q.rows; root = q.root; start = q.start; checks = q.checks; report = r }

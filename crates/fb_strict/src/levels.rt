@@ -2,14 +2,12 @@
 
 ghost use Rattle.std.specs.Prelude.{◌≡◌, ◌+◌, ◌-◌, ◌*◌, ◌^◌, ◌<◌, ◌≤◌, ℕ, List, length, take, IfOk, IfErr, Some, None, Ok, IsTrue};
 ghost use Rattle.fb_schema.specs.Rows.{is_table};
-ghost use Rattle.fb_rules.specs.{Bounds.AreAllowed, Question.question, Tree.Tree, Tree.depth, Stops.Stops, Links.StopsAlong, Verdict.Reports, MostReads.most_reads};
-ghost use Rattle.fb_rules.specs.declared.{start.Start.TheVariants.Bare, start.Ident.TheVariants.Any};
+ghost use Rattle.fb_rules.specs.{Bounds.AreAllowed, Tree.Tree};
 ghost use Rattle.fb_strict.specs.{Planned.IsPlan, Asked.Demand, Asked.demands_of, Asked.demands_reads};
 ghost use Rattle.fb_strict.specs.Passing.{wants_of, IsPassing, IsRooted};
 ghost use Rattle.fb_strict.specs.Nested.{limits_inside};
-ghost use Rattle.fb_strict.specs.Strictly.{sealed_by};
 ghost use Rattle.fb_strict.specs.Levels.{IsOpened, Legged, unmet_by, fault_of, bytes_of, asked_from, resting, passing_of, IsAsking, Begun};
-ghost use Rattle.fb_strict.specs.Levels.{RootBegun, IsWalkedAt, WalkStops, HasEntered, IsUnderWay, IsAtInner, EndsAlong, turns_left};
+ghost use Rattle.fb_strict.specs.Levels.{RootBegun, IsWalkedAt, WalkStops, HasEntered, IsUnderWay, IsAtInner, EndsAlong, AreEnough, turns_left};
 ghost use Rattle.fb_strict.specs.Passing.{IsInner};
 ghost use Rattle.fb_strict.specs.Nested.{EndsWith};
 
@@ -17,7 +15,7 @@ use crate::inner::Inner;
 use crate::pass::Pass;
 use crate::plan::Plan;
 use crate::room::Frame;
-use crate::strictly::{left_of, refuse_short, root_of};
+use crate::strictly::{left_of, refuse_short, root_of, walk};
 use fb_bytes::{Loan, Meter, Window};
 use fb_rules::checks::Checks;
 use fb_rules::fault::{Fault, Report};
@@ -27,7 +25,7 @@ use fb_rules::site::{Halt, LastLink, Site, Stop};
 use fb_rules::start::{Ident, Start};
 use fb_rules::table::Child;
 use fb_schema::Schema;
-use fb_verify::{Located, Verified};
+use fb_verify::{Frame as WalkFrame, Located, Question};
 use std::alloc::Allocator;
 use std::marker::Model;
 
@@ -70,34 +68,6 @@ impl<'w, 'b, 'p, 's, 'n, A: Allocator> Model for Asking<'w, 'b, 'p, 's, 'n, A> {
     ghost Value = { Whole };
 
     ghost view = { λ a. record { plan = a.plan.now; question = question a.schema.now a.root a.start a.ident a.limits a.checks; bytes = a.window.now } };
-}
-
-/// Room in which buffers inside are walked.
-pub trait Walker {
-    /// How many tables may be open in it at once.
-    ghost room: { Self → ℕ };
-
-    /// Checks a bare buffer as [`fb_verify::verify`] does. Where there is a fault, and room for as many links as the
-    /// depth limit says, those that lead to it are put at the front of `links`.
-    fn walk<'b, 's, 'n>(
-        &mut self,
-        meter: Meter<'b>,
-        schema: &'s Schema<'n>,
-        root: u32,
-        limits: Limits,
-        checks: Checks,
-        links: &mut [Link],
-    ) -> Result<Verified<'b, 's, 'n>, Located>
-        requires fresh { meter.count ≡ 0 }
-        requires table { IsTrue (is_table schema.now root) }
-        requires room { limits.depth ≤ room self.old }
-        ensures yes { IfOk result (λ v. Reports (question schema.now root Bare Any limits checks) meter.entry.bytes v.report) }
-        ensures kept { IfOk result (λ v. v ≡ sealed_by (question schema.now root Bare Any limits checks) meter.entry.bytes v.report) }
-        ensures no { IfErr result (λ l. Stops (question schema.now root Bare Any limits checks) meter.entry.bytes l.fault) }
-        ensures along { IfErr result (λ l. limits.depth ≤ length links.old → StopsAlong (question schema.now root Bare Any limits checks) meter.entry.bytes l.fault (take l.links links.new)) }
-        ensures within { IfErr result (λ l. limits.depth ≤ length links.old → l.links ≤ length links.new) }
-        ensures few { IfErr result (λ l. (l.fault).reads ≤ most_reads schema.now limits (length meter.entry.bytes)) }
-        ensures same { room self.new ≡ room self.old };
 }
 
 /// How the way to what isn't met goes on from the tables that are open around its buffer.
@@ -290,9 +260,9 @@ impl<'w, 'b, 'p, 's, 'n, A: Allocator> Asking<'w, 'b, 'p, 's, 'n, A> {
 
     /// Walks a buffer inside, above which so many tables are open as the level says, and tells where its root table of
     /// this object stands. The links to a fault are put behind as many others.
-    fn walk<W: Walker>(
+    fn walk(
         &self,
-        walker: &mut W,
+        lent: &mut [WalkFrame],
         level: &Level,
         root: u32,
         links: &mut [Link],
@@ -302,23 +272,30 @@ impl<'w, 'b, 'p, 's, 'n, A: Allocator> Asking<'w, 'b, 'p, 's, 'n, A> {
         requires within { (level.now).begin + (level.now).size ≤ length self.now.bytes }
         requires table { IsTrue (is_table (self.now.question).rows root) }
         requires deep { (level.now).above ≤ (self.now.question).limits.depth }
-        requires room { (self.now.question).limits.depth ≤ W.room walker.old }
+        requires lent { AreEnough (self.now.question).limits.depth (length lent.old) (length links.old) }
         requires many { (spent.old).tables ≤ (self.now.question).limits.tables }
         requires allowed { AreAllowed (self.now.question).limits.reads (spent.old).reads }
         requires few { (spent.old).reads ≤ 2 ^ 119 }
         requires low { (spent.old).depth ≤ 4096 }
         ensures yes { IfOk result (λ child. (y : Tree) × IsWalkedAt self.now level.now root spent.old spent.new child y) }
         ensures no { IfErr result (λ l. WalkStops self.now spent.old links.new level.now root l.fault l.links) }
-        ensures same { W.room walker.new ≡ W.room walker.old }
     {
         let Ok(meter) = Meter::new(self.bytes_of(level)) else {
             unreachable!()
         };
         let _bounds = (tables_of(self.limits), self.schema.widest());
         let limits = self.limits_inside(level.above, *spent);
+        let question = Question {
+            schema: self.schema,
+            root,
+            start: Start::Bare,
+            ident: Ident::Any,
+            limits,
+            checks: self.checks,
+        };
         let around = (level.above as usize).min(links.len());
         let (_, own) = links.split_at_mut(around);
-        match walker.walk(meter, self.schema, root, limits, self.checks, own) {
+        match walk(meter, &question, lent, own) {
             Ok(verified) => {
                 let report = verified.report();
                 let at = root_of(verified.window(), Start::Bare);
@@ -340,9 +317,9 @@ impl<'w, 'b, 'p, 's, 'n, A: Allocator> Asking<'w, 'b, 'p, 's, 'n, A> {
     }
 
     /// Enters a buffer that lies in this one: walks it, and opens it.
-    fn enter<W: Walker>(
+    fn enter(
         &self,
-        walker: &mut W,
+        lent: &mut [WalkFrame],
         around: Level,
         inner: Inner,
         frames: &mut [Frame],
@@ -354,14 +331,13 @@ impl<'w, 'b, 'p, 's, 'n, A: Allocator> Asking<'w, 'b, 'p, 's, 'n, A> {
         requires within { around.begin + around.size ≤ length self.now.bytes }
         requires deep { around.above + around.many ≤ (self.now.question).limits.depth }
         requires frames { (self.now.question).limits.depth ≡ length frames.old }
-        requires room { (self.now.question).limits.depth ≤ W.room walker.old }
+        requires lent { AreEnough (self.now.question).limits.depth (length lent.old) (length links.old) }
         requires many { (spent.old).tables ≤ (self.now.question).limits.tables }
         requires allowed { AreAllowed (self.now.question).limits.reads (spent.old).reads }
         requires few { (spent.old).reads ≤ 2 ^ 119 }
         requires low { (spent.old).depth ≤ 4096 }
         ensures entered { HasEntered self.now spent.old spent.new frames.new links.new around inner result }
         ensures below { take (around.above + around.many) frames.new ≡ take (around.above + around.many) frames.old }
-        ensures same { W.room walker.new ≡ W.room walker.old }
     {
         let level = Level {
             begin: around.begin + inner.at,
@@ -369,7 +345,7 @@ impl<'w, 'b, 'p, 's, 'n, A: Allocator> Asking<'w, 'b, 'p, 's, 'n, A> {
             above: around.above + around.many,
             many: 0,
         };
-        match self.walk(walker, &level, inner.root, links, spent) {
+        match self.walk(lent, &level, inner.root, links, spent) {
             Ok(root) => self.begin(level, root, frames, spent),
             Err(Located { fault, links }) => {
                 let rest = Rest::Walked(links);
@@ -380,9 +356,9 @@ impl<'w, 'b, 'p, 's, 'n, A: Allocator> Asking<'w, 'b, 'p, 's, 'n, A> {
 
     /// Enters a buffer that lies in the innermost of those that are open, behind so many others. Answers how many are
     /// open then.
-    fn go_in<W: Walker>(
+    fn go_in(
         &self,
-        walker: &mut W,
+        lent: &mut [WalkFrame],
         level: Level,
         inner: Inner,
         frames: &mut [Frame],
@@ -395,15 +371,14 @@ impl<'w, 'b, 'p, 's, 'n, A: Allocator> Asking<'w, 'b, 'p, 's, 'n, A> {
         requires reached { IsAtInner self.now spent.old frames.old levels.old others level inner }
         requires frames { (self.now.question).limits.depth ≡ length frames.old }
         requires levels { (self.now.question).limits.depth ≤ length levels.old }
-        requires room { (self.now.question).limits.depth ≤ W.room walker.old }
+        requires lent { AreEnough (self.now.question).limits.depth (length lent.old) (length links.old) }
         ensures on { IfOk result (λ then. IsUnderWay self.now spent.new frames.new levels.new then) }
         ensures falls { IfOk result (λ then. turns_left self.now spent.new then < turns_left self.now spent.old (others + 1)) }
         ensures no { IfErr result (λ m. EndsAlong self.now frames.new levels.new links.new m) }
-        ensures same { W.room walker.new ≡ W.room walker.old }
     {
         let at = others as usize;
         levels[at] = level;
-        match self.enter(walker, level, inner, frames, links, spent) {
+        match self.enter(lent, level, inner, frames, links, spent) {
             Ok(inside) => {
                 levels[at + 1] = inside;
                 Ok(others + 2)
@@ -417,9 +392,9 @@ impl<'w, 'b, 'p, 's, 'n, A: Allocator> Asking<'w, 'b, 'p, 's, 'n, A> {
 
     /// One leg in the innermost of so many open buffers, behind which a buffer inside it is entered, or it is closed.
     /// Answers how many are open then.
-    fn turn<W: Walker>(
+    fn turn(
         &self,
-        walker: &mut W,
+        lent: &mut [WalkFrame],
         frames: &mut [Frame],
         levels: &mut [Level],
         many: u32,
@@ -431,19 +406,16 @@ impl<'w, 'b, 'p, 's, 'n, A: Allocator> Asking<'w, 'b, 'p, 's, 'n, A> {
         requires some { 0 < many }
         requires frames { (self.now.question).limits.depth ≡ length frames.old }
         requires levels { (self.now.question).limits.depth ≤ length levels.old }
-        requires room { (self.now.question).limits.depth ≤ W.room walker.old }
+        requires lent { AreEnough (self.now.question).limits.depth (length lent.old) (length links.old) }
         ensures on { IfOk result (λ then. IsUnderWay self.now spent.new frames.new levels.new then) }
         ensures falls { IfOk result (λ then. turns_left self.now spent.new then < turns_left self.now spent.old many) }
         ensures no { IfErr result (λ m. EndsAlong self.now frames.new levels.new links.new m) }
-        ensures same { W.room walker.new ≡ W.room walker.old }
     {
         let others = many - 1;
         let mut level = levels[others as usize];
         match self.leg(&mut level, frames, spent) {
             Ok(None) => Ok(others),
-            Ok(Some(inner)) => self.go_in(
-                walker, level, inner, frames, levels, others, links, spent,
-            ),
+            Ok(Some(inner)) => self.go_in(lent, level, inner, frames, levels, others, links, spent),
             Err(unmet) => Err(Missed {
                 unmet,
                 levels: others,
@@ -452,9 +424,9 @@ impl<'w, 'b, 'p, 's, 'n, A: Allocator> Asking<'w, 'b, 'p, 's, 'n, A> {
     }
 
     /// Asks all that is left of the whole buffer, of which the first level is open.
-    pub fn run<W: Walker>(
+    pub fn run(
         &self,
-        walker: &mut W,
+        lent: &mut [WalkFrame],
         frames: &mut [Frame],
         levels: &mut [Level],
         links: &mut [Link],
@@ -464,14 +436,13 @@ impl<'w, 'b, 'p, 's, 'n, A: Allocator> Asking<'w, 'b, 'p, 's, 'n, A> {
         requires under { IsUnderWay self.now spent.old frames.old levels.old 1 }
         requires frames { (self.now.question).limits.depth ≡ length frames.old }
         requires levels { (self.now.question).limits.depth ≤ length levels.old }
-        requires room { (self.now.question).limits.depth ≤ W.room walker.old }
+        requires lent { AreEnough (self.now.question).limits.depth (length lent.old) (length links.old) }
         ensures yes { IfOk result (λ _. EndsWith (self.now).plan (self.now).question (self.now).bytes (Ok spent.new)) }
         ensures no { IfErr result (λ m. EndsAlong self.now frames.new levels.new links.new m) }
-        ensures same { W.room walker.new ≡ W.room walker.old }
     {
         let mut many = 1;
         while many > 0 {
-            match self.turn(walker, frames, levels, many, links, spent) {
+            match self.turn(lent, frames, levels, many, links, spent) {
                 Ok(then) => many = then,
                 Err(missed) => return Err(missed),
             }

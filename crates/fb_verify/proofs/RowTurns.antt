@@ -1,5 +1,5 @@
 -- Turns through the words of the top's row.
-use Rattle.std.proofs.Common.{◌≡◌, ℕ, ◌+◌, ◌*◌, ◌^◌, ◌<◌, ◌≤◌, true, max, List, [], ◌∷◌, ◌++◌, map, length, take, inl, inr, refl, sym, ◌∙◌, ap, arith, Some, None}
+use Rattle.std.proofs.Common.{◌≡◌, ℕ, zero, suc, ◌+◌, ◌*◌, ◌%◌, ◌^◌, ◌<◌, ◌≤◌, true, max, List, [], ◌∷◌, ◌++◌, map, length, take, inl, inr, refl, sym, ◌∙◌, ap, arith, Some, None}
 use Rattle.std.proofs.lemmas.{Bool.cases_eq, List.length-append, List.take_all}
 use Rattle.fb_bytes.specs.Word.{Lent}
 use Rattle.fb_schema.specs.declared.views.Step.{Step}
@@ -9,11 +9,11 @@ use Rattle.fb_verify.specs.declared.scratch.Frame.{Frame}
 use Rattle.fb_rules.specs.declared.site.{LastLink.TheVariants.Behind, LastLink.TheVariants.InField, Stop.Stop}
 use Rattle.fb_verify.specs.declared.stack.Walk.{Walk}
 use Rattle.fb_rules.specs.{Bounds.AreAllowed, Cost.head_reads, OffsetRows.first_word, OffsetRows.past_first, Order.after, Order.element_failure}
-use Rattle.fb_rules.specs.Plain.{tested_by}
+use Rattle.fb_rules.specs.{Places.is_aligned, Plain.StandsAt, Plain.tested_by}
 use Rattle.fb_verify.specs.StopsAt.{IsStopAt}
 use Rattle.fb_verify.specs.Flat.{in_head, frame_at, MayPass, PassesFlat}
 use Rattle.fb_verify.specs.Stack.{Waiting, IsAtTable, IsWalking, HaltsIn, links_left}
-use Rattle.fb_verify.specs.Turns.{IsShort, IsAtChild, GoesDown, GoesOn, Halts}
+use Rattle.fb_verify.specs.Turns.{IsShort, IsAtChild, GoesDown, GoesOn, Halts, RowStands, deepest_with, with_tables}
 use Rattle.fb_rules.proofs.{Budgets.fewer_reads, Few.first_few, Few.head_few}
 use Rattle.fb_verify.proofs.{Turns.words_work, Flats.flat_work, Flats.word_fails}
 use Rattle.fb_verify.proofs.Turns.{at_child, down_falls, halts_behind}
@@ -24,6 +24,35 @@ two m = omega arith
 -- the walk goes on where it is
 pub stays : (w : Walk) (m : Lent) (under : Waiting) (top : Frame) → IsWalking w m under.start under.frames top → IsShort m.count → GoesOn w w m m under top top
 stays w m under top h short = record { same = refl; walking = h; table = refl; falls = omega arith; grows = omega arith; bytes = refl; short = short }
+
+-- The words of a row that stand.
+
+pub word_stands : {c : Checks} {b : List ℕ} {row : Row} → RowStands c b row → 0 < row.left → StandsAt c b row.place
+word_stands h more = record { near = omega (arith, h.near); within = omega (arith, h.within, more); aligned = h.aligned }
+
+next_word : (p : ℕ) → (p + 4) % 4 ≡ p % 4
+next_word p = omega arith
+
+pub next_stands : {c : Checks} {b : List ℕ} {row past : Row} → RowStands c b row → 0 < row.left → past ≡ past_first row → RowStands c b past
+unfolding is_aligned
+next_stands {row = row} h more is = rw is (record { near = omega (arith, h.near, more); within = omega (arith, h.within, more); aligned = rw (next_word row.place) h.aligned })
+
+-- Tables that were counted.
+
+pub none_with : (w : Walk) (links n : ℕ) → n ≡ 0 → with_tables w links n ≡ w
+none_with w links n e = rw e (ap (λ t. record w { tables = t }) (omega arith))
+
+pub deepest_some : (d links n : ℕ) → 0 < n → deepest_with d links n ≡ max d links
+deepest_some d links zero h = absurd (omega arith)
+deepest_some d links (suc n) h = refl
+
+deeper : (d links n m : ℕ) → m ≡ n + 1 → deepest_with d links m ≡ max (deepest_with d links n) links
+deeper d links n zero e = absurd (omega arith)
+deeper d links zero (suc m) e = refl
+deeper d links (suc n) (suc m) e = omega arith
+
+pub one_with : (w : Walk) (links n m : ℕ) → m ≡ n + 1 → with_tables w links m ≡ record w { tables = w.tables + n + 1; deepest = max (deepest_with w.deepest links n) links }
+one_with w links n m e = let t : w.tables + m ≡ w.tables + n + 1 = omega (arith, e) in ap (λ k. record w { tables = k; deepest = deepest_with w.deepest links m }) t ∙ ap (λ d. record w { tables = w.tables + n + 1; deepest = d }) (deeper w.deepest links n m e)
 
 module _ {w then : Walk} {m new : Lent} {under : Waiting} {top past : Frame} (on : GoesOn w then m new under top past) where
   -- a word is passed that leads to no table

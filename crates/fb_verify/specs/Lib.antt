@@ -16,6 +16,7 @@ pub use Rattle.fb_rules.specs.Reasons
 pub use Rattle.fb_rules.specs.MostReads
 pub use Rattle.fb_rules.specs.Verdict
 pub mod Sealed
+pub mod Lending
 pub use Rattle.fb_rules.specs.Laws
 pub use Rattle.fb_rules.specs.TrueReasons
 pub use Rattle.fb_rules.specs.Samples

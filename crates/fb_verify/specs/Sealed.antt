@@ -18,6 +18,10 @@ pub record Sealed : Type 0 where
 abbrev pub asked_of : Sealed → Ident → Bounds → Question
 asked_of v ident L = question v.schema v.root v.start ident L v.checks
 
+-- a buffer that was verified by this question
+abbrev pub sealed_by : Question → List ℕ → Report → Sealed
+sealed_by q b r = record { bytes = b; schema = q.rows; root = q.root; start = q.start; checks = q.checks; report = r }
+
 -- the bytes, of which there are fewer than 2^31, unfold by the schema from the root, which is a table, into a tree that
 -- the report counts: its tables, its depth, and its reads with those of the start, of which an identifier that was
 -- asked for is one

@@ -1,16 +1,16 @@
 -- What a turn of a quick walk leaves: it goes on, up or down, or it stops.
-use Rattle.std.specs.Prelude.{◌≡◌, ℕ, ◌+◌, ◌-◌, ◌*◌, ◌<◌, ◌≤◌, ◌^◌, List, [], ◌∷◌, ◌++◌, take, length, slice_get, slice_index_or, IsTrue, Option, Some, None, Result, Ok, Err, true}
+use Rattle.std.specs.Prelude.{◌≡◌, ℕ, zero, suc, ◌+◌, ◌-◌, ◌*◌, ◌<◌, ◌≤◌, ◌^◌, max, List, [], ◌∷◌, ◌++◌, take, length, slice_get, slice_index_or, IsTrue, Option, Some, None, Result, Ok, Err, true}
 use Rattle.fb_bytes.specs.Word.{Lent}
 use Rattle.fb_schema.specs.declared.{kinds.Kind.Kind, views.Act.TheVariants.Other, views.Step.Step}
 use Rattle.fb_schema.specs.declared.kinds.Kind.TheVariants.{Table as ToTable, Union, Texts, Tables, Unions}
 use Rattle.fb_schema.specs.{Rows.is_table, Live.Live, Live.live_fields, Live.widest, Steps.act_of, Steps.is_plain, Steps.step_of}
-use Rattle.fb_rules.specs.declared.{table.Child.Child, fault.Reason.Reason, offset_row.Row.Row, offset_row.Leads.TheVariants.All}
+use Rattle.fb_rules.specs.declared.{checks.Checks.Checks, table.Child.Child, fault.Reason.Reason, offset_row.Row.Row, offset_row.Leads.TheVariants.All}
 use Rattle.fb_rules.specs.declared.{offset_row.Referent.TheVariants.Table as ATable, site.Halt.Halt}
 use Rattle.fb_verify.specs.declared.scratch.Frame.{Frame}
 use Rattle.fb_rules.specs.declared.site.LastLink.TheVariants.{Behind}
 use Rattle.fb_verify.specs.declared.stack.{Turn.Turn, Walk.Walk}
 use Rattle.fb_verify.specs.declared.stack.Turn.TheVariants.{Down, Up, Slowly, Halt as Halted}
-use Rattle.fb_rules.specs.{Bounds.AreAllowed, OffsetRows.past_first, Order.after, Order.head_failure}
+use Rattle.fb_rules.specs.{Bounds.AreAllowed, OffsetRows.past_first, Order.after, Order.head_failure, Places.is_aligned}
 use Rattle.fb_verify.specs.Flat.{MayOpen}
 use Rattle.fb_rules.specs.Plain.{tested_by}
 use Rattle.fb_verify.specs.PassesOn.{HasRoom, fields_left}
@@ -116,12 +116,31 @@ pub record Halts (w then : Walk) (m new : Lent) (under : Waiting) (past : Frame)
 
 -- the walk goes on in this row, and the limits allow its first word to be passed, and a table to which it may lead to
 -- be opened
-pub record IsAtMember (w : Walk) (m : Lent) (under : Waiting) (waiting room : ℕ) (top : Frame) (row : Row) : Type 0 where
+pub record IsAtMember (w : Walk) (m : Lent) (under : Waiting) (waiting : ℕ) (top : Frame) (row : Row) : Type 0 where
   pub in-row : IsInRow w m under waiting (record top { row = row })
   pub limits : AllowsTable w (waiting + 1)
-  pub few : m.count + 8 ≤ room
-  pub allowed : AreAllowed (w.limits).reads room
-  pub short : IsShort room
+  pub allowed : AreAllowed (w.limits).reads (m.count + 8)
+  pub short : IsShort (m.count + 8)
+
+-- the words of a row can be read
+pub record RowStands (c : Checks) (b : List ℕ) (row : Row) : Type 0 where
+  pub near : row.place + 4 * row.left < 2 ^ 32
+  pub within : row.place + 4 * row.left ≤ length b
+  pub aligned : IsTrue (is_aligned c row.place 4)
+
+-- the limits allow that each word of this row leads to a table with so many fields that are passed, six reads for each
+pub record FitsWhole (w : Walk) (m : Lent) (row : Row) (fields : ℕ) : Type 0 where
+  pub tables : w.tables + row.left ≤ (w.limits).tables
+  pub reads : AreAllowed (w.limits).reads (m.count + row.left * (8 + 6 * fields))
+  pub short : IsShort (m.count + row.left * (8 + 6 * fields))
+
+-- so many tables more were opened, with each of which so many were open
+abbrev pub deepest_with : (deepest links n : ℕ) → ℕ
+deepest_with deepest links zero = deepest
+deepest_with deepest links (suc n) = max deepest links
+
+abbrev pub with_tables : Walk → (links n : ℕ) → Walk
+with_tables w links n = record w { tables = w.tables + n; deepest = deepest_with w.deepest links n }
 
 -- a word is left of this row, and the limits allow a table behind it, for so many reads up to so many in all
 pub record HasWord (w : Walk) (m : Lent) (row : Row) (cost most : ℕ) : Type 0 where
@@ -287,6 +306,9 @@ Ran w then m new s frames (Ok a) = WentOver w then m new s
 Ran w then m new s frames (Err h) = RanWrong w m new s frames h
 
 -- the budget allows whatever the fields of any table may cost after fewer reads than these
+abbrev pub IsBrimFor : Walk → (most brim : ℕ) → Type 0
+IsBrimFor w most brim = (n : ℕ) → n < brim → AreAllowed (w.limits).reads (n + most) × IsShort (n + most)
+
 abbrev pub IsBrim : Walk → ℕ → Type 0
 IsBrim w brim = (n : ℕ) → n < brim → AreAllowed (w.limits).reads (n + 8 + 6 * widest w.schema.now) × IsShort (n + 8 + 6 * widest w.schema.now)
 

@@ -18,7 +18,7 @@ use fb_rules::fault::Reason;
 use fb_rules::leads::{put_union, put_unions, put_word, put_words};
 use fb_rules::limits::short_of;
 use fb_rules::offset_row::{NO_ROW, Referent, Row};
-use fb_rules::plain::{fails, test_inline_field, test_vector_field};
+use fb_rules::plain::{Standing, fails, test_inline_field, test_vector_field};
 use fb_rules::table::{Child, Table};
 use fb_schema::{FieldView, Kind};
 
@@ -227,8 +227,7 @@ impl<'s, 'n> Walk<'s, 'n> {
         ensures { FieldTurned self.old self.new reads.old reads.new under top.old top.new child.new result }
     {
         let schema = self.schema;
-        let room = short_of(self.limits);
-        if !self.may_open(reads, waiting + 1, 13, room) {
+        if !self.may_open(reads, waiting + 1, 13, short_of(self.limits)) {
             return self.go_far_by_checks(reads, waiting, at, field, top, child);
         }
         let table = top.table;
@@ -245,7 +244,15 @@ impl<'s, 'n> Walk<'s, 'n> {
         }
         top.number = field.number;
         let turn = self.pass_member(
-            PUBLISHED, reads, waiting, room, NO_TARGETS, &mut row, top, child,
+            PUBLISHED,
+            reads,
+            waiting,
+            self.brim(),
+            Standing::Unknown,
+            NO_TARGETS,
+            &mut row,
+            top,
+            child,
         );
         if let Turn::Up = turn {
             top.row = row;

@@ -12,9 +12,11 @@ ghost use Rattle.fb_verify.specs.declared.stack.Turn.TheVariants.{Halt as Halted
 ghost use Rattle.fb_rules.specs.declared.site.LastLink.TheVariants.{Behind, InField};
 ghost use Rattle.fb_verify.specs.Flat.{in_head, frame_at, Going, MayPass, PassesFlat};
 ghost use Rattle.fb_verify.specs.PassesOn.{IsBetween, HasRoom, Passage, PassesOn, CameTo, steps_left};
-ghost use Rattle.fb_verify.specs.Turns.{HasWord, IsAtMember, IsAtMembers, IsAtFlats, MemberTurned, RowTurned};
+ghost use Rattle.fb_rules.specs.{Plain.StandsAt, declared.plain.Standing.TheVariants.Known};
+ghost use Rattle.fb_verify.specs.Turns.{HasWord, IsAtMember, IsBrim, IsAtMembers, IsAtFlats, FitsWhole, MemberTurned, RowTurned};
+ghost use Rattle.fb_verify.specs.declared.flat.Extent.TheVariants.{Whole, Part};
 
-use crate::leaves::{first_referent, stop_at_word, targets_of};
+use crate::leaves::{first_referent, stands, stop_at_word, targets_of};
 use crate::scratch::Frame;
 use crate::stack::{Turn, Walk};
 use fb_bytes::Reads;
@@ -23,7 +25,9 @@ use fb_rules::fault::Reason;
 use fb_rules::limits::{short_of, tables_of};
 use fb_rules::offset_row::{Leads, Referent, Row};
 use fb_rules::passed::{Passed, Sizes, sizes_of};
-use fb_rules::plain::{Came, pass_step, test_first_word, test_head, test_lead, test_vtable};
+use fb_rules::plain::{
+    Came, Standing, follow, pass_step, test_first_word, test_head, test_lead, test_vtable,
+};
 use fb_rules::site::LastLink;
 use fb_rules::table::{Child, NO_HEAD, Table};
 use fb_schema::{Schema, Step, Targets};
@@ -257,6 +261,29 @@ pub fn open_frame(
     failed
 }
 
+/// How many words of a row the limits are known to allow, whatever these may cost.
+#[derive(Clone, Copy)]
+enum Extent {
+    /// All that are left.
+    Whole,
+    /// Maybe not all, so that the limits are asked at each.
+    Part,
+}
+
+/// Whether a word is left of a row, and the limits allow it: where they may not allow all, more words than so many are
+/// left, and there were fewer reads than these.
+#[inline(always)]
+fn has_next(reads: &Reads<'_>, row: Row, extent: Extent, rest: u32, brim: u64) -> bool
+    requires few { reads.now.count < 2 ^ 57 }
+    ensures more { result ≡ true → 0 < row.left }
+    ensures allowed { result ≡ true → extent ≡ Part → (rest < row.left) × (reads.now.count < brim) }
+{
+    match extent {
+        Extent::Whole => row.left > 0,
+        Extent::Part => row.left > rest && reads.count() < brim,
+    }
+}
+
 impl<'s, 'n> Walk<'s, 'n> {
     /// Whether a `uoffset` is left of a row, and the limits allow to pass it and to open one more table behind it,
     /// for so many reads at most.
@@ -280,29 +307,40 @@ impl<'s, 'n> Walk<'s, 'n> {
         waiting: u32,
         object: u32,
         sizes: Sizes,
+        extent: Extent,
         top: &mut Frame,
     ) -> Turn
         ghost under: { Waiting }
         requires flats { IsAtFlats self.old reads.old under waiting top.old object }
         requires same { checks ≡ self.old.checks }
         requires small { sizes ≡ Small → All IsSmallStep (map step_of (live_fields self.old.schema.now object)) }
+        requires whole { extent ≡ Whole → FitsWhole self.old reads.old top.old.row (length (live_fields self.old.schema.now object)) }
         ensures { (child : Child) → RowTurned self.old self.new reads.old reads.new under top.old top.new child result }
     {
         let schema = self.schema;
         let steps = schema.steps_of(object);
-        let cost = 8 + 6 * steps.len() as u64;
-        let room = short_of(self.limits);
-        let mut row = top.row;
+        // The same words, of which it is known here what they lead to.
+        let mut row = Row {
+            leads: Leads::All(Referent::Table(object)),
+            place: top.row.place,
+            left: top.row.left,
+        };
+        if !stands(reads, checks, row) {
+            return Turn::Slowly;
+        }
+        let brim = self.brim_for(8 + 6 * steps.len() as u64);
+        let rest = row
+            .left
+            .saturating_sub(tables_of(self.limits) - self.tables);
         let mut passed = Passed::none(sizes);
-        while self.has_word(reads, row, cost, room) {
+        while has_next(reads, row, extent, rest, brim) {
             let mut at = row.place;
-            let failed = test_lead(reads, checks, &mut at, Referent::Table(object));
+            let failed = follow(reads, checks, &mut at);
             if let Some(reason) = failed {
                 let stop = stop_at_word(top, row, at, reason);
                 return self.stop(stop, waiting + 1, LastLink::Behind);
             }
             row.advance_all();
-            self.count_table(waiting + 2);
             let mut next = 0;
             let came = pass_alike(
                 self,
@@ -322,6 +360,7 @@ impl<'s, 'n> Walk<'s, 'n> {
                 return self.stop_in_flat(object, next, at, reason, waiting + 1);
             }
         }
+        self.count_tables(waiting + 2, top.row.left - row.left);
         top.row = row;
         if row.left == 0 {
             Turn::Up
@@ -342,10 +381,19 @@ impl<'s, 'n> Walk<'s, 'n> {
         ghost under: { Waiting }
         requires flats { IsAtFlats self.old reads.old under waiting top.old object }
         requires same { record { alignment = true; inline_size = false } ≡ self.old.checks }
+        requires whole { FitsWhole self.old reads.old top.old.row (length (live_fields self.old.schema.now object)) }
         ensures { (child : Child) → RowTurned self.old self.new reads.old reads.new under top.old top.new child result }
     {
         let mut own = reads.lend();
-        let turn = self.pass_flats(PUBLISHED, &mut own, waiting, object, Sizes::Any, top);
+        let turn = self.pass_flats(
+            PUBLISHED,
+            &mut own,
+            waiting,
+            object,
+            Sizes::Any,
+            Extent::Whole,
+            top,
+        );
         reads.settle(own);
         turn
     }
@@ -363,10 +411,19 @@ impl<'s, 'n> Walk<'s, 'n> {
         requires flats { IsAtFlats self.old reads.old under waiting top.old object }
         requires same { record { alignment = true; inline_size = false } ≡ self.old.checks }
         requires small { All IsSmallStep (map step_of (live_fields self.old.schema.now object)) }
+        requires whole { FitsWhole self.old reads.old top.old.row (length (live_fields self.old.schema.now object)) }
         ensures { (child : Child) → RowTurned self.old self.new reads.old reads.new under top.old top.new child result }
     {
         let mut own = reads.lend();
-        let turn = self.pass_flats(PUBLISHED, &mut own, waiting, object, Sizes::Small, top);
+        let turn = self.pass_flats(
+            PUBLISHED,
+            &mut own,
+            waiting,
+            object,
+            Sizes::Small,
+            Extent::Whole,
+            top,
+        );
         reads.settle(own);
         turn
     }
@@ -385,7 +442,30 @@ impl<'s, 'n> Walk<'s, 'n> {
         requires { IsAtFlats self.old reads.old under waiting top.old object }
         ensures { (child : Child) → RowTurned self.old self.new reads.old reads.new under top.old top.new child result }
     {
-        self.pass_flats(self.checks, reads, waiting, object, Sizes::Any, top)
+        self.pass_flats(
+            self.checks,
+            reads,
+            waiting,
+            object,
+            Sizes::Any,
+            Extent::Part,
+            top,
+        )
+    }
+
+    /// Whether the limits allow all words of a row to be passed with the tables of this object to which they lead.
+    #[inline(always)]
+    fn fits_whole(&self, reads: &Reads<'_>, row: Row, object: u32) -> bool
+        requires table { IsTrue (is_table self.now.schema.now object) }
+        requires fields { length (live_fields self.now.schema.now object) ≤ 32766 }
+        requires tables { self.now.tables ≤ (self.now.limits).tables }
+        requires few { reads.now.count < 2 ^ 57 }
+        ensures { result ≡ true → FitsWhole self.now reads.now row (length (live_fields self.now.schema.now object)) }
+    {
+        let cost = 8 + 6 * self.schema.steps_of(object).len() as u32;
+        let most = u64::from(row.left) * u64::from(cost);
+        row.left <= tables_of(self.limits) - self.tables
+            && most < short_of(self.limits).saturating_sub(reads.count())
     }
 
     /// The same, by the function for the walk's checks.
@@ -403,7 +483,7 @@ impl<'s, 'n> Walk<'s, 'n> {
         requires same { checks ≡ self.old.checks }
         ensures { (child : Child) → RowTurned self.old self.new reads.old reads.new under top.old top.new child result }
     {
-        if are_published(checks) {
+        if are_published(checks) && self.fits_whole(reads, top.row, object) {
             if top.row.left > 1 && matches!(sizes_of(self.schema.steps_of(object)), Sizes::Small) {
                 return self.pass_small_by_published(reads, waiting, object, top);
             }
@@ -413,22 +493,24 @@ impl<'s, 'n> Walk<'s, 'n> {
     }
 
     /// Passes the first `uoffset` of a row, with what it leads to, and answers `Up`; unless that is a table of which
-    /// a field may lead on, or for whose fields there is no room up to so many reads: such a table is to be opened. The
-    /// top is left with the row past that word, if it is to be opened or the walk stops. So many frames wait below it.
+    /// a field may lead on, or to which the walk comes at the brim: such a table is to be opened. The top is left with the row past that word, if it is to be opened or the walk stops. So many frames wait below it.
     #[inline(always)]
     pub fn pass_member(
         &mut self,
         checks: Checks,
         reads: &mut Reads<'_>,
         waiting: u32,
-        room: u64,
+        brim: u64,
+        standing: Standing,
         targets: Targets<'_>,
         row: &mut Row,
         top: &mut Frame,
         child: &mut Child,
     ) -> Turn
         ghost under: { Waiting }
-        requires member { IsAtMember self.old reads.old under waiting room top.old row.old }
+        requires member { IsAtMember self.old reads.old under waiting top.old row.old }
+        requires brim { IsBrim self.old brim }
+        requires stands { standing ≡ Known → StandsAt checks reads.old.bytes row.old.place }
         requires targets { AreTargetsOf self.old.schema.now targets row.old.leads }
         requires same { checks ≡ self.old.checks }
         ensures { MemberTurned self.old self.new reads.old reads.new under top.old top.new row.old row.new child.new result }
@@ -436,7 +518,7 @@ impl<'s, 'n> Walk<'s, 'n> {
         let schema = self.schema;
         let referent = first_referent(reads, targets, schema, *row);
         let mut at = row.place;
-        let failed = test_lead(reads, checks, &mut at, referent);
+        let failed = test_lead(reads, checks, &mut at, referent, standing);
         if let Some(reason) = failed {
             let stop = stop_at_word(top, *row, at, reason);
             return self.stop(stop, waiting + 1, LastLink::Behind);
@@ -445,7 +527,7 @@ impl<'s, 'n> Walk<'s, 'n> {
         if let Referent::Table(object) = referent {
             self.count_table(waiting + 2);
             let steps = schema.steps_of(object);
-            if !schema.is_plain(object) || reads.count() + 4 + 6 * steps.len() as u64 > room {
+            if !schema.is_plain(object) || reads.count() >= brim {
                 top.row = *row;
                 child.object = object;
                 child.at = at;
@@ -484,7 +566,11 @@ impl<'s, 'n> Walk<'s, 'n> {
         ensures { RowTurned self.old self.new reads.old reads.new under top.old top.new child.new result }
     {
         let schema = self.schema;
+        if !stands(reads, checks, top.row) {
+            return Turn::Slowly;
+        }
         let room = short_of(self.limits);
+        let brim = self.brim();
         // The same words, whose types are known at each turn of the loop then.
         let leads = Leads::ByType(union, types);
         let targets = targets_of(schema, leads);
@@ -494,7 +580,17 @@ impl<'s, 'n> Walk<'s, 'n> {
             left: top.row.left,
         };
         while self.has_word(reads, row, 8, room) {
-            match self.pass_member(checks, reads, waiting, room, targets, &mut row, top, child) {
+            match self.pass_member(
+                checks,
+                reads,
+                waiting,
+                brim,
+                Standing::Known,
+                targets,
+                &mut row,
+                top,
+                child,
+            ) {
                 Turn::Up => {}
                 turn => return turn,
             }

@@ -1,10 +1,10 @@
 // The `uoffset`s by which a field leads on, passed by reads that are counted in a register.
 
-ghost use Rattle.std.specs.Prelude.{◌≡◌, ◌+◌, ◌*◌, ◌^◌, ◌<◌, ◌≤◌, [], ◌∷◌, ◌++◌, IfOk, IfErr, Some};
+ghost use Rattle.std.specs.Prelude.{◌≡◌, ◌+◌, ◌*◌, ◌^◌, ◌<◌, ◌≤◌, [], ◌∷◌, ◌++◌, IfOk, IfErr, Some, true};
 ghost use Rattle.fb_schema.specs.Served.{IsServed};
 ghost use Rattle.fb_rules.specs.{Bounds.AreAllowed, Told.stopped};
 ghost use Rattle.fb_verify.specs.Stack.{Waiting, IsWalking, IsStoppedBehind};
-ghost use Rattle.fb_verify.specs.Turns.{IsInRow, Rests, RowTurned};
+ghost use Rattle.fb_verify.specs.Turns.{IsInRow, Rests, RowStands, RowTurned};
 ghost use Rattle.fb_rules.specs.OffsetRows.{lead_to, first_word, past_first, AreOfUnion, AreTargetsOf, IsLeafLead, IsReferent, IsRow, AreTypesNear};
 ghost use Rattle.fb_rules.specs.declared.offset_row.Leads.TheVariants.{All};
 
@@ -15,8 +15,8 @@ use fb_rules::checks::Checks;
 use fb_rules::fault::Reason;
 use fb_rules::limits::short_of;
 use fb_rules::offset_row::{Leads, Referent, Row, referent_among};
-use fb_rules::plain::test_lead;
-use fb_rules::site::{LastLink, Refusal, Stop};
+use fb_rules::plain::{Standing, test_lead};
+use fb_rules::site::{LastLink, Refusal, Stop, is_aligned};
 use fb_rules::table::Child;
 use fb_schema::{Schema, Targets};
 
@@ -65,6 +65,16 @@ pub fn first_referent(
     }
 }
 
+/// Whether the words of a row stand in the buffer, so that each can be read. Those of a vector do.
+#[inline(always)]
+#[tactic(auto, using(fb_rules::proofs::Alignments::four))]
+pub fn stands(reads: &Reads<'_>, checks: Checks, row: Row) -> bool
+    requires near { row.place < 2 ^ 36 }
+    ensures { result ≡ true → RowStands checks reads.now.bytes row }
+{
+    is_aligned(checks, row.place, 4) && row.place + 4 * u64::from(row.left) <= reads.len()
+}
+
 /// Where the walk stops at the first `uoffset` that is left of the top table's field. The top is left past that word,
 /// as it is where the word leads to a table.
 #[cold]
@@ -103,6 +113,7 @@ impl Walk<'_, '_> {
         requires leads { (top.old.row).leads ≡ All referent }
         requires leaf { IsLeafLead (lead_to referent) }
         requires checks { checks ≡ self.now.checks }
+        requires stands { RowStands checks reads.old.bytes top.old.row }
         ensures rests { IfOk result (λ _. Rests self.now self.now reads.old reads.new under top.old top.new) }
         ensures bytes { reads.new.bytes ≡ reads.old.bytes }
         ensures err { IfErr result (λ s. IsStoppedBehind self.now reads.old under.start (under.frames ++ top.new ∷ []) (stopped s reads.new.count)) }
@@ -110,7 +121,7 @@ impl Walk<'_, '_> {
         let mut row = top.row;
         while row.left > 0 {
             let mut at = row.place;
-            let failed = test_lead(reads, checks, &mut at, referent);
+            let failed = test_lead(reads, checks, &mut at, referent, Standing::Known);
             if let Some(reason) = failed {
                 return Err(stop_at_word(top, row, at, reason));
             }
@@ -139,6 +150,9 @@ impl Walk<'_, '_> {
         ensures { (child : Child) → RowTurned self.old self.new reads.old reads.new under top.old top.new child result }
     {
         let _schema = self.schema;
+        if !stands(reads, checks, top.row) {
+            return Turn::Slowly;
+        }
         if reads.count() + 4 * u64::from(top.row.left) > short_of(self.limits) {
             return Turn::Slowly;
         }

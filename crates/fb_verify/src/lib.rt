@@ -7,7 +7,6 @@ mod flat;
 mod leaves;
 mod links;
 mod scratch;
-mod shallow;
 mod stack;
 mod units;
 mod verdict;
@@ -18,12 +17,10 @@ pub use fb_rules::fault::{Fault, REASONS, Reason, Report};
 pub use fb_rules::limits::{LimitOutOfRange, Limits};
 pub use fb_rules::link::Link;
 pub use fb_rules::most::most_reads;
+pub use fb_rules::question::Question;
 pub use fb_rules::start::{Ident, Start};
 pub use fb_rules::{examples, laws, link_laws, tested};
 pub use links::Located;
-pub use scratch::{Scratch, ScratchFault};
-pub use shallow::walk_shallow;
+pub use scratch::{BLANK, Frame, Scratch, ScratchFault};
 pub use verdict::walk;
-pub use verified::{
-    Verified, verify, verify_and_locate, verify_and_locate_shallow, verify_shallow,
-};
+pub use verified::{Verified, verify, verify_and_locate};

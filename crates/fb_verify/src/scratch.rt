@@ -1,8 +1,8 @@
 // The room of a walk.
 
-ghost use Rattle.std.specs.Prelude.{◌≡◌, ◌<◌, ◌≤◌, IfOk, IfErr, Some};
+ghost use Rattle.std.specs.{Borrow.sem, Prelude.{◌≡◌, ◌<◌, ◌≤◌, length, IfOk, IfErr, Some}};
 ghost use Rattle.fb_verify.specs.declared.scratch.ScratchFault.TheVariants.{LimitOutOfRange, OutOfMemory};
-ghost use Rattle.fb_verify.specs.Stack.{blank};
+ghost use Rattle.fb_verify.specs.{Lending.LendsFrames, Stack.blank};
 
 use fb_rules::offset_row::{NO_ROW, Row};
 use fb_rules::site::Site;
@@ -119,5 +119,13 @@ impl<A: Allocator> Scratch<A> {
         ensures { result ≡ self.now }
     {
         self.frames.len() as u32
+    }
+    /// Its frames, for one walk. It has as many levels afterwards.
+    #[inline(always)]
+    pub fn lend(&mut self) -> &mut [Frame]
+        ensures* back { sem 𝓛 (LendsFrames A.row A.Allocator self.entry result) }
+        ensures room { length result.now ≡ self.old }
+    {
+        &mut self.frames
     }
 }

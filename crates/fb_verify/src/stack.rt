@@ -6,7 +6,7 @@ ghost use Rattle.fb_rules.specs.{Bounds.AreAllowed, Told.way_at};
 ghost use Rattle.fb_verify.specs.{Flat.Going};
 ghost use Rattle.fb_verify.specs.PassesOn.{IsBetween, HasRoom, Passage, PassesOn};
 ghost use Rattle.fb_verify.specs.Stack.{blank, Origin, Waiting, IsWalking, opened};
-ghost use Rattle.fb_verify.specs.Turns.{IsShort, IsAtChild, IsAtStep, IsAtTableField, AllowsTable, IsAtWord, IsBrim, IsInRow};
+ghost use Rattle.fb_verify.specs.Turns.{IsShort, IsAtChild, IsAtStep, IsAtTableField, AllowsTable, IsAtWord, IsBrim, IsBrimFor, IsInRow, with_tables};
 ghost use Rattle.fb_verify.specs.Turns.{HasRoomToGo, RowTurned, FieldTurned, Turned, Opened, FramesTurned, RootTurned, Walked, Ran};
 ghost use Rattle.fb_rules.specs.declared.offset_row.Leads.TheVariants.{All};
 ghost use Rattle.fb_verify.specs.declared.stack.Turn.TheVariants.{Halt as Halted};
@@ -57,6 +57,26 @@ fn has_frame_below(frames: &[Frame], depth: usize, waiting: u32) -> bool
     ensures { result ≡ true → min depth (waiting + 2) ≤ length frames.now }
 {
     waiting as usize + 1 < frames.len() || depth <= frames.len()
+}
+
+/// Where a walk by this schema stops at the next field of a table of this object.
+#[cold]
+#[inline(never)]
+fn stop_by(schema: &Schema<'_>, object: u32, next: u32, at: u64, reason: Reason) -> Stop
+    requires table { IsTrue (is_table schema.now object) }
+    requires next { next < length (live_fields schema.now object) }
+    ensures refusal { result.refusal ≡ record { at = at; reason = reason } }
+    ensures object { (result.site).object ≡ object }
+    ensures field { (f : Live) → slice_get (live_fields schema.now object) next ≡ Some f → (result.site).field ≡ Some f.number }
+{
+    let field = schema.field_at(object, next);
+    Stop {
+        refusal: Refusal { at, reason },
+        site: Site {
+            object,
+            field: Some(field.number),
+        },
+    }
 }
 
 impl<'s, 'n> Walk<'s, 'n> {
@@ -124,20 +144,21 @@ impl<'s, 'n> Walk<'s, 'n> {
         ensures object { (result.site).object ≡ object }
         ensures field { (f : Live) → slice_get (live_fields self.now.schema.now object) next ≡ Some f → (result.site).field ≡ Some f.number }
     {
-        let field = self.schema.field_at(object, next);
-        Stop {
-            refusal: Refusal { at, reason },
-            site: Site {
-                object,
-                field: Some(field.number),
-            },
-        }
+        stop_by(self.schema, object, next, at, reason)
+    }
+
+    /// How many reads there may be so that the budget allows so many more.
+    #[inline(always)]
+    pub fn brim_for(&self, most: u64) -> u64
+        ensures { IsBrimFor self.now most result }
+    {
+        short_of(self.limits).saturating_sub(most)
     }
 
     /// How many reads there may be so that the budget allows whatever the fields of any table may cost: it is asked of
     /// the fields that are left only from there on.
     #[inline(always)]
-    fn brim(&self) -> u64
+    pub fn brim(&self) -> u64
         ensures { IsBrim self.now result }
     {
         let most = 7 + 6 * u64::from(self.schema.widest());
@@ -203,6 +224,18 @@ impl<'s, 'n> Walk<'s, 'n> {
         }
     }
 
+    /// Counts so many tables that were opened, with each of which so many were open.
+    #[inline(always)]
+    pub fn count_tables(&mut self, links: u32, n: u32)
+        requires few { self.old.tables + n < 2 ^ 32 }
+        ensures { self.new ≡ with_tables self.old links n }
+    {
+        if n > 0 {
+            self.tables += n;
+            self.deepest = self.deepest.max(links);
+        }
+    }
+
     /// Comes to the table to which the first word of a row leads, and leaves the top with the row past that word. The
     /// limits allow it.
     #[inline(always)]
@@ -225,6 +258,7 @@ impl<'s, 'n> Walk<'s, 'n> {
         ensures { RowTurned self.old self.new reads.old reads.new under (record top.old { row = row }) top.new child.new result }
     {
         let mut at = row.place;
+        // No call is handed the row, so that it needs no place in memory.
         let failed = test_offset(reads, checks, &mut at);
         top.row = row;
         top.row.advance_all();
@@ -634,7 +668,7 @@ impl<'s, 'n> Walk<'s, 'n> {
 
     /// Passes the fields of an opened root table of which none leads on, quickly by the published checks where the
     /// budget allows whatever they may cost.
-    #[inline(never)]
+    #[inline(always)]
     fn pass_root(&mut self, loan: &mut Loan<'_>, table: Table) -> Turn
         ghost going: { Going }
         requires walk { going.walk ≡ self.old }
@@ -658,7 +692,26 @@ impl<'s, 'n> Walk<'s, 'n> {
         loan.settle(reads);
         match passed {
             Ok(_) => Turn::Up,
-            Err(reason) => self.stop_in_field(table.object, next, at, reason, 0),
+            Err(reason) => {
+                let stop = stop_by(schema, table.object, next, at, reason);
+                self.halt = stop.halt(0, LastLink::InField);
+                Turn::Halt
+            }
+        }
+    }
+
+    /// The same walk, in a place of its own.
+    #[inline(always)]
+    fn again(&self) -> Walk<'s, 'n>
+        ensures { result ≡ self.now }
+    {
+        Walk {
+            schema: self.schema,
+            limits: self.limits,
+            checks: self.checks,
+            tables: self.tables,
+            deepest: self.deepest,
+            halt: self.halt,
         }
     }
 
@@ -702,10 +755,16 @@ impl<'s, 'n> Walk<'s, 'n> {
             }
         }
         frames[0] = Frame::opened(table);
-        match self.go_on(loan, frames, 0) {
+        // A walk and a loan of their own, so that a plain root needs no place in memory for them.
+        let mut walk = self.again();
+        let mut rest = loan.hand_on();
+        let answer = match walk.go_on(&mut rest, frames, 0) {
             Ok(None) => Ok(()),
-            Ok(Some(waiting)) => self.go_deeper(loan, frames, waiting),
+            Ok(Some(waiting)) => walk.go_deeper(&mut rest, frames, waiting),
             Err(halt) => Err(halt),
-        }
+        };
+        *loan = rest;
+        *self = walk;
+        answer
     }
 }

@@ -18,7 +18,7 @@ use fb_rules::budget::{answer, ask_reads, tell};
 use fb_rules::fault::Reason;
 use fb_rules::limits::tables_of;
 use fb_rules::offset_row::{Referent, Row};
-use fb_rules::plain::{slot_at, test_head, test_lead};
+use fb_rules::plain::{Standing, slot_at, test_head, test_lead};
 use fb_rules::site::{Halt, LastLink, Refusal, Site, Stop};
 use fb_rules::table::{Child, Head, NO_HEAD, Table};
 use fb_schema::FieldView;
@@ -153,7 +153,13 @@ impl<'s, 'n> Walk<'s, 'n> {
         let targets = targets_of(self.schema, row.leads);
         let referent = first_referent(&mut reads, targets, self.schema, row);
         let mut at = row.place;
-        let failed = test_lead(&mut reads, self.checks, &mut at, referent);
+        let failed = test_lead(
+            &mut reads,
+            self.checks,
+            &mut at,
+            referent,
+            Standing::Unknown,
+        );
         loan.settle(reads);
         if let Err(stop) = tell(site, failed, at) {
             return Err(stop);

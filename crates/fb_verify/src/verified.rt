@@ -1,26 +1,24 @@
 // A buffer that was verified, with its schema.
 
-ghost use Rattle.std.specs.Prelude.{◌≡◌, ◌+◌, ◌^◌, ◌<◌, ◌≤◌, ◌++◌, length, map, take, IfOk, IfErr, IsTrue};
+ghost use Rattle.std.specs.Prelude.{◌≡◌, ◌+◌, ◌<◌, ◌≤◌, ◌++◌, length, map, max, min, take, IfOk, IfErr, IsTrue};
 ghost use Rattle.fb_schema.specs.Rows.{is_table};
-ghost use Rattle.fb_rules.specs.{Links.StopsAlong, MostReads.most_reads, Question.question, Stops.Stops, Verdict.Reports, Verdict.HasNone};
+ghost use Rattle.fb_rules.specs.{Links.StopsAlong, MostReads.most_reads, Stops.Stops, Verdict.Reports, Verdict.HasNone};
 ghost use Rattle.std.specs.List.{All};
 ghost use Rattle.fb_bytes.specs.Word.{while_lent};
 ghost use Rattle.fb_rules.specs.Told.{stopped};
-ghost use Rattle.fb_verify.specs.{Sealed.IsUnfolded, Stack.IsLinked, Stack.frame_link, Stack.last_link, Stack.links_left};
+ghost use Rattle.fb_verify.specs.{Sealed.IsUnfolded, Sealed.sealed_by, Stack.IsLinked, Stack.frame_link, Stack.last_link, Stack.links_left};
 
 use crate::links::{Located, put_links};
-use crate::scratch::{BLANK, Frame, Scratch};
-use crate::shallow::walk_shallow;
+use crate::scratch::Frame;
 use crate::verdict::{trace, walk};
 use fb_bytes::{Meter, Window};
 use fb_rules::checks::Checks;
 use fb_rules::fault::{Fault, Report};
-use fb_rules::limits::Limits;
 use fb_rules::link::Link;
+use fb_rules::question::Question;
 use fb_rules::site::Halt;
-use fb_rules::start::{Ident, Start};
+use fb_rules::start::Start;
 use fb_schema::Schema;
-use std::alloc::Allocator;
 use std::marker::Model;
 
 /// A buffer that unfolds by the schema from the root. It borrows the bytes and the schema.
@@ -45,30 +43,20 @@ impl<'b, 's, 'n> Model for Verified<'b, 's, 'n> {
 }
 
 impl<'b, 's, 'n> Verified<'b, 's, 'n> {
-    /// Seals a buffer of which a walk has made this report. Only the contract speaks of identifier and limits.
+    /// Seals a buffer of which a walk has made this report.
     #[inline(always)]
-    fn of(
-        meter: Meter<'b>,
-        schema: &'s Schema<'n>,
-        root: u32,
-        start: Start,
-        ident: Ident,
-        limits: Limits,
-        checks: Checks,
-        report: Report,
-    ) -> Self
+    fn of(meter: Meter<'b>, question: &Question<'s, 'n>, report: Report) -> Self
         requires settled { meter.count < while_lent }
-        requires table { IsTrue (is_table schema.now root) }
-        requires reports { Reports (question schema.now root start ident limits checks) meter.bytes report }
-        ensures { result ≡ record { bytes = meter.entry.bytes; schema = schema.now; root = root; start = start; checks = checks; report = report } }
+        requires table { IsTrue (is_table question.now.rows question.now.root) }
+        requires reports { Reports question.now meter.bytes report }
+        ensures { result ≡ sealed_by question.now meter.entry.bytes report }
     {
-        let _asked = (ident, limits);
         Verified {
             window: meter.seal(),
-            schema,
-            root,
-            start,
-            checks,
+            schema: question.schema,
+            root: question.root,
+            start: question.start,
+            checks: question.checks,
             report,
         }
     }
@@ -127,180 +115,67 @@ impl<'b, 's, 'n> Verified<'b, 's, 'n> {
 /// # Errors
 ///
 /// The fault that `walk` answers.
-pub fn verify<'b, 's, 'n, A: Allocator>(
+pub fn verify<'b, 's, 'n>(
     meter: Meter<'b>,
-    schema: &'s Schema<'n>,
-    root: u32,
-    start: Start,
-    ident: Ident,
-    limits: Limits,
-    checks: Checks,
-    scratch: &mut Scratch<A>,
+    question: &Question<'s, 'n>,
+    frames: &mut [Frame],
 ) -> Result<Verified<'b, 's, 'n>, Fault>
     requires fresh { meter.count ≡ 0 }
-    requires table { IsTrue (is_table schema.now root) }
-    requires room { limits.depth ≤ scratch.old }
+    requires table { IsTrue (is_table question.now.rows question.now.root) }
+    requires some { min question.now.limits.depth 1 ≤ length frames.old }
+    requires room { question.now.limits.depth ≤ max 64 (length frames.old) }
     // A yes: a tree is well formed and within the limits, and the report counts it.
-    ensures yes { IfOk result (λ v. Reports (question schema.now root start ident limits checks) meter.entry.bytes v.report) }
-    ensures kept { IfOk result (λ v. v ≡ record { bytes = meter.entry.bytes; schema = schema.now; root = root; start = start; checks = checks; report = v.report }) }
+    ensures yes { IfOk result (λ v. Reports question.now meter.entry.bytes v.report) }
+    ensures kept { IfOk result (λ v. v ≡ sealed_by question.now meter.entry.bytes v.report) }
     // A no: no tree is, and the fault is the first condition that fails.
-    ensures none { IfErr result (λ _. HasNone (question schema.now root start ident limits checks) meter.entry.bytes) }
-    ensures no { IfErr result (λ f. Stops (question schema.now root start ident limits checks) meter.entry.bytes f) }
+    ensures none { IfErr result (λ _. HasNone question.now meter.entry.bytes) }
+    ensures no { IfErr result (λ f. Stops question.now meter.entry.bytes f) }
     // The price.
-    ensures price_of_yes { IfOk result (λ v. (v.report).reads ≤ most_reads schema.now limits (length meter.entry.bytes)) }
-    ensures price_of_no { IfErr result (λ f. f.reads ≤ most_reads schema.now limits (length meter.entry.bytes)) }
-    ensures scratch { scratch.new ≡ scratch.old }
+    ensures price_of_yes { IfOk result (λ v. (v.report).reads ≤ most_reads question.now.rows question.now.limits (length meter.entry.bytes)) }
+    ensures price_of_no { IfErr result (λ f. f.reads ≤ most_reads question.now.rows question.now.limits (length meter.entry.bytes)) }
 {
     let mut meter = meter;
-    match walk(
-        &mut meter, schema, root, start, ident, limits, checks, scratch,
-    ) {
-        Ok(report) => Ok(Verified::of(meter, schema, root, start, ident, limits, checks, report)),
-        Err(fault) => Err(fault),
-    }
-}
-
-/// Checks a buffer as [`verify`] does, in room for 64 tables on the call's own stack.
-///
-/// # Errors
-///
-/// The fault that `walk` answers.
-pub fn verify_shallow<'b, 's, 'n>(
-    meter: Meter<'b>,
-    schema: &'s Schema<'n>,
-    root: u32,
-    start: Start,
-    ident: Ident,
-    limits: Limits,
-    checks: Checks,
-) -> Result<Verified<'b, 's, 'n>, Fault>
-    requires fresh { meter.count ≡ 0 }
-    requires table { IsTrue (is_table schema.now root) }
-    requires room { limits.depth ≤ 64 }
-    ensures yes { IfOk result (λ v. Reports (question schema.now root start ident limits checks) meter.entry.bytes v.report) }
-    ensures kept { IfOk result (λ v. v ≡ record { bytes = meter.entry.bytes; schema = schema.now; root = root; start = start; checks = checks; report = v.report }) }
-    ensures none { IfErr result (λ _. HasNone (question schema.now root start ident limits checks) meter.entry.bytes) }
-    ensures no { IfErr result (λ f. Stops (question schema.now root start ident limits checks) meter.entry.bytes f) }
-    ensures price_of_yes { IfOk result (λ v. (v.report).reads ≤ most_reads schema.now limits (length meter.entry.bytes)) }
-    ensures price_of_no { IfErr result (λ f. f.reads ≤ most_reads schema.now limits (length meter.entry.bytes)) }
-{
-    let mut meter = meter;
-    match walk_shallow(&mut meter, schema, root, start, ident, limits, checks) {
-        Ok(report) => Ok(Verified::of(meter, schema, root, start, ident, limits, checks, report)),
+    match walk(&mut meter, question, frames) {
+        Ok(report) => Ok(Verified::of(meter, question, report)),
         Err(fault) => Err(fault),
     }
 }
 
 /// The same, and where there is a fault, the links that lead to it are put at the front of `links`, the root's first.
-/// There must be room for as many as the depth limit says. No link leads to a fault at the start of a buffer or at the
-/// head of its root table. For each link at most six numbers are read again, which the fault's reads don't count.
+/// There must be room for as many as the depth limit says, and as many frames. No link leads to a fault at the start of
+/// a buffer or at the head of its root table. For each link at most six numbers are read again, which the fault's reads
+/// don't count.
 ///
 /// # Errors
 ///
 /// The fault that [`verify`] answers, with the number of these links.
-pub fn verify_and_locate<'b, 's, 'n, A: Allocator>(
+pub fn verify_and_locate<'b, 's, 'n>(
     meter: Meter<'b>,
-    schema: &'s Schema<'n>,
-    root: u32,
-    start: Start,
-    ident: Ident,
-    limits: Limits,
-    checks: Checks,
-    scratch: &mut Scratch<A>,
-    links: &mut [Link],
-) -> Result<Verified<'b, 's, 'n>, Located>
-    requires fresh { meter.count ≡ 0 }
-    requires table { IsTrue (is_table schema.now root) }
-    requires room { limits.depth ≤ scratch.old }
-    requires links { limits.depth ≤ length links.old }
-    ensures yes { IfOk result (λ v. Reports (question schema.now root start ident limits checks) meter.entry.bytes v.report) }
-    ensures kept { IfOk result (λ v. v ≡ record { bytes = meter.entry.bytes; schema = schema.now; root = root; start = start; checks = checks; report = v.report }) }
-    ensures none { IfErr result (λ _. HasNone (question schema.now root start ident limits checks) meter.entry.bytes) }
-    ensures no { IfErr result (λ l. Stops (question schema.now root start ident limits checks) meter.entry.bytes l.fault) }
-    ensures along { IfErr result (λ l. StopsAlong (question schema.now root start ident limits checks) meter.entry.bytes l.fault (take l.links links.new)) }
-    ensures few { IfErr result (λ l. l.links ≤ length links.new) }
-    ensures price_of_yes { IfOk result (λ v. (v.report).reads ≤ most_reads schema.now limits (length meter.entry.bytes)) }
-    ensures price_of_no { IfErr result (λ l. (l.fault).reads ≤ most_reads schema.now limits (length meter.entry.bytes)) }
-    ensures scratch { scratch.new ≡ scratch.old }
-    ensures room { length links.new ≡ length links.old }
-{
-    let frames = &mut scratch.frames;
-    locate_in(
-        meter, schema, root, start, ident, limits, checks, frames, links,
-    )
-}
-
-/// Checks a buffer as [`verify_and_locate`] does, in room for 64 tables on the call's own stack.
-///
-/// # Errors
-///
-/// The fault that [`verify`] answers, with the number of these links.
-pub fn verify_and_locate_shallow<'b, 's, 'n>(
-    meter: Meter<'b>,
-    schema: &'s Schema<'n>,
-    root: u32,
-    start: Start,
-    ident: Ident,
-    limits: Limits,
-    checks: Checks,
-    links: &mut [Link],
-) -> Result<Verified<'b, 's, 'n>, Located>
-    requires fresh { meter.count ≡ 0 }
-    requires table { IsTrue (is_table schema.now root) }
-    requires room { limits.depth ≤ 64 }
-    requires links { limits.depth ≤ length links.old }
-    ensures yes { IfOk result (λ v. Reports (question schema.now root start ident limits checks) meter.entry.bytes v.report) }
-    ensures kept { IfOk result (λ v. v ≡ record { bytes = meter.entry.bytes; schema = schema.now; root = root; start = start; checks = checks; report = v.report }) }
-    ensures none { IfErr result (λ _. HasNone (question schema.now root start ident limits checks) meter.entry.bytes) }
-    ensures no { IfErr result (λ l. Stops (question schema.now root start ident limits checks) meter.entry.bytes l.fault) }
-    ensures along { IfErr result (λ l. StopsAlong (question schema.now root start ident limits checks) meter.entry.bytes l.fault (take l.links links.new)) }
-    ensures few { IfErr result (λ l. l.links ≤ length links.new) }
-    ensures price_of_yes { IfOk result (λ v. (v.report).reads ≤ most_reads schema.now limits (length meter.entry.bytes)) }
-    ensures price_of_no { IfErr result (λ l. (l.fault).reads ≤ most_reads schema.now limits (length meter.entry.bytes)) }
-    ensures room { length links.new ≡ length links.old }
-{
-    let mut frames = [BLANK; 64];
-    let frames = &mut frames;
-    locate_in(
-        meter, schema, root, start, ident, limits, checks, frames, links,
-    )
-}
-
-/// The same in room of frames.
-fn locate_in<'b, 's, 'n>(
-    meter: Meter<'b>,
-    schema: &'s Schema<'n>,
-    root: u32,
-    start: Start,
-    ident: Ident,
-    limits: Limits,
-    checks: Checks,
+    question: &Question<'s, 'n>,
     frames: &mut [Frame],
     links: &mut [Link],
 ) -> Result<Verified<'b, 's, 'n>, Located>
     requires fresh { meter.count ≡ 0 }
-    requires table { IsTrue (is_table schema.now root) }
-    requires room { limits.depth ≤ length frames.old }
-    requires links { limits.depth ≤ length links.old }
-    ensures yes { IfOk result (λ v. Reports (question schema.now root start ident limits checks) meter.entry.bytes v.report) }
-    ensures kept { IfOk result (λ v. v ≡ record { bytes = meter.entry.bytes; schema = schema.now; root = root; start = start; checks = checks; report = v.report }) }
-    ensures none { IfErr result (λ _. HasNone (question schema.now root start ident limits checks) meter.entry.bytes) }
-    ensures no { IfErr result (λ l. Stops (question schema.now root start ident limits checks) meter.entry.bytes l.fault) }
-    ensures along { IfErr result (λ l. StopsAlong (question schema.now root start ident limits checks) meter.entry.bytes l.fault (take l.links links.new)) }
+    requires table { IsTrue (is_table question.now.rows question.now.root) }
+    requires room { question.now.limits.depth ≤ length frames.old }
+    requires links { question.now.limits.depth ≤ length links.old }
+    ensures yes { IfOk result (λ v. Reports question.now meter.entry.bytes v.report) }
+    ensures kept { IfOk result (λ v. v ≡ sealed_by question.now meter.entry.bytes v.report) }
+    ensures none { IfErr result (λ _. HasNone question.now meter.entry.bytes) }
+    ensures no { IfErr result (λ l. Stops question.now meter.entry.bytes l.fault) }
+    ensures along { IfErr result (λ l. StopsAlong question.now meter.entry.bytes l.fault (take l.links links.new)) }
     ensures few { IfErr result (λ l. l.links ≤ length links.new) }
-    ensures price_of_yes { IfOk result (λ v. (v.report).reads ≤ most_reads schema.now limits (length meter.entry.bytes)) }
-    ensures price_of_no { IfErr result (λ l. (l.fault).reads ≤ most_reads schema.now limits (length meter.entry.bytes)) }
+    ensures price_of_yes { IfOk result (λ v. (v.report).reads ≤ most_reads question.now.rows question.now.limits (length meter.entry.bytes)) }
+    ensures price_of_no { IfErr result (λ l. (l.fault).reads ≤ most_reads question.now.rows question.now.limits (length meter.entry.bytes)) }
     ensures room { length links.new ≡ length links.old }
 {
     let mut meter = meter;
     let mut loan = meter.lend();
-    let answer = trace(
-        &mut loan, schema, root, start, ident, limits, checks, frames,
-    );
+    let answer = trace(&mut loan, question, frames);
     meter.settle(loan);
     match answer {
-        Ok(report) => Ok(Verified::of(meter, schema, root, start, ident, limits, checks, report)),
-        Err(halt) => Err(located(meter, schema, checks, frames, halt, links)),
+        Ok(report) => Ok(Verified::of(meter, question, report)),
+        Err(halt) => Err(located(meter, question, frames, halt, links)),
     }
 }
 
@@ -308,24 +183,25 @@ fn locate_in<'b, 's, 'n>(
 #[inline(always)]
 fn located(
     meter: Meter<'_>,
-    schema: &Schema<'_>,
-    checks: Checks,
+    question: &Question<'_, '_>,
     frames: &[Frame],
     halt: Halt,
     links: &mut [Link],
 ) -> Located
     requires settled { meter.count < while_lent }
-    requires linked { All (IsLinked checks meter.bytes schema.now) (take halt.links frames.now) }
-    requires deep { halt.links ≤ length frames.now }
-    requires room { halt.links + links_left halt.last ≤ length links.old }
-    requires few { halt.links < 2 ^ 31 }
+    requires linked { All (IsLinked question.now.checks meter.bytes question.now.rows) (take halt.links frames.now) }
+    requires deep { halt.links + links_left halt.last ≤ question.now.limits.depth }
+    requires frames { question.now.limits.depth ≤ length frames.now }
+    requires room { question.now.limits.depth ≤ length links.old }
     ensures fault { result.fault ≡ stopped halt.stop meter.entry.count }
-    ensures links { take result.links links.new ≡ map (frame_link meter.entry.bytes schema.now) (take halt.links frames.now) ++ last_link halt.last result.fault }
+    ensures links { take result.links links.new ≡ map (frame_link meter.entry.bytes question.now.rows) (take halt.links frames.now) ++ last_link halt.last result.fault }
     ensures within { result.links ≤ length links.new }
 {
     let fault = halt.stop.fault(&meter);
     let window = meter.seal();
     let frames = &frames[..halt.links as usize];
+    let (schema, checks) = (question.schema, question.checks);
+    let _deepest = question.limits.depth();
     let links = put_links(&window, schema, checks, frames, halt.last, &fault, links);
     Located { fault, links }
 }

@@ -13,13 +13,13 @@ ghost use Rattle.fbcheck_calls.specs.Told.{told};
 ghost use Rattle.fbcheck_calls.specs.Hinted.{IsHintTold, LacksPathHint, LacksRootHint};
 ghost use Rattle.fbcheck_calls.specs.Framers.{IsFedTold, IsFinished, IsKept, IsNext};
 ghost use Rattle.fbcheck_calls.specs.Names.{IsFaultName, IsNameTold, IsReasonName, held_name, object_name, status_text, table_number};
-ghost use Rattle.fbcheck_calls.specs.declared.answer.Answer.{Answer};
+ghost use Rattle.fbcheck_calls.specs.declared.outcome.Outcome.{Outcome};
 
 use fb_bytes::Taken;
 use fbcheck_calls::{
-    Framer, Handle, Options, PlainPath, Shared, Span, Value, Verdict, all_good, check, check_alone,
-    check_each, fault_told, field_told, locate, object_told, path_hint, price, read, read_again,
-    read_each, reason_told, resolve, root_hint, status_told, table_of, try_options,
+    Framer, Handle, Options, PlainPath, Shared, Span, Status, Value, Verdict, all_good, check,
+    check_alone, check_each, fault_told, field_told, locate, object_told, path_hint, price, read,
+    read_again, read_each, reason_told, resolve, root_hint, status_told, table_of, try_options,
 };
 use std::alloc::Global;
 
@@ -82,7 +82,7 @@ pub extern "C" fn fbcheck_load_proved(
     options: &Options,
     verdict: &mut Verdict,
 ) -> u32
-    ensures told { (a : Answer) × (verdict.new ≡ told a) × IsTaken file.now options.now handle.old.inside handle.new.inside a }
+    ensures told { (a : Outcome) × (verdict.new ≡ told a) × IsTaken file.now options.now handle.old.inside handle.new.inside a }
     ensures status { result ≡ verdict.new.status }
 {
     let why = handle.load(alloc, file, options).told();
@@ -95,7 +95,7 @@ pub extern "C" fn fbcheck_load_proved(
 /// Where it was done, what the handle held is freed; else it holds what it held.
 #[unsafe(no_mangle)]
 pub extern "C" fn fbcheck_room_proved(alloc: Global, handle: &mut Handle, depth: u32) -> u32
-    ensures { (a : Answer) × (result ≡ (told a).status) × IsRoomMade depth handle.old.inside handle.new.inside a }
+    ensures { (a : Outcome) × (result ≡ (told a).status) × IsRoomMade depth handle.old.inside handle.new.inside a }
 {
     handle.make_room(alloc, depth).told().status
 }
@@ -126,11 +126,11 @@ pub extern "C" fn fbcheck_verify_proved(
     buffer: &[u8],
     verdict: &mut Verdict,
 ) -> u32
-    ensures told { (a : Answer) × (verdict.new ≡ told a) × IfSchema schema.held a (λ s. IsChecked s (levels room.old.inside) options.now buffer.now a) }
+    ensures told { (a : Outcome) × (verdict.new ≡ told a) × IfSchema schema.held a (λ s. IsChecked s (levels room.old.inside) options.now buffer.now a) }
     ensures status { result ≡ verdict.new.status }
     ensures kept { room.new.inside ≡ room.old.inside }
 {
-    check(alloc, schema.held(), room, verdict, options, buffer)
+    check(alloc, schema.held(), room, options, buffer, verdict)
 }
 
 /// Checks one buffer by a schema, on the call's own stack.
@@ -141,7 +141,7 @@ pub extern "C" fn fbcheck_verify_alone_proved(
     options: &Options,
     buffer: &[u8],
 ) -> u32
-    ensures told { (a : Answer) × (verdict.new ≡ told a) × IfSchema schema.held a (λ s. IsChecked s 64 options.now buffer.now a) }
+    ensures told { (a : Outcome) × (verdict.new ≡ told a) × IfSchema schema.held a (λ s. IsChecked s 64 options.now buffer.now a) }
     ensures status { result ≡ verdict.new.status }
 {
     check_alone(schema.held(), verdict, options, buffer)
@@ -184,7 +184,7 @@ pub extern "C" fn fbcheck_locate_proved(
     written: &mut usize,
     verdict: &mut Verdict,
 ) -> u32
-    ensures told { (a : Answer) × (verdict.new ≡ told a) × IsLocatedBy schema.held (levels room.old.inside) options.now buffer.now text.old text.new written.new a }
+    ensures told { (a : Outcome) × (verdict.new ≡ told a) × IsLocatedBy schema.held (levels room.old.inside) options.now buffer.now text.old text.new written.new a }
     ensures status { result ≡ verdict.new.status }
     ensures kept { room.new.inside ≡ room.old.inside }
 {
@@ -210,7 +210,7 @@ pub extern "C" fn fbcheck_resolve_proved(
     path: &mut PlainPath,
     verdict: &mut Verdict,
 ) -> u32
-    ensures told { (a : Answer) × (verdict.new ≡ told a) × IsPath schema.held options.now text.now path.old path.new a }
+    ensures told { (a : Outcome) × (verdict.new ≡ told a) × IsPath schema.held options.now text.now path.old path.new a }
     ensures status { result ≡ verdict.new.status }
 {
     let resolved = resolve(alloc, schema.held(), options, text, path).told();
@@ -231,7 +231,7 @@ pub extern "C" fn fbcheck_read_proved(
     values: &mut [Value],
     verdict: &mut Verdict,
 ) -> u32
-    ensures told { (a : Answer) × (verdict.new ≡ told a) × IsReadBy schema.held (levels room.old.inside) options.now buffer.now paths.now values.old values.new a }
+    ensures told { (a : Outcome) × (verdict.new ≡ told a) × IsReadBy schema.held (levels room.old.inside) options.now buffer.now paths.now values.old values.new a }
     ensures status { result ≡ verdict.new.status }
     ensures kept { room.new.inside ≡ room.old.inside }
 {
@@ -258,7 +258,7 @@ pub extern "C" fn fbcheck_read_again_proved(
     values: &mut [Value],
     verdict: &mut Verdict,
 ) -> u32
-    ensures told { (a : Answer) × (verdict.new ≡ told a) × IsReadAgainBy schema.held options.now buffer.now paths.now values.old values.new a }
+    ensures told { (a : Outcome) × (verdict.new ≡ told a) × IsReadAgainBy schema.held options.now buffer.now paths.now values.old values.new a }
     ensures status { result ≡ verdict.new.status }
 {
     let answered = read_again(schema.held(), options, buffer, paths, values).told();
@@ -279,7 +279,7 @@ pub extern "C" fn fbcheck_read_each_proved(
     elements: &mut usize,
     verdict: &mut Verdict,
 ) -> u32
-    ensures told { (a : Answer) × (verdict.new ≡ told a) × IsReadOfEachBy schema.held options.now buffer.now path.now first values.old values.new elements.old elements.new a }
+    ensures told { (a : Outcome) × (verdict.new ≡ told a) × IsReadOfEachBy schema.held options.now buffer.now path.now first values.old values.new elements.old elements.new a }
     ensures status { result ≡ verdict.new.status }
 {
     let answered = read_each(
@@ -309,7 +309,7 @@ pub extern "C" fn fbcheck_most_reads_proved(
     match price(schema.held(), options, length) {
         Ok(most) => {
             *reads = most;
-            0
+            Status::Done.number()
         }
         Err(answer) => answer.told().status,
     }
@@ -400,7 +400,8 @@ pub extern "C" fn fbcheck_framer_feed_proved(
     match framer.feed(room, piece) {
         Ok(Taken { used: count, whole }) => {
             *used = count;
-            if whole { 0 } else { 13 }
+            let status = if whole { Status::Done } else { Status::More };
+            status.number()
         }
         Err(answer) => answer.told().status,
     }
@@ -409,7 +410,7 @@ pub extern "C" fn fbcheck_framer_feed_proved(
 /// Gives up the whole message that a framer holds, as [`Framer::next`] does.
 #[unsafe(no_mangle)]
 pub extern "C" fn fbcheck_framer_next_proved(framer: &mut Framer, room: &[u8]) -> u32
-    ensures told { (a : Answer) × (result ≡ (told a).status) × IsNext room.now framer.old framer.new a }
+    ensures told { (a : Outcome) × (result ≡ (told a).status) × IsNext room.now framer.old framer.new a }
     ensures number { framer.new.declared ≡ framer.old.declared }
     ensures kept { IsKept room.now framer.old → IsKept room.now framer.new }
 {
@@ -419,7 +420,7 @@ pub extern "C" fn fbcheck_framer_next_proved(framer: &mut Framer, room: &[u8]) -
 /// Tells a framer that its stream has ended, as [`Framer::finish`] does.
 #[unsafe(no_mangle)]
 pub extern "C" fn fbcheck_framer_finish_proved(framer: &mut Framer, room: &[u8]) -> u32
-    ensures told { (a : Answer) × (result ≡ (told a).status) × IsFinished room.now framer.old framer.new a }
+    ensures told { (a : Outcome) × (result ≡ (told a).status) × IsFinished room.now framer.old framer.new a }
     ensures number { framer.new.declared ≡ framer.old.declared }
     ensures kept { IsKept room.now framer.old → IsKept room.now framer.new }
 {

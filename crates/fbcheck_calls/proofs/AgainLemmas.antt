@@ -8,7 +8,8 @@ use Rattle.fb_rules.specs.{Places.target, Question.Question, Verdict.Reports, We
 use Rattle.fb_rules.specs.declared.{fault.Report.Report, start.Start.Start, start.Ident.Ident}
 use Rattle.fb_verify.specs.Sealed.{Sealed, IsUnfolded}
 use Rattle.fb_bfbs.specs.declared.loading.Loaded.{Loaded}
-use Rattle.fb_strict.specs.{AsAsked.ReportsBy, Planned.Planned, Strictly.sealed_by}
+use Rattle.fb_strict.specs.{AsAsked.ReportsBy, Planned.Planned}
+use Rattle.fb_verify.specs.Sealed.{sealed_by}
 use Rattle.fb_strict.proofs.OneVerdict.{strict_is_ok}
 use Rattle.fb_access.specs.declared.{extent.Extent.Extent, step.Step.Step, spot.Spot.Spot}
 use Rattle.fb_access.specs.{Denotes.Leads, Denotes.Reaches, Denotes.Shown, Denotes.next_spot, Denotes.root_spot, Held.IsSpot, Tested.IsOther}
@@ -16,9 +17,9 @@ use Rattle.fb_access.proofs.{Staying.step_stays, StepKinds.allowed_leads, StepKi
 use Rattle.fbcheck_calls.specs.declared.{options.Options.Options, steps.PlainPath.PlainPath, steps.PlainStep.PlainStep, values.Value.Value}
 use Rattle.fbcheck_calls.specs.Again.{AreOther, AreToldBelow, GoodStaysRead, IsReadAgain, IsToldOf, LiesWithin, ValuesAreOne}
 use Rattle.fbcheck_calls.specs.{Answered.IsGoodFrom, Asked.AreKnown, Asked.ident_asked, Asked.if_table, Asked.limits_of, Asked.plan_asked, Asked.question_of, Asked.root_asked, Asked.start_asked}
-use Rattle.fbcheck_calls.specs.{Answered.IsChecked, Bases.Based, Steps.AreSteps, Steps.DontFit, Steps.EndAt, Steps.FitFrom, Steps.FitHere, Steps.step_of, Steps.steps_in, Values.placed, Values.value_at, Values.value_told}
-use Rattle.fbcheck_calls.specs.Walks.{GoTo, IsToldAt, NoneFit}
-use Rattle.fbcheck_calls.specs.declared.answer.Answer.TheVariants.{Changed as BytesChanged, Good}
+use Rattle.fbcheck_calls.specs.{Answered.IsChecked, Bases.Based, Steps.AllFit, Steps.AreSteps, Steps.DontFit, Steps.EndAt, Steps.FitFrom, Steps.FitHere, Steps.step_of, Steps.steps_in, Values.placed, Values.value_at, Values.value_told}
+use Rattle.fbcheck_calls.specs.Walks.{GoTo, IsToldFrom, NoneFit}
+use Rattle.fbcheck_calls.specs.declared.outcome.Outcome.TheVariants.{Changed as BytesChanged, Good}
 use Rattle.fbcheck_calls.proofs.SpanLemmas.{one_more}
 
 -- if these are the bytes of a good buffer, this holds at the spot
@@ -46,11 +47,12 @@ module _ (b : List ℕ) (S : Rows) (start : Start) (root : ℕ) where
     pub end_at : EndAt b S start root plain q
     end_at = (go.lead.0, go.lead.1, subst (λ p. Reaches b S p go.lead.0 q) same go.lead.2)
 
-    pub end_told : (v : Value) → IsToldAt b S q v → ((q : Spot) × EndAt b S start root plain q × (v ≡ value_at b S q)) × LiesWithin (length b) v
-    end_told v told = ((q, end_at, told.value), told.within)
-
     pub end_is_other : (IsSpot b S q → ⊥) → IsOther b S start root
     end_is_other fails = root_is_other first same (λ h. fails (go.held h))
+
+  -- what is told at the end of steps from there is told at that of those from the root table
+  pub end_told : (first : Spot) (plain : List PlainStep) (v : Value) → first ≡ root_spot b start root → IsToldFrom b S first plain v → ((q : Spot) × EndAt b S start root plain q × (v ≡ value_at b S q)) × LiesWithin (length b) v
+  end_told first plain v same (q, lead, told) = ((q, (lead.0, lead.1, subst (λ p. Reaches b S p lead.0 q) same lead.2), told.value), told.within)
 
   -- what fits from the root table fits there
   pub from_root : (first : Spot) (plain : List PlainStep) → first ≡ root_spot b start root → FitFrom S (Table root) plain → FitHere S first plain
@@ -58,6 +60,11 @@ module _ (b : List ℕ) (S : Rows) (start : Start) (root : ℕ) where
 
   pub none_from_root : (first : Spot) (plain : List PlainStep) → first ≡ root_spot b start root → NoneFit S first plain → DontFit S root plain
   none_from_root first plain same none path are fits = none [] (from_root first (plain ++ []) same (path, subst (λ xs. AreSteps xs path) (sym (append-nil plain)) are, fits))
+
+  pub none_stuck : (paths : List PlainPath) (n : ℕ) (d : PlainPath) (plain : List PlainStep) (first : Spot) → first ≡ root_spot b start root → n < length paths → Some plain ≡ steps_in (get_or paths n d) → AllFit S root paths → NoneFit S first plain → ⊥
+  none_stuck paths n d plain first same there e fit none =
+      let fits : FitFrom S (Table root) plain = subst (λ o. IsSomeAnd o (FitFrom S (Table root))) (sym e) (fit n there d) in
+      none_from_root first plain same none fits.0 fits.1 fits.2
 
 -- where a step doesn't lead on, the steps don't fit
 module _ (S : Rows) (p : Spot) (c : PlainStep) (cs : List PlainStep) where
@@ -87,6 +94,9 @@ module _ (b : List ℕ) (S : Rows) (start : Start) (root : ℕ) where
   told_at paths n p d plain x there e h = rw (get_or_default paths n p d there) (told_here (get_or paths n d) plain x (sym e) h)
 
   module _ (paths : List PlainPath) (values : List Value) where
+    pub none_told : AreToldBelow b S start root paths 0 values values
+    none_told = record { told = λ k lt. absurd (omega arith); kept = λ k past v. refl; long = refl }
+
     -- one value more
     pub told_on : (n : ℕ) (values' : List Value) (x : Value) → n < length values' → AreToldBelow b S start root paths n values values' → ((p : PlainPath) → IsToldOf b S start root (get_or paths n p) x) → AreToldBelow b S start root paths (n + 1) values (set values' n x)
     told_on n values' x within below here = record {

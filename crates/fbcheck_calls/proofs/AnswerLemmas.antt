@@ -1,14 +1,17 @@
 -- To whom a yes is due, and to whom a no.
-use Rattle.std.proofs.Common.{length, ◌≡◌, ◌==◌, ℕ, ◌≤◌, ◌<◌, ◌^◌, List, refl, sym, subst, arith, Bool, true, false, Option, Some, None, option_map, IsSome, IsSomeAnd, if◌then◌else◌, eqb-true}
+use Rattle.std.proofs.Common.{length, ◌≡◌, ◌==◌, ℕ, ◌≤◌, ◌<◌, ◌^◌, List, refl, sym, subst, arith, Bool, true, false, Option, Some, None, option_map, IfSome, IsSome, IsSomeAnd, IsTrue, if◌then◌else◌, eqb-true}
 use Rattle.std.proofs.lemmas.Bool.{ne_eqb}
+use Rattle.fb_schema.specs.Rows.{Rows, is_table}
+use Rattle.fb_bfbs.specs.Loads.{HasTableForRoot}
+use Rattle.fb_bfbs.specs.declared.loading.Loaded.{Loaded}
 use Rattle.fb_rules.specs.Question.{Question}
 use Rattle.fb_rules.specs.declared.start.Ident.{Ident}
 use Rattle.fb_rules.specs.declared.fault.Report.{Report}
 use Rattle.fb_strict.specs.{AsAsked.HasNoneBy, AsAsked.ReportsBy, Planned.Planned}
-use Rattle.fbcheck_calls.specs.declared.{answer.Answer.Answer, options.Options.Options}
-use Rattle.fbcheck_calls.specs.declared.answer.Answer.TheVariants.{Good, Bad, UnknownOptions, OutOfRange, NoIdent, NoRoot, TooLong, NotPlanned}
+use Rattle.fbcheck_calls.specs.declared.{outcome.Outcome.Outcome, options.Options.Options}
+use Rattle.fbcheck_calls.specs.declared.outcome.Outcome.TheVariants.{Good, Bad, UnknownOptions, OutOfRange, NoIdent, NoRoot, TooLong, NotPlanned}
 use Rattle.fbcheck_calls.specs.Answered.{IsBadFrom, IsChecked, IsGoodFrom, IsUnserved, Serves}
-use Rattle.fbcheck_calls.specs.{AnswerLaws.CanServe, AnswerLaws.DemandsArePlanned, AnswerLaws.IsAsAsked, AnswerLaws.PlainIsPlain, Asked.ident_asked, Asked.plan_asked, Asked.plan_for, Asked.question_of, Asked.root_asked, Bases.Based, Told.told}
+use Rattle.fbcheck_calls.specs.{AnswerLaws.CanServe, AnswerLaws.DemandsArePlanned, AnswerLaws.IsAsAsked, AnswerLaws.PlainIsPlain, Asked.ident_asked, Asked.if_table, Asked.plan_asked, Asked.plan_for, Asked.question_of, Asked.root_asked, Bases.Based, Told.told}
 
 -- what holds of the value that there is
 at_value : {X : Type 0} (o : Option X) (x : X) (P : X → Type 0) → o ≡ Some x → IsSomeAnd o P → P x
@@ -23,6 +26,17 @@ some_asked : (plan : Option Planned) (q : Question) (b : List ℕ) (r : Report) 
 some_asked None q b r h = (h.found, h.well_formed, h.within)
 some_asked (Some plan) q b r h = (r, h)
 
+-- a root that is a table is the table of its number
+own_table : (rows : Rows) (root : Option ℕ) → IfSome root (λ n. IsTrue (is_table rows n)) → root ≡ if_table rows root
+own_table rows None h = refl
+own_table rows (Some n) h = rw h refl
+
+-- a schema's own root, which is a table, is the one that is asked for
+pub own_root : (l : Loaded) (o : Options) → HasTableForRoot l → o.root ≡ 4294967295 → l.root ≡ root_asked l o
+own_root l o h own =
+    let rows = l.schema in
+    subst (λ (n : ℕ). l.root ≡ (if n == 4294967295 then if_table rows l.root else (if n == 4294967294 then None else if_table rows (Some n)))) (sym own) (own_table rows l.root h)
+
 module _ (s : Based) (n : ℕ) (o : Options) (b : List ℕ) (plan : Option Planned) (root : ℕ) (ident : Ident) (c : CanServe s n o plan root ident) where
   served : (P : Option Planned → ℕ → Ident → Type 0) → Serves s n o P → P plan root ident
   served P h =
@@ -30,7 +44,7 @@ module _ (s : Based) (n : ℕ) (o : Options) (b : List ℕ) (plan : Option Plann
       at_value (ident_asked s.loaded o) ident (P plan root) c.ident_is (at_value (root_asked s.loaded o) root (λ r. IsSomeAnd (ident_asked s.loaded o) (P plan r)) c.root_is by_plan)
 
   -- no answer is that a check can't begin
-  never_unserved : (a : Answer) → IsUnserved s n o a → ⊥
+  never_unserved : (a : Outcome) → IsUnserved s n o a → ⊥
   never_unserved UnknownOptions h = h c.limits.known
   never_unserved OutOfRange h = let room = c.limits.depth in let past = h.1 in omega arith
   never_unserved NotPlanned h = let e = c.plan_is in let none = h.1 in cc
@@ -38,20 +52,20 @@ module _ (s : Based) (n : ℕ) (o : Options) (b : List ℕ) (plan : Option Plann
   never_unserved NoRoot h = let e = c.root_is in let none = h.2 in cc
   never_unserved _ h = h
 
-  pub good_gets_yes : (a : Answer) → IsAsAsked plan (question_of s.loaded o b root ident) b → length b < 2 ^ 31 → IsChecked s n o b a → (told a).status ≡ 0
+  pub good_gets_yes : (a : Outcome) → IsAsAsked plan (question_of s.loaded o b root ident) b → length b < 2 ^ 31 → IsChecked s n o b a → (told a).status ≡ 0
   good_gets_yes (Good r) is short h = refl
   good_gets_yes (Bad f) is short h = let bad = served (IsBadFrom s o b f) h.1 in absurd (none_asked plan (question_of s.loaded o b root ident) b bad.none is)
   good_gets_yes TooLong is short h = let long = served (λ p r d. 2 ^ 31 ≤ length b) h in absurd (omega arith)
   good_gets_yes a is short h = absurd (never_unserved a h)
 
-  pub bad_gets_no : (a : Answer) → (IsAsAsked plan (question_of s.loaded o b root ident) b → ⊥) → length b < 2 ^ 31 → IsChecked s n o b a → (told a).status ≡ 1
+  pub bad_gets_no : (a : Outcome) → (IsAsAsked plan (question_of s.loaded o b root ident) b → ⊥) → length b < 2 ^ 31 → IsChecked s n o b a → (told a).status ≡ 1
   bad_gets_no (Good r) none short h =
       let good = served (IsGoodFrom s o b r) h.1 in absurd (none (some_asked plan (question_of s.loaded o b root ident) b r good))
   bad_gets_no (Bad f) none short h = refl
   bad_gets_no TooLong none short h = let long = served (λ p r d. 2 ^ 31 ≤ length b) h in absurd (omega arith)
   bad_gets_no a none short h = absurd (never_unserved a h)
 
-  pub long_gets_its_number : (a : Answer) → 2 ^ 31 ≤ length b → IsChecked s n o b a → (told a).status ≡ 7
+  pub long_gets_its_number : (a : Outcome) → 2 ^ 31 ≤ length b → IsChecked s n o b a → (told a).status ≡ 7
   long_gets_its_number (Good r) long h = let short = h.0 in absurd (omega arith)
   long_gets_its_number (Bad f) long h = let short = h.0 in absurd (omega arith)
   long_gets_its_number TooLong long h = refl

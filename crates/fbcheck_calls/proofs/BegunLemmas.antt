@@ -8,16 +8,16 @@ use Rattle.fb_rules.specs.declared.{fault.Fault.Fault, fault.Report.Report, link
 use Rattle.fb_verify.specs.Sealed.{Sealed}
 use Rattle.fb_verify.specs.declared.links.Located.{Located}
 use Rattle.fb_strict.specs.{AsAsked.ReportsBy, AsAsked.HasNoneBy, AsAsked.StopsBy, AsAsked.StopsAlongBy, Planned.Planned}
-use Rattle.fbcheck_calls.specs.declared.{answer.Answer.Answer, checking.Begun.Begun, held.Held.Held, held.Held.TheVariants.Schema, options.Options.Options, steps.PlainPath.PlainPath, values.Value.Value}
-use Rattle.fbcheck_calls.specs.declared.answer.Answer.TheVariants.{Good, Bad, TooLong, Misfit}
-use Rattle.fbcheck_calls.specs.Answered.{Begins, IfSchema, IsBadFrom, IsChecked, IsGoodFrom, IsUnchecked, IsUnserved, Serves, question_begun}
-use Rattle.fbcheck_calls.specs.Asked.{ident_asked, plan_asked, question_of, root_asked, start_asked}
+use Rattle.fbcheck_calls.specs.declared.{outcome.Outcome.Outcome, held.Held.Held, held.Held.TheVariants.Schema, options.Options.Options, steps.PlainPath.PlainPath, values.Value.Value}
+use Rattle.fbcheck_calls.specs.declared.outcome.Outcome.TheVariants.{Good, Bad, NoIdent, TooLong, Misfit}
+use Rattle.fbcheck_calls.specs.Answered.{Begins, CanBegin, IfSchema, IsBadFrom, IsChecked, IsGoodFrom, IsUnchecked, IsUnserved, Serves}
+use Rattle.fbcheck_calls.specs.Asked.{HasLimits, ident_asked, plan_asked, question_of, root_asked, start_asked}
 use Rattle.fbcheck_calls.specs.Bases.{Based}
 use Rattle.fbcheck_calls.specs.{Placed.IsLocated, Placed.IsPlaceTold, Placed.IsTextTold, Placed.IsUntold, Told.found_by}
 use Rattle.fbcheck_calls.specs.{Reached.IsRead, Reached.IsUnread, Steps.AllFit, Steps.IsFirstMisfit, Values.AreValues}
 
 -- what a call answers by a schema
-pub by_schema : {held : Held} {s : Based} (a : Answer) (P : Based → Type 0) → held ≡ Schema s → P s → IfSchema held a P
+pub by_schema : {held : Held} {s : Based} (a : Outcome) (P : Based → Type 0) → held ≡ Schema s → P s → IfSchema held a P
 by_schema a P is h = subst (λ (v : Held). IfSchema v a P) (sym is) h
 
 -- what holds of every plan holds of that which there is
@@ -25,33 +25,40 @@ any_plan : (o : Option (Option Planned)) (P : Option Planned → Type 0) → IsS
 any_plan (Some plan) P h all = all plan
 any_plan None P h all = absurd (false≢true h)
 
+-- a check that can't begin, though it has all the rest, has no identifier
+pub unidentified : (s : Based) (n : ℕ) (o : Options) → HasLimits o n → IsSome (plan_asked s o) → IsSome (root_asked s.loaded o) → (CanBegin s n o → ⊥) → IsUnserved s n o NoIdent
+unidentified s n o has planned rooted fails = (has, planned, rooted, none_asked (ident_asked s.loaded o) refl) where
+  none_asked : (ident : Option Ident) → ident_asked s.loaded o ≡ ident → ident_asked s.loaded o ≡ None
+  none_asked None is = is
+  none_asked (Some ident) is = absurd (fails (record { has = has; planned = planned; rooted = rooted; identified = rw is refl }))
+
 module _ (s : Based) (n : ℕ) (o : Options) (b : List ℕ) where
   -- why a buffer isn't checked is an answer of every call
-  pub unserved_is_unchecked : (a : Answer) → IsUnserved s n o a → IsUnchecked s n o b a
+  pub unserved_is_unchecked : (a : Outcome) → IsUnserved s n o a → IsUnchecked s n o b a
   unserved_is_unchecked TooLong h = absurd h
   unserved_is_unchecked _ h = h
 
-  pub unserved_is_unread : (paths : List PlainPath) (a : Answer) → IsUnserved s n o a → IsUnread s n o b paths a
+  pub unserved_is_unread : (paths : List PlainPath) (a : Outcome) → IsUnserved s n o a → IsUnread s n o b paths a
   unserved_is_unread paths TooLong h = absurd h
   unserved_is_unread paths (Misfit place) h = absurd h
   unserved_is_unread paths _ h = h
 
-  pub unchecked_is_checked : (a : Answer) → IsUnchecked s n o b a → IsChecked s n o b a
+  pub unchecked_is_checked : (a : Outcome) → IsUnchecked s n o b a → IsChecked s n o b a
   unchecked_is_checked (Good r) h = absurd h
   unchecked_is_checked (Bad f) h = absurd h
   unchecked_is_checked _ h = h
 
-  pub unchecked_is_located : (text : List ℕ) (written : ℕ) (a : Answer) → IsUnchecked s n o b a → IsLocated s n o b text text written written a
+  pub unchecked_is_located : (text : List ℕ) (written : ℕ) (a : Outcome) → IsUnchecked s n o b a → IsLocated s n o b text text written written a
   unchecked_is_located text written (Good r) h = absurd h
   unchecked_is_located text written (Bad f) h = absurd h
   unchecked_is_located text written _ h = (h, record { length_is = refl; room_is = refl })
 
-  pub unread_is_read : (paths : List PlainPath) (values : List Value) (a : Answer) → IsUnread s n o b paths a → IsRead s n o b paths values values a
+  pub unread_is_read : (paths : List PlainPath) (values : List Value) (a : Outcome) → IsUnread s n o b paths a → IsRead s n o b paths values values a
   unread_is_read paths values (Good r) h = absurd h
   unread_is_read paths values (Bad f) h = absurd h
   unread_is_read paths values _ h = (h, refl)
 
-  module _ (begun : Begun) (begins : Begins s n o (length b) begun) where
+  module _ (begun : Question) (begins : Begins s n o (length b) begun) where
     -- what holds of the root and the identifier with which a check begins, whatever the plan is
     serve_all : (P : Option Planned → ℕ → Ident → Type 0) → ((plan : Option Planned) → P plan begun.root begun.ident) → Serves s n o P
     serve_all P all = (begins.has, any_plan (plan_asked s o) (λ plan. IsSomeAnd (root_asked s.loaded o) (λ r. IsSomeAnd (ident_asked s.loaded o) (P plan r))) begins.planned (λ plan. rooted plan (P plan) (all plan))) where
@@ -73,8 +80,8 @@ module _ (s : Based) (n : ℕ) (o : Options) (b : List ℕ) where
     pub misfit_is_unread : (paths : List PlainPath) (place : ℕ) → IsFirstMisfit s.loaded.schema begun.root paths place → IsUnread s n o b paths (Misfit place)
     misfit_is_unread paths place first = serve_all (λ plan root ident. IsFirstMisfit s.loaded.schema root paths place) (λ plan. first)
 
-    -- what the check of these bytes, which are the buffer's, found by these rows and this plan
-    module _ (short : length b < 2 ^ 31) (bytes : List ℕ) (same : bytes ≡ b) (rows : Rows) (rows_are : rows ≡ s.loaded.schema) (plan : Option Planned) (plan_is : plan_asked s o ≡ Some plan) where
+    -- what the check of these bytes, which are the buffer's, found by this plan
+    module _ (short : length b < 2 ^ 31) (bytes : List ℕ) (same : bytes ≡ b) (plan : Option Planned) (plan_is : plan_asked s o ≡ Some plan) where
       -- what holds of the plan, the root and the identifier
       serve : (P : Option Planned → ℕ → Ident → Type 0) → P plan begun.root begun.ident → Serves s n o P
       serve P h =
@@ -82,19 +89,19 @@ module _ (s : Based) (n : ℕ) (o : Options) (b : List ℕ) where
           let outer : IsSomeAnd (root_asked s.loaded o) (λ r. IsSomeAnd (ident_asked s.loaded o) (P plan r)) = subst (λ v. IsSomeAnd v (λ r. IsSomeAnd (ident_asked s.loaded o) (P plan r))) (sym begins.root_is) inner in
           (begins.has, subst (λ v. IsSomeAnd v (λ p. IsSomeAnd (root_asked s.loaded o) (λ r. IsSomeAnd (ident_asked s.loaded o) (P p r)))) (sym plan_is) outer)
 
-      by_options : (P : Question → List ℕ → Type 0) → P (question_begun rows begun) bytes → P (question_of s.loaded o b begun.root begun.ident) b
+      by_options : (P : Question → List ℕ → Type 0) → P begun bytes → P (question_of s.loaded o b begun.root begun.ident) b
       by_options P h =
-          let asks : question_begun rows begun ≡ question_of s.loaded o b begun.root begun.ident = λ i. question (rows_are i) begun.root (begins.start_is i) begun.ident (begins.limits_are i) (begins.checks_are i) in
-          subst (λ q. P q b) asks (subst (P (question_begun rows begun)) same h)
+          let asks : begun ≡ question_of s.loaded o b begun.root begun.ident = λ i. question (begins.rows_are i) begun.root (begins.start_is i) begun.ident (begins.limits_are i) (begins.checks_are i) in
+          subst (λ q. P q b) asks (subst (P begun) same h)
 
       abbrev pub Yes : {G B : Type 0} → (G → Report) → Result G B → Type 0
-      Yes report found = IfOk found (λ g. ReportsBy plan (question_begun rows begun) bytes (report g))
+      Yes report found = IfOk found (λ g. ReportsBy plan begun bytes (report g))
 
       abbrev pub HasNo : {G B : Type 0} → Result G B → Type 0
-      HasNo found = IfErr found (λ _. HasNoneBy plan (question_begun rows begun) bytes)
+      HasNo found = IfErr found (λ _. HasNoneBy plan begun bytes)
 
       abbrev pub No : {G B : Type 0} → (B → Fault) → Result G B → Type 0
-      No fault found = IfErr found (λ e. StopsBy plan (question_begun rows begun) bytes (fault e))
+      No fault found = IfErr found (λ e. StopsBy plan begun bytes (fault e))
 
       pub found_is_checked : {G B : Type 0} (report : G → Report) (fault : B → Fault) (found : Result G B)
           → Yes report found → HasNo found → No fault found → IsChecked s n o b (found_by report fault found)
@@ -102,13 +109,13 @@ module _ (s : Based) (n : ℕ) (o : Options) (b : List ℕ) where
       found_is_checked report fault (Err e) good none stops =
           (short, serve (IsBadFrom s o b (fault e)) (record { none = by_options (HasNoneBy plan) none; stops = by_options (λ q y. StopsBy plan q y (fault e)) stops }))
 
-      pub found_is_located : {G : Type 0} (report : G → Report) (found : Result G Located) (links : List Link) (text text' : List ℕ) (written written' : ℕ)
+      pub found_is_located : {G : Type 0} (report : G → Report) (rows : Rows) (rows_are : rows ≡ s.loaded.schema) (found : Result G Located) (links : List Link) (text text' : List ℕ) (written written' : ℕ)
           → Yes report found → HasNo found → No (λ e. e.fault) found
-          → IfErr found (λ e. StopsAlongBy plan (question_begun rows begun) bytes e.fault (take e.links links))
+          → IfErr found (λ e. StopsAlongBy plan begun bytes e.fault (take e.links links))
           → MatchResult found (λ _. IsUntold text text' written written') (λ e. IsTextTold (location_text rows e.fault (take e.links links)) text text' written')
           → IsLocated s n o b text text' written written' (found_by report (λ e. e.fault) found)
-      found_is_located report (Ok v) links text text' written written' good none stops along told = (found_is_checked report (λ (e : Located). e.fault) (Ok v) good none stops, told)
-      found_is_located report (Err e) links text text' written written' good none stops along told = (
+      found_is_located report rows rows_are (Ok v) links text text' written written' good none stops along told = (found_is_checked report (λ (e : Located). e.fault) (Ok v) good none stops, told)
+      found_is_located report rows rows_are (Err e) links text text' written written' good none stops along told = (
         found_is_checked report (λ e. e.fault) (Err e) good none stops,
         serve (IsPlaceTold s o b e.fault text text' written') (take e.links links, by_options (λ q y. StopsAlongBy plan q y e.fault (take e.links links)) along, subst (λ (S : Rows). IsTextTold (location_text S e.fault (take e.links links)) text text' written') rows_are told),
       )
@@ -116,10 +123,10 @@ module _ (s : Based) (n : ℕ) (o : Options) (b : List ℕ) where
       -- what was verified is what was asked, and the paths fit
       module _ {G : Type 0} (report : G → Report) (verified : G → Sealed) (paths : List PlainPath) (fit : AllFit s.loaded.schema begun.root paths) where
         abbrev pub Kept : Result G Fault → Type 0
-        Kept found = IfOk found (λ g. verified g ≡ record { bytes = bytes; schema = rows; root = begun.root; start = begun.start; checks = begun.checks; report = (verified g).report })
+        Kept found = IfOk found (λ g. verified g ≡ record { bytes = bytes; schema = begun.rows; root = begun.root; start = begun.start; checks = begun.checks; report = (verified g).report })
 
         pub found_fits : (found : Result G Fault) → Kept found → IfOk found (λ g. AllFit (verified g).schema (verified g).root paths)
-        found_fits (Ok g) kept = subst (λ (x : Sealed). AllFit x.schema x.root paths) (sym kept) (subst (λ (S : Rows). AllFit S begun.root paths) (sym rows_are) fit)
+        found_fits (Ok g) kept = subst (λ (x : Sealed). AllFit x.schema x.root paths) (sym kept) (subst (λ (S : Rows). AllFit S begun.root paths) (sym begins.rows_are) fit)
         found_fits (Err f) kept = tt
 
         pub found_is_read : (found : Result G Fault) (values values' : List Value)
@@ -127,8 +134,8 @@ module _ (s : Based) (n : ℕ) (o : Options) (b : List ℕ) where
             → MatchResult found (λ g. AreValues (verified g).bytes (verified g).schema (verified g).start (verified g).root paths values') (λ _. values' ≡ values)
             → IsRead s n o b paths values values' (found_by report (λ f. f) found)
         found_is_read (Ok g) values values' good kept none stops told =
-            let there : AreValues bytes rows begun.start begun.root paths values' = subst (λ (x : Sealed). AreValues x.bytes x.schema x.start x.root paths values') kept told in
-            let here : AreValues bytes s.loaded.schema begun.start begun.root paths values' = subst (λ (S : Rows). AreValues bytes S begun.start begun.root paths values') rows_are there in (
+            let there : AreValues bytes begun.rows begun.start begun.root paths values' = subst (λ (x : Sealed). AreValues x.bytes x.schema x.start x.root paths values') kept told in
+            let here : AreValues bytes s.loaded.schema begun.start begun.root paths values' = subst (λ (S : Rows). AreValues bytes S begun.start begun.root paths values') begins.rows_are there in (
               found_is_checked report (λ (f : Fault). f) (Ok g) good none stops,
               at_root (λ root. AllFit s.loaded.schema root paths) fit,
               at_root (λ root. AreValues b s.loaded.schema (start_asked o) root paths values') (subst (λ y. AreValues y s.loaded.schema (start_asked o) begun.root paths values') same (subst (λ t. AreValues bytes s.loaded.schema t begun.root paths values') begins.start_is here)),

@@ -1,6 +1,6 @@
 -- How the elements of a vector are read in bytes that aren't checked.
 use Rattle.std.proofs.Common.{◌≡◌, ◌≢◌, ℕ, suc, ◌+◌, ◌-◌, ◌<◌, ◌≤◌, ◌^◌, List, [], ◌∷◌, ◌++◌, length, take, drop, get_or, get_or-set_other, get_or-set_same, below_more, take-append-drop, length-append, length-take-le, drop-cons, append-nil, arith, refl, sym, ap, subst, ◌∙◌, Option, Some, None, IsSomeAnd}
-use Rattle.std.specs.Prelude.{IsErrAnd, MatchResult, Result, Ok, Err}
+use Rattle.std.specs.Prelude.{IsErrAnd, MatchOption, MatchResult, Result, Ok, Err}
 use Rattle.std.proofs.Math.ListN.{set}
 use Rattle.std.proofs.Math.Seq.{take-append-add}
 use Rattle.std.proofs.lemmas.List.{get_or_past, length-set}
@@ -12,12 +12,12 @@ use Rattle.fb_schema.specs.Served.{IsServed}
 use Rattle.fb_access.specs.{Denotes.next_spot, Denotes.root_spot, Fitting.StepsFit, Fitting.next_kind, Held.IsSpot, Tested.IsSeen, Denotes.shown}
 use Rattle.fb_access.proofs.{StepKinds.kinds_go_on, Staying.step_stays, Walks.reaches_on}
 use Rattle.fb_bfbs.specs.declared.loading.Loaded.{Loaded}
-use Rattle.fbcheck_calls.specs.declared.answer.Answer.TheVariants.{Changed as BytesChanged}
+use Rattle.fbcheck_calls.specs.declared.outcome.Outcome.TheVariants.{Changed as BytesChanged}
 use Rattle.fbcheck_calls.specs.declared.{options.Options.Options, steps.PlainPath.PlainPath, steps.PlainStep.PlainStep, values.Value.Value}
 use Rattle.fbcheck_calls.specs.Each.{AreElementsTold, AreFilled, FitsEach, GoodStaysReadOfEach, HasEach, IsCountTold, IsEachOther, IsReadOfEach, MarkedPathsServe, elements_of, path_to, path_to_all, to_element}
 use Rattle.fbcheck_calls.specs.Asked.{AreKnown, root_asked}
 use Rattle.fbcheck_calls.specs.{Again.IsToldOf, Marked.IsEach, Marked.IsEachAfter, Steps.AreSteps, Steps.EndAt, Steps.FitFrom, Steps.FitHere, Steps.IsPathOf, Steps.no_step, Steps.step_of, Steps.steps_in, Steps.steps_said, Values.placed, Values.value_at, Values.value_told}
-use Rattle.fbcheck_calls.specs.Walks.{DontBegin, IsVector, GoTo, IsElementTold, IsToldAt, NoneFit}
+use Rattle.fbcheck_calls.specs.Walks.{DontBegin, IsVector, IsElementTold, IsToldAt, IsToldFrom, NoneFit}
 use Rattle.fbcheck_calls.proofs.{AgainLemmas.good_is_no_other, AgainLemmas.lies_within, AgainLemmas.stuck_fits, StepLemmas.fit_more}
 
 -- ---- the steps of a path to an element
@@ -128,14 +128,21 @@ module _ (b : List ℕ) (S : Rows) (p q : Spot) (j : ℕ) (after : List PlainSte
   behind_fits : FitHere S p (to_element j ∷ after) → FitHere S q after
   behind_fits h = fit_more S p (to_element j) after (Element j) q refl (kinds_go_on b S p (Element j) q leads) h
 
-  pub none_behind : NoneFit S q after → FitHere S p (to_element j ∷ after) → ⊥
+  none_behind : NoneFit S q after → FitHere S p (to_element j ∷ after) → ⊥
   none_behind none h = none [] (subst (FitHere S q) (sym (append-nil after)) (behind_fits h))
 
-  pub told_behind : (end : Spot) (v : Value) → GoTo b S q after end → IsToldAt b S end v → IsElementTold b S p after j v
-  told_behind end v go told = (end, (Element j ∷ go.lead.0, (refl, go.lead.1), (q, leads, go.lead.2)), told)
+  told_behind : (v : Value) → IsToldFrom b S q after v → IsElementTold b S p after j v
+  told_behind v (end, lead, told) = (end, (Element j ∷ lead.0, (refl, lead.1), (q, leads, lead.2)), told)
 
-  pub fails_before : IsServed S → (IsSpot b S q → ⊥) → IsSpot b S p → ⊥
+  fails_before : IsServed S → (IsSpot b S q → ⊥) → IsSpot b S p → ⊥
   fails_before served fails h = fails (step_stays b S p (Element j) q served h leads)
+
+  -- what is answered of the steps behind it is answered of the element
+  pub told_of_element : {E : Type 0} → IsServed S → (r : Result (Option Value) E) → MatchResult r (λ o. MatchOption o (NoneFit S q after) (IsToldFrom b S q after)) (λ _. IsSpot b S q → ⊥)
+      → MatchResult r (λ o. MatchOption o (FitHere S p (to_element j ∷ after) → ⊥) (IsElementTold b S p after j)) (λ _. IsSpot b S p → ⊥)
+  told_of_element served (Ok None) none = none_behind none
+  told_of_element served (Ok (Some v)) told = told_behind v told
+  told_of_element served (Err e) fails = fails_before served fails
 
 -- what is told at a spot, and of how many elements
 placed_elements : (x : Value) (e : Option Extent) → elements_of (placed x e) ≡ elements_of x

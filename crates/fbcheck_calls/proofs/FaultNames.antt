@@ -14,7 +14,7 @@ use Rattle.fb_rules.specs.declared.fault.Reason.{Reason}
 use Rattle.fb_rules.specs.declared.fault.Reason.TheVariants.{WrongPrefix, OutOfBuffer, Misaligned, ZeroOffset, WrongIdentifier, TooDeep, TooManyTables, BadVtable, MissingRequired, NoTerminator, LengthsDiffer, PastTable, TooManyReads, FlexContent, NotUtf8, UnknownField}
 use Rattle.fbcheck_calls.specs.Names.{FaultsHaveTheirNames, IsCodeName, IsFaultName, IsPathName, IsReasonName}
 use Rattle.fbcheck_calls.specs.Told.{code_number}
-use Rattle.fbcheck_calls.specs.declared.answer.Answer.TheVariants.{Bad, NoSchema, BadStream, BadPath}
+use Rattle.fbcheck_calls.specs.declared.outcome.Outcome.TheVariants.{Bad, NoSchema, BadStream, BadPath}
 
 -- what stands at its number in a list of names is the name of each that has this number
 module _ (X : Type 0) (number : X → ℕ) (text : X → List ℕ) (names : List (List ℕ)) (at : (x : X) → slice_get names (number x) ≡ Some (text x)) where

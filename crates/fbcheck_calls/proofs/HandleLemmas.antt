@@ -1,6 +1,6 @@
 -- What is answered in the room of a handle, or where it holds none.
 use Rattle.std.proofs.Common.{◌≡◌, ℕ, List, Option, Some, None, option_map, sym, subst, ap, ◌∙◌}
-use Rattle.fbcheck_calls.specs.declared.{answer.Answer.Answer, held.Held.Held, held.Held.TheVariants.Schema, options.Options.Options}
+use Rattle.fbcheck_calls.specs.declared.{outcome.Outcome.Outcome, held.Held.Held, held.Held.TheVariants.Schema, options.Options.Options}
 use Rattle.fbcheck_calls.specs.declared.{steps.PlainPath.PlainPath, values.Value.Value}
 use Rattle.fbcheck_calls.specs.{Answered.levels, Bases.Based, Placed.IsLocated, Placed.IsLocatedBy, Reached.IsRead, Reached.IsReadBy}
 
@@ -13,7 +13,7 @@ module _ {B : Type 0} (value : B → Held) (taken : Option B) (inside : Option H
   levels_of_none is = ap levels (sym are ∙ ap (option_map value) is)
 
 -- in as much room by a schema, what was read, and what was located
-module _ (held : Held) (s : Based) (room n : ℕ) (by_schema : held ≡ Schema s) (so_many : room ≡ n) (o : Options) (b : List ℕ) (a : Answer) where
+module _ (held : Held) (s : Based) (room n : ℕ) (by_schema : held ≡ Schema s) (so_many : room ≡ n) (o : Options) (b : List ℕ) (a : Outcome) where
   pub read_by : (paths : List PlainPath) (values values' : List Value) → IsRead s n o b paths values values' a → IsReadBy held room o b paths values values' a
   read_by paths values values' read =
       subst (λ (h : Held). IsReadBy h room o b paths values values' a) (sym by_schema) (subst (λ m. IsRead s m o b paths values values' a) (sym so_many) read)

@@ -7,8 +7,8 @@ use Rattle.fb_bfbs.specs.{ByteFields.HasUnmarked, ByteFields.IsField, ByteFields
 use Rattle.fb_bfbs.specs.declared.{loading.Loaded.Loaded, marks.Mark.Mark, marks.Marks.Marks}
 use Rattle.fb_strict.specs.{Holding.IsPlanFault, Holding.has_bytes, Holding.meant}
 use Rattle.fb_strict.specs.declared.holding.PlanFault.TheVariants.{NoSuchTable as LostAt}
-use Rattle.fbcheck_calls.specs.declared.{answer.Answer.Answer, answer.FieldAt.FieldAt, options.Options.Options}
-use Rattle.fbcheck_calls.specs.declared.answer.Answer.TheVariants.{NoSchema, NoSuchTable}
+use Rattle.fbcheck_calls.specs.declared.{outcome.Outcome.Outcome, outcome.FieldAt.FieldAt, options.Options.Options}
+use Rattle.fbcheck_calls.specs.declared.outcome.Outcome.TheVariants.{NoSchema, NoSuchTable}
 use Rattle.fbcheck_calls.specs.Answered.{AreMarksFor, HasLostAt, IsInSlot, IsLostAt, IsNotOpened, IsNotPlanned}
 use Rattle.fbcheck_calls.specs.Asked.{HasLimits, asks_marks, limits_of}
 
@@ -46,7 +46,7 @@ lost_at false file o l ms at loaded none lost = absurd (none_lost l.schema at (s
 lost_at true file o l ms at loaded (marks, asked, same, told) lost = (l, loaded, marks, asked, subst (λ xs. IsLostAt l.schema xs at) same lost)
 
 -- why no schema is made where no plan is
-pub not_opened : (file : List ℕ) (o : Options) (l : Loaded) (ms : List Marked) (a : Answer) → HasLimits o 4096 → IsLoaded file (limits_of o (length file)) l
+pub not_opened : (file : List ℕ) (o : Options) (l : Loaded) (ms : List Marked) (a : Outcome) → HasLimits o 4096 → IsLoaded file (limits_of o (length file)) l
     → AreMarksFor (asks_marks o.demands) file o l.schema ms → IsNotPlanned l.schema ms a → IsNotOpened file o a
 not_opened file o l ms (NoSchema fault) has loaded say why = (has, subst (IsLoadFault file (limits_of o (length file))) (sym why) (loaded.file).short)
 not_opened file o l ms (NoSuchTable at) has loaded say why = (has, lost_at (asks_marks o.demands) file o l ms at loaded say why)

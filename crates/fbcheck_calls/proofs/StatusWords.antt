@@ -4,7 +4,7 @@ use Rattle.fb_access.specs.declared.path_fault.PathFault.TheVariants as path
 use Rattle.fb_bfbs.specs.declared.load_fault.LoadFault.TheVariants as load
 use Rattle.fb_bytes.specs.declared.stream_fault.StreamFault.TheVariants as stream
 use Rattle.fbcheck_calls.specs.Names.{StatusesHaveWords}
-use Rattle.fbcheck_calls.specs.declared.answer.Answer.TheVariants.{NoSchema, BadStream, BadPath}
+use Rattle.fbcheck_calls.specs.declared.outcome.Outcome.TheVariants.{NoSchema, BadStream, BadPath}
 
 pub has_words : StatusesHaveWords
 has_words (NoSchema load.TooLong) = refl

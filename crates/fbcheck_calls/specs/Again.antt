@@ -5,9 +5,9 @@ use Rattle.fb_rules.specs.declared.fault.Report.{Report}
 use Rattle.fb_rules.specs.declared.start.Start.{Start}
 use Rattle.fb_schema.specs.Rows.{Rows}
 use Rattle.fb_access.specs.Tested.{IsOther}
-use Rattle.fbcheck_calls.specs.declared.{answer.Answer.Answer, held.Held.Held, held.Held.TheVariants.Schema, held.Held.TheVariants.Room}
+use Rattle.fbcheck_calls.specs.declared.{outcome.Outcome.Outcome, held.Held.Held, held.Held.TheVariants.Schema, held.Held.TheVariants.Room}
 use Rattle.fbcheck_calls.specs.declared.{options.Options.Options, steps.PlainPath.PlainPath, values.Value.Value}
-use Rattle.fbcheck_calls.specs.declared.answer.Answer.TheVariants.{Done, Good, UnknownOptions, NoRoot, TooLong, Misfit, Changed}
+use Rattle.fbcheck_calls.specs.declared.outcome.Outcome.TheVariants.{Done, Good, UnknownOptions, NoRoot, TooLong, Misfit, Changed}
 use Rattle.fbcheck_calls.specs.{Answered.IsChecked, Asked.AreKnown, Asked.root_asked, Asked.start_asked, Bases.Based}
 use Rattle.fbcheck_calls.specs.{Steps.AllFit, Steps.IsFirstMisfit, Values.IsValueOf}
 
@@ -44,7 +44,7 @@ pub record AreOther (l : Loaded) (o : Options) (b : List ℕ) (paths : List Plai
   pub other : IsOther b l.schema (start_asked o) root
 
 -- what is answered, with the values before and after
-abbrev pub IsReadAgain : Loaded → Options → List ℕ → List PlainPath → List Value → List Value → Answer → Type 0
+abbrev pub IsReadAgain : Loaded → Options → List ℕ → List PlainPath → List Value → List Value → Outcome → Type 0
 IsReadAgain l o b paths v v' Done = IsAsked l o (AreRead l o b paths v v') × (length b < 2 ^ 31)
 IsReadAgain l o b paths v v' (Changed place) = IsAsked l o (AreOther l o b paths v v' place) × (length b < 2 ^ 31)
 IsReadAgain l o b paths v v' UnknownOptions = (AreKnown o → ⊥) × (v' ≡ v)
@@ -53,7 +53,7 @@ IsReadAgain l o b paths v v' (Misfit place) = IsAsked l o (λ root. IsFirstMisfi
 IsReadAgain l o b paths v v' TooLong = IsAsked l o (λ root. AllFit l.schema root paths) × (2 ^ 31 ≤ length b) × (v' ≡ v)
 IsReadAgain l o b paths v v' _ = ⊥
 
-abbrev pub IsReadAgainBy : Held → Options → List ℕ → List PlainPath → List Value → List Value → Answer → Type 0
+abbrev pub IsReadAgainBy : Held → Options → List ℕ → List PlainPath → List Value → List Value → Outcome → Type 0
 IsReadAgainBy (Schema s) o b paths v v' a = IsReadAgain s.loaded o b paths v v' a
 IsReadAgainBy (Room r) o b paths v v' a = (a ≡ NoRoot) × (v' ≡ v)
 

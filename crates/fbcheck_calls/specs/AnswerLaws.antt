@@ -7,7 +7,7 @@ use Rattle.fb_rules.specs.declared.{fault.Report.Report, start.Ident.Ident}
 use Rattle.fb_access.specs.declared.{extent.Extent.Extent, spot.Spot.Spot}
 use Rattle.fb_access.specs.Denotes as denotes
 use Rattle.fb_access.specs.{Denotes.Shown, Denotes.bytes_at, Denotes.value, Extents.extent, Spots.kind_at, StepLaws.size_in_place, StepLaws.HoldsElements}
-use Rattle.fbcheck_calls.specs.declared.{answer.Answer.Answer, options.Options.Options}
+use Rattle.fbcheck_calls.specs.declared.{outcome.Outcome.Outcome, options.Options.Options}
 use Rattle.fbcheck_calls.specs.{Answered.IsChecked, Bases.Based, Told.told}
 use Rattle.fbcheck_calls.specs.Asked.{HasLimits, ident_asked, plan_asked, question_of, root_asked}
 
@@ -26,7 +26,7 @@ IsAsAsked (Some plan) q b = (r : Report) × ReportsStrictly plan q b r
 
 -- where it is short enough and as it is asked for, every answer is the number of a yes
 abbrev pub GoodGetsYes : Type 0
-GoodGetsYes = (s : Based) (n : ℕ) (o : Options) (b : List ℕ) (plan : Option Planned) (root : ℕ) (ident : Ident) (a : Answer)
+GoodGetsYes = (s : Based) (n : ℕ) (o : Options) (b : List ℕ) (plan : Option Planned) (root : ℕ) (ident : Ident) (a : Outcome)
     → CanServe s n o plan root ident
     → length b < 2 ^ 31
     → IsAsAsked plan (question_of s.loaded o b root ident) b
@@ -34,7 +34,7 @@ GoodGetsYes = (s : Based) (n : ℕ) (o : Options) (b : List ℕ) (plan : Option 
 
 -- where it is not, every answer is the number of a no
 abbrev pub BadGetsNo : Type 0
-BadGetsNo = (s : Based) (n : ℕ) (o : Options) (b : List ℕ) (plan : Option Planned) (root : ℕ) (ident : Ident) (a : Answer)
+BadGetsNo = (s : Based) (n : ℕ) (o : Options) (b : List ℕ) (plan : Option Planned) (root : ℕ) (ident : Ident) (a : Outcome)
     → CanServe s n o plan root ident
     → length b < 2 ^ 31
     → (IsAsAsked plan (question_of s.loaded o b root ident) b → ⊥)
@@ -42,7 +42,7 @@ BadGetsNo = (s : Based) (n : ℕ) (o : Options) (b : List ℕ) (plan : Option Pl
 
 -- where it is too long, whatever is in it, every answer is that number
 abbrev pub LongGetsItsNumber : Type 0
-LongGetsItsNumber = (s : Based) (n : ℕ) (o : Options) (b : List ℕ) (plan : Option Planned) (root : ℕ) (ident : Ident) (a : Answer)
+LongGetsItsNumber = (s : Based) (n : ℕ) (o : Options) (b : List ℕ) (plan : Option Planned) (root : ℕ) (ident : Ident) (a : Outcome)
     → CanServe s n o plan root ident
     → 2 ^ 31 ≤ length b
     → IsChecked s n o b a → (told a).status ≡ 7

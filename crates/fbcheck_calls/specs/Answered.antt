@@ -8,12 +8,12 @@ use Rattle.fb_bfbs.specs.declared.{loading.Loaded.Loaded, load_fault.LoadFault.T
 use Rattle.fb_strict.specs.{Demanded.demanded, Holding.holdings_if, Holding.IsPlanFault, Planned.Planned, Planned.IsPlan, MostReads.most_reads_strictly}
 use Rattle.fb_strict.specs.declared.holding.PlanFault.TheVariants.{NoSuchTable as LostAt}
 use Rattle.fb_strict.specs.AsAsked.{ReportsBy, HasNoneBy, StopsBy}
-use Rattle.fbcheck_calls.specs.declared.{answer.Answer.Answer, answer.FieldAt.FieldAt, answer.Verdict.Verdict, checking.Begun.Begun, held.Held.Held}
+use Rattle.fbcheck_calls.specs.declared.{outcome.Outcome.Outcome, outcome.FieldAt.FieldAt, outcome.Verdict.Verdict, held.Held.Held}
 use Rattle.fbcheck_calls.specs.declared.{held.Held.TheVariants.Schema, held.Held.TheVariants.Room, options.Options.Options}
-use Rattle.fbcheck_calls.specs.declared.answer.Answer.TheVariants.{Done, Good, Bad, OutOfRange, NoIdent, NoRoot, TooLong, NoSchema, NotPlanned, UnmarkedBytes, NoSuchTable}
+use Rattle.fbcheck_calls.specs.declared.outcome.Outcome.TheVariants.{Done, Good, Bad, OutOfRange, NoIdent, NoRoot, TooLong, NoSchema, NotPlanned, UnmarkedBytes, NoSuchTable}
 use Rattle.fbcheck_calls.specs.Asked.{HasLimits, LimitsFail, asks_marks, checks_asked, demands_of, ident_asked, limits_of, plan_asked, question_of, root_asked, start_asked}
 use Rattle.fbcheck_calls.specs.Bases.{Based}
-use Rattle.fbcheck_calls.specs.Told.{blank, low, told}
+use Rattle.fbcheck_calls.specs.Told.{low, told}
 
 -- ---- to load a schema
 
@@ -64,13 +64,13 @@ HasUnmarkedAt file o at = (loaded : Loaded) × IsLoaded file (limits_of o (lengt
     × (object : ℕ) × (f : Live) × IsNumbered object f at × LacksMark loaded.schema (map marked marks.fields.items) marks.builtins object f
 
 -- why no plan is made of rows with these marks
-abbrev pub IsNotPlanned : Rows → List Marked → Answer → Type 0
+abbrev pub IsNotPlanned : Rows → List Marked → Outcome → Type 0
 IsNotPlanned rows ms (NoSchema fault) = fault ≡ OutOfMemory
 IsNotPlanned rows ms (NoSuchTable at) = IsLostAt rows ms at
 IsNotPlanned rows ms _ = ⊥
 
 -- why there is none
-abbrev pub IsNotOpened : List ℕ → Options → Answer → Type 0
+abbrev pub IsNotOpened : List ℕ → Options → Outcome → Type 0
 IsNotOpened file o (NoSchema fault) = HasLimits o 4096 × IsLoadFault file (limits_of o (length file)) fault
 IsNotOpened file o (NoSuchTable at) = HasLimits o 4096 × HasLostAt file o at
 IsNotOpened file o (UnmarkedBytes at) = HasLimits o 4096 × HasUnmarkedAt file o at
@@ -79,7 +79,7 @@ IsNotOpened file o a = LimitsFail o 4096 a
 -- ---- what a pointer leads to: a schema, or room
 
 -- what a call answers that asks a schema; of what is none it has no root
-abbrev pub IfSchema : Held → Answer → (Based → Type 0) → Type 0
+abbrev pub IfSchema : Held → Outcome → (Based → Type 0) → Type 0
 IfSchema (Schema s) a P = P s
 IfSchema (Room r) a P = a ≡ NoRoot
 
@@ -98,13 +98,13 @@ levels (Some (Room r)) = r
 levels _ = 64
 
 -- what a load into a handle answers, with what is held before and after: the file's schema, or what was held
-abbrev pub IsTaken : List ℕ → Options → Option Held → Option Held → Answer → Type 0
+abbrev pub IsTaken : List ℕ → Options → Option Held → Option Held → Outcome → Type 0
 IsTaken file o held held' Done = IsSomeAnd held' (HoldsSchema (IsOpened file o))
 IsTaken file o held held' (NoSchema OutOfMemory) = (held' ≡ held) × HasLimits o 4096
 IsTaken file o held held' a = (held' ≡ held) × IsNotOpened file o a
 
 -- what is answered where room is made in a handle
-abbrev pub IsRoomMade : ℕ → Option Held → Option Held → Answer → Type 0
+abbrev pub IsRoomMade : ℕ → Option Held → Option Held → Outcome → Type 0
 IsRoomMade depth held held' Done = IsSomeAnd held' (HoldsRoom depth) × (depth ≤ 4096)
 IsRoomMade depth held held' OutOfRange = (held' ≡ held) × (4096 < depth)
 IsRoomMade depth held held' (NoSchema OutOfMemory) = (held' ≡ held) × (depth ≤ 4096)
@@ -113,7 +113,8 @@ IsRoomMade depth held held' _ = ⊥
 -- ---- to check a buffer
 
 -- what a check of so many bytes asks
-pub record Begins (s : Based) (n : ℕ) (o : Options) (bytes : ℕ) (begun : Begun) : Type 0 where
+pub record Begins (s : Based) (n : ℕ) (o : Options) (bytes : ℕ) (begun : Question) : Type 0 where
+  pub rows_are : begun.rows ≡ s.loaded.schema
   pub has : HasLimits o n
   pub planned : IsSome (plan_asked s o)
   pub limits_are : begun.limits ≡ limits_of o bytes
@@ -124,22 +125,22 @@ pub record Begins (s : Based) (n : ℕ) (o : Options) (bytes : ℕ) (begun : Beg
   pub checks_are : begun.checks ≡ checks_asked o
 
 -- that of a buffer which isn't too long
-abbrev pub Starts : Based → ℕ → Options → List ℕ → Begun → Type 0
+abbrev pub Starts : Based → ℕ → Options → List ℕ → Question → Type 0
 Starts s n o b begun = Begins s n o (length b) begun × (length b < 2 ^ 31)
 
-abbrev pub question_begun : Rows → Begun → Question
-question_begun rows begun = question rows begun.root begun.start begun.ident begun.limits begun.checks
-
 -- why nothing can be checked by these options, in room for so many levels
-abbrev pub IsUnserved : Based → ℕ → Options → Answer → Type 0
+abbrev pub IsUnserved : Based → ℕ → Options → Outcome → Type 0
 IsUnserved s n o NotPlanned = HasLimits o n × (plan_asked s o ≡ None)
 IsUnserved s n o NoRoot = HasLimits o n × IsSome (plan_asked s o) × (root_asked s.loaded o ≡ None)
 IsUnserved s n o NoIdent = HasLimits o n × IsSome (plan_asked s o) × IsSome (root_asked s.loaded o) × (ident_asked s.loaded o ≡ None)
 IsUnserved s n o a = LimitsFail o n a
 
--- that by its status, with nothing more to tell
-abbrev pub IsUnservedBy : Based → ℕ → Options → ℕ → Type 0
-IsUnservedBy s n o status = (a : Answer) × IsUnserved s n o a × (told a ≡ blank status)
+-- a check can begin by these options, in room for so many levels
+pub record CanBegin (s : Based) (n : ℕ) (o : Options) : Type 0 where
+  pub has : HasLimits o n
+  pub planned : IsSome (plan_asked s o)
+  pub rooted : IsSome (root_asked s.loaded o)
+  pub identified : IsSome (ident_asked s.loaded o)
 
 -- a check can begin, and this holds of its plan, its root and its identifier
 abbrev pub Serves : Based → ℕ → Options → (Option Planned → ℕ → Ident → Type 0) → Type 0
@@ -156,19 +157,19 @@ pub record IsBadFrom (s : Based) (o : Options) (b : List ℕ) (f : Fault) (plan 
   pub stops : StopsBy plan (question_of s.loaded o b root ident) b f
 
 -- why a buffer isn't checked
-abbrev pub IsUnchecked : Based → ℕ → Options → List ℕ → Answer → Type 0
+abbrev pub IsUnchecked : Based → ℕ → Options → List ℕ → Outcome → Type 0
 IsUnchecked s n o b TooLong = Serves s n o (λ plan root ident. 2 ^ 31 ≤ length b)
 IsUnchecked s n o b a = IsUnserved s n o a
 
 -- what a check of a buffer answers
-abbrev pub IsChecked : Based → ℕ → Options → List ℕ → Answer → Type 0
+abbrev pub IsChecked : Based → ℕ → Options → List ℕ → Outcome → Type 0
 IsChecked s n o b (Good r) = (length b < 2 ^ 31) × Serves s n o (IsGoodFrom s o b r)
 IsChecked s n o b (Bad f) = (length b < 2 ^ 31) × Serves s n o (IsBadFrom s o b f)
 IsChecked s n o b a = IsUnchecked s n o b a
 
 -- a verdict and its status tell an answer of which this holds
-pub record IsTold (v : Verdict) (P : Answer → Type 0) (number : ℕ) : Type 0 where
-  pub answer : Answer
+pub record IsTold (v : Verdict) (P : Outcome → Type 0) (number : ℕ) : Type 0 where
+  pub answer : Outcome
   pub told : v ≡ told answer
   pub holds : P answer
   pub status : number ≡ v.status
@@ -179,28 +180,28 @@ most_reads_by None = most_reads
 most_reads_by (Some plan) = most_reads_strictly
 
 -- what the most reads of a check are said to be
-abbrev pub IsPricedBy : Based → Options → ℕ → Result ℕ Answer → Type 0
+abbrev pub IsPricedBy : Based → Options → ℕ → Result ℕ Outcome → Type 0
 IsPricedBy s o n (Ok most) = HasLimits o 4096 × IsSomeAnd (plan_asked s o) (λ plan. most ≡ low (most_reads_by plan s.loaded.schema (limits_of o n) n))
 IsPricedBy s o n (Err NotPlanned) = HasLimits o 4096 × (plan_asked s o ≡ None)
 IsPricedBy s o n (Err a) = LimitsFail o 4096 a
 
-abbrev pub IsPriced : Held → Options → ℕ → Result ℕ Answer → Type 0
+abbrev pub IsPriced : Held → Options → ℕ → Result ℕ Outcome → Type 0
 IsPriced (Schema s) o n answer = IsPricedBy s o n answer
 IsPriced (Room r) o n answer = answer ≡ Err NoRoot
 
 -- the number of an answer, or of none where a number was found
-abbrev pub status_of : Result ℕ Answer → ℕ
+abbrev pub status_of : Result ℕ Outcome → ℕ
 status_of (Ok most) = 0
 status_of (Err a) = (told a).status
 
 -- the number that was found, or else another
-abbrev pub found_or : Result ℕ Answer → ℕ → ℕ
+abbrev pub found_or : Result ℕ Outcome → ℕ → ℕ
 found_or (Ok most) n = most
 found_or (Err a) n = n
 
 -- that in numbers, with what stood before and stands then where they are written
 pub record IsPriceTold (held : Held) (o : Options) (n reads reads' status : ℕ) : Type 0 where
-  pub answer : Result ℕ Answer
+  pub answer : Result ℕ Outcome
   pub priced : IsPriced held o n answer
   pub reads_are : reads' ≡ found_or answer reads
   pub status_is : status ≡ status_of answer

@@ -8,7 +8,7 @@ use Rattle.fb_rules.specs.declared.{checks.Checks.Checks, start.Ident.Ident, sta
 use Rattle.fb_strict.specs.Planned.{Planned}
 use Rattle.fb_strict.specs.declared.demands.Demands.{Demands}
 use Rattle.fb_rules.specs.declared.{start.Start.Start, start.Start.TheVariants.Bare, start.Start.TheVariants.Prefixed}
-use Rattle.fbcheck_calls.specs.declared.{answer.Answer.Answer, answer.Answer.TheVariants.UnknownOptions, answer.Answer.TheVariants.OutOfRange}
+use Rattle.fbcheck_calls.specs.declared.{outcome.Outcome.Outcome, outcome.Outcome.TheVariants.UnknownOptions, outcome.Outcome.TheVariants.OutOfRange}
 use Rattle.fbcheck_calls.specs.declared.options.Options.{Options}
 use Rattle.fbcheck_calls.specs.Bases.{Based}
 
@@ -57,7 +57,7 @@ pub record HasLimits (o : Options) (levels : ℕ) : Type 0 where
   pub depth : o.max_depth ≤ min 4096 levels
 
 -- why options set no limits for so many levels
-abbrev pub LimitsFail : Options → ℕ → Answer → Type 0
+abbrev pub LimitsFail : Options → ℕ → Outcome → Type 0
 LimitsFail o levels UnknownOptions = AreKnown o → ⊥
 LimitsFail o levels OutOfRange = AreKnown o × (min 4096 levels < o.max_depth)
 LimitsFail o levels _ = ⊥

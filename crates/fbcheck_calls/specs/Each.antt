@@ -5,9 +5,9 @@ use Rattle.fb_bfbs.specs.declared.loading.Loaded.{Loaded}
 use Rattle.fb_rules.specs.declared.{fault.Report.Report, start.Start.Start}
 use Rattle.fb_schema.specs.Rows.{Rows}
 use Rattle.fb_access.specs.Tested.{IsOther}
-use Rattle.fbcheck_calls.specs.declared.{answer.Answer.Answer, held.Held.Held, held.Held.TheVariants.Schema, held.Held.TheVariants.Room}
+use Rattle.fbcheck_calls.specs.declared.{outcome.Outcome.Outcome, held.Held.Held, held.Held.TheVariants.Schema, held.Held.TheVariants.Room}
 use Rattle.fbcheck_calls.specs.declared.{options.Options.Options, steps.PlainPath.PlainPath, steps.PlainStep.PlainStep, values.Value.Value}
-use Rattle.fbcheck_calls.specs.declared.answer.Answer.TheVariants.{Done, Good, UnknownOptions, NoRoot, TooLong, Misfit, Changed}
+use Rattle.fbcheck_calls.specs.declared.outcome.Outcome.TheVariants.{Done, Good, UnknownOptions, NoRoot, TooLong, Misfit, Changed}
 use Rattle.fbcheck_calls.specs.{Again.IsAsked, Again.IsToldOf, Answered.IsChecked, Asked.AreKnown, Asked.root_asked, Asked.start_asked, Bases.Based, Reached.ResolvesTo, Steps.FitsFrom}
 
 -- a step to this element
@@ -71,7 +71,7 @@ abbrev pub IsNoEach : Loaded → PlainPath → ℕ → ℕ → Type 0
 IsNoEach l p place root = (place ≡ 0) × (FitsEach l.schema root p → ⊥)
 
 -- what is answered, with the values and the count before and after
-abbrev pub IsReadOfEach : Loaded → Options → List ℕ → PlainPath → ℕ → List Value → List Value → ℕ → ℕ → Answer → Type 0
+abbrev pub IsReadOfEach : Loaded → Options → List ℕ → PlainPath → ℕ → List Value → List Value → ℕ → ℕ → Outcome → Type 0
 IsReadOfEach l o b p first v v' n n' Done = IsAsked l o (IsEachRead l o b p first v v' n') × (length b < 2 ^ 31)
 IsReadOfEach l o b p first v v' n n' (Changed place) = IsAsked l o (IsEachOther l o b p first v v' place) × (length b < 2 ^ 31) × (n' ≡ n)
 IsReadOfEach l o b p first v v' n n' UnknownOptions = (AreKnown o → ⊥) × (v' ≡ v) × (n' ≡ n)
@@ -80,7 +80,7 @@ IsReadOfEach l o b p first v v' n n' (Misfit place) = IsAsked l o (IsNoEach l p 
 IsReadOfEach l o b p first v v' n n' TooLong = IsAsked l o (λ root. FitsEach l.schema root p) × (2 ^ 31 ≤ length b) × (v' ≡ v) × (n' ≡ n)
 IsReadOfEach l o b p first v v' n n' _ = ⊥
 
-abbrev pub IsReadOfEachBy : Held → Options → List ℕ → PlainPath → ℕ → List Value → List Value → ℕ → ℕ → Answer → Type 0
+abbrev pub IsReadOfEachBy : Held → Options → List ℕ → PlainPath → ℕ → List Value → List Value → ℕ → ℕ → Outcome → Type 0
 IsReadOfEachBy (Schema s) o b p first v v' n n' a = IsReadOfEach s.loaded o b p first v v' n n' a
 IsReadOfEachBy (Room r) o b p first v v' n n' a = (a ≡ NoRoot) × (v' ≡ v) × (n' ≡ n)
 

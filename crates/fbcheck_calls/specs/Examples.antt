@@ -13,10 +13,11 @@ use Rattle.fb_rules.specs.declared.fault.Reason.TheVariants.{MissingRequired, No
 use Rattle.fb_access.specs.Denotes as denotes
 use Rattle.fb_access.specs.declared.path_fault.PathFault.TheVariants as path
 use Rattle.fb_access.specs.declared.step.Step.TheVariants.{Field, Element, Member}
-use Rattle.fbcheck_calls.specs.declared.{answer.Answer.Answer, answer.Verdict.Verdict, options.Options.Options, steps.PlainPath.PlainPath}
+use Rattle.fbcheck_calls.specs.declared.{outcome.Outcome.Outcome, outcome.Verdict.Verdict, options.Options.Options, steps.PlainPath.PlainPath}
 use Rattle.fbcheck_calls.specs.declared.steps.PlainStep.{PlainStep}
-use Rattle.fbcheck_calls.specs.declared.answer.Answer.TheVariants.{Done, Good, Bad, UnknownOptions, OutOfRange, NoIdent, NoRoot, TooLong, NoSchema}
-use Rattle.fbcheck_calls.specs.declared.answer.Answer.TheVariants.{NoSpan, BadStream, BadPath, NoRoom, Misfit, NotPlanned, UnmarkedBytes, NoSuchTable}
+use Rattle.fbcheck_calls.specs.declared.status.Status.TheVariants as statuses
+use Rattle.fbcheck_calls.specs.declared.outcome.Outcome.TheVariants.{Done, Good, Bad, UnknownOptions, OutOfRange, NoIdent, NoRoot, TooLong, NoSchema}
+use Rattle.fbcheck_calls.specs.declared.outcome.Outcome.TheVariants.{NoSpan, BadStream, BadPath, NoRoom, Misfit, NotPlanned, UnmarkedBytes, NoSuchTable}
 use Rattle.fb_strict.specs.{Demanded.demanded, Planned.Planned}
 use Rattle.fb_strict.specs.declared.demands.Demands.{Demands}
 use Rattle.fbcheck_calls.specs.Asked.{asks_marks, checks_asked, demands_of, ident_asked, known_demands, limits_of, plan_asked, published, root_asked, start_asked}
@@ -35,7 +36,7 @@ verdict status reason object field = record { status = status; reason = reason; 
 abbrev pub torn : Fault
 torn = record { at = 28; object = 2; field = Some 3; reads = 7; reason = OutOfBuffer }
 
-abbrev pub status : Answer → ℕ
+abbrev pub status : Outcome → ℕ
 status a = (told a).status
 
 pub record Verdicts : Type 0 where
@@ -163,7 +164,7 @@ pub record Pieces : Type 0 where
   pub at_the_end : span 3 0 ≡ Some []
   pub past_the_end : span 2 2 ≡ None
   pub behind_the_end : span 4 0 ≡ None
-  pub all : map all_good ([] ∷ (blank 0 ∷ blank 0 ∷ []) ∷ (blank 0 ∷ blank 12 ∷ []) ∷ []) ≡ 0 ∷ 0 ∷ 1 ∷ []
+  pub all : map all_good ([] ∷ (blank statuses.Done ∷ blank statuses.Done ∷ []) ∷ (blank statuses.Done ∷ blank statuses.NoSpan ∷ []) ∷ []) ≡ 0 ∷ 0 ∷ 1 ∷ []
   pub place : cut_to (codes "place") (codes "???????") ≡ codes "place??"
   pub place_cut : cut_to (codes "place") (codes "???") ≡ codes "pla"
   pub name : filled (codes "name") (codes "?????") ≡ codes "name?"

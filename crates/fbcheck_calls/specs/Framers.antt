@@ -4,10 +4,11 @@ use Rattle.fb_bytes.specs.Messages.{IsMessage, little}
 use Rattle.fb_bytes.specs.Framing.{Framing, IsHeld, Feeds, IsRefused}
 use Rattle.fb_bytes.specs.declared.{framer.Taken.Taken, stream_fault.StreamFault.StreamFault}
 use Rattle.fb_bytes.specs.declared.stream_fault.StreamFault.TheVariants.{Oversize, Truncated, Failed}
-use Rattle.fbcheck_calls.specs.declared.answer.Answer.{Answer}
-use Rattle.fbcheck_calls.specs.declared.answer.Answer.TheVariants.{Done, OutOfRange, BadStream}
+use Rattle.fbcheck_calls.specs.declared.outcome.Outcome.{Outcome}
+use Rattle.fbcheck_calls.specs.declared.outcome.Outcome.TheVariants.{Done, OutOfRange, BadStream}
 use Rattle.fbcheck_calls.specs.declared.framer.Framer.{Framer}
-use Rattle.fbcheck_calls.specs.Told.{told}
+use Rattle.fbcheck_calls.specs.declared.status.Status.TheVariants as status
+use Rattle.fbcheck_calls.specs.Told.{number, told}
 
 -- a message may have so much room
 abbrev pub IsRoom : ℕ → Type 0
@@ -35,12 +36,12 @@ FedFails old new piece Failed = (old.failed ≡ true) × (new ≡ old)
 FedFails old new piece _ = ⊥
 
 -- the number that is declared: that of the prefix by which a framer fails, else what it was
-abbrev pub KeepsNumber : Framer → Framer → Result Taken Answer → Type 0
+abbrev pub KeepsNumber : Framer → Framer → Result Taken Outcome → Type 0
 KeepsNumber f f' (Err (BadStream (Oversize number))) = f'.declared ≡ number
 KeepsNumber f f' _ = f'.declared ≡ f.declared
 
 -- what a piece does to a framer: it goes on, or fails, as the framer that takes memory does
-abbrev pub IsFed : List ℕ → Framer → List ℕ → List ℕ → Framer → Result Taken Answer → Type 0
+abbrev pub IsFed : List ℕ → Framer → List ℕ → List ℕ → Framer → Result Taken Outcome → Type 0
 IsFed room f piece room' f' (Ok t) = IsRoom (length room) × (IsKept room f → Feeds (framing room f) (framing room' f') piece t.used t.whole)
 IsFed room f piece room' f' (Err OutOfRange) = (IsRoom (length room) → ⊥) × (room' ≡ room) × (f' ≡ f)
 IsFed room f piece room' f' (Err (BadStream fault)) = IsRoom (length room) × (IsKept room f → FedFails (framing room f) (framing room' f') piece fault)
@@ -55,7 +56,7 @@ pub record Passes (old new : Framing) : Type 0 where
   pub whole : IsWhole old → new ≡ record old { held = [] }
   pub other : (IsWhole old → ⊥) → new ≡ old
 
-abbrev pub IsNext : List ℕ → Framer → Framer → Answer → Type 0
+abbrev pub IsNext : List ℕ → Framer → Framer → Outcome → Type 0
 IsNext room f f' Done = IsRoom (length room) × (IsKept room f → Passes (framing room f) (framing room f'))
 IsNext room f f' OutOfRange = (IsRoom (length room) → ⊥) × (f' ≡ f)
 IsNext room f f' _ = ⊥
@@ -80,25 +81,25 @@ EndFails old new (Truncated held) = BreaksOff old new held
 EndFails old new Failed = (old.failed ≡ true) × (new ≡ old)
 EndFails old new _ = ⊥
 
-abbrev pub IsFinished : List ℕ → Framer → Framer → Answer → Type 0
+abbrev pub IsFinished : List ℕ → Framer → Framer → Outcome → Type 0
 IsFinished room f f' Done = IsRoom (length room) × (IsKept room f → Ends (framing room f) (framing room f'))
 IsFinished room f f' OutOfRange = (IsRoom (length room) → ⊥) × (f' ≡ f)
 IsFinished room f f' (BadStream fault) = IsRoom (length room) × (IsKept room f → EndFails (framing room f) (framing room f') fault)
 IsFinished room f f' _ = ⊥
 
 -- the number of what a piece did: of a whole message, of one that goes on, or of a fault
-abbrev pub fed_status : Result Taken Answer → ℕ
-fed_status (Ok t) = if t.whole then 0 else 13
+abbrev pub fed_status : Result Taken Outcome → ℕ
+fed_status (Ok t) = number (if t.whole then status.Done else status.More)
 fed_status (Err a) = (told a).status
 
 -- how many bytes were taken, or what stood there where none were
-abbrev pub used_or : Result Taken Answer → ℕ → ℕ
+abbrev pub used_or : Result Taken Outcome → ℕ → ℕ
 used_or (Ok t) n = t.used
 used_or (Err a) n = n
 
 -- that in numbers, with what stood before and stands then where they are written
 pub record IsFedTold (room : List ℕ) (f : Framer) (piece room' : List ℕ) (f' : Framer) (used used' status : ℕ) : Type 0 where
-  pub answer : Result Taken Answer
+  pub answer : Result Taken Outcome
   pub fed : IsFed room f piece room' f' answer
   pub number : KeepsNumber f f' answer
   pub used_is : used' ≡ used_or answer used

@@ -10,8 +10,8 @@ use Rattle.fb_bfbs.specs.Codes.{code_text}
 use Rattle.fb_bfbs.specs.declared.load_fault.LoadFault.TheVariants as load
 use Rattle.fb_schema.specs.declared.fault.Code.{Code}
 use Rattle.fbcheck_calls.specs.Told.{code_number, told}
-use Rattle.fbcheck_calls.specs.declared.answer.Answer.{Answer}
-use Rattle.fbcheck_calls.specs.declared.answer.Answer.TheVariants.{Bad, BadPath, NoSchema}
+use Rattle.fbcheck_calls.specs.declared.outcome.Outcome.{Outcome}
+use Rattle.fbcheck_calls.specs.declared.outcome.Outcome.TheVariants.{Bad, BadPath, NoSchema}
 use Rattle.fbcheck_calls.specs.declared.{held.Held.Held, held.Held.TheVariants.Schema, held.Held.TheVariants.Room}
 
 -- no reason has this number
@@ -84,7 +84,7 @@ abbrev pub status_text : ℕ → Option (List ℕ)
 status_text n = slice_get status_texts n
 
 -- the code and name of the fault that an answer has, if it is told by a number
-abbrev pub fault_name : Answer → Option (List ℕ)
+abbrev pub fault_name : Outcome → Option (List ℕ)
 fault_name (Bad f) = Some (reason_text f.reason)
 fault_name (NoSchema (load.NotWellFormed f)) = Some (reason_text f.reason)
 fault_name (NoSchema (load.BadSchema f)) = Some (code_text f.code)
@@ -94,8 +94,8 @@ fault_name _ = None
 
 -- what is the name by the numbers that an answer is told by is that of its own fault
 abbrev pub FaultsHaveTheirNames : Type 0
-FaultsHaveTheirNames = (a : Answer) (name : Option (List ℕ)) → IsFaultName (told a).status (told a).reason name → name ≡ fault_name a
+FaultsHaveTheirNames = (a : Outcome) (name : Option (List ℕ)) → IsFaultName (told a).status (told a).reason name → name ≡ fault_name a
 
 -- each answer is told by a status that has words
 abbrev pub StatusesHaveWords : Type 0
-StatusesHaveWords = (a : Answer) → IsSome (status_text (told a).status)
+StatusesHaveWords = (a : Outcome) → IsSome (status_text (told a).status)

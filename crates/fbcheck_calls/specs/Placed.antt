@@ -3,7 +3,7 @@ use Rattle.std.specs.Prelude.{◌≡◌, ℕ, List, ◌++◌, drop, length, take
 use Rattle.fb_strict.specs.{AsAsked.StopsAlongBy, Planned.Planned}
 use Rattle.fb_rules.specs.declared.{fault.Fault.Fault, link.Link.Link, start.Ident.Ident}
 use Rattle.fb_access.specs.Location.{location_text}
-use Rattle.fbcheck_calls.specs.declared.{answer.Answer.Answer, answer.Answer.TheVariants.Bad, answer.Answer.TheVariants.NoRoot, held.Held.Held}
+use Rattle.fbcheck_calls.specs.declared.{outcome.Outcome.Outcome, outcome.Outcome.TheVariants.Bad, outcome.Outcome.TheVariants.NoRoot, held.Held.Held}
 use Rattle.fbcheck_calls.specs.declared.{held.Held.TheVariants.Schema, held.Held.TheVariants.Room, options.Options.Options}
 use Rattle.fbcheck_calls.specs.{Answered.IsChecked, Answered.Serves, Asked.question_of, Bases.Based}
 
@@ -28,10 +28,10 @@ IsPlaceTold s o b f room room' told plan root ident = (links : List Link)
     × IsTextTold (location_text s.loaded.schema f links) room room' told
 
 -- what is answered where the place of a fault is asked for: what a check answers, with the place of a bad buffer's
-abbrev pub IsLocated : Based → ℕ → Options → List ℕ → List ℕ → List ℕ → ℕ → ℕ → Answer → Type 0
+abbrev pub IsLocated : Based → ℕ → Options → List ℕ → List ℕ → List ℕ → ℕ → ℕ → Outcome → Type 0
 IsLocated s n o b room room' told told' (Bad f) = IsChecked s n o b (Bad f) × Serves s n o (IsPlaceTold s o b f room room' told')
 IsLocated s n o b room room' told told' a = IsChecked s n o b a × IsUntold room room' told told'
 
-abbrev pub IsLocatedBy : Held → ℕ → Options → List ℕ → List ℕ → List ℕ → ℕ → Answer → Type 0
+abbrev pub IsLocatedBy : Held → ℕ → Options → List ℕ → List ℕ → List ℕ → ℕ → Outcome → Type 0
 IsLocatedBy (Schema s) n o b room room' told a = IsLocated s n o b room room' 0 told a
 IsLocatedBy (Room r) n o b room room' told a = (a ≡ NoRoot) × IsUntold room room' 0 told

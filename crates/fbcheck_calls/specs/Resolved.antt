@@ -4,8 +4,8 @@ use Rattle.fb_schema.specs.declared.kinds.Kind.TheVariants.{Table}
 use Rattle.fb_schema.specs.Rows.{Rows}
 use Rattle.fb_access.specs.declared.step.Step.{Step}
 use Rattle.fb_access.specs.{Fitting.StepsFit, Resolving.Resolves, Resolving.Refuses}
-use Rattle.fbcheck_calls.specs.declared.{answer.Answer.Answer, steps.PlainPath.PlainPath}
-use Rattle.fbcheck_calls.specs.declared.answer.Answer.TheVariants.{NoRoom, BadPath}
+use Rattle.fbcheck_calls.specs.declared.{outcome.Outcome.Outcome, steps.PlainPath.PlainPath}
+use Rattle.fbcheck_calls.specs.declared.outcome.Outcome.TheVariants.{NoRoom, BadPath}
 use Rattle.fbcheck_calls.specs.{Marked.IsEachAfter, Marked.at_zero, Steps.IsPathOf}
 
 -- the text resolves from the root to the steps of the path, and this holds of them and of the one for each element
@@ -24,7 +24,7 @@ abbrev pub IsMarkedPath : Rows → ℕ → List ℕ → ℕ → PlainPath → Ty
 IsMarkedPath S root text at p = IsPathWith S root (at_zero text at) (IsEachAfter S root (take at text)) p
 
 -- why there is none
-abbrev pub HasNoPath : Rows → ℕ → List ℕ → Answer → Type 0
+abbrev pub HasNoPath : Rows → ℕ → List ℕ → Outcome → Type 0
 HasNoPath S root text (BadPath fault) = Refuses S root text fault
 HasNoPath S root text NoRoom = (path : List Step) × Resolves S root text path × (31 < length path)
 HasNoPath S root text _ = ⊥

@@ -10,9 +10,38 @@ use Rattle.fb_bytes.specs.declared.stream_fault.StreamFault.{StreamFault}
 use Rattle.fb_bytes.specs.declared.stream_fault.StreamFault.TheVariants as stream
 use Rattle.fb_bfbs.specs.declared.load_fault.LoadFault.{LoadFault}
 use Rattle.fb_bfbs.specs.declared.load_fault.LoadFault.TheVariants as load
-use Rattle.fbcheck_calls.specs.declared.{answer.Answer.Answer, answer.FieldAt.FieldAt, answer.Verdict.Verdict}
-use Rattle.fbcheck_calls.specs.declared.answer.Answer.TheVariants.{Done, Good, Bad, UnknownOptions, OutOfRange, NoIdent, NoRoot, TooLong, NoSchema, NoSpan}
-use Rattle.fbcheck_calls.specs.declared.answer.Answer.TheVariants.{BadStream, BadPath, NoRoom, Misfit, NotPlanned, UnmarkedBytes, NoSuchTable, Changed}
+use Rattle.fbcheck_calls.specs.declared.{outcome.Outcome.Outcome, outcome.FieldAt.FieldAt, outcome.Verdict.Verdict, status.Status.Status}
+use Rattle.fbcheck_calls.specs.declared.status.Status.TheVariants as status
+use Rattle.fbcheck_calls.specs.declared.outcome.Outcome.TheVariants.{Done, Good, Bad, UnknownOptions, OutOfRange, NoIdent, NoRoot, TooLong, NoSchema, NoSpan}
+use Rattle.fbcheck_calls.specs.declared.outcome.Outcome.TheVariants.{BadStream, BadPath, NoRoom, Misfit, NotPlanned, UnmarkedBytes, NoSuchTable, Changed}
+
+-- the number of a status, as C has it
+abbrev pub number : Status → ℕ
+number status.Done = 0
+number status.Bad = 1
+number status.Null = 2
+number status.UnknownOptions = 3
+number status.OutOfRange = 4
+number status.NoIdent = 5
+number status.NoRoot = 6
+number status.TooLong = 7
+number status.NotWellFormed = 8
+number status.BadSchema = 9
+number status.RootNotListed = 10
+number status.OutOfMemory = 11
+number status.NoSpan = 12
+number status.More = 13
+number status.Oversize = 14
+number status.Truncated = 15
+number status.Failed = 16
+number status.BadPath = 17
+number status.NoRoom = 18
+number status.Misfit = 19
+number status.TooMuchShared = 20
+number status.NotPlanned = 21
+number status.UnmarkedBytes = 22
+number status.NoSuchTable = 23
+number status.Changed = 24
 
 -- what is wrong with rows, by the number of its code
 abbrev pub code_number : Code → ℕ
@@ -42,33 +71,33 @@ part_number None = none_number
 abbrev pub low : ℕ → ℕ
 low reads = min reads 18446744073709551615
 
--- a number, with nothing more to tell
-abbrev pub blank : ℕ → Verdict
-blank status = record { status = status; reason = 0; object = 0; field = none_number; tables = 0; depth = 0; at = 0; reads = 0; reserved = replicate 3 0 }
+-- a status, with nothing more to tell
+abbrev pub blank : Status → Verdict
+blank s = record { status = number s; reason = 0; object = 0; field = none_number; tables = 0; depth = 0; at = 0; reads = 0; reserved = replicate 3 0 }
 
 -- a fault of the verifier
-abbrev pub fault_told : ℕ → Fault → Verdict
-fault_told status f = record (blank status) { reason = reason_number f.reason; object = f.object; field = field_number f.field; at = f.at; reads = low f.reads }
+abbrev pub fault_told : Status → Fault → Verdict
+fault_told s f = record (blank s) { reason = reason_number f.reason; object = f.object; field = field_number f.field; at = f.at; reads = low f.reads }
 
 -- why a schema file gives no schema
 abbrev pub load_told : LoadFault → Verdict
-load_told load.TooLong = blank 7
-load_told (load.NotWellFormed f) = fault_told 8 f
-load_told (load.BadSchema f) = record (blank 9) { reason = code_number f.code; object = f.owner; field = part_number f.part }
-load_told load.RootNotListed = blank 10
-load_told load.OutOfMemory = blank 11
-load_told load.TooMuchShared = blank 20
+load_told load.TooLong = blank status.TooLong
+load_told (load.NotWellFormed f) = fault_told status.NotWellFormed f
+load_told (load.BadSchema f) = record (blank status.BadSchema) { reason = code_number f.code; object = f.owner; field = part_number f.part }
+load_told load.RootNotListed = blank status.RootNotListed
+load_told load.OutOfMemory = blank status.OutOfMemory
+load_told load.TooMuchShared = blank status.TooMuchShared
 
 -- what is wrong with a stream
-abbrev pub stream_number : StreamFault → ℕ
-stream_number stream.OutOfMemory = 11
-stream_number (stream.Oversize number) = 14
-stream_number (stream.Truncated held) = 15
-stream_number stream.Failed = 16
+abbrev pub stream_status : StreamFault → Status
+stream_status stream.OutOfMemory = status.OutOfMemory
+stream_status (stream.Oversize bytes) = status.Oversize
+stream_status (stream.Truncated held) = status.Truncated
+stream_status stream.Failed = status.Failed
 
 -- a fault of a path, by the number of its code, and the place in the text or the number of the step
 abbrev pub misplaced : ℕ → ℕ → Verdict
-misplaced reason at = record (blank 17) { reason = reason; at = at }
+misplaced reason at = record (blank status.BadPath) { reason = reason; at = at }
 
 -- why a text is no path
 abbrev pub path_told : PathFault → Verdict
@@ -78,34 +107,34 @@ path_told (path.NotIndexable step) = misplaced 3 step
 path_told (path.NotAUnion step) = misplaced 4 step
 path_told (path.NoSuchMember step) = misplaced 5 step
 path_told (path.NotATable step) = misplaced 6 step
-path_told path.OutOfMemory = blank 11
+path_told path.OutOfMemory = blank status.OutOfMemory
 
 -- a field that keeps demands from being asked, by the numbers of its table and its own
-abbrev pub field_told : ℕ → FieldAt → Verdict
-field_told status f = record (blank status) { object = f.object; field = f.field }
+abbrev pub field_told : Status → FieldAt → Verdict
+field_told s f = record (blank s) { object = f.object; field = f.field }
 
 -- the answer by what a check found
-abbrev pub found_by : {G B : Type 0} → (G → Report) → (B → Fault) → Result G B → Answer
+abbrev pub found_by : {G B : Type 0} → (G → Report) → (B → Fault) → Result G B → Outcome
 found_by report fault (Ok good) = Good (report good)
 found_by report fault (Err bad) = Bad (fault bad)
 
 -- an answer in numbers
-abbrev pub told : Answer → Verdict
-told Done = blank 0
-told (Good r) = record (blank 0) { tables = r.tables; depth = r.depth; reads = low r.reads }
-told (Bad f) = fault_told 1 f
-told UnknownOptions = blank 3
-told OutOfRange = blank 4
-told NoIdent = blank 5
-told NoRoot = blank 6
-told TooLong = blank 7
+abbrev pub told : Outcome → Verdict
+told Done = blank status.Done
+told (Good r) = record (blank status.Done) { tables = r.tables; depth = r.depth; reads = low r.reads }
+told (Bad f) = fault_told status.Bad f
+told UnknownOptions = blank status.UnknownOptions
+told OutOfRange = blank status.OutOfRange
+told NoIdent = blank status.NoIdent
+told NoRoot = blank status.NoRoot
+told TooLong = blank status.TooLong
 told (NoSchema fault) = load_told fault
-told NoSpan = blank 12
-told (BadStream fault) = blank (stream_number fault)
+told NoSpan = blank status.NoSpan
+told (BadStream fault) = blank (stream_status fault)
 told (BadPath fault) = path_told fault
-told NoRoom = blank 18
-told (Misfit place) = record (blank 19) { at = place }
-told NotPlanned = blank 21
-told (UnmarkedBytes f) = field_told 22 f
-told (NoSuchTable f) = field_told 23 f
-told (Changed at) = record (blank 24) { at = at }
+told NoRoom = blank status.NoRoom
+told (Misfit place) = record (blank status.Misfit) { at = place }
+told NotPlanned = blank status.NotPlanned
+told (UnmarkedBytes f) = field_told status.UnmarkedBytes f
+told (NoSuchTable f) = field_told status.NoSuchTable f
+told (Changed at) = record (blank status.Changed) { at = at }

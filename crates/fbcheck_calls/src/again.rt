@@ -1,48 +1,23 @@
 //! The values in bytes that aren't checked: those of a buffer that was good before. Each position is tested before it is
 //! read, so what became of the bytes doesn't matter.
 
-ghost use Rattle.std.specs.Prelude.{◌≡◌, ◌<◌, ◌^◌, MatchOption, MatchResult, length};
+ghost use Rattle.std.specs.Prelude.{◌<◌, ◌^◌, MatchResult, length};
 ghost use Rattle.fb_access.specs.Tested.{IsOther};
-ghost use Rattle.fb_access.specs.declared.spot.Spot.{Spot as ASpot};
-ghost use Rattle.fbcheck_calls.specs.Again.{AreToldBelow, IsReadAgainBy, LiesWithin};
-ghost use Rattle.fbcheck_calls.specs.{Steps.AllFit, Steps.DontFit, Steps.EndAt, Values.AreValues, Values.value_at};
+ghost use Rattle.fbcheck_calls.specs.Again.{AreToldBelow, IsReadAgainBy};
+ghost use Rattle.fbcheck_calls.specs.{Steps.AllFit, Values.AreValues};
 
-use crate::answer::Answer;
 use crate::checking::metered;
 use crate::fits::first_misfit;
 use crate::held::Held;
 use crate::options::{LONGEST, Options};
-use crate::steps::{PlainPath, PlainStep};
+use crate::outcome::Outcome;
+use crate::steps::PlainPath;
 use crate::values::Value;
-use crate::walks::{tell, walk};
+use crate::walks::tell_from;
 use fb_access::{Changed, first_spot};
 use fb_bytes::Window;
 use fb_schema::Schema;
 use fb_verify::{Start, Verified};
-
-/// What stands at the end of these steps from the root table, none where they don't fit.
-///
-/// # Errors
-///
-/// `Changed` where these aren't the bytes of a good buffer.
-fn found_again(
-    window: &Window<'_>,
-    schema: &Schema<'_>,
-    start: Start,
-    root: u32,
-    steps: &[PlainStep],
-) -> Result<Option<Value>, Changed>
-    requires { length window.now < 2 ^ 31 }
-    ensures { MatchResult result (λ o. MatchOption o (DontFit schema.now root steps.now)
-        (λ v. ((q : ASpot) × EndAt window.now schema.now start root steps.now q × (v ≡ value_at window.now schema.now q)) × LiesWithin (length window.now) v))
-        (λ _. IsOther window.now schema.now start root) }
-{
-    let first = first_spot(window, schema, start, root)?;
-    match walk(window, schema, first, steps)? {
-        Some(end) => Ok(Some(tell(window, schema, end)?)),
-        None => Ok(None),
-    }
-}
 
 /// Tells the values at the ends of paths that fit, each at the place of its path. Where there are more of paths or of
 /// values than of the others, these are left alone.
@@ -51,6 +26,7 @@ fn found_again(
 ///
 /// The place of the first path on which it shows that these aren't the bytes of a good buffer. The values from there on
 /// are left alone.
+#[inline(never)]
 fn tell_again(
     window: &Window<'_>,
     schema: &Schema<'_>,
@@ -65,11 +41,17 @@ fn tell_again(
         (λ place. (place < length paths.now) × AreToldBelow window.now schema.now start root paths.now place values.old values.new × IsOther window.now schema.now start root) }
 {
     let count = paths.len().min(values.len());
+    if count == 0 {
+        return Ok(());
+    }
+    let Ok(first) = first_spot(window, schema, start, root) else {
+        return Err(0);
+    };
     for place in 0..count {
         let Some(steps) = paths[place].steps() else {
             unreachable!()
         };
-        match found_again(window, schema, start, root, steps) {
+        match tell_from(window, schema, first, steps) {
             Ok(Some(value)) => values[place] = value,
             Ok(None) => unreachable!(),
             Err(Changed) => return Err(place as u64),
@@ -81,6 +63,7 @@ fn tell_again(
 /// Tells the values at the ends of paths that fit in a buffer that is good, each at the place of its path. Where there
 /// are more of paths or of values than of the others, these are left alone. It reads by tests that a good buffer passes:
 /// they take fewer instructions than to look up what the check knows.
+#[inline(always)]
 pub fn tell_values(verified: &Verified<'_, '_, '_>, paths: &[PlainPath], values: &mut [Value])
     requires { AllFit (verified.now).schema (verified.now).root paths.now }
     ensures { AreValues (verified.now).bytes (verified.now).schema (verified.now).start (verified.now).root paths.now values.new }
@@ -106,24 +89,24 @@ pub fn read_again(
     buffer: &[u8],
     paths: &[PlainPath],
     values: &mut [Value],
-) -> Answer
+) -> Outcome
     ensures { IsReadAgainBy held.now options.now buffer.now paths.now values.old values.new result }
 {
     let Held::Schema(basis) = held else {
-        return Answer::NoRoot;
+        return Outcome::NoRoot;
     };
     let loaded = basis.loaded();
     if !options.are_known() {
-        return Answer::UnknownOptions;
+        return Outcome::UnknownOptions;
     }
-    let Some(root) = options.root(loaded) else {
-        return Answer::NoRoot;
+    let Some(root) = basis.root(options) else {
+        return Outcome::NoRoot;
     };
     if let Some(place) = first_misfit(&loaded.schema, root, paths) {
-        return Answer::Misfit(place);
+        return Outcome::Misfit(place);
     }
     if buffer.len() as u64 > LONGEST {
-        return Answer::TooLong;
+        return Outcome::TooLong;
     }
     let window = metered(buffer).seal();
     match tell_again(
@@ -134,7 +117,7 @@ pub fn read_again(
         paths,
         values,
     ) {
-        Ok(()) => Answer::Done,
-        Err(place) => Answer::Changed(place),
+        Ok(()) => Outcome::Done,
+        Err(place) => Outcome::Changed(place),
     }
 }

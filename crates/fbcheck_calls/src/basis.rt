@@ -2,13 +2,13 @@
 
 ghost use Rattle.std.specs.Prelude.{◌≡◌, ◌↔◌, IfErr, IfOk, IfSome, IsSome, IsTrue, MatchResult, length, map, option_map, true};
 ghost use Rattle.fb_bfbs.specs.{Loads.IsLoaded, Marks.marked as mark_of};
-ghost use Rattle.fb_schema.specs.{Live.Live, Live.live_of_view};
+ghost use Rattle.fb_schema.specs.{Live.Live, Live.live_of_view, Rows.is_table};
 ghost use Rattle.fb_strict.specs.{Holding.has_bytes, Planned.IsPlan};
 ghost use Rattle.fbcheck_calls.specs.Answered.{AreMarksFor, IsInSlot, IsNotOpened, IsNotPlanned, IsNumbered, IsOpened, IsPlanFor};
-ghost use Rattle.fbcheck_calls.specs.Asked.{HasLimits, asks_marks, limits_of, plan_asked, plan_for};
+ghost use Rattle.fbcheck_calls.specs.Asked.{HasLimits, asks_marks, limits_of, plan_asked, plan_for, root_asked};
 
-use crate::answer::{Answer, FieldAt};
-use crate::options::{DEEPEST, Options, asks_marks, demands_of};
+use crate::options::{DEEPEST, OWN_ROOT, Options, asks_marks, demands_of};
+use crate::outcome::{FieldAt, Outcome};
 use fb_bfbs::{ByteField, LoadFault, Loaded, Mark, bytes_at, find_unmarked, load, load_marks};
 use fb_schema::Schema;
 use fb_strict::{Plan, PlanFault};
@@ -26,6 +26,7 @@ pub struct Basis {
 
 impl Model for Basis {
     ghost use Rattle.std.specs.Prelude.{IfSome};
+    ghost use Rattle.fb_bfbs.specs.Loads.{HasTableForRoot};
     ghost use Rattle.fb_strict.specs.Planned.{IsPlan};
     ghost use Rattle.fbcheck_calls.specs.Bases.{Based};
 
@@ -33,7 +34,7 @@ impl Model for Basis {
 
     ghost view = { λ b. record { loaded = b.loaded; demands = b.demands; plan = b.plan } };
 
-    ghost invariant = { λ b. IfSome b.plan (λ p. IsPlan b.loaded.schema p.demands p) };
+    ghost invariant = { λ b. IfSome b.plan (λ p. IsPlan b.loaded.schema p.demands p) × HasTableForRoot b.loaded };
 }
 
 impl Basis {
@@ -43,6 +44,20 @@ impl Basis {
         ensures { result.now ≡ self.now.loaded }
     {
         &self.loaded
+    }
+
+    /// The root table that the options ask of the schema, if there is one. The schema's own isn't tested again.
+    #[inline(always)]
+    #[tactic(auto, using(crate::proofs::AnswerLemmas::own_root))]
+    pub fn root(&self, options: &Options) -> Option<u32>
+        ensures root { result ≡ root_asked self.now.loaded options.now }
+        ensures table { IfSome result (λ n. IsTrue (is_table self.now.loaded.schema n)) }
+    {
+        if options.root == OWN_ROOT {
+            self.loaded.root
+        } else {
+            options.root(&self.loaded)
+        }
     }
 
     /// The plan for these demands; none where the schema was made with others.
@@ -100,7 +115,7 @@ fn marks_asked<'f>(
     limits: Limits,
     options: &Options,
     loaded: &Loaded<'_>,
-) -> Result<Vec<Mark<'f>>, Answer>
+) -> Result<Vec<Mark<'f>>, Outcome>
     requires has { HasLimits options.now 4096 }
     requires limits { limits ≡ limits_of options.now (length file.now) }
     requires loaded { IsLoaded file.now limits loaded.now }
@@ -112,12 +127,12 @@ fn marks_asked<'f>(
     }
     let marks = match load_marks(alloc, file, limits) {
         Ok(marks) => marks,
-        Err(fault) => return Err(Answer::NoSchema(fault)),
+        Err(fault) => return Err(Outcome::NoSchema(fault)),
     };
     match find_unmarked(alloc, &loaded.schema, &marks) {
         Ok(None) => Ok(marks.fields),
-        Ok(Some(found)) => Err(Answer::UnmarkedBytes(numbered(found))),
-        Err(_) => Err(Answer::NoSchema(LoadFault::OutOfMemory)),
+        Ok(Some(found)) => Err(Outcome::UnmarkedBytes(numbered(found))),
+        Err(_) => Err(Outcome::NoSchema(LoadFault::OutOfMemory)),
     }
 }
 
@@ -131,7 +146,7 @@ fn plan_of(
     schema: &Schema<'_>,
     marks: &[Mark<'_>],
     demands: u32,
-) -> Result<Option<Plan>, Answer>
+) -> Result<Option<Plan>, Outcome>
     ensures ok { IfOk result (IsPlanFor schema.now (map mark_of marks.now) demands) }
     ensures no { IfErr result (IsNotPlanned schema.now (map mark_of marks.now)) }
 {
@@ -140,9 +155,9 @@ fn plan_of(
     }
     match Plan::new(alloc, schema, marks, demands_of(demands)) {
         Ok(plan) => Ok(Some(plan)),
-        Err(PlanFault::OutOfMemory) => Err(Answer::NoSchema(LoadFault::OutOfMemory)),
+        Err(PlanFault::OutOfMemory) => Err(Outcome::NoSchema(LoadFault::OutOfMemory)),
         Err(PlanFault::NoSuchTable(object, slot)) => {
-            Err(Answer::NoSuchTable(field_in(schema, object, slot)))
+            Err(Outcome::NoSuchTable(field_in(schema, object, slot)))
         }
     }
 }
@@ -153,13 +168,13 @@ fn plan_of(
 ///
 /// As [`Options::limits`] has it for 4,096 levels; then `NoSchema`; then, with strict checks that don't take bytes for
 /// plain, `UnmarkedBytes` and `NoSuchTable`.
-pub fn open(alloc: Global, file: &'static [u8], options: &Options) -> Result<Basis, Answer>
+pub fn open(alloc: Global, file: &'static [u8], options: &Options) -> Result<Basis, Outcome>
     ensures { MatchResult result (IsOpened file.now options.now) (IsNotOpened file.now options.now) }
 {
     let limits = options.limits(DEEPEST, file.len() as u64)?;
     let loaded = match load(alloc, file, limits) {
         Ok(loaded) => loaded,
-        Err(fault) => return Err(Answer::NoSchema(fault)),
+        Err(fault) => return Err(Outcome::NoSchema(fault)),
     };
     let marks = marks_asked(alloc, file, limits, options, &loaded)?;
     let demands = options.demands;

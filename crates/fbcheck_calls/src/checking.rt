@@ -1,20 +1,22 @@
 //! The checks of buffers by a schema.
 
-ghost use Rattle.std.specs.Prelude.{◌≡◌, ◌<◌, ◌≤◌, ◌^◌, IfOk, MatchResult, length};
+ghost use Rattle.std.specs.Prelude.{◌≡◌, ◌<◌, ◌≤◌, ◌^◌, IfOk, IfSome, MatchOption, MatchResult, length};
+ghost use Rattle.fb_rules.specs.Question.{Question};
 ghost use Rattle.fb_rules.specs.declared.fault.{Fault.Fault, Report.Report};
 ghost use Rattle.fb_verify.specs.Sealed.{Sealed};
-ghost use Rattle.fbcheck_calls.specs.Answered.{Begins, IfSchema, IsChecked, IsPriced, IsTold, IsUnchecked, IsUnservedBy, Starts, levels};
+ghost use Rattle.fbcheck_calls.specs.Answered.{Begins, CanBegin, IfSchema, IsChecked, IsPriced, IsTold, IsUnchecked, IsUnserved, Starts, levels};
 ghost use Rattle.fbcheck_calls.specs.{Steps.AllFit, Told.found_by, Told.told, Values.AreValues};
-ghost use Rattle.fbcheck_calls.specs.declared.{answer.Answer.Answer, checking.Begun.Begun};
+ghost use Rattle.fbcheck_calls.specs.declared.outcome.Outcome.{Outcome};
 ghost use Rattle.fbcheck_calls.specs.Reached.{IsRead, IsReadBy, IsUnread, StartsRead};
 
 use crate::again::tell_values;
-use crate::answer::{Answer, Verdict, low, tell_bad, tell_blank, tell_good};
 use crate::basis::Basis;
 use crate::fits::first_misfit;
 use crate::handle::Handle;
 use crate::held::{Held, Room};
 use crate::options::{DEEPEST, LONGEST, Options};
+use crate::outcome::{Outcome, Verdict, low, tell_bad, tell_blank, tell_good};
+use crate::status::Status;
 use crate::steps::PlainPath;
 use crate::strict::{
     check_alone_strictly, check_within_strictly, read_in_strictly, read_shallow_strictly,
@@ -23,57 +25,70 @@ use crate::values::Value;
 use fb_bfbs::Loaded;
 use fb_bytes::Meter;
 use fb_strict::most_reads_strictly;
-use fb_verify::{
-    Checks, Fault, Ident, Limits, Report, Start, Verified, most_reads, verify, verify_shallow,
-    walk, walk_shallow,
-};
+use fb_verify::{BLANK, Fault, Question, Report, Verified, most_reads, verify, walk};
 use std::alloc::Global;
 
 /// The levels for which a call has room on its own stack.
 pub const SHALLOW: u32 = 64;
 
-/// What a check begins with.
-#[derive(Clone, Copy)]
-pub struct Begun {
-    pub root: u32,
-    pub start: Start,
-    pub ident: Ident,
-    pub limits: Limits,
-    pub checks: Checks,
-}
-
-/// What a check of so many bytes by these options begins with, in room for so many levels.
-///
-/// # Errors
-///
-/// The status of why it can't begin.
+/// What a check of so many bytes by these options begins with, in room for so many levels; none where it can't. So
+/// whatever keeps it from beginning is one way out, and [`refuse`] looks for the reason.
 #[inline(always)]
-fn begin(basis: &Basis, levels: u32, options: &Options, length: u64) -> Result<Begun, u32>
-    ensures begins { MatchResult result (Begins basis.now levels options.now length) (IsUnservedBy basis.now levels options.now) }
-    ensures depth { IfOk result (λ (begun : Begun). begun.limits.depth ≤ levels) }
+fn begin<'h>(
+    basis: &'h Basis,
+    levels: u32,
+    options: &Options,
+    length: u64,
+) -> Option<Question<'h, 'static>>
+    ensures begins { MatchOption result (CanBegin basis.now levels options.now → ⊥) (Begins basis.now levels options.now length) }
+    ensures depth { IfSome result (λ (begun : Question). begun.limits.depth ≤ levels) }
 {
-    if !options.are_known() {
-        return Err(3);
-    }
     if !options.have_limits(levels) {
-        return Err(4);
+        return None;
     }
     if !basis.serves(options) {
-        return Err(21);
+        return None;
     }
-    let Some(table) = options.root(basis.loaded()) else {
-        return Err(6);
-    };
-    let Some(ident) = options.ident(basis.loaded()) else {
-        return Err(5);
-    };
-    Ok(Begun {
-        root: table,
+    let root = basis.root(options)?;
+    let ident = options.ident(basis.loaded())?;
+    Some(Question {
+        schema: &basis.loaded().schema,
+        root,
         start: options.start(),
         ident,
         limits: options.limits_of(length),
         checks: options.checks(),
     })
+}
+
+/// Why no check can begin by these options, in room for so many levels.
+fn why_unserved(basis: &Basis, levels: u32, options: &Options) -> Outcome
+    requires { CanBegin basis.now levels options.now → ⊥ }
+    ensures { IsUnserved basis.now levels options.now result }
+{
+    if !options.are_known() {
+        return Outcome::UnknownOptions;
+    }
+    if !options.have_limits(levels) {
+        return Outcome::OutOfRange;
+    }
+    if !basis.serves(options) {
+        return Outcome::NotPlanned;
+    }
+    if basis.root(options).is_none() {
+        return Outcome::NoRoot;
+    }
+    Outcome::NoIdent
+}
+
+/// Writes why no check can begin by these options, in room for so many levels, and answers the status.
+#[cold]
+#[inline(never)]
+fn refuse(basis: &Basis, levels: u32, options: &Options, verdict: &mut Verdict) -> u32
+    requires { CanBegin basis.now levels options.now → ⊥ }
+    ensures { IsTold verdict.new (IsUnserved basis.now levels options.now) result }
+{
+    why_unserved(basis, levels, options).tell(verdict)
 }
 
 /// What a check of a buffer by these options begins with, in room for so many levels. Where it can't begin, or the
@@ -83,23 +98,22 @@ fn begin(basis: &Basis, levels: u32, options: &Options, length: u64) -> Result<B
 ///
 /// The status of that verdict.
 #[inline(always)]
-pub fn prepare(
-    basis: &Basis,
+pub fn prepare<'h>(
+    basis: &'h Basis,
     levels: u32,
     options: &Options,
     buffer: &[u8],
     verdict: &mut Verdict,
-) -> Result<Begun, u32>
+) -> Result<Question<'h, 'static>, u32>
     ensures starts { MatchResult result (Starts basis.now levels options.now buffer.now) (IsTold verdict.new (IsUnchecked basis.now levels options.now buffer.now)) }
-    ensures depth { IfOk result (λ (begun : Begun). begun.limits.depth ≤ levels) }
+    ensures depth { IfOk result (λ (begun : Question). begun.limits.depth ≤ levels) }
 {
     let length = buffer.len() as u64;
-    let begun = match begin(basis, levels, options, length) {
-        Ok(begun) => begun,
-        Err(status) => return Err(tell_blank(status, verdict)),
+    let Some(begun) = begin(basis, levels, options, length) else {
+        return Err(refuse(basis, levels, options, verdict));
     };
     if length > LONGEST {
-        return Err(tell_blank(7, verdict));
+        return Err(tell_blank(Status::TooLong, verdict));
     }
     Ok(begun)
 }
@@ -129,37 +143,93 @@ fn tell_found(found: Result<Report, Fault>, verdict: &mut Verdict) -> u32
     }
 }
 
-/// Checks a buffer by a schema as the options ask, in room on the call's own stack. Writes the verdict, and answers its
-/// status.
-#[inline(never)]
-pub fn check_alone(held: &Held, verdict: &mut Verdict, options: &Options, buffer: &[u8]) -> u32
-    ensures told { (a : Answer) × (verdict.new ≡ told a) × IfSchema held.now a (λ s. IsChecked s 64 options.now buffer.now a) }
+/// Checks a buffer by no plan, in room on the call's own stack. Writes the verdict, and answers its status.
+#[inline(always)]
+fn walk_alone(basis: &Basis, verdict: &mut Verdict, options: &Options, buffer: &[u8]) -> u32
+    requires plain { options.now.demands ≡ 0 }
+    ensures told { (a : Outcome) × (verdict.new ≡ told a) × IsChecked basis.now 64 options.now buffer.now a }
     ensures status { result ≡ verdict.new.status }
 {
-    let Held::Schema(basis) = held else {
-        return tell_blank(6, verdict);
-    };
-    if options.demands != 0 {
-        return check_alone_strictly(basis, verdict, options, buffer);
-    }
     let begun = match prepare(basis, SHALLOW, options, buffer, verdict) {
         Ok(begun) => begun,
         Err(status) => return status,
     };
-    let found = walk_shallow(
-        &mut metered(buffer),
-        &basis.loaded().schema,
-        begun.root,
-        begun.start,
-        begun.ident,
-        begun.limits,
-        begun.checks,
-    );
+    let found = walk(&mut metered(buffer), &begun, &mut [BLANK; 3]);
     tell_found(found, verdict)
 }
 
 /// The same in the room that is given.
+#[inline(always)]
+fn walk_within(
+    basis: &Basis,
+    room: &mut Room,
+    verdict: &mut Verdict,
+    options: &Options,
+    buffer: &[u8],
+) -> u32
+    requires plain { options.now.demands ≡ 0 }
+    ensures told { (a : Outcome) × (verdict.new ≡ told a) × IsChecked basis.now room.old options.now buffer.now a }
+    ensures status { result ≡ verdict.new.status }
+    ensures kept { room.new ≡ room.old }
+{
+    let begun = match prepare(basis, room.levels(), options, buffer, verdict) {
+        Ok(begun) => begun,
+        Err(status) => return status,
+    };
+    let found = walk(&mut metered(buffer), &begun, room.scratch.lend());
+    tell_found(found, verdict)
+}
+
+/// Checks a buffer whatever the options ask, in room on the call's own stack. It and the next stand apart, so that the
+/// published tests are constants where these are asked.
 #[inline(never)]
+fn check_alone_apart(basis: &Basis, verdict: &mut Verdict, options: &Options, buffer: &[u8]) -> u32
+    ensures told { (a : Outcome) × (verdict.new ≡ told a) × IsChecked basis.now 64 options.now buffer.now a }
+    ensures status { result ≡ verdict.new.status }
+{
+    if options.demands != 0 {
+        return check_alone_strictly(basis, verdict, options, buffer);
+    }
+    walk_alone(basis, verdict, options, buffer)
+}
+
+/// The same in the room that is given.
+#[inline(never)]
+fn check_within_apart(
+    basis: &Basis,
+    room: &mut Room,
+    verdict: &mut Verdict,
+    options: &Options,
+    buffer: &[u8],
+) -> u32
+    ensures told { (a : Outcome) × (verdict.new ≡ told a) × IsChecked basis.now room.old options.now buffer.now a }
+    ensures status { result ≡ verdict.new.status }
+    ensures kept { room.new ≡ room.old }
+{
+    if options.demands != 0 {
+        return check_within_strictly(basis, room, verdict, options, buffer);
+    }
+    walk_within(basis, room, verdict, options, buffer)
+}
+
+/// Checks a buffer by a schema as the options ask, in room on the call's own stack. Writes the verdict, and answers its
+/// status.
+#[inline(never)]
+pub fn check_alone(held: &Held, verdict: &mut Verdict, options: &Options, buffer: &[u8]) -> u32
+    ensures told { (a : Outcome) × (verdict.new ≡ told a) × IfSchema held.now a (λ s. IsChecked s 64 options.now buffer.now a) }
+    ensures status { result ≡ verdict.new.status }
+{
+    let Held::Schema(basis) = held else {
+        return tell_blank(Status::NoRoot, verdict);
+    };
+    if !options.ask_published_tests() {
+        return check_alone_apart(basis, verdict, options, buffer);
+    }
+    walk_alone(basis, verdict, options, buffer)
+}
+
+/// The same in the room that is given.
+#[inline(always)]
 fn check_within(
     held: &Held,
     room: &mut Room,
@@ -167,45 +237,31 @@ fn check_within(
     options: &Options,
     buffer: &[u8],
 ) -> u32
-    ensures told { (a : Answer) × (verdict.new ≡ told a) × IfSchema held.now a (λ s. IsChecked s room.old options.now buffer.now a) }
+    ensures told { (a : Outcome) × (verdict.new ≡ told a) × IfSchema held.now a (λ s. IsChecked s room.old options.now buffer.now a) }
     ensures status { result ≡ verdict.new.status }
     ensures kept { room.new ≡ room.old }
 {
     let Held::Schema(basis) = held else {
-        return tell_blank(6, verdict);
+        return tell_blank(Status::NoRoot, verdict);
     };
-    if options.demands != 0 {
-        return check_within_strictly(basis, room, verdict, options, buffer);
+    if !options.ask_published_tests() {
+        return check_within_apart(basis, room, verdict, options, buffer);
     }
-    let begun = match prepare(basis, room.levels(), options, buffer, verdict) {
-        Ok(begun) => begun,
-        Err(status) => return status,
-    };
-    let found = walk(
-        &mut metered(buffer),
-        &basis.loaded().schema,
-        begun.root,
-        begun.start,
-        begun.ident,
-        begun.limits,
-        begun.checks,
-        &mut room.scratch,
-    );
-    tell_found(found, verdict)
+    walk_within(basis, room, verdict, options, buffer)
 }
 
 /// Checks a buffer by a schema: in the room of a handle, or on the call's own stack where it holds none. Writes the
 /// verdict, and answers its status.
-#[inline(always)]
+#[inline(never)]
 pub fn check(
     alloc: Global,
     held: &Held,
     handle: &mut Handle,
-    verdict: &mut Verdict,
     options: &Options,
     buffer: &[u8],
+    verdict: &mut Verdict,
 ) -> u32
-    ensures told { (a : Answer) × (verdict.new ≡ told a) × IfSchema held.now a (λ s. IsChecked s (levels handle.old.inside) options.now buffer.now a) }
+    ensures told { (a : Outcome) × (verdict.new ≡ told a) × IfSchema held.now a (λ s. IsChecked s (levels handle.old.inside) options.now buffer.now a) }
     ensures status { result ≡ verdict.new.status }
     ensures kept { handle.new.inside ≡ handle.old.inside }
 {
@@ -228,27 +284,26 @@ pub fn check(
 ///
 /// The status of the verdict that says why it can't begin.
 #[inline(always)]
-pub fn prepare_read(
-    basis: &Basis,
+pub fn prepare_read<'h>(
+    basis: &'h Basis,
     levels: u32,
     options: &Options,
     buffer: &[u8],
     paths: &[PlainPath],
     verdict: &mut Verdict,
-) -> Result<Begun, u32>
+) -> Result<Question<'h, 'static>, u32>
     ensures starts { MatchResult result (StartsRead basis.now levels options.now buffer.now paths.now) (IsTold verdict.new (IsUnread basis.now levels options.now buffer.now paths.now)) }
-    ensures depth { IfOk result (λ (begun : Begun). begun.limits.depth ≤ levels) }
+    ensures depth { IfOk result (λ (begun : Question). begun.limits.depth ≤ levels) }
 {
     let length = buffer.len() as u64;
-    let begun = match begin(basis, levels, options, length) {
-        Ok(begun) => begun,
-        Err(status) => return Err(tell_blank(status, verdict)),
+    let Some(begun) = begin(basis, levels, options, length) else {
+        return Err(refuse(basis, levels, options, verdict));
     };
     if let Some(place) = first_misfit(&basis.loaded().schema, begun.root, paths) {
-        return Err(Answer::Misfit(place).tell(verdict));
+        return Err(Outcome::Misfit(place).tell(verdict));
     }
     if length > LONGEST {
-        return Err(tell_blank(7, verdict));
+        return Err(tell_blank(Status::TooLong, verdict));
     }
     Ok(begun)
 }
@@ -284,7 +339,7 @@ fn read_shallow(
     paths: &[PlainPath],
     values: &mut [Value],
 ) -> u32
-    ensures told { (a : Answer) × (verdict.new ≡ told a) × IsRead basis.now 64 options.now buffer.now paths.now values.old values.new a }
+    ensures told { (a : Outcome) × (verdict.new ≡ told a) × IsRead basis.now 64 options.now buffer.now paths.now values.old values.new a }
     ensures status { result ≡ verdict.new.status }
 {
     if options.demands != 0 {
@@ -294,15 +349,7 @@ fn read_shallow(
         Ok(begun) => begun,
         Err(status) => return status,
     };
-    let found = verify_shallow(
-        metered(buffer),
-        &basis.loaded().schema,
-        begun.root,
-        begun.start,
-        begun.ident,
-        begun.limits,
-        begun.checks,
-    );
+    let found = verify(metered(buffer), &begun, &mut [BLANK; 3]);
     tell_read(&found, paths, values, verdict)
 }
 
@@ -316,7 +363,7 @@ fn read_in(
     paths: &[PlainPath],
     values: &mut [Value],
 ) -> u32
-    ensures told { (a : Answer) × (verdict.new ≡ told a) × IsRead basis.now room.old options.now buffer.now paths.now values.old values.new a }
+    ensures told { (a : Outcome) × (verdict.new ≡ told a) × IsRead basis.now room.old options.now buffer.now paths.now values.old values.new a }
     ensures status { result ≡ verdict.new.status }
     ensures kept { room.new ≡ room.old }
 {
@@ -327,16 +374,7 @@ fn read_in(
         Ok(begun) => begun,
         Err(status) => return status,
     };
-    let found = verify(
-        metered(buffer),
-        &basis.loaded().schema,
-        begun.root,
-        begun.start,
-        begun.ident,
-        begun.limits,
-        begun.checks,
-        &mut room.scratch,
-    );
+    let found = verify(metered(buffer), &begun, room.scratch.lend());
     tell_read(&found, paths, values, verdict)
 }
 
@@ -351,12 +389,12 @@ pub fn read(
     paths: &[PlainPath],
     values: &mut [Value],
 ) -> u32
-    ensures told { (a : Answer) × (verdict.new ≡ told a) × IsReadBy held.now (levels handle.old.inside) options.now buffer.now paths.now values.old values.new a }
+    ensures told { (a : Outcome) × (verdict.new ≡ told a) × IsReadBy held.now (levels handle.old.inside) options.now buffer.now paths.now values.old values.new a }
     ensures status { result ≡ verdict.new.status }
     ensures kept { handle.new.inside ≡ handle.old.inside }
 {
     let Held::Schema(basis) = held else {
-        return tell_blank(6, verdict);
+        return tell_blank(Status::NoRoot, verdict);
     };
     let Some(mut taken) = handle.take(alloc) else {
         return read_shallow(basis, verdict, options, buffer, paths, values);
@@ -375,15 +413,15 @@ pub fn read(
 /// # Errors
 ///
 /// As [`Options::limits`] has it for 4,096 levels; then `NotPlanned`.
-pub fn price(held: &Held, options: &Options, length: u64) -> Result<u64, Answer>
+pub fn price(held: &Held, options: &Options, length: u64) -> Result<u64, Outcome>
     ensures { IsPriced held.now options.now length result }
 {
     let Held::Schema(basis) = held else {
-        return Err(Answer::NoRoot);
+        return Err(Outcome::NoRoot);
     };
     let limits = options.limits(DEEPEST, length)?;
     if !basis.serves(options) {
-        return Err(Answer::NotPlanned);
+        return Err(Outcome::NotPlanned);
     }
     let schema = &basis.loaded().schema;
     if options.demands == 0 {

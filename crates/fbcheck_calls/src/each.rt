@@ -6,14 +6,14 @@ ghost use Rattle.fb_access.specs.{Denotes.shown, Held.IsSpot, Tested.IsOther, Te
 ghost use Rattle.fbcheck_calls.specs.Each.{AreElementsTold, AreFilled, FitsEach, IsCountTold, IsReadOfEachBy, elements_of, to_element};
 ghost use Rattle.fbcheck_calls.specs.{Steps.FitHere, Values.value_told, Walks.DontBegin, Walks.IsElementTold, Walks.IsVector};
 
-use crate::answer::Answer as Told;
 use crate::checking::metered;
 use crate::fits::fits_each;
 use crate::held::Held;
 use crate::options::{LONGEST, Options};
+use crate::outcome::Outcome;
 use crate::steps::{PlainPath, PlainStep};
 use crate::values::Value;
-use crate::walks::{tell, walk};
+use crate::walks::{tell_from, walk};
 use fb_access::{Answer, Changed, Spot, Step, first_spot, see, step_from};
 use fb_bytes::Window;
 use fb_schema::Schema;
@@ -85,10 +85,7 @@ fn element_told(
     let Some(element) = step_from(window, schema, spot, Step::Element(number))? else {
         return Ok(None);
     };
-    match walk(window, schema, element, after)? {
-        Some(end) => Ok(Some(tell(window, schema, end)?)),
-        None => Ok(None),
-    }
+    tell_from(window, schema, element, after)
 }
 
 /// Tells the elements of what is at a spot that was tested, from this one on, each at its place, as far as there is room.
@@ -168,24 +165,24 @@ pub fn read_each(
     first: usize,
     values: &mut [Value],
     elements: &mut usize,
-) -> Told
+) -> Outcome
     ensures { IsReadOfEachBy held.now options.now buffer.now path.now first values.old values.new elements.old elements.new result }
 {
     let Held::Schema(basis) = held else {
-        return Told::NoRoot;
+        return Outcome::NoRoot;
     };
     let loaded = basis.loaded();
     if !options.are_known() {
-        return Told::UnknownOptions;
+        return Outcome::UnknownOptions;
     }
-    let Some(root) = options.root(loaded) else {
-        return Told::NoRoot;
+    let Some(root) = basis.root(options) else {
+        return Outcome::NoRoot;
     };
     if !fits_each(&loaded.schema, root, path) {
-        return Told::Misfit(0);
+        return Outcome::Misfit(0);
     }
     if buffer.len() as u64 > LONGEST {
-        return Told::TooLong;
+        return Outcome::TooLong;
     }
     let window = metered(buffer).seal();
     match tell_each(
@@ -199,8 +196,8 @@ pub fn read_each(
     ) {
         Ok(count) => {
             *elements = count;
-            Told::Done
+            Outcome::Done
         }
-        Err(place) => Told::Changed(place),
+        Err(place) => Outcome::Changed(place),
     }
 }

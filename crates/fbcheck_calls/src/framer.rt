@@ -5,7 +5,7 @@ ghost use Rattle.fb_bytes.specs.Messages.{IsMessage, declared, little};
 ghost use Rattle.fb_bytes.specs.declared.cut.Endian.TheVariants.{Little};
 ghost use Rattle.fbcheck_calls.specs.Framers.{IsFed, IsFilled, IsFinished, IsKept, IsNext, IsRoom, KeepsNumber, framing};
 
-use crate::answer::Answer;
+use crate::outcome::Outcome;
 use fb_bytes::{Meter, StreamFault, Taken};
 
 /// The least room that a message may have.
@@ -71,16 +71,16 @@ impl Framer {
     ///
     /// `OutOfRange` where a message may not have so much room; `BadStream` with S1 once the fourth byte of a prefix
     /// came that declares more than there is room for, and with S4 where this framer has failed before.
-    pub fn feed(&mut self, room: &mut [u8], piece: &[u8]) -> Result<Taken, Answer>
+    pub fn feed(&mut self, room: &mut [u8], piece: &[u8]) -> Result<Taken, Outcome>
         ensures fed { IsFed room.old self.old piece.now room.new self.new result }
         ensures number { KeepsNumber self.old self.new result }
         ensures kept { IsKept room.old self.old → IsKept room.new self.new }
     {
         if !is_room(room.len()) {
-            return Err(Answer::OutOfRange);
+            return Err(Outcome::OutOfRange);
         }
         if self.failed != 0 || self.held > room.len() {
-            return Err(Answer::BadStream(StreamFault::Failed));
+            return Err(Outcome::BadStream(StreamFault::Failed));
         }
         let used = fill(room, self.held, 4, piece);
         self.held += used;
@@ -91,7 +91,7 @@ impl Framer {
         if declared as usize > room.len() - 4 {
             self.failed = 1;
             self.declared = declared;
-            return Err(Answer::BadStream(StreamFault::Oversize { declared }));
+            return Err(Outcome::BadStream(StreamFault::Oversize { declared }));
         }
         let goal = declared as usize + 4;
         let more = fill(room, self.held, goal, &piece[used..]);
@@ -116,40 +116,40 @@ impl Framer {
     /// Gives up the whole message that is held; where none is, nothing changes.
     ///
     /// `Done`, or `OutOfRange` as [`Framer::feed`] has it.
-    pub fn next(&mut self, room: &[u8]) -> Answer
+    pub fn next(&mut self, room: &[u8]) -> Outcome
         ensures next { IsNext room.now self.old self.new result }
         ensures number { self.new.declared ≡ self.old.declared }
         ensures kept { IsKept room.now self.old → IsKept room.now self.new }
     {
         if !is_room(room.len()) {
-            return Answer::OutOfRange;
+            return Outcome::OutOfRange;
         }
         if self.is_whole(room) {
             self.held = 0;
         }
-        Answer::Done
+        Outcome::Done
     }
 
     /// Says that the stream has ended: `Done` where no byte or a whole message is held.
     ///
     /// `OutOfRange` as [`Framer::feed`] has it; `BadStream` with S2 where a part of a message is held, and with S4
     /// where this framer has failed before.
-    pub fn finish(&mut self, room: &[u8]) -> Answer
+    pub fn finish(&mut self, room: &[u8]) -> Outcome
         ensures finished { IsFinished room.now self.old self.new result }
         ensures number { self.new.declared ≡ self.old.declared }
         ensures kept { IsKept room.now self.old → IsKept room.now self.new }
     {
         if !is_room(room.len()) {
-            return Answer::OutOfRange;
+            return Outcome::OutOfRange;
         }
         if self.failed != 0 {
-            return Answer::BadStream(StreamFault::Failed);
+            return Outcome::BadStream(StreamFault::Failed);
         }
         if self.held == 0 || self.is_whole(room) {
-            return Answer::Done;
+            return Outcome::Done;
         }
         self.failed = 1;
         let held = self.held as u64;
-        Answer::BadStream(StreamFault::Truncated { held })
+        Outcome::BadStream(StreamFault::Truncated { held })
     }
 }

@@ -5,11 +5,11 @@ ghost use Rattle.std.specs.Ptr.{null_ptr};
 ghost use Rattle.fbcheck_calls.specs.Answered.{IsRoomMade, IsTaken};
 ghost use Rattle.fbcheck_calls.specs.declared.held.Held.{Held};
 
-use crate::answer::Answer;
 use crate::basis::open;
 use crate::detached::Detached;
 use crate::held::{Held, Room};
 use crate::options::Options;
+use crate::outcome::Outcome;
 use fb_bfbs::LoadFault;
 use fb_verify::ScratchFault;
 use std::alloc::{AllocError, Global};
@@ -120,7 +120,7 @@ impl Handle {
 
     /// Loads a schema file, as [`open`] does. Where that was done the handle holds it, and what it held is freed; else
     /// the handle holds what it held.
-    pub fn load(&mut self, alloc: Global, file: &'static [u8], options: &Options) -> Answer
+    pub fn load(&mut self, alloc: Global, file: &'static [u8], options: &Options) -> Outcome
         ensures { IsTaken file.now options.now self.old.inside self.new.inside result }
     {
         let basis = match open(alloc, file, options) {
@@ -128,24 +128,24 @@ impl Handle {
             Err(answer) => return answer,
         };
         match self.hold(alloc, Held::Schema(basis)) {
-            Ok(()) => Answer::Done,
-            Err(_) => Answer::NoSchema(LoadFault::OutOfMemory),
+            Ok(()) => Outcome::Done,
+            Err(_) => Outcome::NoSchema(LoadFault::OutOfMemory),
         }
     }
 
     /// Makes room for so many open tables. Where that was done the handle holds it, and what it held is freed; else the
     /// handle holds what it held.
-    pub fn make_room(&mut self, alloc: Global, depth: u32) -> Answer
+    pub fn make_room(&mut self, alloc: Global, depth: u32) -> Outcome
         ensures { IsRoomMade depth self.old.inside self.new.inside result }
     {
         let room = match Room::new(alloc, depth) {
             Ok(room) => room,
-            Err(ScratchFault::LimitOutOfRange) => return Answer::OutOfRange,
-            Err(ScratchFault::OutOfMemory) => return Answer::NoSchema(LoadFault::OutOfMemory),
+            Err(ScratchFault::LimitOutOfRange) => return Outcome::OutOfRange,
+            Err(ScratchFault::OutOfMemory) => return Outcome::NoSchema(LoadFault::OutOfMemory),
         };
         match self.hold(alloc, Held::Room(room)) {
-            Ok(()) => Answer::Done,
-            Err(_) => Answer::NoSchema(LoadFault::OutOfMemory),
+            Ok(()) => Outcome::Done,
+            Err(_) => Outcome::NoSchema(LoadFault::OutOfMemory),
         }
     }
 

@@ -5,7 +5,7 @@ ghost use Rattle.fb_schema.specs.Rows.{is_table};
 ghost use Rattle.std.specs.Prelude.{IfSome};
 ghost use Rattle.fbcheck_calls.specs.Asked.{AreKnown, HasLimits, LimitsFail, asks_marks, checks_asked, demands_of, ident_asked, if_table, known_demands, limits_of, published, root_asked, start_asked};
 
-use crate::answer::Answer;
+use crate::outcome::Outcome;
 use fb_bfbs::{Loaded, own_ident};
 use fb_schema::Schema;
 use fb_strict::Demands;
@@ -24,7 +24,7 @@ pub const DEEPEST: u32 = 4096;
 pub const LONGEST: u64 = 0x7FFF_FFFF;
 
 /// The number of no object: the schema's own root table is asked for.
-const OWN_ROOT: u32 = 0xFFFF_FFFF;
+pub const OWN_ROOT: u32 = 0xFFFF_FFFF;
 
 /// The number that stands for a table that isn't there.
 pub const NO_TABLE: u32 = 0xFFFF_FFFE;
@@ -138,6 +138,13 @@ impl Options {
         self.are_known() && self.max_depth <= levels && self.max_depth <= DEEPEST
     }
 
+    /// Whether they ask the published tests, and have no demands, as most do.
+    pub fn ask_published_tests(&self) -> bool
+        ensures { IsTrue result → self.now.demands ≡ 0 }
+    {
+        self.demands == 0 && self.no_alignment == 0 && self.inline_size == 0
+    }
+
     /// The limits that are asked of so many bytes.
     pub fn limits_of(&self, length: u64) -> Limits
         requires { self.now.max_depth ≤ 4096 }
@@ -156,16 +163,16 @@ impl Options {
     ///
     /// `UnknownOptions` where the version is another than 1, the identifier's source above 2, or the demands unknown;
     /// then `OutOfRange` where the depth is above 4,096 or above these levels.
-    pub fn limits(&self, levels: u32, length: u64) -> Result<Limits, Answer>
+    pub fn limits(&self, levels: u32, length: u64) -> Result<Limits, Outcome>
         ensures { MatchResult result (λ l. HasLimits self.now levels × (l ≡ limits_of self.now length)) (LimitsFail self.now levels) }
     {
         if self.have_limits(levels) {
             return Ok(self.limits_of(length));
         }
         if self.are_known() {
-            Err(Answer::OutOfRange)
+            Err(Outcome::OutOfRange)
         } else {
-            Err(Answer::UnknownOptions)
+            Err(Outcome::UnknownOptions)
         }
     }
 

@@ -6,18 +6,19 @@ ghost use Rattle.fb_verify.specs.Sealed.{Sealed};
 ghost use Rattle.fb_verify.specs.declared.links.Located.{Located};
 ghost use Rattle.fbcheck_calls.specs.{Answered.levels, Told.found_by, Told.told};
 ghost use Rattle.fbcheck_calls.specs.Placed.{IsLocated, IsLocatedBy, IsTextTold, IsUntold, cut_to};
-ghost use Rattle.fbcheck_calls.specs.declared.answer.Answer.{Answer};
+ghost use Rattle.fbcheck_calls.specs.declared.outcome.Outcome.{Outcome};
 
-use crate::answer::{Verdict, tell_bad, tell_blank, tell_good};
 use crate::basis::Basis;
 use crate::checking::{SHALLOW, metered, prepare};
 use crate::handle::Handle;
 use crate::held::{Held, NO_LINK, Room};
 use crate::options::Options;
+use crate::outcome::{Verdict, tell_bad, tell_blank, tell_good};
+use crate::status::Status;
 use crate::strict::{locate_in_strictly, locate_shallow_strictly};
 use fb_access::{LocationText, write_location};
 use fb_schema::Schema;
-use fb_verify::{Fault, Link, Located, Verified, verify_and_locate, verify_and_locate_shallow};
+use fb_verify::{BLANK, Fault, Link, Located, Verified, verify_and_locate};
 use std::alloc::Global;
 
 /// Copies as much of a text as there is room for, and tells its whole length.
@@ -77,7 +78,7 @@ fn locate_shallow(
     text: &mut [u8],
     written: &mut usize,
 ) -> u32
-    ensures told { (a : Answer) × (verdict.new ≡ told a) × IsLocated basis.now 64 options.now buffer.now text.old text.new written.old written.new a }
+    ensures told { (a : Outcome) × (verdict.new ≡ told a) × IsLocated basis.now 64 options.now buffer.now text.old text.new written.old written.new a }
     ensures status { result ≡ verdict.new.status }
 {
     if options.demands != 0 {
@@ -89,16 +90,7 @@ fn locate_shallow(
     };
     let schema = &basis.loaded().schema;
     let mut links = [NO_LINK; 64];
-    let found = verify_and_locate_shallow(
-        metered(buffer),
-        schema,
-        begun.root,
-        begun.start,
-        begun.ident,
-        begun.limits,
-        begun.checks,
-        &mut links,
-    );
+    let found = verify_and_locate(metered(buffer), &begun, &mut [BLANK; 64], &mut links);
     tell_located(&found, schema, &links, text, written, verdict)
 }
 
@@ -112,7 +104,7 @@ fn locate_in(
     text: &mut [u8],
     written: &mut usize,
 ) -> u32
-    ensures told { (a : Answer) × (verdict.new ≡ told a) × IsLocated basis.now room.old options.now buffer.now text.old text.new written.old written.new a }
+    ensures told { (a : Outcome) × (verdict.new ≡ told a) × IsLocated basis.now room.old options.now buffer.now text.old text.new written.old written.new a }
     ensures status { result ≡ verdict.new.status }
     ensures kept { room.new ≡ room.old }
 {
@@ -125,17 +117,7 @@ fn locate_in(
     };
     let schema = &basis.loaded().schema;
     let links = room.links.as_mut_slice();
-    let found = verify_and_locate(
-        metered(buffer),
-        schema,
-        begun.root,
-        begun.start,
-        begun.ident,
-        begun.limits,
-        begun.checks,
-        &mut room.scratch,
-        links,
-    );
+    let found = verify_and_locate(metered(buffer), &begun, room.scratch.lend(), links);
     tell_located(&found, schema, links, text, written, verdict)
 }
 
@@ -151,13 +133,13 @@ pub fn locate(
     text: &mut [u8],
     written: &mut usize,
 ) -> u32
-    ensures told { (a : Answer) × (verdict.new ≡ told a) × IsLocatedBy held.now (levels handle.old.inside) options.now buffer.now text.old text.new written.new a }
+    ensures told { (a : Outcome) × (verdict.new ≡ told a) × IsLocatedBy held.now (levels handle.old.inside) options.now buffer.now text.old text.new written.new a }
     ensures status { result ≡ verdict.new.status }
     ensures kept { handle.new.inside ≡ handle.old.inside }
 {
     *written = 0;
     let Held::Schema(basis) = held else {
-        return tell_blank(6, verdict);
+        return tell_blank(Status::NoRoot, verdict);
     };
     let Some(mut taken) = handle.take(alloc) else {
         return locate_shallow(basis, verdict, options, buffer, text, written);

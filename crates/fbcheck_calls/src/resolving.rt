@@ -6,9 +6,9 @@ ghost use Rattle.fbcheck_calls.specs.Marked.{HasMark, IsFirstMark, at_zero};
 ghost use Rattle.fbcheck_calls.specs.Reached.{IsPath, IsResolved, IsUnresolved};
 ghost use Rattle.fbcheck_calls.specs.Resolved.{HasNoPath, IsMarkedPath, IsPathFor};
 
-use crate::answer::Answer;
 use crate::held::Held;
 use crate::options::Options;
+use crate::outcome::Outcome;
 use crate::steps::PlainPath;
 use fb_access::{Path, PathFault};
 use fb_bfbs::Loaded;
@@ -55,17 +55,17 @@ fn plain_path(
     schema: &Schema<'_>,
     root: u32,
     text: &[u8],
-) -> Result<PlainPath, Answer>
+) -> Result<PlainPath, Outcome>
     requires { IsTrue (is_table schema.now root) }
     ensures { MatchResult result (IsPathFor schema.now root text.now) (HasNoPath schema.now root text.now) }
 {
     let path = match Path::resolve(alloc, schema, root, text) {
         Ok(path) => path,
-        Err(fault) => return Err(Answer::BadPath(fault)),
+        Err(fault) => return Err(Outcome::BadPath(fault)),
     };
     match PlainPath::of(path.steps()) {
         Some(plain) => Ok(plain),
-        None => Err(Answer::NoRoom),
+        None => Err(Outcome::NoRoom),
     }
 }
 
@@ -80,18 +80,18 @@ fn marked_path(
     root: u32,
     text: &[u8],
     at: usize,
-) -> Result<PlainPath, Answer>
+) -> Result<PlainPath, Outcome>
     requires table { IsTrue (is_table schema.now root) }
     requires mark { HasMark text.now at }
     ensures { MatchResult result (IsMarkedPath schema.now root text.now at) (HasNoPath schema.now root (at_zero text.now at)) }
 {
     let Ok(plain) = at_zero(alloc, text, at) else {
-        return Err(Answer::BadPath(PathFault::OutOfMemory));
+        return Err(Outcome::BadPath(PathFault::OutOfMemory));
     };
     let path = plain_path(alloc, schema, root, &plain)?;
     let before = match Path::resolve(alloc, schema, root, &text[..at]) {
         Ok(before) => before,
-        Err(fault) => return Err(Answer::BadPath(fault)),
+        Err(fault) => return Err(Outcome::BadPath(fault)),
     };
     let each = before.steps().len() as u32 + 1;
     Ok(PlainPath { each, ..path })
@@ -107,14 +107,14 @@ fn path_of(
     loaded: &Loaded<'static>,
     options: &Options,
     text: &[u8],
-) -> Result<PlainPath, Answer>
+) -> Result<PlainPath, Outcome>
     ensures { MatchResult result (IsResolved loaded.now options.now text.now) (IsUnresolved loaded.now options.now text.now) }
 {
     if !options.are_known() {
-        return Err(Answer::UnknownOptions);
+        return Err(Outcome::UnknownOptions);
     }
     let Some(root) = options.root(loaded) else {
-        return Err(Answer::NoRoot);
+        return Err(Outcome::NoRoot);
     };
     match first_mark(text) {
         Some(at) => marked_path(alloc, &loaded.schema, root, text, at),
@@ -129,16 +129,16 @@ pub fn resolve(
     options: &Options,
     text: &[u8],
     path: &mut PlainPath,
-) -> Answer
+) -> Outcome
     ensures { IsPath held.now options.now text.now path.old path.new result }
 {
     let Held::Schema(basis) = held else {
-        return Answer::NoRoot;
+        return Outcome::NoRoot;
     };
     match path_of(alloc, basis.loaded(), options, text) {
         Ok(plain) => {
             *path = plain;
-            Answer::Done
+            Outcome::Done
         }
         Err(answer) => answer,
     }

@@ -5,13 +5,14 @@ ghost use Rattle.std.specs.List.{list_all};
 ghost use Rattle.fbcheck_calls.specs.Answered.{IfSchema, levels};
 ghost use Rattle.fbcheck_calls.specs.Spans.{AreTold, IsSpanTold, IsTried, all_good, cut};
 ghost use Rattle.fbcheck_calls.specs.Told.{told};
-ghost use Rattle.fbcheck_calls.specs.declared.answer.Answer.TheVariants.{Done};
+ghost use Rattle.fbcheck_calls.specs.declared.outcome.Outcome.TheVariants.{Done};
 
-use crate::answer::{Answer, Verdict};
 use crate::checking::check;
 use crate::handle::Handle;
 use crate::held::Held;
 use crate::options::Options;
+use crate::outcome::{Outcome, Verdict};
+use crate::status::Status;
 use std::alloc::Global;
 
 /// Where a buffer lies in a block of bytes (`fbcheck_span`).
@@ -43,16 +44,16 @@ fn tell_tried(
     held: &Held,
     handle: &mut Handle,
     options: &Options,
-    served: Answer,
+    served: Outcome,
     verdict: &mut Verdict,
 ) -> u32
-    ensures told { (a : Answer) × (verdict.new ≡ told a) × IfSchema held.now a (λ s. IsTried served s (levels handle.old.inside) options.now a) }
+    ensures told { (a : Outcome) × (verdict.new ≡ told a) × IfSchema held.now a (λ s. IsTried served s (levels handle.old.inside) options.now a) }
     ensures status { result ≡ verdict.new.status }
     ensures kept { handle.new.inside ≡ handle.old.inside }
 {
-    // A check of no bytes that begins finds them good or bad: 0 or 1.
-    let status = check(alloc, held, handle, verdict, options, &[]);
-    if status > 1 {
+    // A check of no bytes that begins finds them good or bad.
+    let status = check(alloc, held, handle, options, &[], verdict);
+    if status > Status::Bad.number() {
         return status;
     }
     served.tell(verdict)
@@ -60,11 +61,11 @@ fn tell_tried(
 
 /// 0 where a check can begin by these options, else the status of why none can.
 pub fn try_options(alloc: Global, held: &Held, handle: &mut Handle, options: &Options) -> u32
-    ensures tried { (a : Answer) × (result ≡ (told a).status) × IfSchema held.now a (λ s. IsTried Done s (levels handle.old.inside) options.now a) }
+    ensures tried { (a : Outcome) × (result ≡ (told a).status) × IfSchema held.now a (λ s. IsTried Done s (levels handle.old.inside) options.now a) }
     ensures kept { handle.new.inside ≡ handle.old.inside }
 {
     let mut verdict = Verdict::default();
-    tell_tried(alloc, held, handle, options, Answer::Done, &mut verdict)
+    tell_tried(alloc, held, handle, options, Outcome::Done, &mut verdict)
 }
 
 /// Checks the buffer that a span names in a block of bytes, as [`check`] does, and writes the verdict. Of one that
@@ -82,8 +83,8 @@ fn check_span(
     ensures kept { handle.new.inside ≡ handle.old.inside }
 {
     let _status = match span.cut(block) {
-        Some(buffer) => check(alloc, held, handle, verdict, options, buffer),
-        None => tell_tried(alloc, held, handle, options, Answer::NoSpan, verdict),
+        Some(buffer) => check(alloc, held, handle, options, buffer, verdict),
+        None => tell_tried(alloc, held, handle, options, Outcome::NoSpan, verdict),
     };
 }
 
@@ -113,7 +114,7 @@ fn are_good(verdicts: &[Verdict]) -> bool
     ensures { result ≡ list_all (λ v. v.status == 0) verdicts.now }
 {
     for verdict in verdicts {
-        if verdict.status != 0 {
+        if verdict.status != Status::Done.number() {
             return false;
         }
     }
@@ -125,8 +126,8 @@ pub fn all_good(verdicts: &[Verdict], count: usize) -> u32
     ensures { result ≡ all_good (take count verdicts.now) }
 {
     if are_good(&verdicts[..count.min(verdicts.len())]) {
-        0
+        Status::Done.number()
     } else {
-        1
+        Status::Bad.number()
     }
 }

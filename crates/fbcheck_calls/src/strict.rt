@@ -8,23 +8,20 @@ ghost use Rattle.fb_strict.specs.declared.strictly.VerifiedStrictly.{VerifiedStr
 ghost use Rattle.fb_verify.specs.declared.links.Located.{Located};
 ghost use Rattle.fbcheck_calls.specs.{Answered.IsChecked, Asked.plan_asked, Reached.IsRead, Steps.AllFit, Told.found_by, Told.told, Values.AreValues};
 ghost use Rattle.fbcheck_calls.specs.Placed.{IsLocated, IsTextTold, IsUntold};
-ghost use Rattle.fbcheck_calls.specs.declared.answer.Answer.{Answer};
+ghost use Rattle.fbcheck_calls.specs.declared.outcome.Outcome.{Outcome};
 
 use crate::again::tell_values;
-use crate::answer::{Verdict, tell_bad, tell_good};
 use crate::basis::Basis;
 use crate::checking::{SHALLOW, metered, prepare, prepare_read};
 use crate::held::{NO_LINK, Room};
 use crate::options::Options;
+use crate::outcome::{Verdict, tell_bad, tell_good};
 use crate::place::write_place;
 use crate::steps::PlainPath;
 use crate::values::Value;
 use fb_schema::Schema;
-use fb_strict::{
-    Plan, VerifiedStrictly, verify_strictly, verify_strictly_and_locate,
-    verify_strictly_and_locate_shallow, verify_strictly_shallow,
-};
-use fb_verify::{Fault, Link, Located};
+use fb_strict::{OnStack, Plan, VerifiedStrictly, verify_strictly, verify_strictly_and_locate};
+use fb_verify::{BLANK, Fault, Link, Located};
 
 /// The plan by which the options ask, of a schema that was made with their demands.
 fn plan_of<'h>(basis: &'h Basis, options: &Options) -> &'h Plan
@@ -60,22 +57,19 @@ pub fn check_alone_strictly(
     buffer: &[u8],
 ) -> u32
     requires demands { options.now.demands ≢ 0 }
-    ensures told { (a : Answer) × (verdict.new ≡ told a) × IsChecked basis.now 64 options.now buffer.now a }
+    ensures told { (a : Outcome) × (verdict.new ≡ told a) × IsChecked basis.now 64 options.now buffer.now a }
     ensures status { result ≡ verdict.new.status }
 {
     let begun = match prepare(basis, SHALLOW, options, buffer, verdict) {
         Ok(begun) => begun,
         Err(status) => return status,
     };
-    let found = verify_strictly_shallow(
+    let found = verify_strictly(
         metered(buffer),
-        &basis.loaded().schema,
-        begun.root,
-        begun.start,
-        begun.ident,
-        begun.limits,
-        begun.checks,
+        &begun,
         plan_of(basis, options),
+        &mut [BLANK; 3],
+        &mut OnStack,
     );
     tell_found(&found, verdict)
 }
@@ -90,7 +84,7 @@ pub fn check_within_strictly(
     buffer: &[u8],
 ) -> u32
     requires demands { options.now.demands ≢ 0 }
-    ensures told { (a : Answer) × (verdict.new ≡ told a) × IsChecked basis.now room.old options.now buffer.now a }
+    ensures told { (a : Outcome) × (verdict.new ≡ told a) × IsChecked basis.now room.old options.now buffer.now a }
     ensures status { result ≡ verdict.new.status }
     ensures kept { room.new ≡ room.old }
 {
@@ -100,14 +94,9 @@ pub fn check_within_strictly(
     };
     let found = verify_strictly(
         metered(buffer),
-        &basis.loaded().schema,
-        begun.root,
-        begun.start,
-        begun.ident,
-        begun.limits,
-        begun.checks,
+        &begun,
         plan_of(basis, options),
-        &mut room.scratch,
+        room.scratch.lend(),
         &mut room.pass,
     );
     tell_found(&found, verdict)
@@ -147,22 +136,19 @@ pub fn read_shallow_strictly(
     values: &mut [Value],
 ) -> u32
     requires demands { options.now.demands ≢ 0 }
-    ensures told { (a : Answer) × (verdict.new ≡ told a) × IsRead basis.now 64 options.now buffer.now paths.now values.old values.new a }
+    ensures told { (a : Outcome) × (verdict.new ≡ told a) × IsRead basis.now 64 options.now buffer.now paths.now values.old values.new a }
     ensures status { result ≡ verdict.new.status }
 {
     let begun = match prepare_read(basis, SHALLOW, options, buffer, paths, verdict) {
         Ok(begun) => begun,
         Err(status) => return status,
     };
-    let found = verify_strictly_shallow(
+    let found = verify_strictly(
         metered(buffer),
-        &basis.loaded().schema,
-        begun.root,
-        begun.start,
-        begun.ident,
-        begun.limits,
-        begun.checks,
+        &begun,
         plan_of(basis, options),
+        &mut [BLANK; 3],
+        &mut OnStack,
     );
     tell_read(&found, paths, values, verdict)
 }
@@ -179,7 +165,7 @@ pub fn read_in_strictly(
     values: &mut [Value],
 ) -> u32
     requires demands { options.now.demands ≢ 0 }
-    ensures told { (a : Answer) × (verdict.new ≡ told a) × IsRead basis.now room.old options.now buffer.now paths.now values.old values.new a }
+    ensures told { (a : Outcome) × (verdict.new ≡ told a) × IsRead basis.now room.old options.now buffer.now paths.now values.old values.new a }
     ensures status { result ≡ verdict.new.status }
     ensures kept { room.new ≡ room.old }
 {
@@ -189,14 +175,9 @@ pub fn read_in_strictly(
     };
     let found = verify_strictly(
         metered(buffer),
-        &basis.loaded().schema,
-        begun.root,
-        begun.start,
-        begun.ident,
-        begun.limits,
-        begun.checks,
+        &begun,
         plan_of(basis, options),
-        &mut room.scratch,
+        room.scratch.lend(),
         &mut room.pass,
     );
     tell_read(&found, paths, values, verdict)
@@ -239,7 +220,7 @@ pub fn locate_shallow_strictly(
     written: &mut usize,
 ) -> u32
     requires demands { options.now.demands ≢ 0 }
-    ensures told { (a : Answer) × (verdict.new ≡ told a) × IsLocated basis.now 64 options.now buffer.now text.old text.new written.old written.new a }
+    ensures told { (a : Outcome) × (verdict.new ≡ told a) × IsLocated basis.now 64 options.now buffer.now text.old text.new written.old written.new a }
     ensures status { result ≡ verdict.new.status }
 {
     let begun = match prepare(basis, SHALLOW, options, buffer, verdict) {
@@ -248,15 +229,12 @@ pub fn locate_shallow_strictly(
     };
     let schema = &basis.loaded().schema;
     let mut links = [NO_LINK; 64];
-    let found = verify_strictly_and_locate_shallow(
+    let found = verify_strictly_and_locate(
         metered(buffer),
-        schema,
-        begun.root,
-        begun.start,
-        begun.ident,
-        begun.limits,
-        begun.checks,
+        &begun,
         plan_of(basis, options),
+        &mut [BLANK; 64],
+        &mut OnStack,
         &mut links,
     );
     tell_located(&found, schema, &links, text, written, verdict)
@@ -274,7 +252,7 @@ pub fn locate_in_strictly(
     written: &mut usize,
 ) -> u32
     requires demands { options.now.demands ≢ 0 }
-    ensures told { (a : Answer) × (verdict.new ≡ told a) × IsLocated basis.now room.old options.now buffer.now text.old text.new written.old written.new a }
+    ensures told { (a : Outcome) × (verdict.new ≡ told a) × IsLocated basis.now room.old options.now buffer.now text.old text.new written.old written.new a }
     ensures status { result ≡ verdict.new.status }
     ensures kept { room.new ≡ room.old }
 {
@@ -286,14 +264,9 @@ pub fn locate_in_strictly(
     let links = room.links.as_mut_slice();
     let found = verify_strictly_and_locate(
         metered(buffer),
-        schema,
-        begun.root,
-        begun.start,
-        begun.ident,
-        begun.limits,
-        begun.checks,
+        &begun,
         plan_of(basis, options),
-        &mut room.scratch,
+        room.scratch.lend(),
         &mut room.pass,
         links,
     );

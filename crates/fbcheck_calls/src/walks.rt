@@ -3,7 +3,7 @@
 
 ghost use Rattle.std.specs.Prelude.{◌<◌, ◌^◌, MatchOption, MatchResult, length};
 ghost use Rattle.fb_access.specs.{Held.IsSpot, Tested.IsTested};
-ghost use Rattle.fbcheck_calls.specs.Walks.{GoTo, IsToldAt, NoneFit};
+ghost use Rattle.fbcheck_calls.specs.Walks.{GoTo, IsToldAt, IsToldFrom, NoneFit};
 
 use crate::steps::PlainStep;
 use crate::values::{Value, placed, told_value};
@@ -54,4 +54,26 @@ pub fn tell(window: &Window<'_>, schema: &Schema<'_>, spot: Spot) -> Result<Valu
 {
     let seen = see(window, schema, spot)?;
     Ok(placed(told_value(seen.answer), seen.extent))
+}
+
+/// What is told of the value at the end of these steps from a spot that was tested; none where they don't fit there.
+///
+/// # Errors
+///
+/// `Changed` where this is no spot of a good buffer.
+#[inline(always)]
+pub fn tell_from(
+    window: &Window<'_>,
+    schema: &Schema<'_>,
+    from: Spot,
+    steps: &[PlainStep],
+) -> Result<Option<Value>, Changed>
+    requires short { length window.now < 2 ^ 31 }
+    requires tested { IsTested window.now schema.now from }
+    ensures { MatchResult result (λ o. MatchOption o (NoneFit schema.now from steps.now) (IsToldFrom window.now schema.now from steps.now)) (λ _. IsSpot window.now schema.now from → ⊥) }
+{
+    match walk(window, schema, from, steps)? {
+        Some(end) => Ok(Some(tell(window, schema, end)?)),
+        None => Ok(None),
+    }
 }

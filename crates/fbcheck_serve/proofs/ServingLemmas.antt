@@ -7,7 +7,7 @@ use Rattle.std.specs.Prelude.{if◌then◌else◌, IfOk, IfSome, String, Vec, ma
 use Rattle.std.proofs.{KnownBytes.Keeps-refl, Math.Seq.take-length}
 use Rattle.std.proofs.lemmas.{Bool.eq-eqb, Bool.eqb-true, List.length-map, List.nil_from_length}
 use Rattle.clap.specs.{Faults.fault_of, Walk.Text}
-use Rattle.fbcheck_words.specs.{CommandLine.program, Given.AreGiven, Refusal.Refuses, Values.text_of}
+use Rattle.fbcheck_words.specs.{CommandLine.program, Given.AreGiven, Refusal.Refuses, Values.text_of, Values.values_of}
 use Rattle.fbcheck_serve.specs.Checking.{IsPromptAmongAsked, IsPromptAsAsked, IsPromptOverAsked, MayReadAsked}
 use Rattle.fbcheck_serve.specs.Keeping.{IsCheckedKeeping, IsServedKeeping, Maker}
 use Rattle.fbcheck_serve.specs.declared.check.Kept as check
@@ -18,27 +18,26 @@ use Rattle.fbcheck_texts.specs.declared.{fault.FileFault.FileFault, fault.WordsF
 use Rattle.fbcheck_serve.specs.Lists.{AreNamed, HasListFault, IsList, named_by}
 use Rattle.fbcheck_serve.specs.Names.{Named, listed_names, word_names}
 use Rattle.fbcheck_serve.specs.Inputs.{Folder, Seen, with_cause}
-use Rattle.fb_lines.specs.{Faults.End, Faults.EndsBeside, JsonSums.summary_in}
-use Rattle.fb_lines.specs.Ends.{Ends, Reader, Writer, beside, nowhere, with_rejects}
+use Rattle.fb_run.specs.{Ends.Ends, Ends.Reader, Ends.Writer, Ends.beside, Ends.nowhere, Ends.with_rejects, Faults.End, Faults.EndsBeside, JsonSums.summary_in, Leave.ends_of}
+use Rattle.fb_run.specs.declared.run.Ran.{Ran}
 use Rattle.fb_bytes.specs.declared.stream_fault.StreamFault.TheVariants as stream
-use Rattle.fb_lines.specs.declared.fault.RunFault.TheVariants as run
+use Rattle.fb_run.specs.declared.fault.RunFault.TheVariants as run
 use Rattle.fbcheck_serve.specs.Serving.{ChecksAsAsked, ComesAsAsked, ComesBy, ComesTo, IsAlone, IsNameless, EndsFiles, EndsRun, EndsSo, HoldsAsGiven, IsPromptAsGiven, MayReadAsGiven, PassesAsAsked, Rests, SumsUp, TellsAsGiven, TellsIn, IsFormOf, Unserved}
-use Rattle.fbcheck_serve.specs.Serving.{files_ending, hinted_stop, is_set, lent_bytes, run_ending, summed, unbegun_stop, words_of}
+use Rattle.fbcheck_serve.specs.Serving.{files_ending, is_set, lent_bytes, run_ending, summed, unbegun_stop, words_of}
 use Rattle.fbcheck_serve.proofs.AskedLemmas.{idle}
 use Rattle.fbcheck_serve.specs.declared.inputs.Passed as inputs
 use Rattle.fb_run.specs.declared.input.Input as input
 use Rattle.fb_bytes.specs.declared.ends.Sink as sink
-use Rattle.fb_run.specs.{Leave.ends_of, declared.run.Ran.Ran}
 use Rattle.fbcheck_words.specs.declared.choices.SettingsFault.TheVariants as refusal
 use Rattle.fbcheck_words.specs.declared.{choices.Settings.Settings, choices.SettingsFault.SettingsFault}
-use Rattle.fb_lines.specs.declared.{options.Form.Form, options.Form.TheVariants.Plain, tally.Tally.Tally}
+use Rattle.fb_run.specs.declared.{options.LineForm.LineForm, options.LineForm.TheVariants.Plain, tally.Tally.Tally}
 use Rattle.fbcheck_serve.specs.declared.{stop.Ending.Ending, inputs.Course.Course, stop.Ending.TheVariants.Helped}
-use Rattle.fbcheck_serve.specs.declared.{stop.Stop.Stop, stop.Sums.Sums}
-use Rattle.fbcheck_serve.specs.declared.stop.Stop.TheVariants as stop
+use Rattle.fbcheck_serve.specs.declared.{stop.EarlyEnd.EarlyEnd, stop.Sums.Sums}
+use Rattle.fbcheck_serve.specs.declared.stop.EarlyEnd.TheVariants as stop
 
 module _ (folder : Folder) where
   -- what holds by the settings, and by what a read of the file of the words gave
-  pub holds_given : (given : List Text) (settings : Settings) (file : Option (Bor (List ℕ))) (bytes : Option (List ℕ)) (Holds : Option (Bor (List ℕ)) → Settings → Type 0)
+  holds_given : (given : List Text) (settings : Settings) (file : Option (Bor (List ℕ))) (bytes : Option (List ℕ)) (Holds : Option (Bor (List ℕ)) → Settings → Type 0)
       → AreGiven given settings → lent_bytes file ≡ bytes → IsFile folder.gives (option_map string_bytes settings.schema) bytes → Holds file settings → HoldsAsGiven folder given Holds
   holds_given given settings file bytes Holds are lent is holds = record {
     settings = settings;
@@ -60,11 +59,18 @@ module _ (folder : Folder) where
   prompt_among file settings names before now are (job, asks, rejects, rejects', (headed, head, among)) = (Some names, job, are, asks, rejects, rejects', headed, head, among)
 
   -- the words could be read
-  pub prompt_read : {A B : Type 0} (given : Result (Vec (String A) B) WordsFault) (words : Vec (String A) B) (slice : List (String A)) (before now : Ends)
+  prompt_read : {A B : Type 0} (given : Result (Vec (String A) B) WordsFault) (words : Vec (String A) B) (slice : List (String A)) (before now : Ends)
       → given ≡ Ok words → slice ≡ vec_items words → IsPromptAsGiven folder (Ok (map string_bytes slice)) before now → IsPromptAsGiven folder (words_of given) before now
   prompt_read {A} {B} given words slice before now is same prompt =
       subst (λ (g : Result (Vec (String A) B) WordsFault). IsPromptAsGiven folder (words_of g) before now) (sym is)
       (subst (λ (l : List (String A)). IsPromptAsGiven folder (Ok (map string_bytes l)) before now) same prompt)
+
+  -- by these settings of theirs
+  pub prompt_given : {A B : Type 0} (given : Result (Vec (String A) B) WordsFault) (words : Vec (String A) B) (slice : List (String A)) (before now : Ends) (settings : Settings) (file : Option (Bor (List ℕ)))
+      (bytes : Option (List ℕ)) → given ≡ Ok words → slice ≡ vec_items words → AreGiven (map string_bytes slice) settings → lent_bytes file ≡ bytes
+      → IsFile folder.gives (option_map string_bytes settings.schema) bytes → IsPromptOverAsked folder file settings before now → IsPromptAsGiven folder (words_of given) before now
+  prompt_given given words slice before now settings file bytes is same are lent file_is prompt =
+      prompt_read given words slice before now is same (holds_given (map string_bytes slice) settings file bytes _ are lent file_is prompt)
 
   -- the files of the settings may be read as those of the words that give them
   pub may_read : {A B : Type 0} (given : Result (Vec (String A) B) WordsFault) (words : Vec (String A) B) (slice : List (String A)) (before : Ends) (settings : Settings) (file : Option (Bor (List ℕ)))
@@ -78,7 +84,7 @@ module _ (folder : Folder) where
 
 module _ (maker : Maker) (folder : Folder) where
   -- the words give no settings, and no file was begun
-  pub comes_unserved : (given : List Text) (reader : Reader) (writer writer' notes : Writer) (cause : Option ErrorKind) (fault : SettingsFault) (outcome : Result Ending Stop)
+  pub comes_unserved : (given : List Text) (reader : Reader) (writer writer' notes : Writer) (cause : Option ErrorKind) (fault : SettingsFault) (outcome : Result Ending EarlyEnd)
       → Refuses given fault → Unserved fault writer writer' outcome
       → ComesBy maker folder given (with_cause (beside reader (record { writer = writer; notes = notes; rejects = nowhere })) cause) (with_cause (beside reader (record { writer = writer'; notes = notes; rejects = nowhere })) cause) None outcome
   comes_unserved given reader writer writer' notes cause fault (Ok Helped) refuses unserved = ((fault, refuses, Keeps-refl reader.left, unserved, Keeps-refl notes.bytes), refl)
@@ -88,7 +94,7 @@ module _ (maker : Maker) (folder : Folder) where
   comes_unserved given reader writer writer' notes cause fault _ refuses never = absurd never
 
   -- what the settings come to is what the words that give them do
-  pub comes_asked : (given : List Text) (before after : Seen) (sums : Option Sums) (outcome : Result Ending Stop)
+  comes_asked : (given : List Text) (before after : Seen) (sums : Option Sums) (outcome : Result Ending EarlyEnd)
       → HoldsAsGiven folder given (λ file settings. ComesAsAsked maker folder file settings before after sums outcome) → ComesBy maker folder given before after sums outcome
   comes_asked given before after sums (Ok Helped) never = absurd never.holds
   comes_asked given before after sums (Err (stop.Usage text)) never = absurd never.holds.0
@@ -99,9 +105,9 @@ module _ (maker : Maker) (folder : Folder) where
   comes_asked given before after sums (Err (stop.File fault hint)) never = absurd never.holds.0
   comes_asked given before after sums _ holds = holds
 
-  module _ (file : Option (Bor (List ℕ))) (settings : Settings) (before after : Seen) (sums : Option Sums) (outcome : Result Ending Stop) where
+  module _ (file : Option (Bor (List ℕ))) (settings : Settings) (before after : Seen) (sums : Option Sums) (outcome : Result Ending EarlyEnd) where
     -- the program ends by the end of the run, or of the files
-    comes_ended : (manner : Manner) (cause : Option ErrorKind) (tally : Tally) (end : End) → manner.most_bad ≡ settings.most_bad → outcome ≡ run_ending manner cause tally end
+    comes_ended : (manner : Manner) (cause : Option ErrorKind) (tally : Tally) (end : End) → manner.most_bad ≡ settings.terms.most_bad → outcome ≡ run_ending manner cause tally end
         → ChecksAsAsked maker file settings before.ends after.ends sums tally end → ComesAsAsked maker folder file settings before after sums outcome
     comes_ended manner cause tally (Ok done) bound is checks = rw is (checks, bound)
     comes_ended manner cause tally (Err (run.RejectFault written)) bound is checks = rw is (inl (tally, checks))
@@ -126,11 +132,19 @@ module _ (maker : Maker) (folder : Folder) where
     comes_files names (Err (unbegun.Unmade cause)) are served (told, is) = rw is (served.0, served.1, told)
 
   -- the words could be read
-  pub comes_read : {A B : Type 0} (given : Result (Vec (String A) B) WordsFault) (words : Vec (String A) B) (slice : List (String A)) (before after : Seen) (sums : Option Sums) (outcome : Result Ending Stop)
+  pub comes_read : {A B : Type 0} (given : Result (Vec (String A) B) WordsFault) (words : Vec (String A) B) (slice : List (String A)) (before after : Seen) (sums : Option Sums) (outcome : Result Ending EarlyEnd)
       → given ≡ Ok words → slice ≡ vec_items words → ComesBy maker folder (map string_bytes slice) before after sums outcome → ComesTo maker folder (words_of given) before after sums outcome
   comes_read {A} {B} given words slice before after sums outcome is same comes =
       subst (λ (g : Result (Vec (String A) B) WordsFault). ComesTo maker folder (words_of g) before after sums outcome) (sym is)
       (subst (λ (l : List (String A)). ComesBy maker folder (map string_bytes l) before after sums outcome) same comes)
+
+  -- and give these settings
+  pub comes_given : {A B : Type 0} (given : Result (Vec (String A) B) WordsFault) (words : Vec (String A) B) (slice : List (String A)) (before after : Seen) (sums : Option Sums) (outcome : Result Ending EarlyEnd)
+      (settings : Settings) (file : Option (Bor (List ℕ))) (bytes : Option (List ℕ)) → given ≡ Ok words → slice ≡ vec_items words → AreGiven (map string_bytes slice) settings → lent_bytes file ≡ bytes
+      → IsFile folder.gives (option_map string_bytes settings.schema) bytes → ComesAsAsked maker folder file settings before after sums outcome → ComesTo maker folder (words_of given) before after sums outcome
+  comes_given given words slice before after sums outcome settings file bytes is same are lent file_is comes =
+      comes_read given words slice before after sums outcome is same
+      (comes_asked (map string_bytes slice) before after sums outcome (holds_given folder (map string_bytes slice) settings file bytes _ are lent file_is comes))
 
 -- whether files are named, by how many there are
 pub none_named : {Z : Type 0} (files slice : List (String Z)) (empty : Bool) → slice ≡ files → empty ≡ (length slice == 0) → empty ≡ true → map string_bytes files ≡ []
@@ -157,44 +171,47 @@ pub named_by_list : (gives : List ℕ → Result (List ℕ) FileFault → Type 0
 named_by_list gives settings names name list listed is are = rw listed (list, is, ap (λ l. Some l) are)
 
 -- there are no names
-pub listless : (gives : List ℕ → Result (List ℕ) FileFault → Type 0) (settings : Settings) (name : List ℕ) (fault : FileFault) (hint : Result (List ℕ) AllocError) (cause : Stop)
-    → option_map string_bytes settings.names_file ≡ Some name → HasListFault gives name fault → cause ≡ hinted_stop (stop.List fault) hint → IsNameless gives settings cause
-listless gives settings name fault (Ok hint) cause listed has is = rw is (name, listed, has)
-listless gives settings name fault (Err none) cause listed has is = rw is tt
+pub listless : (gives : List ℕ → Result (List ℕ) FileFault → Type 0) (settings : Settings) (name : List ℕ) (fault : FileFault) (hint : List ℕ)
+    → option_map string_bytes settings.names_file ≡ Some name → HasListFault gives name fault → IsNameless gives settings (stop.List fault hint)
+listless gives settings name fault hint listed has = (name, listed, has)
 
 -- the words or the schema file couldn't be read, or the words give no settings
-pub early : (before after : Ends) (outcome : Result Ending Stop) → EndsSo before after 4294967296 outcome → after.reader ≡ before.reader → Rests before after None outcome
+pub early : (before after : Ends) (outcome : Result Ending EarlyEnd) → EndsSo before after 4294967296 outcome → after.reader ≡ before.reader → Rests before after None outcome
 early before after outcome ends same = record { places = tt; ends = ends; turns = rw same (omega arith) }
 
 -- so none is begun
-pub nameless : (maker : Maker) (folder : Folder) (file : Option (Bor (List ℕ))) (settings : Settings) (seen : Seen) (cause : Stop) → IsNameless folder.gives settings cause
+pub nameless : (maker : Maker) (folder : Folder) (file : Option (Bor (List ℕ))) (settings : Settings) (seen : Seen) (cause : EarlyEnd) → IsNameless folder.gives settings cause
     → ComesAsAsked maker folder file settings seen seen None (Err cause) × Rests seen.ends seen.ends None (Err cause)
 nameless maker folder file settings seen (stop.List fault hint) is = ((is, idle seen.ends, refl), early seen.ends seen.ends _ (refl, refl, refl, refl) refl)
 nameless maker folder file settings seen (stop.Settings refusal.OutOfMemory) is = ((is, idle seen.ends, refl), early seen.ends seen.ends _ (refl, refl, refl, refl) refl)
 nameless maker folder file settings seen _ never = absurd never
 
 -- a summary was noted whole, or in part
-pub sums_noted : (sums : Option Sums) (told : Sums) (before after : Writer) (outcome : Result Ending Stop) (line : List ℕ) (written : ℕ)
+pub sums_noted : (sums : Option Sums) (told : Sums) (before after : Writer) (outcome : Result Ending EarlyEnd) (line : List ℕ) (written : ℕ)
     → sums ≡ Some told → line ≡ summary_in told.form told.tally → written ≡ length line → Appends before.bytes after.bytes (take written line) → after.failures ≡ before.failures
     → SumsUp sums before after outcome outcome
 sums_noted sums told before after outcome line written some is all wrote same =
     subst (λ (o : Option Sums). SumsUp o before after outcome outcome) (sym some)
     (inl (subst (Appends before.bytes after.bytes) (ap (λ (m : ℕ). take m line) all ∙ take-length line ∙ is) wrote, same, refl))
 
-pub wordless : {A B : Type 0} (maker : Maker) (folder : Folder) (given : Result (Vec (String A) B) WordsFault) (seen : Seen) (fault : WordsFault) (hint : Result (List ℕ) AllocError) (cause : Stop)
-    → given ≡ Err fault → cause ≡ hinted_stop (stop.Words fault) hint
-    → ComesTo maker folder (words_of given) seen seen None (Err cause) × Rests seen.ends seen.ends None (Err cause)
-wordless maker folder given seen fault (Ok hint) cause is so =
-    rw (is, so) ((refl, idle seen.ends, refl), early seen.ends seen.ends _ (refl, refl, refl, refl) refl)
-wordless maker folder given seen fault (Err none) cause is so = rw (is, so) ((idle seen.ends, refl), early seen.ends seen.ends _ (refl, refl, refl, refl) refl)
+-- the words or the schema file couldn't be read, and there is a hint behind that, or no memory for it
+module _ {A B : Type 0} (maker : Maker) (folder : Folder) (given : Result (Vec (String A) B) WordsFault) (seen : Seen) (fault : WordsFault) (is : given ≡ Err fault) where
+  pub wordless : (hint : List ℕ) → ComesTo maker folder (words_of given) seen seen None (Err (stop.Words fault hint)) × Rests seen.ends seen.ends None (Err (stop.Words fault hint))
+  wordless hint = rw is ((refl, idle seen.ends, refl), early seen.ends seen.ends _ (refl, refl, refl, refl) refl)
 
-pub fileless : (maker : Maker) (folder : Folder) (given : List Text) (seen : Seen) (fault : FileFault) (hint : Result (List ℕ) AllocError) (name : Option Text) (cause : Stop)
-    → fault_of program given ≡ [] → name ≡ text_of (codes "schema") given → cause ≡ hinted_stop (stop.File fault) hint → HasFileFault folder.gives name fault
-    → ComesBy maker folder given seen seen None (Err cause) × Rests seen.ends seen.ends None (Err cause)
-fileless maker folder given seen fault (Ok hint) name cause read is so has =
-    rw so ((read, subst (λ (t : Option Text). HasFileFault folder.gives t fault) is has, idle seen.ends, refl), early seen.ends seen.ends _ (refl, refl, refl, refl) refl)
-fileless maker folder given seen fault (Err none) name cause read is so has =
-    rw so (((refusal.OutOfMemory, tt, Keeps-refl seen.ends.reader.left, Keeps-refl seen.ends.outs.writer.bytes, Keeps-refl seen.ends.outs.notes.bytes), refl), early seen.ends seen.ends _ (refl, refl, refl, refl) refl)
+  pub wordless_hintless : ComesTo maker folder (words_of given) seen seen None (Err (stop.Settings refusal.OutOfMemory)) × Rests seen.ends seen.ends None (Err (stop.Settings refusal.OutOfMemory))
+  wordless_hintless = rw is ((idle seen.ends, refl), early seen.ends seen.ends _ (refl, refl, refl, refl) refl)
+
+module _ (maker : Maker) (folder : Folder) (given : List Text) (seen : Seen) where
+  pub fileless : (fault : FileFault) (hint : List ℕ) (name : Option Text) → fault_of program given ≡ [] → name ≡ text_of (codes "schema") (values_of given) → HasFileFault folder.gives name fault
+      → ComesBy maker folder given seen seen None (Err (stop.File fault hint)) × Rests seen.ends seen.ends None (Err (stop.File fault hint))
+  fileless fault hint name read is has =
+      ((read, subst (λ (t : Option Text). HasFileFault folder.gives t fault) is has, idle seen.ends, refl), early seen.ends seen.ends _ (refl, refl, refl, refl) refl)
+
+  pub hintless : ComesBy maker folder given seen seen None (Err (stop.Settings refusal.OutOfMemory)) × Rests seen.ends seen.ends None (Err (stop.Settings refusal.OutOfMemory))
+  hintless =
+      let idles = idle seen.ends in
+      (((refusal.OutOfMemory, tt, idles.0, idles.1.0, idles.1.1), refl), early seen.ends seen.ends _ (refl, refl, refl, refl) refl)
 
 -- the numbers to be told have a place for each kind of fault
 summed_places : (told : Sums) (asked : Bool) → length told.tally.reasons ≡ reason_count → IfSome (if asked then Some told else None) (λ (sums : Sums). length sums.tally.reasons ≡ reason_count)
@@ -208,7 +225,7 @@ same_ends s k n (Ok done) r r' w w' m m' a b c = tt
 same_ends s k n (Err none) r r' w w' m m' a b c = rw (a, b, c) refl
 
 module _ (settings : Settings) (before after : Ends) (turns : after.reader.calls ≤ before.reader.calls + 4294967296) where
-  rests_by : (tally : Tally) (outcome : Result Ending Stop) → length tally.reasons ≡ reason_count → EndsSo before after 4294967296 outcome
+  rests_by : (tally : Tally) (outcome : Result Ending EarlyEnd) → length tally.reasons ≡ reason_count → EndsSo before after 4294967296 outcome
       → Rests before after (summed settings tally) outcome
   rests_by tally outcome are ends = record { places = summed_places _ settings.summary are; ends = ends; turns = turns }
 
@@ -231,7 +248,7 @@ module _ (settings : Settings) (before after : Ends) (turns : after.reader.calls
     run_rests_so manner cause tally (Err (run.Stream (stream.Truncated held))) rejects rejects' are ends = rests_by tally _ are ((ends.0.0, ends.0.1, ends.0.2, alike), ends.1)
     run_rests_so manner cause tally (Err (run.Stream fault)) rejects rejects' are ends = rests_by tally _ are (ends.0, ends.1, ends.2, alike)
 
-    pub run_rests : (maker : Maker) (file : Option (Bor (List ℕ))) (ran : Result (check.Kept Ran) Unbegun) (sums : Option Sums) (outcome : Result Ending Stop)
+    pub run_rests : (maker : Maker) (file : Option (Bor (List ℕ))) (ran : Result (check.Kept Ran) Unbegun) (sums : Option Sums) (outcome : Result Ending EarlyEnd)
         → IsCheckedKeeping maker file settings before after ran → EndsRun settings ran sums outcome
         → IfOk ran (λ kept. length kept.what.tally.reasons ≡ reason_count) → OnErr ran (after ≡ before) → Rests before after sums outcome
     run_rests maker file (Ok kept) sums outcome (rejects, rejects', are_kept, (ran, ends)) (told, manner, bound, is) are same =
@@ -244,18 +261,18 @@ module _ (settings : Settings) (before after : Ends) (turns : after.reader.calls
   files_rests_so by cause course (Err (run.RejectFault written)) are = rests_by course.tally _ are tt
   files_rests_so by cause course (Err fault) are = rests_by course.tally _ are tt
 
-  pub files_rests : (passed : Result (check.Kept inputs.Passed) Unbegun) (sums : Option Sums) (outcome : Result Ending Stop) → EndsFiles settings passed sums outcome
+  pub files_rests : (passed : Result (check.Kept inputs.Passed) Unbegun) (sums : Option Sums) (outcome : Result Ending EarlyEnd) → EndsFiles settings passed sums outcome
       → IfOk passed (λ kept. length kept.what.course.tally.reasons ≡ reason_count) → OnErr passed (after ≡ before) → Rests before after sums outcome
   files_rests (Ok kept) sums outcome (told, by, is) are same = rw (told, is) (files_rests_so by kept.cause kept.what.course kept.what.end are)
   files_rests (Err fault) sums outcome (told, is) are same = rw (told, is) (unbegun_rests fault same)
 
 -- faults are told in the form of lines, whether the program ended by settings or not
-pub told_as_lines : (set : Bool) (given : List Text) (form : Form) → IsFormOf given form → TellsIn set given form
+pub told_as_lines : (set : Bool) (given : List Text) (form : LineForm) → IsFormOf given form → TellsIn set given form
 told_as_lines true given form is = is
 told_as_lines false given form is = inl is
 
 -- and plainly where it ended without settings
-pub told_plainly : (fault : SettingsFault) (before after : Writer) (outcome : Result Ending Stop) (given : List Text) (form : Form) → Unserved fault before after outcome → form ≡ Plain
+pub told_plainly : (fault : SettingsFault) (before after : Writer) (outcome : Result Ending EarlyEnd) (given : List Text) (form : LineForm) → Unserved fault before after outcome → form ≡ Plain
     → TellsIn (is_set outcome) given form
 told_plainly fault before after (Ok Helped) given form unserved plain = inr plain
 told_plainly fault before after (Err (stop.Usage text)) given form unserved plain = inr plain
@@ -263,7 +280,7 @@ told_plainly fault before after (Err (stop.Settings why)) given form unserved pl
 told_plainly fault before after (Err (stop.CutOff written)) given form unserved plain = inr plain
 told_plainly fault before after _ given form never plain = absurd never
 
-pub told_read : {A B : Type 0} (given : Result (Vec (String A) B) WordsFault) (words : Vec (String A) B) (slice : List (String A)) (outcome : Result Ending Stop) (form : Form)
+pub told_read : {A B : Type 0} (given : Result (Vec (String A) B) WordsFault) (words : Vec (String A) B) (slice : List (String A)) (outcome : Result Ending EarlyEnd) (form : LineForm)
     → given ≡ Ok words → slice ≡ vec_items words → TellsIn (is_set outcome) (map string_bytes slice) form → TellsAsGiven (words_of given) outcome form
 told_read {A} {B} given words slice outcome form is same tells =
     subst (λ (g : Result (Vec (String A) B) WordsFault). TellsAsGiven (words_of g) outcome form) (sym is)

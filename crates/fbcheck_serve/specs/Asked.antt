@@ -1,7 +1,6 @@
 -- What the settings ask, by a schema that has a root table of its own, or none.
 use Rattle.std.specs.Prelude.{◌≡◌, ℕ, ◌&&◌, ◌||◌, not, Bool, IsTrue, true, false, List, Option, Some, None, Result, Ok, Err, Vec, option_map, map, string_bytes, [], ◌∷◌, ◌⊎◌, codes, if◌then◌else◌}
 use Rattle.std.specs.{Borrow.Bor, Global.Global, List.AllZip}
-use Rattle.fb_bytes.specs.declared.cut.Endian.TheVariants.{Little, Big}
 use Rattle.fb_schema.specs.Rows.{Rows, table_named}
 use Rattle.fb_access.specs.declared.{step.Step.Step, path_fault.PathFault.PathFault}
 use Rattle.fb_access.specs.Resolving.{Resolves, IsFault}
@@ -10,15 +9,10 @@ use Rattle.fb_bfbs.specs.LoadLaws.{own_ident}
 use Rattle.fb_strict.specs.declared.demands.Demands.{Demands}
 use Rattle.fb_bfbs.specs.Marks.{Marked}
 use Rattle.fb_strict.specs.{Demanded.Demanded, Demanded.demanded as holding, Holding.holdings_if, Planned.IsPlan, Planned.Planned}
-use Rattle.fb_lines.specs.{Job.Job, Job.job_of, Wanted.Wanted}
-use Rattle.fbcheck_words.specs.declared.choices.Form as asked
-use Rattle.fbcheck_words.specs.declared.choices.Form.TheVariants as words
+use Rattle.fb_run.specs.{Job.Job, Job.job_of, Wanted.Wanted}
 use Rattle.fbcheck_words.specs.declared.choices.Settings.{Settings}
-use Rattle.fb_lines.specs.declared.{options.Form.Form, options.Form.TheVariants.Plain, options.Form.TheVariants.Json, options.Mode.Mode}
-use Rattle.fb_lines.specs.declared.options.Mode.TheVariants.{Lines, BadLines, Filter, Csv}
-use Rattle.fb_lines.specs.declared.{options.Places.Places, options.Places.TheVariants.Numbers, options.Places.TheVariants.Words, options.Prefix.Prefix}
-use Rattle.fb_lines.specs.declared.{options.Prefix.TheVariants.Part, options.Prefix.TheVariants.Apart, options.Rejects.Rejects, options.Options.Options}
-use Rattle.fb_lines.specs.declared.options.Rejects.TheVariants.{Dropped, Kept}
+use Rattle.fb_run.specs.declared.{options.Rejects.Rejects, options.Options.Options}
+use Rattle.fb_run.specs.declared.options.Rejects.TheVariants.{Dropped, Kept}
 use Rattle.fbcheck_texts.specs.declared.fault.AskFault.{AskFault}
 use Rattle.fbcheck_serve.specs.{FileMarks.ArePlanMarks, Inputs.label_of, Inputs.with_label}
 use Rattle.fbcheck_texts.specs.declared.fault.AskFault.TheVariants.{Path, NoRoot, NoIdent, UnmarkedBytes, NoSuchTable, OutOfMemory}
@@ -64,31 +58,6 @@ ident_of (Some bytes) = Want bytes
 abbrev pub asked_ident : Own → Settings → Option Ident
 asked_ident own settings = if settings.schema_ident then own_ident own.ident else Some (ident_of settings.ident)
 
--- what is told of the buffers, by whether rows are asked for, whether they are filtered and whether there are no lines
--- of good ones
-abbrev pub mode_of : Bool → Bool → Bool → Mode
-mode_of true filter quiet = Csv
-mode_of false true quiet = Filter
-mode_of false false true = BadLines
-mode_of false false false = Lines
-
--- how lines are written
-abbrev pub form_of : asked.Form → Form
-form_of words.Plain = Plain
-form_of words.Json = Json
-
--- how the places of faults are told, by whether words are asked for; lines of JSON always tell them in words
-abbrev pub places_of : Bool → asked.Form → Places
-places_of true form = Words
-places_of false words.Json = Words
-places_of false words.Plain = Numbers
-
--- what a message's prefix is, by whether messages are delimited, and whether they are by big-endian lengths
-abbrev pub prefix_of : Bool → Bool → Prefix
-prefix_of true turned = Apart Little
-prefix_of false true = Apart Big
-prefix_of false false = Part
-
 -- whether bad buffers are kept, by whether a file for them is named
 abbrev pub rejects_of : {A : Type 0} → Option A → Rejects
 rejects_of None = Dropped
@@ -100,20 +69,9 @@ options_of settings root paths ident plan = record {
   root = root;
   ident = ident;
   paths = paths;
-  limits = settings.limits;
-  reads_per_byte = settings.reads_per_byte;
-  max_bytes = settings.max_bytes;
-  skip = settings.skip;
-  most_messages = settings.most_messages;
-  most_bad = settings.most_bad;
-  bare = settings.bare;
-  prefix = prefix_of settings.delimited settings.delimited_be;
-  checks = settings.checks;
+  terms = settings.terms;
   rejects = rejects_of settings.rejects;
-  mode = mode_of settings.csv settings.filter settings.quiet;
-  names = places_of settings.names settings.form;
   label = None;
-  form = form_of settings.form;
   plan = plan;
 }
 

@@ -2,15 +2,15 @@
 use Rattle.std.specs.Global.{Global}
 use Rattle.std.specs.Prelude.{◌≡◌, ℕ, true, false, Some, None, Vec, codes}
 use Rattle.std.specs.declared.io.ErrorKind.TheVariants as kind
-use Rattle.fb_lines.specs.Sums.{no_tally}
-use Rattle.fb_lines.specs.declared.fault.RunFault.TheVariants as run
+use Rattle.fb_run.specs.Sums.{no_tally}
+use Rattle.fb_run.specs.declared.fault.RunFault.TheVariants as run
 use Rattle.fbcheck_words.specs.declared.choices.SettingsFault.TheVariants as refusal
 use Rattle.fbcheck_texts.specs.{Texts.file_text, Texts.of_read, Texts.words_text}
 use Rattle.fbcheck_texts.specs.declared.fault.FileFault.TheVariants as file
 use Rattle.fbcheck_texts.specs.declared.fault.WordsFault.TheVariants as words
 use Rattle.fbcheck_texts.specs.declared.{framing.By.TheVariants.Named, framing.Framing.TheVariants.Prefixed}
 use Rattle.fbcheck_serve.specs.Serving.{is_quiet, stop_text}
-use Rattle.fbcheck_serve.specs.declared.stop.Stop.TheVariants as stop
+use Rattle.fbcheck_serve.specs.declared.stop.EarlyEnd.TheVariants as stop
 
 -- why it comes to rest
 pub record StopTexts : Type 0 where

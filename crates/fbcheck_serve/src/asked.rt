@@ -3,29 +3,29 @@
 ghost use Rattle.std.specs.Prelude.{ℕ, Option, IfOk, IfErr, IfSome, IsTrue, Ok, ◌≡◌, length, map, option_map, string_bytes};
 ghost use Rattle.fb_schema.specs.Rows.{is_table};
 ghost use Rattle.fb_bfbs.specs.LoadLaws.{ident_bytes};
-ghost use Rattle.fbcheck_serve.specs.Asked.{ArePaths, IsPath, PathFails, asked_ident, form_of, ident_of, mode_of, options_of, places_of, prefix_of, rejects_of, root_of};
-ghost use Rattle.fbcheck_serve.specs.Checking.{Asks, IsPathless, IsSchema, LacksJob, LacksSchema, own_of};
+ghost use Rattle.fbcheck_serve.specs.Asked.{ArePaths, IsPath, PathFails, asked_ident, ident_of, options_of, rejects_of, root_of};
+ghost use Rattle.fbcheck_serve.specs.{Checking.Asks, Checking.IsPathless, Checking.IsSchema, Checking.LacksJob, Checking.LacksSchema, Checking.own_of, Heads.head_of};
 ghost use Rattle.fbcheck_words.specs.Ranges.{AreInRange};
 ghost use Rattle.fbcheck_words.specs.declared.choices.Settings.{Settings};
-ghost use Rattle.fb_lines.specs.Job.{PathsFit, Serves, job_of};
+ghost use Rattle.fb_run.specs.Job.{PathsFit, Serves, job_of};
 ghost use Rattle.fb_access.specs.Fitting.{StepsFit};
 ghost use Rattle.fb_schema.specs.declared.kinds.Kind.TheVariants.{Table};
 
+use crate::head::head_of;
 use crate::inputs::label;
 use crate::limits::schema_limits;
-use crate::names::STANDARD;
+use crate::names::{Name, STANDARD};
 use crate::strict::plan_of;
 use fb_access::Path;
 use fb_bfbs::{Loaded, load, own_ident, reflection};
-use fb_bytes::Endian;
-use fb_run::{AskedPath, Form, Mode, Options, Places, Prefix, Rejects};
+use fb_run::{AskedPath, Options, Rejects};
 use fb_schema::Schema;
 use fb_strict::Plan;
 use fb_verify::Ident;
 use fbcheck_texts::fault::AskFault;
 use fbcheck_texts::framing::{By, Framing, Manner};
 use fbcheck_texts::hint::{Unasked, path_hint, root_hint, schema_hint};
-use fbcheck_words::{Form as AskedForm, Settings};
+use fbcheck_words::Settings;
 use std::alloc::Global;
 
 /// The number of the table `reflection.Schema` in the fixed table (reflection.fbs).
@@ -131,21 +131,6 @@ fn find_ident(settings: &Settings, own: Option<&[u8]>) -> Option<Ident>
     }
 }
 
-/// What is told of the buffers.
-fn mode(settings: &Settings) -> Mode
-    ensures { result ≡ mode_of settings.now.csv settings.now.filter settings.now.quiet }
-{
-    if settings.csv {
-        Mode::Csv
-    } else if settings.filter {
-        Mode::Filter
-    } else if settings.quiet {
-        Mode::BadLines
-    } else {
-        Mode::Lines
-    }
-}
-
 /// Whether bad buffers are kept.
 fn rejects(settings: &Settings) -> Rejects
     ensures { result ≡ rejects_of settings.now.rejects }
@@ -154,44 +139,6 @@ fn rejects(settings: &Settings) -> Rejects
         Some(_) => Rejects::Kept,
         None => Rejects::Dropped,
     }
-}
-
-/// How lines are written.
-pub fn form(settings: &Settings) -> Form
-    ensures { result ≡ form_of settings.now.form }
-{
-    match settings.form {
-        AskedForm::Plain => Form::Plain,
-        AskedForm::Json => Form::Json,
-    }
-}
-
-/// How the places of faults are told: lines of JSON always tell them in words.
-fn places(settings: &Settings) -> Places
-    ensures { result ≡ places_of settings.now.names settings.now.form }
-{
-    match settings.form {
-        AskedForm::Plain if !settings.names => Places::Numbers,
-        _ => Places::Words,
-    }
-}
-
-/// What a message's prefix is.
-fn prefix(settings: &Settings) -> Prefix
-    ensures { result ≡ prefix_of settings.now.delimited settings.now.delimited_be }
-{
-    if settings.delimited {
-        Prefix::Apart(Endian::Little)
-    } else if settings.delimited_be {
-        Prefix::Apart(Endian::Big)
-    } else {
-        Prefix::Part
-    }
-}
-
-/// How messages stand in an input.
-fn framing(settings: &Settings) -> Framing {
-    Framing::of(settings.bare, prefix(settings))
 }
 
 /// By what buffers are checked.
@@ -204,12 +151,12 @@ pub fn by(settings: &Settings) -> By {
 
 /// In which manner an input is checked.
 pub fn manner(settings: &Settings) -> Manner
-    ensures { result.most_bad ≡ settings.now.most_bad }
+    ensures { result.most_bad ≡ settings.now.terms.most_bad }
 {
     Manner {
-        framing: framing(settings),
+        framing: Framing::of(settings.terms.bare, settings.terms.prefix),
         by: by(settings),
-        most_bad: settings.most_bad,
+        most_bad: settings.terms.most_bad,
     }
 }
 
@@ -228,20 +175,9 @@ fn options(
         root,
         ident,
         paths,
-        limits: settings.limits,
-        reads_per_byte: settings.reads_per_byte,
-        max_bytes: settings.max_bytes,
-        skip: settings.skip,
-        most_messages: settings.most_messages,
-        most_bad: settings.most_bad,
-        bare: settings.bare,
-        prefix: prefix(settings),
-        checks: settings.checks,
-        mode: mode(settings),
+        terms: settings.terms,
         rejects: rejects(settings),
-        names: places(settings),
         label,
-        form: form(settings),
         plan,
     }
 }
@@ -262,15 +198,16 @@ fn schemaless(alloc: Global, fault: AskFault, file: Option<&[u8]>, settings: &Se
     }
 }
 
-/// What a run is asked: a schema, and how buffers are checked by it.
+/// What a run is asked: a schema, how buffers are checked by it, and what is written above all else.
 #[derive(Drop)]
 pub struct Asked<'b> {
     pub schema: Schema<'b>,
     pub options: Options,
+    pub head: Vec<u8>,
 }
 
-/// What a schema file, or none, and the settings ask. The root is the table of the settings' name, or else that of the
-/// schema file, or `reflection.Schema` without one.
+/// What a schema file, or none, and the settings ask, over the files of these names. The root is the table of the
+/// settings' name, or else that of the schema file, or `reflection.Schema` without one.
 ///
 /// # Errors
 ///
@@ -284,10 +221,12 @@ pub fn asked_of<'b>(
     alloc: Global,
     schema_bytes: Option<&'b [u8]>,
     settings: &Settings,
+    names: &[Name],
 ) -> Result<Asked<'b>, Unasked>
     requires { AreInRange settings.now }
     ensures job { IfOk result (λ asked. Asks schema_bytes.entry settings.now (Ok (job_of asked.schema asked.options))) }
     ensures serves { IfOk result (λ asked. Serves asked.schema asked.options) }
+    ensures head { IfOk result (λ asked. asked.head.items ≡ head_of (job_of asked.schema asked.options) names.now) }
     ensures none { IfErr result (λ unasked. LacksJob schema_bytes.entry settings.now unasked.fault) }
 {
     let Loaded {
@@ -311,5 +250,10 @@ pub fn asked_of<'b>(
         return Err(Unasked::plain(AskFault::OutOfMemory));
     };
     let options = options(settings, root, paths, ident, plan, label);
-    Ok(Asked { schema, options })
+    let head = head_of(alloc, &options, names)?;
+    Ok(Asked {
+        schema,
+        options,
+        head,
+    })
 }

@@ -2,10 +2,7 @@
 
 ghost use Rattle.std.specs.Prelude.{Err, IfOk, IfSome, OnErr, OnOk, true, false, ◌≡◌, ◌≢◌, ◌⊎◌, ◌+◌, ◌<◌, ◌≤◌, ◌^◌, length, map, option_map, string_bytes, vec_items};
 ghost use Rattle.fb_rules.specs.Reasons.{reason_count};
-ghost use Rattle.fb_lines.specs.Ends.{all_outs, writer_of};
-ghost use Rattle.fb_run.specs.Leave.{HasLeave, all_ends};
-ghost use Rattle.fb_lines.specs.{Job.Serves, Job.job_of};
-ghost use Rattle.fb_run.specs.Prompt.{IsPrompt};
+ghost use Rattle.fb_run.specs.{Ends.all_outs, Ends.writer_of, Job.Serves, Job.job_of, Leave.HasLeave, Leave.all_ends, Prompt.IsPrompt};
 ghost use Rattle.fbcheck_serve.specs.Inputs.{ComesOf, IsBehind, IsBehindEnd, IsBehindRun, IsFaultLine, IsHintLine, IsStopOf, IsPromptAmong, MayRead, MayReadEach, ServesEach, TellsFault};
 ghost use Rattle.fbcheck_serve.specs.Inputs.{Tries, at_first, course_with, fault_line, no_course, folder_of, is_final, all_seen, label_of, stand, standard_after, sum_of, sums, are_named};
 ghost use Rattle.fbcheck_serve.specs.Names.{is_standard};
@@ -17,7 +14,7 @@ use crate::names::{Misnomer, Name};
 use crate::stop::note;
 use fb_bytes::Sink;
 use fb_run::{
-    Form, Input, MOST_TURNS, Options, Ran, RunFault, Tally, push_all, put_bytes, run_keeping,
+    Input, LineForm, MOST_TURNS, Options, Ran, RunFault, Tally, push_all, put_bytes, run_keeping,
     status,
 };
 use fb_schema::Schema;
@@ -214,13 +211,13 @@ fn pass_file<F: Files<K, N>, S: Input<K, N> + Explains, K: Sink, N: Sink, R: Sin
         alloc, files, name, schema, options, standard, reader, writer, notes, rejects,
     );
     *course = course.with(name, &came.what);
-    let framing = Framing::of(options.bare, options.prefix);
+    let framing = Framing::of(options.terms.bare, options.terms.prefix);
     tell_behind(
         alloc,
-        options.form,
+        options.terms.form,
         name.bytes(),
         framing,
-        options.most_bad,
+        options.terms.most_bad,
         &came,
         notes,
     )
@@ -385,7 +382,7 @@ fn sums(some: &[u64; REASONS], more: &[u64; REASONS]) -> [u64; REASONS]
 /// Notes why a file wasn't checked to its end, where it wasn't; what ends it all is answered.
 fn tell_behind<N: Sink>(
     alloc: Global,
-    form: Form,
+    form: LineForm,
     name: &[u8],
     framing: Framing,
     most_bad: u64,
@@ -413,7 +410,7 @@ fn tell_behind<N: Sink>(
 /// The same behind a run; or what there is to be told of its end.
 fn tell_run<N: Sink>(
     alloc: Global,
-    form: Form,
+    form: LineForm,
     name: &[u8],
     framing: Framing,
     most_bad: u64,
@@ -440,7 +437,7 @@ fn tell_run<N: Sink>(
 /// left.
 fn tell_stop<N: Sink>(
     alloc: Global,
-    form: Form,
+    form: LineForm,
     name: &[u8],
     most_bad: u64,
     tally: &Tally,
@@ -461,7 +458,7 @@ fn tell_stop<N: Sink>(
 /// Notes what is told of an end, where there is something. What can't be written is left.
 fn tell_end<N: Sink>(
     alloc: Global,
-    form: Form,
+    form: LineForm,
     name: &[u8],
     hint: Option<&[u8]>,
     notes: &mut N,
@@ -491,7 +488,7 @@ fn is_final(fault: &RunFault) -> bool
 /// Notes why a file wasn't checked to its end, with what stands behind that.
 fn tell_fault<N: Sink>(
     alloc: Global,
-    form: Form,
+    form: LineForm,
     name: &[u8],
     why: &[u8],
     behind: &[u8],
@@ -512,7 +509,7 @@ fn tell_fault<N: Sink>(
 /// The line that tells it, by the form of lines. Where there is no memory for an object, it is the plain one.
 fn told_line(
     alloc: Global,
-    form: Form,
+    form: LineForm,
     name: &[u8],
     why: &[u8],
     behind: &[u8],
@@ -526,7 +523,7 @@ fn told_line(
 }
 
 /// The same of a hint.
-fn hint_line(alloc: Global, form: Form, name: &[u8], hint: &[u8]) -> Result<Vec<u8>, AllocError>
+fn hint_line(alloc: Global, form: LineForm, name: &[u8], hint: &[u8]) -> Result<Vec<u8>, AllocError>
     ensures { IfOk result (λ line. IsHintLine form name.now hint.now line.items) }
 {
     match hint_object(alloc, form, Some(name), hint) {

@@ -1,24 +1,21 @@
 //! What the program does, from its words to its exit status.
 
 ghost use Rattle.std.specs.Prelude.{IfErr, IfOk, Some, true, false, ◌≡◌, ◌+◌, ◌<◌, ◌≤◌, ◌^◌, ℕ, string_len};
-ghost use Rattle.fb_lines.specs.Ends.{Reader, Writer, beside, nowhere, writer_of};
-ghost use Rattle.fb_run.specs.Leave.{HasLeave, ends_of};
+ghost use Rattle.fb_run.specs.{Ends.Reader, Ends.Writer, Ends.beside, Ends.nowhere, Ends.writer_of, Leave.HasLeave, Leave.ends_of};
 ghost use Rattle.fbcheck_serve.specs.{Inputs.folder_of, Inputs.seen_of, Keeping.maker_of};
-ghost use Rattle.fbcheck_serve.specs.Checking.{IsPromptOverAsked, MayReadAsked};
 ghost use Rattle.fbcheck_serve.specs.Lists.{AreNamed};
-ghost use Rattle.fbcheck_serve.specs.Serving.{IsAlone, IsNameless, ComesAsAsked, ComesTo, EndsFiles, EndsRun, EndsSo};
+ghost use Rattle.fbcheck_serve.specs.Serving.{IsAlone, IsNameless, ComesTo, EndsFiles, EndsRun, EndsSo};
 ghost use Rattle.fbcheck_serve.specs.Serving.{IsPromptAsGiven, IsServed, MayReadAsGiven, Rests, TellsAsGiven, Unserved, summed, words_of};
-ghost use Rattle.fbcheck_words.specs.Ranges.{AreInRange};
 
-use crate::asked::{by, form, manner};
+use crate::asked::{by, manner};
 use crate::check::{Kept, Unbegun, check_files, check_keeping};
 use crate::files::{Files, Makes, read_list, read_schema};
 use crate::inputs::Passed;
 use crate::names::{Name, listed_names, word_names};
-use crate::stop::{Ending, Stop, Sums, exit_status, sum_up, tell};
+use crate::stop::{EarlyEnd, Ending, Sums, exit_status, sum_up, tell};
 use clap::Error;
 use fb_bytes::Sink;
-use fb_run::{Form, Input, MOST_TURNS, Ran, RunFault, Tally, push_all};
+use fb_run::{Input, LineForm, MOST_TURNS, Ran, RunFault, Tally, push_all};
 use fbcheck_texts::causes::{Causes, Explains};
 use fbcheck_texts::fault::WordsFault;
 use fbcheck_texts::hint::{file_hint, words_hint};
@@ -48,7 +45,7 @@ pub fn serve<F: Files<K, N> + Makes, S: Input<K, N> + Explains, K: Sink + Explai
     ensures turns { S.calls reader.new ≤ S.calls reader.old + MOST_TURNS }
 {
     let mut sums = None;
-    let mut form = Form::Plain;
+    let mut form = LineForm::Plain;
     let outcome = come_to(
         alloc, words, files, reader, writer, notes, &mut sums, &mut form,
     );
@@ -70,8 +67,8 @@ fn come_to<F: Files<K, N> + Makes, S: Input<K, N> + Explains, K: Sink, N: Sink>(
     writer: &mut K,
     notes: &mut N,
     sums: &mut Option<Sums>,
-    told: &mut Form,
-) -> Result<Ending, Stop>
+    told: &mut LineForm,
+) -> Result<Ending, EarlyEnd>
     requires few { S.calls reader.old < 2 ^ 64 }
     requires leave { HasLeave S.Input (ends_of S.Input K.Sink N.Sink reader.old writer.old notes.old)
         (IsPromptAsGiven (folder_of F.Files F.Opened.Input F.Opened.Explains files.now) (words_of words)) }
@@ -84,70 +81,43 @@ fn come_to<F: Files<K, N> + Makes, S: Input<K, N> + Explains, K: Sink, N: Sink>(
         × Rests (ends_of S.Input K.Sink N.Sink reader.old writer.old notes.old) (ends_of S.Input K.Sink N.Sink reader.new writer.new notes.new) sums.new result }
 {
     *sums = None;
-    *told = Form::Plain;
+    *told = LineForm::Plain;
     let words = match words {
         Ok(words) => words,
         Err(fault) => {
-            let hint = words_hint(alloc, &fault);
-            return Err(Stop::words(fault, hint));
+            let hint = words_hint(alloc, &fault)?;
+            return Err(EarlyEnd::Words(fault, hint));
         }
     };
     let settings = match settings(alloc, words.as_slice()) {
         Ok(settings) => settings,
         Err(fault) => return without_settings(alloc, fault, writer),
     };
-    *told = form(&settings);
-    match read_schema(files, &settings.schema) {
-        Ok(file) => {
-            let file = file.as_deref();
-            check_by(alloc, files, file, &settings, reader, writer, notes, sums)
-        }
+    *told = settings.terms.form;
+    let file = match read_schema(files, &settings.schema) {
+        Ok(file) => file,
         Err(fault) => {
-            let hint = file_hint(alloc, fault, &settings.schema);
-            Err(Stop::file(fault, hint))
+            let hint = file_hint(alloc, fault, &settings.schema)?;
+            return Err(EarlyEnd::File(fault, hint));
         }
+    };
+    let bytes = file.as_deref();
+    if is_alone(&settings) {
+        let ran = check_keeping(alloc, files, bytes, &settings, reader, writer, notes);
+        return run_ending(&settings, ran, sums);
     }
-}
-
-/// The same by what the words ask for, and by the bytes of the schema file that they name.
-fn check_by<F: Files<K, N> + Makes, S: Input<K, N> + Explains, K: Sink, N: Sink>(
-    alloc: Global,
-    files: &F,
-    file: Option<&[u8]>,
-    settings: &Settings,
-    reader: &mut S,
-    writer: &mut K,
-    notes: &mut N,
-    sums: &mut Option<Sums>,
-) -> Result<Ending, Stop>
-    requires ranges { AreInRange settings.now }
-    requires few { S.calls reader.old < 2 ^ 64 }
-    requires leave { HasLeave S.Input (ends_of S.Input K.Sink N.Sink reader.old writer.old notes.old)
-        (IsPromptOverAsked (folder_of F.Files F.Opened.Input F.Opened.Explains files.now) file settings.now) }
-    requires files { MayReadAsked (folder_of F.Files F.Opened.Input F.Opened.Explains files.now) file settings.now (ends_of S.Input K.Sink N.Sink reader.old writer.old notes.old) }
-
-    ensures { ComesAsAsked (maker_of F.Makes F.Made.Sink files.now) (folder_of F.Files F.Opened.Input F.Opened.Explains files.now) file.entry settings.now
-        (seen_of S.Input S.Explains K.Sink N.Sink reader.old writer.old notes.old)
-        (seen_of S.Input S.Explains K.Sink N.Sink reader.new writer.new notes.new) sums.new result
-        × Rests (ends_of S.Input K.Sink N.Sink reader.old writer.old notes.old) (ends_of S.Input K.Sink N.Sink reader.new writer.new notes.new) sums.new result }
-{
-    *sums = None;
-    if is_alone(settings) {
-        let ran = check_keeping(alloc, files, file, settings, reader, writer, notes);
-        return run_ending(settings, ran, sums);
-    }
-    let names = names_of(alloc, files, settings)?;
+    let names = names_of(alloc, files, &settings)?;
     let passed = check_files(
         alloc,
         files,
-        file,
-        settings,
+        bytes,
+        &settings,
         names.as_slice(),
         reader,
         writer,
         notes,
     );
-    files_ending(settings, passed, sums)
+    files_ending(&settings, passed, sums)
 }
 
 /// Whether the settings name no files, and no list of names: so standard input is all.
@@ -166,7 +136,7 @@ fn names_of<F: Files<K, N>, K: Sink, N: Sink>(
     alloc: Global,
     files: &F,
     settings: &Settings,
-) -> Result<Vec<Name>, Stop>
+) -> Result<Vec<Name>, EarlyEnd>
     requires some { IsAlone settings.now → ⊥ }
     ensures names { IfOk result (λ names. AreNamed (F.gives files.now) settings.now (Some names.items)) }
     ensures none { IfErr result (IsNameless (F.gives files.now) settings.now) }
@@ -177,8 +147,8 @@ fn names_of<F: Files<K, N>, K: Sink, N: Sink>(
     match read_list(files, list.as_str()) {
         Ok(bytes) => Ok(listed_names(alloc, bytes.as_slice())?),
         Err(fault) => {
-            let hint = file_hint(alloc, fault, &settings.names_file);
-            Err(Stop::list(fault, hint))
+            let hint = file_hint(alloc, fault, &settings.names_file)?;
+            Err(EarlyEnd::List(fault, hint))
         }
     }
 }
@@ -188,20 +158,20 @@ fn run_ending(
     settings: &Settings,
     ran: Result<Kept<Ran>, Unbegun>,
     sums: &mut Option<Sums>,
-) -> Result<Ending, Stop>
+) -> Result<Ending, EarlyEnd>
     ensures { EndsRun settings.now ran sums.new result }
 {
     *sums = None;
     let Kept { what: ran, cause } = match ran {
         Ok(kept) => kept,
-        Err(unbegun) => return Err(Stop::from(unbegun)),
+        Err(unbegun) => return Err(EarlyEnd::from(unbegun)),
     };
     *sums = summed(settings, ran.tally);
     let manner = manner(settings);
     match ran.end {
         Ok(()) => Ok(Ending::Checked(ran.tally, manner)),
-        Err(RunFault::RejectFault { written }) => Err(Stop::Unkept { written, cause }),
-        Err(fault) => Err(Stop::Run(fault, ran.tally, manner)),
+        Err(RunFault::RejectFault { written }) => Err(EarlyEnd::Unkept { written, cause }),
+        Err(fault) => Err(EarlyEnd::Run(fault, ran.tally, manner)),
     }
 }
 
@@ -210,7 +180,7 @@ fn files_ending(
     settings: &Settings,
     passed: Result<Kept<Passed>, Unbegun>,
     sums: &mut Option<Sums>,
-) -> Result<Ending, Stop>
+) -> Result<Ending, EarlyEnd>
     ensures { EndsFiles settings.now passed sums.new result }
 {
     *sums = None;
@@ -219,13 +189,13 @@ fn files_ending(
         cause,
     } = match passed {
         Ok(kept) => kept,
-        Err(unbegun) => return Err(Stop::from(unbegun)),
+        Err(unbegun) => return Err(EarlyEnd::from(unbegun)),
     };
     *sums = summed(settings, passed.course.tally);
     match passed.end {
         Ok(()) => Ok(Ending::Passed(passed.course, by(settings))),
-        Err(RunFault::RejectFault { written }) => Err(Stop::Unkept { written, cause }),
-        Err(fault) => Err(Stop::Halted(fault)),
+        Err(RunFault::RejectFault { written }) => Err(EarlyEnd::Unkept { written, cause }),
+        Err(fault) => Err(EarlyEnd::Halted(fault)),
     }
 }
 
@@ -236,8 +206,10 @@ fn summed(settings: &Settings, tally: Tally) -> Option<Sums>
     if !settings.summary {
         return None;
     }
-    let form = form(settings);
-    Some(Sums { form, tally })
+    Some(Sums {
+        form: settings.terms.form,
+        tally,
+    })
 }
 
 /// The text of an error of `clap`. No contract says that there is one: the program's name stands for it where not.
@@ -256,22 +228,22 @@ fn without_settings<K: Sink>(
     alloc: Global,
     fault: SettingsFault,
     writer: &mut K,
-) -> Result<Ending, Stop>
+) -> Result<Ending, EarlyEnd>
     ensures { Unserved fault (writer_of K.Sink writer.old) (writer_of K.Sink writer.new) result
         × ((reader : Reader) (notes : Writer) (turns : ℕ) → EndsSo (beside reader (record { writer = writer_of K.Sink writer.old; notes = notes; rejects = nowhere }))
         (beside reader (record { writer = writer_of K.Sink writer.new; notes = notes; rejects = nowhere })) turns result) }
 {
     let status = fault.status();
     let SettingsFault::Usage(error) = &fault else {
-        return Err(Stop::Settings(fault));
+        return Err(EarlyEnd::Settings(fault));
     };
     let text = text_of(alloc, error)?;
     if status != 0 {
-        return Err(Stop::Usage(text));
+        return Err(EarlyEnd::Usage(text));
     }
     let written = push_all(writer, text.as_bytes());
     if written < text.len() {
-        return Err(Stop::CutOff { written });
+        return Err(EarlyEnd::CutOff { written });
     }
     Ok(Ending::Helped)
 }

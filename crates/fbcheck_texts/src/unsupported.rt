@@ -3,7 +3,7 @@
 use fb_access::{Answer, Path, get};
 use fb_bfbs::reflection;
 use fb_bytes::Meter;
-use fb_verify::{Checks, Ident, Limits, Scratch, Start, Verified, verify};
+use fb_verify::{Checks, Ident, Limits, Question, Scratch, Start, Verified, verify};
 use std::alloc::Global;
 
 /// The number of an array in reflection.fbs.
@@ -76,16 +76,14 @@ pub fn refused_field<'b>(
     let root = schema.table_named(b"reflection.Schema")?;
     let limits = Limits::published();
     let mut scratch = Scratch::new(alloc, limits.depth()).ok()?;
-    let verified = verify(
-        Meter::new(file).ok()?,
-        &schema,
+    let question = Question {
+        schema: &schema,
         root,
-        Start::Bare,
-        Ident::Any,
+        start: Start::Bare,
+        ident: Ident::Any,
         limits,
-        Checks::published(),
-        &mut scratch,
-    )
-    .ok()?;
+        checks: Checks::published(),
+    };
+    let verified = verify(Meter::new(file).ok()?, &question, scratch.lend()).ok()?;
     field_in(alloc, &verified, object, field)
 }

@@ -1,5 +1,5 @@
 -- The program's command line.
-use Rattle.std.specs.Prelude.{ℕ, true, [], ◌∷◌, Option, None, Some, codes, pos, slice_get}
+use Rattle.std.specs.Prelude.{ℕ, true, List, [], ◌∷◌, fold, Option, None, Some, codes, pos, slice_get}
 use Rattle.clap.specs.Walk.{Rule, Text}
 use Rattle.clap.specs.Simple.{App, new_app, new_rule, on_top, with_rule}
 use Rattle.clap.specs.declared.builder.action.ArgAction.TheVariants.{Set, SetTrue, Append}
@@ -36,24 +36,6 @@ number_rule name least most default = value_rule name (parser.Signed (pos least)
 abbrev pub wide_number_rule : Text → ℕ → Text → Rule
 wide_number_rule name least default = value_rule name (parser.Unsigned least 18446744073709551615) default
 
-abbrev pub depth_rule : Rule
-depth_rule = number_rule (codes "max-depth") 0 4096 (codes "64")
-
-abbrev pub tables_rule : Rule
-tables_rule = number_rule (codes "max-tables") 0 4294967295 (codes "1000000")
-
-abbrev pub reads_rule : Rule
-reads_rule = wide_number_rule (codes "max-reads") 0 (codes "100000000")
-
-abbrev pub by_length_rule : Rule
-by_length_rule = number_rule (codes "reads-per-byte") 0 4294967295 (codes "64")
-
-abbrev pub bytes_rule : Rule
-bytes_rule = number_rule (codes "max-bytes") 8 2147483647 (codes "67108864")
-
-abbrev pub skip_rule : Rule
-skip_rule = wide_number_rule (codes "skip") 0 (codes "0")
-
 -- a number that nothing comes to, where it isn't given
 abbrev pub most_rule : Text → Rule
 most_rule name = wide_number_rule name 1 (codes "18446744073709551615")
@@ -75,32 +57,42 @@ by_letter letter rule = lettered (slice_get letter 0) rule
 abbrev pub named : App
 named = on_top (λ s. record s { has_version = true; has_long_version = true }) (new_app (codes "fbcheck"))
 
-abbrev pub sources : App
-sources = with_rule (with_rule named (by_letter (codes "s") (text_rule (codes "schema")))) (by_letter (codes "r") (text_rule (codes "root")))
-
-abbrev pub texts : App
-texts = with_rule (with_rule (with_rule sources (text_rule (codes "ident"))) (flag_rule (codes "schema-ident"))) (by_letter (codes "p") (texts_rule (codes "path")))
-
-abbrev pub numbers : App
-numbers = with_rule (with_rule (with_rule (with_rule (with_rule texts depth_rule) tables_rule) reads_rule) by_length_rule) bytes_rule
-
-abbrev pub portions : App
-portions = with_rule (with_rule (with_rule numbers skip_rule) (most_rule (codes "limit"))) (most_rule (codes "max-bad"))
-
-abbrev pub inputs : App
-inputs = with_rule (with_rule (with_rule portions (flag_rule (codes "bare"))) (flag_rule (codes "delimited"))) (flag_rule (codes "delimited-be"))
-
-abbrev pub checks : App
-checks = with_rule (with_rule inputs (flag_rule (codes "no-alignment"))) (flag_rule (codes "inline-size"))
-
-abbrev pub demands : App
-demands = with_rule (with_rule (with_rule (with_rule checks (flag_rule (codes "strict"))) (flag_rule (codes "plain-bytes"))) (flag_rule (codes "known-fields"))) (flag_rule (codes "utf8"))
-
-abbrev pub outputs : App
-outputs = with_rule (with_rule
-    (with_rule (with_rule (with_rule demands (by_letter (codes "q") (flag_rule (codes "quiet")))) (flag_rule (codes "filter"))) (flag_rule (codes "summary"))) (flag_rule (codes "names")))
-    (by_letter (codes "j") (flag_rule (codes "json")))
+-- the options, in the order of help
+abbrev pub rules : List Rule
+rules =
+    by_letter (codes "s") (text_rule (codes "schema"))
+    ∷ by_letter (codes "r") (text_rule (codes "root"))
+    ∷ text_rule (codes "ident")
+    ∷ flag_rule (codes "schema-ident")
+    ∷ by_letter (codes "p") (texts_rule (codes "path"))
+    ∷ number_rule (codes "max-depth") 0 4096 (codes "64")
+    ∷ number_rule (codes "max-tables") 0 4294967295 (codes "1000000")
+    ∷ wide_number_rule (codes "max-reads") 0 (codes "100000000")
+    ∷ number_rule (codes "reads-per-byte") 0 4294967295 (codes "64")
+    ∷ number_rule (codes "max-bytes") 8 2147483647 (codes "67108864")
+    ∷ wide_number_rule (codes "skip") 0 (codes "0")
+    ∷ most_rule (codes "limit")
+    ∷ most_rule (codes "max-bad")
+    ∷ flag_rule (codes "bare")
+    ∷ flag_rule (codes "delimited")
+    ∷ flag_rule (codes "delimited-be")
+    ∷ flag_rule (codes "no-alignment")
+    ∷ flag_rule (codes "inline-size")
+    ∷ flag_rule (codes "strict")
+    ∷ flag_rule (codes "plain-bytes")
+    ∷ flag_rule (codes "known-fields")
+    ∷ flag_rule (codes "utf8")
+    ∷ by_letter (codes "q") (flag_rule (codes "quiet"))
+    ∷ flag_rule (codes "filter")
+    ∷ flag_rule (codes "summary")
+    ∷ flag_rule (codes "names")
+    ∷ by_letter (codes "j") (flag_rule (codes "json"))
+    ∷ flag_rule (codes "csv")
+    ∷ text_rule (codes "rejects")
+    ∷ by_letter (codes "H") (flag_rule (codes "with-filename"))
+    ∷ text_rule (codes "files0-from")
+    ∷ words_rule (codes "files")
+    ∷ []
 
 abbrev pub program : App
-program = with_rule (with_rule (with_rule (with_rule (with_rule outputs (flag_rule (codes "csv"))) (text_rule (codes "rejects"))) (by_letter (codes "H") (flag_rule (codes "with-filename"))))
-    (text_rule (codes "files0-from"))) (words_rule (codes "files"))
+program = fold with_rule named rules

@@ -3,18 +3,18 @@ use Rattle.std.specs.Prelude.{◌≡◌, ◌≢◌, ℕ, List, [], Some, length,
 use Rattle.clap.specs.{Walk.Text, Values.kind_of, Kinds.HasKind, Faults.fault_of}
 use Rattle.clap.specs.declared.error.kind.ErrorKind.{ErrorKind}
 use Rattle.clap.specs.declared.error.kind.ErrorKind.TheVariants as kind
-use Rattle.fbcheck_words.specs.{CommandLine.program, Given.Say, Given.contradiction, Values.text_of}
+use Rattle.fbcheck_words.specs.{CommandLine.program, Given.Say, Given.contradiction, Values.text_of, Values.values_of}
 use Rattle.fbcheck_words.specs.declared.{choices.Settings.Settings, choices.SettingsFault.SettingsFault}
 use Rattle.fbcheck_words.specs.declared.choices.SettingsFault.TheVariants.{Usage, BadIdent, PathInFilter, TwoIdents, TooManyPaths, BareDelimited, BareDelimitedBe, DelimitedTwice, PlainUnstrict}
 use Rattle.fbcheck_words.specs.declared.choices.SettingsFault.TheVariants.{PathTwice, TooManySteps, SchemaAsInput, CsvAsJson, CsvInFilter, CsvInQuiet, CsvPathless, NamedTwice, OutOfMemory}
 
 -- `clap` refuses the words by an error of that kind; or it reads them, and the identifier isn't four bytes long; or they
--- say settings that don't agree; or there was no memory
+-- say settings and don't agree; or there was no memory
 abbrev pub Refuses : List Text → SettingsFault → Type 0
 Refuses words (Usage error) = (kind_of error ≢ kind.OutOfMemory) × HasKind (fault_of program words) error
-Refuses words BadIdent = (fault_of program words ≡ []) × ((t : Text) × (text_of (codes "ident") words ≡ Some t) × (length t ≢ 4))
+Refuses words BadIdent = (fault_of program words ≡ []) × ((t : Text) × (text_of (codes "ident") (values_of words) ≡ Some t) × (length t ≢ 4))
 Refuses words OutOfMemory = Unit {0}
-Refuses words fault = (settings : Settings) × Say words settings × (contradiction settings ≡ Some fault)
+Refuses words fault = (fault_of program words ≡ []) × ((settings : Settings) × Say (values_of words) settings) × (contradiction (values_of words) ≡ Some fault)
 
 -- texts that are asked for are no mistake
 abbrev pub usage_status : ErrorKind → ℕ

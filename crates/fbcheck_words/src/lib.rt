@@ -6,5 +6,5 @@ mod choices;
 mod command;
 mod words;
 
-pub use choices::{Form, MOST_PATHS, Settings, SettingsFault};
+pub use choices::{Settings, SettingsFault};
 pub use words::{is_sign, settings};

@@ -1,16 +1,17 @@
-ghost use Rattle.std.specs.Prelude.{nat_lt, IfOk, IfErr, IfSome, IsSomeAnd, OnErr, ℕ, ◌≢◌, length, option_map, IsTrue, ◌≡◌, ◌↔◌, List, map, string_bytes, Some, codes};
-ghost use Rattle.clap.specs.Words.{Text, first_value, found_of, one_text};
-ghost use Rattle.fbcheck_words.specs.{Ranges.AreInRange, Given.AreGiven, Given.Say, Given.contradiction, Given.contradiction_of_csv};
-ghost use Rattle.fbcheck_words.specs.{Given.contradiction_of_files, Given.has_twice, Given.is_among, Given.is_bfbs, Given.is_sign, Given.steps_in, Given.steps_of};
-ghost use Rattle.fbcheck_words.specs.{Values.HoldsNumber, Values.HoldsWideNumber, Values.IsNumberIn, Refusal.Refuses};
+ghost use Rattle.std.specs.Prelude.{nat_lt, IfOk, IfErr, IfSome, IsSomeAnd, OnErr, ℕ, ◌≢◌, length, option_map, ◌≡◌, ◌++◌, List, map, string_bytes, Some, codes};
+ghost use Rattle.clap.specs.Words.{Text, one_text, found_of};
+ghost use Rattle.fbcheck_words.specs.{Ranges.AreInRange, Given.AreGiven, Given.Say, Given.SayTerms, Given.all_rules, Given.first_broken, Given.rules_of_csv, Given.rules_of_files};
+ghost use Rattle.fbcheck_words.specs.{Given.form_of, Given.has_twice, Given.is_among, Given.is_bfbs, Given.is_sign, Given.mode_of, Given.places_of, Given.prefix_of, Given.steps_in, Given.steps_of};
+ghost use Rattle.fbcheck_words.specs.{Values.IsNumberIn, Values.IsNumberOf, Values.is_given, Values.text_of, Values.texts_of, Refusal.Refuses};
 ghost use Rattle.std.specs.List.{list_any};
-ghost use Rattle.fbcheck_words.specs.Matched.{IsReadOf, all_values};
-ghost use Rattle.fbcheck_words.specs.declared.choices.Form.TheVariants.{Json};
+ghost use Rattle.fbcheck_words.specs.Matched.{HoldsNumber, HoldsWideNumber, IsReadOf, TakesNumber, TakesWideNumber, values_in};
 
-use crate::choices::{Form, MOST_PATHS, MOST_STEPS, Settings, SettingsFault};
+use crate::choices::{MOST_STEPS, Settings, SettingsFault};
 use crate::command::command;
 use clap::ArgMatches;
 use clap::error::ErrorKind;
+use fb_bytes::Endian;
+use fb_run::{LineForm, MOST_PATHS, Mode, Places, Prefix, Terms};
 use fb_verify::{Checks, Limits};
 use std::alloc::{AllocError, Global};
 
@@ -34,7 +35,7 @@ pub fn settings(alloc: Global, words: &[String]) -> Result<Settings, SettingsFau
 {
     let matches = matched(alloc, words)?;
     let settings = said(alloc, &matches)?;
-    match contradiction(&settings) {
+    match contradiction(&matches, &settings) {
         Some(fault) => Err(fault),
         None => Ok(settings),
     }
@@ -43,7 +44,7 @@ pub fn settings(alloc: Global, words: &[String]) -> Result<Settings, SettingsFau
 /// What the matches say, agreeing or not.
 fn said(alloc: Global, matches: &ArgMatches<'_>) -> Result<Settings, SettingsFault>
     requires { (words : List Text) × IsReadOf words matches.now }
-    ensures says { (words : List Text) → IsReadOf words matches.now → IfOk result (Say words) }
+    ensures says { IfOk result (Say (values_in matches.now)) }
     ensures refused { (words : List Text) → IsReadOf words matches.now → IfErr result (Refuses words) }
 {
     let Ok(ident) = identifier(matches) else {
@@ -61,6 +62,25 @@ fn said(alloc: Global, matches: &ArgMatches<'_>) -> Result<Settings, SettingsFau
         ident,
         schema_ident: flag(matches, "schema-ident"),
         paths,
+        terms: terms(matches),
+        strict: flag(matches, "strict"),
+        plain_bytes: flag(matches, "plain-bytes"),
+        known_fields: flag(matches, "known-fields"),
+        utf8: flag(matches, "utf8"),
+        rejects,
+        summary: flag(matches, "summary"),
+        with_filename: flag(matches, "with-filename"),
+        names_file,
+        files,
+    })
+}
+
+/// What they say of a run's terms.
+fn terms(matches: &ArgMatches<'_>) -> Terms
+    requires { (words : List Text) × IsReadOf words matches.now }
+    ensures { SayTerms (values_in matches.now) result }
+{
+    Terms {
         limits: limits(matches),
         reads_per_byte: number(matches, "reads-per-byte", 0, u32::MAX),
         max_bytes: number(matches, "max-bytes", 8, 2_147_483_647),
@@ -68,80 +88,122 @@ fn said(alloc: Global, matches: &ArgMatches<'_>) -> Result<Settings, SettingsFau
         most_messages: wide_number(matches, "limit", 1),
         most_bad: wide_number(matches, "max-bad", 1),
         bare: flag(matches, "bare"),
-        delimited: flag(matches, "delimited"),
-        delimited_be: flag(matches, "delimited-be"),
+        prefix: prefix(matches),
         checks: Checks {
             alignment: !flag(matches, "no-alignment"),
             inline_size: flag(matches, "inline-size"),
         },
-        strict: flag(matches, "strict"),
-        plain_bytes: flag(matches, "plain-bytes"),
-        known_fields: flag(matches, "known-fields"),
-        utf8: flag(matches, "utf8"),
-        quiet: flag(matches, "quiet"),
-        filter: flag(matches, "filter"),
-        rejects,
-        summary: flag(matches, "summary"),
-        names: flag(matches, "names"),
+        mode: mode(matches),
+        names: places(matches),
         form: form(matches),
-        csv: flag(matches, "csv"),
-        with_filename: flag(matches, "with-filename"),
-        names_file,
-        files,
-    })
+    }
 }
 
-/// What is refused of settings that don't agree with one another.
-fn contradiction(settings: &Settings) -> Option<SettingsFault>
-    ensures { result ≡ contradiction settings.now }
+/// What is told of the buffers.
+fn mode(matches: &ArgMatches<'_>) -> Mode
+    ensures { result ≡ mode_of (is_given (codes "csv") (values_in matches.now)) (is_given (codes "filter") (values_in matches.now)) (is_given (codes "quiet") (values_in matches.now)) }
 {
-    if settings.filter && !settings.paths.is_empty() {
+    if flag(matches, "csv") {
+        Mode::Csv
+    } else if flag(matches, "filter") {
+        Mode::Filter
+    } else if flag(matches, "quiet") {
+        Mode::BadLines
+    } else {
+        Mode::Lines
+    }
+}
+
+/// How the places of faults are told: lines of JSON always tell them in words.
+fn places(matches: &ArgMatches<'_>) -> Places
+    ensures { result ≡ places_of (is_given (codes "names") (values_in matches.now)) (is_given (codes "json") (values_in matches.now)) }
+{
+    if flag(matches, "names") || flag(matches, "json") {
+        Places::Words
+    } else {
+        Places::Numbers
+    }
+}
+
+/// How lines are written.
+fn form(matches: &ArgMatches<'_>) -> LineForm
+    ensures { result ≡ form_of (is_given (codes "json") (values_in matches.now)) }
+{
+    if flag(matches, "json") {
+        LineForm::Json
+    } else {
+        LineForm::Plain
+    }
+}
+
+/// What a message's prefix is.
+fn prefix(matches: &ArgMatches<'_>) -> Prefix
+    ensures { result ≡ prefix_of (is_given (codes "delimited") (values_in matches.now)) (is_given (codes "delimited-be") (values_in matches.now)) }
+{
+    if flag(matches, "delimited") {
+        Prefix::Apart(Endian::Little)
+    } else if flag(matches, "delimited-be") {
+        Prefix::Apart(Endian::Big)
+    } else {
+        Prefix::Part
+    }
+}
+
+/// What is refused since it doesn't agree with itself, by the paths and files that the settings have.
+fn contradiction(matches: &ArgMatches<'_>, settings: &Settings) -> Option<SettingsFault>
+    ensures { result ≡ first_broken (all_rules (values_in matches.now) (map string_bytes settings.now.paths.items) (map string_bytes settings.now.files.items)) }
+{
+    if flag(matches, "filter") && !settings.paths.is_empty() {
         Some(SettingsFault::PathInFilter)
-    } else if settings.schema_ident && settings.ident.is_some() {
+    } else if flag(matches, "schema-ident") && text(matches, "ident").is_some() {
         Some(SettingsFault::TwoIdents)
     } else if settings.paths.len() > MOST_PATHS {
         Some(SettingsFault::TooManyPaths)
-    } else if settings.bare && settings.delimited {
+    } else if flag(matches, "bare") && flag(matches, "delimited") {
         Some(SettingsFault::BareDelimited)
-    } else if settings.bare && settings.delimited_be {
+    } else if flag(matches, "bare") && flag(matches, "delimited-be") {
         Some(SettingsFault::BareDelimitedBe)
-    } else if settings.delimited && settings.delimited_be {
+    } else if flag(matches, "delimited") && flag(matches, "delimited-be") {
         Some(SettingsFault::DelimitedTwice)
-    } else if settings.plain_bytes && !settings.strict {
+    } else if flag(matches, "plain-bytes") && !flag(matches, "strict") {
         Some(SettingsFault::PlainUnstrict)
     } else if has_twice(settings.paths.as_slice()) {
         Some(SettingsFault::PathTwice)
     } else if are_long(settings.paths.as_slice()) {
         Some(SettingsFault::TooManySteps)
     } else {
-        contradiction_of_files(settings)
+        contradiction_of_files(matches, settings)
     }
 }
 
 /// What is refused of the files that are named, and of CSV.
-fn contradiction_of_files(settings: &Settings) -> Option<SettingsFault>
-    ensures { result ≡ contradiction_of_files settings.now }
+fn contradiction_of_files(matches: &ArgMatches<'_>, settings: &Settings) -> Option<SettingsFault>
+    ensures { result ≡ first_broken (rules_of_files (values_in matches.now) (map string_bytes settings.now.files.items)
+        ++ rules_of_csv (values_in matches.now) (map string_bytes settings.now.paths.items)) }
 {
-    if settings.schema.is_none() && !settings.bare && has_bfbs(settings.files.as_slice()) {
+    if text(matches, "schema").is_none()
+        && !flag(matches, "bare")
+        && has_bfbs(settings.files.as_slice())
+    {
         Some(SettingsFault::SchemaAsInput)
-    } else if settings.names_file.is_some() && !settings.files.is_empty() {
+    } else if text(matches, "files0-from").is_some() && !settings.files.is_empty() {
         Some(SettingsFault::NamedTwice)
-    } else if settings.csv {
-        contradiction_of_csv(settings)
     } else {
-        None
+        contradiction_of_csv(matches, settings)
     }
 }
 
 /// What is refused beside CSV.
-fn contradiction_of_csv(settings: &Settings) -> Option<SettingsFault>
-    ensures { result ≡ contradiction_of_csv settings.now }
+fn contradiction_of_csv(matches: &ArgMatches<'_>, settings: &Settings) -> Option<SettingsFault>
+    ensures { result ≡ first_broken (rules_of_csv (values_in matches.now) (map string_bytes settings.now.paths.items)) }
 {
-    if let Form::Json = settings.form {
+    if !flag(matches, "csv") {
+        None
+    } else if flag(matches, "json") {
         Some(SettingsFault::CsvAsJson)
-    } else if settings.filter {
+    } else if flag(matches, "filter") {
         Some(SettingsFault::CsvInFilter)
-    } else if settings.quiet {
+    } else if flag(matches, "quiet") {
         Some(SettingsFault::CsvInQuiet)
     } else if settings.paths.is_empty() {
         Some(SettingsFault::CsvPathless)
@@ -255,11 +317,11 @@ struct NotFour;
 
 /// The identifier that the matches hold.
 fn identifier(matches: &ArgMatches<'_>) -> Result<Option<[u8; 4]>, NotFour>
-    ensures ok { IfOk result (λ i. i ≡ first_value (found_of matches.now) (codes "ident")) }
+    ensures ok { IfOk result (λ i. i ≡ text_of (codes "ident") (values_in matches.now)) }
     ensures four { IfOk result (λ i. IfSome i (λ bytes. length bytes ≡ 4)) }
-    ensures err { OnErr result ((t : List ℕ) × (first_value (found_of matches.now) (codes "ident") ≡ Some t) × (length t ≢ 4)) }
+    ensures err { OnErr result ((t : List ℕ) × (text_of (codes "ident") (values_in matches.now) ≡ Some t) × (length t ≢ 4)) }
 {
-    match matches.get_str("ident") {
+    match text(matches, "ident") {
         Some(text) => match <[u8; 4]>::try_from(text.as_bytes()) {
             Ok(bytes) => Ok(Some(bytes)),
             Err(_) => Err(NotFour),
@@ -268,11 +330,18 @@ fn identifier(matches: &ArgMatches<'_>) -> Result<Option<[u8; 4]>, NotFour>
     }
 }
 
+/// The text that the matches hold for an option.
+fn text<'a>(matches: &ArgMatches<'a>, id: &str) -> Option<&'a str>
+    ensures { option_map (λ s. s.now) result ≡ text_of id.now (values_in matches.now) }
+{
+    matches.get_str(id)
+}
+
 /// A copy of the text that the matches hold for an option.
 fn copied(alloc: Global, matches: &ArgMatches<'_>, id: &str) -> Result<Option<String>, AllocError>
-    ensures { IfOk result (λ s. option_map string_bytes s ≡ first_value (found_of matches.now) id.now) }
+    ensures { IfOk result (λ s. option_map string_bytes s ≡ text_of id.now (values_in matches.now)) }
 {
-    match matches.get_str(id) {
+    match text(matches, id) {
         Some(text) => Ok(Some(String::from_str(alloc, text)?)),
         None => Ok(None),
     }
@@ -280,7 +349,7 @@ fn copied(alloc: Global, matches: &ArgMatches<'_>, id: &str) -> Result<Option<St
 
 /// Copies of the texts that the matches hold for an option, in their order.
 fn all_copied(alloc: Global, matches: &ArgMatches<'_>, id: &str) -> Result<Vec<String>, AllocError>
-    ensures { IfOk result (λ v. map string_bytes v.items ≡ all_values (found_of matches.now) id.now) }
+    ensures { IfOk result (λ v. map string_bytes v.items ≡ texts_of id.now (values_in matches.now)) }
 {
     match matches.get_strs(id) {
         Some(texts) => copies(alloc, texts),
@@ -301,12 +370,10 @@ fn copies(alloc: Global, texts: &[&str]) -> Result<Vec<String>, AllocError>
 
 /// The limits that the matches hold.
 fn limits(matches: &ArgMatches<'_>) -> Limits
-    requires depth { HoldsNumber (one_text (found_of matches.now) (codes "max-depth")) 0 4096 }
-    requires tables { HoldsNumber (one_text (found_of matches.now) (codes "max-tables")) 0 4294967295 }
-    requires reads { HoldsWideNumber (one_text (found_of matches.now) (codes "max-reads")) 0 }
-    ensures depth { IsNumberIn (one_text (found_of matches.now) (codes "max-depth")) 0 4096 result.depth }
-    ensures tables { IsNumberIn (one_text (found_of matches.now) (codes "max-tables")) 0 4294967295 result.tables }
-    ensures reads { IsSomeAnd result.reads (IsNumberIn (one_text (found_of matches.now) (codes "max-reads")) 0 18446744073709551615) }
+    requires { (words : List Text) × IsReadOf words matches.now }
+    ensures depth { IsNumberOf (codes "max-depth") 0 4096 (values_in matches.now) result.depth }
+    ensures tables { IsNumberOf (codes "max-tables") 0 4294967295 (values_in matches.now) result.tables }
+    ensures reads { IsSomeAnd result.reads (IsNumberOf (codes "max-reads") 0 18446744073709551615 (values_in matches.now)) }
 {
     let depth = number(matches, "max-depth", 0, 4096);
     let tables = number(matches, "max-tables", 0, u32::MAX);
@@ -318,6 +385,14 @@ fn limits(matches: &ArgMatches<'_>) -> Limits
 
 /// The number that the matches hold for an option.
 fn number(matches: &ArgMatches<'_>, id: &str, least: u32, most: u32) -> u32
+    requires read { (words : List Text) × IsReadOf words matches.now }
+    requires takes { TakesNumber id.now least most }
+    ensures { IsNumberOf id.now least most (values_in matches.now) result }
+{
+    held_number(matches, id, least, most)
+}
+
+fn held_number(matches: &ArgMatches<'_>, id: &str, least: u32, most: u32) -> u32
     requires { HoldsNumber (one_text (found_of matches.now) id.now) least most }
     ensures { IsNumberIn (one_text (found_of matches.now) id.now) least most result }
 {
@@ -329,6 +404,14 @@ fn number(matches: &ArgMatches<'_>, id: &str, least: u32, most: u32) -> u32
 
 /// The same of an option that may be any number of `u64` from the least on.
 fn wide_number(matches: &ArgMatches<'_>, id: &str, least: u64) -> u64
+    requires read { (words : List Text) × IsReadOf words matches.now }
+    requires takes { TakesWideNumber id.now least }
+    ensures { IsNumberOf id.now least 18446744073709551615 (values_in matches.now) result }
+{
+    held_wide_number(matches, id, least)
+}
+
+fn held_wide_number(matches: &ArgMatches<'_>, id: &str, least: u64) -> u64
     requires { HoldsWideNumber (one_text (found_of matches.now) id.now) least }
     ensures { IsNumberIn (one_text (found_of matches.now) id.now) least 18446744073709551615 result }
 {
@@ -340,21 +423,10 @@ fn wide_number(matches: &ArgMatches<'_>, id: &str, least: u64) -> u64
 
 /// Whether a flag is given.
 fn flag(matches: &ArgMatches<'_>, id: &str) -> bool
-    ensures { IsTrue result ↔ (first_value (found_of matches.now) id.now ≡ Some (codes "true")) }
+    ensures { result ≡ is_given id.now (values_in matches.now) }
 {
-    match matches.get_str(id) {
+    match text(matches, id) {
         Some(text) => text == "true",
         None => false,
-    }
-}
-
-/// The form of lines that is asked for.
-fn form(matches: &ArgMatches<'_>) -> Form
-    ensures { (result ≡ Json) ↔ (first_value (found_of matches.now) (codes "json") ≡ Some (codes "true")) }
-{
-    if flag(matches, "json") {
-        Form::Json
-    } else {
-        Form::Plain
     }
 }

@@ -49,34 +49,6 @@ final class Codes {
     static final int NO_SUCH_TABLE = 23;
     static final int CHANGED = 24;
 
-    // enum fbcheck_reason
-    static final int WRONG_PREFIX = 1;
-    static final int OUT_OF_BUFFER = 2;
-    static final int MISALIGNED = 3;
-    static final int ZERO_OFFSET = 4;
-    static final int WRONG_IDENTIFIER = 5;
-    static final int TOO_DEEP = 6;
-    static final int TOO_MANY_TABLES = 7;
-    static final int BAD_VTABLE = 8;
-    static final int MISSING_REQUIRED = 9;
-    static final int NO_TERMINATOR = 10;
-    static final int LENGTHS_DIFFER = 11;
-    static final int PAST_TABLE = 12;
-    static final int TOO_MANY_READS = 13;
-    static final int FLEX_CONTENT = 14;
-    static final int NOT_UTF8 = 15;
-    static final int UNKNOWN_FIELD = 16;
-
-    // enum fbcheck_code
-    static final int NO_SUCH_OBJECT = 1;
-    static final int NO_SUCH_ENUM = 2;
-    static final int UNSUPPORTED = 3;
-    static final int BAD_SLOT = 4;
-    static final int NO_TYPE_FIELD = 5;
-    static final int BAD_STRUCT = 6;
-    static final int BAD_MEMBER = 7;
-    static final int NAME_TWICE = 8;
-
     // enum fbcheck_path_fault
     static final int BAD_TEXT = 1;
     static final int NO_SUCH_FIELD = 2;

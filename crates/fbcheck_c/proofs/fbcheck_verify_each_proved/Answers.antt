@@ -1,6 +1,6 @@
 use Rattle.std.proofs.Common.{◌≡◌, ℕ, List, [], ◌∷◌, length, sym, ◌∙◌, eqb-true, arith}
-use Rattle.fbcheck_calls.specs.declared.{answer.Answer.Answer, answer.Verdict.Verdict, held.Held.Held, options.Options.Options, spans.Span.Span}
-use Rattle.fbcheck_calls.specs.declared.answer.Answer.TheVariants.{Done}
+use Rattle.fbcheck_calls.specs.declared.{outcome.Outcome.Outcome, outcome.Verdict.Verdict, held.Held.Held, options.Options.Options, spans.Span.Span}
+use Rattle.fbcheck_calls.specs.declared.outcome.Outcome.TheVariants.{Done}
 use Rattle.fbcheck_calls.specs.{Answered.IfSchema, Answered.levels, Spans.IsEachAnswered, Spans.IsTried, Told.told}
 use Rattle.fbcheck_c.proofs.fbcheck_verify_each_proved.Goals as goal
 
@@ -9,7 +9,7 @@ returns-clause-told c = rw (← c.held-held.ensures) c.check_each.ensures.told
 
 -- of no spans is answered what the options tell
 of_none : (held : Held) (n : ℕ) (o : Options) (spans : List Span) (verdicts : List Verdict) (status : ℕ) → length spans ≡ 0
-    → ((a : Answer) × (status ≡ (told a).status) × IfSchema held a (λ s. IsTried Done s n o a)) → IsEachAnswered held n o spans verdicts status
+    → ((a : Outcome) × (status ≡ (told a).status) × IfSchema held a (λ s. IsTried Done s n o a)) → IsEachAnswered held n o spans verdicts status
 of_none held n o [] verdicts status e h = h
 of_none held n o (span ∷ more) verdicts status e h = absurd (omega arith)
 

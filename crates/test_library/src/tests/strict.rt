@@ -1,14 +1,18 @@
 //! Strict verdicts on a message of sixty items.
 
+ghost use Rattle.std.specs.Prelude.{◌≡◌};
+
 use crate::tests::compare::same;
 use crate::tests::unions::{Q, unions};
 use fb_bytes::Meter;
 use fb_schema::Schema;
 use fb_strict::{
-    Demands, Plan, Room, most_reads_strictly, verify_strictly, verify_strictly_and_locate,
-    verify_strictly_shallow,
+    Demands, OnStack, Plan, Room, most_reads_strictly, verify_strictly, verify_strictly_and_locate,
 };
-use fb_verify::{Checks, Fault, Ident, Limits, Link, Located, Reason, Report, Scratch, Start};
+use fb_verify::{
+    BLANK as NO_FRAME, Checks, Fault, Ident, Limits, Link, Located, Question, Reason, Report,
+    Scratch, Start,
+};
 use std::alloc::Global;
 use std::process::Abort;
 
@@ -109,6 +113,22 @@ const UNIONS: Demands = Demands {
     utf8: false,
 };
 
+/// What is asked of these bytes within this budget of reads.
+fn within<'s, 'n>(schema: &'s Schema<'n>, root: u32, budget: u64) -> Question<'s, 'n>
+    ensures rows { result.rows ≡ schema.now }
+    ensures root { result.root ≡ root }
+    ensures depth { result.limits.depth ≡ 64 }
+{
+    Question {
+        schema,
+        root,
+        start: Start::Bare,
+        ident: Ident::Any,
+        limits: Limits::published().with_reads(budget),
+        checks: Checks::published(),
+    }
+}
+
 /// What a strict verdict on these bytes reports within this budget of reads, in room that the caller lends.
 fn in_room(
     rt: &impl Abort,
@@ -124,14 +144,9 @@ fn in_room(
     assert!(rt; schema.is_table(Q));
     let strict = verify_strictly(
         meter,
-        schema,
-        Q,
-        Start::Bare,
-        Ident::Any,
-        Limits::published().with_reads(budget),
-        Checks::published(),
+        &within(schema, Q, budget),
         &plan,
-        &mut scratch,
+        scratch.lend(),
         &mut room,
     )?;
     Ok(strict.report)
@@ -148,15 +163,12 @@ fn on_the_stack(
     let meter = Meter::new(bytes).expect(rt, "a short buffer");
     let plan = Plan::new(alloc, schema, &[], UNIONS).expect(rt, "memory");
     assert!(rt; schema.is_table(Q));
-    let strict = verify_strictly_shallow(
+    let strict = verify_strictly(
         meter,
-        schema,
-        Q,
-        Start::Bare,
-        Ident::Any,
-        Limits::published().with_reads(budget),
-        Checks::published(),
+        &within(schema, Q, budget),
         &plan,
+        &mut [NO_FRAME; 3],
+        &mut OnStack,
     )?;
     Ok(strict.report)
 }
@@ -191,14 +203,9 @@ fn leads_to_the_last_item(
     assert!(rt; schema.is_table(Q));
     let answer = verify_strictly_and_locate(
         meter,
-        schema,
-        Q,
-        Start::Bare,
-        Ident::Any,
-        Limits::published().with_reads(budget),
-        Checks::published(),
+        &within(schema, Q, budget),
         &plan,
-        &mut scratch,
+        scratch.lend(),
         &mut room,
         &mut links,
     );

@@ -11,10 +11,10 @@ verify-requires-clause-table c = rw c.requires.table refl
 pub returns-in_err-verified-clause-no : goal.returns-in_err-verified-clause-no
 returns-in_err-verified-clause-no c =
     let no : Stops (asked_within c.args.limits) c.args.meter.bytes c.in_err-verified.field-0.0 =
-    rw (c.requires.table, c.published-checks.ensures) at c.in_err-verified.ensures.no in
+    rw (c.requires.table, c.published.ensures) at c.in_err-verified.ensures.no in
     if_err_exit c.from_residual-in_err-verified.result _ (IsVerifyFault c.args.meter.bytes c.args.limits) c.from_residual-in_err-verified.ensures.1 (c.requires.short, no)
 
 pub returns-clause-yes : goal.returns-clause-yes
 returns-clause-yes c =
-    let yes : Reports (asked_within c.args.limits) c.args.meter.bytes c.in_ok-verified.verified.report = rw (c.requires.table, c.published-checks.ensures) at c.in_ok-verified.ensures.yes in
-    record { short = c.requires.short; kept = rw (c.requires.table, c.published-checks.ensures) at c.in_ok-verified.ensures.kept; yes = yes }
+    let yes : Reports (asked_within c.args.limits) c.args.meter.bytes c.in_ok-verified.verified.report = rw (c.requires.table, c.published.ensures) at c.in_ok-verified.ensures.yes in
+    record { short = c.requires.short; kept = rw (c.requires.table, c.published.ensures) at c.in_ok-verified.ensures.kept; yes = yes }

@@ -1,30 +1,12 @@
-use Rattle.std.proofs.Common.{inl}
-use Rattle.fb_rules.specs.Question.{question}
-use Rattle.fb_strict.proofs.Bounded.{strict_reads_are_bounded}
-use Rattle.fb_strict.proofs.Calls.{told_none, price_of_yes, price_of_no}
+use Rattle.fb_strict.proofs.{Bounded.strict_cost_is_bounded, Bounded.strict_reads_are_bounded, OneVerdict.stops_has_none}
 use Rattle.fb_strict.proofs.strictly.verify_strictly.Goals as goal
 
 -- src/strictly.rt
+pub returns-in-Ok-clause-price_of_yes : goal.returns-in-Ok-clause-price_of_yes
+returns-in-Ok-clause-price_of_yes g c = strict_cost_is_bounded c.args.plan.now c.args.question.now c.args.meter.bytes c.in-Ok.strict.report c.in-Ok.ensures.yes
+
+pub returns-in-Err-clause-none : goal.returns-in-Err-clause-none
+returns-in-Err-clause-none g c = stops_has_none c.args.plan.now c.args.question.now c.args.meter.bytes c.in-Err.located.fault c.in-Err.ensures.no
+
 pub returns-in-Err-clause-price_of_no : goal.returns-in-Err-clause-price_of_no
-returns-in-Err-clause-price_of_no g c =
-    let a = c.args in
-    let q = question a.schema.now a.root a.start a.ident a.limits a.checks in
-    strict_reads_are_bounded a.plan.now q a.meter.bytes c.in-Err.fault (inl c.in-Err.ensures.no)
-
-pub returns-clause-price_of_yes : goal.returns-clause-price_of_yes
-returns-clause-price_of_yes g c =
-    let a = c.args in
-    let q = question a.schema.now a.root a.start a.ident a.limits a.checks in
-    price_of_yes a.plan.now q a.meter.bytes c.verdict_in.result c.in-Ok.verified c.in-Ok.ensures.kept c.verdict_in.ensures.yes
-
-pub returns-clause-price_of_no : goal.returns-clause-price_of_no
-returns-clause-price_of_no g c =
-    let a = c.args in
-    let q = question a.schema.now a.root a.start a.ident a.limits a.checks in
-    price_of_no a.plan.now q a.meter.bytes c.verdict_in.result c.in-Ok.verified c.in-Ok.ensures.kept c.verdict_in.ensures.no
-
-pub returns-clause-none : goal.returns-clause-none
-returns-clause-none g c =
-    let a = c.args in
-    let q = question a.schema.now a.root a.start a.ident a.limits a.checks in
-    told_none a.plan.now q a.meter.bytes c.verdict_in.result c.in-Ok.verified c.in-Ok.ensures.kept c.verdict_in.ensures.none
+returns-in-Err-clause-price_of_no g c = strict_reads_are_bounded c.args.plan.now c.args.question.now c.args.meter.bytes c.in-Err.located.fault c.in-Err.ensures.no

@@ -1,13 +1,13 @@
-use Rattle.std.proofs.Common.{arith, ◌∙◌, sym}
-use Rattle.fbcheck_calls.specs.declared.answer.Answer.TheVariants.{TooLong}
+use Rattle.std.proofs.Common.{arith}
+use Rattle.fbcheck_calls.specs.declared.outcome.Outcome.TheVariants.{TooLong}
 use Rattle.fbcheck_calls.proofs.BegunLemmas.{long_is_unchecked, unserved_is_unchecked}
 use Rattle.fbcheck_calls.proofs.checking.prepare.Goals as goal
 
-pub returns-in-Err-clause-starts : goal.returns-in-Err-clause-starts
-returns-in-Err-clause-starts c =
-    let why = c.in-Err.ensures.begins in
-    record { answer = why.0; told = c.tell_blank.ensures.told ∙ sym why.2; holds = unserved_is_unchecked c.args.basis.now c.args.levels c.args.options.now c.args.buffer.now why.0 why.1; status = c.tell_blank.ensures.status }
+pub returns-in_default-clause-starts : goal.returns-in_default-clause-starts
+returns-in_default-clause-starts c =
+    let why = c.refuse.ensures in
+    record { answer = why.answer; told = why.told; holds = unserved_is_unchecked c.args.basis.now c.args.levels c.args.options.now c.args.buffer.now why.answer why.holds; status = why.status }
 
 pub returns-then-length-gt-LONGEST-clause-starts : goal.returns-then-length-gt-LONGEST-clause-starts
 returns-then-length-gt-LONGEST-clause-starts c =
-    record { answer = TooLong; told = c.tell_blank-then-length-gt-LONGEST.ensures.told; holds = long_is_unchecked c.args.basis.now c.args.levels c.args.options.now c.args.buffer.now c.in-Ok.begun c.in-Ok.ensures.begins (omega arith); status = c.tell_blank-then-length-gt-LONGEST.ensures.status }
+    record { answer = TooLong; told = c.tell_blank.ensures.told; holds = long_is_unchecked c.args.basis.now c.args.levels c.args.options.now c.args.buffer.now c.in-Some.begun c.in-Some.ensures.begins (omega arith); status = c.tell_blank.ensures.status }

@@ -1,5 +1,5 @@
 use Rattle.std.proofs.Common.{rules}
-use Rattle.fbcheck_calls.specs.declared.answer.Answer.TheVariants.{NoRoot}
+use Rattle.fbcheck_calls.specs.declared.outcome.Outcome.TheVariants.{NoRoot}
 use Rattle.fbcheck_calls.proofs.HandleLemmas.{levels_taken, levels_of_none, read_by}
 use Rattle.fbcheck_calls.proofs.checking.read.Goals.{in-Room, in-Schema-inside}
 use Rattle.fbcheck_calls.proofs.checking.read.Goals as goal

@@ -2,15 +2,14 @@ use Rattle.std.proofs.Common.{ap, None}
 use Rattle.fb_rules.specs.declared.fault.Fault.{Fault}
 use Rattle.fb_verify.specs.Sealed.{Sealed}
 use Rattle.fbcheck_calls.specs.Told.{found_by}
-use Rattle.fbcheck_calls.specs.declared.answer.Answer.{Answer}
-use Rattle.fb_bfbs.specs.declared.loading.Loaded.{Loaded}
+use Rattle.fbcheck_calls.specs.declared.outcome.Outcome.{Outcome}
 use Rattle.fbcheck_calls.proofs.AnswerLemmas.{plain_is_plain}
 use Rattle.fbcheck_calls.proofs.BegunLemmas.{found_fits, found_is_read, unread_is_read}
 use Rattle.fbcheck_calls.proofs.checking.read_shallow.Goals as goal
 
 pub tell_read-requires : goal.tell_read-requires
 tell_read-requires c =
-    found_fits c.args.basis.now 64 c.args.options.now c.args.buffer.now c.in-Ok.begun c.in-Ok.ensures.starts.0.0 c.in-Ok.ensures.starts.0.1 c.metered.result.bytes c.metered.ensures.bytes c.loaded.result.now.schema (ap (λ (l : Loaded). l.schema) c.loaded.ensures) None (plain_is_plain c.args.basis.now c.args.options.now c.if-options-ne0.false) (λ (v : Sealed). v.report) (λ v. v) c.args.paths.now c.in-Ok.ensures.starts.1 c.verify_shallow-found.result c.verify_shallow-found.ensures.kept
+    found_fits c.args.basis.now 64 c.args.options.now c.args.buffer.now c.in-Ok.begun c.in-Ok.ensures.starts.0.0 c.in-Ok.ensures.starts.0.1 c.metered.result.bytes c.metered.ensures.bytes None (plain_is_plain c.args.basis.now c.args.options.now c.if-options-ne0.false) (λ (v : Sealed). v.report) (λ v. v) c.args.paths.now c.in-Ok.ensures.starts.1 c.verify-found.result c.verify-found.ensures.kept
 
 pub returns-in-Err-clause-told : goal.returns-in-Err-clause-told
 returns-in-Err-clause-told c =
@@ -19,10 +18,10 @@ returns-in-Err-clause-told c =
 
 pub returns-clause-told : goal.returns-clause-told
 returns-clause-told c =
-    let found = c.verify_shallow-found in
-    let answer : Answer = found_by (λ (v : Sealed). v.report) (λ (f : Fault). f) found.result in (
+    let found = c.verify-found in
+    let answer : Outcome = found_by (λ (v : Sealed). v.report) (λ (f : Fault). f) found.result in (
       answer,
       c.tell_read.ensures.told,
-      found_is_read c.args.basis.now 64 c.args.options.now c.args.buffer.now c.in-Ok.begun c.in-Ok.ensures.starts.0.0 c.in-Ok.ensures.starts.0.1 c.metered.result.bytes c.metered.ensures.bytes c.loaded.result.now.schema (ap (λ (l : Loaded). l.schema) c.loaded.ensures) None (plain_is_plain c.args.basis.now c.args.options.now c.if-options-ne0.false) (λ (v : Sealed). v.report) (λ v. v) c.args.paths.now c.in-Ok.ensures.starts.1 found.result c.args.values.now c.tell_read.new.values
+      found_is_read c.args.basis.now 64 c.args.options.now c.args.buffer.now c.in-Ok.begun c.in-Ok.ensures.starts.0.0 c.in-Ok.ensures.starts.0.1 c.metered.result.bytes c.metered.ensures.bytes None (plain_is_plain c.args.basis.now c.args.options.now c.if-options-ne0.false) (λ (v : Sealed). v.report) (λ v. v) c.args.paths.now c.in-Ok.ensures.starts.1 found.result c.args.values.now c.tell_read.new.values
           found.ensures.yes found.ensures.kept found.ensures.none found.ensures.no c.tell_read.ensures.values,
     )

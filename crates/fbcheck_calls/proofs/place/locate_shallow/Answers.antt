@@ -1,8 +1,8 @@
 use Rattle.std.proofs.Common.{ap, None}
 use Rattle.fb_verify.specs.Sealed.{Sealed}
 use Rattle.fb_verify.specs.declared.links.Located.{Located}
-use Rattle.fbcheck_calls.specs.Told.{found_by}
 use Rattle.fb_bfbs.specs.declared.loading.Loaded.{Loaded}
+use Rattle.fbcheck_calls.specs.Told.{found_by}
 use Rattle.fbcheck_calls.proofs.AnswerLemmas.{plain_is_plain}
 use Rattle.fbcheck_calls.proofs.BegunLemmas.{found_is_located, unchecked_is_located}
 use Rattle.fbcheck_calls.proofs.place.locate_shallow.Goals as goal
@@ -14,9 +14,9 @@ returns-in-Err-clause-told c =
 
 pub returns-clause-told : goal.returns-clause-told
 returns-clause-told c =
-    let found = c.verify_and_locate_shallow-found in (
+    let found = c.verify_and_locate-found in (
       found_by (λ (v : Sealed). v.report) (λ (e : Located). e.fault) found.result,
       c.tell_located.ensures.told,
-      found_is_located c.args.basis.now 64 c.args.options.now c.args.buffer.now c.in-Ok.begun c.in-Ok.ensures.starts.0 c.in-Ok.ensures.starts.1 c.metered.result.bytes c.metered.ensures.bytes c.loaded.result.now.schema (ap (λ (l : Loaded). l.schema) c.loaded.ensures) None (plain_is_plain c.args.basis.now c.args.options.now c.if-options-ne0.false) (λ (v : Sealed). v.report) found.result _ c.args.text.now c.tell_located.new.text c.args.written.now c.tell_located.new.written
+      found_is_located c.args.basis.now 64 c.args.options.now c.args.buffer.now c.in-Ok.begun c.in-Ok.ensures.starts.0 c.in-Ok.ensures.starts.1 c.metered.result.bytes c.metered.ensures.bytes None (plain_is_plain c.args.basis.now c.args.options.now c.if-options-ne0.false) (λ (v : Sealed). v.report) c.loaded.result.now.schema (ap (λ (l : Loaded). l.schema) c.loaded.ensures) found.result _ c.args.text.now c.tell_located.new.text c.args.written.now c.tell_located.new.written
           found.ensures.yes found.ensures.none found.ensures.no found.ensures.along c.tell_located.ensures.text,
     )

@@ -1,9 +1,8 @@
 use Rattle.std.proofs.Common.{ap, Some}
 use Rattle.fb_rules.specs.declared.fault.Fault.{Fault}
-use Rattle.fb_bfbs.specs.declared.loading.Loaded.{Loaded}
 use Rattle.fb_strict.specs.declared.strictly.VerifiedStrictly.{VerifiedStrictly}
 use Rattle.fbcheck_calls.specs.Told.{found_by}
-use Rattle.fbcheck_calls.specs.declared.answer.Answer.{Answer}
+use Rattle.fbcheck_calls.specs.declared.outcome.Outcome.{Outcome}
 use Rattle.fbcheck_calls.proofs.BegunLemmas.{found_is_checked, unchecked_is_checked}
 use Rattle.fbcheck_calls.proofs.strict.check_alone_strictly.Goals as goal
 
@@ -14,10 +13,10 @@ returns-in-Err-clause-told c =
 
 pub returns-clause-told : goal.returns-clause-told
 returns-clause-told c =
-    let found = c.verify_strictly_shallow-found in
-    let answer : Answer = found_by (λ (v : VerifiedStrictly). v.report) (λ (f : Fault). f) found.result in (
+    let found = c.verify_strictly-found in
+    let answer : Outcome = found_by (λ (v : VerifiedStrictly). v.report) (λ (f : Fault). f) found.result in (
       answer,
       c.tell_found.ensures.told,
-      found_is_checked c.args.basis.now 64 c.args.options.now c.args.buffer.now c.in-Ok.begun c.in-Ok.ensures.starts.0 c.in-Ok.ensures.starts.1 c.metered.result.bytes c.metered.ensures.bytes c.loaded.result.now.schema (ap (λ (l : Loaded). l.schema) c.loaded.ensures) (Some c.plan_of.result.now) c.plan_of.ensures.plan (λ v. v.report) (λ f. f) found.result
+      found_is_checked c.args.basis.now 64 c.args.options.now c.args.buffer.now c.in-Ok.begun c.in-Ok.ensures.starts.0 c.in-Ok.ensures.starts.1 c.metered.result.bytes c.metered.ensures.bytes (Some c.plan_of.result.now) c.plan_of.ensures.plan (λ v. v.report) (λ f. f) found.result
           found.ensures.yes found.ensures.none found.ensures.no,
     )

@@ -1,8 +1,8 @@
 use Rattle.std.proofs.Common.{◌≡◌, ◌∙◌, ap, length, Some, sym}
 use Rattle.std.specs.List.{length_refill}
-use Rattle.fb_bfbs.specs.declared.loading.Loaded.{Loaded}
 use Rattle.fb_strict.specs.declared.strictly.VerifiedStrictly.{VerifiedStrictly}
 use Rattle.fb_verify.specs.declared.links.Located.{Located}
+use Rattle.fb_bfbs.specs.declared.loading.Loaded.{Loaded}
 use Rattle.fbcheck_calls.specs.Told.{found_by}
 use Rattle.fbcheck_calls.proofs.BegunLemmas.{found_is_located, unchecked_is_located}
 use Rattle.fbcheck_calls.proofs.strict.locate_in_strictly.Goals as goal
@@ -17,7 +17,7 @@ returns-clause-told c =
     let found = c.verify_strictly_and_locate-found in (
       found_by (λ (v : VerifiedStrictly). v.report) (λ (e : Located). e.fault) found.result,
       c.tell_located.ensures.told,
-      rw (← c.levels.ensures) (found_is_located c.args.basis.now c.levels.result c.args.options.now c.args.buffer.now c.in-Ok.begun c.in-Ok.ensures.starts.0 c.in-Ok.ensures.starts.1 c.metered.result.bytes c.metered.ensures.bytes c.loaded.result.now.schema (ap (λ (l : Loaded). l.schema) c.loaded.ensures) (Some c.plan_of.result.now) c.plan_of.ensures.plan (λ (v : VerifiedStrictly). v.report) found.result _ c.args.text.now c.tell_located.new.text c.args.written.now c.tell_located.new.written
+      rw (← c.levels.ensures) (found_is_located c.args.basis.now c.levels.result c.args.options.now c.args.buffer.now c.in-Ok.begun c.in-Ok.ensures.starts.0 c.in-Ok.ensures.starts.1 c.metered.result.bytes c.metered.ensures.bytes (Some c.plan_of.result.now) c.plan_of.ensures.plan (λ (v : VerifiedStrictly). v.report) c.loaded.result.now.schema (ap (λ (l : Loaded). l.schema) c.loaded.ensures) found.result _ c.args.text.now c.tell_located.new.text c.args.written.now c.tell_located.new.written
           found.ensures.yes found.ensures.none found.ensures.no found.ensures.along c.tell_located.ensures.text),
     )
 
@@ -27,5 +27,4 @@ invariant_of-room c =
     let old = c.room.inside.links in
     let call = c.verify_strictly_and_locate-found in
     let is : old.len ≡ length old.items = sym c.as_mut_slice-links.ensures.len ∙ ap length c.as_mut_slice-links.ensures.value in
-    let same = sym call.ensures.scratch in
-    (call.ensures.room ∙ c.room.invariant.0 ∙ same, sym (length_refill old.len old.items call.new.links is) ∙ is ∙ c.room.invariant.1 ∙ same)
+    (call.ensures.room ∙ c.room.invariant.0, sym (length_refill old.len old.items call.new.links is) ∙ is ∙ c.room.invariant.1)

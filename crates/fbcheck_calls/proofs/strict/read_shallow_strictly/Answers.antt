@@ -1,14 +1,13 @@
 use Rattle.std.proofs.Common.{ap, Some}
 use Rattle.fb_rules.specs.declared.fault.Fault.{Fault}
-use Rattle.fb_bfbs.specs.declared.loading.Loaded.{Loaded}
 use Rattle.fb_strict.specs.declared.strictly.VerifiedStrictly.{VerifiedStrictly}
 use Rattle.fbcheck_calls.specs.Told.{found_by}
-use Rattle.fbcheck_calls.specs.declared.answer.Answer.{Answer}
+use Rattle.fbcheck_calls.specs.declared.outcome.Outcome.{Outcome}
 use Rattle.fbcheck_calls.proofs.BegunLemmas.{found_fits, found_is_read, unread_is_read}
 use Rattle.fbcheck_calls.proofs.strict.read_shallow_strictly.Goals as goal
 
 pub tell_read-requires : goal.tell_read-requires
-tell_read-requires c = found_fits c.args.basis.now 64 c.args.options.now c.args.buffer.now c.in-Ok.begun c.in-Ok.ensures.starts.0.0 c.in-Ok.ensures.starts.0.1 c.metered.result.bytes c.metered.ensures.bytes c.loaded.result.now.schema (ap (λ (l : Loaded). l.schema) c.loaded.ensures) (Some c.plan_of.result.now) c.plan_of.ensures.plan (λ (v : VerifiedStrictly). v.report) (λ v. v.verified) c.args.paths.now c.in-Ok.ensures.starts.1 c.verify_strictly_shallow-found.result c.verify_strictly_shallow-found.ensures.kept
+tell_read-requires c = found_fits c.args.basis.now 64 c.args.options.now c.args.buffer.now c.in-Ok.begun c.in-Ok.ensures.starts.0.0 c.in-Ok.ensures.starts.0.1 c.metered.result.bytes c.metered.ensures.bytes (Some c.plan_of.result.now) c.plan_of.ensures.plan (λ (v : VerifiedStrictly). v.report) (λ v. v.verified) c.args.paths.now c.in-Ok.ensures.starts.1 c.verify_strictly-found.result c.verify_strictly-found.ensures.kept
 
 pub returns-in-Err-clause-told : goal.returns-in-Err-clause-told
 returns-in-Err-clause-told c =
@@ -17,10 +16,10 @@ returns-in-Err-clause-told c =
 
 pub returns-clause-told : goal.returns-clause-told
 returns-clause-told c =
-    let found = c.verify_strictly_shallow-found in
-    let answer : Answer = found_by (λ (v : VerifiedStrictly). v.report) (λ (f : Fault). f) found.result in (
+    let found = c.verify_strictly-found in
+    let answer : Outcome = found_by (λ (v : VerifiedStrictly). v.report) (λ (f : Fault). f) found.result in (
       answer,
       c.tell_read.ensures.told,
-      found_is_read c.args.basis.now 64 c.args.options.now c.args.buffer.now c.in-Ok.begun c.in-Ok.ensures.starts.0.0 c.in-Ok.ensures.starts.0.1 c.metered.result.bytes c.metered.ensures.bytes c.loaded.result.now.schema (ap (λ (l : Loaded). l.schema) c.loaded.ensures) (Some c.plan_of.result.now) c.plan_of.ensures.plan (λ (v : VerifiedStrictly). v.report) (λ v. v.verified) c.args.paths.now c.in-Ok.ensures.starts.1 found.result c.args.values.now c.tell_read.new.values
+      found_is_read c.args.basis.now 64 c.args.options.now c.args.buffer.now c.in-Ok.begun c.in-Ok.ensures.starts.0.0 c.in-Ok.ensures.starts.0.1 c.metered.result.bytes c.metered.ensures.bytes (Some c.plan_of.result.now) c.plan_of.ensures.plan (λ (v : VerifiedStrictly). v.report) (λ v. v.verified) c.args.paths.now c.in-Ok.ensures.starts.1 found.result c.args.values.now c.tell_read.new.values
           found.ensures.yes found.ensures.kept found.ensures.none found.ensures.no c.tell_read.ensures.values,
     )

@@ -1,8 +1,8 @@
 use Rattle.std.proofs.Common.{IfErr, List, Option, Result, ap, ℕ, rules, subst, sym, ◌∙◌}
 use Rattle.fbcheck_serve.specs.declared.asked.Asked.{Asked}
-use Rattle.fbcheck_texts.specs.declared.{fault.AskFault.TheVariants.NoRoot, hint.Unasked.Unasked}
+use Rattle.fbcheck_texts.specs.declared.{fault.AskFault.AskFault, fault.AskFault.TheVariants.NoRoot, hint.Unasked.Unasked}
 use Rattle.fbcheck_serve.specs.{Asked.IsFound, Asked.LacksIdent, Asked.options_of, Inputs.label_of, Inputs.with_label, Checking.LacksJob, Checking.own_of}
-use Rattle.fb_lines.specs.Job.{Serves, job_of}
+use Rattle.fb_run.specs.Job.{Serves, job_of}
 use Rattle.fb_run.proofs.RunLemmas.{err_exit}
 use Rattle.fbcheck_serve.proofs.AskedLemmas.{hinted, path_untold, planless_untold, planned}
 use Rattle.fbcheck_serve.proofs.asked.asked_of.Goals as goal
@@ -85,9 +85,14 @@ returns-clause-serves c =
       table = c.in-Some.ensures.table;
       fits = c.in_ok-paths.ensures.fits;
       few = rw (c.in_ok-paths.ensures.count, c.as_slice.ensures.value) c.requires.few;
-      least = c.requires.least;
-      most = c.requires.most;
-      some_messages = c.requires.some_messages;
-      some_bad = c.requires.some_bad;
+      terms = c.requires.terms;
       planned = planned c.args.schema_bytes c.in-Ok.loaded.schema c.args.settings.now c.in_ok-plan.plan c.in_ok-plan.ensures.plan;
     })
+
+pub returns-clause-head : goal.returns-clause-head
+returns-clause-head c = c.in_ok-head.ensures.head c.in-Ok.loaded.schema
+
+pub returns-in_err-head-clause-none : goal.returns-in_err-head-clause-none
+returns-in_err-head-clause-none c =
+    err_exit c.from_residual-in_err-head.result _ (λ (r : Result Asked Unasked). IfErr r (λ u. LacksJob c.args.schema_bytes c.args.settings.now u.fault)) c.from_residual-in_err-head.ensures.1
+    (subst (λ (f : AskFault). LacksJob c.args.schema_bytes c.args.settings.now f) (sym c.in_err-head.ensures.none) tt)

@@ -2,7 +2,7 @@
 
 use fb_bytes::Meter;
 use fb_schema::Schema;
-use fb_verify::{Checks, Ident, Limits, Scratch, Start, Verified, verify};
+use fb_verify::{Checks, Ident, Limits, Question, Scratch, Start, Verified, verify};
 use std::alloc::Global;
 use std::process::Abort;
 
@@ -19,15 +19,14 @@ pub fn verified<'b, 's, 'n>(
     let meter = Meter::new(bytes).expect(rt, "a short buffer");
     let mut scratch = Scratch::new(alloc, 64).expect(rt, "memory");
     assert!(rt; schema.is_table(root));
-    let answer = verify(
-        meter,
+    let question = Question {
         schema,
         root,
         start,
-        Ident::Any,
-        Limits::published(),
+        ident: Ident::Any,
+        limits: Limits::published(),
         checks,
-        &mut scratch,
-    );
+    };
+    let answer = verify(meter, &question, scratch.lend());
     answer.expect(rt, "a yes")
 }

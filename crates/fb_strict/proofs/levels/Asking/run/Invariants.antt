@@ -1,5 +1,5 @@
 use Rattle.std.proofs.Common.{◌≡◌, ◌≤◌, length}
-use Rattle.fb_strict.specs.Levels.{IsUnderWay, turns_left}
+use Rattle.fb_strict.specs.Levels.{AreEnough, IsUnderWay, turns_left}
 use Rattle.fb_strict.proofs.levels.Asking.run.Given as goal
 
 -- the verdict is under way
@@ -8,7 +8,7 @@ invariant-loop-many g l = record {
   under : IsUnderWay l.self l.spent l.frames l.levels l.many;
   frames : l.self.question.limits.depth ≡ length l.frames;
   levels : l.self.question.limits.depth ≤ length l.levels;
-  room : g.W.Walker.room l.walker ≡ g.W.Walker.room l.fn.walker;
+  lent : AreEnough l.self.question.limits.depth (length l.lent) (length l.links);
 }
 
 -- each turn leaves fewer

@@ -3,7 +3,7 @@ use Rattle.fb_schema.specs.Live.{widest}
 use Rattle.fb_rules.specs.Bounds.{Bounds}
 use Rattle.fb_rules.specs.declared.{fault.Report.Report, start.Start.TheVariants.Bare, start.Ident.TheVariants.Any}
 use Rattle.fb_strict.specs.Levels.{Whole}
-use Rattle.fb_strict.proofs.Walking.{report_few, most_few, report_deep, short_bytes, walk_stops}
+use Rattle.fb_strict.proofs.Walking.{report_few, most_few, report_deep, short_bytes, enough_inside, walk_stops}
 use Rattle.fb_strict.proofs.levels.Asking.walk.Goals as goal
 use Rattle.fb_strict.proofs.levels.Asking.walk.Goals.{After-walk}
 
@@ -14,6 +14,11 @@ fewer : (g : _) (c : After-walk g) → c.limits_inside-limits.result.tables < 2 
 fewer g c = let t = ap (λ (L : Bounds). L.tables) c.limits_inside-limits.ensures in omega (arith, t, c.requires.asking.many)
 
 -- src/levels.rt
+pub walk-requires-clause-lent : goal.walk-requires-clause-lent
+walk-requires-clause-lent g c =
+    let limits = ap (λ (L : Bounds). L.depth) c.limits_inside-limits.ensures in
+    enough_inside c.args.level.now.above c.requires.lent limits (omega (arith, c.split_at_mut-own.ensures.front_len, c.split_at_mut-own.ensures.back_len, c.min-around.ensures))
+
 pub overflow_add-level : goal.overflow_add-level
 overflow_add-level g c =
     let deep = report_deep _ _ c.in-Ok-walk.verified.report c.in-Ok-walk.ensures.yes in

@@ -8,6 +8,8 @@ use Rattle.fb_rules.specs.declared.offset_row.Row.{Row}
 use Rattle.fb_verify.specs.declared.stack.Turn.TheVariants.{Up}
 use Rattle.fb_rules.specs.{Cost.present_reads, Fields.entries_of, OffsetRows.LeavesRow, OffsetRows.AreAll, Order.present_failure, Plain.IsTested}
 use Rattle.fb_verify.specs.{Stack.blank, Stack.Waiting, Turns.BeginsRow, Turns.MemberTurned, Turns.RowTurned}
+use Rattle.fb_rules.specs.declared.plain.Standing.TheVariants.{Known, Unknown}
+use Rattle.fb_rules.proofs.Budgets.{fewer_reads}
 use Rattle.fb_verify.proofs.IntoField.{into_askable, into_stops, few_spent, passed_over, row_begins, far_turned}
 use Rattle.fb_verify.proofs.Turns.{halts_in_field}
 use Rattle.fb_verify.proofs.stack.Walk.go_to_union.Goals as goal
@@ -54,6 +56,9 @@ begins : (g : _) (c : After-put_union-failed g) → c.put_union-failed.result �
     → BeginsRow c.args.self.now c.args.self.now c.args.reads.now c.put_union-failed.new.reads g.under c.args.waiting c.args.top.now (record c.args.top.now { next = c.args.top.now.next + 1; number = c.args.field.now.number; row = c.put_union-failed.new.row })
 begins g c none more = row_begins c.requires.0 _ _ _ (tested g c) none _ _ (leads g c none) more
 
+unknown : Unknown ≡ Known → ⊥
+unknown e = cc
+
 pub pass_member-turn-requires : goal.pass_member-turn-requires
 pass_member-turn-requires g c =
     let d = (goal.at.pass_member-turn-requires g c).After-put_union-failed in
@@ -65,11 +70,10 @@ pass_member-turn-requires g c =
       record {
         in-row = (begins g d none more).row;
         limits = c.may_open.ensures.limits limits;
-        few = omega (arith, spent, c.may_open.ensures.room limits);
-        allowed = c.short_of-room.ensures.allowed;
-        short = c.short_of-room.ensures.short;
+        allowed = fewer_reads (c.args.self.now.limits).reads _ _ (omega (arith, spent, c.may_open.ensures.room limits)) c.short_of.ensures.allowed;
+        short = omega (arith, spent, c.may_open.ensures.room limits, c.short_of.ensures.short);
       },
-      (rw (all_of _ one.1).1 tt, c.requires.1.1),
+      (c.brim.ensures, ((λ e. absurd (unknown e)), (rw (all_of _ one.1).1 tt, c.requires.1.1))),
     )
 
 -- a turn that stays before its word is one through its row

@@ -9,4 +9,4 @@ any_small : Any ≡ Small → ⊥
 any_small e = cc
 
 pub pass_flats-turn-requires : goal.pass_flats-turn-requires
-pass_flats-turn-requires g c = rw c.lend-own.ensures.lent (c.requires.0, (c.requires.1, λ e. absurd (any_small e)))
+pass_flats-turn-requires g c = rw c.lend-own.ensures.lent (c.requires.0, (c.requires.1.0, ((λ e. absurd (any_small e)), λ _. c.requires.1.1)))

@@ -12,7 +12,13 @@ pass_small_by_published-requires g c =
       | in-Small w ↦ rw c.steps_of.ensures.value at (c.sizes_of.ensures w.in-Small.is)
       | in_default w ↦ absurd (false≢true (sym w.matches-is ∙ c.if-matches.true))
     ] in
-    (c.requires.0, (sym (c.are_published.ensures c.if-are_published.true) ∙ c.requires.1, small))
+    (c.requires.0, (sym (c.are_published.ensures c.if-are_published.true) ∙ c.requires.1, (small, c.fits_whole.ensures c.if-fits_whole.true)))
 
 pub pass_flats_by_published-requires : goal.pass_flats_by_published-requires
-pass_flats_by_published-requires g c = (c.requires.0, sym (c.are_published.ensures c.if-are_published.true) ∙ c.requires.1)
+pass_flats_by_published-requires g c = (c.requires.0, (sym (c.are_published.ensures c.if-are_published.true) ∙ c.requires.1, c.fits_whole.ensures c.if-fits_whole.true))
+
+pub fits_whole-requires-clause-fields : goal.fits_whole-requires-clause-fields
+fits_whole-requires-clause-fields g c = (((((c.requires.0).down).row).walking).served).few c.args.object
+
+pub fits_whole-requires-clause-tables : goal.fits_whole-requires-clause-tables
+fits_whole-requires-clause-tables g c = ((((c.requires.0).down).row).walking).tables

@@ -1,5 +1,7 @@
-use Rattle.std.proofs.Common.{None, ◌≡◌, ◌≤◌, ◌+◌, max, length, refl, sym, ◌∙◌, ap, subst, arith}
-use Rattle.fb_schema.specs.{Live.live_fields, Steps.step_of}
+use Rattle.std.proofs.Common.{ℕ, List, map, None, ◌≡◌, ◌≤◌, ◌+◌, max, length, refl, sym, ◌∙◌, ap, subst, arith}
+use Rattle.fb_schema.specs.{Rows.Rows, Live.live_fields, Live.widest, Steps.step_of}
+use Rattle.fb_schema.specs.declared.views.Step.{Step}
+use Rattle.fb_schema.proofs.LookLemmas.{within_widest}
 use Rattle.fb_rules.specs.declared.offset_row.Row.{Row}
 use Rattle.fb_verify.specs.declared.stack.Walk.{Walk}
 use Rattle.fb_rules.specs.{Cost.lead_reads, Fields.Entry, Order.after, Order.element_failure, Plain.tested_by}
@@ -32,7 +34,7 @@ told : (g : _) (c : After-test_lead-failed g)
 told g c =
     let r = c.args.reads.now.count in
     word_told c.args.self.now.checks c.args.reads.now.bytes c.args.self.now.schema.now c.args.row.now (lead_to c.first_referent-referent.result) c.first_referent-referent.ensures.lead
-    r c.first_referent-referent.new.reads.count (typed g c) _ (rw (ap (λ x. x.bytes) c.first_referent-referent.ensures.counted, c.requires.1.1) at c.test_lead-failed.ensures.told)
+    r c.first_referent-referent.new.reads.count (typed g c) _ (rw (ap (λ x. x.bytes) c.first_referent-referent.ensures.counted, c.requires.1.1.1.1) at c.test_lead-failed.ensures.told)
 
 -- where it tells nothing, the word holds, and was paid for, by few reads
 passed : (g : _) (c : After-test_lead-failed g) → c.test_lead-failed.result ≡ None
@@ -86,7 +88,7 @@ counts g c =
       fewer = ((c.requires.0).limits).fewer;
       deep = ((c.requires.0).limits).deep;
       low = ((c.requires.0).limits).low;
-      cheap = fewer_reads (c.args.self.now.limits).reads (c.test_lead-failed.new.reads.count + 3) c.args.room (omega (arith, (passed g d none).2, (c.requires.0).few)) (c.requires.0).allowed;
+      cheap = fewer_reads (c.args.self.now.limits).reads (c.test_lead-failed.new.reads.count + 3) (c.args.reads.now.count + 8) (omega (arith, (passed g d none).2)) (c.requires.0).allowed;
       is = c.count_table.ensures ∙ ap (λ n. record w { tables = w.tables + 1; deepest = max w.deepest n }) (two c.args.waiting);
     }
 
@@ -94,15 +96,20 @@ pub returns-then-not-is_plain : goal.returns-then-not-is_plain
 returns-then-not-is_plain g c =
     let d = (goal.at.returns-then-not-is_plain g c).After-count_table in
     let e = (goal.at.returns-then-not-is_plain g c).After-test_lead-failed in
-    goes_down (counts g d) (omega (arith, (passed g e c.in_default.is).2, (c.requires.0).few, (c.requires.0).short))
+    goes_down (counts g d) (omega (arith, (passed g e c.in_default.is).2, (c.requires.0).short))
+
+-- as many steps as fields, which are no more than those of the widest table
+many : (S : Rows) (object : ℕ) {steps : List Step} → steps ≡ map step_of (live_fields S object) → (length steps ≡ length (live_fields S object)) × (length steps ≤ widest S)
+many S object its = let long = ap length its ∙ length_map step_of (live_fields S object) in (long, omega (arith, long, within_widest S object))
 
 pub pass_flat-came-requires : goal.pass_flat-came-requires
 pass_flat-came-requires g c =
     let d = (goal.at.pass_flat-came-requires g c).After-count_table in
     let e = (goal.at.pass_flat-came-requires g c).After-test_lead-failed in
-    let count = c.count.ensures.all (omega (arith, (passed g e c.in_default.is).2, (c.requires.0).few, (c.requires.0).short)) in
+    let count = c.count.ensures.all (omega (arith, (passed g e c.in_default.is).2, (c.requires.0).short)) in
+    let room = c.requires.1.0 c.test_lead-failed.new.reads.count (omega (arith, c.if-count-brim.false, count)) in
     let steps = c.steps_of-steps.ensures in
-    flat_comes (counts g d) c.requires.1.1 refl steps.value steps.few (sym c.is_plain.ensures ∙ c.if-not-is_plain.false) (c.requires.0).allowed (omega (arith, c.if-count-steps.false, count)) (c.requires.0).short
+    flat_comes (counts g d) c.requires.1.1.1.1 refl steps.value steps.few (sym c.is_plain.ensures ∙ c.if-not-is_plain.false) room.0 (omega (arith, (many c.args.self.now.schema.now c.in-Table.object steps.value).1)) room.1
 
 pub returns-in-Some-came : goal.returns-in-Some-came
 returns-in-Some-came g c =
@@ -115,14 +122,15 @@ pub returns-in_default-came : goal.returns-in_default-came
 returns-in_default-came g c =
     let d = (goal.at.returns-in_default-came g c).After-count_table in
     let e = (goal.at.returns-in_default-came g c).After-test_lead-failed in
-    let count = c.count.ensures.all (omega (arith, (passed g e c.in_default.is).2, (c.requires.0).few, (c.requires.0).short)) in
+    let count = c.count.ensures.all (omega (arith, (passed g e c.in_default.is).2, (c.requires.0).short)) in
+    let room = c.requires.1.0 c.test_lead-failed.new.reads.count (omega (arith, c.if-count-brim.false, count)) in
     let p = c.pass_flat-came.ensures in
     let none = c.in_default-came.is in
     let came = c.pass_flat-came.new in
-    let long = ap length c.steps_of-steps.ensures.value ∙ length_map step_of (live_fields c.args.self.now.schema.now c.in-Table.object) in
+    let long = many c.args.self.now.schema.now c.in-Table.object c.steps_of-steps.ensures.value in
     let width = ap (λ (x : Walk). length (live_fields x.schema.now c.in-Table.object)) c.count_table.ensures in
     record {
-      on = table_passed (counts g d) came.next came.at came.reads (rw none at p) (omega (arith, p.paid none, long, width, c.if-count-steps.false, count, (c.requires.0).short));
+      on = table_passed (counts g d) came.next came.at came.reads (rw none at p) (omega (arith, p.paid none, long.0, long.1, width, room.1));
       same = refl;
       word = c.advance.ensures;
     }
@@ -136,16 +144,18 @@ returns-in_default-referent g c =
     let q = c.test_lead-failed.new.reads in
     let more = ((c.requires.0).in-row).more in
     let p = passed g d none in
-    let room = (c.requires.0).few in
     let left = ap (λ (x : Row). x.left) c.advance.ensures in
     let leaf = subst (λ x. IsLeafLead x) c.first_referent-referent.ensures.lead (is_leaf c.first_referent-referent.result (λ k e. c.in_default-referent.not-Table k e)) in
-    let cheap = fewer_reads (w.limits).reads q.count c.args.room (omega (arith, p.2, room)) (c.requires.0).allowed in
+    let cheap = fewer_reads (w.limits).reads q.count (c.args.reads.now.count + 8) (omega (arith, p.2)) (c.requires.0).allowed in
     let over = leaf_passed i.walking c.advance.new.self q.count c.advance.ensures more p.0 p.1 leaf cheap in
     record {
-      on = word_passed i _ q (rw (kept g d) over) refl (omega (arith, p.2, more, left)) (omega (arith, left)) (omega (arith, p.1)) (kept g d) (omega (arith, p.2, room, (c.requires.0).short));
+      on = word_passed i _ q (rw (kept g d) over) refl (omega (arith, p.2, more, left)) (omega (arith, left)) (omega (arith, p.1)) (kept g d) (omega (arith, p.2, (c.requires.0).short));
       same = refl;
       word = c.advance.ensures;
     }
+
+pub test_lead-failed-requires-clause-stands : goal.test_lead-failed-requires-clause-stands
+test_lead-failed-requires-clause-stands g c = rw (ap (λ x. x.bytes) c.first_referent-referent.ensures.counted) c.requires.1.1.0
 
 pub stop_in_flat-requires-clause-next : goal.stop_in_flat-requires-clause-next
 stop_in_flat-requires-clause-next g c = c.in-Some-came.ensures.within

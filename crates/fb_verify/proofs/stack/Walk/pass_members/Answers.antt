@@ -9,7 +9,8 @@ use Rattle.fb_verify.specs.declared.{scratch.Frame.Frame, stack.Turn.Turn, stack
 use Rattle.fb_verify.specs.declared.stack.Turn.TheVariants.{Down, Up, Slowly, Halt as Halted}
 use Rattle.fb_verify.specs.Stack.{Waiting}
 use Rattle.fb_verify.specs.Turns.{GoesOn, MemberTurned, RowTurned}
-use Rattle.fb_verify.proofs.{RowTurns.stays, Turning.goes_on, Turning.goes_down, Turning.halts_on}
+use Rattle.fb_rules.proofs.Budgets.{fewer_reads}
+use Rattle.fb_verify.proofs.{RowTurns.stays, RowTurns.word_stands, RowTurns.next_stands, Turning.goes_on, Turning.goes_down, Turning.halts_on}
 use Rattle.fb_verify.proofs.stack.Walk.pass_members.Goals as goal
 
 grown : {a b c : ℕ} → a ≤ b → b ≤ c → a ≤ c
@@ -30,6 +31,9 @@ module _ (w mid then : Walk) (m been new : Lent) (under : Waiting) (top t past :
   word_turned child Slowly up h = absurd h
   word_turned child Halted up h = halts_on w mid then m been new under on.same on.bytes h
 
+pub returns-then-not-stands : goal.returns-then-not-stands
+returns-then-not-stands g c = let r = (c.requires.0).row in stays c.args.self.now c.args.reads.now g.under c.args.top.now r.walking r.short
+
 pub loop-targets-init : goal.loop-targets-init
 loop-targets-init g c =
     let w = c.args.self.now in
@@ -39,6 +43,7 @@ loop-targets-init g c =
     record {
       on = subst (λ (x : Leads). GoesOn w w m m g.under top (record top { row = record top.row { leads = x } })) c.requires.1.0 (stays w m g.under top row.walking row.short);
       next = refl;
+      stands = let s = c.stands.ensures c.if-not-stands.false in record { near = s.near; within = s.within; aligned = s.aligned };
       targets = c.targets_of-targets.ensures;
     }
 
@@ -50,11 +55,13 @@ pass_member-requires g c =
       record {
         in-row = record { many = ((c.requires.0).row).many; walking = (i.on).walking; more = has.more; short = (i.on).short };
         limits = record { deep = rw limits (c.requires.0).deep; low = (c.requires.0).low; fewer = has.fewer; small = has.small };
-        few = has.room;
-        allowed = rw limits c.short_of-room.ensures.allowed;
-        short = c.short_of-room.ensures.short;
+        allowed = rw limits (fewer_reads (c.args.self.now.limits).reads _ _ has.room c.short_of-room.ensures.allowed);
+        short = omega (arith, has.room, c.short_of-room.ensures.short);
       },
-      (rw (ap (λ (x : Walk). x.schema) (i.on).same) i.targets, c.requires.1.1 ∙ sym (ap (λ (x : Walk). x.checks) (i.on).same)),
+      (
+        rw ((i.on).same) c.brim-brim.ensures,
+        ((λ _. word_stands i.stands has.more), (rw (ap (λ (x : Walk). x.schema) (i.on).same) i.targets, c.requires.1.1 ∙ sym (ap (λ (x : Walk). x.checks) (i.on).same))),
+      ),
     )
 
 pub loop-targets-smaller : goal.loop-targets-smaller
@@ -67,6 +74,7 @@ loop-targets-preserved g c =
     record {
       on = rw e.same (goes_on c.args.self.now c.loop-targets.self c.pass_member.new.self c.args.reads.now c.loop-targets.reads c.pass_member.new.reads g.under (i.on).same (i.on).bytes (i.on).table (i.on).falls (grown (i.on).grows (e.on).grows) e.on);
       next = ap (λ (x : Frame). x.next) e.same ∙ i.next;
+      stands = rw (e.on).bytes (next_stands i.stands (c.has_word.ensures c.loop-targets-test.true).more e.word);
       targets = rw e.word (targets_after c.args.self.now.schema.now c.targets_of-targets.result c.loop-targets.row.leads i.targets);
     }
 

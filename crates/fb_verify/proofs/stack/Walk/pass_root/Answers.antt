@@ -25,15 +25,15 @@ returns-in-Ok g c =
 pub returns-in-Err : goal.returns-in-Err
 returns-in-Err g c =
     let p = rw (c.lend-reads.ensures.lent, c.requires.0, c.in-Err.is) at c.pass_steps-passed.ensures in
-    let e = c.stop_in_field.ensures in
-    let stops = (p.comes).err (c.stop_in_field.new.self.halt).stop (record { refusal = e.refusal; object = e.object; field = e.field }) in
-    rw (e.turn, c.settle.ensures) (
+    let e = c.stop_by-stop.ensures in
+    let stops = (p.comes).err c.stop_by-stop.result (record { refusal = e.refusal; object = e.object; field = e.field }) in
+    rw (c.halt-self.ensures, c.settle.ensures) (
       record {
-        deep = rw (e.links, e.last) (omega (arith, (c.requires.1.0).links));
-        err = rw (e.links, e.last) (rw c.requires.1.1.0 at stops);
+        deep = omega (arith, (c.requires.1.0).links);
+        err = rw c.requires.1.1.0 at stops;
         bytes = p.bytes;
       },
-      e.links,
+      refl,
     )
 
 -- the walk is between two fields of the root table, of which the budget allows whatever they cost
@@ -65,5 +65,5 @@ pass_steps-passed-requires g c =
       ),
     )
 
-pub stop_in_field-requires-clause-next : goal.stop_in_field-requires-clause-next
-stop_in_field-requires-clause-next g c = rw c.requires.0 at (c.in-Err.ensures.comes).next
+pub stop_by-stop-requires-clause-next : goal.stop_by-stop-requires-clause-next
+stop_by-stop-requires-clause-next g c = rw c.requires.0 at (c.in-Err.ensures.comes).next

@@ -17,13 +17,13 @@ pub pass_words_of-answer-requires : goal.pass_words_of-answer-requires
 pass_words_of-answer-requires g c =
     let r = c.requires.0 in
     let fit = fits _ _ _ _ c.count.ensures.all r.short c.from.ensures c.if-count-from.false in
-    rw c.lend-own.ensures.lent (r.walking, (fewer_reads (c.args.self.now.limits).reads _ _ fit c.short_of.ensures.allowed, (short_of _ _ fit c.short_of.ensures.short, (rw c.in-Text.is at c.requires.1.0, (tt, c.requires.1.1.1)))))
+    rw c.lend-own.ensures.lent (r.walking, (fewer_reads (c.args.self.now.limits).reads _ _ fit c.short_of.ensures.allowed, (short_of _ _ fit c.short_of.ensures.short, (rw c.in-Text.is at c.requires.1.0, (tt, (c.requires.1.1.1, c.stands.ensures c.if-not-stands.false))))))
 
 pub pass_words_of-answer-requires-in_default : goal.pass_words_of-answer-requires-in_default
 pass_words_of-answer-requires-in_default g c =
     let r = c.requires.0 in
     let fit = fits _ _ _ _ c.count.ensures.all r.short c.from.ensures c.if-count-from.false in
-    rw c.lend-own.ensures.lent (r.walking, (fewer_reads (c.args.self.now.limits).reads _ _ fit c.short_of.ensures.allowed, (short_of _ _ fit c.short_of.ensures.short, (c.requires.1.0, (c.requires.1.1.0, c.requires.1.1.1)))))
+    rw c.lend-own.ensures.lent (r.walking, (fewer_reads (c.args.self.now.limits).reads _ _ fit c.short_of.ensures.allowed, (short_of _ _ fit c.short_of.ensures.short, (c.requires.1.0, (c.requires.1.1.0, (c.requires.1.1.1, c.stands.ensures c.if-not-stands.false))))))
 
 pub returns-in-Ok : goal.returns-in-Ok
 returns-in-Ok g c _ = elim c.match-referent.branch [

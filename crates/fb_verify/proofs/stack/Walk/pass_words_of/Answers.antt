@@ -3,7 +3,7 @@ use Rattle.fb_rules.specs.declared.offset_row.Row.{Row}
 use Rattle.fb_rules.specs.{Cost.lead_reads, Fields.Entry, Order.after, Order.element_failure, Plain.tested_by}
 use Rattle.fb_rules.specs.OffsetRows.{lead_to, first_word, past_first, leads_after, IsLeafLead}
 use Rattle.fb_rules.proofs.{Budgets.fewer_reads, Chains.after_none, Few.first_few}
-use Rattle.fb_verify.proofs.{RowTurns.word_passed, Walking.leaf_passed}
+use Rattle.fb_verify.proofs.{RowTurns.word_passed, RowTurns.word_stands, RowTurns.next_stands, Walking.leaf_passed}
 use Rattle.fb_verify.proofs.Flats.{all_lead, all_free, all_told, word_fails}
 use Rattle.fb_verify.proofs.stack.Walk.pass_words_of.Goals as goal
 use Rattle.fb_verify.proofs.stack.Walk.pass_words_of.Goals.{After-test_lead-failed}
@@ -21,7 +21,7 @@ told : (g : _) (c : After-test_lead-failed g)
     → tested_by c.test_lead-failed.new.at c.test_lead-failed.new.reads.count c.test_lead-failed.result ≡ after c.loop-row.reads.count (element_failure c.args.self.now.checks c.loop-row.reads.bytes (first g c))
 told g c =
     let i = c.loop-row.invariant in
-    all_told i.on.walking c.args.referent i.leads _ (rw c.requires.1.1.1.1.1 at c.test_lead-failed.ensures.told)
+    all_told i.on.walking c.args.referent i.leads _ (rw c.requires.1.1.1.1.1.0 at c.test_lead-failed.ensures.told)
 
 pub returns-in-Some-clause-err : goal.returns-in-Some-clause-err
 returns-in-Some-clause-err g c =
@@ -57,8 +57,12 @@ loop-row-preserved g c =
           (omega (arith, cost, few, more, left)) (omega (arith, left)) (omega (arith, cost)) kept (omega (arith, cost, few, i.paid, more, c.requires.1.1.0));
       same = i.same;
       leads = ap (λ (x : Row). x.leads) row ∙ ap leads_after i.leads;
+      stands = rw kept (next_stands i.stands more row);
       paid = omega (arith, cost, few, i.paid, more, left);
     }
+
+pub test_lead-failed-requires-clause-stands : goal.test_lead-failed-requires-clause-stands
+test_lead-failed-requires-clause-stands g c = λ _. word_stands (c.loop-row.invariant).stands c.loop-row-test.true
 
 nothing : {n : ℕ} → n ≤ 0 → n ≡ 0
 nothing h = omega arith

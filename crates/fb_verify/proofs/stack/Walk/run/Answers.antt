@@ -83,7 +83,7 @@ go_on-requires g c =
     let new = work_opened c.args.self.now.checks c.args.loan.now.bytes c.args.self.now.schema.now table c.requires.1.0 in
     let some : 0 < length xs = omega (arith, c.in-Ok.ensures.allowed.deep, c.requires.1.1.1.1.0) in
     let top = get_or-set_same xs 0 c.opened.result blank some in
-    rw (k.0, k.1, c.in-Ok.ensures.opened, c.in-Ok.ensures.counted)
+    rw (c.again-walk.ensures, c.hand_on-rest.ensures.same, k.0, k.1, c.in-Ok.ensures.opened, c.in-Ok.ensures.counted)
     (record {
       walking = rw (top, c.opened.ensures) (rw (c.in-Ok.ensures.opened, c.in-Ok.ensures.counted) at (begun g d));
       top = omega (arith, length-set xs 0 c.opened.result, some);
@@ -99,23 +99,23 @@ gone g c then new frames r h =
     gone_from c.args.self.now c.if-is_plain.self then c.args.loan.now c.if-is_plain.loan new g.start _ _ (k.0 ∙ c.in-Ok.ensures.opened) (ap (λ (x : Lent). x.bytes) k.1 ∙ c.in-Ok.ensures.bytes) frames r h
 
 pub returns-in-Ok-None : goal.returns-in-Ok-None
-returns-in-Ok-None g c = gone g (goal.at.returns-in-Ok-None g c).Joined-is_plain c.go_on.new.self c.go_on.new.loan c.go_on.new.frames (Ok None) (rw (c.in-Ok-None.is, c.in-Ok-None.field-0-is) at c.go_on.ensures)
+returns-in-Ok-None g c = gone g (goal.at.returns-in-Ok-None g c).Joined-is_plain c.go_on.new.self c.go_on.new.loan c.go_on.new.frames (Ok None) (rw (c.again-walk.ensures, c.hand_on-rest.ensures.same, c.in-Ok-None.is, c.in-Ok-None.field-0-is) at c.go_on.ensures)
 
 pub returns-in-Err-go_on : goal.returns-in-Err-go_on
 returns-in-Err-go_on g c =
-    let e = gone g (goal.at.returns-in-Err-go_on g c).Joined-is_plain c.go_on.new.self _ _ (Err c.in-Err-go_on.halt) c.in-Err-go_on.ensures in
+    let e = gone g (goal.at.returns-in-Err-go_on g c).Joined-is_plain c.go_on.new.self _ _ (Err c.in-Err-go_on.halt) (rw (c.again-walk.ensures, c.hand_on-rest.ensures.same) at c.in-Err-go_on.ensures) in
     record { rows = c.go_on.new.frames; wrong = e; along = λ _. e.err }
 
 -- where these frames are used up, and it goes on in more
 
 pub returns-in-Ok-Some : goal.returns-in-Ok-Some
 returns-in-Ok-Some g c =
-    let u = gone g (goal.at.returns-in-Ok-Some g c).Joined-is_plain c.go_on.new.self c.go_on.new.loan c.go_on.new.frames (Ok (Some c.in-Ok-Some.waiting)) (rw (c.in-Ok-Some.is, c.in-Ok-Some.field-0-is) at c.go_on.ensures) in
-    ran_deeper c.args.self.now c.go_on.new.self c.go_deeper.new.self c.args.loan.now c.go_on.new.loan c.go_deeper.new.loan g.start _ _ u.same u.bytes c.go_on.new.frames c.go_deeper.result u.less c.go_deeper.ensures
+    let u = gone g (goal.at.returns-in-Ok-Some g c).Joined-is_plain c.go_on.new.self c.go_on.new.loan c.go_on.new.frames (Ok (Some c.in-Ok-Some.waiting)) (rw (c.again-walk.ensures, c.hand_on-rest.ensures.same, c.in-Ok-Some.is, c.in-Ok-Some.field-0-is) at c.go_on.ensures) in
+    ran_deeper c.args.self.now c.go_on.new.self c.go_deeper-answer.new.self c.args.loan.now c.go_on.new.loan c.go_deeper-answer.new.loan g.start _ _ u.same u.bytes c.go_on.new.frames c.go_deeper-answer.result u.less c.go_deeper-answer.ensures
 
-pub go_deeper-requires : goal.go_deeper-requires
-go_deeper-requires g c =
-    let u = gone g (goal.at.go_deeper-requires g c).Joined-is_plain c.go_on.new.self c.go_on.new.loan c.go_on.new.frames (Ok (Some c.in-Ok-Some.waiting)) (rw (c.in-Ok-Some.is, c.in-Ok-Some.field-0-is) at c.go_on.ensures) in
+pub go_deeper-answer-requires : goal.go_deeper-answer-requires
+go_deeper-answer-requires g c =
+    let u = gone g (goal.at.go_deeper-answer-requires g c).Joined-is_plain c.go_on.new.self c.go_on.new.loan c.go_on.new.frames (Ok (Some c.in-Ok-Some.waiting)) (rw (c.again-walk.ensures, c.hand_on-rest.ensures.same, c.in-Ok-Some.is, c.in-Ok-Some.field-0-is) at c.go_on.ensures) in
     let limits = ap (λ (x : Walk). (x.limits).depth) u.same in
     let kept = c.go_on.auto.frames in
     let set = length-set c.args.frames.now 0 c.opened.result in

@@ -62,17 +62,15 @@ impl<'s> Engine<'s> {
         assert!(rt; self.schema.is_table(self.root));
         assert!(rt; limits.depth() <= self.scratch.depth());
         assert!(rt; limits.depth() as usize <= self.links.len());
-        let answer = verify_and_locate(
-            meter,
-            self.schema,
-            self.root,
-            Start::Bare,
-            question.ident,
+        let whole = fb_verify::Question {
+            schema: self.schema,
+            root: self.root,
+            start: Start::Bare,
+            ident: question.ident,
             limits,
-            question.checks,
-            &mut self.scratch,
-            &mut self.links,
-        );
+            checks: question.checks,
+        };
+        let answer = verify_and_locate(meter, &whole, self.scratch.lend(), &mut self.links);
         match answer {
             Ok(verified) => digest.add_report(verified.report()),
             Err(located) => {
