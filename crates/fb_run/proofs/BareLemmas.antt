@@ -6,18 +6,14 @@ use Rattle.std.proofs.KnownBytes.{Keeps-refl}
 use Rattle.std.proofs.lemmas.List.{append-nil, nil_from_length}
 use Rattle.std.proofs.Math.Seq.{take-append_seam}
 use Rattle.fb_bytes.specs.declared.ends.Sink as sink
-use Rattle.fb_lines.specs.declared.output.Output.{Output}
-use Rattle.fb_lines.specs.Ends.{Outs, Reader, Writer, all_outs, beside}
-use Rattle.fb_lines.specs.{Job.Job, Job.Verdict, Job.checked_in, Line.IsLine, Line.SaidBy, Spot.Before, Spot.at_first, Spot.past_all, Spot.spot_of, Sums.no_tally}
-use Rattle.fb_lines.specs.Faults.{End, EndsBeside}
-use Rattle.fb_lines.specs.Lines.{TakesFront, WritesFront, WritesFronts}
-use Rattle.fb_lines.specs.Puts.{Adds, AddsBy, AreCut, AreSo, IsUnused, PutsAll, Queues, all_unused, queues_of, unused}
-use Rattle.fb_lines.specs.Texts.{Texts, no_bytes, silent, spoken}
-use Rattle.fb_lines.specs.declared.{tally.Tally.Tally, fault.RunFault.RunFault, options.Mode.Mode}
-use Rattle.fb_lines.specs.declared.options.Mode.TheVariants.{Lines, BadLines, Filter, Csv}
-use Rattle.fb_lines.specs.declared.fault.RunFault.TheVariants as run
-use Rattle.fb_lines.proofs.PutsLemmas.{front_whole}
-use Rattle.fb_run.specs.{Bare.IsBareInput, Bare.WritesPart, Pieces.AreEmpty, Run.IsBareRun, Whole.ReadsWhole}
+use Rattle.fb_run.specs.{AllTold.TakesFront, AllTold.WritesFront, AllTold.WritesFronts, Bare.IsBareInput, Bare.WritesPart, Ends.Outs, Ends.Reader, Ends.Writer, Ends.all_outs, Ends.beside, Faults.End}
+use Rattle.fb_run.specs.{Faults.EndsBeside, Job.Job, Job.Verdict, Job.checked_in, Line.IsLine, Line.SaidBy, Pieces.AreEmpty, Run.IsBareRun, Spot.Before, Spot.at_first, Spot.past_all, Spot.spot_of}
+use Rattle.fb_run.specs.{Sums.no_tally, Texts.Texts, Texts.no_bytes, Texts.silent, Texts.spoken, Whole.ReadsWhole}
+use Rattle.fb_run.specs.Puts.{Adds, AddsBy, AreCut, AreSo, IsUnused, PutsAll, Queues, all_unused, queues_of, unused}
+use Rattle.fb_run.specs.declared.{fault.RunFault.RunFault, options.Mode.Mode, output.Output.Output, tally.Tally.Tally}
+use Rattle.fb_run.specs.declared.options.Mode.TheVariants.{Lines, BadLines, Filter, Csv}
+use Rattle.fb_run.specs.declared.fault.RunFault.TheVariants as run
+use Rattle.fb_run.proofs.PutsLemmas.{front_whole}
 use Rattle.fb_run.proofs.{RunLemmas.caused_at, StreamLemmas.still, TakesLemmas.cut_caused, TakesLemmas.none_failed, TakesLemmas.outs_in}
 use Rattle.fb_run.proofs.TakesLemmas.{Gone, part_behind, put_behind, put_front, takes_all, written_all}
 

@@ -7,19 +7,15 @@ use mathlib.Core.Logic.{◌⊎◌, inl, inr}
 use Rattle.fb_bytes.specs.Messages.{IsMessage, IsPartial, Splits}
 use Rattle.fb_bytes.specs.declared.cut.Cut.{Cut}
 use Rattle.fb_bytes.specs.declared.stream_fault.StreamFault.TheVariants as stream
-use Rattle.fb_lines.specs.{Ends.Ends, Ends.Outs, Ends.Reader, Ends.Takes, Ends.beside, Job.Job, Job.checked_in, Job.cut_of, Lines.AreTold, Spot.IsDue, Spot.IsFull, Spot.at_first, Spot.past_all, Sums.count_of, Sums.no_tally}
-use Rattle.fb_lines.specs.Faults.{End, EndsBeside, IsCaused, IsCausedOut, IsUnfailedOut, end_of, failed}
-use Rattle.fb_lines.specs.Puts.{AreOpen, Queues, all_unused, unused}
-use Rattle.fb_lines.specs.Texts.{Texts, followed, silent, to_rejects}
-use Rattle.fb_lines.specs.declared.{fault.RunFault.RunFault, tally.Tally.Tally}
-use Rattle.fb_lines.specs.declared.fault.RunFault.TheVariants as run
-use Rattle.fb_run.specs.{Leave.IsUnended, Prompt.IsPrompt, Prompt.IsPromptFrom, Prompt.IsStreamPrompt, Run.answer_by, Run.IsRunBeside, Run.IsRunFrom, Run.Runs}
-use Rattle.fb_run.specs.Stream.{FailsStream, WhyStream}
+use Rattle.fb_run.specs.{AllTold.AreTold, Ends.Ends, Ends.Outs, Ends.Reader, Ends.Takes, Ends.beside, Job.Job, Job.checked_in, Job.cut_of, Leave.IsUnended, Prompt.IsPrompt, Prompt.IsPromptFrom}
+use Rattle.fb_run.specs.{Prompt.IsStreamPrompt, Puts.AreOpen, Puts.Queues, Puts.all_unused, Puts.unused, Run.IsRunBeside, Run.IsRunFrom, Run.Runs, Run.answer_by, Spot.IsDue, Spot.IsFull}
+use Rattle.fb_run.specs.{Spot.at_first, Spot.past_all, Stream.FailsStream, Stream.WhyStream, Sums.count_of, Sums.no_tally, Texts.Texts, Texts.followed, Texts.silent, Texts.to_rejects}
+use Rattle.fb_run.specs.Faults.{End, EndsBeside, IsCaused, IsCausedOut, IsUnfailedOut, end_of, failed}
 use Rattle.fb_run.specs.Pieces.{AreEmpty, AreSettled, Carry, Halts, IsReady, PassesFront, Stands, WritesBy}
-use Rattle.fb_run.specs.declared.skip.Skip.{Skip}
-use Rattle.fb_run.specs.declared.run.Ran.{Ran}
-use Rattle.fb_lines.proofs.PutsLemmas.{front_whole}
-use Rattle.fb_lines.proofs.Splitting.{empty_partial, splits_rest}
+use Rattle.fb_run.specs.declared.{fault.RunFault.RunFault, run.Ran.Ran, skip.Skip.Skip, tally.Tally.Tally}
+use Rattle.fb_run.specs.declared.fault.RunFault.TheVariants as run
+use Rattle.fb_run.proofs.PutsLemmas.{front_whole}
+use Rattle.fb_run.proofs.Splitting.{empty_partial, splits_rest}
 use Rattle.fb_run.proofs.StreamLemmas.{due_not_full, front_gathers, stands_first}
 use Rattle.fb_run.proofs.SkipLemmas.{LeavesOut, checked_more, skips_more}
 use Rattle.fb_run.proofs.TakesLemmas.{cut_caused, none_failed, outs_in, part_behind, put_behind, put_front, takes_all, takes_none, written_all}

@@ -2,7 +2,7 @@
 use Rattle.std.proofs.Common.{◌≡◌, ◌∙◌, ℕ, ◌+◌, ◌-◌, List, ◌++◌, ap, arith, drop, inl, inr, length, sym}
 use Rattle.std.proofs.Math.Seq.{drop-append-add}
 use Rattle.std.proofs.lemmas.{Bool.cases_lt, List.drop-append-le, List.drop_all, List.length-append}
-use Rattle.fb_lines.specs.{Job.Job, Job.checked_in}
+use Rattle.fb_run.specs.{Job.Job, Job.checked_in}
 use Rattle.fb_run.specs.declared.skip.Skip.{Skip}
 
 -- what stands behind the first bytes of two texts

@@ -6,15 +6,15 @@ use Rattle.fb_bytes.specs.Framing.{Framing, Feeds, FeedFails}
 use Rattle.fb_bytes.specs.declared.{cut.Cut.Cut, stream_fault.StreamFault.StreamFault}
 use Rattle.fb_bytes.specs.declared.stream_fault.StreamFault.TheVariants as stream
 use Rattle.fb_bytes.proofs.MessageLemmas.{readings_some}
-use Rattle.fb_lines.specs.{Ends.Outs, Faults.feed_fault, Job.Beside, Job.HasRoom, Job.Job, Job.cut_of, Spot.Before, Spot.HasDue, Spot.IsDue, Spot.IsFull, Spot.past_all, Texts.Texts, Texts.followed, Texts.silent, Job.Verdict, Sums.no_tally, Sums.tally_with}
-use Rattle.fb_lines.specs.Puts.{Adds, AddsBy, AreCut, AreOpen, AreSound, PutsAll, PutsTold, Queues, all_unused, unused}
+use Rattle.fb_run.specs.{Ends.Outs, Faults.feed_fault, Job.Beside, Job.HasRoom, Job.Job, Job.cut_of, Spot.Before, Spot.HasDue, Spot.IsDue, Spot.IsFull, Spot.past_all, Texts.Texts, Texts.followed, Texts.silent, Job.Verdict, Sums.no_tally, Sums.tally_with}
+use Rattle.fb_run.specs.Puts.{Adds, AddsBy, AreCut, AreOpen, AreSound, PutsAll, PutsTold, Queues, all_unused, unused}
 use Rattle.fb_run.specs.Stream.{TellsMore}
 use Rattle.fb_run.specs.Pieces.{AreEmpty, AreSettled, Carry, Gathers, GoesOn, Halts, IsReady, Passes, PassesAllBy, PassesFront, Stands, Stops, TellsOne, WritesBy}
-use Rattle.fb_lines.specs.declared.{tally.Tally.Tally, fault.RunFault.RunFault}
-use Rattle.fb_lines.specs.declared.fault.RunFault.TheVariants as run
-use Rattle.fb_lines.proofs.{Pieces.front-more, Splitting.empty_partial, Splitting.splits_one, Splitting.splits_rest, Splitting.splits_then}
-use Rattle.fb_lines.proofs.PutsLemmas.{all_told, front_still, front_then, front_whole, puts_none, puts_still, puts_then, was_unfailed}
-use Rattle.fb_run.proofs.LinesLemmas.{lines_more}
+use Rattle.fb_run.specs.declared.{tally.Tally.Tally, fault.RunFault.RunFault}
+use Rattle.fb_run.specs.declared.fault.RunFault.TheVariants as run
+use Rattle.fb_run.proofs.{InPieces.front-more, Splitting.empty_partial, Splitting.splits_one, Splitting.splits_rest, Splitting.splits_then}
+use Rattle.fb_run.proofs.PutsLemmas.{all_told, front_still, front_then, front_whole, puts_none, puts_still, puts_then, was_unfailed}
+use Rattle.fb_run.proofs.AllToldLemmas.{lines_more}
 
 module _ (job : Job) (first : Outs) where
   -- nothing was read

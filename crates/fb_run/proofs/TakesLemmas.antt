@@ -3,14 +3,11 @@ use Rattle.std.proofs.Common.{◌≡◌, ◌∙◌, ℕ, true, false, List, [], 
 use Rattle.std.proofs.{KnownBytes.Appends-kept, KnownBytes.Appends-nil}
 use Rattle.std.specs.Io.KnownBytes.{Appends}
 use Rattle.fb_bytes.specs.Ends.{one_more}
-use Rattle.fb_lines.specs.{Ends.Outs, Ends.Takes, Ends.Unwritten, Ends.Writer, Faults.IsCausedOut, Faults.IsUnfailedOut}
-use Rattle.fb_lines.specs.Lines.{ComesBehind, WritesFront}
-use Rattle.fb_lines.specs.Puts.{AreCut, AreOpen, Puts, PutsAs, PutsFront, PutsTold, Queue, Queues, all_unused, unused}
-use Rattle.fb_lines.specs.Texts.{Texts, silent}
-use Rattle.fb_lines.specs.declared.fault.RunFault.{RunFault}
-use Rattle.fb_lines.specs.declared.fault.RunFault.TheVariants as run
-use Rattle.fb_lines.proofs.PutsLemmas.{front_whole}
-use Rattle.fb_run.specs.Pieces.{AreEmpty}
+use Rattle.fb_run.specs.{AllTold.ComesBehind, AllTold.WritesFront, Ends.Outs, Ends.Takes, Ends.Unwritten, Ends.Writer, Faults.IsCausedOut, Faults.IsUnfailedOut, Pieces.AreEmpty, Puts.AreCut}
+use Rattle.fb_run.specs.{Puts.AreOpen, Puts.Puts, Puts.PutsAs, Puts.PutsFront, Puts.PutsTold, Puts.Queue, Puts.Queues, Puts.all_unused, Puts.unused, Texts.Texts, Texts.silent}
+use Rattle.fb_run.specs.declared.fault.RunFault.{RunFault}
+use Rattle.fb_run.specs.declared.fault.RunFault.TheVariants as run
+use Rattle.fb_run.proofs.PutsLemmas.{front_whole}
 
 -- the writers of all
 abbrev pub outs_in : Queues → Outs

@@ -1,6 +1,6 @@
 -- What is told, one after another.
 use Rattle.std.proofs.Common.{◌≡◌, List, ℕ, ap, ◌∙◌, append-nil, append_assoc}
-use Rattle.fb_lines.specs.Texts.{Texts, followed, silent}
+use Rattle.fb_run.specs.Texts.{Texts, followed, silent}
 
 abbrev all_of : List ℕ → List ℕ → List ℕ → Texts
 all_of out notes rejects = record { out = out; notes = notes; rejects = rejects }

@@ -4,10 +4,9 @@ use mathlib.Core.Logic.{inl, inr}
 use Rattle.std.specs.Io.KnownBytes.{Consumes, Keeps}
 use Rattle.std.proofs.KnownBytes.{Consumes-kept, Consumes-nil, Consumes-trans, Keeps-refl}
 use Rattle.std.proofs.lemmas.List.{drop_all, length-append}
-use Rattle.fb_lines.specs.{Ends.Outs, Ends.Reader, Job.Job, Job.checked_in, Sums.no_tally}
-use Rattle.fb_lines.specs.declared.fault.RunFault.TheVariants as run
-use Rattle.fb_run.specs.{Bare.Untold, Leave.IsUnended, Whole.FailsWhole, Whole.ReadsWhole}
+use Rattle.fb_run.specs.{Bare.Untold, Ends.Outs, Ends.Reader, Job.Job, Job.checked_in, Leave.IsUnended, Sums.no_tally, Whole.FailsWhole, Whole.ReadsWhole}
 use Rattle.fb_run.specs.declared.skip.Skip.{Skip}
+use Rattle.fb_run.specs.declared.fault.RunFault.TheVariants as run
 use Rattle.fb_run.proofs.SkipLemmas.{LeavesOut, checked_more, skips_more}
 
 -- what was read from the reader so far, of which this stands behind the bytes that are left out

@@ -1,10 +1,10 @@
 -- What a run over one bare input has read and written, and how it ends.
 use Rattle.std.specs.Prelude.{◌≡◌, ℕ, ◌<◌, ◌≤◌, true, List, length}
 use Rattle.std.specs.Io.KnownBytes.{Consumes}
-use Rattle.fb_lines.specs.Ends.{Ends, Outs, Takes, Unwritten}
-use Rattle.fb_lines.specs.{Job.Job, Job.Verdict, Job.checked_in, Texts.Texts, Texts.no_bytes, Line.IsTold, Spot.at_first, Sums.no_tally, Sums.tally_with, Lines.WritesFronts}
-use Rattle.fb_lines.specs.declared.{tally.Tally.Tally, fault.RunFault.RunFault}
-use Rattle.fb_lines.specs.declared.fault.RunFault.TheVariants.{WriteFault, NoteFault, RejectFault, Stream, BareTooLong, SkipPastEnd}
+use Rattle.fb_run.specs.Ends.{Ends, Outs, Takes, Unwritten}
+use Rattle.fb_run.specs.{Job.Job, Job.Verdict, Job.checked_in, Texts.Texts, Texts.no_bytes, Line.IsTold, Spot.at_first, Sums.no_tally, Sums.tally_with, AllTold.WritesFronts}
+use Rattle.fb_run.specs.declared.{tally.Tally.Tally, fault.RunFault.RunFault}
+use Rattle.fb_run.specs.declared.fault.RunFault.TheVariants.{WriteFault, NoteFault, RejectFault, Stream, BareTooLong, SkipPastEnd}
 
 -- what was read of an input is its bytes that are left out and a buffer within the limit
 pub record IsBareInput (job : Job) (bytes : List ℕ) : Type 0 where

@@ -1,7 +1,7 @@
 -- The ends of a run by the ghosts of their traits, its reader's among them, and the leave to ask that for more.
 use Rattle.std.specs.Prelude.{◌≡◌, ◌⊎◌, false}
 use Rattle.fb_bytes.specs.declared.ends.Sink as sink
-use Rattle.fb_lines.specs.Ends.{Ends, Reader, all_outs, beside, nowhere, outs_of, writer_of}
+use Rattle.fb_run.specs.Ends.{Ends, Reader, all_outs, beside, nowhere, outs_of, writer_of}
 use Rattle.fb_run.specs.declared.input.Input as input
 
 -- no read failed, and it is asked for the first time, or no read has told its end since

@@ -3,12 +3,10 @@ use Rattle.std.specs.Prelude.{◌≡◌, ℕ, ◌+◌, ◌<◌, ◌≤◌, ◌^�
 use Rattle.fb_bytes.specs.{Framing.Framing, Messages.declared, Messages.IsOversize, Messages.IsPartial, Messages.Splits}
 use Rattle.fb_bytes.specs.declared.ends.Sink as sink
 use Rattle.fb_bytes.specs.declared.stream_fault.StreamFault.TheVariants as stream
-use Rattle.fb_lines.specs.{Ends.Outs, Job.Beside, Job.HasRoom, Job.Job, Job.cut_of, Lines.AreTold, Spot.IsFull, Spot.at_first, Spot.past_all, Sums.count_of, Sums.no_tally, Texts.Texts}
-use Rattle.fb_lines.specs.Puts.{AreCut, AreOpen, AreSound, IsUnused, PutsTold, Queues, all_unused, queues_of}
-use Rattle.fb_lines.specs.declared.{fault.RunFault.RunFault, tally.Tally.Tally}
-use Rattle.fb_lines.specs.declared.fault.RunFault.TheVariants.{WriteFault, NoteFault, RejectFault, Stream, OutOfMemory}
-use Rattle.fb_run.specs.Stream.{TellsMore}
-use Rattle.fb_run.specs.declared.stream.Carried.{Carried}
+use Rattle.fb_run.specs.{AllTold.AreTold, Ends.Outs, Job.Beside, Job.HasRoom, Job.Job, Job.cut_of, Puts.AreCut, Puts.AreOpen, Puts.AreSound, Puts.IsUnused, Puts.PutsTold, Puts.Queues, Puts.all_unused}
+use Rattle.fb_run.specs.{Puts.queues_of, Spot.IsFull, Spot.at_first, Spot.past_all, Stream.TellsMore, Sums.count_of, Sums.no_tally, Texts.Texts}
+use Rattle.fb_run.specs.declared.{fault.RunFault.RunFault, stream.Carried.Carried, tally.Tally.Tally}
+use Rattle.fb_run.specs.declared.fault.RunFault.TheVariants.{WriteFault, NoteFault, RejectFault, Stream, OutOfMemory}
 
 -- what a run carries: what was counted, its framer and its room, and what was put for the writer, the notes and the rejects
 pub record Carry : Type 0 where

@@ -2,8 +2,8 @@
 use Rattle.std.specs.Prelude.{ℕ, ◌≤◌, Bool, true, false, List, length}
 use Rattle.std.specs.Io.KnownBytes.{Consumes}
 use Rattle.fb_bytes.specs.Messages.{IsPartial, Splits}
-use Rattle.fb_lines.specs.{Ends.Ends, Ends.Takes, Ends.Unwritten, Job.Job, Job.checked_in, Job.cut_of, Lines.AreTold, Spot.IsDue, Spot.at_first, Spot.past_all, Texts.Texts}
-use Rattle.fb_lines.specs.declared.tally.Tally.{Tally}
+use Rattle.fb_run.specs.{Ends.Ends, Ends.Takes, Ends.Unwritten, Job.Job, Job.checked_in, Job.cut_of, AllTold.AreTold, Spot.IsDue, Spot.at_first, Spot.past_all, Texts.Texts}
+use Rattle.fb_run.specs.declared.tally.Tally.{Tally}
 
 -- over a stream: messages and the part of one were read behind the bytes that are left out, what is told of all these
 -- messages was written and noted, and another is told

@@ -1,8 +1,7 @@
 -- A run, over a stream or over one bare input.
 use Rattle.std.specs.Prelude.{◌≡◌, ℕ, ◌+◌, ◌≤◌, Bool, true, false, Result, Ok, Err}
-use Rattle.fb_lines.specs.{Ends.Ends, Job.Job, Faults.End, Faults.EndsBeside}
-use Rattle.fb_run.specs.{Bare.PassesBare, Bare.FailsBare, Stream.PassesStream, Stream.FailsStream}
-use Rattle.fb_lines.specs.declared.{fault.RunFault.RunFault, tally.Tally.Tally}
+use Rattle.fb_run.specs.{Bare.FailsBare, Bare.PassesBare, Ends.Ends, Faults.End, Faults.EndsBeside, Job.Job, Stream.FailsStream, Stream.PassesStream}
+use Rattle.fb_run.specs.declared.{fault.RunFault.RunFault, tally.Tally.Tally}
 
 -- what was read and written by a run over one bare input that ended so, and came to these numbers by then
 abbrev pub IsBareRun : Job → Ends → Ends → Tally → End → Type 0

@@ -3,10 +3,10 @@ use Rattle.std.specs.Prelude.{◌≡◌, ℕ, ◌<◌, ◌≤◌, ◌⊎◌, tru
 use Rattle.std.specs.Io.KnownBytes.{Consumes}
 use Rattle.fb_bytes.specs.Messages.{declared, IsPartial, IsOversize, Splits}
 use Rattle.fb_bytes.specs.declared.stream_fault.StreamFault.TheVariants as stream
-use Rattle.fb_lines.specs.{Ends.Ends, Ends.Reader, Ends.Takes, Job.Job, Job.checked_in, Job.cut_of, Lines.AreTold, Spot.IsDue, Spot.IsFull, Spot.at_first, Spot.past_all}
-use Rattle.fb_lines.specs.Texts.{IsCounted, Texts, followed, to_rejects}
-use Rattle.fb_lines.specs.declared.{tally.Tally.Tally, fault.RunFault.RunFault}
-use Rattle.fb_lines.specs.declared.fault.RunFault.TheVariants.{ReadFault, WriteFault, NoteFault, RejectFault, Stream, TooManyTurns, OutOfMemory, BareTooLong, SkipPastEnd}
+use Rattle.fb_run.specs.{Ends.Ends, Ends.Reader, Ends.Takes, Job.Job, Job.checked_in, Job.cut_of, AllTold.AreTold, Spot.IsDue, Spot.IsFull, Spot.at_first, Spot.past_all}
+use Rattle.fb_run.specs.Texts.{IsCounted, Texts, followed, to_rejects}
+use Rattle.fb_run.specs.declared.{tally.Tally.Tally, fault.RunFault.RunFault}
+use Rattle.fb_run.specs.declared.fault.RunFault.TheVariants.{ReadFault, WriteFault, NoteFault, RejectFault, Stream, TooManyTurns, OutOfMemory, BareTooLong, SkipPastEnd}
 
 -- the text is what is told of the first messages of these bytes, behind those that are left out, and they come to this
 abbrev pub TellsSome : Job → List ℕ → Texts → Tally → Type 0

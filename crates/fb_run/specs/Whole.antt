@@ -1,9 +1,8 @@
 -- What the reading of a whole input answers.
 use Rattle.std.specs.Prelude.{◌≡◌, ℕ, List, Result, Ok, Err, Vec, true}
 use Rattle.std.specs.Io.KnownBytes.{Consumes}
-use Rattle.fb_lines.specs.{Ends.Outs, Ends.Reader, Ends.beside, Faults.EndsBeside, Job.Job, Job.checked_in, Sums.no_tally}
-use Rattle.fb_lines.specs.declared.fault.RunFault.{RunFault}
-use Rattle.fb_run.specs.Bare.{FailsBare, IsBareInput}
+use Rattle.fb_run.specs.{Bare.FailsBare, Bare.IsBareInput, Ends.Outs, Ends.Reader, Ends.beside, Faults.EndsBeside, Job.Job, Job.checked_in, Sums.no_tally}
+use Rattle.fb_run.specs.declared.fault.RunFault.{RunFault}
 
 -- it was read to its end and no read failed, and these are the bytes of its buffer
 pub record ReadsWhole (job : Job) (before after : Reader) (buffer : List ℕ) : Type 0 where

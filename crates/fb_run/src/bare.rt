@@ -1,13 +1,15 @@
 //! A run over one bare input.
 
 ghost use Rattle.std.specs.Prelude.{◌≡◌, ◌+◌, ◌<◌, ◌^◌, length, true};
-ghost use Rattle.fb_lines.specs.{Job.HasRoom, Puts.IsUnused, Sums.no_tally};
-ghost use Rattle.fb_run.specs.{Leave.HasLeave, Leave.all_ends, Prompt.IsBarePrompt, Run.Runs};
+ghost use Rattle.fb_run.specs.{Job.HasRoom, Leave.HasLeave, Leave.all_ends, Prompt.IsBarePrompt, Puts.IsUnused, Run.Runs, Sums.no_tally};
 
+use crate::checker::Checker;
+use crate::fault::RunFault;
 use crate::input::Input;
+use crate::output::Output;
 use crate::reading::{PIECE, read_whole};
+use crate::room::Room;
 use fb_bytes::Sink;
-use fb_lines::{Checker, Output, Room, RunFault};
 use std::alloc::Allocator;
 
 /// Reads the whole input, writes what is told of the buffer behind the bytes that are left out, and counts its verdict.

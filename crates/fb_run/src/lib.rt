@@ -1,19 +1,42 @@
-//! Checks the buffers of an input by a schema, and writes a line of each: a stream of size-prefixed buffers, or one
-//! bare buffer. What is told of each by its mode, the numbers of a run, and the faults at which it comes to rest.
+//! Checks the buffers of an input by a schema, and tells of each: a stream of size-prefixed buffers, or one bare buffer.
+//! A run asks for the input's pieces and checks each message by a schema and a job; its verdict gets a line, or passes a
+//! filter, and is counted. Beside it the numbers of a run, the faults at which it comes to rest, and their texts.
 #![tactic(auto)]
 
+mod answers;
 mod bare;
+mod checker;
+mod counter;
+mod csv;
+mod fault;
 mod front;
 mod input;
+mod json_line;
+pub mod laws;
+mod line;
+mod options;
+mod output;
 mod reading;
+mod room;
 pub mod run;
 mod skip;
+mod spot;
 mod stream;
+pub mod summary;
+mod tally;
+mod value_text;
+mod values;
+mod writing;
 
-pub use fb_lines::{
-    AskedPath, Form, Line, MOST_PATHS, Mode, Nowhere, Options, Places, Prefix, Rejects, RunFault,
-    Tally, laws, push_all, put_bytes, put_head, status, summary,
-};
+pub use answers::MOST_PATHS;
+pub use csv::put_head;
+pub use fault::{RunFault, status};
 pub use input::Input;
+pub use json_line::put_text;
+pub use line::Line;
+pub use options::{AskedPath, Form, Mode, Options, Places, Prefix, Rejects};
 pub use reading::MOST_TURNS;
 pub use run::{Ran, run_beside, run_keeping, run_within};
+pub use tally::Tally;
+pub use value_text::put_bytes;
+pub use writing::{Nowhere, push_all};

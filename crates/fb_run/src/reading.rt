@@ -5,10 +5,11 @@ ghost use Rattle.std.specs.Io.KnownBytes.{Consumes, Keeps};
 ghost use Rattle.fb_bytes.specs.Ends.{failed};
 ghost use Rattle.fb_run.specs.{Leave.HasLeave, Leave.MayAsk, Leave.ends_of, Leave.reader_of, Prompt.IsBarePrompt, Whole.ReadsBy};
 
+use crate::checker::Checker;
+use crate::fault::RunFault;
 use crate::input::Input;
 use crate::skip::Skip;
 use fb_bytes::Sink;
-use fb_lines::{Checker, RunFault};
 use std::alloc::{AllocError, Allocator};
 use std::io;
 

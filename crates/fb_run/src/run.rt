@@ -2,16 +2,18 @@
 
 ghost use Rattle.std.specs.Prelude.{◌≡◌, length, ◌+◌, ◌<◌, ◌≤◌, ◌^◌};
 ghost use Rattle.fb_rules.specs.Reasons.{reason_count};
-ghost use Rattle.fb_lines.specs.{Faults.EndsBeside, Faults.end_of, Job.Serves, Job.job_of};
-ghost use Rattle.fb_run.specs.{Prompt.IsPrompt, Run.IsRun, Run.IsRunBeside, Run.answer_by};
-ghost use Rattle.fb_lines.specs.Sums.{no_tally};
+ghost use Rattle.fb_run.specs.{Faults.EndsBeside, Faults.end_of, Job.Serves, Job.job_of, Prompt.IsPrompt, Run.IsRun, Run.IsRunBeside, Run.answer_by, Sums.no_tally};
 ghost use Rattle.fb_run.specs.Leave.{HasLeave, all_ends, ends_of, noteless};
 
+use crate::checker::Checker;
+use crate::fault::RunFault;
 use crate::input::Input;
+use crate::options::Options;
 use crate::reading::{MOST_TURNS, read_buffer};
 use crate::stream::Carried;
+use crate::tally::Tally;
+use crate::writing::Nowhere;
 use fb_bytes::Sink;
-use fb_lines::{Checker, Nowhere, Options, RunFault, Tally};
 use fb_schema::Schema;
 use std::alloc::Allocator;
 

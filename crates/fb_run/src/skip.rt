@@ -1,9 +1,9 @@
 //! The bytes at the beginning of an input that are left out.
 
 ghost use Rattle.std.specs.Prelude.{IfErr, OnOk, ◌≡◌, ◌-◌, ◌<◌, drop, length};
-ghost use Rattle.fb_lines.specs.declared.fault.RunFault.TheVariants.{SkipPastEnd};
+ghost use Rattle.fb_run.specs.declared.fault.RunFault.TheVariants.{SkipPastEnd};
 
-use fb_lines::RunFault;
+use crate::fault::RunFault;
 
 /// How many bytes at the beginning of an input are left out, and how many of these were not read yet.
 #[derive(Clone, Copy)]

@@ -1,17 +1,19 @@
 //! A run over a stream of size-prefixed buffers, or over one bare buffer.
 
 ghost use Rattle.std.specs.Prelude.{IfOk, ◌≡◌, ◌+◌, ◌<◌, ◌≤◌, ◌^◌, length};
-ghost use Rattle.fb_lines.specs.{Puts.AreOpen, Puts.queues_of, Spot.IsDue, Spot.past_all, Sums.count_of};
-ghost use Rattle.fb_run.specs.{Leave.HasLeave, Leave.all_ends, Prompt.IsPrompt, Run.Runs};
+ghost use Rattle.fb_run.specs.{Leave.HasLeave, Leave.all_ends, Prompt.IsPrompt, Puts.AreOpen, Puts.queues_of, Run.Runs, Spot.IsDue, Spot.past_all, Sums.count_of};
 ghost use Rattle.fb_run.specs.Pieces.{IsFirst, IsReady, PassesAllBy, PassesBy, WritesBy, carry_of};
 
 use crate::bare::pass_bare;
+use crate::checker::Checker;
+use crate::fault::RunFault;
 use crate::front::front_message;
 use crate::input::Input;
+use crate::output::Output;
 use crate::reading::{MOST_TURNS, PIECE, pull_piece};
+use crate::room::Room;
 use crate::skip::Skip;
 use fb_bytes::{Framer, Sink};
-use fb_lines::{Checker, Output, Room, RunFault};
 use std::alloc::{AllocError, Allocator};
 
 /// What a run carries: over a stream from piece to piece, over one bare input from its start to its end.

@@ -11,7 +11,7 @@ use Rattle.fb_bfbs.specs.{Fixed.fixed, Loads.IsLoaded, Marks.IsMarksFault}
 use Rattle.fb_bfbs.specs.declared.{load_fault.LoadFault.LoadFault, loading.Loaded.Loaded}
 use Rattle.fb_bfbs.specs.declared.load_fault.LoadFault.TheVariants as load
 use Rattle.fb_bfbs.proofs.OneLoad.{one_answer as one_load}
-use Rattle.fb_lines.specs.Ends.{Ends}
+use Rattle.fb_run.specs.Ends.{Ends}
 use Rattle.fbcheck_serve.specs.Asked.{IsAskedPlan, IsFound, Own, asked_root, path_texts}
 use Rattle.fbcheck_serve.specs.Checking.{IsIdle, IsPathless, IsPlanless, IsSchema, LacksJob}
 use Rattle.fbcheck_texts.specs.declared.{fault.AskFault.AskFault, fault.AskFault.TheVariants.NoSuchTable, fault.AskFault.TheVariants.OutOfMemory, fault.AskFault.TheVariants.Path, fault.AskFault.TheVariants.UnmarkedBytes}

@@ -1,8 +1,8 @@
 -- The head of a table, and what is told behind it.
 use Rattle.std.proofs.Common.{◌≡◌, ℕ, ◌+◌, ◌-◌, Err, List, Ok, ap, refl, subst}
-use Rattle.fb_lines.specs.{Ends.Ends, Ends.Writer, Ends.with_writer, Faults.End, Faults.EndsBeside, Faults.EndsWith, Faults.Failures, Faults.failures_of, Job.Job}
-use Rattle.fb_lines.specs.declared.fault.RunFault.{RunFault}
-use Rattle.fb_lines.specs.declared.fault.RunFault.TheVariants as run
+use Rattle.fb_run.specs.{Ends.Ends, Ends.Writer, Ends.with_writer, Faults.End, Faults.EndsBeside, Faults.EndsWith, Faults.Failures, Faults.failures_of, Job.Job}
+use Rattle.fb_run.specs.declared.fault.RunFault.{RunFault}
+use Rattle.fb_run.specs.declared.fault.RunFault.TheVariants as run
 use Rattle.fbcheck_serve.specs.Names.{Named}
 use Rattle.fbcheck_serve.specs.Heads.{IsCut, IsHeadPut, IsHeaded, head_of, with_head}
 

@@ -6,10 +6,9 @@ use Rattle.std.specs.Global.{Global}
 use Rattle.std.specs.Prelude.{Vec, option_map, vec_items}
 use Rattle.fb_schema.specs.Rows.{Rows}
 use mathlib.Core.Logic.{inl}
-use Rattle.fb_lines.specs.{Faults.End, Job.Job, Job.job_of}
+use Rattle.fb_run.specs.{Faults.End, Job.Job, Job.job_of}
+use Rattle.fb_run.specs.declared.{fault.RunFault.RunFault, options.Options.Options, run.Ran.Ran}
 use Rattle.std.specs.declared.io.ErrorKind.{ErrorKind}
-use Rattle.fb_lines.specs.declared.{options.Options.Options, fault.RunFault.RunFault}
-use Rattle.fb_run.specs.declared.run.Ran.{Ran}
 use Rattle.fbcheck_serve.specs.Inputs.{ComesOf, Folder, HaltsAmong, IsMissed, Passes, PassesAll, RunsOpened, Seen, Stand, Tries, label_of, with_label, sum_of_counts, sums, are_named}
 use Rattle.fbcheck_serve.specs.Names.{Named, is_standard}
 use Rattle.fbcheck_serve.specs.declared.{inputs.Missed.Missed, inputs.Standard.Standard, inputs.Standard.TheVariants.Unread, inputs.Standard.TheVariants.Spent}

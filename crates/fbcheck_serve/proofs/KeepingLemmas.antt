@@ -1,7 +1,7 @@
 -- Bad buffers that are kept.
 use Rattle.std.proofs.Common.{◌≡◌, ℕ, List, Option, Some, None, refl, subst, sym}
 use Rattle.std.specs.Prelude.{option_map, string_bytes}
-use Rattle.fb_lines.specs.Ends.{Writer, nowhere}
+use Rattle.fb_run.specs.Ends.{Writer, nowhere}
 use Rattle.fbcheck_serve.specs.Keeping.{AreKeptBy, Keeping, Maker}
 use Rattle.fbcheck_words.specs.declared.choices.Settings.{Settings}
 

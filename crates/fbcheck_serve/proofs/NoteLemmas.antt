@@ -7,8 +7,8 @@ use Rattle.std.proofs.Common.{Err, None, refl, codes}
 use Rattle.std.proofs.lemmas.List.{length-append}
 use Rattle.fbcheck_texts.specs.declared.causes.Causes.{Causes}
 use Rattle.fb_bytes.specs.Ends.{one_more}
-use Rattle.fb_lines.specs.Ends.{Writer}
-use Rattle.fb_lines.specs.declared.{options.Form.Form, options.Form.TheVariants.Json, tally.Tally.Tally}
+use Rattle.fb_run.specs.Ends.{Writer}
+use Rattle.fb_run.specs.declared.{options.Form.Form, options.Form.TheVariants.Json, tally.Tally.Tally}
 use Rattle.fbcheck_texts.proofs.FaultJsonLemmas.{object_in, plain_in}
 use Rattle.fbcheck_texts.specs.FaultJson.{fault_object}
 use Rattle.fbcheck_texts.specs.Texts.{stopped_text}

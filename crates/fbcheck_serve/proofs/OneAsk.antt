@@ -7,7 +7,7 @@ use Rattle.fb_access.specs.declared.{step.Step.Step, path_fault.PathFault.PathFa
 use Rattle.fb_access.specs.Resolving.{IsFault, Resolves}
 use Rattle.fb_access.proofs.OneAnswer.{one_answer}
 use Rattle.fb_rules.specs.declared.start.Ident.{Ident}
-use Rattle.fb_lines.specs.Wanted.{Wanted}
+use Rattle.fb_run.specs.{Job.Job, Job.job_of, Wanted.Wanted}
 use Rattle.fb_bfbs.proofs.OneLoad.{one_answer as one_load}
 use Rattle.fb_bfbs.proofs.OneMarks.{marks_once}
 use Rattle.fb_bfbs.specs.{ByteFields.HasUnmarked, Marks.Marked, Marks.marked as seen_mark}
@@ -16,7 +16,6 @@ use Rattle.fb_bfbs.specs.declared.load_fault.LoadFault.{LoadFault}
 use Rattle.fb_bfbs.specs.declared.load_fault.LoadFault.TheVariants as load
 use Rattle.fb_bfbs.specs.LoadLaws.{Applies, IsSameLoad, ident_bytes}
 use Rattle.fb_bfbs.specs.declared.loading.Loaded.{Loaded}
-use Rattle.fb_lines.specs.Job.{Job, job_of}
 use Rattle.fb_strict.specs.{Planned.IsPlan, Planned.Planned}
 use Rattle.fb_strict.proofs.Marks.{one_plan}
 use Rattle.fbcheck_serve.specs.Asked.{ArePaths, AsksBy, IsAsked, IsAskedPlan, demanded, demanded_by, IsFound, IsPath, LacksIdent, IsPathFault, HasPathFault, Own, asked_root, options_of, own_label, path_texts}

@@ -8,8 +8,8 @@ use Rattle.std.proofs.lemmas.List.{map-append, take_more}
 use Rattle.fb_access.specs.Resolving.{IsFault}
 use Rattle.fb_access.specs.declared.path_fault.PathFault.{PathFault}
 use Rattle.fb_schema.specs.Rows.{Rows}
-use Rattle.fb_lines.specs.Wanted.{Wanted}
-use Rattle.fb_lines.proofs.FoundLemmas.{both_more}
+use Rattle.fb_run.specs.Wanted.{Wanted}
+use Rattle.fb_run.proofs.FoundLemmas.{both_more}
 use Rattle.fbcheck_serve.specs.Asked.{ArePaths, IsPath, IsPathFault, PathFails}
 use Rattle.fbcheck_serve.specs.Checking.{IsPathless}
 use Rattle.fbcheck_texts.specs.Hints.{fault_with}

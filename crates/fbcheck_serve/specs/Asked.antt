@@ -10,15 +10,15 @@ use Rattle.fb_bfbs.specs.LoadLaws.{own_ident}
 use Rattle.fb_strict.specs.declared.demands.Demands.{Demands}
 use Rattle.fb_bfbs.specs.Marks.{Marked}
 use Rattle.fb_strict.specs.{Demanded.Demanded, Demanded.demanded as holding, Holding.holdings_if, Planned.IsPlan, Planned.Planned}
-use Rattle.fb_lines.specs.{Job.Job, Job.job_of, Wanted.Wanted}
+use Rattle.fb_run.specs.{Job.Job, Job.job_of, Wanted.Wanted}
 use Rattle.fbcheck_words.specs.declared.choices.Form as asked
 use Rattle.fbcheck_words.specs.declared.choices.Form.TheVariants as words
 use Rattle.fbcheck_words.specs.declared.choices.Settings.{Settings}
-use Rattle.fb_lines.specs.declared.{options.Form.Form, options.Form.TheVariants.Plain, options.Form.TheVariants.Json, options.Mode.Mode}
-use Rattle.fb_lines.specs.declared.options.Mode.TheVariants.{Lines, BadLines, Filter, Csv}
-use Rattle.fb_lines.specs.declared.{options.Places.Places, options.Places.TheVariants.Numbers, options.Places.TheVariants.Words, options.Prefix.Prefix}
-use Rattle.fb_lines.specs.declared.{options.Prefix.TheVariants.Part, options.Prefix.TheVariants.Apart, options.Rejects.Rejects, options.Options.Options}
-use Rattle.fb_lines.specs.declared.options.Rejects.TheVariants.{Dropped, Kept}
+use Rattle.fb_run.specs.declared.{options.Form.Form, options.Form.TheVariants.Plain, options.Form.TheVariants.Json, options.Mode.Mode}
+use Rattle.fb_run.specs.declared.options.Mode.TheVariants.{Lines, BadLines, Filter, Csv}
+use Rattle.fb_run.specs.declared.{options.Places.Places, options.Places.TheVariants.Numbers, options.Places.TheVariants.Words, options.Prefix.Prefix}
+use Rattle.fb_run.specs.declared.{options.Prefix.TheVariants.Part, options.Prefix.TheVariants.Apart, options.Rejects.Rejects, options.Options.Options}
+use Rattle.fb_run.specs.declared.options.Rejects.TheVariants.{Dropped, Kept}
 use Rattle.fbcheck_texts.specs.declared.fault.AskFault.{AskFault}
 use Rattle.fbcheck_serve.specs.{FileMarks.ArePlanMarks, Inputs.label_of, Inputs.with_label}
 use Rattle.fbcheck_texts.specs.declared.fault.AskFault.TheVariants.{Path, NoRoot, NoIdent, UnmarkedBytes, NoSuchTable, OutOfMemory}

@@ -4,7 +4,7 @@ use Rattle.std.specs.List.{AllByRecursion}
 use Rattle.std.specs.Borrow.{Bor}
 use Rattle.fb_access.specs.Resolving.{Resolves}
 use Rattle.fb_access.specs.declared.step.Step.{Step}
-use Rattle.fb_lines.specs.Job.{Job}
+use Rattle.fb_run.specs.Job.{Job}
 use Rattle.fb_schema.specs.Rows.{Rows}
 use Rattle.fbcheck_serve.specs.Checking.{Asks}
 use Rattle.fbcheck_serve.specs.Names.{last_name, listed_name, listed_names}

@@ -14,16 +14,13 @@ use Rattle.fbcheck_serve.specs.Asked.{AsksBy, IsPathFault, Own, demanded_by}
 use Rattle.fbcheck_serve.specs.Heads.{IsHeaded, RunsBehindHead, ServesBehindHead}
 use Rattle.fbcheck_serve.specs.{Lists.AreNamed, Names.Named, Names.all_named}
 use Rattle.fbcheck_serve.specs.Inputs.{Folder, IsPromptAmong, IsPromptOver, MayReadEach, Seen}
-use Rattle.fb_lines.specs.{Ends.Ends, Ends.Unwritten, Ends.Writer, Ends.with_rejects, Job.Job}
-use Rattle.fb_run.specs.Prompt.{IsPrompt}
+use Rattle.fb_run.specs.{Ends.Ends, Ends.Unwritten, Ends.Writer, Ends.with_rejects, Faults.End, Faults.EndsBeside, Faults.IsUnfailed, Faults.failures_of, Job.Job, Prompt.IsPrompt}
+use Rattle.fb_run.specs.declared.{run.Ran.Ran, tally.Tally.Tally}
 use Rattle.fbcheck_words.specs.declared.choices.Settings.{Settings}
 use Rattle.fbcheck_texts.specs.declared.{fault.AskFault.AskFault, hint.Unasked.Unasked, fault.CheckFault.CheckFault}
 use Rattle.fbcheck_texts.specs.declared.fault.AskFault.TheVariants.{Load, Path, UnmarkedBytes, NoSuchTable, OutOfMemory}
 use Rattle.fbcheck_serve.specs.declared.{inputs.Course.Course, inputs.Passed.Passed}
 use Rattle.fbcheck_texts.specs.declared.fault.CheckFault.TheVariants as check
-use Rattle.fb_lines.specs.Faults.{End, EndsBeside, IsUnfailed, failures_of}
-use Rattle.fb_lines.specs.declared.tally.Tally.{Tally}
-use Rattle.fb_run.specs.declared.run.Ran.{Ran}
 
 -- the root table and the identifier of a schema that was loaded
 abbrev pub own_of : Loaded → Own

@@ -2,9 +2,8 @@
 use Rattle.std.specs.Prelude.{◌≡◌, ◌⊎◌, ℕ, List, [], Ok, Err, length}
 use Rattle.std.specs.Io.KnownBytes.{Appends}
 use Rattle.fb_bytes.specs.Ends.{one_more}
-use Rattle.fb_lines.specs.{Csv.head_in, Ends.Ends, Ends.Writer, Ends.with_writer, Faults.End, Job.Job, Lines.WritesFront, Sums.no_tally}
-use Rattle.fb_lines.specs.declared.{fault.RunFault.TheVariants.WriteFault, tally.Tally.Tally}
-use Rattle.fb_run.specs.Run.{IsRunBeside}
+use Rattle.fb_run.specs.{AllTold.WritesFront, Csv.head_in, Ends.Ends, Ends.Writer, Ends.with_writer, Faults.End, Job.Job, Run.IsRunBeside, Sums.no_tally}
+use Rattle.fb_run.specs.declared.{fault.RunFault.TheVariants.WriteFault, tally.Tally.Tally}
 use Rattle.fbcheck_serve.specs.Names.{Named}
 use Rattle.fbcheck_serve.specs.Inputs.{Folder, Seen, ServesEach, are_named, at_first, no_course, stand, sum_of_bytes, with_cause}
 use Rattle.fbcheck_serve.specs.declared.inputs.Course.{Course}

@@ -1,8 +1,8 @@
 -- Files as inputs, by example.
 use Rattle.std.specs.Prelude.{◌≡◌, ℕ, true, false, [], ◌∷◌, Some, None, Ok, Err, codes}
 use Rattle.fb_bytes.specs.declared.stream_fault.StreamFault.{StreamFault}
-use Rattle.fb_lines.specs.Sums.{no_tally}
-use Rattle.fb_lines.specs.declared.fault.RunFault.TheVariants.{ReadFault, WriteFault, NoteFault, RejectFault, Stream, TooManyTurns, OutOfMemory, BareTooLong, SkipPastEnd}
+use Rattle.fb_run.specs.Sums.{no_tally}
+use Rattle.fb_run.specs.declared.fault.RunFault.TheVariants.{ReadFault, WriteFault, NoteFault, RejectFault, Stream, TooManyTurns, OutOfMemory, BareTooLong, SkipPastEnd}
 use Rattle.fb_run.specs.declared.run.Ran.{Ran}
 use Rattle.fbcheck_serve.specs.Inputs.{are_named, course_with, fault_line, is_final, label_of}
 use Rattle.fbcheck_serve.specs.Names.{listed_name, listed_names, misnomer_text, word_name, wrong_name}

@@ -1,17 +1,13 @@
 -- Files as inputs, one behind another.
 use Rattle.std.specs.Prelude.{◌≡◌, ◌<◌, ◌≤◌, ℕ, ◌+◌, ◌⊎◌, Bool, true, false, ◌||◌, is_some, min, max, nat_lt, length, List, [], ◌∷◌, ◌++◌, IfSome, Option, Some, None, Result, Ok, Err, codes}
 use Rattle.std.specs.{List.flat_map, Io.KnownBytes.Appends}
-use Rattle.fb_lines.specs.{AnswerText.byte_text, Faults.End, Faults.EndsBeside, Faults.status_of}
-use Rattle.fb_lines.specs.Ends.{Ends, Outs, Reader, Writer, beside, with_notes}
-use Rattle.fb_run.specs.Leave.{IsUnended, MayAsk, all_ends, ends_of, reader_of}
+use Rattle.fb_run.specs.{AllTold.WritesFront, AnswerText.byte_text, Ends.Ends, Ends.Outs, Ends.Reader, Ends.Writer, Ends.beside, Ends.with_notes, Faults.End, Faults.EndsBeside, Faults.status_of}
+use Rattle.fb_run.specs.{Job.Job, Leave.IsUnended, Leave.MayAsk, Leave.all_ends, Leave.ends_of, Leave.reader_of, Prompt.IsPrompt, Run.IsRunBeside, Run.answer_by, Sums.no_tally}
+use Rattle.fb_run.specs.declared.{fault.RunFault.RunFault, options.Form.Form, run.Ran.Ran, tally.Tally.Tally}
 use Rattle.fb_bytes.specs.Ends.{one_more}
 use Rattle.fb_bytes.specs.declared.ends.Sink as sink
 use Rattle.fb_run.specs.declared.input.Input as input
-use Rattle.fb_lines.specs.{Job.Job, Lines.WritesFront, Sums.no_tally}
-use Rattle.fb_run.specs.{Prompt.IsPrompt, Run.IsRunBeside, Run.answer_by}
-use Rattle.fb_lines.specs.declared.{fault.RunFault.RunFault, options.Form.Form, tally.Tally.Tally}
-use Rattle.fb_run.specs.declared.run.Ran.{Ran}
-use Rattle.fb_lines.specs.declared.fault.RunFault.TheVariants.{WriteFault, NoteFault, RejectFault, OutOfMemory}
+use Rattle.fb_run.specs.declared.fault.RunFault.TheVariants.{WriteFault, NoteFault, RejectFault, OutOfMemory}
 use Rattle.std.specs.declared.io.ErrorKind.{ErrorKind}
 use Rattle.fbcheck_texts.specs.{Causes.reason_text, FaultJson.IsLineIn, FaultJson.fault_object, FaultJson.hint_object, Hints.IsHint, Hints.IsRunHint, Texts.of_read, Texts.run_text, Texts.stopped_text}
 use Rattle.fbcheck_serve.specs.Names.{Named, is_standard, misnomer_text, wrong_name}

@@ -2,10 +2,8 @@
 use Rattle.std.specs.Prelude.{◌≡◌, ℕ, IsSome, List, Option, Some, None, Result, Ok, Err, option_map, string_bytes}
 use Rattle.std.specs.Borrow.{Bor}
 use Rattle.fb_bytes.specs.declared.ends.Sink as sink
-use Rattle.fb_lines.specs.Ends.{Ends, Writer, nowhere, with_rejects, writer_of}
-use Rattle.fb_lines.specs.Faults.{End, EndsBeside}
-use Rattle.fb_lines.specs.declared.tally.Tally.{Tally}
-use Rattle.fb_run.specs.declared.run.Ran.{Ran}
+use Rattle.fb_run.specs.{Ends.Ends, Ends.Writer, Ends.nowhere, Ends.with_rejects, Ends.writer_of, Faults.End, Faults.EndsBeside}
+use Rattle.fb_run.specs.declared.{run.Ran.Ran, tally.Tally.Tally}
 use Rattle.fbcheck_serve.specs.Checking.{IsIdle, LacksJob, RunsAsAsked, ServesAsAsked}
 use Rattle.fbcheck_serve.specs.Inputs.{Folder, Seen, with_cause}
 use Rattle.fbcheck_serve.specs.Names.{Named}

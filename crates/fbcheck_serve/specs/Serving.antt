@@ -18,18 +18,17 @@ use Rattle.fbcheck_serve.specs.Keeping.{Maker, RunsKeeping, ServesKeeping}
 use Rattle.fbcheck_serve.specs.declared.check.Kept as check
 use Rattle.fbcheck_serve.specs.declared.check.Unbegun.{Unbegun}
 use Rattle.fbcheck_serve.specs.declared.check.Unbegun.TheVariants as unbegun
-use Rattle.fb_lines.specs.{Ends.Ends, Ends.Writer, Ends.with_notes, Lines.WritesFront, JsonSums.summary_in}
-use Rattle.fb_lines.specs.Faults.{End, EndsBeside, IsUnfailed, failures_of, status_of}
+use Rattle.fb_run.specs.{AllTold.WritesFront, Ends.Ends, Ends.Writer, Ends.with_notes, Faults.End, Faults.EndsBeside, Faults.IsUnfailed, Faults.failures_of, Faults.status_of, JsonSums.summary_in}
+use Rattle.fb_run.specs.declared.run.Ran.{Ran}
 use Rattle.fbcheck_words.specs.declared.{choices.Settings.Settings, choices.SettingsFault.SettingsFault}
 use Rattle.fbcheck_words.specs.declared.choices.SettingsFault.TheVariants as refusal
 use Rattle.fbcheck_texts.specs.declared.fault.FileFault.{FileFault}
 use Rattle.fbcheck_texts.specs.declared.fault.FileFault.TheVariants as file_fault
-use Rattle.fb_run.specs.declared.run.Ran.{Ran}
 use Rattle.fbcheck_serve.specs.declared.inputs.Passed as inputs
 use Rattle.fbcheck_serve.specs.declared.{inputs.Course.Course, stop.Ending.Ending}
 use Rattle.fbcheck_serve.specs.declared.stop.Ending.TheVariants.{Helped, Checked, Passed}
 use Rattle.fbcheck_serve.specs.declared.{stop.Stop.Stop, stop.Sums.Sums}
-use Rattle.fb_lines.specs.declared.{fault.RunFault.TheVariants.WriteFault, fault.RunFault.TheVariants.RejectFault, options.Form.Form, options.Form.TheVariants.Plain, tally.Tally.Tally}
+use Rattle.fb_run.specs.declared.{fault.RunFault.TheVariants.WriteFault, fault.RunFault.TheVariants.RejectFault, options.Form.Form, options.Form.TheVariants.Plain, tally.Tally.Tally}
 use Rattle.fbcheck_texts.specs.declared.causes.Causes.{Causes}
 use Rattle.fbcheck_serve.specs.declared.stop.Stop.TheVariants as stop
 use Rattle.fbcheck_texts.specs.declared.fault.WordsFault.{WordsFault}

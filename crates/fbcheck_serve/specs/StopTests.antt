@@ -2,8 +2,8 @@
 use Rattle.std.specs.Global.{Global}
 use Rattle.std.specs.Prelude.{◌≡◌, ℕ, true, false, Some, None, Vec, codes}
 use Rattle.std.specs.declared.io.ErrorKind.TheVariants as kind
-use Rattle.fb_lines.specs.Sums.{no_tally}
-use Rattle.fb_lines.specs.declared.fault.RunFault.TheVariants as run
+use Rattle.fb_run.specs.Sums.{no_tally}
+use Rattle.fb_run.specs.declared.fault.RunFault.TheVariants as run
 use Rattle.fbcheck_words.specs.declared.choices.SettingsFault.TheVariants as refusal
 use Rattle.fbcheck_texts.specs.{Texts.file_text, Texts.of_read, Texts.words_text}
 use Rattle.fbcheck_texts.specs.declared.fault.FileFault.TheVariants as file

@@ -7,7 +7,7 @@ ghost use Rattle.fbcheck_serve.specs.Asked.{ArePaths, IsPath, PathFails, asked_i
 ghost use Rattle.fbcheck_serve.specs.Checking.{Asks, IsPathless, IsSchema, LacksJob, LacksSchema, own_of};
 ghost use Rattle.fbcheck_words.specs.Ranges.{AreInRange};
 ghost use Rattle.fbcheck_words.specs.declared.choices.Settings.{Settings};
-ghost use Rattle.fb_lines.specs.Job.{PathsFit, Serves, job_of};
+ghost use Rattle.fb_run.specs.Job.{PathsFit, Serves, job_of};
 ghost use Rattle.fb_access.specs.Fitting.{StepsFit};
 ghost use Rattle.fb_schema.specs.declared.kinds.Kind.TheVariants.{Table};
 

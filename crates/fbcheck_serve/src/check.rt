@@ -8,11 +8,9 @@ ghost use Rattle.fbcheck_serve.specs.Checking.{IsPromptAsAsked, IsPromptHeaded, 
 ghost use Rattle.fbcheck_serve.specs.Heads.{RunsBehindHead, ServesBehindHead, head_of};
 ghost use Rattle.fbcheck_serve.specs.Keeping.{IsCheckedKeeping, IsServedKeeping, maker_of};
 ghost use Rattle.fbcheck_serve.specs.Inputs.{all_seen, folder_of, seen_of};
-ghost use Rattle.fb_lines.specs.{Job.Serves, Job.job_of};
-ghost use Rattle.fb_lines.specs.Faults.{EndsBeside};
-ghost use Rattle.fb_lines.specs.declared.fault.RunFault.TheVariants.{TooManyTurns};
+ghost use Rattle.fb_run.specs.{Faults.EndsBeside, Job.Serves, Job.job_of, Leave.HasLeave, Leave.all_ends, Leave.ends_of, Leave.noteless};
+ghost use Rattle.fb_run.specs.declared.fault.RunFault.TheVariants.{TooManyTurns};
 ghost use Rattle.fbcheck_serve.specs.declared.check.Unbegun.TheVariants.{Ask};
-ghost use Rattle.fb_run.specs.Leave.{HasLeave, all_ends, ends_of, noteless};
 
 use crate::asked::{Asked, asked_of};
 use crate::files::{Files, Makes};

@@ -2,7 +2,7 @@
 
 ghost use Rattle.std.specs.Prelude.{IfErr, IfOk, ◌≡◌};
 ghost use Rattle.fb_schema.specs.Rows.{Rows};
-ghost use Rattle.fb_lines.specs.{Ends.writer_of, Job.job_of};
+ghost use Rattle.fb_run.specs.{Ends.writer_of, Job.job_of};
 ghost use Rattle.fbcheck_serve.specs.Heads.{IsHeadPut, head_of, with_head};
 ghost use Rattle.fbcheck_texts.specs.declared.fault.AskFault.TheVariants.{OutOfMemory};
 

@@ -2,10 +2,7 @@
 
 ghost use Rattle.std.specs.Prelude.{Err, IfOk, IfSome, OnErr, OnOk, true, false, ◌≡◌, ◌≢◌, ◌⊎◌, ◌+◌, ◌<◌, ◌≤◌, ◌^◌, length, map, option_map, string_bytes, vec_items};
 ghost use Rattle.fb_rules.specs.Reasons.{reason_count};
-ghost use Rattle.fb_lines.specs.Ends.{all_outs, writer_of};
-ghost use Rattle.fb_run.specs.Leave.{HasLeave, all_ends};
-ghost use Rattle.fb_lines.specs.{Job.Serves, Job.job_of};
-ghost use Rattle.fb_run.specs.Prompt.{IsPrompt};
+ghost use Rattle.fb_run.specs.{Ends.all_outs, Ends.writer_of, Job.Serves, Job.job_of, Leave.HasLeave, Leave.all_ends, Prompt.IsPrompt};
 ghost use Rattle.fbcheck_serve.specs.Inputs.{ComesOf, IsBehind, IsBehindEnd, IsBehindRun, IsFaultLine, IsHintLine, IsStopOf, IsPromptAmong, MayRead, MayReadEach, ServesEach, TellsFault};
 ghost use Rattle.fbcheck_serve.specs.Inputs.{Tries, at_first, course_with, fault_line, no_course, folder_of, is_final, all_seen, label_of, stand, standard_after, sum_of, sums, are_named};
 ghost use Rattle.fbcheck_serve.specs.Names.{is_standard};

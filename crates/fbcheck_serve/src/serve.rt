@@ -1,8 +1,7 @@
 //! What the program does, from its words to its exit status.
 
 ghost use Rattle.std.specs.Prelude.{IfErr, IfOk, Some, true, false, ◌≡◌, ◌+◌, ◌<◌, ◌≤◌, ◌^◌, ℕ, string_len};
-ghost use Rattle.fb_lines.specs.Ends.{Reader, Writer, beside, nowhere, writer_of};
-ghost use Rattle.fb_run.specs.Leave.{HasLeave, ends_of};
+ghost use Rattle.fb_run.specs.{Ends.Reader, Ends.Writer, Ends.beside, Ends.nowhere, Ends.writer_of, Leave.HasLeave, Leave.ends_of};
 ghost use Rattle.fbcheck_serve.specs.{Inputs.folder_of, Inputs.seen_of, Keeping.maker_of};
 ghost use Rattle.fbcheck_serve.specs.Checking.{IsPromptOverAsked, MayReadAsked};
 ghost use Rattle.fbcheck_serve.specs.Lists.{AreNamed};

@@ -2,7 +2,7 @@
 
 ghost use Rattle.std.specs.Prelude.{Err, IfSome, List, None, ℕ, ◌≡◌, ◌++◌, ◌+◌, ◌<◌, ◌≤◌, ◌^◌, codes, length};
 ghost use Rattle.fb_rules.specs.Reasons.{reason_count};
-ghost use Rattle.fb_lines.specs.Ends.{writer_of};
+ghost use Rattle.fb_run.specs.Ends.{writer_of};
 ghost use Rattle.fbcheck_serve.specs.Inputs.{IsNoted};
 ghost use Rattle.fbcheck_serve.specs.Serving.{Complains, IsBehindEnding, IsBehindStop, IsHintBehind, IsStopTold, IsEndLine, SumsUp};
 ghost use Rattle.fbcheck_serve.specs.Serving.{exit_status, hinted_stop, is_quiet, is_unwritten, stop_status, stop_text, unbegun_stop};

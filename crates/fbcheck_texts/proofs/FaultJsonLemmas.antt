@@ -3,9 +3,9 @@ use Rattle.std.proofs.Common.{◌≡◌, ℕ, true, false, List, [], ◌∷◌, 
 use Rattle.std.specs.Prelude.{◌==◌}
 use mathlib.Core.Logic.{inl, inr}
 use Rattle.json.specs.Print.{escape_byte}
-use Rattle.fb_lines.specs.Json.{json_text, text_json}
-use Rattle.fb_lines.specs.declared.{options.Form.Form, options.Form.TheVariants.Json as in_json}
-use Rattle.fb_lines.proofs.JsonLemmas.{first_member, next_member, no_more, number_text}
+use Rattle.fb_run.specs.Json.{json_text, text_json}
+use Rattle.fb_run.specs.declared.{options.Form.Form, options.Form.TheVariants.Json as in_json}
+use Rattle.fb_run.proofs.JsonLemmas.{first_member, next_member, no_more, number_text}
 use Rattle.fbcheck_texts.specs.FaultJson.{IsLineIn, fault_json, head_part, hint_json, hint_part, is_join, past_join, past_space}
 
 -- the object of a fault, and of a hint

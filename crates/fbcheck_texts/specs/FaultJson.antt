@@ -1,8 +1,8 @@
 -- A fault, or a hint, as a line of JSON (RFC 8259).
 use Rattle.std.specs.Prelude.{◌≡◌, ◌⊎◌, ℕ, ◌-◌, ◌==◌, ◌||◌, Bool, if◌then◌else◌, List, [], ◌∷◌, ◌++◌, Option, Some, None, codes, length, take}
 use Rattle.json.specs.Json.{Json, object, Members, no_members, member}
-use Rattle.fb_lines.specs.Json.{count_json, json_text, text_json}
-use Rattle.fb_lines.specs.declared.{options.Form.Form, options.Form.TheVariants.Json as in_json}
+use Rattle.fb_run.specs.Json.{count_json, json_text, text_json}
+use Rattle.fb_run.specs.declared.{options.Form.Form, options.Form.TheVariants.Json as in_json}
 
 -- what joins a hint to the text before it: one of , : ; and then a space
 abbrev pub is_join : ℕ → Bool

@@ -3,7 +3,7 @@ use Rattle.std.specs.Prelude.{ℕ, ◌≡◌, ◌==◌, ◌≤◌, Bool, IsTrue,
 use Rattle.std.specs.List.{list_all}
 use Rattle.fbcheck_texts.specs.declared.{fault.AskFault.AskFault, fault.AskFault.TheVariants.OutOfMemory}
 use Rattle.std.specs.declared.alloc.AllocError.{AllocError}
-use Rattle.fb_lines.specs.declared.{fault.RunFault.RunFault, fault.RunFault.TheVariants.BareTooLong, fault.RunFault.TheVariants.Stream}
+use Rattle.fb_run.specs.declared.{fault.RunFault.RunFault, fault.RunFault.TheVariants.BareTooLong, fault.RunFault.TheVariants.Stream}
 
 -- one line: its first newline is its last byte
 abbrev pub is_line : List ℕ → Bool

@@ -6,8 +6,8 @@ use Rattle.fb_bfbs.specs.declared.load_fault.LoadFault.TheVariants as load
 use Rattle.fb_bytes.specs.declared.stream_fault.StreamFault.TheVariants as stream
 use Rattle.fb_schema.specs.declared.{fault.Code.TheVariants.BadSlot, fault.SchemaFault.SchemaFault}
 use Rattle.fb_rules.specs.declared.{fault.Fault.Fault, fault.Reason.TheVariants.TooDeep, fault.Reason.TheVariants.WrongIdentifier}
-use Rattle.fb_lines.specs.{FaultText.fault_text, FaultText.stream_text}
-use Rattle.fb_lines.specs.declared.fault.RunFault.TheVariants as run
+use Rattle.fb_run.specs.{FaultText.fault_text, FaultText.stream_text}
+use Rattle.fb_run.specs.declared.fault.RunFault.TheVariants as run
 use Rattle.fbcheck_texts.specs.Texts.{ask_text, load_text, of_read, path_text, run_text, stopped_text, unkept_text, unmade_text}
 use Rattle.fbcheck_texts.specs.declared.fault.AskFault.TheVariants as ask
 

@@ -10,9 +10,9 @@ use Rattle.fb_bfbs.specs.declared.load_fault.LoadFault.TheVariants as load
 use Rattle.fb_schema.specs.declared.fault.SchemaFault.{SchemaFault}
 use Rattle.fb_rules.specs.Reasons.{reason_text}
 use Rattle.fb_rules.specs.declared.fault.Fault.{Fault}
-use Rattle.fb_lines.specs.{FaultText.fault_text, Line.field_text, Line.numbers_text}
-use Rattle.fb_lines.specs.declared.fault.RunFault.{RunFault}
-use Rattle.fb_lines.specs.declared.fault.RunFault.TheVariants as run
+use Rattle.fb_run.specs.{FaultText.fault_text, Line.field_text, Line.numbers_text}
+use Rattle.fb_run.specs.declared.fault.RunFault.{RunFault}
+use Rattle.fb_run.specs.declared.fault.RunFault.TheVariants as run
 use Rattle.fbcheck_texts.specs.Causes.{known_reason}
 use Rattle.fbcheck_texts.specs.declared.fault.AskFault.{AskFault}
 use Rattle.fbcheck_texts.specs.declared.fault.AskFault.TheVariants as ask

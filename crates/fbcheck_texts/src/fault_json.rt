@@ -2,10 +2,9 @@
 
 ghost use Rattle.std.specs.Prelude.{IfOk, IfSome, OnOk, ◌≡◌, ◌++◌, codes, decimal, option_map};
 ghost use Rattle.fbcheck_texts.specs.FaultJson.{fault_object, head_part, hint_object, hint_part, hint_text, is_join, past_join, past_space};
-ghost use Rattle.fb_lines.specs.declared.options.Form.TheVariants.{Json};
+ghost use Rattle.fb_run.specs.declared.options.Form.TheVariants.{Json};
 
-use fb_lines::put_text;
-use fb_run::{Form, Line};
+use fb_run::{Form, Line, put_text};
 use std::alloc::{AllocError, Global};
 
 /// The line of a fault, where lines are JSON: an object with the name of the file, where it is of one, the fault's text,

@@ -1,8 +1,8 @@
 //! The text of each fault, as it stands behind the program's name. It takes no memory.
 
 ghost use Rattle.std.specs.Prelude.{◌≡◌, ◌≤◌, ◌++◌, codes, decimal, length};
-ghost use Rattle.fb_lines.specs.{FaultText.fault_text, Line.field_text};
-ghost use Rattle.fb_lines.specs.declared.fault.RunFault.TheVariants.{WriteFault};
+ghost use Rattle.fb_run.specs.{FaultText.fault_text, Line.field_text};
+ghost use Rattle.fb_run.specs.declared.fault.RunFault.TheVariants.{WriteFault};
 ghost use Rattle.fbcheck_texts.specs.Texts.{ask_text, cause_text, file_text, ill_text, list_text, load_text, path_text, rows_text, run_text};
 ghost use Rattle.fbcheck_texts.specs.Texts.{step_text, stopped_text, unkept_text, unmade_text, unsummed_text, word_text, words_text};
 

@@ -1,6 +1,6 @@
 use Rattle.std.proofs.Common.{Err, Ok, sym}
 use Rattle.std.proofs.KnownBytes.{Keeps-refl}
-use Rattle.fb_lines.specs.{Ends.all_outs, Ends.with_rejects, Ends.writer_of, Puts.queues_of}
+use Rattle.fb_run.specs.{Ends.all_outs, Ends.with_rejects, Ends.writer_of, Puts.queues_of}
 use Rattle.fb_run.proofs.{BareLemmas.bare_ends, BareLemmas.bare_stops, BareLemmas.begun, BareLemmas.on_ok, BareLemmas.unused_queues, RunLemmas.err_is}
 use Rattle.fb_run.proofs.bare.pass_bare.Goals as goal
 

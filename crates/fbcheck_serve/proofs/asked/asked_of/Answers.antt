@@ -2,7 +2,7 @@ use Rattle.std.proofs.Common.{IfErr, List, Option, Result, ap, ℕ, rules, subst
 use Rattle.fbcheck_serve.specs.declared.asked.Asked.{Asked}
 use Rattle.fbcheck_texts.specs.declared.{fault.AskFault.TheVariants.NoRoot, hint.Unasked.Unasked}
 use Rattle.fbcheck_serve.specs.{Asked.IsFound, Asked.LacksIdent, Asked.options_of, Inputs.label_of, Inputs.with_label, Checking.LacksJob, Checking.own_of}
-use Rattle.fb_lines.specs.Job.{Serves, job_of}
+use Rattle.fb_run.specs.Job.{Serves, job_of}
 use Rattle.fb_run.proofs.RunLemmas.{err_exit}
 use Rattle.fbcheck_serve.proofs.AskedLemmas.{hinted, path_untold, planless_untold, planned}
 use Rattle.fbcheck_serve.proofs.asked.asked_of.Goals as goal

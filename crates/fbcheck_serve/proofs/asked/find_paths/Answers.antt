@@ -3,7 +3,7 @@ use Rattle.std.specs.Prelude.{string_bytes}
 use Rattle.std.proofs.lemmas.{List.length_push, List.Elements.All-push}
 use Rattle.fb_access.specs.Fitting.{StepsFit}
 use Rattle.fb_schema.specs.declared.kinds.Kind.TheVariants.{Table}
-use Rattle.fb_lines.specs.{Job.PathsFit, Wanted.Wanted}
+use Rattle.fb_run.specs.{Job.PathsFit, Wanted.Wanted}
 use Rattle.fbcheck_serve.proofs.PathLemmas.{path_told, pathless, paths_more}
 use Rattle.fbcheck_serve.proofs.asked.find_paths.Goals as goal
 

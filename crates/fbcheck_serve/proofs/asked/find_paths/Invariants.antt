@@ -1,6 +1,6 @@
 use Rattle.std.proofs.Common.{◌≡◌, length, map, take}
 use Rattle.std.specs.Prelude.{string_bytes}
-use Rattle.fb_lines.specs.Job.{PathsFit}
+use Rattle.fb_run.specs.Job.{PathsFit}
 use Rattle.fbcheck_serve.specs.Asked.{ArePaths}
 use Rattle.fbcheck_serve.proofs.asked.find_paths.Given as goal
 

@@ -1,6 +1,5 @@
 use Rattle.fbcheck_serve.specs.Checking.{RunsAsAsked}
-use Rattle.fb_run.specs.Leave.{noteless}
-use Rattle.fb_lines.specs.Faults.{End}
+use Rattle.fb_run.specs.{Faults.End, Leave.noteless}
 use Rattle.std.proofs.Common.{◌≡◌, Err, rules, subst}
 use Rattle.fbcheck_serve.proofs.check.check.Given.{Over}
 use Rattle.fbcheck_serve.proofs.check.check.Goals as goal

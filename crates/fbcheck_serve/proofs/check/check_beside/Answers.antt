@@ -1,7 +1,5 @@
 use Rattle.std.proofs.Common.{◌∙◌, subst, sym}
-use Rattle.fb_lines.specs.Ends.{nowhere}
-use Rattle.fb_lines.specs.Job.{job_of}
-use Rattle.fb_run.specs.Leave.{ends_of}
+use Rattle.fb_run.specs.{Ends.nowhere, Job.job_of, Leave.ends_of}
 use Rattle.fb_run.proofs.RunLemmas.{err_exit}
 use Rattle.fbcheck_texts.specs.declared.fault.AskFault.{AskFault}
 use Rattle.fbcheck_serve.specs.{Checking.IsCheckedBeside, Checking.LacksJob}

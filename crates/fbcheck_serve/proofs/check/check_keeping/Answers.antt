@@ -1,8 +1,6 @@
 use Rattle.std.proofs.Common.{◌≡◌, ◌∙◌, None, Some, ap, refl, subst, sym}
 use Rattle.std.specs.Prelude.{option_map, string_bytes}
-use Rattle.fb_lines.specs.Ends.{nowhere, writer_of}
-use Rattle.fb_lines.specs.Job.{job_of}
-use Rattle.fb_run.specs.Leave.{ends_of}
+use Rattle.fb_run.specs.{Ends.nowhere, Ends.writer_of, Job.job_of, Leave.ends_of}
 use Rattle.fb_run.proofs.RunLemmas.{err_exit}
 use Rattle.fbcheck_texts.specs.declared.fault.AskFault.{AskFault}
 use Rattle.fbcheck_serve.specs.{Checking.LacksJob, Keeping.IsCheckedKeeping, Keeping.maker_of}

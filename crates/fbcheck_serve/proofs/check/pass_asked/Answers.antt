@@ -1,6 +1,5 @@
 use Rattle.std.proofs.Common.{Err, Ok, inl, inr, refl}
-use Rattle.fb_lines.specs.{Ends.with_writer, Ends.writer_of, Job.job_of}
-use Rattle.fb_run.specs.Leave.{all_ends}
+use Rattle.fb_run.specs.{Ends.with_writer, Ends.writer_of, Job.job_of, Leave.all_ends}
 use Rattle.fbcheck_serve.proofs.HeadLemmas.{is_cut, stands}
 use Rattle.fbcheck_serve.proofs.check.pass_asked.Goals as goal
 

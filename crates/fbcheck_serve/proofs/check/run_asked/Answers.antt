@@ -1,6 +1,5 @@
 use Rattle.std.proofs.Common.{◌∙◌, [], Err, Ok, ap, inl, inr, length, refl, ℕ}
-use Rattle.fb_lines.specs.{Ends.with_writer, Ends.writer_of, Job.job_of}
-use Rattle.fb_run.specs.Leave.{all_ends}
+use Rattle.fb_run.specs.{Ends.with_writer, Ends.writer_of, Job.job_of, Leave.all_ends}
 use Rattle.fbcheck_serve.specs.Heads.{with_head}
 use Rattle.fbcheck_serve.proofs.HeadLemmas.{ends_cut, ends_headed, is_cut, stands}
 use Rattle.fbcheck_serve.proofs.check.run_asked.Goals as goal

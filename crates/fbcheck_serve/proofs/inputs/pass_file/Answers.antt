@@ -1,5 +1,5 @@
 use Rattle.std.proofs.Common.{List, ℕ, refl, subst}
-use Rattle.fb_lines.specs.{Ends.writer_of, Job.job_of}
+use Rattle.fb_run.specs.{Ends.writer_of, Job.job_of}
 use Rattle.fbcheck_serve.proofs.InputsLemmas.{tries_of}
 use Rattle.fbcheck_serve.specs.Inputs.{IsBehind, folder_of, all_seen}
 use Rattle.fbcheck_serve.proofs.inputs.pass_file.Goals as goal

@@ -1,8 +1,7 @@
 use Rattle.std.proofs.Common.{◌≡◌, ◌∙◌, ◌+◌, ◌++◌, [], length, Ok, Err, ap, drop, refl, rules, subst, sym}
 use mathlib.Core.Logic.{inr}
 use Rattle.std.proofs.Math.ListN.{drop_of_length-le}
-use Rattle.fb_lines.specs.{Ends.all_outs, Job.Job, Job.job_of}
-use Rattle.fb_run.specs.{Leave.IsUnended, Leave.reader_of, Prompt.IsPrompt}
+use Rattle.fb_run.specs.{Ends.all_outs, Job.Job, Job.job_of, Leave.IsUnended, Leave.reader_of, Prompt.IsPrompt}
 use Rattle.fbcheck_serve.specs.Inputs.{MayRead, Tries, folder_of, label_of, all_seen, stand, are_named}
 use Rattle.fbcheck_serve.specs.declared.inputs.Course.{Course}
 use Rattle.fbcheck_serve.proofs.InputsLemmas.{front_all, front_more, halts_among, label_by, next_name, relabelled, turns_on}

@@ -1,6 +1,6 @@
 use Rattle.std.proofs.Common.{◌≡◌, ◌++◌, ◌+◌, ◌≤◌, List, Option, drop, length, ℕ}
 use Rattle.fb_rules.specs.Reasons.{reason_count}
-use Rattle.fb_lines.specs.Job.{Serves, job_of}
+use Rattle.fb_run.specs.Job.{Serves, job_of}
 use Rattle.fbcheck_serve.specs.Inputs.{PassesAll, at_first, folder_of, all_seen, with_label, stand, are_named}
 use Rattle.fbcheck_serve.specs.Names.{Named}
 use Rattle.fbcheck_serve.specs.declared.inputs.Standard.TheVariants.{Unread}

@@ -1,5 +1,5 @@
 use Rattle.std.proofs.Common.{◌∙◌, ℕ, List, IfSome, Ok, Err, refl, rules, subst, sym, true≢false}
-use Rattle.fb_lines.specs.Job.{job_of}
+use Rattle.fb_run.specs.Job.{job_of}
 use Rattle.fbcheck_serve.specs.Inputs.{folder_of, all_seen}
 use Rattle.fbcheck_serve.specs.declared.inputs.Missed.TheVariants as missed
 use Rattle.fbcheck_serve.proofs.InputsLemmas.{comes_missed, comes_opened, no_more, opened_turns, unread_spent}

@@ -1,5 +1,5 @@
 use Rattle.std.proofs.Common.{◌∙◌, List, subst, ℕ}
-use Rattle.fb_lines.specs.Ends.{writer_of}
+use Rattle.fb_run.specs.Ends.{writer_of}
 use Rattle.fbcheck_serve.specs.Inputs.{IsNoted}
 use Rattle.fbcheck_serve.proofs.NoteLemmas.{file_stopped}
 use Rattle.fbcheck_serve.proofs.inputs.tell_stop.Goals as goal

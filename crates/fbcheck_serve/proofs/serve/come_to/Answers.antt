@@ -1,7 +1,6 @@
 use Rattle.std.proofs.Common.{None, refl}
 use Rattle.std.specs.Prelude.{map, string_bytes}
-use Rattle.fb_lines.specs.Ends.{writer_of}
-use Rattle.fb_run.specs.Leave.{ends_of}
+use Rattle.fb_run.specs.{Ends.writer_of, Leave.ends_of}
 use Rattle.fbcheck_serve.proofs.ServingLemmas.{comes_asked, comes_read, comes_unserved, early, fileless, holds_given, may_read, prompt_read, told_as_lines, told_plainly, told_read, wordless}
 use Rattle.fbcheck_serve.specs.{Inputs.folder_of, Inputs.seen_of, Keeping.maker_of}
 use Rattle.fbcheck_serve.proofs.serve.come_to.Goals as goal

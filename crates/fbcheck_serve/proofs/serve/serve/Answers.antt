@@ -1,6 +1,6 @@
 use Rattle.std.proofs.Common.{Option, subst}
 use Rattle.std.specs.declared.io.ErrorKind.{ErrorKind}
-use Rattle.fb_lines.specs.Ends.{writer_of}
+use Rattle.fb_run.specs.Ends.{writer_of}
 use Rattle.fbcheck_serve.specs.Serving.{Complains}
 use Rattle.fbcheck_serve.proofs.serve.serve.Goals as goal
 

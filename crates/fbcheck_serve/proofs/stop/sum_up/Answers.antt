@@ -1,5 +1,5 @@
 use Rattle.std.proofs.Common.{rules, ◌∙◌}
-use Rattle.fb_lines.specs.Ends.{writer_of}
+use Rattle.fb_run.specs.Ends.{writer_of}
 use Rattle.fbcheck_serve.proofs.ServingLemmas.{sums_noted}
 use Rattle.fbcheck_serve.proofs.stop.sum_up.Goals as goal
 

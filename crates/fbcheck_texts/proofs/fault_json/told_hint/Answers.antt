@@ -1,5 +1,5 @@
 use Rattle.std.proofs.Common.{◌∙◌, ◌++◌, List, ap, option_map, Bor, ℕ}
-use Rattle.fb_lines.specs.Json.{json_text, text_json}
+use Rattle.fb_run.specs.Json.{json_text, text_json}
 use Rattle.fbcheck_texts.specs.FaultJson.{hint_text}
 use Rattle.fbcheck_texts.proofs.FaultJsonLemmas.{four_put, hint_told}
 use Rattle.fbcheck_texts.proofs.fault_json.told_hint.Goals as goal

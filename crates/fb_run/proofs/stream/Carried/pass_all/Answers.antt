@@ -1,7 +1,6 @@
 use Rattle.std.proofs.Common.{arith, length, refl, rules, sym, ◌≡◌, ◌∙◌}
 use Rattle.fb_bytes.specs.declared.stream_fault.StreamFault.TheVariants as stream
-use Rattle.fb_lines.specs.Ends.{all_outs}
-use Rattle.fb_run.specs.{Leave.all_ends, Leave.reader_of, Pieces.carry_of}
+use Rattle.fb_run.specs.{Ends.all_outs, Leave.all_ends, Leave.reader_of, Pieces.carry_of}
 use Rattle.fb_run.proofs.BareLemmas.{unused_queues}
 use Rattle.fb_run.proofs.RunLemmas.{err_is, fails_piece, fails_part, fails_read, fails_short, fails_turns, full_piece, passes_end, runs_from, sofar_nothing, sofar_piece, prompt_from, sofar_prompt}
 use Rattle.fb_run.proofs.StreamLemmas.{due_next}

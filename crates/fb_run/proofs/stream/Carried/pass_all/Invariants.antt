@@ -1,6 +1,5 @@
 use Rattle.std.proofs.Common.{length, ◌≡◌}
-use Rattle.fb_lines.specs.Ends.{all_outs}
-use Rattle.fb_run.specs.{Leave.reader_of, Pieces.carry_of}
+use Rattle.fb_run.specs.{Ends.all_outs, Leave.reader_of, Pieces.carry_of}
 use Rattle.fb_run.proofs.RunLemmas.{Sofar}
 use Rattle.fb_run.proofs.stream.Carried.pass_all.Given as goal
 

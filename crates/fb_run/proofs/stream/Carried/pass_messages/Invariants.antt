@@ -1,6 +1,5 @@
 use Rattle.std.proofs.Common.{◌≡◌, ◌++◌, List, ℕ, length}
-use Rattle.fb_lines.specs.Spot.{HasDue, past_all}
-use Rattle.fb_run.specs.Pieces.{GoesOn, carry_of}
+use Rattle.fb_run.specs.{Pieces.GoesOn, Pieces.carry_of, Spot.HasDue, Spot.past_all}
 use Rattle.fb_run.proofs.stream.Carried.pass_messages.Given as goal
 
 abbrev pub invariant-loop-rest : goal.invariant-loop-rest

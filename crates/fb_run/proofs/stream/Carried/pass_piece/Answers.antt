@@ -1,5 +1,4 @@
-use Rattle.fb_lines.specs.Puts.{queues_of}
-use Rattle.fb_run.specs.Pieces.{WritesBy, carry_of}
+use Rattle.fb_run.specs.{Pieces.WritesBy, Pieces.carry_of, Puts.queues_of}
 use Rattle.fb_run.proofs.RunLemmas.{err_exit}
 use Rattle.fb_run.proofs.StreamLemmas.{flush_halts, flushed, passed_sound, settled_cut}
 use Rattle.fb_run.proofs.stream.Carried.pass_piece.Goals as goal

@@ -1,8 +1,7 @@
 use Rattle.std.proofs.Common.{◌≡◌, ◌<◌, ◌++◌, ◌∙◌, ℕ, List, [], arith, rules, ap, drop, length, length-take-le, refl, subst, sym, take, take-append-drop}
 use Rattle.std.proofs.lemmas.List.{nil_from_length}
 use Rattle.fb_bytes.specs.{Framing.Framing, Messages.IsMessage, Messages.IsPartial, declared.cut.Cut.Cut}
-use Rattle.fb_lines.specs.Puts.{queues_of}
-use Rattle.fb_run.specs.Pieces.{PassesBy, carry_of}
+use Rattle.fb_run.specs.{Pieces.PassesBy, Pieces.carry_of, Puts.queues_of}
 use Rattle.fb_run.proofs.RunLemmas.{err_exit}
 use Rattle.fb_run.proofs.StreamLemmas.{add_halts, added_sound, feed_halts, held_stands, message_stands, one_told, open_sound, still_ready}
 use Rattle.fb_run.proofs.stream.Carried.pass_some.Goals as goal

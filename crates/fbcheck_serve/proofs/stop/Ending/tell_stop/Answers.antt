@@ -1,5 +1,5 @@
 use Rattle.std.proofs.Common.{◌∙◌}
-use Rattle.fb_lines.specs.Ends.{writer_of}
+use Rattle.fb_run.specs.Ends.{writer_of}
 use Rattle.fbcheck_serve.proofs.NoteLemmas.{input_stopped}
 use Rattle.fbcheck_serve.proofs.stop.Ending.tell_stop.Goals as goal
 

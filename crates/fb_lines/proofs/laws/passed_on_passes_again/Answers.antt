@@ -1,5 +1,0 @@
-use Rattle.fb_lines.proofs.FilterLemmas.{passes_again}
-use Rattle.fb_lines.proofs.laws.passed_on_passes_again.Goals as goal
-
-pub returns : goal.returns
-returns c = passes_again
