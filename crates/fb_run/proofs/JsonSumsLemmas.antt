@@ -8,8 +8,8 @@ use Rattle.json.specs.Print.{escape_byte, quoted}
 use Rattle.fb_rules.specs.Reasons.{reason_count}
 use Rattle.fb_run.specs.{Json.count_json, Json.following, Json.json_text, JsonSums.reasons_members, JsonSums.summary_in}
 use Rattle.fb_run.specs.Sums.{count_of, counts_part, in_form, reasons_from, summary_part, verdicts_part}
-use Rattle.fb_run.specs.declared.{options.Form.Form, tally.Tally.Tally}
-use Rattle.fb_run.specs.declared.options.Form.TheVariants as form
+use Rattle.fb_run.specs.declared.{options.LineForm.LineForm, tally.Tally.Tally}
+use Rattle.fb_run.specs.declared.options.LineForm.TheVariants as form
 use Rattle.fb_run.proofs.JsonLemmas.{first_member, next_member, no_more, number_text}
 
 -- the key of each reason's count
@@ -62,7 +62,7 @@ unfolding escape_byte
 tail_text tally = simp (next_member, no_more, number_text, append_assoc)
 
 -- the line in either form
-pub summary_parts : (f : Form) (tally : Tally) → length tally.reasons ≡ reason_count → summary_part f tally ≡ summary_in f tally
+pub summary_parts : (f : LineForm) (tally : Tally) → length tally.reasons ≡ reason_count → summary_part f tally ≡ summary_in f tally
 summary_parts form.Plain tally places = refl
 summary_parts form.Json tally places =
     sym (

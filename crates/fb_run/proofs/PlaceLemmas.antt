@@ -6,7 +6,7 @@ use Rattle.fb_rules.specs.declared.{fault.Fault.Fault, fault.Report.Report, link
 use Rattle.fb_strict.specs.{AsAsked.ReportsBy, AsAsked.StopsBy, AsAsked.StopsAlongBy, Planned.Planned}
 use Rattle.fb_run.specs.{Wanted.Wanted}
 use Rattle.fb_run.specs.Job.{AreAnswers, Beside, HasRoom, IsChecked, IsVerdict, IsVerified, Job, Verdict, asked_of, asks_little, brief_verdict, is_brief, job_of, limits_for, place_beside, place_told}
-use Rattle.fb_run.specs.declared.{checker.Checked.Checked, options.Form.Form, options.Form.TheVariants.Plain, options.Form.TheVariants.Json, options.Options.Options}
+use Rattle.fb_run.specs.declared.{checker.Checked.Checked, options.LineForm.LineForm, options.LineForm.TheVariants.Plain, options.LineForm.TheVariants.Json, options.Options.Options}
 use Rattle.fb_run.specs.declared.{options.Mode.Mode, options.Mode.TheVariants.Lines, options.Mode.TheVariants.BadLines, options.Mode.TheVariants.Filter, options.Mode.TheVariants.Csv}
 use Rattle.fb_run.specs.declared.{options.Places.Places, options.Places.TheVariants.Numbers, options.Places.TheVariants.Words}
 
@@ -46,7 +46,7 @@ module _ {job : Job} {rows : Rows} (options : Options) {start : Start} {limits :
   checked_along fault links along = by_job (λ p q. StopsAlongBy p q bytes fault links) along
 
 -- where no more is asked than a report, there are no values, no words, no name, no JSON, and no rows
-pub asks_none : (paths : List Wanted) (names : Places) (label : Option (List ℕ)) (form : Form) (mode : Mode) → asks_little paths names label form mode ≡ true
+pub asks_none : (paths : List Wanted) (names : Places) (label : Option (List ℕ)) (form : LineForm) (mode : Mode) → asks_little paths names label form mode ≡ true
     → (paths ≡ []) × (names ≡ Numbers) × (label ≡ None) × (form ≡ Plain) × (mode ≢ Csv)
 asks_none [] Numbers None Plain Lines little = (refl, refl, refl, refl, λ csv. cc)
 asks_none [] Numbers None Plain BadLines little = (refl, refl, refl, refl, λ csv. cc)

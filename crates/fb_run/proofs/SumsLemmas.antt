@@ -3,7 +3,7 @@ use Rattle.std.proofs.Common.{All, rules, zero, suc, ◌≡◌, ℕ, ◌+◌, �
 use Rattle.std.specs.Prelude.{decimal, slice_index}
 use Rattle.std.proofs.lemmas.{Fmt.length-decimal-le, Bool.cases_lt, List.drop_more, List.get_or_past, List.Elements.All-set, List.Elements.All-weaker}
 use Rattle.fb_run.specs.{Job.Verdict, Sums.IsBounded, Sums.no_tally, Sums.one_more, Sums.reason_part, Sums.reasons_from, Sums.sum_of_reads, Sums.tally_with}
-use Rattle.fb_run.specs.declared.{options.Form.Form, tally.Tally.Tally}
+use Rattle.fb_run.specs.declared.{options.LineForm.LineForm, tally.Tally.Tally}
 
 -- one more here and there
 one_both : (i j : ℕ) (l : List ℕ) → one_more i (one_more j l) ≡ one_more j (one_more i l)
@@ -41,7 +41,7 @@ pub in_front : (letter number sign count rest : List ℕ) → letter ++ (number 
 in_front letter number sign count rest = simp append_assoc
 
 -- a reason stands in front of those behind it
-pub one_reason_more : (form : Form) (counts rest line line' : List ℕ) (place next : ℕ) → next ≡ place + 1 → place < length counts → line ≡ reasons_from form (next + 1) (drop next counts) rest
+pub one_reason_more : (form : LineForm) (counts rest line line' : List ℕ) (place next : ℕ) → next ≡ place + 1 → place < length counts → line ≡ reasons_from form (next + 1) (drop next counts) rest
     → line' ≡ reason_part form (place + 1) (get_or counts place 0) line → line' ≡ reasons_from form (place + 1) (drop place counts) rest
 one_reason_more form counts rest line line' place next after inside is more = rw (more, is, after, drop_more counts place 0 inside)
 

@@ -5,9 +5,9 @@ use Rattle.fb_run.specs.{AnswerText.answers_text, AnswerText.label_text, Csv.IsR
 use Rattle.fb_run.specs.{Json.counts_part, Json.following, Line.IsLine, Line.IsLineBy, Line.IsLineIn, Line.IsRest, Line.SaidBy, Line.front_in, Line.rejected, Line.short_line, Line.verdict_line}
 use Rattle.fb_run.specs.{Puts.Adds, Puts.AddsBy, Puts.AddsOr, Puts.AreSo, Puts.Puts, Puts.PutsFront, Puts.PutsSome, Puts.PutsTold, Puts.Queue, Puts.Queues, Puts.Says, Puts.Tells, Spot.Before}
 use Rattle.fb_run.specs.{Spot.spot_of, Sums.tally_with, Texts.Texts, Texts.silent, Texts.spoken, Texts.to_notes, Texts.to_out, Texts.to_rejects, Wanted.Wanted}
-use Rattle.fb_run.specs.declared.{fault.RunFault.RunFault, options.Form.Form, options.Mode.Mode, options.Rejects.Rejects, spot.Spot.Spot, tally.Tally.Tally}
+use Rattle.fb_run.specs.declared.{fault.RunFault.RunFault, options.LineForm.LineForm, options.Mode.Mode, options.Rejects.Rejects, spot.Spot.Spot, tally.Tally.Tally}
 use Rattle.fb_run.specs.declared.fault.RunFault.TheVariants as run
-use Rattle.fb_run.specs.declared.options.Form.TheVariants as form
+use Rattle.fb_run.specs.declared.options.LineForm.TheVariants as form
 use Rattle.fb_run.specs.declared.options.Mode.TheVariants.{Lines, BadLines, Filter, Csv}
 use Rattle.fb_run.proofs.{JsonLemmas.yes_line, PlaceLemmas.asks_none, PutsLemmas.puts_none, PutsLemmas.puts_still, PutsLemmas.puts_then, PutsLemmas.puts_waiting}
 
@@ -61,7 +61,7 @@ brief_line job spot v brief line is =
     line_by job.mode job spot v line none.4 (subst (λ f. IsLineIn f job spot v line) (sym none.3) (is ∙ ap (λ l. label_text l ++ verdict_line spot.number v) (sym none.2)))
 
 -- a line of a yes by its two parts, and that of a no
-pub line_of_yes : (f : Form) (job : Job) (spot : Spot) (found : Yes) (front rest : List ℕ) → front ≡ front_in f job spot (Ok found) → IsRest f (map (λ (wanted : Wanted). wanted.text) job.paths) found.answers rest
+pub line_of_yes : (f : LineForm) (job : Job) (spot : Spot) (found : Yes) (front rest : List ℕ) → front ≡ front_in f job spot (Ok found) → IsRest f (map (λ (wanted : Wanted). wanted.text) job.paths) found.answers rest
     → IsLineIn f job spot (Ok found) (front ++ rest)
 line_of_yes form.Plain job spot found front rest is behind =
     rw (is, behind) (append_assoc (label_text job.label) (short_line spot.number (Ok found)) (answers_text found.answers ++ codes "\n"))
@@ -71,7 +71,7 @@ line_of_yes form.Json job spot found front rest is (values, are, behind) = (
   rw (is, behind) (append_assoc (begin_part job.label spot) (counts_part found.report) (following values ++ codes "\n") ∙ sym (yes_line job.label spot found.report values)),
 )
 
-pub line_of_no : (f : Form) (job : Job) (spot : Spot) (bad : No) (front : List ℕ) → front ≡ front_in f job spot (Err bad) → IsLineIn f job spot (Err bad) front
+pub line_of_no : (f : LineForm) (job : Job) (spot : Spot) (bad : No) (front : List ℕ) → front ≡ front_in f job spot (Err bad) → IsLineIn f job spot (Err bad) front
 line_of_no form.Plain job spot bad front is = is
 line_of_no form.Json job spot bad front is = is
 

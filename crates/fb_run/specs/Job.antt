@@ -10,9 +10,9 @@ use Rattle.fb_rules.specs.declared.{start.Start.Start, start.Start.TheVariants.B
 use Rattle.fb_schema.specs.declared.kinds.Kind.TheVariants.{Table}
 use Rattle.fb_access.specs.{Denotes.Denotes, Denotes.Shown, Denotes.shown, Fitting.StepsFit, Location.location_text, Location.place_text}
 use Rattle.fb_run.specs.{AnswerText.label_text, Wanted.Wanted}
-use Rattle.fb_run.specs.declared.{checker.Checked.Checked, checker.Course.Course, checker.Found.Found, checker.Wrong.Wrong, options.Form.Form}
+use Rattle.fb_run.specs.declared.{checker.Checked.Checked, checker.Course.Course, checker.Found.Found, checker.Wrong.Wrong, options.LineForm.LineForm}
 use Rattle.fb_run.specs.declared.checker.Course.TheVariants.{Brief, BriefStrictly, AtLength}
-use Rattle.fb_run.specs.declared.{options.Form.TheVariants.Plain, options.Form.TheVariants.Json, options.Mode.Mode, options.Mode.TheVariants.Csv, options.Places.Places}
+use Rattle.fb_run.specs.declared.{options.LineForm.TheVariants.Plain, options.LineForm.TheVariants.Json, options.Mode.Mode, options.Mode.TheVariants.Csv, options.Places.Places}
 use Rattle.fb_run.specs.declared.{options.Places.TheVariants.Numbers, options.Places.TheVariants.Words, options.Prefix.Prefix}
 use Rattle.fb_run.specs.declared.{options.Prefix.TheVariants.Part, options.Prefix.TheVariants.Apart, options.Rejects.Rejects, options.Options.Options}
 
@@ -43,7 +43,7 @@ pub record Job : Type 0 where
   pub rejects : Rejects
   pub names : Places
   pub label : Option (List ℕ)
-  pub form : Form
+  pub form : LineForm
   pub plan : Option Planned
 
 -- how a stream is cut into messages
@@ -85,7 +85,7 @@ abbrev pub AreAnswers : List ℕ → Rows → Start → ℕ → List Wanted → 
 AreAnswers bytes rows start root = AllZip (λ (wanted : Wanted) value. Denotes bytes rows start root wanted.steps value)
 
 -- the place of a fault in words: in a line of JSON, which tells the names of its object and field itself, its path alone
-abbrev pub place_told : Form → Rows → Fault → List Link → List ℕ
+abbrev pub place_told : LineForm → Rows → Fault → List Link → List ℕ
 place_told Plain rows fault links = location_text rows fault links
 place_told Json rows fault links = place_text rows links
 
@@ -119,7 +119,7 @@ verdict_beside job text (Err fault) = Err (record { fault = fault; place = place
 
 -- whether no more is asked of a buffer than what was counted, or its fault by numbers: neither a value, nor words, nor a
 -- name, nor JSON, nor rows
-abbrev pub asks_little : List Wanted → Places → Option (List ℕ) → Form → Mode → Bool
+abbrev pub asks_little : List Wanted → Places → Option (List ℕ) → LineForm → Mode → Bool
 asks_little [] Numbers None Plain Csv = false
 asks_little [] Numbers None Plain mode = true
 asks_little _ _ _ _ _ = false

@@ -2,8 +2,8 @@
 use Rattle.std.specs.Prelude.{◌≡◌, ℕ, ◌+◌, ◌==◌, if◌then◌else◌, List, [], ◌∷◌, ◌++◌, codes, decimal}
 use Rattle.json.specs.Json.{Json, object, Members, no_members, member}
 use Rattle.fb_run.specs.{Json.count_json, Json.json_text, Sums.count_of, Sums.no_tally, Sums.one_more, Sums.summary_line}
-use Rattle.fb_run.specs.declared.{options.Form.Form, tally.Tally.Tally}
-use Rattle.fb_run.specs.declared.options.Form.TheVariants as form
+use Rattle.fb_run.specs.declared.{options.LineForm.LineForm, tally.Tally.Tally}
+use Rattle.fb_run.specs.declared.options.LineForm.TheVariants as form
 
 -- how often the reasons from this number on were given, those that were, before other members
 abbrev pub reasons_members : ℕ → List ℕ → Members → Members
@@ -26,7 +26,7 @@ abbrev pub json_summary : Tally → List ℕ
 json_summary tally = json_text (sums_json tally) ++ codes "\n"
 
 -- the line in either form
-abbrev pub summary_in : Form → Tally → List ℕ
+abbrev pub summary_in : LineForm → Tally → List ℕ
 summary_in form.Plain tally = summary_line tally
 summary_in form.Json tally = json_summary tally
 

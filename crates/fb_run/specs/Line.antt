@@ -5,7 +5,7 @@ use Rattle.fb_access.specs.Denotes.{Shown}
 use Rattle.fb_run.specs.{AnswerText.answers_text, AnswerText.label_text, Csv.IsRow, Job.IsVerdict, Job.Job, Job.Verdict, Job.buffer_in, Json.IsValuesMember, Json.IsYes, Json.begin_part}
 use Rattle.fb_run.specs.{Json.counts_part, Json.following, Json.json_no, Spot.Before, Spot.spot_of, Texts.Texts, Texts.silent, Texts.spoken, Texts.to_notes, Texts.to_out, Wanted.Wanted}
 use Rattle.fb_run.specs.declared.spot.Spot.{Spot}
-use Rattle.fb_run.specs.declared.{options.Form.Form, options.Form.TheVariants.Plain, options.Form.TheVariants.Json, options.Mode.Mode, options.Rejects.Rejects}
+use Rattle.fb_run.specs.declared.{options.LineForm.LineForm, options.LineForm.TheVariants.Plain, options.LineForm.TheVariants.Json, options.Mode.Mode, options.Rejects.Rejects}
 use Rattle.fb_run.specs.declared.options.Rejects.TheVariants.{Dropped, Kept}
 use Rattle.fb_run.specs.declared.options.Mode.TheVariants.{Lines, BadLines, Filter, Csv}
 use Rattle.fb_rules.specs.declared.{fault.Fault.Fault, fault.Report.Report}
@@ -57,7 +57,7 @@ IsJsonLine job spot (Ok found) line = IsYes job.label spot found.report (map (λ
 IsJsonLine job spot (Err bad) line = line ≡ json_no job.label spot job.rows bad.fault bad.place
 
 -- the line of the verdict on the message there, with the input's name where it has one: before it, or as JSON has it
-abbrev pub IsLineIn : Form → Job → Spot → Verdict → List ℕ → Type 0
+abbrev pub IsLineIn : LineForm → Job → Spot → Verdict → List ℕ → Type 0
 IsLineIn Plain job spot verdict line = line ≡ label_text job.label ++ verdict_line spot.number verdict
 IsLineIn Json job spot verdict line = IsJsonLine job spot verdict line
 
@@ -70,12 +70,12 @@ abbrev pub IsLine : Job → Spot → Verdict → List ℕ → Type 0
 IsLine job = IsLineBy job.mode job
 
 -- what the line of a yes has behind its counts
-abbrev pub IsRest : Form → List (List ℕ) → List Shown → List ℕ → Type 0
+abbrev pub IsRest : LineForm → List (List ℕ) → List Shown → List ℕ → Type 0
 IsRest Plain paths shown text = text ≡ answers_text shown ++ codes "\n"
 IsRest Json paths shown text = (values : Members) × IsValuesMember paths shown values × (text ≡ following values ++ codes "\n")
 
 -- what its line has up to there, or all of the line of a no
-abbrev pub front_in : Form → Job → Spot → Verdict → List ℕ
+abbrev pub front_in : LineForm → Job → Spot → Verdict → List ℕ
 front_in Plain job spot (Ok found) = label_text job.label ++ short_line spot.number (Ok found)
 front_in Json job spot (Ok found) = begin_part job.label spot ++ counts_part found.report
 front_in Plain job spot (Err bad) = label_text job.label ++ verdict_line spot.number (Err bad)

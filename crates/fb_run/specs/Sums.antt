@@ -3,7 +3,7 @@ use Rattle.std.specs.Prelude.{◌≡◌, ℕ, ◌+◌, ◌-◌, ◌*◌, ◌≤�
 use Rattle.fb_rules.specs.Reasons.{reason_number, reason_count}
 use Rattle.fb_rules.specs.declared.fault.Reason.{Reason}
 use Rattle.fb_run.specs.Job.{Verdict}
-use Rattle.fb_run.specs.declared.{options.Form.Form, options.Form.TheVariants.Plain, options.Form.TheVariants.Json, tally.Tally.Tally}
+use Rattle.fb_run.specs.declared.{options.LineForm.LineForm, options.LineForm.TheVariants.Plain, options.LineForm.TheVariants.Json, tally.Tally.Tally}
 
 -- the place of a reason among the counts of all reasons, that of V1 first
 abbrev pub count_place : Reason → ℕ
@@ -59,40 +59,40 @@ pub record IsBounded (tally : Tally) : Type 0 where
   pub tables : tally.tables ≤ 4294967296 * count_of tally
 
 -- one of two texts, by the form of the line
-abbrev pub in_form : Form → List ℕ → List ℕ → List ℕ
+abbrev pub in_form : LineForm → List ℕ → List ℕ → List ℕ
 in_form Plain plain json = plain
 in_form Json plain json = json
 
 -- how often the reason with this number was given, where it was, in front of the rest
-abbrev pub reason_part : Form → ℕ → ℕ → List ℕ → List ℕ
+abbrev pub reason_part : LineForm → ℕ → ℕ → List ℕ → List ℕ
 reason_part form number count rest =
     (if count == 0 then [] else (in_form form (codes " V") (codes ",\"V") ++ decimal number ++ in_form form (codes "=") (codes "\":") ++ decimal count)) ++ rest
 
 -- the same of the reasons from this number on, in their order
-abbrev pub reasons_from : Form → ℕ → List ℕ → List ℕ → List ℕ
+abbrev pub reasons_from : LineForm → ℕ → List ℕ → List ℕ → List ℕ
 reasons_from form number [] rest = rest
 reasons_from form number (count ∷ counts) rest = reason_part form number count (reasons_from form (number + 1) counts rest)
 
 -- the same of all reasons
-abbrev pub reasons_part : Form → List ℕ → List ℕ → List ℕ
+abbrev pub reasons_part : LineForm → List ℕ → List ℕ → List ℕ
 reasons_part form counts rest = reasons_from form 1 counts rest
 
 -- what was counted beside the verdicts
-abbrev pub counts_part : Form → Tally → List ℕ
+abbrev pub counts_part : LineForm → Tally → List ℕ
 counts_part form tally =
     in_form form (codes " bytes=") (codes ",\"bytes\":") ++ decimal tally.bytes
     ++ in_form form (codes " tables=") (codes ",\"tables\":") ++ decimal tally.tables
     ++ in_form form (codes " reads=") (codes ",\"reads\":") ++ decimal tally.reads ++ in_form form (codes "\n") (codes "}\n")
 
 -- how many there are, and how many had a yes and a no, in front of the rest
-abbrev pub verdicts_part : Form → Tally → List ℕ → List ℕ
+abbrev pub verdicts_part : LineForm → Tally → List ℕ → List ℕ
 verdicts_part form tally rest =
     in_form form (codes "summary: messages=") (codes "{\"messages\":") ++ decimal (count_of tally)
     ++ in_form form (codes " yes=") (codes ",\"yes\":") ++ decimal tally.yes
     ++ in_form form (codes " no=") (codes ",\"no\":") ++ decimal tally.no ++ rest
 
 -- all of it
-abbrev pub summary_part : Form → Tally → List ℕ
+abbrev pub summary_part : LineForm → Tally → List ℕ
 summary_part form tally = verdicts_part form tally (reasons_part form tally.reasons (counts_part form tally))
 
 -- the plain line that tells it

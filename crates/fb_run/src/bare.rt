@@ -8,7 +8,7 @@ use crate::fault::RunFault;
 use crate::input::Input;
 use crate::output::Output;
 use crate::reading::{PIECE, read_whole};
-use crate::room::Room;
+use crate::room::Workspace;
 use fb_bytes::Sink;
 use std::alloc::Allocator;
 
@@ -24,7 +24,7 @@ pub fn pass_bare<
 >(
     alloc: B,
     output: &mut Output<A>,
-    room: &mut Room<A>,
+    room: &mut Workspace<A>,
     piece: &mut Vec<u8, C>,
     reader: &mut S,
     writer: &mut K,

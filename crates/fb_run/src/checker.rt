@@ -9,12 +9,12 @@ ghost use Rattle.fb_run.specs.Job.{course_of, cut_of, is_brief, job_of, limits_f
 ghost use Rattle.fb_strict.specs.AsAsked.{StopsBy, StopsAlongBy};
 ghost use Rattle.fb_schema.specs.Rows.{Rows};
 ghost use Rattle.fb_run.specs.{Line.front_in, Spot.IsDue, Spot.at_first};
-ghost use Rattle.fb_run.specs.declared.options.Form.TheVariants.{Json};
+ghost use Rattle.fb_run.specs.declared.options.LineForm.TheVariants.{Json};
 
 use crate::answers::{Answers, MOST_PATHS};
 use crate::json_line::{put_no, put_yes};
-use crate::options::{AskedPath, Form, Mode, Options, Places, Prefix, Rejects};
-use crate::room::Room;
+use crate::options::{AskedPath, LineForm, Mode, Options, Places, Prefix, Rejects};
+use crate::room::Workspace;
 use crate::spot::Spot;
 use fb_access::{get, place_of, put_location};
 use fb_bytes::{Cut, Endian, Meter};
@@ -176,7 +176,7 @@ impl<'s, 'n, 'o> Checker<'s, 'n, 'o> {
     }
 
     /// How lines are written.
-    pub fn form(&self) -> Form
+    pub fn form(&self) -> LineForm
         ensures { result ≡ self.now.form }
     {
         self.options.form
@@ -215,10 +215,10 @@ impl<'s, 'n, 'o> Checker<'s, 'n, 'o> {
 
     /// Room for as many open tables as the limits allow, for as many of a pass where there is a plan, and for as many
     /// links where words are asked for.
-    pub fn room<'a, A: Allocator>(&self, alloc: &'a A) -> Result<Room<&'a A>, AllocError>
+    pub fn room<'a, A: Allocator>(&self, alloc: &'a A) -> Result<Workspace<&'a A>, AllocError>
         ensures { IfOk result (HasRoom self.now) }
     {
-        Room::new(alloc, self.options)
+        Workspace::new(alloc, self.options)
     }
 
     /// The verdict on the buffer in a message: what is found in it, with the values at the ends of the paths, or the
@@ -229,7 +229,7 @@ impl<'s, 'n, 'o> Checker<'s, 'n, 'o> {
     /// `AllocError` where there was no memory for these words, and only where they are asked for.
     pub fn verdict<'b, A: Allocator>(
         &self,
-        room: &mut Room<A>,
+        room: &mut Workspace<A>,
         message: &'b [u8],
     ) -> Result<Result<Found<'b>, Fault>, AllocError>
         requires room { HasRoom self.now room.old }
@@ -264,7 +264,7 @@ impl<'s, 'n, 'o> Checker<'s, 'n, 'o> {
     #[inline(always)]
     pub fn report<A: Allocator>(
         &self,
-        room: &mut Room<A>,
+        room: &mut Workspace<A>,
         meter: &mut Meter<'_>,
     ) -> Result<Report, Fault>
         requires brief { IsTrue (is_brief self.now) }
@@ -296,7 +296,7 @@ impl<'s, 'n, 'o> Checker<'s, 'n, 'o> {
     /// pass where there is a plan, or the fault.
     pub fn report_strictly<A: Allocator>(
         &self,
-        room: &mut Room<A>,
+        room: &mut Workspace<A>,
         meter: Meter<'_>,
     ) -> Result<Report, Fault>
         requires brief { IsTrue (is_brief self.now) }
@@ -362,7 +362,7 @@ impl<'s, 'n, 'o> Checker<'s, 'n, 'o> {
     #[tactic(auto, using(std::proofs::lemmas::Grind::common_steps))]
     fn verified<'b, A: Allocator>(
         &self,
-        room: &mut Room<A>,
+        room: &mut Workspace<A>,
         meter: Meter<'b>,
     ) -> Result<Result<Checked<'b, 's, 'n>, Fault>, AllocError>
         requires room { HasRoom self.now room.old }
@@ -393,7 +393,7 @@ impl<'s, 'n, 'o> Checker<'s, 'n, 'o> {
     /// The buffer, where it is well formed, and strict where there is a plan, or its fault.
     fn checked<'b, A: Allocator>(
         &self,
-        room: &mut Room<A>,
+        room: &mut Workspace<A>,
         meter: Meter<'b>,
     ) -> Result<Checked<'b, 's, 'n>, Fault>
         requires room { HasRoom self.now room.old }
@@ -475,7 +475,7 @@ impl<'s, 'n, 'o> Checker<'s, 'n, 'o> {
     /// begins with.
     pub fn told<'b, 't, A: Allocator>(
         &self,
-        room: &'t Room<A>,
+        room: &'t Workspace<A>,
         verdict: Result<Found<'b>, Fault>,
     ) -> (Result<Found<'b>, Wrong<'t>>, &'t [u8])
         ensures verdict { verdict_of result.0 ≡ verdict_beside self.now room.now.text verdict.entry }
@@ -541,7 +541,7 @@ fn is_brief(options: &Options) -> bool
     } = options;
     match (names, form, mode) {
         (_, _, Mode::Csv) => false,
-        (Places::Numbers, Form::Plain, _) => paths.is_empty() && label.is_none(),
+        (Places::Numbers, LineForm::Plain, _) => paths.is_empty() && label.is_none(),
         _ => false,
     }
 }
@@ -560,7 +560,7 @@ fn course_by(options: &Options) -> Course
 /// Adds the place of a fault in words.
 fn put_place<A: Allocator>(
     text: &mut Vec<u8, A>,
-    form: Form,
+    form: LineForm,
     schema: &Schema<'_>,
     fault: &Fault,
     links: &[Link],
@@ -568,8 +568,8 @@ fn put_place<A: Allocator>(
     ensures ok { OnOk result (text.new.items ≡ text.old.items ++ place_told form schema.now fault.now links.now) }
 {
     match form {
-        Form::Plain => put_location(text, schema, fault, links),
-        Form::Json => text.extend_from_slice(place_of(schema, links).as_slice()),
+        LineForm::Plain => put_location(text, schema, fault, links),
+        LineForm::Json => text.extend_from_slice(place_of(schema, links).as_slice()),
     }
 }
 

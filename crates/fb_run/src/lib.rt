@@ -1,6 +1,6 @@
-//! Checks the buffers of an input by a schema, and tells of each: a stream of size-prefixed buffers, or one bare buffer.
-//! A run asks for the input's pieces and checks each message by a schema and a job; its verdict gets a line, or passes a
-//! filter, and is counted. Beside it the numbers of a run, the faults at which it comes to rest, and their texts.
+//! Checks the buffers of an input by a schema, and tells of each: a stream of size-prefixed buffers, or one bare
+//! buffer. Each verdict gets a line, or passes a filter, and is counted. The lines, the numbers of a run, the faults at
+//! which it comes to rest, and their texts.
 #![tactic(auto)]
 
 mod answers;
@@ -34,7 +34,7 @@ pub use fault::{RunFault, status};
 pub use input::Input;
 pub use json_line::put_text;
 pub use line::Line;
-pub use options::{AskedPath, Form, Mode, Options, Places, Prefix, Rejects};
+pub use options::{AskedPath, LineForm, Mode, Options, Places, Prefix, Rejects};
 pub use reading::MOST_TURNS;
 pub use run::{Ran, run_beside, run_keeping, run_within};
 pub use tally::Tally;

@@ -33,7 +33,7 @@ pub enum Rejects {
 
 /// How lines are written.
 #[derive(Clone, Copy)]
-pub enum Form {
+pub enum LineForm {
     /// As words and numbers between spaces.
     Plain,
     /// As one object of JSON each.
@@ -134,7 +134,7 @@ pub struct Options {
     /// isn't printable is told in lines as in texts.
     pub label: Option<Vec<u8>>,
     /// How lines are written.
-    pub form: Form,
+    pub form: LineForm,
     /// What is asked beside the rules of the format: the plan of the schema, where each buffer is to be strict.
     pub plan: Option<Plan>,
 }

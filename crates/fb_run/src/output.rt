@@ -11,8 +11,8 @@ use crate::counter::Counter;
 use crate::csv::put_row;
 use crate::fault::RunFault;
 use crate::line::Line;
-use crate::options::{Form, Mode, Rejects};
-use crate::room::Room;
+use crate::options::{LineForm, Mode, Rejects};
+use crate::room::Workspace;
 use crate::spot::Spot;
 use crate::tally::Tally;
 use crate::value_text::put_words;
@@ -63,7 +63,7 @@ impl<A: Allocator> Output<A> {
     pub fn add<B: Allocator, K: Sink, N: Sink, R: Sink>(
         &mut self,
         checker: &Checker<'_, '_, '_>,
-        room: &mut Room<B>,
+        room: &mut Workspace<B>,
         message: &[u8],
         writer: &mut K,
         notes: &mut N,
@@ -99,7 +99,7 @@ impl<A: Allocator> Output<A> {
     fn add_otherwise<B: Allocator, K: Sink, N: Sink, R: Sink>(
         &mut self,
         checker: &Checker<'_, '_, '_>,
-        room: &mut Room<B>,
+        room: &mut Workspace<B>,
         message: &[u8],
         writer: &mut K,
         notes: &mut N,
@@ -194,7 +194,7 @@ impl<A: Allocator> Output<A> {
     fn add_at_length<B: Allocator, K: Sink, N: Sink, R: Sink>(
         &mut self,
         checker: &Checker<'_, '_, '_>,
-        room: &mut Room<B>,
+        room: &mut Workspace<B>,
         message: &[u8],
         writer: &mut K,
         notes: &mut N,
@@ -330,7 +330,7 @@ impl<A: Allocator> Output<A> {
     {
         self.made.clear();
         match checker.form() {
-            Form::Plain => {
+            LineForm::Plain => {
                 self.line.set(spot.number, verdict);
                 self.made.extend_from_slice(begin)?;
                 self.made.extend_from_slice(self.line.bytes())?;
@@ -339,7 +339,7 @@ impl<A: Allocator> Output<A> {
                     Err(wrong) => put_words(&mut self.made, wrong.place),
                 }
             }
-            Form::Json => checker.put_json(&mut self.made, spot, verdict),
+            LineForm::Json => checker.put_json(&mut self.made, spot, verdict),
         }
     }
 

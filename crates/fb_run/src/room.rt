@@ -23,7 +23,7 @@ const BLANK: Link = Link {
 /// the place of that in words, beside what each line begins with. It is made once and used again and again. Where words
 /// are not asked for, neither links nor words take memory, and where there is no plan, no pass does.
 #[derive(Drop)]
-pub struct Room<A: Allocator> {
+pub struct Workspace<A: Allocator> {
     pub scratch: Scratch<A>,
     pub pass: PassRoom<A>,
     pub links: Vec<Link, A>,
@@ -31,7 +31,7 @@ pub struct Room<A: Allocator> {
     pub label: Vec<u8, A>,
 }
 
-impl<A: Allocator> Model for Room<A> {
+impl<A: Allocator> Model for Workspace<A> {
     ghost use Rattle.std.specs.Prelude.{length};
     ghost use Rattle.fb_run.specs.Job.{Beside};
 
@@ -40,7 +40,7 @@ impl<A: Allocator> Model for Room<A> {
     ghost view = { λ r. record { levels = r.scratch; pass = r.pass; links = length r.links.items; text = r.text.items; label = r.label.items } };
 }
 
-impl<'a, A: Allocator> Room<&'a A> {
+impl<'a, A: Allocator> Workspace<&'a A> {
     /// Room for as many open tables as the limits of these options allow, for as many of a pass where there is a plan,
     /// and for as many links where words are asked for, beside the name of the input.
     pub fn new(alloc: &'a A, options: &Options) -> Result<Self, AllocError>
@@ -61,7 +61,7 @@ impl<'a, A: Allocator> Room<&'a A> {
         }
         let mut begin = Vec::new(alloc);
         put_label(&mut begin, &options.label)?;
-        Ok(Room {
+        Ok(Workspace {
             scratch,
             pass,
             links,

@@ -11,7 +11,7 @@ use crate::front::front_message;
 use crate::input::Input;
 use crate::output::Output;
 use crate::reading::{MOST_TURNS, PIECE, pull_piece};
-use crate::room::Room;
+use crate::room::Workspace;
 use crate::skip::Skip;
 use fb_bytes::{Framer, Sink};
 use std::alloc::{AllocError, Allocator};
@@ -19,7 +19,7 @@ use std::alloc::{AllocError, Allocator};
 /// What a run carries: over a stream from piece to piece, over one bare input from its start to its end.
 #[derive(Drop)]
 pub struct Carried<A: Allocator> {
-    pub room: Room<A>,
+    pub room: Workspace<A>,
     pub framer: Framer<A>,
     pub output: Output<A>,
 }

@@ -5,13 +5,13 @@ ghost use Rattle.fb_rules.specs.Reasons.{reason_count};
 ghost use Rattle.fb_run.specs.{JsonSums.summary_in, Sums.counts_part, Sums.in_form, Sums.reason_part, Sums.reasons_part, Sums.verdicts_part};
 
 use crate::line::Line;
-use crate::options::Form;
+use crate::options::LineForm;
 use crate::tally::Tally;
 use fb_verify::REASONS;
 
 /// The line of these numbers: `summary: messages=12 yes=10 no=2 V4=2 bytes=2400 tables=60 reads=310`, or the same as an
 /// object of JSON.
-pub fn summary(form: Form, tally: &Tally) -> Line
+pub fn summary(form: LineForm, tally: &Tally) -> Line
     requires { length tally.now.reasons ≡ reason_count }
     ensures { result ≡ summary_in form tally.now }
 {
@@ -23,7 +23,7 @@ pub fn summary(form: Form, tally: &Tally) -> Line
 }
 
 /// Puts how many messages there are, and how many had a yes and a no, in front.
-fn put_verdicts(line: &mut Line, form: Form, tally: &Tally)
+fn put_verdicts(line: &mut Line, form: LineForm, tally: &Tally)
     requires { length line.old ≤ 600 }
     ensures { line.new ≡ verdicts_part form tally.now line.old }
 {
@@ -36,7 +36,7 @@ fn put_verdicts(line: &mut Line, form: Form, tally: &Tally)
 }
 
 /// Puts what was counted beside the verdicts.
-fn put_counts(line: &mut Line, form: Form, tally: &Tally)
+fn put_counts(line: &mut Line, form: LineForm, tally: &Tally)
     requires { line.old ≡ [] }
     ensures text { line.new ≡ counts_part form tally.now }
     ensures short { length line.new ≤ 150 }
@@ -51,7 +51,7 @@ fn put_counts(line: &mut Line, form: Form, tally: &Tally)
 }
 
 /// Puts how often each reason was given, in front.
-fn put_reasons(line: &mut Line, form: Form, counts: &[u64; REASONS])
+fn put_reasons(line: &mut Line, form: LineForm, counts: &[u64; REASONS])
     requires room { length line.old ≤ 150 }
     requires places { length counts.now ≡ reason_count }
     ensures text { line.new ≡ reasons_part form counts.now line.old }
@@ -66,7 +66,7 @@ fn put_reasons(line: &mut Line, form: Form, counts: &[u64; REASONS])
 
 /// Puts how often the reason with this number was given, in front, where it was.
 #[tactic(auto, using(crate::proofs::SumsLemmas::in_front))]
-fn put_reason(line: &mut Line, form: Form, number: u64, count: u64)
+fn put_reason(line: &mut Line, form: LineForm, number: u64, count: u64)
     requires room { length line.old ≤ 600 }
     requires number { number < 100 }
     ensures text { line.new ≡ reason_part form number count line.old }
@@ -82,12 +82,12 @@ fn put_reason(line: &mut Line, form: Form, number: u64, count: u64)
 }
 
 /// One of two texts, by the form of the line.
-fn in_form(form: Form, plain: &'static str, json: &'static str) -> &'static str
+fn in_form(form: LineForm, plain: &'static str, json: &'static str) -> &'static str
     ensures text { result.now ≡ in_form form plain.now json.now }
     ensures short { length result.now ≤ max (length plain.now) (length json.now) }
 {
     match form {
-        Form::Plain => plain,
-        Form::Json => json,
+        LineForm::Plain => plain,
+        LineForm::Json => json,
     }
 }

@@ -8,7 +8,7 @@ ghost use Rattle.fb_access.specs.Denotes.{shown};
 ghost use Rattle.fb_run.specs.{AnswerText.spaced_answer, AnswerText.spelled, Csv.IsWritten, Csv.edge, Csv.field_of, Csv.real_text, Csv.written, Line.IsRest, Puts.Puts, Puts.PutsSome, Puts.queue_of};
 ghost use Rattle.fb_run.specs.Json.{AreValues, IsFloat, IsReal, IsValue, IsValuesMember, following, json_text, members_text, most_digits, most_zeros, text_json, value_json};
 
-use crate::options::{AskedPath, Form};
+use crate::options::{AskedPath, LineForm};
 use crate::value_text::{Spelling, plain_front, spell};
 use crate::writing::Pending;
 use byteorder::{ByteOrder, LittleEndian};
@@ -23,15 +23,15 @@ use std::num::{f32_from_bits_with_nan, f64_from_bits_with_nan};
 pub fn put_values<A: Allocator, K: Sink>(
     out: &mut Pending<A>,
     sink: &mut K,
-    form: Form,
+    form: LineForm,
     paths: &[AskedPath],
     answers: &[Answer<'_>],
 )
     ensures { PutsSome (IsRest form (map (λ p. p.text) paths.now) (map shown answers.now)) (queue_of K.Sink out.old sink.old) (queue_of K.Sink out.new sink.new) }
 {
     match form {
-        Form::Plain => put_plain(out, sink, answers),
-        Form::Json => put_json(out, sink, paths, answers),
+        LineForm::Plain => put_plain(out, sink, answers),
+        LineForm::Json => put_json(out, sink, paths, answers),
     }
 }
 

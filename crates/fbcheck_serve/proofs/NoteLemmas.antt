@@ -8,15 +8,15 @@ use Rattle.std.proofs.lemmas.List.{length-append}
 use Rattle.fbcheck_texts.specs.declared.causes.Causes.{Causes}
 use Rattle.fb_bytes.specs.Ends.{one_more}
 use Rattle.fb_run.specs.Ends.{Writer}
-use Rattle.fb_run.specs.declared.{options.Form.Form, options.Form.TheVariants.Json, tally.Tally.Tally}
+use Rattle.fb_run.specs.declared.{options.LineForm.LineForm, options.LineForm.TheVariants.Json, tally.Tally.Tally}
 use Rattle.fbcheck_texts.proofs.FaultJsonLemmas.{object_in, plain_in}
 use Rattle.fbcheck_texts.specs.FaultJson.{fault_object}
 use Rattle.fbcheck_texts.specs.Texts.{stopped_text}
 use Rattle.fbcheck_texts.specs.declared.framing.Manner.{Manner}
 use Rattle.fbcheck_serve.specs.Inputs.{IsHintLine, IsNoted, IsStopOf}
 use Rattle.fbcheck_serve.specs.Serving.{Complains, IsBehindStop, IsEndLine, IsStopLine, IsStopTold, TellsStop, is_quiet, stop_status, stop_text}
-use Rattle.fbcheck_serve.specs.declared.{stop.Ending.Ending, stop.Ending.TheVariants.Checked, stop.Stop.Stop}
-use Rattle.fbcheck_serve.specs.declared.stop.Stop.TheVariants as stop
+use Rattle.fbcheck_serve.specs.declared.{stop.Ending.Ending, stop.Ending.TheVariants.Checked, stop.EarlyEnd.EarlyEnd}
+use Rattle.fbcheck_serve.specs.declared.stop.EarlyEnd.TheVariants as stop
 
 -- the first text stands written, and the second whole or in part
 pub second_noted : (text behind : List ℕ) (n m n' : Option (List ℕ)) (k l k' first second : ℕ) → first ≡ length text → Appends n m (take first text) → l ≡ k
@@ -39,41 +39,41 @@ second_noted text behind n m n' k l k' first second whole wrote same le more fai
     ]
 
 -- what isn't the text of `clap` is told by a line of its own
-own_line : (form : Form) (causes : Causes) (fault : Stop) (before after : Writer) → ((text : String Global) → fault ≡ stop.Usage text → ⊥)
+own_line : (form : LineForm) (causes : Causes) (fault : EarlyEnd) (before after : Writer) → ((text : String Global) → fault ≡ stop.Usage text → ⊥)
     → (hint line : List ℕ) → IsBehindStop fault hint → IsStopLine form causes fault hint line → IsNoted line before after → TellsStop false form causes fault before after
 own_line form causes (stop.Usage text) before after other hint line is told noted = absurd (other text refl)
 own_line form causes fault before after other hint line is told noted = (hint, line, is, told, noted)
 
 -- by an object, or by a plain line
-pub object_told : (form : Form) (causes : Causes) (fault : Stop) (before after : Writer) (text hint line : List ℕ) (status : ℕ) → ((text : String Global) → fault ≡ stop.Usage text → ⊥)
+pub object_told : (form : LineForm) (causes : Causes) (fault : EarlyEnd) (before after : Writer) (text hint line : List ℕ) (status : ℕ) → ((text : String Global) → fault ≡ stop.Usage text → ⊥)
     → IsBehindStop fault hint → text ≡ stop_text causes fault → status ≡ stop_status fault → (form ≡ Json) × (line ≡ fault_object None text hint status) → IsNoted line before after
     → TellsStop false form causes fault before after
 object_told form causes fault before after text hint line status other is told ends (json, made) noted =
     own_line form causes fault before after other hint line is (object_in form _ _ line json (rw (← told, ← ends) made)) noted
 
-pub line_told : (form : Form) (causes : Causes) (fault : Stop) (before after : Writer) (text hint : List ℕ) → ((text : String Global) → fault ≡ stop.Usage text → ⊥)
+pub line_told : (form : LineForm) (causes : Causes) (fault : EarlyEnd) (before after : Writer) (text hint : List ℕ) → ((text : String Global) → fault ≡ stop.Usage text → ⊥)
     → IsBehindStop fault hint → text ≡ stop_text causes fault → IsNoted ((codes "fbcheck: " ++ text) ++ hint) before after → TellsStop false form causes fault before after
 line_told form causes fault before after text hint other is told noted =
     own_line form causes fault before after other hint _ is (plain_in form _ _ _ (ap (λ (t : List ℕ). (codes "fbcheck: " ++ t) ++ hint) told)) noted
 
 -- a stop that isn't quiet is told
-pub told_aloud : (form : Form) (causes : Causes) (fault : Stop) (before after : Writer) (quiet : Bool) → quiet ≡ is_quiet causes fault → quiet ≡ false
+pub told_aloud : (form : LineForm) (causes : Causes) (fault : EarlyEnd) (before after : Writer) (quiet : Bool) → quiet ≡ is_quiet causes fault → quiet ≡ false
     → TellsStop false form causes fault before after → Complains form causes (Err fault) before after
 told_aloud form causes fault before after quiet is loud tells = subst (λ (b : Bool). TellsStop b form causes fault before after) (sym loud ∙ is) tells
 
 -- one that is quiet leaves the notes as they are
-pub kept_quiet : (form : Form) (causes : Causes) (fault : Stop) (before : Writer) (quiet : Bool) → quiet ≡ is_quiet causes fault → quiet ≡ true
+pub kept_quiet : (form : LineForm) (causes : Causes) (fault : EarlyEnd) (before : Writer) (quiet : Bool) → quiet ≡ is_quiet causes fault → quiet ≡ true
     → Complains form causes (Err fault) before before
 kept_quiet form causes fault before quiet is silent =
     subst (λ (b : Bool). TellsStop b form causes fault before before) (sym silent ∙ is) (Keeps-refl before.bytes, refl)
 
 -- where as many messages were bad as may be, the line that was noted says so: of a file, and of the program's input
-pub file_stopped : (form : Form) (most : ℕ) (name : List ℕ) (tally : Tally) (before after : Writer) (text line : List ℕ) → most ≤ tally.no → text ≡ stopped_text most
+pub file_stopped : (form : LineForm) (most : ℕ) (name : List ℕ) (tally : Tally) (before after : Writer) (text line : List ℕ) → most ≤ tally.no → text ≡ stopped_text most
     → IsHintLine form name text line → IsNoted line before after → IsStopOf form most name tally before after
 file_stopped form most name tally before after text line many is told noted =
     (λ few. absurd (omega (arith, few, many)), λ _. (line, subst (λ (t : List ℕ). IsHintLine form name t line) is told, noted))
 
-pub input_stopped : (form : Form) (ending : Ending) (tally : Tally) (manner : Manner) (before after : Writer) (text line : List ℕ) → ending ≡ Checked tally manner
+pub input_stopped : (form : LineForm) (ending : Ending) (tally : Tally) (manner : Manner) (before after : Writer) (text line : List ℕ) → ending ≡ Checked tally manner
     → manner.most_bad ≤ tally.no → text ≡ stopped_text manner.most_bad → IsEndLine form text line → IsNoted line before after → IsStopTold form ending before after
 input_stopped form ending tally manner before after text line ends many is told noted =
     rw ends (λ few. absurd (omega (arith, few, many)), λ _. (line, subst (λ (t : List ℕ). IsEndLine form t line) is told, noted))

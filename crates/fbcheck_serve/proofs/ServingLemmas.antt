@@ -30,10 +30,10 @@ use Rattle.fb_run.specs.declared.input.Input as input
 use Rattle.fb_bytes.specs.declared.ends.Sink as sink
 use Rattle.fbcheck_words.specs.declared.choices.SettingsFault.TheVariants as refusal
 use Rattle.fbcheck_words.specs.declared.{choices.Settings.Settings, choices.SettingsFault.SettingsFault}
-use Rattle.fb_run.specs.declared.{options.Form.Form, options.Form.TheVariants.Plain, tally.Tally.Tally}
+use Rattle.fb_run.specs.declared.{options.LineForm.LineForm, options.LineForm.TheVariants.Plain, tally.Tally.Tally}
 use Rattle.fbcheck_serve.specs.declared.{stop.Ending.Ending, inputs.Course.Course, stop.Ending.TheVariants.Helped}
-use Rattle.fbcheck_serve.specs.declared.{stop.Stop.Stop, stop.Sums.Sums}
-use Rattle.fbcheck_serve.specs.declared.stop.Stop.TheVariants as stop
+use Rattle.fbcheck_serve.specs.declared.{stop.EarlyEnd.EarlyEnd, stop.Sums.Sums}
+use Rattle.fbcheck_serve.specs.declared.stop.EarlyEnd.TheVariants as stop
 
 module _ (folder : Folder) where
   -- what holds by the settings, and by what a read of the file of the words gave
@@ -77,7 +77,7 @@ module _ (folder : Folder) where
 
 module _ (maker : Maker) (folder : Folder) where
   -- the words give no settings, and no file was begun
-  pub comes_unserved : (given : List Text) (reader : Reader) (writer writer' notes : Writer) (cause : Option ErrorKind) (fault : SettingsFault) (outcome : Result Ending Stop)
+  pub comes_unserved : (given : List Text) (reader : Reader) (writer writer' notes : Writer) (cause : Option ErrorKind) (fault : SettingsFault) (outcome : Result Ending EarlyEnd)
       → Refuses given fault → Unserved fault writer writer' outcome
       → ComesBy maker folder given (with_cause (beside reader (record { writer = writer; notes = notes; rejects = nowhere })) cause) (with_cause (beside reader (record { writer = writer'; notes = notes; rejects = nowhere })) cause) None outcome
   comes_unserved given reader writer writer' notes cause fault (Ok Helped) refuses unserved = ((fault, refuses, Keeps-refl reader.left, unserved, Keeps-refl notes.bytes), refl)
@@ -87,7 +87,7 @@ module _ (maker : Maker) (folder : Folder) where
   comes_unserved given reader writer writer' notes cause fault _ refuses never = absurd never
 
   -- what the settings come to is what the words that give them do
-  pub comes_asked : (given : List Text) (before after : Seen) (sums : Option Sums) (outcome : Result Ending Stop)
+  pub comes_asked : (given : List Text) (before after : Seen) (sums : Option Sums) (outcome : Result Ending EarlyEnd)
       → HoldsAsGiven folder given (λ file settings. ComesAsAsked maker folder file settings before after sums outcome) → ComesBy maker folder given before after sums outcome
   comes_asked given before after sums (Ok Helped) never = absurd never.holds
   comes_asked given before after sums (Err (stop.Usage text)) never = absurd never.holds.0
@@ -98,7 +98,7 @@ module _ (maker : Maker) (folder : Folder) where
   comes_asked given before after sums (Err (stop.File fault hint)) never = absurd never.holds.0
   comes_asked given before after sums _ holds = holds
 
-  module _ (file : Option (Bor (List ℕ))) (settings : Settings) (before after : Seen) (sums : Option Sums) (outcome : Result Ending Stop) where
+  module _ (file : Option (Bor (List ℕ))) (settings : Settings) (before after : Seen) (sums : Option Sums) (outcome : Result Ending EarlyEnd) where
     -- the program ends by the end of the run, or of the files
     comes_ended : (manner : Manner) (cause : Option ErrorKind) (tally : Tally) (end : End) → manner.most_bad ≡ settings.most_bad → outcome ≡ run_ending manner cause tally end
         → ChecksAsAsked maker file settings before.ends after.ends sums tally end → ComesAsAsked maker folder file settings before after sums outcome
@@ -125,7 +125,7 @@ module _ (maker : Maker) (folder : Folder) where
     comes_files names (Err (unbegun.Unmade cause)) are served (told, is) = rw is (served.0, served.1, told)
 
   -- the words could be read
-  pub comes_read : {A B : Type 0} (given : Result (Vec (String A) B) WordsFault) (words : Vec (String A) B) (slice : List (String A)) (before after : Seen) (sums : Option Sums) (outcome : Result Ending Stop)
+  pub comes_read : {A B : Type 0} (given : Result (Vec (String A) B) WordsFault) (words : Vec (String A) B) (slice : List (String A)) (before after : Seen) (sums : Option Sums) (outcome : Result Ending EarlyEnd)
       → given ≡ Ok words → slice ≡ vec_items words → ComesBy maker folder (map string_bytes slice) before after sums outcome → ComesTo maker folder (words_of given) before after sums outcome
   comes_read {A} {B} given words slice before after sums outcome is same comes =
       subst (λ (g : Result (Vec (String A) B) WordsFault). ComesTo maker folder (words_of g) before after sums outcome) (sym is)
@@ -156,38 +156,38 @@ pub named_by_list : (gives : List ℕ → Result (List ℕ) FileFault → Type 0
 named_by_list gives settings names name list listed is are = rw listed (list, is, ap (λ l. Some l) are)
 
 -- there are no names
-pub listless : (gives : List ℕ → Result (List ℕ) FileFault → Type 0) (settings : Settings) (name : List ℕ) (fault : FileFault) (hint : Result (List ℕ) AllocError) (cause : Stop)
+pub listless : (gives : List ℕ → Result (List ℕ) FileFault → Type 0) (settings : Settings) (name : List ℕ) (fault : FileFault) (hint : Result (List ℕ) AllocError) (cause : EarlyEnd)
     → option_map string_bytes settings.names_file ≡ Some name → HasListFault gives name fault → cause ≡ hinted_stop (stop.List fault) hint → IsNameless gives settings cause
 listless gives settings name fault (Ok hint) cause listed has is = rw is (name, listed, has)
 listless gives settings name fault (Err none) cause listed has is = rw is tt
 
 -- the words or the schema file couldn't be read, or the words give no settings
-pub early : (before after : Ends) (outcome : Result Ending Stop) → EndsSo before after 4294967296 outcome → after.reader ≡ before.reader → Rests before after None outcome
+pub early : (before after : Ends) (outcome : Result Ending EarlyEnd) → EndsSo before after 4294967296 outcome → after.reader ≡ before.reader → Rests before after None outcome
 early before after outcome ends same = record { places = tt; ends = ends; turns = rw same (omega arith) }
 
 -- so none is begun
-pub nameless : (maker : Maker) (folder : Folder) (file : Option (Bor (List ℕ))) (settings : Settings) (seen : Seen) (cause : Stop) → IsNameless folder.gives settings cause
+pub nameless : (maker : Maker) (folder : Folder) (file : Option (Bor (List ℕ))) (settings : Settings) (seen : Seen) (cause : EarlyEnd) → IsNameless folder.gives settings cause
     → ComesAsAsked maker folder file settings seen seen None (Err cause) × Rests seen.ends seen.ends None (Err cause)
 nameless maker folder file settings seen (stop.List fault hint) is = ((is, idle seen.ends, refl), early seen.ends seen.ends _ (refl, refl, refl, refl) refl)
 nameless maker folder file settings seen (stop.Settings refusal.OutOfMemory) is = ((is, idle seen.ends, refl), early seen.ends seen.ends _ (refl, refl, refl, refl) refl)
 nameless maker folder file settings seen _ never = absurd never
 
 -- a summary was noted whole, or in part
-pub sums_noted : (sums : Option Sums) (told : Sums) (before after : Writer) (outcome : Result Ending Stop) (line : List ℕ) (written : ℕ)
+pub sums_noted : (sums : Option Sums) (told : Sums) (before after : Writer) (outcome : Result Ending EarlyEnd) (line : List ℕ) (written : ℕ)
     → sums ≡ Some told → line ≡ summary_in told.form told.tally → written ≡ length line → Appends before.bytes after.bytes (take written line) → after.failures ≡ before.failures
     → SumsUp sums before after outcome outcome
 sums_noted sums told before after outcome line written some is all wrote same =
     subst (λ (o : Option Sums). SumsUp o before after outcome outcome) (sym some)
     (inl (subst (Appends before.bytes after.bytes) (ap (λ (m : ℕ). take m line) all ∙ take-length line ∙ is) wrote, same, refl))
 
-pub wordless : {A B : Type 0} (maker : Maker) (folder : Folder) (given : Result (Vec (String A) B) WordsFault) (seen : Seen) (fault : WordsFault) (hint : Result (List ℕ) AllocError) (cause : Stop)
+pub wordless : {A B : Type 0} (maker : Maker) (folder : Folder) (given : Result (Vec (String A) B) WordsFault) (seen : Seen) (fault : WordsFault) (hint : Result (List ℕ) AllocError) (cause : EarlyEnd)
     → given ≡ Err fault → cause ≡ hinted_stop (stop.Words fault) hint
     → ComesTo maker folder (words_of given) seen seen None (Err cause) × Rests seen.ends seen.ends None (Err cause)
 wordless maker folder given seen fault (Ok hint) cause is so =
     rw (is, so) ((refl, idle seen.ends, refl), early seen.ends seen.ends _ (refl, refl, refl, refl) refl)
 wordless maker folder given seen fault (Err none) cause is so = rw (is, so) ((idle seen.ends, refl), early seen.ends seen.ends _ (refl, refl, refl, refl) refl)
 
-pub fileless : (maker : Maker) (folder : Folder) (given : List Text) (seen : Seen) (fault : FileFault) (hint : Result (List ℕ) AllocError) (name : Option Text) (cause : Stop)
+pub fileless : (maker : Maker) (folder : Folder) (given : List Text) (seen : Seen) (fault : FileFault) (hint : Result (List ℕ) AllocError) (name : Option Text) (cause : EarlyEnd)
     → fault_of program given ≡ [] → name ≡ text_of (codes "schema") given → cause ≡ hinted_stop (stop.File fault) hint → HasFileFault folder.gives name fault
     → ComesBy maker folder given seen seen None (Err cause) × Rests seen.ends seen.ends None (Err cause)
 fileless maker folder given seen fault (Ok hint) name cause read is so has =
@@ -207,7 +207,7 @@ same_ends s k n (Ok done) r r' w w' m m' a b c = tt
 same_ends s k n (Err none) r r' w w' m m' a b c = rw (a, b, c) refl
 
 module _ (settings : Settings) (before after : Ends) (turns : after.reader.calls ≤ before.reader.calls + 4294967296) where
-  rests_by : (tally : Tally) (outcome : Result Ending Stop) → length tally.reasons ≡ reason_count → EndsSo before after 4294967296 outcome
+  rests_by : (tally : Tally) (outcome : Result Ending EarlyEnd) → length tally.reasons ≡ reason_count → EndsSo before after 4294967296 outcome
       → Rests before after (summed settings tally) outcome
   rests_by tally outcome are ends = record { places = summed_places _ settings.summary are; ends = ends; turns = turns }
 
@@ -230,7 +230,7 @@ module _ (settings : Settings) (before after : Ends) (turns : after.reader.calls
     run_rests_so manner cause tally (Err (run.Stream (stream.Truncated held))) rejects rejects' are ends = rests_by tally _ are ((ends.0.0, ends.0.1, ends.0.2, alike), ends.1)
     run_rests_so manner cause tally (Err (run.Stream fault)) rejects rejects' are ends = rests_by tally _ are (ends.0, ends.1, ends.2, alike)
 
-    pub run_rests : (maker : Maker) (file : Option (Bor (List ℕ))) (ran : Result (check.Kept Ran) Unbegun) (sums : Option Sums) (outcome : Result Ending Stop)
+    pub run_rests : (maker : Maker) (file : Option (Bor (List ℕ))) (ran : Result (check.Kept Ran) Unbegun) (sums : Option Sums) (outcome : Result Ending EarlyEnd)
         → IsCheckedKeeping maker file settings before after ran → EndsRun settings ran sums outcome
         → IfOk ran (λ kept. length kept.what.tally.reasons ≡ reason_count) → OnErr ran (after ≡ before) → Rests before after sums outcome
     run_rests maker file (Ok kept) sums outcome (rejects, rejects', are_kept, (ran, ends)) (told, manner, bound, is) are same =
@@ -243,18 +243,18 @@ module _ (settings : Settings) (before after : Ends) (turns : after.reader.calls
   files_rests_so by cause course (Err (run.RejectFault written)) are = rests_by course.tally _ are tt
   files_rests_so by cause course (Err fault) are = rests_by course.tally _ are tt
 
-  pub files_rests : (passed : Result (check.Kept inputs.Passed) Unbegun) (sums : Option Sums) (outcome : Result Ending Stop) → EndsFiles settings passed sums outcome
+  pub files_rests : (passed : Result (check.Kept inputs.Passed) Unbegun) (sums : Option Sums) (outcome : Result Ending EarlyEnd) → EndsFiles settings passed sums outcome
       → IfOk passed (λ kept. length kept.what.course.tally.reasons ≡ reason_count) → OnErr passed (after ≡ before) → Rests before after sums outcome
   files_rests (Ok kept) sums outcome (told, by, is) are same = rw (told, is) (files_rests_so by kept.cause kept.what.course kept.what.end are)
   files_rests (Err fault) sums outcome (told, is) are same = rw (told, is) (unbegun_rests fault same)
 
 -- faults are told in the form of lines, whether the program ended by settings or not
-pub told_as_lines : (set : Bool) (given : List Text) (form : Form) → IsFormOf given form → TellsIn set given form
+pub told_as_lines : (set : Bool) (given : List Text) (form : LineForm) → IsFormOf given form → TellsIn set given form
 told_as_lines true given form is = is
 told_as_lines false given form is = inl is
 
 -- and plainly where it ended without settings
-pub told_plainly : (fault : SettingsFault) (before after : Writer) (outcome : Result Ending Stop) (given : List Text) (form : Form) → Unserved fault before after outcome → form ≡ Plain
+pub told_plainly : (fault : SettingsFault) (before after : Writer) (outcome : Result Ending EarlyEnd) (given : List Text) (form : LineForm) → Unserved fault before after outcome → form ≡ Plain
     → TellsIn (is_set outcome) given form
 told_plainly fault before after (Ok Helped) given form unserved plain = inr plain
 told_plainly fault before after (Err (stop.Usage text)) given form unserved plain = inr plain
@@ -262,7 +262,7 @@ told_plainly fault before after (Err (stop.Settings why)) given form unserved pl
 told_plainly fault before after (Err (stop.CutOff written)) given form unserved plain = inr plain
 told_plainly fault before after _ given form never plain = absurd never
 
-pub told_read : {A B : Type 0} (given : Result (Vec (String A) B) WordsFault) (words : Vec (String A) B) (slice : List (String A)) (outcome : Result Ending Stop) (form : Form)
+pub told_read : {A B : Type 0} (given : Result (Vec (String A) B) WordsFault) (words : Vec (String A) B) (slice : List (String A)) (outcome : Result Ending EarlyEnd) (form : LineForm)
     → given ≡ Ok words → slice ≡ vec_items words → TellsIn (is_set outcome) (map string_bytes slice) form → TellsAsGiven (words_of given) outcome form
 told_read {A} {B} given words slice outcome form is same tells =
     subst (λ (g : Result (Vec (String A) B) WordsFault). TellsAsGiven (words_of g) outcome form) (sym is)

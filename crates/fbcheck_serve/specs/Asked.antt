@@ -14,7 +14,7 @@ use Rattle.fb_run.specs.{Job.Job, Job.job_of, Wanted.Wanted}
 use Rattle.fbcheck_words.specs.declared.choices.Form as asked
 use Rattle.fbcheck_words.specs.declared.choices.Form.TheVariants as words
 use Rattle.fbcheck_words.specs.declared.choices.Settings.{Settings}
-use Rattle.fb_run.specs.declared.{options.Form.Form, options.Form.TheVariants.Plain, options.Form.TheVariants.Json, options.Mode.Mode}
+use Rattle.fb_run.specs.declared.{options.LineForm.LineForm, options.LineForm.TheVariants.Plain, options.LineForm.TheVariants.Json, options.Mode.Mode}
 use Rattle.fb_run.specs.declared.options.Mode.TheVariants.{Lines, BadLines, Filter, Csv}
 use Rattle.fb_run.specs.declared.{options.Places.Places, options.Places.TheVariants.Numbers, options.Places.TheVariants.Words, options.Prefix.Prefix}
 use Rattle.fb_run.specs.declared.{options.Prefix.TheVariants.Part, options.Prefix.TheVariants.Apart, options.Rejects.Rejects, options.Options.Options}
@@ -73,12 +73,12 @@ mode_of false false true = BadLines
 mode_of false false false = Lines
 
 -- how lines are written
-abbrev pub form_of : asked.Form → Form
+abbrev pub form_of : asked.LineForm → LineForm
 form_of words.Plain = Plain
 form_of words.Json = Json
 
 -- how the places of faults are told, by whether words are asked for; lines of JSON always tell them in words
-abbrev pub places_of : Bool → asked.Form → Places
+abbrev pub places_of : Bool → asked.LineForm → Places
 places_of true form = Words
 places_of false words.Json = Words
 places_of false words.Plain = Numbers

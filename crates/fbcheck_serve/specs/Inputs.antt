@@ -3,7 +3,7 @@ use Rattle.std.specs.Prelude.{◌≡◌, ◌<◌, ◌≤◌, ℕ, ◌+◌, ◌�
 use Rattle.std.specs.{List.flat_map, Io.KnownBytes.Appends}
 use Rattle.fb_run.specs.{AllTold.WritesFront, AnswerText.byte_text, Ends.Ends, Ends.Outs, Ends.Reader, Ends.Writer, Ends.beside, Ends.with_notes, Faults.End, Faults.EndsBeside, Faults.status_of}
 use Rattle.fb_run.specs.{Job.Job, Leave.IsUnended, Leave.MayAsk, Leave.all_ends, Leave.ends_of, Leave.reader_of, Prompt.IsPrompt, Run.IsRunBeside, Run.answer_by, Sums.no_tally}
-use Rattle.fb_run.specs.declared.{fault.RunFault.RunFault, options.Form.Form, run.Ran.Ran, tally.Tally.Tally}
+use Rattle.fb_run.specs.declared.{fault.RunFault.RunFault, options.LineForm.LineForm, run.Ran.Ran, tally.Tally.Tally}
 use Rattle.fb_bytes.specs.Ends.{one_more}
 use Rattle.fb_bytes.specs.declared.ends.Sink as sink
 use Rattle.fb_run.specs.declared.input.Input as input
@@ -150,10 +150,10 @@ abbrev pub fault_line : List ℕ → List ℕ → List ℕ → List ℕ
 fault_line name why behind = codes "fbcheck: " ++ flat_map byte_text name ++ codes ": " ++ why ++ behind
 
 -- the line that tells so, and the one that tells a hint, by the form of lines
-abbrev pub IsFaultLine : Form → List ℕ → List ℕ → List ℕ → List ℕ → Type 0
+abbrev pub IsFaultLine : LineForm → List ℕ → List ℕ → List ℕ → List ℕ → Type 0
 IsFaultLine form name why behind line = IsLineIn form (fault_object (Some name) why behind 3) (fault_line name why behind) line
 
-abbrev pub IsHintLine : Form → List ℕ → List ℕ → List ℕ → Type 0
+abbrev pub IsHintLine : LineForm → List ℕ → List ℕ → List ℕ → Type 0
 IsHintLine form name hint line = IsLineIn form (hint_object (Some name) hint) (fault_line name hint []) line
 
 -- this line was noted; or in a write that failed a front of it, or nothing for want of memory, and that ends it all
@@ -176,7 +176,7 @@ IsHintOf line before after (Err OutOfMemory) = after ≡ before
 IsHintOf line before after (Err _) = ⊥
 
 -- why a file wasn't checked to its end was noted so, with what stands behind that
-abbrev pub TellsFault : Form → List ℕ → List ℕ → List ℕ → Writer → Writer → End → Type 0
+abbrev pub TellsFault : LineForm → List ℕ → List ℕ → List ℕ → Writer → Writer → End → Type 0
 TellsFault form name why behind before after end = (line : List ℕ) × IsFaultLine form name why behind line × IsNotedOf line before after end
 
 -- whether this ends it all: a failed write or note, or want of memory
@@ -189,38 +189,38 @@ is_final fault = false
 
 -- behind a fault of a run, of which this is the cause: nothing, where that ends it all; else its text is noted, maybe
 -- with a hint
-abbrev pub IsBehindFault : Bool → Form → List ℕ → RunFault → Option ErrorKind → Writer → Writer → End → Type 0
+abbrev pub IsBehindFault : Bool → LineForm → List ℕ → RunFault → Option ErrorKind → Writer → Writer → End → Type 0
 IsBehindFault true form name fault cause before after end = (end ≡ Err fault) × (after ≡ before)
 IsBehindFault false form name fault cause before after end = (hint : List ℕ) × IsRunHint fault hint × TellsFault form name (run_text (of_read cause) fault) hint before after end
 
 -- behind a run that came to its end: nothing, or a hint
-abbrev pub IsBehindEnd : Form → List ℕ → Writer → Writer → End → Type 0
+abbrev pub IsBehindEnd : LineForm → List ℕ → Writer → Writer → End → Type 0
 IsBehindEnd form name before after end =
     (end ≡ Ok tt) × (after ≡ before) ⊎ ((hint line : List ℕ) × IsHint hint × IsHintLine form name hint line × IsHintOf line before after end)
 
 -- where as many messages were bad as may be, a line says that the run over the file ended behind them; it is told as a
 -- hint is
-abbrev pub IsStopOf : Form → ℕ → List ℕ → Tally → Writer → Writer → Type 0
+abbrev pub IsStopOf : LineForm → ℕ → List ℕ → Tally → Writer → Writer → Type 0
 IsStopOf form most name tally before after =
     (tally.no < most → after ≡ before)
     × (most ≤ tally.no → (line : List ℕ) × IsHintLine form name (stopped_text most) line × IsNoted line before after)
 
 -- behind a run that ended well: that, and then what is told of its end; or nothing for want of memory, and that ends it
 -- all
-abbrev pub IsBehindGood : Form → ℕ → List ℕ → Tally → Writer → Writer → End → Type 0
+abbrev pub IsBehindGood : LineForm → ℕ → List ℕ → Tally → Writer → Writer → End → Type 0
 IsBehindGood form most name tally before after end =
     ((mid : Writer) × IsStopOf form most name tally before mid × IsBehindEnd form name mid after end) ⊎ ((end ≡ Err OutOfMemory) × (after ≡ before))
 
 -- behind a run, of which so many messages may be bad
-abbrev pub IsBehindRunSo : Form → ℕ → List ℕ → Tally → End → Option ErrorKind → Writer → Writer → End → Type 0
+abbrev pub IsBehindRunSo : LineForm → ℕ → List ℕ → Tally → End → Option ErrorKind → Writer → Writer → End → Type 0
 IsBehindRunSo form most name tally (Ok done) cause before after end = IsBehindGood form most name tally before after end
 IsBehindRunSo form most name tally (Err fault) cause before after end = IsBehindFault (is_final fault) form name fault cause before after end
 
-abbrev pub IsBehindRun : Form → ℕ → List ℕ → Ran → Option ErrorKind → Writer → Writer → End → Type 0
+abbrev pub IsBehindRun : LineForm → ℕ → List ℕ → Ran → Option ErrorKind → Writer → Writer → End → Type 0
 IsBehindRun form most name ran = IsBehindRunSo form most name ran.tally ran.end
 
 -- the same where there may have been no run
-abbrev pub IsBehind : Form → ℕ → List ℕ → Result Ran Missed → Option ErrorKind → Writer → Writer → End → Type 0
+abbrev pub IsBehind : LineForm → ℕ → List ℕ → Result Ran Missed → Option ErrorKind → Writer → Writer → End → Type 0
 IsBehind form most name (Ok ran) cause before after end = IsBehindRun form most name ran cause before after end
 IsBehind form most name (Err (missed.File file.OutOfMemory)) cause before after end = (end ≡ Err OutOfMemory) × (after ≡ before)
 IsBehind form most name (Err (missed.File (file.Unreadable why))) cause before after end = TellsFault form name (reason_text why) (codes "\n") before after end

@@ -27,10 +27,10 @@ use Rattle.fbcheck_texts.specs.declared.fault.FileFault.TheVariants as file_faul
 use Rattle.fbcheck_serve.specs.declared.inputs.Passed as inputs
 use Rattle.fbcheck_serve.specs.declared.{inputs.Course.Course, stop.Ending.Ending}
 use Rattle.fbcheck_serve.specs.declared.stop.Ending.TheVariants.{Helped, Checked, Passed}
-use Rattle.fbcheck_serve.specs.declared.{stop.Stop.Stop, stop.Sums.Sums}
-use Rattle.fb_run.specs.declared.{fault.RunFault.TheVariants.WriteFault, fault.RunFault.TheVariants.RejectFault, options.Form.Form, options.Form.TheVariants.Plain, tally.Tally.Tally}
+use Rattle.fbcheck_serve.specs.declared.{stop.EarlyEnd.EarlyEnd, stop.Sums.Sums}
+use Rattle.fb_run.specs.declared.{fault.RunFault.TheVariants.WriteFault, fault.RunFault.TheVariants.RejectFault, options.LineForm.LineForm, options.LineForm.TheVariants.Plain, tally.Tally.Tally}
 use Rattle.fbcheck_texts.specs.declared.causes.Causes.{Causes}
-use Rattle.fbcheck_serve.specs.declared.stop.Stop.TheVariants as stop
+use Rattle.fbcheck_serve.specs.declared.stop.EarlyEnd.TheVariants as stop
 use Rattle.fbcheck_texts.specs.declared.fault.WordsFault.{WordsFault}
 use Rattle.fbcheck_texts.specs.declared.fault.WordsFault.TheVariants as words_fault
 
@@ -72,13 +72,13 @@ PassesAsAsked maker folder file settings before after sums course end =
     × (sums ≡ summed settings course.tally)
 
 -- the list of names can't be read, or there was no memory for names
-abbrev pub IsNameless : (List ℕ → Result (List ℕ) FileFault → Type 0) → Settings → Stop → Type 0
+abbrev pub IsNameless : (List ℕ → Result (List ℕ) FileFault → Type 0) → Settings → EarlyEnd → Type 0
 IsNameless gives settings (stop.List fault hint) = LacksList gives settings fault
 IsNameless gives settings (stop.Settings refusal.OutOfMemory) = Unit {0}
 IsNameless gives settings _ = ⊥
 
 -- what the program came to by these settings and this schema file
-abbrev pub ComesAsAsked : Maker → Folder → Option (Bor (List ℕ)) → Settings → Seen → Seen → Option Sums → Result Ending Stop → Type 0
+abbrev pub ComesAsAsked : Maker → Folder → Option (Bor (List ℕ)) → Settings → Seen → Seen → Option Sums → Result Ending EarlyEnd → Type 0
 ComesAsAsked maker folder file settings before after sums (Ok (Checked tally manner)) = ChecksAsAsked maker file settings before.ends after.ends sums tally (Ok tt)
     × (manner.most_bad ≡ settings.most_bad)
 ComesAsAsked maker folder file settings before after sums (Err (stop.Run fault tally manner)) = ChecksAsAsked maker file settings before.ends after.ends sums tally (Err fault)
@@ -93,34 +93,34 @@ ComesAsAsked maker folder file settings before after sums (Ok Helped) = ⊥
 ComesAsAsked maker folder file settings before after sums (Err fault) = IsNameless folder.gives settings fault × IsIdle before.ends after.ends × (sums ≡ None)
 
 -- how the program ends by the end of a run, and of files, where this is why a write of the rejects failed, if one did
-abbrev pub run_ending : Manner → Option ErrorKind → Tally → End → Result Ending Stop
+abbrev pub run_ending : Manner → Option ErrorKind → Tally → End → Result Ending EarlyEnd
 run_ending manner cause tally (Ok done) = Ok (Checked tally manner)
 run_ending manner cause tally (Err (RejectFault written)) = Err (stop.Unkept written cause)
 run_ending manner cause tally (Err fault) = Err (stop.Run fault tally manner)
 
-abbrev pub files_ending : By → Option ErrorKind → Course → End → Result Ending Stop
+abbrev pub files_ending : By → Option ErrorKind → Course → End → Result Ending EarlyEnd
 files_ending by cause course (Ok done) = Ok (Passed course by)
 files_ending by cause course (Err (RejectFault written)) = Err (stop.Unkept written cause)
 files_ending by cause course (Err fault) = Err (stop.Halted fault)
 
 -- the same of a run or files that may not have begun, with the numbers that are to be told
-abbrev pub unbegun_stop : Unbegun → Stop
+abbrev pub unbegun_stop : Unbegun → EarlyEnd
 unbegun_stop (unbegun.Ask unasked) = stop.Ask unasked
 unbegun_stop (unbegun.Unmade cause) = stop.Unmade cause
 
-abbrev pub EndsRun : Settings → Result (check.Kept Ran) Unbegun → Option Sums → Result Ending Stop → Type 0
+abbrev pub EndsRun : Settings → Result (check.Kept Ran) Unbegun → Option Sums → Result Ending EarlyEnd → Type 0
 EndsRun settings (Ok kept) sums outcome =
     (sums ≡ summed settings kept.what.tally) × (manner : Manner) × (manner.most_bad ≡ settings.most_bad)
     × (outcome ≡ run_ending manner kept.cause kept.what.tally kept.what.end)
 EndsRun settings (Err fault) sums outcome = (sums ≡ None) × (outcome ≡ Err (unbegun_stop fault))
 
-abbrev pub EndsFiles : Settings → Result (check.Kept inputs.Passed) Unbegun → Option Sums → Result Ending Stop → Type 0
+abbrev pub EndsFiles : Settings → Result (check.Kept inputs.Passed) Unbegun → Option Sums → Result Ending EarlyEnd → Type 0
 EndsFiles settings (Ok kept) sums outcome =
     (sums ≡ summed settings kept.what.course.tally) × (by : By) × (outcome ≡ files_ending by kept.cause kept.what.course kept.what.end)
 EndsFiles settings (Err fault) sums outcome = (sums ≡ None) × (outcome ≡ Err (unbegun_stop fault))
 
 -- the words or the schema file can't be read, and this is told behind that, or there was no memory for it
-abbrev pub hinted_stop : (List ℕ → Stop) → Result (List ℕ) AllocError → Stop
+abbrev pub hinted_stop : (List ℕ → EarlyEnd) → Result (List ℕ) AllocError → EarlyEnd
 hinted_stop unread (Ok hint) = unread hint
 hinted_stop unread (Err none) = stop.Settings refusal.OutOfMemory
 
@@ -143,7 +143,7 @@ IsUsage _ = ⊥
 
 -- what was written where the words give no settings: a text where they ask for one, all of it or the front that the
 -- sink took; else nothing. Wrong words are told by the text of `clap` where it is `clap` that refuses them
-abbrev pub Unserved : SettingsFault → Writer → Writer → Result Ending Stop → Type 0
+abbrev pub Unserved : SettingsFault → Writer → Writer → Result Ending EarlyEnd → Type 0
 Unserved fault before after (Ok Helped) = (refusal_status fault ≡ 0) × ((text : List ℕ) × (0 < length text) × Appends before.bytes after.bytes text)
 Unserved fault before after (Err (stop.CutOff written)) =
     (refusal_status fault ≡ 0) × ((text : List ℕ) × (written < length text) × WritesFront text before.bytes after.bytes 0 written)
@@ -154,13 +154,13 @@ Unserved fault before after (Err (stop.Settings told)) = (told ≡ fault) × Kee
 Unserved fault before after _ = ⊥
 
 -- the words give no settings
-abbrev pub IsUnserved : List Text → Ends → Ends → Result Ending Stop → Type 0
+abbrev pub IsUnserved : List Text → Ends → Ends → Result Ending EarlyEnd → Type 0
 IsUnserved given before after outcome =
     (fault : SettingsFault) × Refuses given fault × Keeps before.reader.left after.reader.left
     × Unserved fault before.outs.writer after.outs.writer outcome × Keeps before.outs.notes.bytes after.outs.notes.bytes
 
 -- what the program came to by these words, what it read, wrote and noted by then, and the numbers that are to be told
-abbrev pub ComesBy : Maker → Folder → List Text → Seen → Seen → Option Sums → Result Ending Stop → Type 0
+abbrev pub ComesBy : Maker → Folder → List Text → Seen → Seen → Option Sums → Result Ending EarlyEnd → Type 0
 ComesBy maker folder given before after sums (Err (stop.File fault hint)) =
     (fault_of program given ≡ []) × HasFileFault folder.gives (text_of (codes "schema") given) fault × IsIdle before.ends after.ends × (sums ≡ None)
 ComesBy maker folder given before after sums (Ok Helped) = IsUnserved given before.ends after.ends (Ok Helped) × (sums ≡ None)
@@ -170,7 +170,7 @@ ComesBy maker folder given before after sums (Err (stop.CutOff written)) = IsUns
 ComesBy maker folder given before after sums outcome = HoldsAsGiven folder given (λ file settings. ComesAsAsked maker folder file settings before after sums outcome)
 
 -- the same where it may be that the words could not be read
-abbrev pub ComesTo : Maker → Folder → Result (List Text) WordsFault → Seen → Seen → Option Sums → Result Ending Stop → Type 0
+abbrev pub ComesTo : Maker → Folder → Result (List Text) WordsFault → Seen → Seen → Option Sums → Result Ending EarlyEnd → Type 0
 ComesTo maker folder (Ok given) before after sums outcome = ComesBy maker folder given before after sums outcome
 ComesTo maker folder (Err fault) before after sums (Err (stop.Words told hint)) = (told ≡ fault) × IsIdle before.ends after.ends × (sums ≡ None)
 ComesTo maker folder (Err fault) before after sums (Err (stop.Settings refusal.OutOfMemory)) = IsIdle before.ends after.ends × (sums ≡ None)
@@ -178,7 +178,7 @@ ComesTo maker folder (Err fault) before after sums _ = ⊥
 
 -- how it ended, with so many reads at most: a run by its end or its cause, help by whether a write failed; of files that
 -- stands with each of them
-abbrev pub EndsSo : Ends → Ends → ℕ → Result Ending Stop → Type 0
+abbrev pub EndsSo : Ends → Ends → ℕ → Result Ending EarlyEnd → Type 0
 EndsSo before after turns (Ok (Checked tally manner)) = EndsBeside before after turns (Ok tt)
 EndsSo before after turns (Err (stop.Run fault tally manner)) = EndsBeside before after turns (Err fault)
 EndsSo before after turns (Ok (Passed course by)) = Unit {0}
@@ -188,20 +188,20 @@ EndsSo before after turns (Err (stop.CutOff written)) = EndsBeside before after 
 EndsSo before after turns _ = IsUnfailed (failures_of before) (failures_of after)
 
 -- the program came to that, and the numbers have a place for each reason
-pub record Rests (before after : Ends) (sums : Option Sums) (outcome : Result Ending Stop) : Type 0 where
+pub record Rests (before after : Ends) (sums : Option Sums) (outcome : Result Ending EarlyEnd) : Type 0 where
   pub places : IfSome sums (λ (told : Sums). length told.tally.reasons ≡ reason_count)
   pub ends : EndsSo before after 4294967296 outcome
   pub turns : after.reader.calls ≤ before.reader.calls + 4294967296
 
 -- a run that came to its end stops for want of its summary; all else ends as it would without
-abbrev pub unsummed : Result Ending Stop → ℕ → Result Ending Stop
+abbrev pub unsummed : Result Ending EarlyEnd → ℕ → Result Ending EarlyEnd
 unsummed (Ok (Checked tally manner)) written = Err (stop.Unsummed written)
 unsummed (Ok (Passed course by)) written = Err (stop.Unsummed written)
 unsummed outcome written = outcome
 
 -- where numbers are to be told, their line is noted, in the form that is asked for, or a front of it in a write that
 -- failed
-abbrev pub SumsUp : Option Sums → Writer → Writer → Result Ending Stop → Result Ending Stop → Type 0
+abbrev pub SumsUp : Option Sums → Writer → Writer → Result Ending EarlyEnd → Result Ending EarlyEnd → Type 0
 SumsUp None before after outcome ending = Keeps before.bytes after.bytes × (after.failures ≡ before.failures) × (ending ≡ outcome)
 SumsUp (Some sums) before after outcome ending =
     (Appends before.bytes after.bytes (summary_in sums.form sums.tally) × (after.failures ≡ before.failures) × (ending ≡ outcome))
@@ -209,7 +209,7 @@ SumsUp (Some sums) before after outcome ending =
 
 -- why the program came to rest, where this is why a read or a write failed, if one did; the text of `clap` stands by
 -- itself
-abbrev pub stop_text : Causes → Stop → List ℕ
+abbrev pub stop_text : Causes → EarlyEnd → List ℕ
 stop_text causes (stop.Words fault hint) = words_text fault
 stop_text causes (stop.Usage text) = []
 stop_text causes (stop.Settings fault) = refusal_text fault
@@ -224,7 +224,7 @@ stop_text causes (stop.Run fault tally manner) = run_text causes fault
 stop_text causes (stop.Halted fault) = run_text causes fault
 
 -- what stands behind the text of a stop, to the end of the line: maybe a hint, or nothing
-abbrev pub IsBehindStop : Stop → List ℕ → Type 0
+abbrev pub IsBehindStop : EarlyEnd → List ℕ → Type 0
 IsBehindStop (stop.Words fault told) text = IsHint text
 IsBehindStop (stop.File fault told) text = IsHint text
 IsBehindStop (stop.List fault told) text = IsHint text
@@ -233,7 +233,7 @@ IsBehindStop (stop.Run fault tally manner) text = IsRunHint fault text
 IsBehindStop _ text = text ≡ codes "\n"
 
 -- the exit status of a stop
-abbrev pub stop_status : Stop → ℕ
+abbrev pub stop_status : EarlyEnd → ℕ
 stop_status (stop.Words (words_fault.NotText word) hint) = 2
 stop_status (stop.Words words_fault.OutOfMemory hint) = 3
 stop_status (stop.Usage text) = 2
@@ -251,7 +251,7 @@ stop_status (stop.Run fault tally manner) = status_of (Err fault)
 stop_status (stop.Halted fault) = status_of (Err fault)
 
 -- the line of a hint behind a good end: it stands behind the program's name, or is an object of JSON
-abbrev pub IsEndLine : Form → List ℕ → List ℕ → Type 0
+abbrev pub IsEndLine : LineForm → List ℕ → List ℕ → Type 0
 IsEndLine form hint line = IsLineIn form (hint_object None hint) (codes "fbcheck: " ++ hint) line
 
 -- nothing is noted
@@ -259,62 +259,62 @@ abbrev pub IsUnnoted : Writer → Writer → Type 0
 IsUnnoted before after = Keeps before.bytes after.bytes × (after.failures ≡ before.failures)
 
 -- where as many messages were bad as may be, a line says that the input ended behind them; it is told as a hint is
-abbrev pub IsStopTold : Form → Ending → Writer → Writer → Type 0
+abbrev pub IsStopTold : LineForm → Ending → Writer → Writer → Type 0
 IsStopTold form (Checked tally manner) before after =
     (tally.no < manner.most_bad → IsUnnoted before after)
     × (manner.most_bad ≤ tally.no → (line : List ℕ) × IsEndLine form (stopped_text manner.most_bad) line × IsNoted line before after)
 IsStopTold form _ before after = IsUnnoted before after
 
 -- behind help nothing is noted; behind another good end nothing, or the line of a hint
-abbrev pub IsHintBehind : Form → Ending → Writer → Writer → Type 0
+abbrev pub IsHintBehind : LineForm → Ending → Writer → Writer → Type 0
 IsHintBehind form Helped before after = IsUnnoted before after
 IsHintBehind form ending before after =
     IsUnnoted before after ⊎ ((hint line : List ℕ) × IsHint hint × IsEndLine form hint line × IsNoted line before after)
 
 -- the one behind the other
-abbrev pub IsBehindEnding : Form → Ending → Writer → Writer → Type 0
+abbrev pub IsBehindEnding : LineForm → Ending → Writer → Writer → Type 0
 IsBehindEnding form ending before after = (mid : Writer) × IsStopTold form ending before mid × IsHintBehind form ending mid after
 
 -- whether a stop is a failed write to the output
-abbrev pub is_unwritten : Stop → Bool
+abbrev pub is_unwritten : EarlyEnd → Bool
 is_unwritten (stop.CutOff written) = true
 is_unwritten (stop.Run (WriteFault written) tally manner) = true
 is_unwritten (stop.Halted (WriteFault written)) = true
 is_unwritten _ = false
 
 -- whether it is one that failed since nobody reads the output any more
-abbrev pub is_quiet : Causes → Stop → Bool
+abbrev pub is_quiet : Causes → EarlyEnd → Bool
 is_quiet causes fault = is_unwritten fault && is_unread causes.write
 
 -- the line of a stop: its text stands behind the program's name, or in an object of JSON with the exit status
-abbrev pub IsStopLine : Form → Causes → Stop → List ℕ → List ℕ → Type 0
+abbrev pub IsStopLine : LineForm → Causes → EarlyEnd → List ℕ → List ℕ → Type 0
 IsStopLine form causes fault hint line =
     IsLineIn form (fault_object None (stop_text causes fault) hint (stop_status fault)) ((codes "fbcheck: " ++ stop_text causes fault) ++ hint) line
 
 -- a stop is told by the text of `clap`, or else by a line of its own; one that is quiet isn't told
-abbrev pub TellsStop : Bool → Form → Causes → Stop → Writer → Writer → Type 0
+abbrev pub TellsStop : Bool → LineForm → Causes → EarlyEnd → Writer → Writer → Type 0
 TellsStop true form causes fault before after = Keeps before.bytes after.bytes × (after.failures ≡ before.failures)
 TellsStop false form causes (stop.Usage text) before after = IsNoted (string_bytes text) before after
 TellsStop false form causes fault before after = (hint line : List ℕ) × IsBehindStop fault hint × IsStopLine form causes fault hint line × IsNoted line before after
 
 -- what is told of the end, where this is why a read of standard input or a write failed, if one did
-abbrev pub Complains : Form → Causes → Result Ending Stop → Writer → Writer → Type 0
+abbrev pub Complains : LineForm → Causes → Result Ending EarlyEnd → Writer → Writer → Type 0
 Complains form causes (Ok ending) before after = IsBehindEnding form ending before after
 Complains form causes (Err fault) before after = TellsStop (is_quiet causes fault) form causes fault before after
 
 -- the exit status
-abbrev pub exit_status : Result Ending Stop → ℕ
+abbrev pub exit_status : Result Ending EarlyEnd → ℕ
 exit_status (Ok Helped) = 0
 exit_status (Ok (Checked tally manner)) = status_of (Ok tally)
 exit_status (Ok (Passed course by)) = course.status
 exit_status (Err cause) = stop_status cause
 
 -- the words give settings, and lines have this form by them
-abbrev pub IsFormOf : List Text → Form → Type 0
+abbrev pub IsFormOf : List Text → LineForm → Type 0
 IsFormOf given form = (settings : Settings) × AreGiven given settings × (form ≡ form_of settings.form)
 
 -- whether it ended so by settings
-abbrev pub is_set : Result Ending Stop → Bool
+abbrev pub is_set : Result Ending EarlyEnd → Bool
 is_set (Ok Helped) = false
 is_set (Err (stop.Words fault hint)) = false
 is_set (Err (stop.Usage text)) = false
@@ -323,11 +323,11 @@ is_set (Err (stop.CutOff written)) = false
 is_set _ = true
 
 -- faults are told in the form of lines, and plainly where it may have ended without settings
-abbrev pub TellsIn : Bool → List Text → Form → Type 0
+abbrev pub TellsIn : Bool → List Text → LineForm → Type 0
 TellsIn true given form = IsFormOf given form
 TellsIn false given form = IsFormOf given form ⊎ (form ≡ Plain)
 
-abbrev pub TellsAsGiven : Result (List Text) WordsFault → Result Ending Stop → Form → Type 0
+abbrev pub TellsAsGiven : Result (List Text) WordsFault → Result Ending EarlyEnd → LineForm → Type 0
 TellsAsGiven (Ok given) outcome form = TellsIn (is_set outcome) given form
 TellsAsGiven (Err fault) outcome form = form ≡ Plain
 
@@ -335,14 +335,14 @@ TellsAsGiven (Err fault) outcome form = form ≡ Plain
 -- why it came to rest if it did, and ended with the status of that. Behind what it came to the notes were `between`, and
 -- behind the numbers `behind`. This is why a write failed, where one did.
 pub record IsServed (maker : Maker) (folder : Folder) (given : Result (List Text) WordsFault) (before after : Seen) (unwritten : Option ErrorKind) (turns status : ℕ) : Type 0 where
-  pub outcome : Result Ending Stop
+  pub outcome : Result Ending EarlyEnd
   pub sums : Option Sums
   pub between : Writer
   pub comes : ComesTo maker folder given before (renoted after between) sums outcome
   pub ends : EndsSo before.ends (with_notes after.ends between) turns outcome
-  pub form : Form
+  pub form : LineForm
   pub form_is : TellsAsGiven given outcome form
-  pub ending : Result Ending Stop
+  pub ending : Result Ending EarlyEnd
   pub behind : Writer
   pub summed : SumsUp sums between behind outcome ending
   pub told : Complains form (record { read = after.cause; write = unwritten }) ending behind after.ends.outs.notes

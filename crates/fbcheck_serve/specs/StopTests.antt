@@ -10,7 +10,7 @@ use Rattle.fbcheck_texts.specs.declared.fault.FileFault.TheVariants as file
 use Rattle.fbcheck_texts.specs.declared.fault.WordsFault.TheVariants as words
 use Rattle.fbcheck_texts.specs.declared.{framing.By.TheVariants.Named, framing.Framing.TheVariants.Prefixed}
 use Rattle.fbcheck_serve.specs.Serving.{is_quiet, stop_text}
-use Rattle.fbcheck_serve.specs.declared.stop.Stop.TheVariants as stop
+use Rattle.fbcheck_serve.specs.declared.stop.EarlyEnd.TheVariants as stop
 
 -- why it comes to rest
 pub record StopTexts : Type 0 where

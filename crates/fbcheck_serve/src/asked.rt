@@ -18,14 +18,14 @@ use crate::strict::plan_of;
 use fb_access::Path;
 use fb_bfbs::{Loaded, load, own_ident, reflection};
 use fb_bytes::Endian;
-use fb_run::{AskedPath, Form, Mode, Options, Places, Prefix, Rejects};
+use fb_run::{AskedPath, LineForm, Mode, Options, Places, Prefix, Rejects};
 use fb_schema::Schema;
 use fb_strict::Plan;
 use fb_verify::Ident;
 use fbcheck_texts::fault::AskFault;
 use fbcheck_texts::framing::{By, Framing, Manner};
 use fbcheck_texts::hint::{Unasked, path_hint, root_hint, schema_hint};
-use fbcheck_words::{Form as AskedForm, Settings};
+use fbcheck_words::{Form, Settings};
 use std::alloc::Global;
 
 /// The number of the table `reflection.Schema` in the fixed table (reflection.fbs).
@@ -157,12 +157,12 @@ fn rejects(settings: &Settings) -> Rejects
 }
 
 /// How lines are written.
-pub fn form(settings: &Settings) -> Form
+pub fn form(settings: &Settings) -> LineForm
     ensures { result ≡ form_of settings.now.form }
 {
     match settings.form {
-        AskedForm::Plain => Form::Plain,
-        AskedForm::Json => Form::Json,
+        Form::Plain => LineForm::Plain,
+        Form::Json => LineForm::Json,
     }
 }
 
@@ -171,7 +171,7 @@ fn places(settings: &Settings) -> Places
     ensures { result ≡ places_of settings.now.names settings.now.form }
 {
     match settings.form {
-        AskedForm::Plain if !settings.names => Places::Numbers,
+        Form::Plain if !settings.names => Places::Numbers,
         _ => Places::Words,
     }
 }

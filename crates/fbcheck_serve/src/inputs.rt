@@ -14,7 +14,7 @@ use crate::names::{Misnomer, Name};
 use crate::stop::note;
 use fb_bytes::Sink;
 use fb_run::{
-    Form, Input, MOST_TURNS, Options, Ran, RunFault, Tally, push_all, put_bytes, run_keeping,
+    Input, LineForm, MOST_TURNS, Options, Ran, RunFault, Tally, push_all, put_bytes, run_keeping,
     status,
 };
 use fb_schema::Schema;
@@ -382,7 +382,7 @@ fn sums(some: &[u64; REASONS], more: &[u64; REASONS]) -> [u64; REASONS]
 /// Notes why a file wasn't checked to its end, where it wasn't; what ends it all is answered.
 fn tell_behind<N: Sink>(
     alloc: Global,
-    form: Form,
+    form: LineForm,
     name: &[u8],
     framing: Framing,
     most_bad: u64,
@@ -410,7 +410,7 @@ fn tell_behind<N: Sink>(
 /// The same behind a run; or what there is to be told of its end.
 fn tell_run<N: Sink>(
     alloc: Global,
-    form: Form,
+    form: LineForm,
     name: &[u8],
     framing: Framing,
     most_bad: u64,
@@ -437,7 +437,7 @@ fn tell_run<N: Sink>(
 /// left.
 fn tell_stop<N: Sink>(
     alloc: Global,
-    form: Form,
+    form: LineForm,
     name: &[u8],
     most_bad: u64,
     tally: &Tally,
@@ -458,7 +458,7 @@ fn tell_stop<N: Sink>(
 /// Notes what is told of an end, where there is something. What can't be written is left.
 fn tell_end<N: Sink>(
     alloc: Global,
-    form: Form,
+    form: LineForm,
     name: &[u8],
     hint: Option<&[u8]>,
     notes: &mut N,
@@ -488,7 +488,7 @@ fn is_final(fault: &RunFault) -> bool
 /// Notes why a file wasn't checked to its end, with what stands behind that.
 fn tell_fault<N: Sink>(
     alloc: Global,
-    form: Form,
+    form: LineForm,
     name: &[u8],
     why: &[u8],
     behind: &[u8],
@@ -509,7 +509,7 @@ fn tell_fault<N: Sink>(
 /// The line that tells it, by the form of lines. Where there is no memory for an object, it is the plain one.
 fn told_line(
     alloc: Global,
-    form: Form,
+    form: LineForm,
     name: &[u8],
     why: &[u8],
     behind: &[u8],
@@ -523,7 +523,7 @@ fn told_line(
 }
 
 /// The same of a hint.
-fn hint_line(alloc: Global, form: Form, name: &[u8], hint: &[u8]) -> Result<Vec<u8>, AllocError>
+fn hint_line(alloc: Global, form: LineForm, name: &[u8], hint: &[u8]) -> Result<Vec<u8>, AllocError>
     ensures { IfOk result (λ line. IsHintLine form name.now hint.now line.items) }
 {
     match hint_object(alloc, form, Some(name), hint) {

@@ -14,10 +14,10 @@ use crate::check::{Kept, Unbegun, check_files, check_keeping};
 use crate::files::{Files, Makes, read_list, read_schema};
 use crate::inputs::Passed;
 use crate::names::{Name, listed_names, word_names};
-use crate::stop::{Ending, Stop, Sums, exit_status, sum_up, tell};
+use crate::stop::{EarlyEnd, Ending, Sums, exit_status, sum_up, tell};
 use clap::Error;
 use fb_bytes::Sink;
-use fb_run::{Form, Input, MOST_TURNS, Ran, RunFault, Tally, push_all};
+use fb_run::{Input, LineForm, MOST_TURNS, Ran, RunFault, Tally, push_all};
 use fbcheck_texts::causes::{Causes, Explains};
 use fbcheck_texts::fault::WordsFault;
 use fbcheck_texts::hint::{file_hint, words_hint};
@@ -47,7 +47,7 @@ pub fn serve<F: Files<K, N> + Makes, S: Input<K, N> + Explains, K: Sink + Explai
     ensures turns { S.calls reader.new ≤ S.calls reader.old + MOST_TURNS }
 {
     let mut sums = None;
-    let mut form = Form::Plain;
+    let mut form = LineForm::Plain;
     let outcome = come_to(
         alloc, words, files, reader, writer, notes, &mut sums, &mut form,
     );
@@ -69,8 +69,8 @@ fn come_to<F: Files<K, N> + Makes, S: Input<K, N> + Explains, K: Sink, N: Sink>(
     writer: &mut K,
     notes: &mut N,
     sums: &mut Option<Sums>,
-    told: &mut Form,
-) -> Result<Ending, Stop>
+    told: &mut LineForm,
+) -> Result<Ending, EarlyEnd>
     requires few { S.calls reader.old < 2 ^ 64 }
     requires leave { HasLeave S.Input (ends_of S.Input K.Sink N.Sink reader.old writer.old notes.old)
         (IsPromptAsGiven (folder_of F.Files F.Opened.Input F.Opened.Explains files.now) (words_of words)) }
@@ -83,12 +83,12 @@ fn come_to<F: Files<K, N> + Makes, S: Input<K, N> + Explains, K: Sink, N: Sink>(
         × Rests (ends_of S.Input K.Sink N.Sink reader.old writer.old notes.old) (ends_of S.Input K.Sink N.Sink reader.new writer.new notes.new) sums.new result }
 {
     *sums = None;
-    *told = Form::Plain;
+    *told = LineForm::Plain;
     let words = match words {
         Ok(words) => words,
         Err(fault) => {
             let hint = words_hint(alloc, &fault);
-            return Err(Stop::words(fault, hint));
+            return Err(EarlyEnd::words(fault, hint));
         }
     };
     let settings = match settings(alloc, words.as_slice()) {
@@ -103,7 +103,7 @@ fn come_to<F: Files<K, N> + Makes, S: Input<K, N> + Explains, K: Sink, N: Sink>(
         }
         Err(fault) => {
             let hint = file_hint(alloc, fault, &settings.schema);
-            Err(Stop::file(fault, hint))
+            Err(EarlyEnd::file(fault, hint))
         }
     }
 }
@@ -118,7 +118,7 @@ fn check_by<F: Files<K, N> + Makes, S: Input<K, N> + Explains, K: Sink, N: Sink>
     writer: &mut K,
     notes: &mut N,
     sums: &mut Option<Sums>,
-) -> Result<Ending, Stop>
+) -> Result<Ending, EarlyEnd>
     requires ranges { AreInRange settings.now }
     requires few { S.calls reader.old < 2 ^ 64 }
     requires leave { HasLeave S.Input (ends_of S.Input K.Sink N.Sink reader.old writer.old notes.old)
@@ -165,7 +165,7 @@ fn names_of<F: Files<K, N>, K: Sink, N: Sink>(
     alloc: Global,
     files: &F,
     settings: &Settings,
-) -> Result<Vec<Name>, Stop>
+) -> Result<Vec<Name>, EarlyEnd>
     requires some { IsAlone settings.now → ⊥ }
     ensures names { IfOk result (λ names. AreNamed (F.gives files.now) settings.now (Some names.items)) }
     ensures none { IfErr result (IsNameless (F.gives files.now) settings.now) }
@@ -177,7 +177,7 @@ fn names_of<F: Files<K, N>, K: Sink, N: Sink>(
         Ok(bytes) => Ok(listed_names(alloc, bytes.as_slice())?),
         Err(fault) => {
             let hint = file_hint(alloc, fault, &settings.names_file);
-            Err(Stop::list(fault, hint))
+            Err(EarlyEnd::list(fault, hint))
         }
     }
 }
@@ -187,20 +187,20 @@ fn run_ending(
     settings: &Settings,
     ran: Result<Kept<Ran>, Unbegun>,
     sums: &mut Option<Sums>,
-) -> Result<Ending, Stop>
+) -> Result<Ending, EarlyEnd>
     ensures { EndsRun settings.now ran sums.new result }
 {
     *sums = None;
     let Kept { what: ran, cause } = match ran {
         Ok(kept) => kept,
-        Err(unbegun) => return Err(Stop::from(unbegun)),
+        Err(unbegun) => return Err(EarlyEnd::from(unbegun)),
     };
     *sums = summed(settings, ran.tally);
     let manner = manner(settings);
     match ran.end {
         Ok(()) => Ok(Ending::Checked(ran.tally, manner)),
-        Err(RunFault::RejectFault { written }) => Err(Stop::Unkept { written, cause }),
-        Err(fault) => Err(Stop::Run(fault, ran.tally, manner)),
+        Err(RunFault::RejectFault { written }) => Err(EarlyEnd::Unkept { written, cause }),
+        Err(fault) => Err(EarlyEnd::Run(fault, ran.tally, manner)),
     }
 }
 
@@ -209,7 +209,7 @@ fn files_ending(
     settings: &Settings,
     passed: Result<Kept<Passed>, Unbegun>,
     sums: &mut Option<Sums>,
-) -> Result<Ending, Stop>
+) -> Result<Ending, EarlyEnd>
     ensures { EndsFiles settings.now passed sums.new result }
 {
     *sums = None;
@@ -218,13 +218,13 @@ fn files_ending(
         cause,
     } = match passed {
         Ok(kept) => kept,
-        Err(unbegun) => return Err(Stop::from(unbegun)),
+        Err(unbegun) => return Err(EarlyEnd::from(unbegun)),
     };
     *sums = summed(settings, passed.course.tally);
     match passed.end {
         Ok(()) => Ok(Ending::Passed(passed.course, by(settings))),
-        Err(RunFault::RejectFault { written }) => Err(Stop::Unkept { written, cause }),
-        Err(fault) => Err(Stop::Halted(fault)),
+        Err(RunFault::RejectFault { written }) => Err(EarlyEnd::Unkept { written, cause }),
+        Err(fault) => Err(EarlyEnd::Halted(fault)),
     }
 }
 
@@ -255,22 +255,22 @@ fn without_settings<K: Sink>(
     alloc: Global,
     fault: SettingsFault,
     writer: &mut K,
-) -> Result<Ending, Stop>
+) -> Result<Ending, EarlyEnd>
     ensures { Unserved fault (writer_of K.Sink writer.old) (writer_of K.Sink writer.new) result
         × ((reader : Reader) (notes : Writer) (turns : ℕ) → EndsSo (beside reader (record { writer = writer_of K.Sink writer.old; notes = notes; rejects = nowhere }))
         (beside reader (record { writer = writer_of K.Sink writer.new; notes = notes; rejects = nowhere })) turns result) }
 {
     let status = fault.status();
     let SettingsFault::Usage(error) = &fault else {
-        return Err(Stop::Settings(fault));
+        return Err(EarlyEnd::Settings(fault));
     };
     let text = text_of(alloc, error)?;
     if status != 0 {
-        return Err(Stop::Usage(text));
+        return Err(EarlyEnd::Usage(text));
     }
     let written = push_all(writer, text.as_bytes());
     if written < text.len() {
-        return Err(Stop::CutOff { written });
+        return Err(EarlyEnd::CutOff { written });
     }
     Ok(Ending::Helped)
 }

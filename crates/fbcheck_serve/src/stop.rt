@@ -8,14 +8,14 @@ ghost use Rattle.fbcheck_serve.specs.Serving.{Complains, IsBehindEnding, IsBehin
 ghost use Rattle.fbcheck_serve.specs.Serving.{exit_status, hinted_stop, is_quiet, is_unwritten, stop_status, stop_text, unbegun_stop};
 ghost use Rattle.fbcheck_texts.specs.Hints.{IsHint};
 ghost use Rattle.fbcheck_words.specs.declared.choices.SettingsFault.TheVariants as refusal;
-ghost use Rattle.fbcheck_serve.specs.declared.stop.Stop.TheVariants as stop;
+ghost use Rattle.fbcheck_serve.specs.declared.stop.EarlyEnd.TheVariants as stop;
 ghost use Rattle.fbcheck_serve.specs.declared.stop.Ending.TheVariants.{Helped};
 
 use crate::check::Unbegun;
 use crate::inputs::Course;
 use fb_bytes::Sink;
 use fb_run::summary::summary;
-use fb_run::{Form, Line, RunFault, Tally, push_all, status};
+use fb_run::{Line, LineForm, RunFault, Tally, push_all, status};
 use fbcheck_texts::causes::Causes;
 use fbcheck_texts::fault::{FileFault, WordsFault};
 use fbcheck_texts::fault_json::{fault_object, hint_object};
@@ -36,7 +36,7 @@ const NAME: &str = "fbcheck: ";
 #[derive(Clone, Copy)]
 pub struct Sums {
     /// How the line is written.
-    pub form: Form,
+    pub form: LineForm,
     /// What the run came to.
     pub tally: Tally,
 }
@@ -54,7 +54,7 @@ pub enum Ending {
 
 /// Why the program comes to rest before that.
 #[derive(Drop)]
-pub enum Stop {
+pub enum EarlyEnd {
     /// The words can't be read, and this is told behind the cause.
     Words(WordsFault, Hint),
     /// `clap` refuses the words, by this text.
@@ -102,7 +102,7 @@ impl Ending {
     }
 
     /// Notes that the input ended behind as many bad messages as there may be, where it did.
-    fn tell_stop<N: Sink>(&self, alloc: Global, form: Form, notes: &mut N)
+    fn tell_stop<N: Sink>(&self, alloc: Global, form: LineForm, notes: &mut N)
         ensures { IsStopTold form self.now (writer_of N.Sink notes.old) (writer_of N.Sink notes.new) }
     {
         if let Ending::Checked(tally, manner) = self {
@@ -113,7 +113,7 @@ impl Ending {
     }
 
     /// Notes a hint, where there is one.
-    fn tell_hint<N: Sink>(&self, alloc: Global, form: Form, notes: &mut N)
+    fn tell_hint<N: Sink>(&self, alloc: Global, form: LineForm, notes: &mut N)
         ensures { IsHintBehind form self.now (writer_of N.Sink notes.old) (writer_of N.Sink notes.new) }
     {
         if let Some(hint) = self.hint() {
@@ -122,7 +122,7 @@ impl Ending {
     }
 
     /// Notes both in this form. What can't be written is left.
-    fn tell<N: Sink>(&self, alloc: Global, form: Form, notes: &mut N)
+    fn tell<N: Sink>(&self, alloc: Global, form: LineForm, notes: &mut N)
         ensures { IsBehindEnding form self.now (writer_of N.Sink notes.old) (writer_of N.Sink notes.new) }
     {
         self.tell_stop(alloc, form, notes);
@@ -130,7 +130,7 @@ impl Ending {
     }
 }
 
-impl From<AllocError> for Stop {
+impl From<AllocError> for EarlyEnd {
     ghost from_gives = { λ _ s. s ≡ stop.Settings refusal.OutOfMemory };
 
     fn from(_: AllocError) -> Self {
@@ -138,7 +138,7 @@ impl From<AllocError> for Stop {
     }
 }
 
-impl From<Unbegun> for Stop {
+impl From<Unbegun> for EarlyEnd {
     ghost from_gives = { λ unbegun s. s ≡ unbegun_stop unbegun };
 
     fn from(unbegun: Unbegun) -> Self {
@@ -149,34 +149,34 @@ impl From<Unbegun> for Stop {
     }
 }
 
-impl Stop {
+impl EarlyEnd {
     /// That the words can't be read, with this behind it, or want of memory where there was none for that.
-    pub fn words(fault: WordsFault, hint: Result<Hint, AllocError>) -> Stop
+    pub fn words(fault: WordsFault, hint: Result<Hint, AllocError>) -> EarlyEnd
         ensures { result ≡ hinted_stop (stop.Words fault) hint }
     {
         match hint {
-            Ok(hint) => Stop::Words(fault, hint),
-            Err(_) => Stop::Settings(SettingsFault::OutOfMemory),
+            Ok(hint) => EarlyEnd::Words(fault, hint),
+            Err(_) => EarlyEnd::Settings(SettingsFault::OutOfMemory),
         }
     }
 
     /// That the schema file can't be read.
-    pub fn file(fault: FileFault, hint: Result<Hint, AllocError>) -> Stop
+    pub fn file(fault: FileFault, hint: Result<Hint, AllocError>) -> EarlyEnd
         ensures { result ≡ hinted_stop (stop.File fault) hint }
     {
         match hint {
-            Ok(hint) => Stop::File(fault, hint),
-            Err(_) => Stop::Settings(SettingsFault::OutOfMemory),
+            Ok(hint) => EarlyEnd::File(fault, hint),
+            Err(_) => EarlyEnd::Settings(SettingsFault::OutOfMemory),
         }
     }
 
     /// That the list of names can't be read.
-    pub fn list(fault: FileFault, hint: Result<Hint, AllocError>) -> Stop
+    pub fn list(fault: FileFault, hint: Result<Hint, AllocError>) -> EarlyEnd
         ensures { result ≡ hinted_stop (stop.List fault) hint }
     {
         match hint {
-            Ok(hint) => Stop::List(fault, hint),
-            Err(_) => Stop::Settings(SettingsFault::OutOfMemory),
+            Ok(hint) => EarlyEnd::List(fault, hint),
+            Err(_) => EarlyEnd::Settings(SettingsFault::OutOfMemory),
         }
     }
 
@@ -186,15 +186,17 @@ impl Stop {
         ensures { result ≡ stop_status self.now }
     {
         match self {
-            Stop::Words(WordsFault::NotText(_), _) | Stop::Usage(_) => 2,
-            Stop::Words(WordsFault::OutOfMemory, _) => 3,
-            Stop::File(FileFault::Unreadable(_), _) | Stop::List(FileFault::Unreadable(_), _) => 2,
-            Stop::File(FileFault::OutOfMemory, _) | Stop::List(FileFault::OutOfMemory, _) => 3,
-            Stop::CutOff { .. } | Stop::Unsummed { .. } => 3,
-            Stop::Unkept { .. } | Stop::Unmade(_) => 3,
-            Stop::Settings(fault) => fault.status(),
-            Stop::Ask(unasked) => unasked.fault.status(),
-            Stop::Run(fault, ..) | Stop::Halted(fault) => status(&Err(*fault)),
+            EarlyEnd::Words(WordsFault::NotText(_), _) | EarlyEnd::Usage(_) => 2,
+            EarlyEnd::Words(WordsFault::OutOfMemory, _) => 3,
+            EarlyEnd::File(FileFault::Unreadable(_), _)
+            | EarlyEnd::List(FileFault::Unreadable(_), _) => 2,
+            EarlyEnd::File(FileFault::OutOfMemory, _) | EarlyEnd::List(FileFault::OutOfMemory, _) =>
+                3,
+            EarlyEnd::CutOff { .. } | EarlyEnd::Unsummed { .. } => 3,
+            EarlyEnd::Unkept { .. } | EarlyEnd::Unmade(_) => 3,
+            EarlyEnd::Settings(fault) => fault.status(),
+            EarlyEnd::Ask(unasked) => unasked.fault.status(),
+            EarlyEnd::Run(fault, ..) | EarlyEnd::Halted(fault) => status(&Err(*fault)),
         }
     }
 
@@ -203,12 +205,13 @@ impl Stop {
         ensures { IsBehindStop self.now result.now }
     {
         match self {
-            Stop::Words(_, hint) | Stop::File(_, hint) | Stop::List(_, hint) => hint.bytes(),
-            Stop::Ask(unasked) => unasked.hint(),
-            Stop::Run(fault, tally, manner) => run_hint(manner.framing, fault, tally),
-            Stop::Usage(_) | Stop::Settings(_) | Stop::Halted(_) => b"\n",
-            Stop::CutOff { .. } | Stop::Unsummed { .. } => b"\n",
-            Stop::Unkept { .. } | Stop::Unmade(_) => b"\n",
+            EarlyEnd::Words(_, hint) | EarlyEnd::File(_, hint) | EarlyEnd::List(_, hint) =>
+                hint.bytes(),
+            EarlyEnd::Ask(unasked) => unasked.hint(),
+            EarlyEnd::Run(fault, tally, manner) => run_hint(manner.framing, fault, tally),
+            EarlyEnd::Usage(_) | EarlyEnd::Settings(_) | EarlyEnd::Halted(_) => b"\n",
+            EarlyEnd::CutOff { .. } | EarlyEnd::Unsummed { .. } => b"\n",
+            EarlyEnd::Unkept { .. } | EarlyEnd::Unmade(_) => b"\n",
         }
     }
 
@@ -218,17 +221,17 @@ impl Stop {
         ensures short { length result ≤ 200 }
     {
         match self {
-            Stop::Words(fault, _) => words_text(fault),
-            Stop::Usage(_) => Line::new(),
-            Stop::Settings(fault) => Line::of(fault.text()),
-            Stop::CutOff { written } => failed_write(*written as u128, causes.write),
-            Stop::Unsummed { written } => unsummed_text(*written),
-            Stop::Unkept { written, cause } => unkept_text(*written, *cause),
-            Stop::Unmade(cause) => unmade_text(*cause),
-            Stop::File(fault, _) => file_text(fault),
-            Stop::List(fault, _) => list_text(fault),
-            Stop::Ask(unasked) => ask_text(&unasked.fault),
-            Stop::Run(fault, ..) | Stop::Halted(fault) => run_text(fault, causes),
+            EarlyEnd::Words(fault, _) => words_text(fault),
+            EarlyEnd::Usage(_) => Line::new(),
+            EarlyEnd::Settings(fault) => Line::of(fault.text()),
+            EarlyEnd::CutOff { written } => failed_write(*written as u128, causes.write),
+            EarlyEnd::Unsummed { written } => unsummed_text(*written),
+            EarlyEnd::Unkept { written, cause } => unkept_text(*written, *cause),
+            EarlyEnd::Unmade(cause) => unmade_text(*cause),
+            EarlyEnd::File(fault, _) => file_text(fault),
+            EarlyEnd::List(fault, _) => list_text(fault),
+            EarlyEnd::Ask(unasked) => ask_text(&unasked.fault),
+            EarlyEnd::Run(fault, ..) | EarlyEnd::Halted(fault) => run_text(fault, causes),
         }
     }
 
@@ -237,9 +240,9 @@ impl Stop {
         ensures { result ≡ is_unwritten self.now }
     {
         match self {
-            Stop::CutOff { .. } => true,
-            Stop::Run(RunFault::WriteFault { .. }, ..) => true,
-            Stop::Halted(RunFault::WriteFault { .. }) => true,
+            EarlyEnd::CutOff { .. } => true,
+            EarlyEnd::Run(RunFault::WriteFault { .. }, ..) => true,
+            EarlyEnd::Halted(RunFault::WriteFault { .. }) => true,
             _ => false,
         }
     }
@@ -253,13 +256,13 @@ impl Stop {
 
     /// Writes the text of `clap`, or else a line in this form, where this is why a read of standard input or a write
     /// failed, if one did; nothing where nobody reads the output any more. What can't be written is left.
-    fn tell<N: Sink>(&self, alloc: Global, form: Form, causes: Causes, notes: &mut N)
+    fn tell<N: Sink>(&self, alloc: Global, form: LineForm, causes: Causes, notes: &mut N)
         ensures { Complains form causes (Err self.now) (writer_of N.Sink notes.old) (writer_of N.Sink notes.new) }
     {
         if self.is_quiet(causes) {
             return;
         }
-        if let Stop::Usage(text) = self {
+        if let EarlyEnd::Usage(text) = self {
             note(notes, text.as_bytes());
             return;
         }
@@ -289,7 +292,7 @@ fn note_both<N: Sink>(notes: &mut N, text: &[u8], behind: &[u8])
 }
 
 /// Notes what is told of a good end in this form: an object, or a line behind the program's name.
-fn note_end<N: Sink>(alloc: Global, form: Form, told: &[u8], notes: &mut N)
+fn note_end<N: Sink>(alloc: Global, form: LineForm, told: &[u8], notes: &mut N)
     ensures { (line : List ℕ) × IsEndLine form told.now line × IsNoted line (writer_of N.Sink notes.old) (writer_of N.Sink notes.new) }
 {
     match hint_object(alloc, form, None, told) {
@@ -310,10 +313,10 @@ fn note_plain<N: Sink>(notes: &mut N, text: Line, behind: &[u8])
 
 /// Notes a summary of these numbers, where there are some, and answers how the program ends with that.
 pub fn sum_up<N: Sink>(
-    outcome: Result<Ending, Stop>,
+    outcome: Result<Ending, EarlyEnd>,
     sums: &Option<Sums>,
     notes: &mut N,
-) -> Result<Ending, Stop>
+) -> Result<Ending, EarlyEnd>
     requires places { IfSome sums.now (λ sums. length sums.tally.reasons ≡ reason_count) }
     ensures { SumsUp sums.now (writer_of N.Sink notes.old) (writer_of N.Sink notes.new) outcome result }
 {
@@ -327,7 +330,7 @@ pub fn sum_up<N: Sink>(
         return outcome;
     }
     match outcome {
-        Ok(Ending::Checked(..) | Ending::Passed(..)) => Err(Stop::Unsummed { written }),
+        Ok(Ending::Checked(..) | Ending::Passed(..)) => Err(EarlyEnd::Unsummed { written }),
         _ => outcome,
     }
 }
@@ -336,8 +339,8 @@ pub fn sum_up<N: Sink>(
 /// end. This is why a read of standard input or a write failed, if one did.
 pub fn tell<N: Sink>(
     alloc: Global,
-    form: Form,
-    outcome: &Result<Ending, Stop>,
+    form: LineForm,
+    outcome: &Result<Ending, EarlyEnd>,
     causes: Causes,
     notes: &mut N,
 )
@@ -352,7 +355,7 @@ pub fn tell<N: Sink>(
 /// The program's exit status: 0 where every buffer had a yes or help was written, 1 where a buffer had a no, 2 where
 /// the words, the schema file, the root, the path or the schema's own identifier are wrong, and 3 for every other
 /// fault.
-pub fn exit_status(outcome: &Result<Ending, Stop>) -> u8
+pub fn exit_status(outcome: &Result<Ending, EarlyEnd>) -> u8
     ensures { result ≡ exit_status outcome.now }
 {
     match outcome {

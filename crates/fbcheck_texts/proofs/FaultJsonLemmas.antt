@@ -4,7 +4,7 @@ use Rattle.std.specs.Prelude.{◌==◌}
 use mathlib.Core.Logic.{inl, inr}
 use Rattle.json.specs.Print.{escape_byte}
 use Rattle.fb_run.specs.Json.{json_text, text_json}
-use Rattle.fb_run.specs.declared.{options.Form.Form, options.Form.TheVariants.Json as in_json}
+use Rattle.fb_run.specs.declared.{options.LineForm.LineForm, options.LineForm.TheVariants.Json as in_json}
 use Rattle.fb_run.proofs.JsonLemmas.{first_member, next_member, no_more, number_text}
 use Rattle.fbcheck_texts.specs.FaultJson.{IsLineIn, fault_json, head_part, hint_json, hint_part, is_join, past_join, past_space}
 
@@ -63,9 +63,9 @@ hint_none [] none = refl
 hint_none (b ∷ text) none = absurd (omega (arith, none))
 
 -- a line that is the object where faults are told in JSON, and one that is the plain line
-pub object_in : (form : Form) (told plain line : List ℕ) → form ≡ in_json → line ≡ told → IsLineIn form told plain line
-object_in form told plain line json is = subst (λ (f : Form). IsLineIn f told plain line) (sym json) (inl is)
+pub object_in : (form : LineForm) (told plain line : List ℕ) → form ≡ in_json → line ≡ told → IsLineIn form told plain line
+object_in form told plain line json is = subst (λ (f : LineForm). IsLineIn f told plain line) (sym json) (inl is)
 
-pub plain_in : (form : Form) (told plain line : List ℕ) → line ≡ plain → IsLineIn form told plain line
+pub plain_in : (form : LineForm) (told plain line : List ℕ) → line ≡ plain → IsLineIn form told plain line
 plain_in in_json told plain line is = inr is
 plain_in _ told plain line is = is

@@ -2,7 +2,7 @@
 use Rattle.std.specs.Prelude.{◌≡◌, ◌⊎◌, ℕ, ◌-◌, ◌==◌, ◌||◌, Bool, if◌then◌else◌, List, [], ◌∷◌, ◌++◌, Option, Some, None, codes, length, take}
 use Rattle.json.specs.Json.{Json, object, Members, no_members, member}
 use Rattle.fb_run.specs.Json.{count_json, json_text, text_json}
-use Rattle.fb_run.specs.declared.{options.Form.Form, options.Form.TheVariants.Json as in_json}
+use Rattle.fb_run.specs.declared.{options.LineForm.LineForm, options.LineForm.TheVariants.Json as in_json}
 
 -- what joins a hint to the text before it: one of , : ; and then a space
 abbrev pub is_join : ℕ → Bool
@@ -46,7 +46,7 @@ abbrev pub hint_object : Option (List ℕ) → List ℕ → List ℕ
 hint_object file hint = json_text (hint_json file (hint_text hint)) ++ codes "\n"
 
 -- which of both a line is: the object where faults are told in JSON, the plain line else, and there for want of memory
-abbrev pub IsLineIn : Form → List ℕ → List ℕ → List ℕ → Type 0
+abbrev pub IsLineIn : LineForm → List ℕ → List ℕ → List ℕ → Type 0
 IsLineIn in_json told plain line = (line ≡ told) ⊎ (line ≡ plain)
 IsLineIn _ told plain line = line ≡ plain
 

@@ -2,16 +2,16 @@
 
 ghost use Rattle.std.specs.Prelude.{IfOk, IfSome, OnOk, ◌≡◌, ◌++◌, codes, decimal, option_map};
 ghost use Rattle.fbcheck_texts.specs.FaultJson.{fault_object, head_part, hint_object, hint_part, hint_text, is_join, past_join, past_space};
-ghost use Rattle.fb_run.specs.declared.options.Form.TheVariants.{Json};
+ghost use Rattle.fb_run.specs.declared.options.LineForm.TheVariants.{Json};
 
-use fb_run::{Form, Line, put_text};
+use fb_run::{Line, LineForm, put_text};
 use std::alloc::{AllocError, Global};
 
 /// The line of a fault, where lines are JSON: an object with the name of the file, where it is of one, the fault's text,
 /// what its hint says, where there is one, and the exit status that the fault leads to. None also for want of memory.
 pub fn fault_object(
     alloc: Global,
-    form: Form,
+    form: LineForm,
     file: Option<&[u8]>,
     fault: &[u8],
     behind: &[u8],
@@ -20,7 +20,7 @@ pub fn fault_object(
     ensures { IfSome result (λ line. (form ≡ Json) × (line.items ≡ fault_object (option_map (λ f. f.now) file.entry) fault.now behind.now status)) }
 {
     match form {
-        Form::Json => match told_fault(alloc, file, fault, behind, status) {
+        LineForm::Json => match told_fault(alloc, file, fault, behind, status) {
             Ok(line) => Some(line),
             Err(_) => None,
         },
@@ -30,11 +30,16 @@ pub fn fault_object(
 
 /// The same of a hint behind a good end: an object with the name of the file, where it is of one, and what the hint
 /// says.
-pub fn hint_object(alloc: Global, form: Form, file: Option<&[u8]>, hint: &[u8]) -> Option<Vec<u8>>
+pub fn hint_object(
+    alloc: Global,
+    form: LineForm,
+    file: Option<&[u8]>,
+    hint: &[u8],
+) -> Option<Vec<u8>>
     ensures { IfSome result (λ line. (form ≡ Json) × (line.items ≡ hint_object (option_map (λ f. f.now) file.entry) hint.now)) }
 {
     match form {
-        Form::Json => match told_hint(alloc, file, hint) {
+        LineForm::Json => match told_hint(alloc, file, hint) {
             Ok(line) => Some(line),
             Err(_) => None,
         },

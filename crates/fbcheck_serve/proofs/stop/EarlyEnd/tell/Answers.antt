@@ -2,7 +2,7 @@ use Rattle.std.proofs.Common.{◌∙◌, List, rules, subst, ℕ}
 use Rattle.fb_run.specs.Ends.{writer_of}
 use Rattle.fbcheck_serve.specs.Inputs.{IsNoted}
 use Rattle.fbcheck_serve.proofs.NoteLemmas.{kept_quiet, line_told, object_told, told_aloud}
-use Rattle.fbcheck_serve.proofs.stop.Stop.tell.Goals as goal
+use Rattle.fbcheck_serve.proofs.stop.EarlyEnd.tell.Goals as goal
 
 pub returns-in-Some : goal.returns-in-Some
 returns-in-Some g c =
