@@ -9,9 +9,9 @@ use Rattle.fb_bytes.specs.declared.cut.Cut.{Cut}
 use Rattle.fb_bytes.specs.declared.stream_fault.StreamFault.TheVariants as stream
 use Rattle.fb_run.specs.{AllTold.AreTold, Ends.Ends, Ends.Outs, Ends.Reader, Ends.Takes, Ends.beside, Job.Job, Job.checked_in, Job.cut_of, Leave.IsUnended, Prompt.IsPrompt, Prompt.IsPromptFrom}
 use Rattle.fb_run.specs.{Prompt.IsStreamPrompt, Puts.AreOpen, Puts.Queues, Puts.all_unused, Puts.unused, Run.IsRunBeside, Run.IsRunFrom, Run.Runs, Run.answer_by, Spot.IsDue, Spot.IsFull}
-use Rattle.fb_run.specs.{Spot.at_first, Spot.past_all, Stream.FailsStream, Stream.WhyStream, Sums.count_of, Sums.no_tally, Texts.Texts, Texts.followed, Texts.silent, Texts.to_rejects}
+use Rattle.fb_run.specs.{Spot.at_first, Spot.past_all, Stream.FailsStream, Stream.Rests, Stream.TellsSome, Stream.WhyStream, Sums.count_of, Sums.no_tally, Texts.Texts, Texts.followed, Texts.silent, Texts.to_rejects}
 use Rattle.fb_run.specs.Faults.{End, EndsBeside, IsCaused, IsCausedOut, IsUnfailedOut, end_of, failed}
-use Rattle.fb_run.specs.Pieces.{AreEmpty, AreSettled, Carry, Halts, IsReady, PassesFront, Stands, WritesBy}
+use Rattle.fb_run.specs.Pieces.{AreEmpty, AreSettled, Carry, Gathers, Halts, IsReady, PassesFront, Stands, WritesBy}
 use Rattle.fb_run.specs.declared.{fault.RunFault.RunFault, run.Ran.Ran, skip.Skip.Skip, tally.Tally.Tally}
 use Rattle.fb_run.specs.declared.fault.RunFault.TheVariants as run
 use Rattle.fb_run.proofs.PutsLemmas.{front_whole}
@@ -54,6 +54,15 @@ sofar_nothing job reader outs here skip turns skips due ready unused counted non
   asks = (refl, inr (refl, refl));
 }
 
+module _ {job : Job} {before : Outs} {bytes : List ℕ} {tally : Tally} {queues : Queues} (some : Gathers job before (checked_in job bytes) tally queues) where
+  -- this text is told of the first messages
+  told_as : (text : Texts) → some.text ≡ text → TellsSome job bytes text tally
+  told_as text is = (some.done ++ some.left, some.rest, some.done, some.left, some.splits, refl, subst (λ (t : Texts). AreTold job (at_first job) some.done t tally) is some.told)
+
+  -- the run came to rest in the messages, with this text written
+  rests_in : (text : Texts) (fault : RunFault) → WhyStream job bytes (some.done ++ some.left) some.rest text tally fault → Rests job bytes text tally fault
+  rests_in text fault why = (some.done ++ some.left, some.rest, some.splits, why)
+
 -- a write failed behind a front of what is told of these bytes, or the run came to rest with all of that written
 halts_fails : (job : Job) (first reader : Reader) (before : Outs) (bytes : List ℕ) (tally : Tally) (queues : Queues) (fault : RunFault) → Consumes first.left reader.left bytes
     → Halts job before (checked_in job bytes) tally queues fault → AreSettled queues fault → FailsStream job (beside first before) (beside reader (outs_in queues)) tally fault
@@ -70,26 +79,7 @@ halts_fails job first reader before bytes tally queues (run.WriteFault written) 
       text = gone;
       read = read;
       takes = record { wrote = front.wrote; noted = notes.wrote; rejected = rejects.wrote };
-      rests = (
-        some.done ++ some.left,
-        some.rest,
-        some.splits,
-        (
-          λ few. omega (arith, is, long, front.written_is (omega (arith, few, long))),
-          (
-            more,
-            (
-              some.done ++ some.left,
-              some.rest,
-              some.done,
-              some.left,
-              some.splits,
-              refl,
-              subst (λ (t : Texts). AreTold job (at_first job) some.done t tally) whole some.told,
-            ),
-          ),
-        ),
-      );
+      rests = rests_in some gone (run.WriteFault written) (λ few. omega (arith, is, long, front.written_is (omega (arith, few, long))), (more, told_as some (followed gone more) whole));
     }
 halts_fails job first reader before bytes tally queues (run.NoteFault written) read (some, (cut, fine, right, none, is)) settled =
     let front = (put_front some.text.notes before.notes queues.notes cut some.puts.1).0 in
@@ -103,27 +93,7 @@ halts_fails job first reader before bytes tally queues (run.NoteFault written) r
       text = gone;
       read = read;
       takes = record { wrote = written_all some.text.out before.writer queues.out fine none some.puts.0; noted = front.wrote; rejected = rejects.wrote };
-      rests = (
-        some.done ++ some.left,
-        some.rest,
-        some.splits,
-        (
-          λ few. omega (arith, is, long, front.written_is (omega (arith, few, long))),
-          (
-            more,
-            refl,
-            (
-              some.done ++ some.left,
-              some.rest,
-              some.done,
-              some.left,
-              some.splits,
-              refl,
-              subst (λ (t : Texts). AreTold job (at_first job) some.done t tally) whole some.told,
-            ),
-          ),
-        ),
-      );
+      rests = rests_in some gone (run.NoteFault written) (λ few. omega (arith, is, long, front.written_is (omega (arith, few, long))), (more, refl, told_as some (followed gone more) whole));
     }
 halts_fails job first reader before bytes tally queues (run.RejectFault written) read (some, (cut, fine, right, none, unnoted, is)) settled =
     let front = (put_front some.text.rejects before.rejects queues.rejects cut (front_whole some.text.rejects (unused before.rejects) queues.rejects some.puts.2 (fine, right))).0 in
@@ -141,33 +111,14 @@ halts_fails job first reader before bytes tally queues (run.RejectFault written)
         noted = written_all some.text.notes before.notes queues.notes right unnoted some.puts.1;
         rejected = front.wrote;
       };
-      rests = (
-        some.done ++ some.left,
-        some.rest,
-        some.splits,
-        (
-          λ few. omega (arith, is, long, front.written_is (omega (arith, few, long))),
-          (
-            more,
-            (
-              some.done ++ some.left,
-              some.rest,
-              some.done,
-              some.left,
-              some.splits,
-              refl,
-              subst (λ (t : Texts). AreTold job (at_first job) some.done t tally) whole some.told,
-            ),
-          ),
-        ),
-      );
+      rests = rests_in some gone (run.RejectFault written) (λ few. omega (arith, is, long, front.written_is (omega (arith, few, long))), (more, told_as some (followed gone (to_rejects more)) whole));
     }
 halts_fails job first reader before bytes tally queues run.OutOfMemory read (some, fine) empty = record {
   bytes = bytes;
   text = some.text;
   read = read;
   takes = takes_all some.text before queues some.puts fine empty;
-  rests = (some.done ++ some.left, some.rest, some.splits, (some.done ++ some.left, some.rest, some.done, some.left, some.splits, refl, some.told));
+  rests = rests_in some some.text run.OutOfMemory (told_as some some.text refl);
 }
 halts_fails job first reader before bytes tally queues (run.Stream (stream.Oversize number)) read (some, (due, fine, none, over, is)) empty = record {
   bytes = bytes;

@@ -156,7 +156,7 @@ module _ (job : Job) (first : Outs) where
   passed_gathers bytes piece before mid (Err fault) (stops, sound) stands = (stops first bytes stands).0
 
   -- a write of what waited behind it failed
-  pub flush_halts : (bytes piece : List ℕ) (before mid : Carry) (queues : Queues) (end : Result (Unit {0}) RunFault) (fault : RunFault) → PassesAllBy job piece before mid end
+  flush_halts : (bytes piece : List ℕ) (before mid : Carry) (queues : Queues) (end : Result (Unit {0}) RunFault) (fault : RunFault) → PassesAllBy job piece before mid end
       → PutsAll silent mid.queues queues → AreCut queues fault → Stands job first bytes before → Halts job first (bytes ++ piece) mid.tally queues fault
   flush_halts bytes piece before mid queues end fault passed none cut stands =
       by fault cut (gathers_still (bytes ++ piece) mid.tally mid.queues queues none (passed_gathers bytes piece before mid end passed stands))
@@ -224,7 +224,7 @@ settled_empty queues (run.Stream fault) empty = empty
 settled_empty queues (run.BareTooLong limit) empty = empty
 settled_empty queues (run.SkipPastEnd skip) empty = empty
 
-pub settled_cut : (queues : Queues) (fault : RunFault) → AreCut queues fault → AreSettled queues fault
+settled_cut : (queues : Queues) (fault : RunFault) → AreCut queues fault → AreSettled queues fault
 settled_cut queues (run.WriteFault written) cut = tt
 settled_cut queues (run.NoteFault written) cut = tt
 settled_cut queues (run.RejectFault written) cut = tt
@@ -250,6 +250,12 @@ flushed job piece before mid queues (Ok done) passes none fine empty = (
 )
 flushed job piece before mid queues (Err fault) (stops, sound) none fine empty =
     (λ first bytes stands. flushed_halts job first (bytes ++ piece) mid.tally mid.queues queues fault none fine (stops first bytes stands), settled_empty queues fault empty)
+
+-- or the write failed
+pub cut_short : (job : Job) (piece : List ℕ) (before mid : Carry) (queues : Queues) (end : Result (Unit {0}) RunFault) (fault : RunFault) → PassesAllBy job piece before mid end
+    → PutsAll silent mid.queues queues → AreCut queues fault → WritesBy job piece before (record mid { queues = queues }) (Err fault)
+cut_short job piece before mid queues end fault passed none cut =
+    (λ first bytes stands. flush_halts job first bytes piece before mid queues end fault passed none cut stands, settled_cut queues fault cut)
 
 -- the room was used, and is as large
 pub still_ready : {job : Job} {framer : Framing} {room room' : Beside} → IsReady job framer room → HasRoom job room' → IsReady job framer room'

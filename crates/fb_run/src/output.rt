@@ -127,7 +127,12 @@ impl<A: Allocator> Output<A> {
                 Err(fault) => self.add_no(checker, message, fault, writer, notes, rejects),
             };
         }
-        self.add_at_length(checker, room, message, writer, notes, rejects)
+        let verdict = checker.verdict(room, message)?;
+        let (verdict, begin) = checker.told(room, verdict);
+        let spot = self.counter.spot(checker.begin(), message);
+        self.say(checker, begin, &spot, message, &verdict, writer)?;
+        self.counter.count(message, &verdict);
+        self.keep(checker.rejects(), message, &verdict, writer, notes, rejects)
     }
 
     /// Adds what the mode tells of the next message with this report, where no more is asked, and counts it.
@@ -186,33 +191,6 @@ impl<A: Allocator> Output<A> {
         let verdict = Err(Wrong { fault, place: None });
         let spot = self.counter.spot(checker.begin(), message);
         self.say(checker, b"", &spot, message, &verdict, writer)?;
-        self.counter.count(message, &verdict);
-        self.keep(checker.rejects(), message, &verdict, writer, notes, rejects)
-    }
-
-    /// Adds what is told of the next message, also where a value or words are asked for, and counts its verdict.
-    fn add_at_length<B: Allocator, K: Sink, N: Sink, R: Sink>(
-        &mut self,
-        checker: &Checker<'_, '_, '_>,
-        room: &mut Workspace<B>,
-        message: &[u8],
-        writer: &mut K,
-        notes: &mut N,
-        rejects: &mut R,
-    ) -> Result<(), RunFault>
-        requires room { HasRoom checker.now room.old }
-        requires few { count_of self.old.counter < 2 ^ 63 }
-        requires short { length message.now < 2 ^ 31 }
-        requires unfailed { AreOpen (queues_of K.Sink N.Sink R.Sink self.old writer.old notes.old rejects.old) }
-        ensures told { AddsBy checker.now (past_all checker.now self.old.counter) message.now (queues_of K.Sink N.Sink R.Sink self.old writer.old notes.old rejects.old)
-            (queues_of K.Sink N.Sink R.Sink self.new writer.new notes.new rejects.new) self.old.counter self.new.counter result }
-        ensures one { OnOk result (count_of self.new.counter ≡ count_of self.old.counter + 1) }
-        ensures room { HasRoom checker.now room.new }
-    {
-        let verdict = checker.verdict(room, message)?;
-        let (verdict, begin) = checker.told(room, verdict);
-        let spot = self.counter.spot(checker.begin(), message);
-        self.say(checker, begin, &spot, message, &verdict, writer)?;
         self.counter.count(message, &verdict);
         self.keep(checker.rejects(), message, &verdict, writer, notes, rejects)
     }

@@ -99,9 +99,14 @@ pub fn run_keeping<A: Allocator, S: Input<K, N>, K: Sink, N: Sink, R: Sink>(
     let Ok(mut carried) = Carried::new(&alloc, &checker) else {
         return Ran::none(RunFault::OutOfMemory);
     };
-    let end = carried.pass_all(
-        &alloc, &mut piece, reader, writer, notes, rejects, &checker, turns,
-    );
+    if checker.is_bare() {
+        let end = carried.pass_bare(
+            &alloc, &mut piece, reader, writer, notes, rejects, &checker, turns,
+        );
+        let tally = carried.output.tally();
+        return Ran { tally, end };
+    }
+    let end = carried.pass_all(&mut piece, reader, writer, notes, rejects, &checker, turns);
     let tally = carried.output.tally();
     Ran { tally, end }
 }

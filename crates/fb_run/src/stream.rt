@@ -1,10 +1,9 @@
-//! A run over a stream of size-prefixed buffers, or over one bare buffer.
+//! A run over a stream of size-prefixed buffers.
 
-ghost use Rattle.std.specs.Prelude.{IfOk, ◌≡◌, ◌+◌, ◌<◌, ◌≤◌, ◌^◌, length};
-ghost use Rattle.fb_run.specs.{Leave.HasLeave, Leave.all_ends, Prompt.IsPrompt, Puts.AreOpen, Puts.queues_of, Run.Runs, Spot.IsDue, Spot.past_all, Sums.count_of};
-ghost use Rattle.fb_run.specs.Pieces.{IsFirst, IsReady, PassesAllBy, PassesBy, WritesBy, carry_of};
+ghost use Rattle.std.specs.Prelude.{IfOk, ◌≡◌, ◌+◌, ◌<◌, ◌≤◌, ◌^◌, length, false};
+ghost use Rattle.fb_run.specs.{Leave.HasLeave, Leave.all_ends, Prompt.IsStreamPrompt, Puts.AreOpen, Puts.queues_of, Run.Runs, Spot.IsDue, Spot.past_all, Sums.count_of};
+ghost use Rattle.fb_run.specs.Pieces.{IsFirst, IsReady, PassesAllBy, PassesBy, carry_of};
 
-use crate::bare::pass_bare;
 use crate::checker::Checker;
 use crate::fault::RunFault;
 use crate::front::front_message;
@@ -44,19 +43,17 @@ impl<'a, A: Allocator> Carried<&'a A> {
 }
 
 impl<A: Allocator> Carried<A> {
-    /// Checks the buffers of an input from its start, and writes what the mode tells of each: one bare buffer, or a
-    /// stream of size-prefixed ones, each of at most `max_bytes` of the options, behind the bytes that are left out. It
-    /// comes in pieces through the read buffer, with at most `turns` reads, and none once a bound of the options is
-    /// reached.
+    /// Checks the buffers of a stream from its start, each of at most `max_bytes` of the options, behind the bytes that
+    /// are left out, and writes what the mode tells of each. It comes in pieces through the read buffer, with at most
+    /// `turns` reads, and none once a bound of the options is reached.
     ///
-    /// What is told of all messages that are whole is written before the next read (`leave`), and before any answer;
-    /// of a bare input nothing is before its end. On a fault that of all whole messages that were read is written, but
-    /// for `OutOfMemory`, where it is that of the first ones, and for `WriteFault` and `NoteFault`, where `written`
-    /// bytes of it are. What was counted is that of the messages that are told, or in a write that failed were to be.
-    pub fn pass_all<B: Allocator, C: Allocator, S: Input<K, N>, K: Sink, N: Sink, R: Sink>(
+    /// What is told of all messages that are whole is written before the next read (`leave`), and before any answer. On
+    /// a fault that of all whole messages that were read is written, but for `OutOfMemory`, where it is that of the first
+    /// ones, and for `WriteFault` and `NoteFault`, where `written` bytes of it are. What was counted is that of the
+    /// messages that are told, or in a write that failed were to be.
+    pub fn pass_all<B: Allocator, S: Input<K, N>, K: Sink, N: Sink, R: Sink>(
         &mut self,
-        alloc: &B,
-        piece: &mut Vec<u8, C>,
+        piece: &mut Vec<u8, B>,
         reader: &mut S,
         writer: &mut K,
         notes: &mut N,
@@ -69,25 +66,11 @@ impl<A: Allocator> Carried<A> {
         requires first { IsFirst self.old }
         requires turns { turns ≤ MOST_TURNS }
         requires few { S.calls reader.old < 2 ^ 64 }
-        requires leave { HasLeave S.Input (all_ends S.Input K.Sink N.Sink R.Sink reader.old writer.old notes.old rejects.old) (IsPrompt checker.now) }
+        requires leave { HasLeave S.Input (all_ends S.Input K.Sink N.Sink R.Sink reader.old writer.old notes.old rejects.old) (IsStreamPrompt checker.now) }
 
-        ensures { Runs checker.now.bare checker.now (all_ends S.Input K.Sink N.Sink R.Sink reader.old writer.old notes.old rejects.old)
+        ensures { Runs false checker.now (all_ends S.Input K.Sink N.Sink R.Sink reader.old writer.old notes.old rejects.old)
             (all_ends S.Input K.Sink N.Sink R.Sink reader.new writer.new notes.new rejects.new) turns self.new.output.counter result }
     {
-        if checker.is_bare() {
-            return pass_bare(
-                alloc,
-                &mut self.output,
-                &mut self.room,
-                piece,
-                reader,
-                writer,
-                notes,
-                rejects,
-                checker,
-                turns,
-            );
-        }
         let mut skip = Skip::new(checker.begin());
         let mut left = turns;
         while left > 0 {
@@ -102,34 +85,14 @@ impl<A: Allocator> Carried<A> {
                 Err(_) => return Err(RunFault::ReadFault),
             };
             let more = skip.behind(&piece.as_slice()[..read]);
-            self.pass_piece(checker, more, writer, notes, rejects)?;
+            let passed = self.pass_messages(checker, more, writer, notes, rejects);
+            self.output.flush(writer, notes, rejects)?;
+            passed?;
             if self.output.due(checker, 0) == 0 {
                 return Ok(());
             }
         }
         Err(RunFault::TooManyTurns)
-    }
-
-    /// Passes a whole piece, or the messages of it up to a bound of the options, and writes what is told of those that
-    /// end in it.
-    fn pass_piece<K: Sink, N: Sink, R: Sink>(
-        &mut self,
-        checker: &Checker<'_, '_, '_>,
-        piece: &[u8],
-        writer: &mut K,
-        notes: &mut N,
-        rejects: &mut R,
-    ) -> Result<(), RunFault>
-        requires ready { IsReady checker.now self.old.framer self.old.room }
-        requires unfailed { AreOpen (queues_of K.Sink N.Sink R.Sink self.old.output writer.old notes.old rejects.old) }
-        requires piece { length piece.now ≤ PIECE }
-        requires few { count_of self.old.output.counter < 2 ^ 62 }
-        ensures { WritesBy checker.now piece.now (carry_of K.Sink N.Sink R.Sink self.old writer.old notes.old rejects.old)
-            (carry_of K.Sink N.Sink R.Sink self.new writer.new notes.new rejects.new) result }
-    {
-        let passed = self.pass_messages(checker, piece, writer, notes, rejects);
-        self.output.flush(writer, notes, rejects)?;
-        passed
     }
 
     /// Passes a whole piece, or the messages of it up to a bound of the options, and adds what is told of those that end

@@ -23,7 +23,7 @@ use Rattle.fb_run.specs.declared.run.Ran.{Ran}
 use Rattle.fb_bytes.specs.declared.stream_fault.StreamFault.TheVariants as stream
 use Rattle.fb_run.specs.declared.fault.RunFault.TheVariants as run
 use Rattle.fbcheck_serve.specs.Serving.{ChecksAsAsked, ComesAsAsked, ComesBy, ComesTo, IsAlone, IsNameless, EndsFiles, EndsRun, EndsSo, HoldsAsGiven, IsPromptAsGiven, MayReadAsGiven, PassesAsAsked, Rests, SumsUp, TellsAsGiven, TellsIn, IsFormOf, Unserved}
-use Rattle.fbcheck_serve.specs.Serving.{files_ending, hinted_stop, is_set, lent_bytes, run_ending, summed, unbegun_stop, words_of}
+use Rattle.fbcheck_serve.specs.Serving.{files_ending, is_set, lent_bytes, run_ending, summed, unbegun_stop, words_of}
 use Rattle.fbcheck_serve.proofs.AskedLemmas.{idle}
 use Rattle.fbcheck_serve.specs.declared.inputs.Passed as inputs
 use Rattle.fb_run.specs.declared.input.Input as input
@@ -37,7 +37,7 @@ use Rattle.fbcheck_serve.specs.declared.stop.EarlyEnd.TheVariants as stop
 
 module _ (folder : Folder) where
   -- what holds by the settings, and by what a read of the file of the words gave
-  pub holds_given : (given : List Text) (settings : Settings) (file : Option (Bor (List ℕ))) (bytes : Option (List ℕ)) (Holds : Option (Bor (List ℕ)) → Settings → Type 0)
+  holds_given : (given : List Text) (settings : Settings) (file : Option (Bor (List ℕ))) (bytes : Option (List ℕ)) (Holds : Option (Bor (List ℕ)) → Settings → Type 0)
       → AreGiven given settings → lent_bytes file ≡ bytes → IsFile folder.gives (option_map string_bytes settings.schema) bytes → Holds file settings → HoldsAsGiven folder given Holds
   holds_given given settings file bytes Holds are lent is holds = record {
     settings = settings;
@@ -59,11 +59,18 @@ module _ (folder : Folder) where
   prompt_among file settings names before now are (job, asks, rejects, rejects', (headed, head, among)) = (Some names, job, are, asks, rejects, rejects', headed, head, among)
 
   -- the words could be read
-  pub prompt_read : {A B : Type 0} (given : Result (Vec (String A) B) WordsFault) (words : Vec (String A) B) (slice : List (String A)) (before now : Ends)
+  prompt_read : {A B : Type 0} (given : Result (Vec (String A) B) WordsFault) (words : Vec (String A) B) (slice : List (String A)) (before now : Ends)
       → given ≡ Ok words → slice ≡ vec_items words → IsPromptAsGiven folder (Ok (map string_bytes slice)) before now → IsPromptAsGiven folder (words_of given) before now
   prompt_read {A} {B} given words slice before now is same prompt =
       subst (λ (g : Result (Vec (String A) B) WordsFault). IsPromptAsGiven folder (words_of g) before now) (sym is)
       (subst (λ (l : List (String A)). IsPromptAsGiven folder (Ok (map string_bytes l)) before now) same prompt)
+
+  -- by these settings of theirs
+  pub prompt_given : {A B : Type 0} (given : Result (Vec (String A) B) WordsFault) (words : Vec (String A) B) (slice : List (String A)) (before now : Ends) (settings : Settings) (file : Option (Bor (List ℕ)))
+      (bytes : Option (List ℕ)) → given ≡ Ok words → slice ≡ vec_items words → AreGiven (map string_bytes slice) settings → lent_bytes file ≡ bytes
+      → IsFile folder.gives (option_map string_bytes settings.schema) bytes → IsPromptOverAsked folder file settings before now → IsPromptAsGiven folder (words_of given) before now
+  prompt_given given words slice before now settings file bytes is same are lent file_is prompt =
+      prompt_read given words slice before now is same (holds_given (map string_bytes slice) settings file bytes _ are lent file_is prompt)
 
   -- the files of the settings may be read as those of the words that give them
   pub may_read : {A B : Type 0} (given : Result (Vec (String A) B) WordsFault) (words : Vec (String A) B) (slice : List (String A)) (before : Ends) (settings : Settings) (file : Option (Bor (List ℕ)))
@@ -87,7 +94,7 @@ module _ (maker : Maker) (folder : Folder) where
   comes_unserved given reader writer writer' notes cause fault _ refuses never = absurd never
 
   -- what the settings come to is what the words that give them do
-  pub comes_asked : (given : List Text) (before after : Seen) (sums : Option Sums) (outcome : Result Ending EarlyEnd)
+  comes_asked : (given : List Text) (before after : Seen) (sums : Option Sums) (outcome : Result Ending EarlyEnd)
       → HoldsAsGiven folder given (λ file settings. ComesAsAsked maker folder file settings before after sums outcome) → ComesBy maker folder given before after sums outcome
   comes_asked given before after sums (Ok Helped) never = absurd never.holds
   comes_asked given before after sums (Err (stop.Usage text)) never = absurd never.holds.0
@@ -131,6 +138,14 @@ module _ (maker : Maker) (folder : Folder) where
       subst (λ (g : Result (Vec (String A) B) WordsFault). ComesTo maker folder (words_of g) before after sums outcome) (sym is)
       (subst (λ (l : List (String A)). ComesBy maker folder (map string_bytes l) before after sums outcome) same comes)
 
+  -- and give these settings
+  pub comes_given : {A B : Type 0} (given : Result (Vec (String A) B) WordsFault) (words : Vec (String A) B) (slice : List (String A)) (before after : Seen) (sums : Option Sums) (outcome : Result Ending EarlyEnd)
+      (settings : Settings) (file : Option (Bor (List ℕ))) (bytes : Option (List ℕ)) → given ≡ Ok words → slice ≡ vec_items words → AreGiven (map string_bytes slice) settings → lent_bytes file ≡ bytes
+      → IsFile folder.gives (option_map string_bytes settings.schema) bytes → ComesAsAsked maker folder file settings before after sums outcome → ComesTo maker folder (words_of given) before after sums outcome
+  comes_given given words slice before after sums outcome settings file bytes is same are lent file_is comes =
+      comes_read given words slice before after sums outcome is same
+      (comes_asked (map string_bytes slice) before after sums outcome (holds_given folder (map string_bytes slice) settings file bytes _ are lent file_is comes))
+
 -- whether files are named, by how many there are
 pub none_named : {Z : Type 0} (files slice : List (String Z)) (empty : Bool) → slice ≡ files → empty ≡ (length slice == 0) → empty ≡ true → map string_bytes files ≡ []
 none_named files slice empty same is named =
@@ -156,10 +171,9 @@ pub named_by_list : (gives : List ℕ → Result (List ℕ) FileFault → Type 0
 named_by_list gives settings names name list listed is are = rw listed (list, is, ap (λ l. Some l) are)
 
 -- there are no names
-pub listless : (gives : List ℕ → Result (List ℕ) FileFault → Type 0) (settings : Settings) (name : List ℕ) (fault : FileFault) (hint : Result (List ℕ) AllocError) (cause : EarlyEnd)
-    → option_map string_bytes settings.names_file ≡ Some name → HasListFault gives name fault → cause ≡ hinted_stop (stop.List fault) hint → IsNameless gives settings cause
-listless gives settings name fault (Ok hint) cause listed has is = rw is (name, listed, has)
-listless gives settings name fault (Err none) cause listed has is = rw is tt
+pub listless : (gives : List ℕ → Result (List ℕ) FileFault → Type 0) (settings : Settings) (name : List ℕ) (fault : FileFault) (hint : List ℕ)
+    → option_map string_bytes settings.names_file ≡ Some name → HasListFault gives name fault → IsNameless gives settings (stop.List fault hint)
+listless gives settings name fault hint listed has = (name, listed, has)
 
 -- the words or the schema file couldn't be read, or the words give no settings
 pub early : (before after : Ends) (outcome : Result Ending EarlyEnd) → EndsSo before after 4294967296 outcome → after.reader ≡ before.reader → Rests before after None outcome
@@ -180,20 +194,24 @@ sums_noted sums told before after outcome line written some is all wrote same =
     subst (λ (o : Option Sums). SumsUp o before after outcome outcome) (sym some)
     (inl (subst (Appends before.bytes after.bytes) (ap (λ (m : ℕ). take m line) all ∙ take-length line ∙ is) wrote, same, refl))
 
-pub wordless : {A B : Type 0} (maker : Maker) (folder : Folder) (given : Result (Vec (String A) B) WordsFault) (seen : Seen) (fault : WordsFault) (hint : Result (List ℕ) AllocError) (cause : EarlyEnd)
-    → given ≡ Err fault → cause ≡ hinted_stop (stop.Words fault) hint
-    → ComesTo maker folder (words_of given) seen seen None (Err cause) × Rests seen.ends seen.ends None (Err cause)
-wordless maker folder given seen fault (Ok hint) cause is so =
-    rw (is, so) ((refl, idle seen.ends, refl), early seen.ends seen.ends _ (refl, refl, refl, refl) refl)
-wordless maker folder given seen fault (Err none) cause is so = rw (is, so) ((idle seen.ends, refl), early seen.ends seen.ends _ (refl, refl, refl, refl) refl)
+-- the words or the schema file couldn't be read, and there is a hint behind that, or no memory for it
+module _ {A B : Type 0} (maker : Maker) (folder : Folder) (given : Result (Vec (String A) B) WordsFault) (seen : Seen) (fault : WordsFault) (is : given ≡ Err fault) where
+  pub wordless : (hint : List ℕ) → ComesTo maker folder (words_of given) seen seen None (Err (stop.Words fault hint)) × Rests seen.ends seen.ends None (Err (stop.Words fault hint))
+  wordless hint = rw is ((refl, idle seen.ends, refl), early seen.ends seen.ends _ (refl, refl, refl, refl) refl)
 
-pub fileless : (maker : Maker) (folder : Folder) (given : List Text) (seen : Seen) (fault : FileFault) (hint : Result (List ℕ) AllocError) (name : Option Text) (cause : EarlyEnd)
-    → fault_of program given ≡ [] → name ≡ text_of (codes "schema") given → cause ≡ hinted_stop (stop.File fault) hint → HasFileFault folder.gives name fault
-    → ComesBy maker folder given seen seen None (Err cause) × Rests seen.ends seen.ends None (Err cause)
-fileless maker folder given seen fault (Ok hint) name cause read is so has =
-    rw so ((read, subst (λ (t : Option Text). HasFileFault folder.gives t fault) is has, idle seen.ends, refl), early seen.ends seen.ends _ (refl, refl, refl, refl) refl)
-fileless maker folder given seen fault (Err none) name cause read is so has =
-    rw so (((refusal.OutOfMemory, tt, Keeps-refl seen.ends.reader.left, Keeps-refl seen.ends.outs.writer.bytes, Keeps-refl seen.ends.outs.notes.bytes), refl), early seen.ends seen.ends _ (refl, refl, refl, refl) refl)
+  pub wordless_hintless : ComesTo maker folder (words_of given) seen seen None (Err (stop.Settings refusal.OutOfMemory)) × Rests seen.ends seen.ends None (Err (stop.Settings refusal.OutOfMemory))
+  wordless_hintless = rw is ((idle seen.ends, refl), early seen.ends seen.ends _ (refl, refl, refl, refl) refl)
+
+module _ (maker : Maker) (folder : Folder) (given : List Text) (seen : Seen) where
+  pub fileless : (fault : FileFault) (hint : List ℕ) (name : Option Text) → fault_of program given ≡ [] → name ≡ text_of (codes "schema") given → HasFileFault folder.gives name fault
+      → ComesBy maker folder given seen seen None (Err (stop.File fault hint)) × Rests seen.ends seen.ends None (Err (stop.File fault hint))
+  fileless fault hint name read is has =
+      ((read, subst (λ (t : Option Text). HasFileFault folder.gives t fault) is has, idle seen.ends, refl), early seen.ends seen.ends _ (refl, refl, refl, refl) refl)
+
+  pub hintless : ComesBy maker folder given seen seen None (Err (stop.Settings refusal.OutOfMemory)) × Rests seen.ends seen.ends None (Err (stop.Settings refusal.OutOfMemory))
+  hintless =
+      let idles = idle seen.ends in
+      (((refusal.OutOfMemory, tt, idles.0, idles.1.0, idles.1.1), refl), early seen.ends seen.ends _ (refl, refl, refl, refl) refl)
 
 -- the numbers to be told have a place for each kind of fault
 summed_places : (told : Sums) (asked : Bool) → length told.tally.reasons ≡ reason_count → IfSome (if asked then Some told else None) (λ (sums : Sums). length sums.tally.reasons ≡ reason_count)

@@ -119,11 +119,6 @@ EndsFiles settings (Ok kept) sums outcome =
     (sums ≡ summed settings kept.what.course.tally) × (by : By) × (outcome ≡ files_ending by kept.cause kept.what.course kept.what.end)
 EndsFiles settings (Err fault) sums outcome = (sums ≡ None) × (outcome ≡ Err (unbegun_stop fault))
 
--- the words or the schema file can't be read, and this is told behind that, or there was no memory for it
-abbrev pub hinted_stop : (List ℕ → EarlyEnd) → Result (List ℕ) AllocError → EarlyEnd
-hinted_stop unread (Ok hint) = unread hint
-hinted_stop unread (Err none) = stop.Settings refusal.OutOfMemory
-
 -- all that was read by now is told, of a run that the words ask for; they could be read
 abbrev pub IsPromptAsGiven : Folder → Result (List Text) WordsFault → Ends → Ends → Type 0
 IsPromptAsGiven folder (Ok given) before now = HoldsAsGiven folder given (λ file settings. IsPromptOverAsked folder file settings before now)

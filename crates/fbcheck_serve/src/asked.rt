@@ -4,16 +4,17 @@ ghost use Rattle.std.specs.Prelude.{ℕ, Option, IfOk, IfErr, IfSome, IsTrue, Ok
 ghost use Rattle.fb_schema.specs.Rows.{is_table};
 ghost use Rattle.fb_bfbs.specs.LoadLaws.{ident_bytes};
 ghost use Rattle.fbcheck_serve.specs.Asked.{ArePaths, IsPath, PathFails, asked_ident, form_of, ident_of, mode_of, options_of, places_of, prefix_of, rejects_of, root_of};
-ghost use Rattle.fbcheck_serve.specs.Checking.{Asks, IsPathless, IsSchema, LacksJob, LacksSchema, own_of};
+ghost use Rattle.fbcheck_serve.specs.{Checking.Asks, Checking.IsPathless, Checking.IsSchema, Checking.LacksJob, Checking.LacksSchema, Checking.own_of, Heads.head_of};
 ghost use Rattle.fbcheck_words.specs.Ranges.{AreInRange};
 ghost use Rattle.fbcheck_words.specs.declared.choices.Settings.{Settings};
 ghost use Rattle.fb_run.specs.Job.{PathsFit, Serves, job_of};
 ghost use Rattle.fb_access.specs.Fitting.{StepsFit};
 ghost use Rattle.fb_schema.specs.declared.kinds.Kind.TheVariants.{Table};
 
+use crate::head::head_of;
 use crate::inputs::label;
 use crate::limits::schema_limits;
-use crate::names::STANDARD;
+use crate::names::{Name, STANDARD};
 use crate::strict::plan_of;
 use fb_access::Path;
 use fb_bfbs::{Loaded, load, own_ident, reflection};
@@ -262,15 +263,16 @@ fn schemaless(alloc: Global, fault: AskFault, file: Option<&[u8]>, settings: &Se
     }
 }
 
-/// What a run is asked: a schema, and how buffers are checked by it.
+/// What a run is asked: a schema, how buffers are checked by it, and what is written above all else.
 #[derive(Drop)]
 pub struct Asked<'b> {
     pub schema: Schema<'b>,
     pub options: Options,
+    pub head: Vec<u8>,
 }
 
-/// What a schema file, or none, and the settings ask. The root is the table of the settings' name, or else that of the
-/// schema file, or `reflection.Schema` without one.
+/// What a schema file, or none, and the settings ask, over the files of these names. The root is the table of the
+/// settings' name, or else that of the schema file, or `reflection.Schema` without one.
 ///
 /// # Errors
 ///
@@ -284,10 +286,12 @@ pub fn asked_of<'b>(
     alloc: Global,
     schema_bytes: Option<&'b [u8]>,
     settings: &Settings,
+    names: &[Name],
 ) -> Result<Asked<'b>, Unasked>
     requires { AreInRange settings.now }
     ensures job { IfOk result (λ asked. Asks schema_bytes.entry settings.now (Ok (job_of asked.schema asked.options))) }
     ensures serves { IfOk result (λ asked. Serves asked.schema asked.options) }
+    ensures head { IfOk result (λ asked. asked.head.items ≡ head_of (job_of asked.schema asked.options) names.now) }
     ensures none { IfErr result (λ unasked. LacksJob schema_bytes.entry settings.now unasked.fault) }
 {
     let Loaded {
@@ -311,5 +315,10 @@ pub fn asked_of<'b>(
         return Err(Unasked::plain(AskFault::OutOfMemory));
     };
     let options = options(settings, root, paths, ident, plan, label);
-    Ok(Asked { schema, options })
+    let head = head_of(alloc, &options, names)?;
+    Ok(Asked {
+        schema,
+        options,
+        head,
+    })
 }

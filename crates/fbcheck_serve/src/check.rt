@@ -14,7 +14,7 @@ ghost use Rattle.fbcheck_serve.specs.declared.check.Unbegun.TheVariants.{Ask};
 
 use crate::asked::{Asked, asked_of};
 use crate::files::{Files, Makes};
-use crate::head::{head_of, with_head, write_head};
+use crate::head::{with_head, write_head};
 use crate::inputs::{Passed, pass_files};
 use crate::names::Name;
 use fb_bytes::Sink;
@@ -65,25 +65,15 @@ pub fn check_beside<S: Input<K, N>, K: Sink, N: Sink>(
         (ends_of S.Input K.Sink N.Sink reader.new writer.new notes.new) MOST_TURNS ran.end) }
     ensures turns { S.calls reader.new ≤ S.calls reader.old + MOST_TURNS }
 {
-    let asked = asked_of(alloc, schema_bytes, settings)?;
-    let head = head_of(alloc, &asked.options, &[])?;
+    let asked = asked_of(alloc, schema_bytes, settings, &[])?;
     let mut rejects = Nowhere::new();
-    Ok(run_asked(
-        alloc,
-        &asked,
-        head.as_slice(),
-        reader,
-        writer,
-        notes,
-        &mut rejects,
-    ))
+    Ok(run_asked(alloc, &asked, reader, writer, notes, &mut rejects))
 }
 
-/// Runs over an input by what is asked, behind this head.
+/// Runs over an input by what is asked, behind its head.
 fn run_asked<S: Input<K, N>, K: Sink, N: Sink, R: Sink>(
     alloc: Global,
     asked: &Asked<'_>,
-    head: &[u8],
     reader: &mut S,
     writer: &mut K,
     notes: &mut N,
@@ -91,7 +81,7 @@ fn run_asked<S: Input<K, N>, K: Sink, N: Sink, R: Sink>(
 ) -> Ran
     requires serves { Serves asked.now.schema asked.now.options }
     requires few { S.calls reader.old < 2 ^ 64 }
-    requires head { head.now ≡ head_of (job_of asked.now.schema asked.now.options) [] }
+    requires head { asked.now.head.items ≡ head_of (job_of asked.now.schema asked.now.options) [] }
     requires leave { HasLeave S.Input (all_ends S.Input K.Sink N.Sink R.Sink reader.old writer.old notes.old rejects.old) (IsPromptHeaded (job_of asked.now.schema asked.now.options)) }
 
     ensures run { RunsBehindHead (job_of asked.now.schema asked.now.options) (all_ends S.Input K.Sink N.Sink R.Sink reader.old writer.old notes.old rejects.old)
@@ -101,6 +91,7 @@ fn run_asked<S: Input<K, N>, K: Sink, N: Sink, R: Sink>(
         (all_ends S.Input K.Sink N.Sink R.Sink reader.new writer.new notes.new rejects.new) MOST_TURNS result.end }
     ensures turns { S.calls reader.new ≤ S.calls reader.old + MOST_TURNS }
 {
+    let head = asked.head.as_slice();
     if let Err(fault) = write_head(writer, head) {
         return Ran::none(fault);
     }
@@ -167,13 +158,11 @@ pub fn check_keeping<F: Makes, S: Input<K, N>, K: Sink, N: Sink>(
     ensures unnoted { OnErr result (notes.new ≡ notes.old) }
     ensures turns { S.calls reader.new ≤ S.calls reader.old + MOST_TURNS }
 {
-    let asked = asked_of(alloc, schema_bytes, settings)?;
-    let head = head_of(alloc, &asked.options, &[])?;
-    let head = head.as_slice();
+    let asked = asked_of(alloc, schema_bytes, settings, &[])?;
     match &settings.rejects {
         None => {
             let mut rejects = Nowhere::new();
-            let what = run_asked(alloc, &asked, head, reader, writer, notes, &mut rejects);
+            let what = run_asked(alloc, &asked, reader, writer, notes, &mut rejects);
             Ok(Kept { what, cause: None })
         }
         Some(name) => {
@@ -181,7 +170,7 @@ pub fn check_keeping<F: Makes, S: Input<K, N>, K: Sink, N: Sink>(
                 Ok(file) => file,
                 Err(cause) => return Err(Unbegun::Unmade(cause)),
             };
-            let what = run_asked(alloc, &asked, head, reader, writer, notes, &mut rejects);
+            let what = run_asked(alloc, &asked, reader, writer, notes, &mut rejects);
             let cause = rejects.cause();
             Ok(Kept { what, cause })
         }
@@ -214,9 +203,7 @@ pub fn check_files<F: Files<K, N> + Makes, S: Input<K, N> + Explains, K: Sink, N
     ensures unnoted { OnErr result (notes.new ≡ notes.old) }
     ensures turns { S.calls reader.new ≤ S.calls reader.old + MOST_TURNS }
 {
-    let mut asked = asked_of(alloc, schema_bytes, settings)?;
-    let head = head_of(alloc, &asked.options, names)?;
-    let head = head.as_slice();
+    let mut asked = asked_of(alloc, schema_bytes, settings, names)?;
     match &settings.rejects {
         None => {
             let mut rejects = Nowhere::new();
@@ -225,7 +212,6 @@ pub fn check_files<F: Files<K, N> + Makes, S: Input<K, N> + Explains, K: Sink, N
                 files,
                 names,
                 &mut asked,
-                head,
                 reader,
                 writer,
                 notes,
@@ -243,7 +229,6 @@ pub fn check_files<F: Files<K, N> + Makes, S: Input<K, N> + Explains, K: Sink, N
                 files,
                 names,
                 &mut asked,
-                head,
                 reader,
                 writer,
                 notes,
@@ -255,13 +240,12 @@ pub fn check_files<F: Files<K, N> + Makes, S: Input<K, N> + Explains, K: Sink, N
     }
 }
 
-/// Goes through files by what is asked, behind this head.
+/// Goes through files by what is asked, behind its head.
 fn pass_asked<F: Files<K, N>, S: Input<K, N> + Explains, K: Sink, N: Sink, R: Sink>(
     alloc: Global,
     files: &F,
     names: &[Name],
     asked: &mut Asked<'_>,
-    head: &[u8],
     reader: &mut S,
     writer: &mut K,
     notes: &mut N,
@@ -269,7 +253,7 @@ fn pass_asked<F: Files<K, N>, S: Input<K, N> + Explains, K: Sink, N: Sink, R: Si
 ) -> Passed
     requires serves { Serves asked.old.schema asked.old.options }
     requires few { S.calls reader.old < 2 ^ 64 }
-    requires head { head.now ≡ head_of (job_of asked.old.schema asked.old.options) names.now }
+    requires head { asked.old.head.items ≡ head_of (job_of asked.old.schema asked.old.options) names.now }
     requires leave { HasLeave S.Input (all_ends S.Input K.Sink N.Sink R.Sink reader.old writer.old notes.old rejects.old)
         (IsPromptAmongHeaded (folder_of F.Files F.Opened.Input F.Opened.Explains files.now) (job_of asked.old.schema asked.old.options) names.now) }
     requires files { MayReadHeaded (folder_of F.Files F.Opened.Input F.Opened.Explains files.now) (job_of asked.old.schema asked.old.options) names.now
@@ -281,7 +265,7 @@ fn pass_asked<F: Files<K, N>, S: Input<K, N> + Explains, K: Sink, N: Sink, R: Si
     ensures places { length result.course.tally.reasons ≡ reason_count }
     ensures turns { S.calls reader.new ≤ S.calls reader.old + MOST_TURNS }
 {
-    if let Err(fault) = write_head(writer, head) {
+    if let Err(fault) = write_head(writer, asked.head.as_slice()) {
         return Passed::none(fault);
     }
     pass_files(

@@ -3,11 +3,9 @@
 ghost use Rattle.std.specs.Prelude.{IfErr, IfOk, Some, true, false, ◌≡◌, ◌+◌, ◌<◌, ◌≤◌, ◌^◌, ℕ, string_len};
 ghost use Rattle.fb_run.specs.{Ends.Reader, Ends.Writer, Ends.beside, Ends.nowhere, Ends.writer_of, Leave.HasLeave, Leave.ends_of};
 ghost use Rattle.fbcheck_serve.specs.{Inputs.folder_of, Inputs.seen_of, Keeping.maker_of};
-ghost use Rattle.fbcheck_serve.specs.Checking.{IsPromptOverAsked, MayReadAsked};
 ghost use Rattle.fbcheck_serve.specs.Lists.{AreNamed};
-ghost use Rattle.fbcheck_serve.specs.Serving.{IsAlone, IsNameless, ComesAsAsked, ComesTo, EndsFiles, EndsRun, EndsSo};
+ghost use Rattle.fbcheck_serve.specs.Serving.{IsAlone, IsNameless, ComesTo, EndsFiles, EndsRun, EndsSo};
 ghost use Rattle.fbcheck_serve.specs.Serving.{IsPromptAsGiven, IsServed, MayReadAsGiven, Rests, TellsAsGiven, Unserved, summed, words_of};
-ghost use Rattle.fbcheck_words.specs.Ranges.{AreInRange};
 
 use crate::asked::{by, form, manner};
 use crate::check::{Kept, Unbegun, check_files, check_keeping};
@@ -87,8 +85,8 @@ fn come_to<F: Files<K, N> + Makes, S: Input<K, N> + Explains, K: Sink, N: Sink>(
     let words = match words {
         Ok(words) => words,
         Err(fault) => {
-            let hint = words_hint(alloc, &fault);
-            return Err(EarlyEnd::words(fault, hint));
+            let hint = words_hint(alloc, &fault)?;
+            return Err(EarlyEnd::Words(fault, hint));
         }
     };
     let settings = match settings(alloc, words.as_slice()) {
@@ -96,57 +94,30 @@ fn come_to<F: Files<K, N> + Makes, S: Input<K, N> + Explains, K: Sink, N: Sink>(
         Err(fault) => return without_settings(alloc, fault, writer),
     };
     *told = form(&settings);
-    match read_schema(files, &settings.schema) {
-        Ok(file) => {
-            let file = file.as_deref();
-            check_by(alloc, files, file, &settings, reader, writer, notes, sums)
-        }
+    let file = match read_schema(files, &settings.schema) {
+        Ok(file) => file,
         Err(fault) => {
-            let hint = file_hint(alloc, fault, &settings.schema);
-            Err(EarlyEnd::file(fault, hint))
+            let hint = file_hint(alloc, fault, &settings.schema)?;
+            return Err(EarlyEnd::File(fault, hint));
         }
+    };
+    let bytes = file.as_deref();
+    if is_alone(&settings) {
+        let ran = check_keeping(alloc, files, bytes, &settings, reader, writer, notes);
+        return run_ending(&settings, ran, sums);
     }
-}
-
-/// The same by what the words ask for, and by the bytes of the schema file that they name.
-fn check_by<F: Files<K, N> + Makes, S: Input<K, N> + Explains, K: Sink, N: Sink>(
-    alloc: Global,
-    files: &F,
-    file: Option<&[u8]>,
-    settings: &Settings,
-    reader: &mut S,
-    writer: &mut K,
-    notes: &mut N,
-    sums: &mut Option<Sums>,
-) -> Result<Ending, EarlyEnd>
-    requires ranges { AreInRange settings.now }
-    requires few { S.calls reader.old < 2 ^ 64 }
-    requires leave { HasLeave S.Input (ends_of S.Input K.Sink N.Sink reader.old writer.old notes.old)
-        (IsPromptOverAsked (folder_of F.Files F.Opened.Input F.Opened.Explains files.now) file settings.now) }
-    requires files { MayReadAsked (folder_of F.Files F.Opened.Input F.Opened.Explains files.now) file settings.now (ends_of S.Input K.Sink N.Sink reader.old writer.old notes.old) }
-
-    ensures { ComesAsAsked (maker_of F.Makes F.Made.Sink files.now) (folder_of F.Files F.Opened.Input F.Opened.Explains files.now) file.entry settings.now
-        (seen_of S.Input S.Explains K.Sink N.Sink reader.old writer.old notes.old)
-        (seen_of S.Input S.Explains K.Sink N.Sink reader.new writer.new notes.new) sums.new result
-        × Rests (ends_of S.Input K.Sink N.Sink reader.old writer.old notes.old) (ends_of S.Input K.Sink N.Sink reader.new writer.new notes.new) sums.new result }
-{
-    *sums = None;
-    if is_alone(settings) {
-        let ran = check_keeping(alloc, files, file, settings, reader, writer, notes);
-        return run_ending(settings, ran, sums);
-    }
-    let names = names_of(alloc, files, settings)?;
+    let names = names_of(alloc, files, &settings)?;
     let passed = check_files(
         alloc,
         files,
-        file,
-        settings,
+        bytes,
+        &settings,
         names.as_slice(),
         reader,
         writer,
         notes,
     );
-    files_ending(settings, passed, sums)
+    files_ending(&settings, passed, sums)
 }
 
 /// Whether the settings name no files, and no list of names: so standard input is all.
@@ -176,8 +147,8 @@ fn names_of<F: Files<K, N>, K: Sink, N: Sink>(
     match read_list(files, list.as_str()) {
         Ok(bytes) => Ok(listed_names(alloc, bytes.as_slice())?),
         Err(fault) => {
-            let hint = file_hint(alloc, fault, &settings.names_file);
-            Err(EarlyEnd::list(fault, hint))
+            let hint = file_hint(alloc, fault, &settings.names_file)?;
+            Err(EarlyEnd::List(fault, hint))
         }
     }
 }

@@ -5,7 +5,7 @@ ghost use Rattle.fb_rules.specs.Reasons.{reason_count};
 ghost use Rattle.fb_run.specs.Ends.{writer_of};
 ghost use Rattle.fbcheck_serve.specs.Inputs.{IsNoted};
 ghost use Rattle.fbcheck_serve.specs.Serving.{Complains, IsBehindEnding, IsBehindStop, IsHintBehind, IsStopTold, IsEndLine, SumsUp};
-ghost use Rattle.fbcheck_serve.specs.Serving.{exit_status, hinted_stop, is_quiet, is_unwritten, stop_status, stop_text, unbegun_stop};
+ghost use Rattle.fbcheck_serve.specs.Serving.{exit_status, is_quiet, is_unwritten, stop_status, stop_text, unbegun_stop};
 ghost use Rattle.fbcheck_texts.specs.Hints.{IsHint};
 ghost use Rattle.fbcheck_words.specs.declared.choices.SettingsFault.TheVariants as refusal;
 ghost use Rattle.fbcheck_serve.specs.declared.stop.EarlyEnd.TheVariants as stop;
@@ -150,36 +150,6 @@ impl From<Unbegun> for EarlyEnd {
 }
 
 impl EarlyEnd {
-    /// That the words can't be read, with this behind it, or want of memory where there was none for that.
-    pub fn words(fault: WordsFault, hint: Result<Hint, AllocError>) -> EarlyEnd
-        ensures { result ≡ hinted_stop (stop.Words fault) hint }
-    {
-        match hint {
-            Ok(hint) => EarlyEnd::Words(fault, hint),
-            Err(_) => EarlyEnd::Settings(SettingsFault::OutOfMemory),
-        }
-    }
-
-    /// That the schema file can't be read.
-    pub fn file(fault: FileFault, hint: Result<Hint, AllocError>) -> EarlyEnd
-        ensures { result ≡ hinted_stop (stop.File fault) hint }
-    {
-        match hint {
-            Ok(hint) => EarlyEnd::File(fault, hint),
-            Err(_) => EarlyEnd::Settings(SettingsFault::OutOfMemory),
-        }
-    }
-
-    /// That the list of names can't be read.
-    pub fn list(fault: FileFault, hint: Result<Hint, AllocError>) -> EarlyEnd
-        ensures { result ≡ hinted_stop (stop.List fault) hint }
-    {
-        match hint {
-            Ok(hint) => EarlyEnd::List(fault, hint),
-            Err(_) => EarlyEnd::Settings(SettingsFault::OutOfMemory),
-        }
-    }
-
     /// The exit status: 2 where the words, the schema file, the list of names, the root, the path or the schema's own identifier are
     /// wrong, and 3 after any other fault.
     fn status(&self) -> u8

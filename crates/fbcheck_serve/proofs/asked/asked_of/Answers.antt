@@ -1,6 +1,6 @@
 use Rattle.std.proofs.Common.{IfErr, List, Option, Result, ap, ℕ, rules, subst, sym, ◌∙◌}
 use Rattle.fbcheck_serve.specs.declared.asked.Asked.{Asked}
-use Rattle.fbcheck_texts.specs.declared.{fault.AskFault.TheVariants.NoRoot, hint.Unasked.Unasked}
+use Rattle.fbcheck_texts.specs.declared.{fault.AskFault.AskFault, fault.AskFault.TheVariants.NoRoot, hint.Unasked.Unasked}
 use Rattle.fbcheck_serve.specs.{Asked.IsFound, Asked.LacksIdent, Asked.options_of, Inputs.label_of, Inputs.with_label, Checking.LacksJob, Checking.own_of}
 use Rattle.fb_run.specs.Job.{Serves, job_of}
 use Rattle.fb_run.proofs.RunLemmas.{err_exit}
@@ -91,3 +91,11 @@ returns-clause-serves c =
       some_bad = c.requires.some_bad;
       planned = planned c.args.schema_bytes c.in-Ok.loaded.schema c.args.settings.now c.in_ok-plan.plan c.in_ok-plan.ensures.plan;
     })
+
+pub returns-clause-head : goal.returns-clause-head
+returns-clause-head c = c.in_ok-head.ensures.head c.in-Ok.loaded.schema
+
+pub returns-in_err-head-clause-none : goal.returns-in_err-head-clause-none
+returns-in_err-head-clause-none c =
+    err_exit c.from_residual-in_err-head.result _ (λ (r : Result Asked Unasked). IfErr r (λ u. LacksJob c.args.schema_bytes c.args.settings.now u.fault)) c.from_residual-in_err-head.ensures.1
+    (subst (λ (f : AskFault). LacksJob c.args.schema_bytes c.args.settings.now f) (sym c.in_err-head.ensures.none) tt)

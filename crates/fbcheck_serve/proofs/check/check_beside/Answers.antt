@@ -1,8 +1,6 @@
-use Rattle.std.proofs.Common.{◌∙◌, subst, sym}
 use Rattle.fb_run.specs.{Ends.nowhere, Job.job_of, Leave.ends_of}
 use Rattle.fb_run.proofs.RunLemmas.{err_exit}
-use Rattle.fbcheck_texts.specs.declared.fault.AskFault.{AskFault}
-use Rattle.fbcheck_serve.specs.{Checking.IsCheckedBeside, Checking.LacksJob}
+use Rattle.fbcheck_serve.specs.Checking.{IsCheckedBeside}
 use Rattle.fbcheck_serve.proofs.AskedLemmas.{idle}
 use Rattle.fbcheck_serve.proofs.check.check_beside.Goals as goal
 
@@ -12,9 +10,6 @@ returns-clause-run g c = (job_of c.in_ok-asked.asked.schema c.in_ok-asked.asked.
 pub returns-clause-end : goal.returns-clause-end
 returns-clause-end g c = c.run_asked.ensures.end
 
-pub run_asked-requires-clause-head : goal.run_asked-requires-clause-head
-run_asked-requires-clause-head g c = c.as_slice.ensures.value ∙ c.in_ok-head.ensures.head c.in_ok-asked.asked.schema
-
 pub run_asked-requires-clause-leave : goal.run_asked-requires-clause-leave
 run_asked-requires-clause-leave g c now prompt unended =
     c.requires.leave now (job_of c.in_ok-asked.asked.schema c.in_ok-asked.asked.options, c.in_ok-asked.ensures.job, nowhere, now.outs.rejects, prompt) unended
@@ -23,9 +18,3 @@ pub returns-in_err-asked-clause-run : goal.returns-in_err-asked-clause-run
 returns-in_err-asked-clause-run g c =
     let ends = ends_of g.S.Input g.K.Sink g.N.Sink c.args.reader.now c.args.writer.now c.args.notes.now in
     err_exit c.from_residual.result _ (IsCheckedBeside c.args.schema_bytes c.args.settings.now ends ends) c.from_residual.ensures.1 (c.in_err-asked.ensures.none, idle ends)
-
-pub returns-in_err-head-clause-run : goal.returns-in_err-head-clause-run
-returns-in_err-head-clause-run g c =
-    let ends = ends_of g.S.Input g.K.Sink g.N.Sink c.args.reader.now c.args.writer.now c.args.notes.now in
-    let lacks = subst (λ (f : AskFault). LacksJob c.args.schema_bytes c.args.settings.now f) (sym c.in_err-head.ensures.none) tt in
-    err_exit c.from_residual-in_err-head.result _ (IsCheckedBeside c.args.schema_bytes c.args.settings.now ends ends) c.from_residual-in_err-head.ensures.1 (lacks, idle ends)

@@ -1,9 +1,8 @@
-use Rattle.std.proofs.Common.{◌≡◌, ◌∙◌, None, Some, ap, refl, subst, sym}
+use Rattle.std.proofs.Common.{◌≡◌, ◌∙◌, None, Some, ap, refl, sym}
 use Rattle.std.specs.Prelude.{option_map, string_bytes}
 use Rattle.fb_run.specs.{Ends.nowhere, Ends.writer_of, Job.job_of}
 use Rattle.fb_run.proofs.RunLemmas.{err_exit}
-use Rattle.fbcheck_texts.specs.declared.fault.AskFault.{AskFault}
-use Rattle.fbcheck_serve.specs.{Checking.LacksJob, Keeping.IsServedKeeping, Keeping.maker_of}
+use Rattle.fbcheck_serve.specs.Keeping.{IsServedKeeping, maker_of}
 use Rattle.fbcheck_serve.proofs.{AskedLemmas.idle, KeepingLemmas.keeps_none, KeepingLemmas.keeps_some}
 use Rattle.fbcheck_serve.specs.Inputs.{folder_of, seen_of}
 use Rattle.fbcheck_serve.proofs.check.check_files.Goals as goal
@@ -13,13 +12,6 @@ returns-in_err-asked-clause-served g c =
     let seen = seen_of g.S.Input g.S.Explains g.K.Sink g.N.Sink c.args.reader.now c.args.writer.now c.args.notes.now in
     err_exit c.from_residual.result _ (IsServedKeeping (maker_of g.F.Makes g.F.Made.Sink c.args.files.now) (folder_of g.F.Files g.F.Opened.Input g.F.Opened.Explains c.args.files.now) c.args.schema_bytes c.args.settings.now c.args.names.now seen seen)
     c.from_residual.ensures.1 (c.in_err-asked.ensures.none, idle seen.ends)
-
-pub returns-in_err-head-clause-served : goal.returns-in_err-head-clause-served
-returns-in_err-head-clause-served g c =
-    let seen = seen_of g.S.Input g.S.Explains g.K.Sink g.N.Sink c.args.reader.now c.args.writer.now c.args.notes.now in
-    let lacks = subst (λ (f : AskFault). LacksJob c.args.schema_bytes c.args.settings.now f) (sym c.in_err-head.ensures.none) tt in
-    err_exit c.from_residual-in_err-head.result _ (IsServedKeeping (maker_of g.F.Makes g.F.Made.Sink c.args.files.now) (folder_of g.F.Files g.F.Opened.Input g.F.Opened.Explains c.args.files.now) c.args.schema_bytes c.args.settings.now c.args.names.now seen seen)
-    c.from_residual-in_err-head.ensures.1 (lacks, idle seen.ends)
 
 pub returns-in-Err-clause-served : goal.returns-in-Err-clause-served
 returns-in-Err-clause-served g c =
@@ -38,12 +30,6 @@ returns-clause-served g c =
     let job = job_of c.in_ok-asked.asked.schema c.in_ok-asked.asked.options in
     keeps_some (maker_of g.F.Makes g.F.Made.Sink c.args.files.now) c.args.settings.now _ c.as_str.result.now c.in-Ok.file c.pass_asked-what-in-Some.new.rejects some c.in-Ok.ensures.made
     (job, c.in_ok-asked.ensures.job, c.pass_asked-what-in-Some.ensures.served)
-
-pub pass_asked-what-requires-clause-head : goal.pass_asked-what-requires-clause-head
-pass_asked-what-requires-clause-head g c = c.as_slice-head.ensures.value ∙ c.in_ok-head.ensures.head c.in_ok-asked.asked.schema
-
-pub pass_asked-what-requires-in-Some-clause-head : goal.pass_asked-what-requires-in-Some-clause-head
-pass_asked-what-requires-in-Some-clause-head g c = c.as_slice-head.ensures.value ∙ c.in_ok-head.ensures.head c.in_ok-asked.asked.schema
 
 pub pass_asked-what-requires-clause-leave : goal.pass_asked-what-requires-clause-leave
 pass_asked-what-requires-clause-leave g c now prompt unended =

@@ -1,9 +1,8 @@
-use Rattle.std.proofs.Common.{◌≡◌, ◌∙◌, None, Some, ap, refl, subst, sym}
+use Rattle.std.proofs.Common.{◌≡◌, ◌∙◌, None, Some, ap, refl, sym}
 use Rattle.std.specs.Prelude.{option_map, string_bytes}
 use Rattle.fb_run.specs.{Ends.nowhere, Ends.writer_of, Job.job_of, Leave.ends_of}
 use Rattle.fb_run.proofs.RunLemmas.{err_exit}
-use Rattle.fbcheck_texts.specs.declared.fault.AskFault.{AskFault}
-use Rattle.fbcheck_serve.specs.{Checking.LacksJob, Keeping.IsCheckedKeeping, Keeping.maker_of}
+use Rattle.fbcheck_serve.specs.Keeping.{IsCheckedKeeping, maker_of}
 use Rattle.fbcheck_serve.proofs.{AskedLemmas.idle, KeepingLemmas.keeps_none, KeepingLemmas.keeps_some}
 use Rattle.fbcheck_serve.proofs.check.check_keeping.Goals as goal
 
@@ -11,12 +10,6 @@ pub returns-in_err-asked-clause-run : goal.returns-in_err-asked-clause-run
 returns-in_err-asked-clause-run g c =
     let ends = ends_of g.S.Input g.K.Sink g.N.Sink c.args.reader.now c.args.writer.now c.args.notes.now in
     err_exit c.from_residual.result _ (IsCheckedKeeping (maker_of g.F.Makes g.F.Made.Sink c.args.files.now) c.args.schema_bytes c.args.settings.now ends ends) c.from_residual.ensures.1 (c.in_err-asked.ensures.none, idle ends)
-
-pub returns-in_err-head-clause-run : goal.returns-in_err-head-clause-run
-returns-in_err-head-clause-run g c =
-    let ends = ends_of g.S.Input g.K.Sink g.N.Sink c.args.reader.now c.args.writer.now c.args.notes.now in
-    let lacks = subst (λ (f : AskFault). LacksJob c.args.schema_bytes c.args.settings.now f) (sym c.in_err-head.ensures.none) tt in
-    err_exit c.from_residual-in_err-head.result _ (IsCheckedKeeping (maker_of g.F.Makes g.F.Made.Sink c.args.files.now) c.args.schema_bytes c.args.settings.now ends ends) c.from_residual-in_err-head.ensures.1 (lacks, idle ends)
 
 pub returns-in-Err-clause-run : goal.returns-in-Err-clause-run
 returns-in-Err-clause-run g c =
@@ -36,12 +29,6 @@ returns-clause-run g c =
     let job = job_of c.in_ok-asked.asked.schema c.in_ok-asked.asked.options in
     keeps_some (maker_of g.F.Makes g.F.Made.Sink c.args.files.now) c.args.settings.now _ c.as_str.result.now c.in-Ok.file c.run_asked-what-in-Some.new.rejects some c.in-Ok.ensures.made
     ((job, c.in_ok-asked.ensures.job, c.run_asked-what-in-Some.ensures.run), c.run_asked-what-in-Some.ensures.end)
-
-pub run_asked-what-requires-clause-head : goal.run_asked-what-requires-clause-head
-run_asked-what-requires-clause-head g c = c.as_slice-head.ensures.value ∙ c.in_ok-head.ensures.head c.in_ok-asked.asked.schema
-
-pub run_asked-what-requires-in-Some-clause-head : goal.run_asked-what-requires-in-Some-clause-head
-run_asked-what-requires-in-Some-clause-head g c = c.as_slice-head.ensures.value ∙ c.in_ok-head.ensures.head c.in_ok-asked.asked.schema
 
 pub run_asked-what-requires-clause-leave : goal.run_asked-what-requires-clause-leave
 run_asked-what-requires-clause-leave g c now prompt unended =

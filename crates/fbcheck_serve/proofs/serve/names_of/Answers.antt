@@ -5,5 +5,5 @@ use Rattle.fbcheck_serve.proofs.serve.names_of.Goals as goal
 
 pub returns-in-Err-clause-none : goal.returns-in-Err-clause-none
 returns-in-Err-clause-none g c =
-    listless (g.F.Files.gives c.args.files.now) c.args.settings.now c.as_str.result.now c.in-Err.fault c.file_hint-hint.result c.list.result
-    (ap (λ o. option_map string_bytes o) c.in-Some.is ∙ ap (λ t. Some t) (sym c.as_str.ensures.value)) c.in-Err.ensures.fault c.list.ensures
+    listless (g.F.Files.gives c.args.files.now) c.args.settings.now c.as_str.result.now c.in-Err.fault _
+    (ap (λ o. option_map string_bytes o) c.in-Some.is ∙ ap (λ t. Some t) (sym c.as_str.ensures.value)) c.in-Err.ensures.fault
