@@ -17,7 +17,7 @@ use crate::spot::Spot;
 use crate::tally::Tally;
 use crate::value_text::put_words;
 use crate::values::put_values;
-use crate::writing::{MOST_WAITING, Pending};
+use crate::writing::{MOST_WAITING, Pending, hold};
 use fb_bytes::Sink;
 use fb_verify::{Fault, Report};
 use std::alloc::{AllocError, Allocator};
@@ -216,78 +216,40 @@ impl<A: Allocator> Output<A> {
         ensures counted { self.new.counter ≡ self.old.counter }
     {
         match verdict {
-            Ok(found) => match checker.mode() {
-                Mode::Lines => self.put_line(checker, begin, spot, verdict, writer),
-                Mode::BadLines => Ok(()),
-                Mode::Filter => {
-                    self.out.put(writer, message);
-                    Ok(())
+            Ok(found) => {
+                let answers = found.answers.as_slice();
+                match checker.mode() {
+                    Mode::Lines => {
+                        self.make_front(checker, begin, spot, verdict)?;
+                        self.out.put(writer, self.made.as_slice());
+                        let form = checker.form();
+                        put_values(&mut self.out, writer, form, checker.paths(), answers);
+                        Ok(())
+                    }
+                    Mode::BadLines => Ok(()),
+                    Mode::Filter => {
+                        self.out.put(writer, message);
+                        Ok(())
+                    }
+                    Mode::Csv => {
+                        put_row(&mut self.out, writer, checker.label(), answers);
+                        Ok(())
+                    }
                 }
-                Mode::Csv => {
-                    let answers = found.answers.as_slice();
-                    put_row(&mut self.out, writer, checker.label(), answers);
-                    Ok(())
+            }
+            Err(_) => {
+                self.make_front(checker, begin, spot, verdict)?;
+                match checker.mode() {
+                    Mode::Lines | Mode::BadLines => {
+                        self.out.put(writer, self.made.as_slice());
+                        Ok(())
+                    }
+                    Mode::Filter | Mode::Csv => {
+                        self.notes.bytes.extend_from_slice(self.made.as_slice())
+                    }
                 }
-            },
-            Err(_) => match checker.mode() {
-                Mode::Lines | Mode::BadLines => {
-                    self.put_line(checker, begin, spot, verdict, writer)
-                }
-                Mode::Filter | Mode::Csv => self.note_line(checker, begin, spot, verdict),
-            },
+            }
         }
-    }
-
-    /// Puts the line of this verdict on the message there for the writer. Plain lines begin so.
-    fn put_line<K: Sink>(
-        &mut self,
-        checker: &Checker<'_, '_, '_>,
-        begin: &[u8],
-        spot: &Spot,
-        verdict: &Result<Found<'_>, Wrong<'_>>,
-        writer: &mut K,
-    ) -> Result<(), AllocError>
-        requires begin { begin.now ≡ label_text checker.now.label }
-        ensures ok { OnOk result (PutsSome (IsLineIn checker.now.form checker.now spot.now (verdict_of verdict.now))
-            (queue_of K.Sink self.old.out writer.old) (queue_of K.Sink self.new.out writer.new)) }
-        ensures err { OnErr result (queue_of K.Sink self.new.out writer.new ≡ queue_of K.Sink self.old.out writer.old) }
-        ensures notes { self.new.notes ≡ self.old.notes }
-        ensures rejects { self.new.rejects ≡ self.old.rejects }
-        ensures counted { self.new.counter ≡ self.old.counter }
-    {
-        self.make_front(checker, begin, spot, verdict)?;
-        self.out.put(writer, self.made.as_slice());
-        if let Ok(found) = verdict {
-            let answers = found.answers.as_slice();
-            put_values(
-                &mut self.out,
-                writer,
-                checker.form(),
-                checker.paths(),
-                answers,
-            );
-        }
-        Ok(())
-    }
-
-    /// Adds the line of this verdict on the bad message there to what waits for the notes.
-    fn note_line(
-        &mut self,
-        checker: &Checker<'_, '_, '_>,
-        begin: &[u8],
-        spot: &Spot,
-        verdict: &Result<Found<'_>, Wrong<'_>>,
-    ) -> Result<(), AllocError>
-        requires begin { begin.now ≡ label_text checker.now.label }
-        ensures ok { OnOk result (self.new.notes.bytes.items ≡ self.old.notes.bytes.items ++ front_in checker.now.form checker.now spot.now (verdict_of verdict.now)) }
-        ensures err { OnErr result (self.new.notes.bytes.items ≡ self.old.notes.bytes.items) }
-        ensures out { self.new.out ≡ self.old.out }
-        ensures noted { self.new.notes.written ≡ self.old.notes.written }
-        ensures rejects { self.new.rejects ≡ self.old.rejects }
-        ensures counted { self.new.counter ≡ self.old.counter }
-    {
-        self.make_front(checker, begin, spot, verdict)?;
-        self.notes.bytes.extend_from_slice(self.made.as_slice())
     }
 
     /// Makes what the line of this verdict on the message there has before its values, which is all of the line of a no.
@@ -348,8 +310,8 @@ impl<A: Allocator> Output<A> {
         }
     }
 
-    /// Puts a bad message behind what waits for the rejects. One that is much by itself is written as it is, and so is one
-    /// for which memory is refused.
+    /// Puts a bad message behind what waits for the rejects. One that is much by itself is written as it is behind all that
+    /// waits, and so is one for which memory is refused.
     #[inline(never)]
     fn keep_bad<K: Sink, N: Sink, R: Sink>(
         &mut self,
@@ -367,33 +329,9 @@ impl<A: Allocator> Output<A> {
         ensures few { OnOk result (length self.new.rejects.bytes.items < 65536) }
         ensures counted { self.new.counter ≡ self.old.counter }
     {
-        if message.len() >= MOST_WAITING {
-            return self.pass_bad(message, writer, notes, rejects);
+        if let Ok(()) = hold(&mut self.rejects.bytes, message) {
+            return self.settle(writer, notes, rejects);
         }
-        match self.rejects.bytes.extend_from_slice(message) {
-            Ok(()) => self.settle(writer, notes, rejects),
-            Err(_) => self.pass_bad(message, writer, notes, rejects),
-        }
-    }
-
-    /// Writes all that waits, and then a bad message to the rejects.
-    #[inline(never)]
-    fn pass_bad<K: Sink, N: Sink, R: Sink>(
-        &mut self,
-        message: &[u8],
-        writer: &mut K,
-        notes: &mut N,
-        rejects: &mut R,
-    ) -> Result<(), RunFault>
-        requires unfailed { self.old.notes.written.failed ≡ false }
-        requires unfailed_rejects { self.old.rejects.written.failed ≡ false }
-        ensures puts { PutsTold (to_rejects message.now)
-            (queues_of K.Sink N.Sink R.Sink self.old writer.old notes.old rejects.old) (queues_of K.Sink N.Sink R.Sink self.new writer.new notes.new rejects.new) }
-        ensures so { AreSo (queues_of K.Sink N.Sink R.Sink self.new writer.new notes.new rejects.new) result }
-        ensures little { OnOk result (length self.new.notes.bytes.items < 65536) }
-        ensures few { OnOk result (length self.new.rejects.bytes.items < 65536) }
-        ensures counted { self.new.counter ≡ self.old.counter }
-    {
         self.flush(writer, notes, rejects)?;
         self.rejects.put(rejects, message);
         self.flush(writer, notes, rejects)
