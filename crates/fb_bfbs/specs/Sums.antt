@@ -35,7 +35,7 @@ names_length rows = sum_by object_names rows.objects + sum_by enum_names rows.en
 
 -- so many rows a file of n bytes pays for
 abbrev pub most_rows : ℕ → ℕ
-most_rows n = n / 4 + 2 ^ 16
+most_rows n = n / 20 + 2 ^ 14
 
 -- and so many bytes of names
 abbrev pub most_names : ℕ → ℕ

@@ -7,7 +7,7 @@ ghost use Rattle.fb_bfbs.specs.Marks.{marked, marks_in, marks_from, beside, told
 ghost use Rattle.fb_bfbs.specs.Tags.{tagged_of, fields_of, AreToldMarks, IsToldPaid, AreMarksRead};
 
 use crate::counted::has_few_rows;
-use crate::file::ROWS;
+use crate::file::{ROW_BYTES, ROWS};
 use crate::fixed::reflection;
 use crate::lists::rows_in;
 use crate::load_fault::LoadFault;
@@ -153,7 +153,7 @@ fn is_paid(place: &Place, paying: Option<u64>) -> bool
     ensures { IsToldPaid (seen place.now) paying result }
 {
     match paying {
-        Some(len) => has_few_rows(place, len / 4 + ROWS),
+        Some(len) => has_few_rows(place, len / ROW_BYTES + ROWS),
         None => true,
     }
 }
