@@ -154,7 +154,7 @@ fn walk_alone(basis: &Basis, verdict: &mut Verdict, options: &Options, buffer: &
         Ok(begun) => begun,
         Err(status) => return status,
     };
-    let found = walk(&mut metered(buffer), &begun, &mut [BLANK; 3]);
+    let found = walk(&mut metered(buffer), &begun, &mut [BLANK; 5]);
     tell_found(found, verdict)
 }
 
@@ -349,7 +349,7 @@ fn read_shallow(
         Ok(begun) => begun,
         Err(status) => return status,
     };
-    let found = verify(metered(buffer), &begun, &mut [BLANK; 3]);
+    let found = verify(metered(buffer), &begun, &mut [BLANK; 5]);
     tell_read(&found, paths, values, verdict)
 }
 
