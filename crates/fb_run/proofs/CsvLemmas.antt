@@ -48,17 +48,6 @@ row_of label values notation text is are = (text, subst (λ n. AreJoined n value
 pub name_put : (name : List ℕ) → name_field (Some name) ≡ codes "\"" ++ (flat_map (spelled Doubled) name ++ codes "\",")
 name_put name = append_assoc (codes "\"") (flat_map doubled name ++ codes "\"") (codes ",") ∙ ap (λ l. codes "\"" ++ l) (append_assoc (flat_map doubled name) (codes "\"") (codes ","))
 
--- whether a row has one field alone
-pub only_noted : (values : List Shown) → length values ≡ 1 → notation_of None values ≡ OnlyField
-only_noted [] one = absurd (omega (arith, one))
-only_noted (value ∷ []) one = refl
-only_noted (value ∷ more ∷ values) one = absurd (omega (arith, one))
-
-pub others_noted : (values : List Shown) → (length values ≡ 1 → ⊥) → notation_of None values ≡ Field
-others_noted [] other = refl
-others_noted (value ∷ []) other = absurd (other refl)
-others_noted (value ∷ more ∷ values) other = refl
-
 -- what stands for a float is the field of what has numbers and words as they are
 pub bare_real : (f : Format) (x : Float) (value : Json) (absent : List ℕ) (told : Shown) → ((digits : List ℕ) → field_of absent told (number digits) ≡ digits)
     → ((word : List ℕ) → field_of absent told (string word) ≡ word) → IsReal f x value → bare_text value ≡ field_of absent told value

@@ -18,10 +18,6 @@ front_is_message cut n front bytes message first is within fits at =
     let number : declared cut.order message ≡ declared cut.order bytes = ap (declared cut.order) at ∙ declared_take cut.order n bytes (omega arith) fits in
     record { prefixed = omega arith; whole = omega arith; within = omega arith }
 
--- fewer bytes than a prefix are a part of one
-pub front_is_part : (cut : Cut) (bytes : List ℕ) → length bytes < 4 → IsPartial cut bytes ⊎ IsOversize cut bytes
-front_is_part cut bytes few = inl (λ four. absurd (omega (arith, few, four)))
-
 -- a prefix that declares too much, or more than is there
 pub front_is_none : (cut : Cut) (n : ℕ) (front bytes : List ℕ) → front ≡ take 4 bytes → n ≡ declared cut.order front + 4
     → 4 ≤ length bytes → (n ≤ cut.limit → length bytes < n) → IsPartial cut bytes ⊎ IsOversize cut bytes

@@ -148,9 +148,6 @@ pub labelled_digits : (key bytes : List ℕ) → ((k : ℕ) → Fits w8 (get_or 
     → json_text (labelled key (digits_json bytes)) ≡ codes "{" ++ (json_text (string key) ++ ((codes ":\"" ++ encode_lower bytes) ++ codes "\"}"))
 labelled_digits key bytes h = labelled_text key (digits_json bytes) ∙ simp (string_text, digits_stay bytes h, append_assoc)
 
-pub labelled_number : (key s : List ℕ) → json_text (labelled key (number s)) ≡ codes "{" ++ (json_text (string key) ++ ((codes ":" ++ s) ++ codes "}"))
-labelled_number key s = labelled_text key (number s) ∙ simp (string_text, number_text)
-
 -- the same by what is put
 pub digits_put : (bytes : List ℕ) → ((k : ℕ) → Fits w8 (get_or bytes k 0)) → escape (encode_lower bytes) ≡ flat_map (spelled spelling.Digits) bytes
 digits_put bytes small = digits_stay bytes small ∙ sym (digits_each bytes)
@@ -285,11 +282,3 @@ no_line file spot rows fault place =
 pub six_parts : (text t1 t2 t3 t4 t5 t6 a b c d e f whole : List ℕ) → whole ≡ a ++ (b ++ (c ++ (d ++ (e ++ f))))
     → t1 ≡ text ++ a → t2 ≡ t1 ++ b → t3 ≡ t2 ++ c → t4 ≡ t3 ++ d → t5 ≡ t4 ++ e → t6 ≡ t5 ++ f → t6 ≡ text ++ whole
 six_parts text t1 t2 t3 t4 t5 t6 a b c d e f whole is p1 p2 p3 p4 p5 p6 = rw (p6, p5, p4, p3, p2, p1, is) (simp append_assoc)
-
--- and one that is put by four
-pub four_parts : (text t1 t2 t3 t4 a b c d whole : List ℕ) → whole ≡ a ++ (b ++ (c ++ d))
-    → t1 ≡ text ++ a → t2 ≡ t1 ++ b → t3 ≡ t2 ++ c → t4 ≡ t3 ++ d → t4 ≡ text ++ whole
-four_parts text t1 t2 t3 t4 a b c d whole is p1 p2 p3 p4 = rw (p4, p3, p2, p1, is) (simp append_assoc)
-
-pub three_parts : (text t1 t2 t3 a b c whole : List ℕ) → whole ≡ a ++ (b ++ c) → t1 ≡ text ++ a → t2 ≡ t1 ++ b → t3 ≡ t2 ++ c → t3 ≡ text ++ whole
-three_parts text t1 t2 t3 a b c whole is p1 p2 p3 = rw (p3, p2, p1, is) (simp append_assoc)

@@ -77,11 +77,7 @@ spelled_more f head bytes front rest n more rest' a b c at is whole first second
 )
 
 module _ {A : Type 0} (f : A → List ℕ) (xs : List A) (head : List ℕ) (a b : Queue) where
-  -- a head alone
-  pub puts_head : Puts head a b → Puts (head ++ flat_map f (take 0 xs)) a b
-  puts_head put = subst (λ l. Puts l a b) (sym (append-nil head)) put
-
-  -- the next of many behind it
+  -- the next of many behind a head
   pub puts_each : (i : ℕ) (d : A) {x : List ℕ} (c : Queue) → i < length xs → x ≡ f (get_or xs i d) → Puts (head ++ flat_map f (take i xs)) a b → Puts x b c
       → Puts (head ++ flat_map f (take (i + 1) xs)) a c
   puts_each i d {x} c inside is first second =

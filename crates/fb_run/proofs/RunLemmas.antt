@@ -315,10 +315,6 @@ module _ {job : Job} {first now : Reader} {before : Outs} {here : Carry} {skip :
           turns_are = omega (arith, some, called, sofar.calls);
         }
 
--- over a stream that is all a run is asked for
-pub prompt_from : {job : Job} {before now : Ends} → job.bare ≡ false → IsStreamPrompt job before now → IsPrompt job before now
-prompt_from {job} {before} {now} is prompt = subst (λ b. IsPromptFrom b job before now) (sym is) prompt
-
 -- without memory nothing is read or written, whatever the input is
 none_from : (from : Bool) (job : Job) (ends : Ends) → IsRunFrom from job ends ends no_tally (Err run.OutOfMemory)
 none_from true job ends =

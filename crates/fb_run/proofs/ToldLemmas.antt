@@ -97,12 +97,6 @@ module _ (job : Job) (past : Before) (message : List ℕ) (v : Verdict) (before 
   yes_added mode (Err (run.RejectFault written)) same brief is tells counted so = (adds_briefly mode same brief is tells counted, so)
   yes_added mode (Err _) same brief is tells counted so = absurd so
 
-  pub no_added : (end : Result (Unit {0}) RunFault) → IsVerdict job (buffer_in job message) v
-      → AddsOr (Tells job.mode job.rejects (IsLine job (spot_of past message) v) message v before after × (tally' ≡ tally_with message v tally)) before after tally tally' end → AddsBy job past message before after tally tally' end
-  no_added (Ok done) is (both, so) = (adds_told is both.0 both.1, so)
-  no_added (Err run.OutOfMemory) is kept = kept
-  no_added (Err _) is (both, so) = (adds_told is both.0 both.1, so)
-
 -- where something holds by then, an end that isn't want of memory has it
 pub added_so : {Added : Type 0} (before after : Queues) (tally tally' : Tally) (end : Result (Unit {0}) RunFault) → Added → AreSo after end → AddsOr Added before after tally tally' end
 added_so before after tally tally' (Ok done) added so = (added, so)

@@ -45,11 +45,6 @@ IsCaused before after left ended _ = IsUnfailed before after
 abbrev pub IsCausedOut : Outs → Outs → RunFault → Type 0
 IsCausedOut before after fault = (reads left : ℕ) (ended : Bool) → IsCaused (failed reads before) (failed reads after) left ended fault
 
--- and where it befell the writer alone
-abbrev pub IsCausedWriting : Writer → Writer → RunFault → Type 0
-IsCausedWriting before after fault =
-    (notes rejects : Writer) → IsCausedOut (record { writer = before; notes = notes; rejects = rejects }) (record { writer = after; notes = notes; rejects = rejects }) fault
-
 -- no call of the writer, the notes or the rejects failed
 abbrev pub IsUnfailedOut : Outs → Outs → Type 0
 IsUnfailedOut before after =
