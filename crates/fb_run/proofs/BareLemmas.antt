@@ -66,7 +66,7 @@ module _ (job : Job) (bytes : List ℕ) (is_input : IsBareInput job bytes) (firs
   fronts (run.WriteFault written) (cut, fine, right, is) =
       let front = (put_front adds.told.out first.writer now.out cut adds.puts.0).0 in
       let behind = (put_behind adds.told.notes first.notes now.notes fine adds.puts.1).0 in
-      let none : adds.told.notes ≡ [] = elim (alone job.mode (IsLine job (spot_of (at_first job) (checked_in job bytes)) adds.verdict) (checked_in job bytes) adds.verdict adds.told adds.is_told.text.0) [
+      let none : adds.told.notes ≡ [] = elim (alone job.terms.mode (IsLine job (spot_of (at_first job) (checked_in job bytes)) adds.verdict) (checked_in job bytes) adds.verdict adds.told adds.is_told.text.0) [
         | inl nothing ↦ absurd (omega (arith, front.within, ap length nothing))
         | inr nothing ↦ nothing
       ] in

@@ -15,7 +15,7 @@ record IsFewer (j k : Before) : Type 0 where
   bad : j.bad ≤ k.bad
 
 -- what was told of messages, as what is told of those that were passed on, wherever both begin, where no more stand before those
-again : (job : Job) (cut : Cut) (k j : Before) (messages : List (List ℕ)) (text : Texts) (tally : Tally) → IsFewer j k → job.mode ≡ Filter → All (IsMessage cut) messages → AreTold job k messages text tally
+again : (job : Job) (cut : Cut) (k j : Before) (messages : List (List ℕ)) (text : Texts) (tally : Tally) → IsFewer j k → job.terms.mode ≡ Filter → All (IsMessage cut) messages → AreTold job k messages text tally
     → (passed : List (List ℕ)) × (good : Tally) × Splits cut text.out passed [] × AreTold job j passed (to_out text.out) good × (good.yes ≡ tally.yes) × (good.no ≡ 0)
 again job cut k j [] text tally fewer filter each (e, none) = (
   [],

@@ -43,7 +43,7 @@ sofar_nothing job reader outs here skip turns skips due ready unused counted non
   bytes = [];
   read = Consumes-nil reader.left;
   skips = skips;
-  stands = subst (λ (l : List ℕ). Stands job outs l here) (sym (drop_all job.begin [] (omega arith))) (stands_first job outs here unused counted none);
+  stands = subst (λ (l : List ℕ). Stands job outs l here) (sym (drop_all job.terms.skip [] (omega arith))) (stands_first job outs here unused counted none);
   due = rw counted (record { messages = due.messages; bad = due.bad });
   ready = ready;
   unfailed = rw unused (refl, refl, refl);
@@ -55,7 +55,7 @@ sofar_nothing job reader outs here skip turns skips due ready unused counted non
 }
 
 -- where a run may read by a checker's job, it may by the job that this is
-pub prompt_by : {job same : Job} {bare : Bool} (before now : Ends) → same ≡ job → same.bare ≡ bare → IsPromptFrom bare same before now → IsPrompt job before now
+pub prompt_by : {job same : Job} {bare : Bool} (before now : Ends) → same ≡ job → same.terms.bare ≡ bare → IsPromptFrom bare same before now → IsPrompt job before now
 prompt_by {same = same} before now is bare_is prompt =
     subst (λ (j : Job). IsPrompt j before now) is (subst (λ b. IsPromptFrom b same before now) (sym bare_is) prompt)
 
@@ -318,10 +318,10 @@ module _ {job : Job} {first now : Reader} {before : Outs} {here : Carry} {skip :
 -- without memory nothing is read or written, whatever the input is
 none_from : (from : Bool) (job : Job) (ends : Ends) → IsRunFrom from job ends ends no_tally (Err run.OutOfMemory)
 none_from true job ends =
-    ([], Consumes-nil ends.reader.left, (rw (drop_all {X = ℕ} job.begin [] (omega arith)) (omega arith), ((Keeps-refl ends.outs.writer.bytes, Keeps-refl ends.outs.notes.bytes, Keeps-refl ends.outs.rejects.bytes), refl)))
+    ([], Consumes-nil ends.reader.left, (rw (drop_all {X = ℕ} job.terms.skip [] (omega arith)) (omega arith), ((Keeps-refl ends.outs.writer.bytes, Keeps-refl ends.outs.notes.bytes, Keeps-refl ends.outs.rejects.bytes), refl)))
 none_from false job ends =
     let nothing : Splits (cut_of job) (checked_in job []) [] [] =
-    subst (λ (l : List ℕ). Splits (cut_of job) l [] []) (sym (drop_all job.begin [] (omega arith))) (splits_rest (cut_of job) [] (inl (empty_partial (cut_of job)))) in
+    subst (λ (l : List ℕ). Splits (cut_of job) l [] []) (sym (drop_all job.terms.skip [] (omega arith))) (splits_rest (cut_of job) [] (inl (empty_partial (cut_of job)))) in
     record {
       bytes = [];
       text = silent;
@@ -331,7 +331,7 @@ none_from false job ends =
     }
 
 pub runs_none : (job : Job) (ends : Ends) (ran : Ran) → ran ≡ record { tally = no_tally; end = Err run.OutOfMemory } → IsRunBeside job ends ends ran.tally ran.end
-runs_none job ends ran is = subst (λ (t : Ran). IsRunBeside job ends ends t.tally t.end) (sym is) (none_from job.bare job ends)
+runs_none job ends ran is = subst (λ (t : Ran). IsRunBeside job ends ends t.tally t.end) (sym is) (none_from job.terms.bare job ends)
 
 pub ends_none : (ends : Ends) (turns : ℕ) (ran : Ran) → ran ≡ record { tally = no_tally; end = Err run.OutOfMemory } → EndsBeside ends ends turns ran.end
 ends_none ends turns ran is = subst (λ (t : Ran). EndsBeside ends ends turns t.end) (sym is) (refl, refl, refl, refl)

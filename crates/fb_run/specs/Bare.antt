@@ -8,8 +8,8 @@ use Rattle.fb_run.specs.declared.fault.RunFault.TheVariants.{WriteFault, NoteFau
 
 -- what was read of an input is its bytes that are left out and a buffer within the limit
 pub record IsBareInput (job : Job) (bytes : List ℕ) : Type 0 where
-  pub begun : job.begin ≤ length bytes
-  pub within : length (checked_in job bytes) ≤ job.limit
+  pub begun : job.terms.skip ≤ length bytes
+  pub within : length (checked_in job bytes) ≤ job.terms.max_bytes
 
 -- the whole input was read, is such, and what is told of its buffer was written
 pub record PassesBare (job : Job) (before after : Ends) (tally : Tally) : Type 0 where
@@ -38,13 +38,13 @@ Untold before after tally = Unwritten before after × (tally ≡ no_tally)
 
 -- what stands written and counted of the bytes that were read, by the fault
 abbrev pub WhyBare : Job → List ℕ → Outs → Outs → Tally → RunFault → Type 0
-WhyBare job bytes before after tally (BareTooLong most) = (most ≡ job.limit) × (job.limit < length (checked_in job bytes)) × Untold before after tally
-WhyBare job bytes before after tally (SkipPastEnd skip) = (skip ≡ job.begin) × (length bytes < skip) × Untold before after tally
+WhyBare job bytes before after tally (BareTooLong most) = (most ≡ job.terms.max_bytes) × (job.terms.max_bytes < length (checked_in job bytes)) × Untold before after tally
+WhyBare job bytes before after tally (SkipPastEnd skip) = (skip ≡ job.terms.skip) × (length bytes < skip) × Untold before after tally
 WhyBare job bytes before after tally (WriteFault written) = WritesPart job bytes before after tally (WriteFault written)
 WhyBare job bytes before after tally (NoteFault written) = WritesPart job bytes before after tally (NoteFault written)
 WhyBare job bytes before after tally (RejectFault written) = WritesPart job bytes before after tally (RejectFault written)
 WhyBare job bytes before after tally (Stream fault) = ⊥
-WhyBare job bytes before after tally fault = (length (checked_in job bytes) ≤ job.limit) × Untold before after tally
+WhyBare job bytes before after tally fault = (length (checked_in job bytes) ≤ job.terms.max_bytes) × Untold before after tally
 
 -- these bytes were read, and then came the fault
 abbrev pub FailsBare : Job → Ends → Ends → Tally → RunFault → Type 0

@@ -64,10 +64,10 @@ IsLineIn Json job spot verdict line = IsJsonLine job spot verdict line
 -- what is written of a message: the row of a good one, where rows are asked for, and else its line
 abbrev pub IsLineBy : Mode → Job → Spot → Verdict → List ℕ → Type 0
 IsLineBy Csv job spot (Ok found) row = IsRow job.label found.answers row
-IsLineBy _ job spot verdict line = IsLineIn job.form job spot verdict line
+IsLineBy _ job spot verdict line = IsLineIn job.terms.form job spot verdict line
 
 abbrev pub IsLine : Job → Spot → Verdict → List ℕ → Type 0
-IsLine job = IsLineBy job.mode job
+IsLine job = IsLineBy job.terms.mode job
 
 -- what the line of a yes has behind its counts
 abbrev pub IsRest : LineForm → List (List ℕ) → List Shown → List ℕ → Type 0
@@ -109,4 +109,4 @@ ToldBy mode rejects IsItsLine message verdict told = SaidBy mode IsItsLine messa
 -- what is told of the message behind so much, by the verdict on the buffer in it
 pub record IsTold (job : Job) (before : Before) (bytes : List ℕ) (verdict : Verdict) (told : Texts) : Type 0 where
   pub verdict_is : IsVerdict job (buffer_in job bytes) verdict
-  pub text : ToldBy job.mode job.rejects (IsLine job (spot_of before bytes) verdict) bytes verdict told
+  pub text : ToldBy job.terms.mode job.rejects (IsLine job (spot_of before bytes) verdict) bytes verdict told

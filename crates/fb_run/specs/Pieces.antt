@@ -55,7 +55,7 @@ pub record Gathers (job : Job) (first : Outs) (bytes : List ℕ) (tally : Tally)
 
 -- why a run came to rest in them
 abbrev pub Why : Job → Tally → List (List ℕ) → List ℕ → Queues → RunFault → Type 0
-Why job tally left rest queues (Stream (stream.Oversize number)) = TellsMore job tally × AreOpen queues × (left ≡ []) × IsOversize (cut_of job) rest × (number ≡ declared job.order rest)
+Why job tally left rest queues (Stream (stream.Oversize number)) = TellsMore job tally × AreOpen queues × (left ≡ []) × IsOversize (cut_of job) rest × (number ≡ declared (cut_of job).order rest)
 Why job tally left rest queues OutOfMemory = AreOpen queues
 Why job tally left rest queues fault = AreCut queues fault
 

@@ -81,7 +81,7 @@ impl<A: Allocator> Output<A> {
         if let Course::Brief = checker.course() {
             return match checker.report(room, &mut checker.metered(message)) {
                 Ok(report) => self.add_yes(
-                    checker.mode(),
+                    checker.terms().mode,
                     message,
                     &report,
                     writer,
@@ -117,7 +117,7 @@ impl<A: Allocator> Output<A> {
         if let Course::BriefStrictly = checker.course() {
             return match checker.report_strictly(room, checker.metered(message)) {
                 Ok(report) => self.add_yes(
-                    checker.mode(),
+                    checker.terms().mode,
                     message,
                     &report,
                     writer,
@@ -129,7 +129,7 @@ impl<A: Allocator> Output<A> {
         }
         let verdict = checker.verdict(room, message)?;
         let (verdict, begin) = checker.told(room, verdict);
-        let spot = self.counter.spot(checker.begin(), message);
+        let spot = self.counter.spot(checker.terms().skip, message);
         self.say(checker, begin, &spot, message, &verdict, writer)?;
         self.counter.count(message, &verdict);
         self.keep(checker.rejects(), message, &verdict, writer, notes, rejects)
@@ -181,7 +181,7 @@ impl<A: Allocator> Output<A> {
         requires few { count_of self.old.counter < 2 ^ 63 }
         requires short { length message.now < 2 ^ 31 }
         requires unfailed { AreOpen (queues_of K.Sink N.Sink R.Sink self.old writer.old notes.old rejects.old) }
-        ensures { AddsOr (Tells checker.now.mode checker.now.rejects
+        ensures { AddsOr (Tells checker.now.terms.mode checker.now.rejects
             (IsLine checker.now (spot_of (past_all checker.now self.old.counter) message.now) (brief_verdict (Err fault))) message.now (brief_verdict (Err fault))
             (queues_of K.Sink N.Sink R.Sink self.old writer.old notes.old rejects.old) (queues_of K.Sink N.Sink R.Sink self.new writer.new notes.new rejects.new)
             × (self.new.counter ≡ tally_with message.now (brief_verdict (Err fault)) self.old.counter))
@@ -189,7 +189,7 @@ impl<A: Allocator> Output<A> {
             (queues_of K.Sink N.Sink R.Sink self.new writer.new notes.new rejects.new) self.old.counter self.new.counter result }
     {
         let verdict = Err(Wrong { fault, place: None });
-        let spot = self.counter.spot(checker.begin(), message);
+        let spot = self.counter.spot(checker.terms().skip, message);
         self.say(checker, b"", &spot, message, &verdict, writer)?;
         self.counter.count(message, &verdict);
         self.keep(checker.rejects(), message, &verdict, writer, notes, rejects)
@@ -207,7 +207,7 @@ impl<A: Allocator> Output<A> {
         writer: &mut K,
     ) -> Result<(), AllocError>
         requires begin { begin.now ≡ label_text checker.now.label }
-        ensures ok { OnOk result (Says checker.now.mode (IsLine checker.now spot.now (verdict_of verdict.now)) message.now (verdict_of verdict.now)
+        ensures ok { OnOk result (Says checker.now.terms.mode (IsLine checker.now spot.now (verdict_of verdict.now)) message.now (verdict_of verdict.now)
             (queue_of K.Sink self.old.out writer.old) (queue_of K.Sink self.new.out writer.new) self.old.notes.bytes.items self.new.notes.bytes.items) }
         ensures err { OnErr result (queue_of K.Sink self.new.out writer.new ≡ queue_of K.Sink self.old.out writer.old) }
         ensures err_noted { OnErr result (self.new.notes.bytes.items ≡ self.old.notes.bytes.items) }
@@ -216,7 +216,7 @@ impl<A: Allocator> Output<A> {
         ensures counted { self.new.counter ≡ self.old.counter }
     {
         match verdict {
-            Ok(found) => match checker.mode() {
+            Ok(found) => match checker.terms().mode {
                 Mode::Lines => self.put_line(checker, begin, spot, verdict, writer),
                 Mode::BadLines => Ok(()),
                 Mode::Filter => {
@@ -229,7 +229,7 @@ impl<A: Allocator> Output<A> {
                     Ok(())
                 }
             },
-            Err(_) => match checker.mode() {
+            Err(_) => match checker.terms().mode {
                 Mode::Lines | Mode::BadLines => {
                     self.put_line(checker, begin, spot, verdict, writer)
                 }
@@ -248,7 +248,7 @@ impl<A: Allocator> Output<A> {
         writer: &mut K,
     ) -> Result<(), AllocError>
         requires begin { begin.now ≡ label_text checker.now.label }
-        ensures ok { OnOk result (PutsSome (IsLineIn checker.now.form checker.now spot.now (verdict_of verdict.now))
+        ensures ok { OnOk result (PutsSome (IsLineIn checker.now.terms.form checker.now spot.now (verdict_of verdict.now))
             (queue_of K.Sink self.old.out writer.old) (queue_of K.Sink self.new.out writer.new)) }
         ensures err { OnErr result (queue_of K.Sink self.new.out writer.new ≡ queue_of K.Sink self.old.out writer.old) }
         ensures notes { self.new.notes ≡ self.old.notes }
@@ -262,7 +262,7 @@ impl<A: Allocator> Output<A> {
             put_values(
                 &mut self.out,
                 writer,
-                checker.form(),
+                checker.terms().form,
                 checker.paths(),
                 answers,
             );
@@ -279,7 +279,7 @@ impl<A: Allocator> Output<A> {
         verdict: &Result<Found<'_>, Wrong<'_>>,
     ) -> Result<(), AllocError>
         requires begin { begin.now ≡ label_text checker.now.label }
-        ensures ok { OnOk result (self.new.notes.bytes.items ≡ self.old.notes.bytes.items ++ front_in checker.now.form checker.now spot.now (verdict_of verdict.now)) }
+        ensures ok { OnOk result (self.new.notes.bytes.items ≡ self.old.notes.bytes.items ++ front_in checker.now.terms.form checker.now spot.now (verdict_of verdict.now)) }
         ensures err { OnErr result (self.new.notes.bytes.items ≡ self.old.notes.bytes.items) }
         ensures out { self.new.out ≡ self.old.out }
         ensures noted { self.new.notes.written ≡ self.old.notes.written }
@@ -300,14 +300,14 @@ impl<A: Allocator> Output<A> {
         verdict: &Result<Found<'_>, Wrong<'_>>,
     ) -> Result<(), AllocError>
         requires begin { begin.now ≡ label_text checker.now.label }
-        ensures front { OnOk result (self.new.made.items ≡ front_in checker.now.form checker.now spot.now (verdict_of verdict.now)) }
+        ensures front { OnOk result (self.new.made.items ≡ front_in checker.now.terms.form checker.now spot.now (verdict_of verdict.now)) }
         ensures out { self.new.out ≡ self.old.out }
         ensures notes { self.new.notes ≡ self.old.notes }
         ensures rejects { self.new.rejects ≡ self.old.rejects }
         ensures counted { self.new.counter ≡ self.old.counter }
     {
         self.made.clear();
-        match checker.form() {
+        match checker.terms().form {
             LineForm::Plain => {
                 self.line.set(spot.number, verdict);
                 self.made.extend_from_slice(begin)?;
@@ -479,10 +479,9 @@ impl<A: Allocator> Output<A> {
         ensures due { HasDue checker.now (past_all checker.now self.now.counter) result }
         ensures full { result ≡ 0 → IsFull checker.now (past_all checker.now self.now.counter) }
     {
-        let messages = checker
-            .most_messages()
-            .saturating_sub(self.counter.messages());
-        let bad = checker.most_bad().saturating_sub(self.counter.bad());
+        let terms = checker.terms();
+        let messages = terms.most_messages.saturating_sub(self.counter.messages());
+        let bad = terms.most_bad.saturating_sub(self.counter.bad());
         messages.min(bad)
     }
 

@@ -10,7 +10,7 @@ use Rattle.fbcheck_serve.specs.declared.inputs.Course.{Course}
 
 -- what a job has written above all else, over the files of these names: a head where it asks for rows, and else nothing
 abbrev pub head_of : Job → List Named → List ℕ
-head_of job names = head_in job.mode (are_named job.label names) job.paths
+head_of job names = head_in job.terms.mode (are_named job.label names) job.paths
 
 -- it was written, or in a write that failed a front of it
 abbrev pub IsHeadPut : List ℕ → Writer → Writer → End → Type 0

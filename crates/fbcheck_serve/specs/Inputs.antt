@@ -266,7 +266,7 @@ pub record Passes (folder : Folder) (job : Job) (name : Named) (before after : S
   pub cause : Option ErrorKind
   pub between : Seen
   pub comes : ComesOf folder job name before.course.standard before.seen between came cause
-  pub told : IsBehind job.form job.most_bad name.bytes came cause between.ends.outs.notes after.seen.ends.outs.notes end
+  pub told : IsBehind job.terms.form job.terms.most_bad name.bytes came cause between.ends.outs.notes after.seen.ends.outs.notes end
   pub others : after.seen ≡ renoted between after.seen.ends.outs.notes
   pub course_is : after.course ≡ course_with name came before.course
 

@@ -13,7 +13,7 @@ loop-left-init g c =
       room = c.requires.room;
       sofar = sofar_nothing c.args.checker.now (reader_of g.S.Input c.args.reader.now) (all_outs g.K.Sink g.N.Sink g.R.Sink c.args.writer.now c.args.notes.now c.args.rejects.now)
           (carry_of g.K.Sink g.N.Sink g.R.Sink c.args.self.now c.args.writer.now c.args.notes.now c.args.rejects.now) _ c.args.turns
-          (record { all = c.new-skip.ensures.all ∙ c.begin.ensures.value; left = omega (arith, c.new-skip.ensures.left, c.begin.ensures.value) }) c.begin.ensures.due
+          (record { all = c.new-skip.ensures.all ∙ c.terms-skip.ensures.value; left = omega (arith, c.new-skip.ensures.left, c.terms-skip.ensures.value) }) c.terms-skip.ensures.due
           c.requires.ready unused c.requires.first.1 c.requires.first.2;
     }
 
