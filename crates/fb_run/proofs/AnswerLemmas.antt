@@ -1,7 +1,7 @@
 -- The text of values.
-use Rattle.std.proofs.Common.{◌≡◌, ℕ, ◌+◌, ◌<◌, List, [], ◌∷◌, ◌++◌, map, append-nil, append_assoc, arith, drop, length, take, get_or, refl, sym, ap, ◌∙◌}
+use Rattle.std.proofs.Common.{◌≡◌, ℕ, ◌<◌, List, [], ◌∷◌, ◌++◌, map, append-nil, append_assoc, arith, drop, length, take, get_or, refl, sym, ap, ◌∙◌}
 use Rattle.std.specs.List.{flat_map}
-use Rattle.std.proofs.lemmas.{Grind.flat_map-append, List.flat_map_more, List.take_more}
+use Rattle.std.proofs.lemmas.{Grind.flat_map-append, List.flat_map_more}
 use Rattle.fb_run.proofs.InPieces.{front-more}
 use Rattle.fb_access.specs.Denotes.{shown}
 use Rattle.fb_access.specs.declared.answer.Answer.{Answer}

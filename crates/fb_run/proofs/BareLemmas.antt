@@ -6,7 +6,7 @@ use Rattle.std.proofs.KnownBytes.{Keeps-refl}
 use Rattle.std.proofs.lemmas.List.{append-nil, nil_from_length}
 use Rattle.std.proofs.Math.Seq.{take-append_seam}
 use Rattle.fb_bytes.specs.declared.ends.Sink as sink
-use Rattle.fb_run.specs.{AllTold.TakesFront, AllTold.WritesFront, AllTold.WritesFronts, Bare.IsBareInput, Bare.WritesPart, Ends.Outs, Ends.Reader, Ends.Writer, Ends.all_outs, Ends.beside, Faults.End}
+use Rattle.fb_run.specs.{AllTold.TakesFront, AllTold.WritesFront, AllTold.WritesFronts, Bare.IsBareInput, Bare.WhyBare, Bare.WritesPart, Ends.Outs, Ends.Reader, Ends.Writer, Ends.all_outs, Ends.beside, Faults.End}
 use Rattle.fb_run.specs.{Faults.EndsBeside, Job.Job, Job.Verdict, Job.checked_in, Line.IsLine, Line.SaidBy, Pieces.AreEmpty, Run.IsBareRun, Spot.Before, Spot.at_first, Spot.past_all, Spot.spot_of}
 use Rattle.fb_run.specs.{Sums.no_tally, Texts.Texts, Texts.no_bytes, Texts.silent, Texts.spoken, Whole.ReadsWhole}
 use Rattle.fb_run.specs.Puts.{Adds, AddsBy, AreCut, AreSo, IsUnused, PutsAll, Queues, all_unused, queues_of, unused}
@@ -95,29 +95,23 @@ module _ (job : Job) {buffer : List ℕ} {begun last : Reader} (first : Outs) (t
   IsRun now end = IsBareRun job (beside begun first) (beside last (outs_in now)) tally end × EndsBeside (beside begun first) (beside last (outs_in now)) turns end
 
   -- a write failed
+  cut_why : (now : Queues) (fault : RunFault) → AreCut now fault → WritesPart job whole.bytes first (outs_in now) tally fault → WhyBare job whole.bytes first (outs_in now) tally fault
+  cut_why now (run.WriteFault written) cut written_part = written_part
+  cut_why now (run.NoteFault written) cut written_part = written_part
+  cut_why now (run.RejectFault written) cut written_part = written_part
+  cut_why now _ never written_part = absurd never
+
   cut_run : (now : Queues) (fault : RunFault) → Adds job (at_first job) (checked_in job whole.bytes) (all_unused first) now no_tally tally → AreCut now fault → IsRun now (Err fault)
-  cut_run now (run.WriteFault written) adds cut = (
-    (whole.bytes, whole.read, part job whole.bytes whole.is_input first now tally adds (run.WriteFault written) cut),
-    caused_at begun.failures last.failures (begun.calls + turns - last.calls) last.ended first (outs_in now) (run.WriteFault written) whole.unfailed (cut_caused adds.told first now adds.puts (run.WriteFault written) cut),
+  cut_run now fault adds cut = (
+    (whole.bytes, whole.read, cut_why now fault cut (part job whole.bytes whole.is_input first now tally adds fault cut)),
+    caused_at begun.failures last.failures (begun.calls + turns - last.calls) last.ended first (outs_in now) fault whole.unfailed (cut_caused adds.told first now adds.puts fault cut),
   )
-  cut_run now (run.NoteFault written) adds cut = (
-    (whole.bytes, whole.read, part job whole.bytes whole.is_input first now tally adds (run.NoteFault written) cut),
-    caused_at begun.failures last.failures (begun.calls + turns - last.calls) last.ended first (outs_in now) (run.NoteFault written) whole.unfailed (cut_caused adds.told first now adds.puts (run.NoteFault written) cut),
-  )
-  cut_run now (run.RejectFault written) adds cut = (
-    (whole.bytes, whole.read, part job whole.bytes whole.is_input first now tally adds (run.RejectFault written) cut),
-    caused_at begun.failures last.failures (begun.calls + turns - last.calls) last.ended first (outs_in now) (run.RejectFault written) whole.unfailed (cut_caused adds.told first now adds.puts (run.RejectFault written) cut),
-  )
-  cut_run now _ adds never = absurd never
 
   -- it was not told to its end
   stops : (now : Queues) (fault : RunFault) → AddsBy job (at_first job) (checked_in job whole.bytes) (all_unused first) now no_tally tally (Err fault) → IsRun now (Err fault)
   stops now run.OutOfMemory (same, counted) =
       rw same ((whole.bytes, whole.read, (whole.is_input.within, ((Keeps-refl first.writer.bytes, Keeps-refl first.notes.bytes, Keeps-refl first.rejects.bytes), counted))), (whole.unfailed, refl, refl, refl))
-  stops now (run.WriteFault written) (adds, cut) = cut_run now (run.WriteFault written) adds cut
-  stops now (run.NoteFault written) (adds, cut) = cut_run now (run.NoteFault written) adds cut
-  stops now (run.RejectFault written) (adds, cut) = cut_run now (run.RejectFault written) adds cut
-  stops now _ (adds, never) = absurd never
+  stops now fault (adds, cut) = cut_run now fault adds cut
 
   pub bare_stops : (now : Queues) (fault : RunFault) → AddsBy job (at_first job) buffer (all_unused first) now no_tally tally (Err fault) → IsRun now (Err fault)
   bare_stops now fault adds = stops now fault (subst (λ (l : List ℕ). AddsBy job (at_first job) l (all_unused first) now no_tally tally (Err fault)) whole.buffer_is adds)

@@ -1,5 +1,5 @@
 -- A text or an input that is passed on in pieces.
-use Rattle.std.proofs.Common.{◌≡◌, ℕ, ◌+◌, ◌≤◌, List, ◌++◌, length, take, drop, sym, ap, ◌∙◌, arith, append_assoc, length-append, length-take-le, take-append-drop}
+use Rattle.std.proofs.Common.{◌≡◌, ℕ, List, ◌++◌, take, drop, sym, ap, ◌∙◌, append_assoc, take-append-drop}
 
 -- n bytes of the rest are passed too
 pub front-more : (whole front rest rest' : List ℕ) (n : ℕ) → whole ≡ front ++ rest → rest' ≡ drop n rest → whole ≡ (front ++ take n rest) ++ rest'

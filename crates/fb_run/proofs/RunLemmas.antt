@@ -71,7 +71,7 @@ module _ {job : Job} {before : Outs} (bytes : List ℕ) {tally : Tally} {queues 
 -- a write failed behind a front of what is told of these bytes, or the run came to rest with all of that written
 halts_fails : (job : Job) (first reader : Reader) (before : Outs) (bytes : List ℕ) (tally : Tally) (queues : Queues) (fault : RunFault) → Consumes first.left reader.left bytes
     → Halts job before (checked_in job bytes) tally queues fault → AreSettled queues fault → FailsStream job (beside first before) (beside reader (outs_in queues)) tally fault
-halts_fails job first reader before bytes tally queues (run.WriteFault written) read (some, (cut, fine, right, is)) settled =
+halts_fails job first reader before bytes tally queues (run.WriteFault written) read (some, inl (cut, fine, right, is)) settled =
     let front = (put_front some.text.out before.writer queues.out cut some.puts.0).0 in
     let notes = (put_behind some.text.notes before.notes queues.notes fine some.puts.1).0 in
     let rejects = part_behind some.text.rejects before.rejects queues.rejects right some.puts.2 in
@@ -86,7 +86,7 @@ halts_fails job first reader before bytes tally queues (run.WriteFault written) 
       takes = record { wrote = front.wrote; noted = notes.wrote; rejected = rejects.wrote };
       rests = rests_in bytes some gone (run.WriteFault written) (λ few. omega (arith, is, long, front.written_is (omega (arith, few, long))), (more, told_as bytes some (followed gone more) whole));
     }
-halts_fails job first reader before bytes tally queues (run.NoteFault written) read (some, (cut, fine, right, none, is)) settled =
+halts_fails job first reader before bytes tally queues (run.NoteFault written) read (some, inl (cut, fine, right, none, is)) settled =
     let front = (put_front some.text.notes before.notes queues.notes cut some.puts.1).0 in
     let rejects = part_behind some.text.rejects before.rejects queues.rejects right some.puts.2 in
     let gone : Texts = record { out = some.text.out; notes = take front.taken some.text.notes; rejects = rejects.gone } in
@@ -100,7 +100,7 @@ halts_fails job first reader before bytes tally queues (run.NoteFault written) r
       takes = record { wrote = written_all some.text.out before.writer queues.out fine none some.puts.0; noted = front.wrote; rejected = rejects.wrote };
       rests = rests_in bytes some gone (run.NoteFault written) (λ few. omega (arith, is, long, front.written_is (omega (arith, few, long))), (more, refl, told_as bytes some (followed gone more) whole));
     }
-halts_fails job first reader before bytes tally queues (run.RejectFault written) read (some, (cut, fine, right, none, unnoted, is)) settled =
+halts_fails job first reader before bytes tally queues (run.RejectFault written) read (some, inl (cut, fine, right, none, unnoted, is)) settled =
     let front = (put_front some.text.rejects before.rejects queues.rejects cut (front_whole some.text.rejects (unused before.rejects) queues.rejects some.puts.2 (fine, right))).0 in
     let gone : Texts = record { out = some.text.out; notes = some.text.notes; rejects = take front.taken some.text.rejects } in
     let more = drop front.taken some.text.rejects in
@@ -118,31 +118,32 @@ halts_fails job first reader before bytes tally queues (run.RejectFault written)
       };
       rests = rests_in bytes some gone (run.RejectFault written) (λ few. omega (arith, is, long, front.written_is (omega (arith, few, long))), (more, told_as bytes some (followed gone (to_rejects more)) whole));
     }
-halts_fails job first reader before bytes tally queues run.OutOfMemory read (some, fine) empty = record {
+halts_fails job first reader before bytes tally queues run.OutOfMemory read (some, inr (fine, starved)) (inr empty) = record {
   bytes = bytes;
   text = some.text;
   read = read;
   takes = takes_all some.text before queues some.puts fine empty;
   rests = rests_in bytes some some.text run.OutOfMemory (told_as bytes some some.text refl);
 }
-halts_fails job first reader before bytes tally queues (run.Stream (stream.Oversize number)) read (some, (due, fine, none, over, is)) empty = record {
+halts_fails job first reader before bytes tally queues (run.Stream (stream.Oversize number)) read (some, inr (fine, (due, none, over, is))) (inr empty) = record {
   bytes = bytes;
   text = some.text;
   read = read;
   takes = takes_all some.text before queues some.puts fine empty;
   rests = (some.done, some.rest, rw (none, append-nil some.done) at some.splits, (due, over, is, some.told));
 }
-halts_fails job first reader before bytes tally queues _ read (some, never) settled = absurd never
+halts_fails job first reader before bytes tally queues run.OutOfMemory read halts (inl never) = absurd never
+halts_fails job first reader before bytes tally queues (run.Stream (stream.Oversize number)) read halts (inl never) = absurd never
+halts_fails job first reader before bytes tally queues _ read (some, inl never) settled = absurd never
+halts_fails job first reader before bytes tally queues _ read (some, inr (fine, never)) settled = absurd never
 
 halts_caused : (job : Job) (before : Outs) (bytes : List ℕ) (tally : Tally) (queues : Queues) (fault : RunFault) → Halts job before bytes tally queues fault → IsCausedOut before (outs_in queues) fault
-halts_caused job before bytes tally queues (run.WriteFault written) (some, cut) reads left ended = cut_caused some.text before queues some.puts (run.WriteFault written) cut reads left ended
-halts_caused job before bytes tally queues (run.NoteFault written) (some, cut) reads left ended = cut_caused some.text before queues some.puts (run.NoteFault written) cut reads left ended
-halts_caused job before bytes tally queues (run.RejectFault written) (some, cut) reads left ended = cut_caused some.text before queues some.puts (run.RejectFault written) cut reads left ended
-halts_caused job before bytes tally queues run.OutOfMemory (some, fine) reads left ended =
-    let none = none_failed some.text before queues some.puts fine in (refl, none.0, none.1, none.2)
-halts_caused job before bytes tally queues (run.Stream (stream.Oversize number)) (some, (due, fine, none, over, is)) reads left ended =
+halts_caused job before bytes tally queues fault (some, inl cut) reads left ended = cut_caused some.text before queues some.puts fault cut reads left ended
+halts_caused job before bytes tally queues run.OutOfMemory (some, inr (fine, why)) reads left ended =
     let kept = none_failed some.text before queues some.puts fine in (refl, kept.0, kept.1, kept.2)
-halts_caused job before bytes tally queues _ (some, never) reads left ended = absurd never
+halts_caused job before bytes tally queues (run.Stream (stream.Oversize number)) (some, inr (fine, why)) reads left ended =
+    let kept = none_failed some.text before queues some.puts fine in (refl, kept.0, kept.1, kept.2)
+halts_caused job before bytes tally queues _ (some, inr (fine, never)) reads left ended = absurd never
 
 -- the cause of a fault of the writer and the notes is that of the run, where no read failed
 pub caused_at : (reads reads' left : ℕ) (ended : Bool) (a b : Outs) (fault : RunFault) → reads' ≡ reads → IsCausedOut a b fault → IsCaused (failed reads a) (failed reads' b) left ended fault

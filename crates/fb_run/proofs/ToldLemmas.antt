@@ -3,7 +3,7 @@ use Rattle.std.proofs.Common.{◌≡◌, ◌≢◌, ◌⊎◌, inl, inr, ℕ, �
 use Rattle.std.specs.Prelude.{map}
 use Rattle.fb_run.specs.{AnswerText.answers_text, AnswerText.label_text, Csv.IsRow, Job.IsVerdict, Job.Job, Job.No, Job.Verdict, Job.Yes, Job.buffer_in, Job.is_brief, Json.begin_part}
 use Rattle.fb_run.specs.{Json.counts_part, Json.following, Line.IsLine, Line.IsLineBy, Line.IsLineIn, Line.IsRest, Line.SaidBy, Line.front_in, Line.rejected, Line.short_line, Line.verdict_line}
-use Rattle.fb_run.specs.{Puts.Adds, Puts.AddsBy, Puts.AddsOr, Puts.AreSo, Puts.Puts, Puts.PutsFront, Puts.PutsSome, Puts.PutsTold, Puts.Queue, Puts.Queues, Puts.Says, Puts.Tells, Spot.Before}
+use Rattle.fb_run.specs.{Puts.Adds, Puts.AddsOr, Puts.AreSo, Puts.Puts, Puts.PutsFront, Puts.PutsSome, Puts.PutsTold, Puts.Queue, Puts.Queues, Puts.Says, Puts.Tells, Spot.Before}
 use Rattle.fb_run.specs.{Spot.spot_of, Sums.tally_with, Texts.Texts, Texts.silent, Texts.spoken, Texts.to_notes, Texts.to_out, Texts.to_rejects, Wanted.Wanted}
 use Rattle.fb_run.specs.declared.{fault.RunFault.RunFault, options.LineForm.LineForm, options.Mode.Mode, options.Rejects.Rejects, spot.Spot.Spot, tally.Tally.Tally}
 use Rattle.fb_run.specs.declared.fault.RunFault.TheVariants as run
@@ -81,21 +81,13 @@ module _ (job : Job) (past : Before) (message : List ℕ) (v : Verdict) (before 
   adds_told is tells counted = record { verdict = v; told = tells.told; is_told = record { verdict_is = is; text = tells.is_told }; puts = tells.puts; tally_is = counted }
 
   -- so it has where no more is asked
-  adds_briefly : (mode : Mode) → mode ≡ job.terms.mode → IsTrue (is_brief job) → IsVerdict job (buffer_in job message) v → Tells mode job.rejects (λ line. line ≡ verdict_line (1 + past.messages) v) message v before after
+  pub adds_briefly : (mode : Mode) → mode ≡ job.terms.mode → IsTrue (is_brief job) → IsVerdict job (buffer_in job message) v → Tells mode job.rejects (λ line. line ≡ verdict_line (1 + past.messages) v) message v before after
       → tally' ≡ tally_with message v tally → Adds job past message before after tally tally'
   adds_briefly mode same brief is tells counted =
       let said = said_weaker (brief_line job (spot_of past message) v brief) message mode v (spoken tells.told) tells.is_told.0 in
       adds_told is
       (record { told = tells.told; is_told = (subst (λ m. SaidBy m (IsLine job (spot_of past message) v) message v (spoken tells.told)) same said, tells.is_told.1); puts = tells.puts })
       counted
-
-  pub yes_added : (mode : Mode) (end : Result (Unit {0}) RunFault) → mode ≡ job.terms.mode → IsTrue (is_brief job) → IsVerdict job (buffer_in job message) v
-      → Tells mode job.rejects (λ line. line ≡ verdict_line (1 + past.messages) v) message v before after → tally' ≡ tally_with message v tally → AreSo after end → AddsBy job past message before after tally tally' end
-  yes_added mode (Ok done) same brief is tells counted so = (adds_briefly mode same brief is tells counted, so)
-  yes_added mode (Err (run.WriteFault written)) same brief is tells counted so = (adds_briefly mode same brief is tells counted, so)
-  yes_added mode (Err (run.NoteFault written)) same brief is tells counted so = (adds_briefly mode same brief is tells counted, so)
-  yes_added mode (Err (run.RejectFault written)) same brief is tells counted so = (adds_briefly mode same brief is tells counted, so)
-  yes_added mode (Err _) same brief is tells counted so = absurd so
 
 -- where something holds by then, an end that isn't want of memory has it
 pub added_so : {Added : Type 0} (before after : Queues) (tally tally' : Tally) (end : Result (Unit {0}) RunFault) → Added → AreSo after end → AddsOr Added before after tally tally' end

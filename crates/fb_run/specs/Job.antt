@@ -5,7 +5,7 @@ use Rattle.fb_bytes.specs.declared.{cut.Cut.Cut, cut.Endian.Endian, cut.Endian.T
 use Rattle.fb_schema.specs.Rows.{Rows, is_table}
 use Rattle.fb_rules.specs.{Bounds.Bounds, Bounds.limits_of_length, Question.Question, Question.question}
 use Rattle.fb_strict.specs.{Planned.Planned, Planned.IsPlan, AsAsked.ReportsBy, AsAsked.StopsBy, AsAsked.StopsAlongBy}
-use Rattle.fb_rules.specs.declared.{link.Link.Link, checks.Checks.Checks, fault.Fault.Fault, fault.Report.Report, start.Ident.Ident}
+use Rattle.fb_rules.specs.declared.{link.Link.Link, fault.Fault.Fault, fault.Report.Report, start.Ident.Ident}
 use Rattle.fb_rules.specs.declared.{start.Start.Start, start.Start.TheVariants.Bare, start.Start.TheVariants.Prefixed}
 use Rattle.fb_schema.specs.declared.kinds.Kind.TheVariants.{Table}
 use Rattle.fb_access.specs.{Denotes.Denotes, Denotes.Shown, Denotes.shown, Fitting.StepsFit, Location.location_text, Location.place_text}

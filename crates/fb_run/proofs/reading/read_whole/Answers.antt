@@ -7,11 +7,13 @@ use Rattle.fb_run.proofs.RunLemmas.{err_is}
 use Rattle.fb_run.proofs.reading.read_whole.Goals as goal
 
 pub loop-left-init : goal.loop-left-init
-loop-left-init g c = record {
-  room = c.requires.room;
-  gathered = gathered_nothing c.args.checker.now (reader_of g.S.Input c.args.source.now) _ _ c.args.turns (search rules)
-      (record { all = c.new-skip.ensures.all ∙ c.terms-skip.ensures.value; left = omega (arith, c.new-skip.ensures.left, c.terms-skip.ensures.value) });
-}
+loop-left-init g c =
+    let begin : c.terms-2.result.now.skip ≡ c.args.checker.now.terms.skip = ap (λ (t : Terms). t.skip) c.terms-2.ensures.value in
+    record {
+      room = c.requires.room;
+      gathered = gathered_nothing c.args.checker.now (reader_of g.S.Input c.args.source.now) _ _ c.args.turns (search rules)
+          (record { all = c.new-skip.ensures.all ∙ begin; left = omega (arith, c.new-skip.ensures.left, begin) });
+    }
 
 pub pull_piece-requires-clause-leave : goal.pull_piece-requires-clause-leave
 pull_piece-requires-clause-leave g c =
@@ -24,7 +26,7 @@ returns-then-more-limit-clause-reads g c =
     let read = c.in-Ok.ensures in
     let behind = rw c.as_slice.ensures.value at c.behind-more.ensures.rest in
     let over : c.args.checker.now.terms.max_bytes < length c.loop-left.whole.items + length c.behind-more.result.now = search rules in
-    long_fails c.loop-left.invariant.gathered _ _ _ (reader_of g.S.Input c.pull_piece.new.source) read.ok (omega (arith, read.failure)) behind _ (ap (λ (t : Terms). t.max_bytes) c.terms-limit.ensures.value) over
+    long_fails c.loop-left.invariant.gathered _ _ _ (reader_of g.S.Input c.pull_piece.new.source) read.ok (omega (arith, read.failure)) behind _ (ap (λ (t : Terms). t.max_bytes) c.terms.ensures.value) over
 
 pub returns-in_default-clause-reads : goal.returns-in_default-clause-reads
 returns-in_default-clause-reads g c =
