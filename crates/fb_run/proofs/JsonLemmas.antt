@@ -277,8 +277,3 @@ pub no_line : (file : Option (List ℕ)) (spot : Spot) (rows : Rows) (fault : Fa
 unfolding escape_byte
 no_line file spot rows fault place =
     ap (λ l. l ++ codes "\n") (begun file spot (no_members_of rows fault place)) ∙ simp (next_member, fixed_texts.2, number_text, append_assoc)
-
--- a line that is put by its six parts, one behind the other
-pub six_parts : (text t1 t2 t3 t4 t5 t6 a b c d e f whole : List ℕ) → whole ≡ a ++ (b ++ (c ++ (d ++ (e ++ f))))
-    → t1 ≡ text ++ a → t2 ≡ t1 ++ b → t3 ≡ t2 ++ c → t4 ≡ t3 ++ d → t5 ≡ t4 ++ e → t6 ≡ t5 ++ f → t6 ≡ text ++ whole
-six_parts text t1 t2 t3 t4 t5 t6 a b c d e f whole is p1 p2 p3 p4 p5 p6 = rw (p6, p5, p4, p3, p2, p1, is) (simp append_assoc)

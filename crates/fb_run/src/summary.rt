@@ -23,6 +23,7 @@ pub fn summary(form: LineForm, tally: &Tally) -> Line
 }
 
 /// Puts how many messages there are, and how many had a yes and a no, in front.
+#[tactic(auto, using(std::proofs::lemmas::Grind::common_steps))]
 fn put_verdicts(line: &mut Line, form: LineForm, tally: &Tally)
     requires { length line.old ≤ 150 + 27 * reason_count }
     ensures { line.new ≡ verdicts_part form tally.now line.old }
