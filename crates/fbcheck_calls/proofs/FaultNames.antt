@@ -9,9 +9,8 @@ use Rattle.fb_bfbs.specs.declared.load_fault.LoadFault.TheVariants as load
 use Rattle.fb_bytes.specs.declared.stream_fault.StreamFault.TheVariants as stream
 use Rattle.fb_schema.specs.declared.fault.Code.{Code}
 use Rattle.fb_schema.specs.declared.fault.Code.TheVariants.{NoSuchObject, NoSuchEnum, Unsupported, BadSlot, NoTypeField, BadStruct, BadMember, NameTwice, OutOfMemory as NoMemory}
-use Rattle.fb_rules.specs.Reasons.{reason_number, reason_text}
-use Rattle.fb_rules.specs.declared.fault.Reason.{Reason}
-use Rattle.fb_rules.specs.declared.fault.Reason.TheVariants.{WrongPrefix, OutOfBuffer, Misaligned, ZeroOffset, WrongIdentifier, TooDeep, TooManyTables, BadVtable, MissingRequired, NoTerminator, LengthsDiffer, PastTable, TooManyReads, FlexContent, NotUtf8, UnknownField}
+use Rattle.fb_rules.specs.Reasons.{reason_number, reason_text, reasons}
+use Rattle.fb_rules.specs.declared.fault.{Reason.Reason, Reason.TheVariants.WrongPrefix}
 use Rattle.fbcheck_calls.specs.Names.{FaultsHaveTheirNames, IsCodeName, IsFaultName, IsPathName, IsReasonName}
 use Rattle.fbcheck_calls.specs.Told.{code_number}
 use Rattle.fbcheck_calls.specs.declared.outcome.Outcome.TheVariants.{Bad, NoSchema, BadStream, BadPath}
@@ -22,7 +21,7 @@ module _ (X : Type 0) (number : X → ℕ) (text : X → List ℕ) (names : List
   same_name x y e = sym (at y) ∙ (ap (λ n. slice_get names n) e ∙ at x)
 
 abbrev reason_names : List (List ℕ)
-reason_names = [] ∷ map reason_text (WrongPrefix ∷ OutOfBuffer ∷ Misaligned ∷ ZeroOffset ∷ WrongIdentifier ∷ TooDeep ∷ TooManyTables ∷ BadVtable ∷ MissingRequired ∷ NoTerminator ∷ LengthsDiffer ∷ PastTable ∷ TooManyReads ∷ FlexContent ∷ NotUtf8 ∷ UnknownField ∷ [])
+reason_names = [] ∷ map reason_text reasons
 
 reason_at : (r : Reason) → slice_get reason_names (reason_number r) ≡ Some (reason_text r)
 reason_at WrongPrefix = refl
