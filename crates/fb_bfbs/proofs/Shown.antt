@@ -10,9 +10,9 @@ use Rattle.fb_access.specs.Spots.{present_spot, absent_spot, spot_of_element, me
 use Rattle.fb_access.specs.Denotes.{Shown, Leads, next_spot, truth, signed, unsigned, text, vector, number, inline_value, default_value, value}
 use Rattle.fb_access.specs.Here.{Shows}
 use Rattle.fb_access.proofs.StepLaws.{some_same}
-use Rattle.fb_bfbs.specs.{Fixed.fixed, Says.Says, Says.after, Says.AreRows, Says.IsDouble, Says.HasDouble, Loads.told, Examples.RealFile, Examples.DetailedFile}
+use Rattle.fb_bfbs.specs.{Fixed.fixed, Says.Says, Says.after, Says.AreRows, Loads.told, Examples.DetailedFile}
 use Rattle.fb_bfbs.specs.Describes.{IsTypeRow, IsDefault, is_float, IsFieldRow, IsObjectRow, IsMemberRow, IsEnumRow, Describes}
-use Rattle.fb_bfbs.specs.Samples.{plain, hp_field, name_field, monster_object, plain_rows, reals, float_field, double_field, real_object, real_rows, detailed, old_field, far_field, struct_object, no_member, one_member, a_union, an_enum, detailed_rows}
+use Rattle.fb_bfbs.specs.Samples.{plain, hp_field, name_field, monster_object, plain_rows, detailed, old_field, far_field, struct_object, no_member, one_member, a_union, an_enum, detailed_rows}
 use Rattle.fb_bfbs.proofs.Composed.{Carries, type_within, field_within, object_within, member_within, enum_within, rows_within}
 
 -- all that is computed
@@ -68,12 +68,9 @@ field_row b p t f to ty (name, slot, default) (deprecated, required, optional, o
   offset64 = said b _ 13 _ offset64;
 }
 
--- its default: an integer, or the bits of a real one
+-- its default, an integer
 whole : (b : List ℕ) (p : ℕ) (d : ℤ) → told_by b (AtTable 4 p) 4 ≡ Some (signed d) → From b (AtTable 4 p) (ToField 4 ∷ []) (signed d)
 whole b p d e = said b _ 4 _ e
-
-real : (b : List ℕ) (p bits : ℕ) (x : Shown) → told_by b (AtTable 4 p) 5 ≡ Some x → IsDouble x bits → HasDouble (after (From b (AtTable 4 p)) (ToField 5)) bits
-real b p bits x e is = (x, said b _ 5 _ e, is)
 
 -- a table Object of a file, by the values of its fields and by its vector of fields at l
 object_row : (b : List ℕ) (p l : ℕ) (o : Object) → Leads b fixed (AtTable 5 p) (ToField 1) (AtTables 4 l) → AreRows IsFieldRow (From b (AtTables 4 l)) o.fields
@@ -124,26 +121,6 @@ unfolding computing
 plain_described = record {
   objects = onward (AreRows IsObjectRow) (rows_within IsObjectRow object_within) plain (AtTable 9 24) (AtTables 5 44) (ToField 0) plain_rows.objects refl plain_objects;
   enums = onward (AreRows IsEnumRow) (rows_within IsEnumRow enum_within) plain (AtTable 9 24) (AtTables 3 40) (ToField 1) plain_rows.enums refl (some_rows IsEnumRow plain 3 40 [] refl tt);
-}
-
--- The file with real defaults.
-
-real_objects : AreRows IsObjectRow (From reals (AtTables 5 44)) (real_object ∷ [])
-unfolding computing
-real_objects = some_rows IsObjectRow reals 5 44 (real_object ∷ []) refl (
-  onward IsObjectRow object_within reals (AtTables 5 44) (AtTable 5 60) (Element 0) real_object refl (object_row reals 60 80 real_object refl (two_rows IsFieldRow field_within reals 4 80 112 172 float_field double_field refl refl refl
-      (field_row reals 112 152 float_field refl (type_row reals 152 float_field.ty (refl, refl, refl, refl)) (refl, refl, (_, real reals 112 0x3fb999999999999a _ refl refl, refl)) (refl, refl, refl, refl))
-      (field_row reals 172 200 double_field refl (type_row reals 200 double_field.ty (refl, refl, refl, refl)) (refl, refl, (_, real reals 172 0 _ refl refl, refl)) (refl, refl, refl, refl))) (refl, refl, refl, refl)),
-  tt,
-)
-
-pub real_file : RealFile
-unfolding computing
-real_file = record {
-  rows = record {
-    objects = onward (AreRows IsObjectRow) (rows_within IsObjectRow object_within) reals (AtTable 9 24) (AtTables 5 44) (ToField 0) real_rows.objects refl real_objects;
-    enums = onward (AreRows IsEnumRow) (rows_within IsEnumRow enum_within) reals (AtTable 9 24) (AtTables 3 40) (ToField 1) real_rows.enums refl (some_rows IsEnumRow reals 3 40 [] refl tt);
-  };
 }
 
 -- The detailed file.

@@ -4,7 +4,7 @@ use Rattle.fb_access.specs.declared.step.Step.TheVariants.{Field as ToField}
 use Rattle.fb_access.specs.Denotes.{text}
 use Rattle.fb_rules.specs.Samples.{published_limits}
 use Rattle.fb_bfbs.specs.{Describes.Describes, Describes.IsRoot, Loads.told, Loads.IsLoaded, Samples.plain, Samples.plain_rows}
-use Rattle.fb_bfbs.specs.{Samples.reals, Samples.real_rows, Samples.detailed, Samples.detailed_rows, Samples.marking}
+use Rattle.fb_bfbs.specs.{Samples.detailed, Samples.detailed_rows, Samples.marking}
 use Rattle.fb_bfbs.specs.declared.marks.{Builtins.TheVariants.Written, Builtins.TheVariants.LeftOut, Builtins.TheVariants.Untold}
 use Rattle.fb_bfbs.specs.Marks.{Attribute, Attributed, buffer, flex, held_in, told_by, SaysMarks}
 
@@ -12,10 +12,6 @@ use Rattle.fb_bfbs.specs.Marks.{Attribute, Attributed, buffer, flex, held_in, to
 pub record PlainFile : Type 0 where
   pub rows : Describes (told plain) plain_rows
   pub loaded : IsLoaded plain published_limits (record { schema = plain_rows; root = Some 0; ident = None })
-
--- a file with a Float that has a real default, and a Double that has none: 0.0
-pub record RealFile : Type 0 where
-  pub rows : Describes (told reals) real_rows
 
 -- a file with all that is copied, without a root
 pub record DetailedFile : Type 0 where

@@ -21,23 +21,6 @@ monster_object = record (plain_table (codes "M") (hp_field ∷ name_field ∷ []
 abbrev pub plain_rows : Rows
 plain_rows = record { objects = monster_object ∷ []; enums = [] }
 
--- the same file but for `{ hp: float = 0.1; name: double; }`, so that of one field there is a real default
-abbrev pub reals : List ℕ
-reals =
-    24 ∷ 0 ∷ 0 ∷ 0 ∷ 66 ∷ 70 ∷ 66 ∷ 83 ∷ 14 ∷ 0 ∷ 16 ∷ 0 ∷ 4 ∷ 0 ∷ 8 ∷ 0 ∷ 0 ∷ 0 ∷ 0 ∷ 0 ∷ 12 ∷ 0 ∷ 0 ∷ 0 ∷ 16 ∷ 0 ∷ 0 ∷ 0 ∷ 16 ∷ 0 ∷ 0 ∷ 0 ∷ 8 ∷ 0 ∷ 0 ∷ 0 ∷ 24 ∷ 0 ∷ 0 ∷ 0 ∷ 0 ∷ 0 ∷ 0 ∷ 0 ∷ 1 ∷ 0 ∷ 0 ∷ 0 ∷ 12 ∷ 0 ∷ 0 ∷ 0 ∷ 8 ∷ 0 ∷ 12 ∷ 0 ∷ 4 ∷ 0 ∷ 8 ∷ 0 ∷ 8 ∷ 0 ∷ 0 ∷ 0 ∷ 8 ∷ 0 ∷ 0 ∷ 0 ∷ 12 ∷ 0 ∷ 0 ∷ 0 ∷ 1 ∷ 0 ∷ 0 ∷ 0 ∷ 77 ∷ 0 ∷ 0 ∷ 0 ∷ 2 ∷ 0 ∷ 0 ∷ 0 ∷ 28 ∷ 0 ∷ 0 ∷ 0 ∷ 84 ∷ 0 ∷ 0 ∷ 0 ∷ 16 ∷ 0 ∷ 24 ∷ 0 ∷ 4 ∷ 0 ∷ 8 ∷ 0 ∷ 0 ∷ 0 ∷ 12 ∷ 0 ∷ 0 ∷ 0 ∷ 16 ∷ 0 ∷ 0 ∷ 0 ∷ 0 ∷ 0 ∷ 20 ∷ 0 ∷ 0 ∷ 0 ∷ 20 ∷ 0 ∷ 0 ∷ 0 ∷ 32 ∷ 0 ∷ 0 ∷ 0 ∷ 4 ∷ 0 ∷ 0 ∷ 0 ∷ 154 ∷ 153 ∷ 153 ∷ 153 ∷ 153 ∷ 153 ∷ 185 ∷ 63 ∷ 2 ∷ 0 ∷ 0 ∷ 0 ∷ 104 ∷ 112 ∷ 0 ∷ 0 ∷ 6 ∷ 0 ∷ 8 ∷ 0 ∷ 4 ∷ 0 ∷ 0 ∷ 0 ∷ 8 ∷ 0 ∷ 0 ∷ 0 ∷ 11 ∷ 0 ∷ 0 ∷ 0 ∷ 12 ∷ 0 ∷ 16 ∷ 0 ∷ 4 ∷ 0 ∷ 8 ∷ 0 ∷ 12 ∷ 0 ∷ 14 ∷ 0 ∷ 12 ∷ 0 ∷ 0 ∷ 0 ∷ 12 ∷ 0 ∷ 0 ∷ 0 ∷ 20 ∷ 0 ∷ 0 ∷ 0 ∷ 1 ∷ 0 ∷ 6 ∷ 0 ∷ 4 ∷ 0 ∷ 0 ∷ 0 ∷ 110 ∷ 97 ∷ 109 ∷ 101 ∷ 0 ∷ 0 ∷ 0 ∷ 0 ∷ 56 ∷ 0 ∷ 0 ∷ 0 ∷ 12 ∷ 0 ∷ 0 ∷ 0 ∷ []
-
-abbrev pub float_field : Field
-float_field = record (plain_field (codes "hp") 4 (type_of_one (pos 11))) { default = pos 0x3fb999999999999a }
-
-abbrev pub double_field : Field
-double_field = plain_field (codes "name") 6 (type_of_one (pos 12))
-
-abbrev pub real_object : Object
-real_object = record (plain_table (codes "M") (float_field ∷ double_field ∷ [])) { minalign = pos 0 }
-
-abbrev pub real_rows : Rows
-real_rows = record { objects = real_object ∷ []; enums = [] }
-
 -- A file in which each value that is copied is, in some row, another than its default and than those beside it: a
 -- struct at 84 with fields at 160 and 260, a union at 316 with members at 360 and 392, and an enum at 452; the table
 -- Schema stands at 20.

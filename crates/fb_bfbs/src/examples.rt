@@ -1,12 +1,11 @@
 //! Examples of the definitions: each is a clause of a function that does nothing.
 
-ghost use Rattle.fb_bfbs.specs.Examples.{PlainFile, RealFile, DetailedFile, WorkedFields, MarkedFile};
+ghost use Rattle.fb_bfbs.specs.Examples.{PlainFile, DetailedFile, WorkedFields, MarkedFile};
 
 /// Schema files with the rows that they describe, their roots and identifiers; one of them whole, as it is loaded.
-#[tactic(auto, using(crate::proofs::ShownFiles::plain_file, crate::proofs::Shown::real_file, crate::proofs::Shown::detailed_file))]
+#[tactic(auto, using(crate::proofs::ShownFiles::plain_file, crate::proofs::Shown::detailed_file))]
 pub fn files()
     ensures one_table { PlainFile }
-    ensures real_defaults { RealFile }
     ensures all_that_is_copied { DetailedFile }
 {}
 
