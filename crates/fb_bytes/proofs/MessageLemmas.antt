@@ -21,20 +21,13 @@ declared_be_bytes bytes = refl
 -- the number is that of the first four bytes
 pub declared_front : (order : Endian) (xs ys : List ℕ) → take 4 xs ≡ ys → declared order xs ≡ declared order ys
 unfolding word big_word
-declared_front Little xs ys e =
-    let at : (i : ℕ) → i < 4 → get_or xs i 0 ≡ get_or ys i 0 = λ i h. sym (get_or-take 4 xs i 0 h) ∙ ap (λ l. get_or l i 0) e in
-    let a = at 0 (omega arith) in
-    let b = at 1 (omega arith) in
-    let c = at 2 (omega arith) in
-    let d = at 3 (omega arith) in
-    omega arith
-declared_front Big xs ys e =
-    let at : (i : ℕ) → i < 4 → get_or xs i 0 ≡ get_or ys i 0 = λ i h. sym (get_or-take 4 xs i 0 h) ∙ ap (λ l. get_or l i 0) e in
-    let a = at 0 (omega arith) in
-    let b = at 1 (omega arith) in
-    let c = at 2 (omega arith) in
-    let d = at 3 (omega arith) in
-    omega arith
+declared_front order xs ys e = go order (at 0 (omega arith)) (at 1 (omega arith)) (at 2 (omega arith)) (at 3 (omega arith)) where
+  at : (i : ℕ) → i < 4 → get_or xs i 0 ≡ get_or ys i 0
+  at i h = sym (get_or-take 4 xs i 0 h) ∙ ap (λ l. get_or l i 0) e
+
+  go : (order : Endian) → get_or xs 0 0 ≡ get_or ys 0 0 → get_or xs 1 0 ≡ get_or ys 1 0 → get_or xs 2 0 ≡ get_or ys 2 0 → get_or xs 3 0 ≡ get_or ys 3 0 → declared order xs ≡ declared order ys
+  go Little a b c d = omega arith
+  go Big a b c d = omega arith
 
 -- bytes behind a whole prefix don't change its number
 pub declared_append : (order : Endian) (xs ys : List ℕ) → 4 ≤ length xs → declared order (xs ++ ys) ≡ declared order xs

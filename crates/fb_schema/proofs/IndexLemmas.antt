@@ -71,11 +71,6 @@ kept_read f xs i d lt = mapped_at f xs i (get_or xs i d) (slice_get-get_or xs i 
 pub mapped_read : {X Y : Type 0} (f : X → Y) (xs : List X) (i : ℕ) (d : X) → i < length xs → f (get_or xs i d) ≡ get_or (map f xs) i (f (get_or xs i d))
 mapped_read f xs i d lt = let x = get_or xs i d in ap f (get_or_default xs i d x lt) ∙ sym (get_or-map f xs i x (f x) lt)
 
--- one map after another
-pub mapped_twice : {X Y Z : Type 0} (g : Y → Z) (f : X → Y) (xs : List X) → map (λ x. g (f x)) xs ≡ map g (map f xs)
-mapped_twice g f [] = refl
-mapped_twice g f (x ∷ xs) = ap (λ zs. g (f x) ∷ zs) (mapped_twice g f xs)
-
 -- a slot of 16 bits leaves room below it for so many others
 pub few_step : (live : List FieldRow) (i : ℕ) (d : FieldRow) → AreSpaced (map field_of live) → i < length live → (get_or live i d).slot < 65536 → i + 1 ≤ 32766
 few_step live i d spaced lt range = let least = spaced.at i (field_of (get_or live i d)) (mapped_at field_of live i (get_or live i d) (slice_get-get_or live i d lt)) in omega (arith, least, range)

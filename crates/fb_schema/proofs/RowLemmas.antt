@@ -42,6 +42,7 @@ row_in rows k i o f at here =
 pub asked : (rows : Rows) → IsLegal rows → (k i : ℕ) (o : Object) (f : Field) (r : IsRowOf rows k i o f) → IsAsked rows o f r.place
 asked rows legal k i o f r = table_clear rows legal k o r.at r.table r.place f r.there
 
+-- what is asked where the first test fails
 pub live_line : (a b : Bool) → (not a && b) ≡ false → a ≡ false → b ≡ false
 live_line a b h e = grind arith
 

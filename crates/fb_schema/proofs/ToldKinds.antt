@@ -1,7 +1,7 @@
 -- The kind of a union's member is told from where it leads.
 use Rattle.std.proofs.Common.{◌≡◌, ℕ, suc, ℤ, pos, negsuc, Bool, true, false, ◌&&◌, List, [], ◌∷◌, slice_get, filter, Option, Some, None, refl, sym, ◌∙◌, ap, find, arith, option_and_then, int_eq, inl, inr}
 use Rattle.fb_schema.proofs.KindWords.{Kind, Shape, One, OfText, OfObject}
-use Rattle.fb_schema.proofs.{Numbers.both_true, DemandLaws.clear_line, FindLemmas.find_filter, UnionLemmas.not_none}
+use Rattle.fb_schema.proofs.{Numbers.both_true, DemandLaws.clear_line, FindLemmas.find_filter, UnionLemmas.real_not_zero}
 use Rattle.fb_schema.proofs.{LegalLemmas.legal_clear, MemberLemmas.is_true_or_false}
 use Rattle.fb_schema.specs.Demands.{IsLegal, first_code, members_asked, member_demands, demands_of_member, is_for_member}
 use Rattle.fb_schema.specs.{Kinds.kind_of, Kinds.shape_of, Kinds.shape_kind, Rows.Rows, Rows.Member, Rows.Enum}
@@ -36,7 +36,7 @@ told_again rows members clear value =
       holds : (j : ℕ) (m : Member) → slice_get members j ≡ Some m → test m ≡ true → is_for_member (shape_of m.ty) ≡ true
       holds j m at t =
           let c = ap first_code (sym (ap (demands_of_member rows members j) at)) ∙ clear j in
-          let real = not_none m.value (both_true (is_member_value m.value) (int_eq m.value (pos value)) t).0 in
+          let real = real_not_zero m.value (both_true (is_member_value m.value) (int_eq m.value (pos value)) t).0 in
           let line = clear_line (member_demands rows m _ _) c 2 _ refl in
           grind (arith, real, line)
 

@@ -20,8 +20,8 @@ union_at all (e ∷ es) (suc n) h = union_at all es n h
 pub real_value : (v : ℕ) → 0 < v → v < 256 → is_member_value (pos v) ≡ true
 real_value v a b = grind (arith, nat_tests)
 
-pub not_none : (z : ℤ) → is_member_value z ≡ true → int_eq z (pos 0) ≡ false
-not_none z h = not_true (int_eq z (pos 0)) (λ e. let w : true ≡ false = sym h ∙ ap is_member_value ((signed_Decides z (pos 0)).0 e) in cc)
+pub real_not_zero : (z : ℤ) → is_member_value z ≡ true → int_eq z (pos 0) ≡ false
+real_not_zero z h = not_true (int_eq z (pos 0)) (λ e. let w : true ≡ false = sym h ∙ ap is_member_value ((signed_Decides z (pos 0)).0 e) in cc)
 
 -- no member of a union of legal rows breaks a demand
 pub members_clear : (rows : Rows) (all : List MemberRow) (enums : List EnumPart) → rows.enums ≡ map (enum_in all) enums → IsLegal rows → (n : ℕ) (row : EnumPart) → slice_get enums n ≡ Some row → row.is_union ≡ true → (q : ℕ) → first_code (members_asked rows (map member_of_row (part all row.members)) q) ≡ None
@@ -59,7 +59,7 @@ member_of_row_is rows all enums same n row at union v = ap (λ ms. option_and_th
 
 pub none_for_zero : (ms : List Member) → find (λ m. int_eq m.value (pos 0)) (filter (λ m. is_member_value m.value) ms) ≡ None
 none_for_zero [] = refl
-none_for_zero (m ∷ ms) = grind (arith, not_none m.value, none_for_zero ms)
+none_for_zero (m ∷ ms) = grind (arith, real_not_zero m.value, none_for_zero ms)
 
 pub none_of : (e : Option Enum) → find (λ m. int_eq m.value (pos 0)) (members_in e) ≡ None
 none_of None = refl
