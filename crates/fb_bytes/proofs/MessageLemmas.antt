@@ -2,7 +2,7 @@
 use Rattle.std.proofs.Common.{◌≡◌, ℕ, zero, suc, ◌+◌, ◌<◌, ◌≤◌, ◌⊎◌, List, [], ◌∷◌, ◌++◌, length, take, drop, get_or, refl, sym, ap, ◌∙◌, arith, append_assoc, length-append, length-drop, length-take-le, take-append-drop}
 use mathlib.Core.Logic.{inl, inr}
 use Rattle.std.specs.{List.concat, List.All, Int.from_be_bytes, Int.from_le_bytes, Int.w32}
-use Rattle.std.proofs.lemmas.Bool.Decides.{leb_tells}
+use Rattle.std.proofs.lemmas.Bool.{cases_lt}
 use Rattle.std.proofs.lemmas.List.{take_at, take-append-le, get_or-take, append_cancel_left}
 use Rattle.std.proofs.lemmas.List.Elements.{All-nil, All-cons, All-head, All-tail}
 use Rattle.fb_bytes.specs.Word.{word}
@@ -81,22 +81,19 @@ pub readings_one : OneReading
 readings_one cut stream messages messages' rest rest' s s' =
     readings cut messages messages' rest rest' (sym s.joined ∙ s'.joined) s.each s'.each s.last s'.last
 
-tells : (a b : ℕ) → (a ≤ b) ⊎ (b < a)
-tells a b = elim (leb_tells a b) [ inl h ↦ inl h.1 | inr h ↦ inr h.1 ]
-
 splits-upto : (fuel : ℕ) (cut : Cut) (bytes : List ℕ) → length bytes ≤ fuel → (messages : List (List ℕ)) × (rest : List ℕ) × Splits cut bytes messages rest
 splits-upto zero cut bytes short = ([], bytes, record { joined = refl; each = All-nil (IsMessage cut); last = inl (λ four. absurd (omega arith)) })
 splits-upto (suc fuel) cut bytes short =
     let n = 4 + declared cut.order bytes in
     let stays : IsPartial cut bytes ⊎ IsOversize cut bytes → Splits cut bytes [] bytes =
     λ last. record { joined = refl; each = All-nil (IsMessage cut); last = last } in
-    elim (tells 4 (length bytes)) [
-      | inr few ↦ ([], bytes, stays (inl (λ four. absurd (omega arith))))
-      | inl four ↦ elim (tells n cut.limit) [
-        | inr over ↦ ([], bytes, stays (inr (four, over)))
-        | inl fits ↦ elim (tells n (length bytes)) [
-          | inr part ↦ ([], bytes, stays (inl (λ _. (part, fits))))
-          | inl whole ↦
+    elim (cases_lt (length bytes) 4) [
+      | inl few ↦ ([], bytes, stays (inl (λ four. absurd (omega arith))))
+      | inr four ↦ elim (cases_lt cut.limit n) [
+        | inl over ↦ ([], bytes, stays (inr (four, over)))
+        | inr fits ↦ elim (cases_lt (length bytes) n) [
+          | inl part ↦ ([], bytes, stays (inl (λ _. (part, fits))))
+          | inr whole ↦
               let m = take n bytes in
               let long : length m ≡ n = length-take-le n bytes whole in
               let number : declared cut.order m ≡ declared cut.order bytes = declared_take cut.order n bytes (omega arith) whole in

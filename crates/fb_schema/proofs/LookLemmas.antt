@@ -55,7 +55,7 @@ pub entry_found : {X Y : Type 0} (f : X → Y) (xs : List X) (index : ℤ) (foun
 entry_found f xs (pos k) found e = grind (arith, slice_get-map f xs k, e)
 entry_found f xs (negsuc k) found e = grind (arith, e)
 
--- where a test that none passes is passed, there is an item
+-- what is at a place passes a test that nothing fails only where an item stands there
 listed_at : {X : Type 0} (p : Option X → Bool) → p None ≡ false → (xs : List X) (n : ℕ) → IsTrue (p (slice_get xs n)) → n < length xs
 listed_at p none [] n h = absurd (let w : false ≡ true = sym none ∙ h in cc)
 listed_at p none (x ∷ xs) zero h = omega arith

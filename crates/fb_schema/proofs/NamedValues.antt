@@ -19,11 +19,12 @@ pub no_name_of_zero : (rows : Rows) (n : ℕ) → member_name rows n 0 ≡ None
 unfolding member_name
 no_name_of_zero rows n = ap (option_map (λ (m : Member). m.name)) (none_of (slice_get rows.enums n))
 
-no_members : (e : Option Enum) → is_some_union e ≡ false → members_in e ≡ []
+-- what is no union has no members
+pub no_members : (e : Option Enum) → is_some_union e ≡ false → members_in e ≡ []
 no_members None h = refl
 no_members (Some e) h = grind (arith, h)
 
--- nor has what is no union's
+-- so no value of it has a name
 pub no_name_of_other : (rows : Rows) (n v : ℕ) → is_union rows n ≡ false → member_name rows n v ≡ None
 unfolding member_name
 no_name_of_other rows n v h = ap (λ ms. option_map (λ (m : Member). m.name) (find (λ m. int_eq m.value (pos v)) ms)) (no_members (slice_get rows.enums n) h)

@@ -33,9 +33,6 @@ table_views-requires-clause-kinds g c = λ table.
     subst (λ b. AreKinded rows (if b then [] else by_slot (filter is_live (object_read g d).fields))) table
     (rows_kinded rows c.requires.legal c.args.n (object_read g d) (object_there g d))
 
-pub push-requires : goal.push-requires
-push-requires g c = rw c.deref.ensures.value c.in_ok-fields.ensures.few
-
 pub returns : goal.returns
 returns g c =
     let objects = c.args.rows.now.objects.now in

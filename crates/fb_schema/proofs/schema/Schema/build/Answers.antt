@@ -24,6 +24,3 @@ invariant_of-result g c =
 
 pub returns-clause-legal : goal.returns-clause-legal
 returns-clause-legal g c = let is = c.lists.ensures in subst IsLegal (lent_same c.in_ok-rows.rows c.lists.result is.objects is.fields is.enums is.members ∙ c.in_ok-rows.ensures.value) c.in_ok-index.ensures.made.legal
-
-pub returns-clause-rows : goal.returns-clause-rows
-returns-clause-rows g c = c.in_ok-rows.ensures.value

@@ -92,6 +92,3 @@ pub members_at-requires-clause-here : goal.members_at-requires-clause-here
 members_at-requires-clause-here g c =
     let s = c.self.inside in
     union_within (enum_in s.rows.members.items) s.rows.enums.items (flat_rows s.rows) c.args.self.now c.args.e refl c.self.view_is c.requires
-
-pub members_at-requires-clause-parts : goal.members_at-requires-clause-parts
-members_at-requires-clause-parts g c = c.self.invariant.parts.members
