@@ -108,10 +108,7 @@ unfolding work
 on_work S L below on top n q r paid = omega (arith, paid)
 
 -- Behind it, a turn through the row that was put is one into it.
-module _ (w mid then : Walk) (m q new : Lent) (under : Waiting) (waiting : ℕ) (top on past : Frame) (child : Child) (b : BeginsRow w mid m q under waiting top on) where
-  abbrev before : Lent
-  before = record m { count = m.count - 1 }
-
+module _ {w mid : Walk} (then : Walk) {m q : Lent} (new : Lent) {under : Waiting} {waiting : ℕ} {top on : Frame} (past : Frame) (child : Child) (b : BeginsRow w mid m q under waiting top on) where
   kept : mid ≡ record w { tables = mid.tables; deepest = mid.deepest }
   kept = rw b.same refl
 
@@ -119,13 +116,13 @@ module _ (w mid then : Walk) (m q new : Lent) (under : Waiting) (waiting : ℕ) 
   less = rw b.same (on_work w.schema.now w.limits under.frames on top w.tables q.count (m.count - 1) b.paid)
 
   stays : GoesOn mid then q new under on past → StaysInField w then m new under top past
-  stays e = record { on = goes_on w mid then before q new under kept b.bytes b.table less (omega (arith, e.grows, b.grows)) e; grows = omega (arith, e.grows, b.grows) }
+  stays e = record { on = goes_on kept b.bytes b.table less (omega (arith, e.grows, b.grows)) e; grows = omega (arith, e.grows, b.grows) }
 
   pub far_turned : (turn : Turn) → RowTurned mid then q new under on past child turn → FieldTurned w then m new under top past child turn
-  far_turned Down e = record { down = goes_down w mid then before q new under kept b.bytes b.table less (omega (arith, e.grows, b.grows)) e; grows = omega (arith, e.grows, b.grows) }
+  far_turned Down e = record { down = goes_down kept b.bytes b.table less (omega (arith, e.grows, b.grows)) e; grows = omega (arith, e.grows, b.grows) }
   far_turned Up e = record { on = stays e.on; rests = e.rests; next = e.next ∙ b.next }
   far_turned Slowly e = stays e
-  far_turned Halted e = halts_on w mid then m q new under kept b.bytes e
+  far_turned Halted e = halts_on kept b.bytes e
 
 -- The field's own tests hold.
 module _ {w : Walk} {m : Lent} {under : Waiting} {waiting : ℕ} {top : Frame} {place : ℕ} {f : Live} (h : IsAtOpenField w m under waiting top place f) (new : Lent) (at : ℕ) (result : Option Reason)

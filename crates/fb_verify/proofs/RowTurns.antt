@@ -30,6 +30,9 @@ stays w m under top h short = record { same = refl; walking = h; table = refl; f
 pub word_stands : {c : Checks} {b : List ℕ} {row : Row} → RowStands c b row → 0 < row.left → StandsAt c b row.place
 word_stands h more = record { near = omega (arith, h.near); within = omega (arith, h.within, more); aligned = h.aligned }
 
+pub fewer_left : (row past : Row) → past ≡ past_first row → 0 < row.left → past.left < row.left
+fewer_left row past same more = omega (arith, ap (λ (x : Row). x.left) same)
+
 next_word : (p : ℕ) → (p + 4) % 4 ≡ p % 4
 next_word p = omega arith
 

@@ -49,7 +49,7 @@ returns-in-Ok-run c =
     let ran = c.in-Ok-run.ensures in
     let report : Report = record { tables = c.run.new.self.tables; depth = c.run.new.self.deepest; reads = c.reads.result } in
     let all = reports_all (question i.schema.now i.root i.start i.ident i.limits i.checks) c.args.loan.now c.answer.new.loan c.requires.fresh _ at asked c.run.new.self.tables c.run.new.self.deepest c.run.new.loan.count c.reads.result
-    (rw asked.bytes at (walked_over _ _ _ _ _ ran)) ran.within ran.shallow ran.reads c.reads.ensures.count in
+    (rw asked.bytes at (walked_over ran)) ran.within ran.shallow ran.reads c.reads.ensures.count in
     let t = subst (λ q. Reports q c.args.loan.now.bytes report) c.question.view_is all in
     let count = c.reads.ensures.count in
     record { yes = t; none = tt; deep = tt; no = tt; along = tt; price = omega (arith, price_of_yes t, count); read = sym count; bytes = ran.bytes ∙ asked.bytes }

@@ -44,4 +44,4 @@ pass_row_by-requires g c =
     rw e.same (e.row, sym (c.are_published.ensures c.if-not-are_published.false))
 
 pub returns-in-Down : goal.returns-in-Down
-returns-in-Down g c = far_turned _ _ _ _ _ _ _ _ _ _ _ _ c.in-Down.ensures c.pass_row_by.result c.pass_row_by.ensures
+returns-in-Down g c = far_turned _ _ _ _ c.in-Down.ensures c.pass_row_by.result c.pass_row_by.ensures

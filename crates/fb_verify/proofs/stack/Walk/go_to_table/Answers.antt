@@ -52,7 +52,7 @@ returns-then-not-allows_table g c =
     let w = c.args.self.now in
     let m = c.args.reads.now in
     let b = begins g d in
-    far_turned w w w m m m g.under c.args.waiting c.args.top.now _ _ c.args.child.now b Slowly (stays w m g.under _ (b.row).walking (b.row).short)
+    far_turned _ _ _ c.args.child.now b Slowly (stays w m g.under _ (b.row).walking (b.row).short)
 
 pub take_word-requires : goal.take_word-requires
 take_word-requires g c =
@@ -64,7 +64,4 @@ take_word-requires g c =
     (record { in-row = (begins g d).row; leads = ap (λ (x : Row). x.leads) c.one-row.ensures; table = table g d }, (c.allows_table.ensures c.if-not-allows_table.false, (room, (short, c.requires.1))))
 
 pub returns : goal.returns
-returns g c =
-    let d = (goal.at.returns g c).After-one-row in
-    let new = c.take_word.new in
-    far_turned c.args.self.now c.args.self.now new.self c.args.reads.now c.args.reads.now new.reads g.under c.args.waiting c.args.top.now _ new.top new.child (begins g d) c.take_word.result c.take_word.ensures
+returns g c = far_turned _ _ _ _ (begins g (goal.at.returns g c).After-one-row) c.take_word.result c.take_word.ensures

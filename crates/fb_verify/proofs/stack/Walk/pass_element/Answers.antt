@@ -8,11 +8,8 @@ use Rattle.fb_rules.proofs.Refusals.{unfound, tested_tells, spent, told_lead_rea
 use Rattle.fb_verify.proofs.stack.Walk.pass_element.Goals as goal
 use Rattle.fb_verify.proofs.stack.Walk.pass_element.Goals.{In_default}
 
-unknown : Unknown ≡ Known → ⊥
-unknown e = cc
-
 pub test_lead-failed-requires-clause-stands : goal.test_lead-failed-requires-clause-stands
-test_lead-failed-requires-clause-stands c = λ e. absurd (unknown e)
+test_lead-failed-requires-clause-stands c = λ e. absurd cc
 
 -- an element of which no test failed holds
 holds : (c : In_default) → element_failure c.args.self.now.checks c.args.loan.now.bytes (first_word c.args.loan.now.bytes c.args.self.now.schema.now c.args.row) ≡ None

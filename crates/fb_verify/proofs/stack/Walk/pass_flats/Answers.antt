@@ -6,7 +6,7 @@ use Rattle.fb_verify.specs.Turns.{GoesOn, with_tables}
 use Rattle.fb_rules.specs.{Bounds.AreAllowed, Fields.to_table, Order.after, Order.lead_failure, OffsetRows.leads_after, OffsetRows.past_first, Plain.tested_by}
 use Rattle.fb_rules.proofs.Budgets.{fewer_reads}
 use Rattle.fb_verify.proofs.{Flats.at_flat, Flats.word_tells, Frames.length_map}
-use Rattle.fb_verify.proofs.RowTurns.{two, Counts, flat_comes, table_passed, table_halts, word_halts, word_stands, next_stands, none_with, one_with, stays}
+use Rattle.fb_verify.proofs.RowTurns.{two, Counts, flat_comes, table_passed, table_halts, word_halts, word_stands, fewer_left, next_stands, none_with, one_with, stays}
 use Rattle.fb_verify.specs.declared.flat.Extent.{Extent, TheVariants.Whole, TheVariants.Part}
 use Rattle.fb_verify.proofs.stack.Walk.pass_flats.Goals as goal
 use Rattle.fb_verify.proofs.stack.Walk.pass_flats.Goals.{After-follow-failed, After-advance_all}
@@ -172,9 +172,6 @@ loop-schema-init g c =
 
 pub follow-failed-requires-clause-stands : goal.follow-failed-requires-clause-stands
 follow-failed-requires-clause-stands g c = word_stands (c.loop-schema.invariant).stands (c.has_next.ensures.more c.loop-schema-test.true)
-
-fewer_left : (row past : Row) → past ≡ past_first row → 0 < row.left → past.left < row.left
-fewer_left row past same more = omega (arith, ap (λ (x : Row). x.left) same)
 
 pub loop-schema-smaller : goal.loop-schema-smaller
 loop-schema-smaller g c = fewer_left _ _ c.advance_all.ensures (c.has_next.ensures.more c.loop-schema-test.true)

@@ -64,10 +64,7 @@ loop-row-preserved g c =
 pub test_lead-failed-requires-clause-stands : goal.test_lead-failed-requires-clause-stands
 test_lead-failed-requires-clause-stands g c = λ _. word_stands (c.loop-row.invariant).stands c.loop-row-test.true
 
-nothing : {n : ℕ} → n ≤ 0 → n ≡ 0
-nothing h = omega arith
-
 pub returns-clause-rests : goal.returns-clause-rests
 returns-clause-rests g c =
     let i = c.loop-row.invariant in
-    rw i.same (record { on = i.on; rests = nothing c.loop-row-test.false; next = refl })
+    rw i.same (record { on = i.on; rests = omega (arith, c.loop-row-test.false); next = refl })
