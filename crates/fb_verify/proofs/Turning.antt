@@ -1,19 +1,17 @@
 -- A turn of the top, over the frames in which it stands.
 use Rattle.std.proofs.Common.{◌≡◌, ℕ, ◌+◌, ◌-◌, ◌^◌, ◌≤◌, ◌<◌, List, [], ◌∷◌, ◌++◌, length, take, min, get_or, refl, sym, ◌∙◌, ap, subst, arith, Option, Some, None, Result, Ok, Err}
-use Rattle.std.proofs.Math.ListN.{set, length-set}
-use Rattle.std.proofs.lemmas.List.{take-take, length-take, length-append}
+use Rattle.std.proofs.{Math.ListN.set, Math.ListN.length-set, lemmas.List.take-take, lemmas.List.length-take, lemmas.List.length-append}
 use Rattle.fb_bytes.specs.Word.{Lent}
 use Rattle.fb_schema.specs.Live.{live_fields}
-use Rattle.fb_rules.specs.declared.{table.Child.Child, site.Halt.Halt, site.Stop.Stop, site.LastLink.TheVariants.Behind, site.LastLink.TheVariants.InField}
-use Rattle.fb_verify.specs.declared.{scratch.Frame.Frame, stack.Turn.Turn, stack.Walk.Walk}
-use Rattle.fb_verify.specs.declared.stack.Turn.TheVariants.{Down, Up, Slowly, Halt as Halted}
+use Rattle.fb_rules.specs.{Told.stopped, declared.table.Child.Child, declared.site.Halt.Halt, declared.site.Stop.Stop}
+use Rattle.fb_rules.specs.declared.site.LastLink.TheVariants.{Behind, InField}
 use Rattle.fb_verify.specs.Stack.{blank, Origin, frame_work, work, Waiting, IsWalking, IsStopped, IsStoppedBehind, IsOver}
-use Rattle.fb_verify.specs.Walked.{ended, TableWalked}
-use Rattle.fb_verify.specs.Turns.{GoesOn, GoesDown, Halts, WentOn, WentOver, WentWrong, Opened, Turned, FramesTurned, PassedField, FieldTurned, ByTurn, IsUnderWayOver, GoneOn, UsedUp, WentDeeper, Ran}
-use Rattle.fb_rules.specs.Told.{stopped}
-use Rattle.fb_verify.specs.{PassesOn.HasPassed, Units.WorkedOn}
-use Rattle.fb_verify.proofs.Stacks.{top_is as low_top, last_is, sum_last, below_joined, grown_joined, top_joined, next_joined}
-use Rattle.fb_verify.proofs.{Standings.close_last, Walking.table_closed}
+use Rattle.fb_verify.specs.{Walked.ended, Walked.TableWalked, Turns.GoesOn, Turns.GoesDown, Turns.Halts, Turns.WentOn, Turns.WentOver, Turns.WentWrong, Turns.Opened, Turns.Turned}
+use Rattle.fb_verify.specs.Turns.{FramesTurned, PassedField, FieldTurned, ByTurn, IsUnderWayOver, GoneOn, WentDeeper, Ran}
+use Rattle.fb_verify.specs.{PassesOn.HasPassed, Units.WorkedOn, declared.scratch.Frame.Frame, declared.stack.Turn.Turn, declared.stack.Walk.Walk}
+use Rattle.fb_verify.specs.declared.stack.Turn.TheVariants.{Down, Up, Slowly, Halt as Halted}
+use Rattle.fb_verify.proofs.{Stacks.top_is as low_top, Stacks.last_is, Stacks.sum_last, Stacks.below_joined, Stacks.grown_joined, Stacks.top_joined, Stacks.next_joined, Standings.close_last}
+use Rattle.fb_verify.proofs.Walking.{table_closed}
 
 -- where the fields of its first table are passed, a walk is over
 pub went_over : {w then : Walk} {m new : Lent} (under : Waiting) (past : Frame) → then ≡ record w { tables = then.tables; deepest = then.deepest } → IsWalking then new under.start under.frames past → under.frames ≡ []
@@ -26,9 +24,6 @@ went_over {w} {then} {m} {new} under past same h none rests all bytes =
 pub passed_work : {w : Walk} {m new : Lent} {under : Waiting} {top past : Frame} → HasPassed w m new under top past → (n : ℕ) → new.count + work w.schema.now w.limits under.frames past n ≤ m.count + work w.schema.now w.limits under.frames top n
 unfolding work
 passed_work h n = omega (arith, h.falls)
-
-by_one : (a b : ℕ) {d : ℕ} → a + b < d → 1 + a + b ≤ d
-by_one a b h = omega arith
 
 -- the frames of a walk are in two parts, of which the first ends with its top
 pub record AreParted (under : Waiting) (old low high : List Frame) (waiting : ℕ) : Type 0 where
@@ -81,14 +76,14 @@ module _ {under : Waiting} {old low high : List Frame} {waiting : ℕ} (p : AreP
 
     -- a unit of the top is passed
     pub stays_on : WorkedOn w then m new under.start under.frames (top_was p) under.frames past → WentOn w then m new under.start old waiting frames waiting 1
-    stays_on h = record { same = h.same; walking = rw (sym waits, top_is) h.walking; top = omega (arith, long); falls = rw (sym waits, top_is, sym p.below, sym (stands p)) (by_one _ _ h.falls); grows = h.grows; bytes = h.bytes }
+    stays_on h = record { same = h.same; walking = rw (sym waits, top_is) h.walking; top = omega (arith, long); falls = rw (sym waits, top_is, sym p.below, sym (stands p)) (omega (arith, h.falls)); grows = h.grows; bytes = h.bytes }
 
     -- and it leads to a table below
     pub goes_below : min (w.limits).depth (waiting + 2) ≤ length old → length other ≡ length high → WorkedOn w then m new under.start under.frames (top_was p) (under.frames ++ past ∷ []) (get_or other 0 blank) → WentOn w then m new under.start old waiting frames (waiting + 1) 1
     goes_below room size h =
         let links : length (under.frames ++ past ∷ []) < (w.limits).depth = rw (ap (λ (x : Walk). (x.limits).depth) h.same) at (h.walking).links in
         let top_in : waiting + 1 < length frames = omega (arith, links, room, size, long, many, p.front, ap length p.parts, length-append low high, length-append under.frames (past ∷ [])) in
-        record { same = h.same; walking = rw (grown, next_is) h.walking; top = top_in; falls = rw (grown, next_is, sym p.below, sym (stands p)) (by_one _ _ h.falls); grows = h.grows; bytes = h.bytes }
+        record { same = h.same; walking = rw (grown, next_is) h.walking; top = top_in; falls = rw (grown, next_is, sym p.below, sym (stands p)) (omega (arith, h.falls)); grows = h.grows; bytes = h.bytes }
 
   -- or the walk stops there, behind a word of the top or in a field of it
   module _ {w : Walk} {m new : Lent} {stop : Stop} (deep : length under.frames < (w.limits).depth) where

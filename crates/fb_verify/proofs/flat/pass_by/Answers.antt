@@ -1,13 +1,11 @@
-use Rattle.std.proofs.Common.{add-one, ◌≡◌, ◌+◌, ◌-◌, ◌%◌, ℕ, suc, length, map, drop, List, sym, ◌∙◌, ap, subst, arith, slice_get, Some, refl}
+use Rattle.std.proofs.Common.{add-one, ◌≡◌, ◌+◌, ◌-◌, ◌%◌, ℕ, length, map, drop, List, sym, ◌∙◌, ap, subst, arith, slice_get, Some, refl}
 use Rattle.std.proofs.lemmas.{List.length-map, List.length-drop, Option.slice_get_within}
 use Rattle.fb_schema.specs.{Live.Live, Live.live_fields, Steps.step_of}
 use Rattle.fb_rules.specs.Plain.{HasBit, IsStep}
 use Rattle.fb_verify.specs.PassesOn.{IsBetween}
 use Rattle.fb_rules.proofs.Plains.{each_step, kind_step, bit_at}
-use Rattle.fb_verify.proofs.Passing.{AtStep}
-use Rattle.fb_verify.proofs.Passing.{left_from, GoesBy, goes_first, ends_behind, step_by, came_to}
+use Rattle.fb_verify.proofs.{Passing.AtStep, Passing.left_from, Passing.GoesBy, Passing.goes_first, Passing.ends_behind, Passing.step_by, Passing.came_to, flat.pass_by.Goals.In-Some}
 use Rattle.fb_verify.proofs.flat.pass_by.Goals as goal
-use Rattle.fb_verify.proofs.flat.pass_by.Goals.{In-Some}
 
 -- the live fields of the table, and the place of the one that comes
 abbrev fields : (g : _) → In-Some g → List Live

@@ -1,4 +1,4 @@
-use Rattle.std.proofs.Common.{◌≡◌, ℕ, ◌≤◌, ap, arith}
+use Rattle.std.proofs.Common.{ap}
 use Rattle.fb_verify.specs.Sealed.{Sealed}
 use Rattle.fb_verify.proofs.Verdicts.{sealed_kept}
 use Rattle.fb_verify.proofs.verified.verify.Goals as goal

@@ -1,9 +1,8 @@
-use Rattle.std.proofs.Common.{◌≡◌, ℕ, ◌+◌, ◌^◌, ◌<◌, ◌≤◌, ◌⊎◌, inl, inr, length, min, refl, ◌∙◌, ap, arith}
-use Rattle.fb_verify.specs.declared.{stack.Walk.Walk}
-use Rattle.fb_verify.specs.Turns.{WentOn}
+use Rattle.std.proofs.Common.{◌≡◌, ℕ, ◌+◌, ◌<◌, ◌≤◌, ◌⊎◌, inl, inr, length, min, refl, ◌∙◌, ap, arith}
+use Rattle.fb_verify.specs.{Turns.WentOn, declared.stack.Walk.Walk}
 use Rattle.fb_verify.proofs.Turning.{slowly, under_way, over_from, wrong_from}
-use Rattle.fb_verify.proofs.stack.Walk.go_slowly.Goals as goal
 use Rattle.fb_verify.proofs.stack.Walk.go_slowly.Goals.{then-waiting-frames, else-waiting-frames+then-depth-frames, In-Ok-Some, In_default}
+use Rattle.fb_verify.proofs.stack.Walk.go_slowly.Goals as goal
 
 -- On numbers.
 

@@ -1,16 +1,12 @@
 use Rattle.std.proofs.Common.{◌≡◌, ◌∙◌, ◌+◌, ◌-◌, ◌/◌, ◌^◌, ◌≤◌, Some, None, IsTrue, refl, sym, ap, arith}
 use Rattle.fb_schema.specs.Rows.{is_table}
-use Rattle.fb_rules.specs.declared.offset_row.{Referent.TheVariants.Table as ATable, Row.Row}
-use Rattle.fb_verify.specs.declared.stack.Turn.TheVariants.{Slowly}
-use Rattle.fb_rules.specs.{Cost.present_reads, Order.after, Order.present_failure, Plain.tested_by, Plain.IsTested}
-use Rattle.fb_verify.specs.Stack.{blank}
-use Rattle.fb_verify.specs.Turns.{BeginsRow}
-use Rattle.fb_rules.proofs.Budgets.{fewer_reads}
-use Rattle.fb_verify.proofs.{RowTurns.stays, Turns.halts_in_field}
-use Rattle.fb_rules.proofs.Words.{word_left}
-use Rattle.fb_verify.proofs.IntoField.{into_askable, into_stops, row_begins, far_turned}
-use Rattle.fb_verify.proofs.stack.Walk.go_to_table.Goals as goal
+use Rattle.fb_rules.specs.{Cost.present_reads, Order.after, Order.present_failure, Plain.tested_by, Plain.IsTested, declared.offset_row.Referent.TheVariants.Table as ATable}
+use Rattle.fb_rules.specs.declared.offset_row.Row.{Row}
+use Rattle.fb_verify.specs.{Stack.blank, Turns.BeginsRow, declared.stack.Turn.TheVariants.Slowly}
+use Rattle.fb_rules.proofs.{Budgets.fewer_reads, Words.word_left}
+use Rattle.fb_verify.proofs.{RowTurns.stays, Turns.halts_in_field, IntoField.into_askable, IntoField.into_stops, IntoField.row_begins, IntoField.far_turned}
 use Rattle.fb_verify.proofs.stack.Walk.go_to_table.Goals.{After-one-row}
+use Rattle.fb_verify.proofs.stack.Walk.go_to_table.Goals as goal
 
 pub returns-in-Some : goal.returns-in-Some
 returns-in-Some g c =

@@ -1,19 +1,14 @@
 use Rattle.std.proofs.Common.{◌≡◌, ◌+◌, ◌<◌, nat_lt, None, refl, ap, arith}
 use Rattle.fb_bytes.specs.Word.{Lent}
 use Rattle.fb_schema.specs.Live.{live_of_view}
-use Rattle.fb_rules.specs.declared.{table.Child.Child, offset_row.Leads.Leads}
-use Rattle.fb_verify.specs.declared.{stack.Walk.Walk, scratch.Frame.Frame, stack.Turn.Turn}
-use Rattle.fb_rules.specs.declared.{offset_row.Leads.TheVariants.All, offset_row.Leads.TheVariants.ByType, offset_row.Referent.Referent}
-use Rattle.fb_rules.specs.declared.offset_row.Row.{Row}
-use Rattle.fb_verify.specs.declared.stack.Turn.TheVariants.{Up}
-use Rattle.fb_rules.specs.{Cost.present_reads, Fields.entries_of, OffsetRows.LeavesRow, OffsetRows.AreAll, Order.present_failure, Plain.IsTested}
-use Rattle.fb_verify.specs.{Stack.blank, Stack.Waiting, Turns.BeginsRow, Turns.MemberTurned, Turns.RowTurned}
-use Rattle.fb_rules.specs.declared.plain.Standing.TheVariants.{Known, Unknown}
+use Rattle.fb_rules.specs.{Cost.present_reads, Fields.entries_of, OffsetRows.LeavesRow, OffsetRows.AreAll, Order.present_failure, Plain.IsTested, declared.table.Child.Child}
+use Rattle.fb_rules.specs.declared.offset_row.{Leads.Leads, Leads.TheVariants.All, Leads.TheVariants.ByType, Referent.Referent, Row.Row}
+use Rattle.fb_verify.specs.{Stack.blank, Stack.Waiting, Turns.BeginsRow, Turns.MemberTurned, Turns.RowTurned, declared.stack.Walk.Walk, declared.stack.Turn.Turn}
+use Rattle.fb_verify.specs.declared.{stack.Turn.TheVariants.Up, scratch.Frame.Frame}
 use Rattle.fb_rules.proofs.Budgets.{fewer_reads}
-use Rattle.fb_verify.proofs.IntoField.{into_askable, into_stops, few_spent, passed_over, row_begins, far_turned}
-use Rattle.fb_verify.proofs.Turns.{halts_in_field}
-use Rattle.fb_verify.proofs.stack.Walk.go_to_union.Goals as goal
+use Rattle.fb_verify.proofs.{IntoField.into_askable, IntoField.into_stops, IntoField.few_spent, IntoField.passed_over, IntoField.row_begins, IntoField.far_turned, Turns.halts_in_field}
 use Rattle.fb_verify.proofs.stack.Walk.go_to_union.Goals.{After-put_union-failed}
+use Rattle.fb_verify.proofs.stack.Walk.go_to_union.Goals as goal
 
 pub put_union-failed-requires-clause-present : goal.put_union-failed-requires-clause-present
 put_union-failed-requires-clause-present g c = (((c.requires.0).at).present (live_of_view c.args.field.now) (c.requires.0).here).1

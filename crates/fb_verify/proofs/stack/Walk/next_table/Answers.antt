@@ -1,4 +1,4 @@
-use Rattle.std.proofs.Common.{ℕ, ◌+◌, ◌^◌, ◌≤◌, arith}
+use Rattle.std.proofs.Common.{arith}
 use Rattle.fb_rules.proofs.Budgets.{fewer_reads}
 use Rattle.fb_verify.proofs.stack.Walk.next_table.Goals as goal
 

@@ -1,8 +1,7 @@
 use Rattle.std.proofs.Common.{◌≡◌, refl, ℕ, ◌<◌, ◌≤◌, nat_lt, true, false, Option, Some, arith}
 use Rattle.std.proofs.lemmas.Bool.Decides.{nat_tests}
-use Rattle.fb_rules.specs.declared.{fault.Fault.Fault, site.Site.Site}
-use Rattle.fb_rules.specs.declared.fault.Reason.TheVariants.{TooDeep, TooManyTables}
 use Rattle.fb_rules.specs.{Bounds.Bounds, Stops.budget_failure, Told.told, Told.stopped, Told.way_at, Order.◌▷◌}
+use Rattle.fb_rules.specs.declared.{fault.Fault.Fault, fault.Reason.TheVariants.TooDeep, fault.Reason.TheVariants.TooManyTables, site.Site.Site}
 use Rattle.fb_verify.proofs.stack.Walk.open_table.Goals as goal
 
 -- as many tables are open as may be

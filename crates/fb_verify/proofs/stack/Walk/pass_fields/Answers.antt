@@ -1,19 +1,14 @@
-use Rattle.std.proofs.Common.{◌≡◌, ℕ, List, map, Some, get_or, ◌^◌, ◌*◌, ◌+◌, ◌-◌, ◌<◌, ◌≤◌, length, refl, sym, ◌∙◌, ap, arith}
-use Rattle.fb_rules.specs.Bounds.{Bounds}
-use Rattle.fb_schema.specs.{Rows.Rows, Live.Live, Live.live_fields, Steps.step_of}
-use Rattle.std.proofs.Math.Nat.{le_trans}
+use Rattle.std.proofs.Common.{◌≡◌, ℕ, List, map, Some, get_or, ◌*◌, ◌+◌, ◌-◌, ◌<◌, ◌≤◌, length, refl, sym, ◌∙◌, ap, arith}
+use Rattle.fb_rules.specs.{Bounds.Bounds, declared.table.Table.Table}
+use Rattle.fb_schema.specs.{Rows.Rows, Live.Live, Live.live_fields, Steps.step_of, declared.views.Step.Step}
+use Rattle.std.proofs.{Math.Nat.le_trans, lemmas.Option.slice_get-get_or}
 use Rattle.std.specs.Prelude.{slice_get}
-use Rattle.fb_schema.specs.declared.views.Step.{Step}
-use Rattle.std.proofs.lemmas.Option.{slice_get-get_or}
 use Rattle.fb_bytes.specs.Word.{Lent}
-use Rattle.fb_rules.specs.declared.table.Table.{Table}
-use Rattle.fb_verify.specs.declared.{scratch.Frame.Frame, stack.Walk.Walk}
-use Rattle.fb_verify.specs.{PassesOn.ComesToField, PassesOn.fields_left, Stack.work, Stack.Waiting, Turns.IsAtOpenField, Turns.IsAtStep}
+use Rattle.fb_verify.specs.{PassesOn.ComesToField, PassesOn.fields_left, Stack.work, Stack.Waiting, Turns.IsAtOpenField, Turns.IsAtStep, declared.scratch.Frame.Frame}
+use Rattle.fb_verify.specs.declared.stack.Walk.{Walk}
 use Rattle.fb_rules.proofs.{Budgets.fewer_reads, Plains.step_at}
-use Rattle.fb_verify.proofs.{Frames.length_map, Turning.halts_on, Turning.field_turned, Turning.field_over}
-use Rattle.fb_verify.proofs.Turns.{halts_in_field}
+use Rattle.fb_verify.proofs.{Frames.length_map, Turning.halts_on, Turning.field_turned, Turning.field_over, Turns.halts_in_field, stack.Walk.pass_fields.Goals.In-Ok-true}
 use Rattle.fb_verify.proofs.stack.Walk.pass_fields.Goals as goal
-use Rattle.fb_verify.proofs.stack.Walk.pass_fields.Goals.{In-Ok-true}
 
 -- what the loop over plain fields came to
 comes : (g : _) (c : In-Ok-true g) → ComesToField c.loop-steps.self c.loop-steps.reads c.pass_plain.new.reads g.under c.loop-steps.top c.pass_plain.new.top c.pass_plain.new.at

@@ -1,5 +1,3 @@
-use Rattle.std.proofs.Common.{◌≡◌}
-use Rattle.fb_rules.specs.declared.passed.Sizes.TheVariants.{Any, Small}
 use Rattle.fb_verify.proofs.stack.Walk.pass_flats_by_published.Goals as goal
 
 pub returns : goal.returns

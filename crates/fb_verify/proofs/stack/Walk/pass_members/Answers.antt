@@ -1,14 +1,10 @@
-use Rattle.std.proofs.Common.{◌≡◌, ℕ, ◌<◌, ◌≤◌, refl, sym, ◌∙◌, ap, subst, arith}
+use Rattle.std.proofs.Common.{◌≡◌, refl, sym, ◌∙◌, ap, subst, arith}
 use Rattle.fb_bytes.specs.Word.{Lent}
-use Rattle.fb_schema.specs.declared.targets.Targets.{Targets}
-use Rattle.fb_schema.specs.Rows.{Rows}
-use Rattle.fb_rules.specs.declared.{table.Child.Child, offset_row.Leads.Leads, offset_row.Row.Row}
-use Rattle.fb_rules.specs.declared.offset_row.Leads.TheVariants.{All, ByType}
-use Rattle.fb_rules.specs.OffsetRows.{AreTargetsOf, leads_after, past_first}
-use Rattle.fb_verify.specs.declared.{scratch.Frame.Frame, stack.Turn.Turn, stack.Walk.Walk}
-use Rattle.fb_verify.specs.declared.stack.Turn.TheVariants.{Down, Up, Slowly, Halt as Halted}
-use Rattle.fb_verify.specs.Stack.{Waiting}
-use Rattle.fb_verify.specs.Turns.{GoesOn, MemberTurned, RowTurned}
+use Rattle.fb_schema.specs.{Rows.Rows, declared.targets.Targets.Targets}
+use Rattle.fb_rules.specs.{OffsetRows.AreTargetsOf, OffsetRows.leads_after, declared.table.Child.Child}
+use Rattle.fb_rules.specs.declared.offset_row.{Leads.Leads, Row.Row, Leads.TheVariants.All, Leads.TheVariants.ByType}
+use Rattle.fb_verify.specs.{Stack.Waiting, Turns.GoesOn, Turns.MemberTurned, Turns.RowTurned, declared.scratch.Frame.Frame}
+use Rattle.fb_verify.specs.declared.stack.{Turn.Turn, Walk.Walk, Turn.TheVariants.Down, Turn.TheVariants.Up, Turn.TheVariants.Slowly, Turn.TheVariants.Halt as Halted}
 use Rattle.fb_rules.proofs.Budgets.{fewer_reads}
 use Rattle.fb_verify.proofs.{RowTurns.stays, RowTurns.word_stands, RowTurns.fewer_left, RowTurns.next_stands, Turning.goes_on, Turning.goes_down, Turning.halts_on}
 use Rattle.fb_verify.proofs.stack.Walk.pass_members.Goals as goal

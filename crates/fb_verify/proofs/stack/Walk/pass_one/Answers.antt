@@ -1,10 +1,9 @@
-use Rattle.std.proofs.Common.{ℕ, ◌+◌, ◌<◌, ◌≤◌, min, refl, ap, arith}
+use Rattle.std.proofs.Common.{◌+◌, refl, ap, arith}
 use Rattle.std.proofs.lemmas.List.{get_or-set_same}
 use Rattle.fb_verify.specs.{Stack.blank, Units.PassesLeaf, Units.LeadsToTable}
-use Rattle.fb_verify.proofs.{Frames.row_types_near, Walking.leaf_falls, Walking.leaf_passed, Walking.word_stops}
-use Rattle.fb_verify.proofs.Turns.{at_table, child_opened, child_stops, child_work}
-use Rattle.fb_verify.proofs.stack.Walk.pass_one.Goals as goal
+use Rattle.fb_verify.proofs.{Frames.row_types_near, Walking.leaf_falls, Walking.leaf_passed, Walking.word_stops, Turns.at_table, Turns.child_opened, Turns.child_stops, Turns.child_work}
 use Rattle.fb_verify.proofs.stack.Walk.pass_one.Goals.{In-Ok-Some}
+use Rattle.fb_verify.proofs.stack.Walk.pass_one.Goals as goal
 
 pub returns-in-Ok-None : goal.returns-in-Ok-None
 returns-in-Ok-None g c =

@@ -1,8 +1,6 @@
-use Rattle.std.proofs.Common.{◌≡◌, ◌^◌, ◌<◌, List, map, length, refl, ap, arith}
-use Rattle.fb_schema.specs.declared.views.Step.{Step}
-use Rattle.fb_schema.specs.{Rows.Rows, Live.live_fields, Served.IsServed, Steps.step_of}
-use Rattle.std.proofs.Common.{ℕ}
-use Rattle.fb_verify.proofs.{Frames.length_map}
+use Rattle.std.proofs.Common.{◌^◌, ◌<◌, length, refl, ap, arith}
+use Rattle.fb_schema.specs.{Live.live_fields, Steps.step_of}
+use Rattle.fb_verify.proofs.Frames.{length_map}
 use Rattle.fb_verify.proofs.stack.Walk.pass_plain.Goals as goal
 
 pub pass_steps-answer-requires : goal.pass_steps-answer-requires

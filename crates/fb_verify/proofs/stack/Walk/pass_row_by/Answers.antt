@@ -1,4 +1,4 @@
-use Rattle.std.proofs.Common.{ℕ, ◌<◌, ◌≤◌, sym, ◌∙◌, ap, arith}
+use Rattle.std.proofs.Common.{sym, ◌∙◌, ap, arith}
 use Rattle.fb_rules.specs.declared.offset_row.Leads.TheVariants.{All}
 use Rattle.fb_verify.specs.Turns.{IsAtMembers}
 use Rattle.fb_verify.proofs.stack.Walk.pass_row_by.Goals as goal

@@ -1,6 +1,5 @@
-use Rattle.std.proofs.Common.{◌≡◌, ℕ, ◌≤◌, sym, ◌∙◌, ap, subst, arith}
-use Rattle.fb_verify.specs.declared.stack.Walk.{Walk}
-use Rattle.fb_verify.specs.Turns.{IsBrim}
+use Rattle.std.proofs.Common.{sym, ◌∙◌, ap, subst, arith}
+use Rattle.fb_verify.specs.{Turns.IsBrim, declared.stack.Walk.Walk}
 use Rattle.fb_verify.proofs.stack.Walk.pass_top.Goals as goal
 use Rattle.fb_verify.proofs.stack.Walk.pass_top.Goals.{then-top-gt0+in-Up, else-top-gt0}
 

@@ -1,11 +1,9 @@
 use Rattle.std.proofs.Common.{◌≡◌, ℕ, ◌+◌, ◌*◌, ◌^◌, ◌<◌, ◌≤◌, sym, ◌∙◌, ap, arith}
 use Rattle.std.proofs.Math.Nat.{le_trans}
 use Rattle.fb_rules.proofs.Budgets.{fewer_reads}
-use Rattle.fb_verify.specs.declared.stack.Walk.{Walk}
-use Rattle.fb_verify.specs.Turns.{IsShort}
-use Rattle.fb_verify.proofs.Turns.{halts_behind}
+use Rattle.fb_verify.specs.{Turns.IsShort, declared.stack.Walk.Walk}
+use Rattle.fb_verify.proofs.{Turns.halts_behind, stack.Walk.pass_words.Goals.in-Text, stack.Walk.pass_words.Goals.in_default}
 use Rattle.fb_verify.proofs.stack.Walk.pass_words.Goals as goal
-use Rattle.fb_verify.proofs.stack.Walk.pass_words.Goals.{in-Text, in_default}
 
 -- the budget allows whatever the words cost
 fits : (n k f left : ℕ) {room : ℕ} → (n < 2 ^ 57 → k ≡ n) → IsShort n → f ≡ left → k + 4 * f ≤ room → n + 4 * left ≤ room

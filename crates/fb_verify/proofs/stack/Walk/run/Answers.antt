@@ -1,12 +1,9 @@
-use Rattle.std.proofs.Common.{◌≡◌, ℕ, ◌+◌, ◌<◌, ◌≤◌, List, [], length, refl, sym, ◌∙◌, ap, arith, Option, Some, None, Result, Ok, Err}
-use Rattle.std.proofs.Math.ListN.{length-set}
-use Rattle.std.proofs.lemmas.{List.get_or-set_same, List.Elements.All-nil}
+use Rattle.std.proofs.Common.{◌≡◌, ℕ, ◌<◌, List, [], length, refl, sym, ◌∙◌, ap, arith, Option, Result}
+use Rattle.std.proofs.{Math.ListN.length-set, lemmas.List.get_or-set_same, lemmas.List.Elements.All-nil}
 use Rattle.fb_bytes.specs.Word.{Lent}
-use Rattle.fb_rules.specs.declared.{site.Halt.Halt, table.Table.Table}
-use Rattle.fb_rules.specs.Told.{stopped, way_at}
+use Rattle.fb_rules.specs.{Told.stopped, Told.way_at, declared.site.Halt.Halt, declared.table.Table.Table}
+use Rattle.fb_verify.specs.{Turns.GoneOn, Turns.UsedUp, Stack.blank, Stack.opened, Stack.IsFrame, Stack.IsLinked, Stack.IsUnderWay, Stack.Origin, Stack.StopsIn, Stack.work}
 use Rattle.fb_verify.specs.declared.{scratch.Frame.Frame, stack.Walk.Walk}
-use Rattle.fb_verify.specs.Turns.{GoneOn, UsedUp}
-use Rattle.fb_verify.specs.Stack.{blank, opened, IsFrame, IsLinked, IsUnderWay, Origin, StopsIn, work}
 use Rattle.fb_rules.proofs.Few.{head_few}
 use Rattle.fb_verify.proofs.{Frames.frame_opened, Frames.work_opened, Standings.begin, Standings.stop_at_root}
 use Rattle.fb_verify.proofs.Turning.{gone_from, over_from, ran_deeper, slowly, wrong_from}

@@ -1,18 +1,8 @@
-use Rattle.std.proofs.Common.{◌≡◌, ℕ, ◌+◌, ◌<◌, List, [], ◌∷◌, ◌++◌, length, take, sym, ◌∙◌, ap, subst, get_or, arith}
-use Rattle.std.proofs.Math.ListN.{set, length-set}
-use Rattle.std.proofs.lemmas.List.{get_or-set_same, length-append, length-take}
-use Rattle.fb_verify.specs.declared.{scratch.Frame.Frame, stack.Walk.Walk}
-use Rattle.fb_verify.specs.Stack.{blank, IsWalking}
-use Rattle.fb_verify.proofs.Turning.{AreParted, stands, frames_down, frames_turned}
-use Rattle.fb_verify.proofs.stack.Walk.turn.Goals.{After-split_at_mut-low}
+use Rattle.std.proofs.Common.{◌<◌, [], ◌∷◌, length, sym, ◌∙◌, ap, subst, arith}
+use Rattle.std.proofs.{Math.ListN.set, Math.ListN.length-set, lemmas.List.get_or-set_same, lemmas.List.length-append, lemmas.List.length-take}
+use Rattle.fb_verify.specs.{Stack.blank, Stack.IsWalking, declared.scratch.Frame.Frame, declared.stack.Walk.Walk}
+use Rattle.fb_verify.proofs.{Turning.AreParted, Turning.stands, Turning.frames_down, Turning.frames_turned, stack.Walk.turn.Goals.After-split_at_mut-low}
 use Rattle.fb_verify.proofs.stack.Walk.turn.Goals as goal
-
--- so many frames wait
-many : (waiting : ℕ) (below frames : List Frame) → below ≡ take waiting frames → waiting < length frames → waiting ≡ length below
-many waiting below frames same top = omega (arith, ap length same, length-take waiting frames)
-
-pushed : {waiting : ℕ} (below : List Frame) (top : Frame) → waiting ≡ length below → waiting + 1 ≡ length (below ++ top ∷ [])
-pushed below top same = ap (λ n. n + 1) same ∙ sym (length-append below (top ∷ []))
 
 -- the frames in two parts
 parted : (g : _) (c : After-split_at_mut-low g) → AreParted g.under c.args.frames.now c.split_at_mut-low.result.0.now c.split_at_mut-low.result.1.now c.args.waiting
@@ -21,7 +11,7 @@ parted g c = record { parts = c.split_at_mut-low.ensures.value; front = c.split_
 pub pass_top-requires : goal.pass_top-requires
 pass_top-requires g c =
     let top = stands (parted g (goal.at.pass_top-requires g c).After-split_at_mut-low) in (
-      many c.args.waiting (g.under).frames c.args.frames.now c.requires.0 c.requires.1.1.1.0,
+      omega (arith, ap length c.requires.0, length-take c.args.waiting c.args.frames.now, c.requires.1.1.1.0),
       (subst (λ (x : Frame). IsWalking c.args.self.now c.args.reads.now (g.under).start (g.under).frames x) (sym top) c.requires.1.0, (c.requires.1.1.1.1.0, (c.requires.1.1.1.1.1.0, c.requires.1.1.1.1.1.1))),
     )
 
@@ -29,7 +19,7 @@ pub open_child-requires : goal.open_child-requires
 open_child-requires g c =
     let d = c.in-Down.ensures in
     let checks = ap (λ (x : Walk). x.checks) d.same in (
-      pushed (g.under).frames c.pass_top.new.top (many c.args.waiting (g.under).frames c.args.frames.now c.requires.0 c.requires.1.1.1.0),
+      omega (arith, ap length c.requires.0, length-take c.args.waiting c.args.frames.now, c.requires.1.1.1.0, length-append (g.under).frames (c.pass_top.new.top ∷ [])),
       (d.down, (d.short, c.requires.1.1.1.1.1.1 ∙ sym checks)),
     )
 

@@ -1,7 +1,6 @@
-use Rattle.std.proofs.Common.{◌≡◌, ℕ, ◌+◌, ◌<◌, ◌≤◌, List, length, take, min, get_or, refl, sym, ◌∙◌, ap, subst, arith}
+use Rattle.std.proofs.Common.{◌≡◌, length, get_or, refl, sym, ◌∙◌, ap, subst, arith}
 use Rattle.std.proofs.lemmas.List.{length-take}
-use Rattle.fb_verify.specs.declared.scratch.Frame.{Frame}
-use Rattle.fb_verify.specs.Stack.{blank, IsWalking}
+use Rattle.fb_verify.specs.{Stack.blank, Stack.IsWalking, declared.scratch.Frame.Frame}
 use Rattle.fb_verify.proofs.Turning.{AreParted, stands, went_over, goes_above, goes_below, passed_work, stays_on, stops_behind, stops_in_field}
 use Rattle.fb_verify.proofs.stack.Walk.turn_by_units.Goals.{After-split_at_mut-low}
 use Rattle.fb_verify.proofs.stack.Walk.turn_by_units.Goals as goal
@@ -43,10 +42,6 @@ returns-in-Err-pass_each g c = rw c.halt-in-Err-pass_each.ensures (stops_in_fiel
 
 -- What these calls need.
 
--- so many frames wait
-many : (n : ℕ) {d : ℕ} (below frames : List Frame) → below ≡ take n frames → length below < d → min d (n + 2) ≤ length frames → n ≡ length below
-many n below frames same links room = omega (arith, ap length same, length-take n frames, links, room)
-
 top_was : (g : _) (c : After-split_at_mut-low g) → IsWalking c.args.self.now c.args.loan.now (g.under).start (g.under).frames (get_or c.split_at_mut-low.result.0.now c.args.waiting blank)
 top_was g c = subst (λ (x : Frame). IsWalking c.args.self.now c.args.loan.now (g.under).start (g.under).frames x) (sym (stands (parted g c))) c.requires.1.0
 
@@ -55,6 +50,5 @@ pass_each-requires g c = (record { walking = top_was g (goal.at.pass_each-requir
 
 pub pass_one-requires : goal.pass_one-requires
 pass_one-requires g c =
-    let n = c.args.waiting in
-    let wait = many n (g.under).frames c.args.frames.now c.requires.0 (c.requires.1.0).links c.requires.1.1.0 in
+    let wait : c.args.waiting ≡ length (g.under).frames = omega (arith, ap length c.requires.0, length-take c.args.waiting c.args.frames.now, (c.requires.1.0).links, c.requires.1.1.0) in
     (wait, (top_was g (goal.at.pass_one-requires g c).After-split_at_mut-low, (c.if-top-gt0.true, (omega (arith, c.requires.1.1.0, c.split_at_mut-low.ensures.back_len), c.requires.1.1.1))))

@@ -1,9 +1,7 @@
 use Rattle.std.proofs.Common.{◌≡◌, ℕ, ◌+◌, ◌<◌, ◌≤◌, List, take, get_or, refl, sym, ◌∙◌, ap, subst, arith}
 use Rattle.fb_bytes.specs.Word.{Lent}
-use Rattle.fb_verify.specs.declared.{scratch.Frame.Frame, stack.Walk.Walk}
-use Rattle.fb_verify.specs.declared.stack.Turn.{Turn}
-use Rattle.fb_verify.specs.declared.stack.Turn.TheVariants.{Down, Up, Slowly, Halt as Halted}
-use Rattle.fb_verify.specs.{Stack.blank, Stack.Origin, Stack.work, Turns.FramesTurned, Turns.IsBrim, Turns.Walked, Turns.WentOn}
+use Rattle.fb_verify.specs.{Stack.blank, Stack.Origin, Stack.work, Turns.FramesTurned, Turns.IsBrim, Turns.Walked, Turns.WentOn, declared.scratch.Frame.Frame}
+use Rattle.fb_verify.specs.declared.stack.{Walk.Walk, Turn.Turn, Turn.TheVariants.Down, Turn.TheVariants.Up, Turn.TheVariants.Slowly, Turn.TheVariants.Halt as Halted}
 use Rattle.fb_verify.proofs.Turning.{begins, over_from, wrong_from}
 use Rattle.fb_verify.proofs.stack.Walk.walk_by.Goals as goal
 

@@ -1,7 +1,6 @@
 use Rattle.std.proofs.Common.{◌≡◌, ℕ, ◌^◌, ◌<◌, List, sym, arith}
 use Rattle.fb_bytes.specs.Word.{Lent}
-use Rattle.fb_verify.specs.declared.{scratch.Frame.Frame, stack.Walk.Walk}
-use Rattle.fb_verify.specs.{Stack.IsWalking, Stack.Origin, Turns.IsShort}
+use Rattle.fb_verify.specs.{Stack.IsWalking, Stack.Origin, Turns.IsShort, declared.scratch.Frame.Frame, declared.stack.Walk.Walk}
 use Rattle.fb_verify.proofs.Turning.{begins}
 use Rattle.fb_verify.proofs.stack.Walk.walk_on.Goals as goal
 
