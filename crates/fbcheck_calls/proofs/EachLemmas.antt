@@ -14,9 +14,9 @@ use Rattle.fb_access.proofs.{StepKinds.kinds_go_on, Staying.step_stays, Walks.re
 use Rattle.fb_bfbs.specs.declared.loading.Loaded.{Loaded}
 use Rattle.fbcheck_calls.specs.declared.outcome.Outcome.TheVariants.{Changed as BytesChanged}
 use Rattle.fbcheck_calls.specs.declared.{options.Options.Options, steps.PlainPath.PlainPath, steps.PlainStep.PlainStep, values.Value.Value}
-use Rattle.fbcheck_calls.specs.Each.{AreElementsTold, AreFilled, FitsEach, GoodStaysReadOfEach, HasEach, IsCountTold, IsEachOther, IsReadOfEach, MarkedPathsServe, elements_of, path_to, path_to_all, to_element}
+use Rattle.fbcheck_calls.specs.Each.{AreElementsTold, FitsEach, GoodStaysReadOfEach, HasEach, IsCountTold, IsEachOther, IsReadOfEach, MarkedPathsServe, elements_of, path_to, path_to_all, to_element}
 use Rattle.fbcheck_calls.specs.Asked.{AreKnown, root_asked}
-use Rattle.fbcheck_calls.specs.{Again.IsToldOf, Marked.IsEach, Marked.IsEachAfter, Steps.AreSteps, Steps.EndAt, Steps.FitFrom, Steps.FitHere, Steps.IsPathOf, Steps.no_step, Steps.step_of, Steps.steps_in, Steps.steps_said, Values.placed, Values.value_at, Values.value_told}
+use Rattle.fbcheck_calls.specs.{Again.AreFilled, Again.IsToldOf, Marked.IsEach, Marked.IsEachAfter, Steps.AreSteps, Steps.EndAt, Steps.FitFrom, Steps.FitHere, Steps.IsPathOf, Steps.no_step, Steps.step_of, Steps.steps_in, Steps.steps_said, Values.placed, Values.value_at, Values.value_told}
 use Rattle.fbcheck_calls.specs.Walks.{DontBegin, IsVector, IsElementTold, IsToldAt, IsToldFrom, NoneFit}
 use Rattle.fbcheck_calls.proofs.{AgainLemmas.good_is_no_other, AgainLemmas.lies_within, AgainLemmas.stuck_fits, StepLemmas.fit_more}
 

@@ -8,6 +8,10 @@ use Rattle.fb_access.specs.{Denotes.Leads, Denotes.Reaches, Fitting.next_kind, H
 use Rattle.fbcheck_calls.specs.declared.steps.PlainStep.{PlainStep}
 use Rattle.fbcheck_calls.specs.Steps.{AreSteps, FitHere, step_of}
 
+-- the step at a place is the first of those from there on
+pub next_of : (steps : List PlainStep) (i : ℕ) (d : PlainStep) → i < length steps → drop i steps ≡ get_or steps i d ∷ drop (i + 1) steps
+next_of steps i d within = rw add-one (drop-cons steps i d within)
+
 -- where the steps that are left lead is what was looked for
 abbrev pub IsReachedBy : List ℕ → Rows → Spot → List PlainStep → (Spot → Type 0) → Type 0
 IsReachedBy b S p plain W = (path : List Step) (x : Spot) → AreSteps plain path → Reaches b S p path x → W x
@@ -33,7 +37,7 @@ one_written path first room front i d c none within there are is e =
     let taken : length (take i path) ≡ i = length-take-le i path (omega arith) in
     let long : length front ≡ i = omega arith in
     let rest = drop (i + 1) first in
-    let cons : drop i first ≡ get_or first i none ∷ rest = rw add-one (drop-cons first i none there) in (
+    let cons = next_of first i none there in (
       front ++ c ∷ [],
       rw (take_more path i d within) (all_zipped_more R front (take i path) c (get_or path i d) are e),
       ap (λ r. set r i c) (is ∙ ap (λ r. front ++ r) cons) ∙ set_at front (get_or first i none) rest c i long ∙ sym (append_assoc front (c ∷ []) rest),

@@ -20,11 +20,15 @@ pub record IsToldOf (b : List ℕ) (S : Rows) (start : Start) (root : ℕ) (p : 
   pub value : IsValueOf b S start root p v
   pub within : LiesWithin (length b) v
 
--- the value at each place below so many is told of the path at this place, and the others are as they were
-pub record AreToldBelow (b : List ℕ) (S : Rows) (start : Start) (root : ℕ) (paths : List PlainPath) (n : ℕ) (values values' : List Value) : Type 0 where
-  pub told : (k : ℕ) → k < n → k < length values' → (p : PlainPath) (v : Value) → IsToldOf b S start root (slice_index_or paths k p) (slice_index_or values' k v)
+-- this holds of each value below so many, by its place, and the others are as they were
+pub record AreFilled (P : ℕ → Value → Type 0) (n : ℕ) (values values' : List Value) : Type 0 where
+  pub filled : (k : ℕ) → k < n → k < length values' → (v : Value) → P k (slice_index_or values' k v)
   pub kept : (k : ℕ) → n ≤ k → (v : Value) → slice_index_or values' k v ≡ slice_index_or values k v
   pub long : length values' ≡ length values
+
+-- the value at each place below so many is told of the path at this place, and the others are as they were
+abbrev pub AreToldBelow : List ℕ → Rows → Start → ℕ → List PlainPath → ℕ → List Value → List Value → Type 0
+AreToldBelow b S start root paths n values values' = AreFilled (λ k v. (p : PlainPath) → IsToldOf b S start root (slice_index_or paths k p) v) n values values'
 
 -- the options are known, and this holds of the root table that they ask
 abbrev pub IsAsked : Loaded → Options → (ℕ → Type 0) → Type 0
