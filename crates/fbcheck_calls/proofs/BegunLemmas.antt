@@ -3,18 +3,15 @@ use Rattle.std.proofs.Common.{◌≡◌, ℕ, ◌<◌, ◌≤◌, ◌^◌, List,
 use Rattle.std.proofs.lemmas.Bool.{false≢true}
 use Rattle.fb_access.specs.Location.{location_text}
 use Rattle.fb_schema.specs.Rows.{Rows}
-use Rattle.fb_rules.specs.{Question.Question, Question.question}
-use Rattle.fb_rules.specs.declared.{fault.Fault.Fault, fault.Report.Report, link.Link.Link, start.Ident.Ident}
-use Rattle.fb_verify.specs.Sealed.{Sealed}
-use Rattle.fb_verify.specs.declared.links.Located.{Located}
+use Rattle.fb_rules.specs.{Question.Question, Question.question, declared.fault.Fault.Fault, declared.fault.Report.Report, declared.link.Link.Link, declared.start.Ident.Ident}
+use Rattle.fb_verify.specs.{Sealed.Sealed, declared.links.Located.Located}
 use Rattle.fb_strict.specs.{AsAsked.ReportsBy, AsAsked.HasNoneBy, AsAsked.StopsBy, AsAsked.StopsAlongBy, Planned.Planned}
-use Rattle.fbcheck_calls.specs.declared.{outcome.Outcome.Outcome, outcome.Verdict.Verdict, held.Held.Held, held.Held.TheVariants.Schema, options.Options.Options, steps.PlainPath.PlainPath, values.Value.Value}
-use Rattle.fbcheck_calls.specs.declared.outcome.Outcome.TheVariants.{Good, Bad, NoIdent, TooLong, Misfit}
 use Rattle.fbcheck_calls.specs.Answered.{Begins, CanBegin, IfSchema, IsBadFrom, IsChecked, IsGoodFrom, IsTold, IsUnchecked, IsUnserved, Serves, Starts}
-use Rattle.fbcheck_calls.specs.Asked.{HasLimits, ident_asked, plan_asked, question_of, root_asked, start_asked}
-use Rattle.fbcheck_calls.specs.Bases.{Based}
-use Rattle.fbcheck_calls.specs.{Placed.IsLocated, Placed.IsPlaceTold, Placed.IsTextTold, Placed.IsUntold, Told.found_by, Told.told}
-use Rattle.fbcheck_calls.specs.{Reached.IsRead, Reached.IsUnread, Steps.AllFit, Steps.IsFirstMisfit, Values.AreValues}
+use Rattle.fbcheck_calls.specs.{Asked.HasLimits, Asked.ident_asked, Asked.plan_asked, Asked.question_of, Asked.root_asked, Asked.start_asked, Bases.Based}
+use Rattle.fbcheck_calls.specs.{Placed.IsLocated, Placed.IsPlaceTold, Placed.IsTextTold, Placed.IsUntold, Told.found_by, Told.told, Reached.IsRead, Reached.IsUnread}
+use Rattle.fbcheck_calls.specs.{Steps.AllFit, Steps.IsFirstMisfit, Values.AreValues, declared.outcome.Outcome.Outcome, declared.outcome.Verdict.Verdict, declared.held.Held.Held}
+use Rattle.fbcheck_calls.specs.declared.{held.Held.TheVariants.Schema, options.Options.Options, steps.PlainPath.PlainPath, values.Value.Value}
+use Rattle.fbcheck_calls.specs.declared.outcome.Outcome.TheVariants.{Good, Bad, NoIdent, TooLong, Misfit}
 
 -- what a call answers by a schema
 pub by_schema : {held : Held} {s : Based} (a : Outcome) (P : Based → Type 0) → held ≡ Schema s → P s → IfSchema held a P

@@ -1,12 +1,9 @@
 -- How steps lead on from a spot, and that steps that fit are allowed.
 use Rattle.std.proofs.Common.{◌≡◌, ℕ, ◌+◌, ◌<◌, get_or, add-one, List, [], ◌∷◌, ◌++◌, length, take, drop, sym, ap, subst, ◌∙◌, arith, append_assoc, drop-cons, length-take-le, Some}
-use Rattle.std.proofs.Math.ListN.{set}
-use Rattle.std.proofs.lemmas.{List.set_at, List.take_more, Slice.Zip.AllZip-long, Slice.Zip.all_zipped_more}
+use Rattle.std.proofs.{Math.ListN.set, lemmas.List.set_at, lemmas.List.take_more, lemmas.Slice.Zip.AllZip-long, lemmas.Slice.Zip.all_zipped_more}
 use Rattle.fb_schema.specs.Rows.{Rows}
-use Rattle.fb_access.specs.declared.{step.Step.Step, spot.Spot.Spot}
-use Rattle.fb_access.specs.{Denotes.Leads, Denotes.Reaches, Fitting.next_kind, Here.KindsGoOn}
-use Rattle.fbcheck_calls.specs.declared.steps.PlainStep.{PlainStep}
-use Rattle.fbcheck_calls.specs.Steps.{AreSteps, FitHere, step_of}
+use Rattle.fb_access.specs.{Denotes.Leads, Denotes.Reaches, Fitting.next_kind, Here.KindsGoOn, declared.step.Step.Step, declared.spot.Spot.Spot}
+use Rattle.fbcheck_calls.specs.{Steps.AreSteps, Steps.FitHere, Steps.step_of, declared.steps.PlainStep.PlainStep}
 
 -- the step at a place is the first of those from there on
 pub next_of : (steps : List PlainStep) (i : ℕ) (d : PlainStep) → i < length steps → drop i steps ≡ get_or steps i d ∷ drop (i + 1) steps

@@ -1,15 +1,13 @@
 -- What is answered where values are read in bytes that aren't checked: those of a buffer that was good before.
 use Rattle.std.specs.Prelude.{◌≡◌, ℕ, ◌+◌, ◌<◌, ◌≤◌, ◌^◌, List, length, slice_index_or, None, IsSomeAnd}
 use Rattle.fb_bfbs.specs.declared.loading.Loaded.{Loaded}
-use Rattle.fb_rules.specs.declared.fault.Report.{Report}
-use Rattle.fb_rules.specs.declared.start.Start.{Start}
+use Rattle.fb_rules.specs.declared.{fault.Report.Report, start.Start.Start}
 use Rattle.fb_schema.specs.Rows.{Rows}
 use Rattle.fb_access.specs.Tested.{IsOther}
-use Rattle.fbcheck_calls.specs.declared.{outcome.Outcome.Outcome, held.Held.Held, held.Held.TheVariants.Schema, held.Held.TheVariants.Room}
-use Rattle.fbcheck_calls.specs.declared.{options.Options.Options, steps.PlainPath.PlainPath, values.Value.Value}
+use Rattle.fbcheck_calls.specs.{Answered.IsChecked, Asked.AreKnown, Asked.root_asked, Asked.start_asked, Bases.Based, Steps.AllFit, Steps.IsFirstMisfit, Values.IsValueOf}
+use Rattle.fbcheck_calls.specs.declared.{outcome.Outcome.Outcome, held.Held.Held, held.Held.TheVariants.Schema, held.Held.TheVariants.Room, options.Options.Options}
+use Rattle.fbcheck_calls.specs.declared.{steps.PlainPath.PlainPath, values.Value.Value}
 use Rattle.fbcheck_calls.specs.declared.outcome.Outcome.TheVariants.{Done, Good, UnknownOptions, NoRoot, TooLong, Misfit, Changed}
-use Rattle.fbcheck_calls.specs.{Answered.IsChecked, Asked.AreKnown, Asked.root_asked, Asked.start_asked, Bases.Based}
-use Rattle.fbcheck_calls.specs.{Steps.AllFit, Steps.IsFirstMisfit, Values.IsValueOf}
 
 -- where the bytes of a value are told, they lie within so many
 abbrev pub LiesWithin : ℕ → Value → Type 0

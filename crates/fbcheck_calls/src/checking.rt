@@ -1,13 +1,11 @@
 //! The checks of buffers by a schema.
 
 ghost use Rattle.std.specs.Prelude.{◌≡◌, ◌<◌, ◌≤◌, ◌^◌, IfOk, IfSome, MatchOption, MatchResult, length};
-ghost use Rattle.fb_rules.specs.Question.{Question};
-ghost use Rattle.fb_rules.specs.declared.fault.{Fault.Fault, Report.Report};
+ghost use Rattle.fb_rules.specs.{Question.Question, declared.fault.Fault.Fault, declared.fault.Report.Report};
 ghost use Rattle.fb_verify.specs.Sealed.{Sealed};
 ghost use Rattle.fbcheck_calls.specs.Answered.{Begins, CanBegin, IfSchema, IsChecked, IsPriced, IsTold, IsUnchecked, IsUnserved, Starts, levels};
-ghost use Rattle.fbcheck_calls.specs.{Steps.AllFit, Told.found_by, Told.told, Values.AreValues};
+ghost use Rattle.fbcheck_calls.specs.{Steps.AllFit, Told.found_by, Told.told, Values.AreValues, Reached.IsRead, Reached.IsReadBy, Reached.IsUnread, Reached.StartsRead};
 ghost use Rattle.fbcheck_calls.specs.declared.outcome.Outcome.{Outcome};
-ghost use Rattle.fbcheck_calls.specs.Reached.{IsRead, IsReadBy, IsUnread, StartsRead};
 
 use crate::again::tell_values;
 use crate::basis::Basis;

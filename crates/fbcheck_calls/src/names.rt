@@ -1,8 +1,7 @@
 //! Names by their numbers, copied into room that a caller gives.
 
 ghost use Rattle.std.specs.Prelude.{◌≡◌, ℕ, List, MatchOption, Option, length, option_map};
-ghost use Rattle.fb_access.specs.{Location.field_name, PathCodes.path_code};
-ghost use Rattle.fb_access.specs.declared.path_fault.PathFault.{PathFault};
+ghost use Rattle.fb_access.specs.{Location.field_name, PathCodes.path_code, declared.path_fault.PathFault.PathFault};
 ghost use Rattle.fb_schema.specs.declared.fault.Code.{Code};
 ghost use Rattle.fbcheck_calls.specs.Told.{code_number};
 ghost use Rattle.fbcheck_calls.specs.Names.{IsCodeName, IsFaultName, IsNameTold, IsPathName, IsReasonName, NumbersNothing, filled, held_name, object_name, status_text, table_number};

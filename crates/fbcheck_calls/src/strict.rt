@@ -3,12 +3,10 @@
 ghost use Rattle.std.specs.Prelude.{◌≡◌, ◌≢◌, ◌≤◌, IfErr, IfOk, IsSome, MatchResult, Some, length, take};
 ghost use Rattle.fb_access.specs.Location.{location_text};
 ghost use Rattle.fb_rules.specs.declared.fault.Fault.{Fault};
-ghost use Rattle.fb_strict.specs.Planned.{IsPlan};
-ghost use Rattle.fb_strict.specs.declared.strictly.VerifiedStrictly.{VerifiedStrictly};
+ghost use Rattle.fb_strict.specs.{Planned.IsPlan, declared.strictly.VerifiedStrictly.VerifiedStrictly};
 ghost use Rattle.fb_verify.specs.declared.links.Located.{Located};
 ghost use Rattle.fbcheck_calls.specs.{Answered.IsChecked, Asked.plan_asked, Reached.IsRead, Steps.AllFit, Told.found_by, Told.told, Values.AreValues};
-ghost use Rattle.fbcheck_calls.specs.Placed.{IsLocated, IsTextTold, IsUntold};
-ghost use Rattle.fbcheck_calls.specs.declared.outcome.Outcome.{Outcome};
+ghost use Rattle.fbcheck_calls.specs.{Placed.IsLocated, Placed.IsTextTold, Placed.IsUntold, declared.outcome.Outcome.Outcome};
 
 use crate::again::tell_values;
 use crate::basis::Basis;

@@ -1,7 +1,6 @@
 use Rattle.std.proofs.Common.{rules}
 use Rattle.fbcheck_calls.specs.declared.outcome.Outcome.TheVariants.{NoRoot}
-use Rattle.fbcheck_calls.proofs.HandleLemmas.{levels_taken, located_by}
-use Rattle.fbcheck_calls.proofs.place.locate.Goals.{in-Room, in-Schema-inside}
+use Rattle.fbcheck_calls.proofs.{HandleLemmas.levels_taken, HandleLemmas.located_by, place.locate.Goals.in-Room, place.locate.Goals.in-Schema-inside}
 use Rattle.fbcheck_calls.proofs.place.locate.Goals as goal
 
 pub returns-in_default-clause-told : goal.returns-in_default-clause-told

@@ -1,10 +1,7 @@
 use Rattle.std.proofs.Common.{ℕ, ◌≤◌, ◌+◌, List, length, take, arith}
 use Rattle.fb_schema.specs.Rows.{Rows}
-use Rattle.fb_access.specs.declared.step.Step.{Step}
-use Rattle.fb_access.specs.Resolving.{Resolves}
-use Rattle.fbcheck_calls.specs.declared.steps.PlainPath.{PlainPath}
-use Rattle.fbcheck_calls.specs.Marked.{HasMark, at_zero}
-use Rattle.fbcheck_calls.specs.Resolved.{IsPathFor}
+use Rattle.fb_access.specs.{Resolving.Resolves, declared.step.Step.Step}
+use Rattle.fbcheck_calls.specs.{Marked.HasMark, Marked.at_zero, Resolved.IsPathFor, declared.steps.PlainPath.PlainPath}
 use Rattle.fbcheck_calls.proofs.StarLemmas.{before_refused, before_short, each_after}
 use Rattle.fbcheck_calls.proofs.resolving.marked_path.Goals as goal
 

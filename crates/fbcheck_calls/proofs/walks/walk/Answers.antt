@@ -3,8 +3,7 @@ use Rattle.std.proofs.lemmas.List.{drop_all}
 use Rattle.fb_access.specs.Denotes.{next_spot}
 use Rattle.fb_access.proofs.{StepKinds.kinds_go_on, Staying.step_stays, Tested.changed}
 use Rattle.fbcheck_calls.specs.{Steps.AreSteps, Steps.FitHere, Steps.no_step, Steps.step_of, Walks.LeadTo}
-use Rattle.fbcheck_calls.proofs.AgainLemmas.{no_step_fits, stuck_fits}
-use Rattle.fbcheck_calls.proofs.StepLemmas.{IsReachedBy, fit_more, next_of, reaches_more}
+use Rattle.fbcheck_calls.proofs.{AgainLemmas.no_step_fits, AgainLemmas.stuck_fits, StepLemmas.IsReachedBy, StepLemmas.fit_more, StepLemmas.next_of, StepLemmas.reaches_more}
 use Rattle.fbcheck_calls.proofs.walks.walk.Goals as goal
 
 pub loop-given-init : goal.loop-given-init
