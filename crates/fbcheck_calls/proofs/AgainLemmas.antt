@@ -1,15 +1,15 @@
 -- How values are read in bytes that aren't checked.
-use Rattle.std.proofs.Common.{◌≡◌, ◌≢◌, ℕ, ◌+◌, ◌<◌, ◌≤◌, ◌^◌, List, [], ◌∷◌, ◌++◌, append-nil, inl, length, get_or, arith, refl, sym, ap, subst, ◌∙◌, IsTrue, Option, Some, None, IfSome, IsSomeAnd}
+use Rattle.std.proofs.Common.{◌≡◌, ℕ, ◌+◌, ◌<◌, ◌≤◌, ◌^◌, List, [], ◌∷◌, ◌++◌, append-nil, inl, length, get_or, arith, refl, sym, ap, subst, ◌∙◌, IsTrue, Option, Some, None, IfSome, IsSomeAnd}
 use Rattle.std.proofs.lemmas.List.{get_or_default}
-use Rattle.fb_schema.specs.{Rows.Rows, Rows.is_table, Served.IsServed, declared.kinds.Kind.TheVariants.Table}
+use Rattle.fb_schema.specs.{Rows.Rows, Rows.is_table, declared.kinds.Kind.TheVariants.Table}
 use Rattle.fb_rules.specs.{Places.target, Question.Question, Verdict.Reports, WellFormed.base, declared.fault.Report.Report, declared.start.Start.Start, declared.start.Ident.Ident}
 use Rattle.fb_verify.specs.Sealed.{Sealed, IsUnfolded, sealed_by}
 use Rattle.fb_bfbs.specs.declared.loading.Loaded.{Loaded}
 use Rattle.fb_strict.specs.{AsAsked.ReportsBy, Planned.Planned}
 use Rattle.fb_strict.proofs.OneVerdict.{strict_is_ok}
-use Rattle.fb_access.specs.{Denotes.Leads, Denotes.Reaches, Denotes.Shown, Denotes.next_spot, Denotes.root_spot, Held.IsSpot, Tested.IsOther, declared.extent.Extent.Extent}
+use Rattle.fb_access.specs.{Denotes.Reaches, Denotes.Shown, Denotes.next_spot, Denotes.root_spot, Held.IsSpot, Tested.IsOther, declared.extent.Extent.Extent}
 use Rattle.fb_access.specs.declared.{step.Step.Step, spot.Spot.Spot}
-use Rattle.fb_access.proofs.{Staying.step_stays, StepKinds.allowed_leads, StepKinds.kind_allows, Walks.root_placed}
+use Rattle.fb_access.proofs.{StepKinds.allowed_leads, StepKinds.kind_allows, Walks.root_placed}
 use Rattle.fbcheck_calls.specs.{Again.AreOther, Again.GoodStaysRead, Again.IsReadAgain, Again.IsToldOf, Again.LiesWithin, Again.ValuesAreOne, Answered.IsGoodFrom, Answered.IsChecked}
 use Rattle.fbcheck_calls.specs.{Asked.AreKnown, Asked.ident_asked, Asked.if_table, Asked.limits_of, Asked.plan_asked, Asked.question_of, Asked.root_asked, Asked.start_asked, Bases.Based}
 use Rattle.fbcheck_calls.specs.{Steps.AllFit, Steps.AreSteps, Steps.DontFit, Steps.EndAt, Steps.FitFrom, Steps.FitHere, Steps.step_of, Steps.steps_in, Values.placed, Values.value_at}

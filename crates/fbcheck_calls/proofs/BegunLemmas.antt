@@ -1,5 +1,5 @@
 -- What is answered of a buffer, by what its check found once it has begun.
-use Rattle.std.proofs.Common.{◌≡◌, ℕ, ◌<◌, ◌≤◌, ◌^◌, List, length, take, Option, Some, None, Result, Ok, Err, sym, subst, refl, IfOk, IfErr, IsSome, IsSomeAnd, MatchResult}
+use Rattle.std.proofs.Common.{◌≡◌, ℕ, ◌≤◌, ◌^◌, List, length, take, Option, Some, None, Result, Ok, Err, sym, subst, refl, IfOk, IfErr, IsSome, IsSomeAnd, MatchResult}
 use Rattle.std.proofs.lemmas.Bool.{false≢true}
 use Rattle.fb_access.specs.Location.{location_text}
 use Rattle.fb_schema.specs.Rows.{Rows}

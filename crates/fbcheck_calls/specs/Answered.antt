@@ -1,7 +1,7 @@
 -- Which answer a call gives.
 use Rattle.std.specs.Prelude.{◌≡◌, ◌≢◌, ℕ, ◌<◌, ◌≤◌, ◌^◌, List, [], length, map, slice_get, Option, Some, None, Result, Ok, Err, IsSomeAnd, IsSome, IsTrue, Bool, true, false}
 use Rattle.fb_schema.specs.{Live.Live, Live.live_fields, Rows.Rows, Rows.is_table}
-use Rattle.fb_rules.specs.{Bounds.Bounds, MostReads.most_reads, Question.Question, Question.question, declared.fault.Fault.Fault, declared.fault.Report.Report, declared.start.Ident.Ident}
+use Rattle.fb_rules.specs.{Bounds.Bounds, MostReads.most_reads, Question.Question, declared.fault.Fault.Fault, declared.fault.Report.Report, declared.start.Ident.Ident}
 use Rattle.fb_bfbs.specs.{ByteFields.HasUnmarked, ByteFields.LacksMark, Loads.IsLoaded, Loads.IsLoadFault, Marks.AreMarks, Marks.Marked, Marks.marked, declared.loading.Loaded.Loaded}
 use Rattle.fb_bfbs.specs.declared.{load_fault.LoadFault.TheVariants.OutOfMemory, marks.Marks.Marks}
 use Rattle.fb_strict.specs.{Demanded.demanded, Holding.holdings_if, Holding.IsPlanFault, Planned.Planned, Planned.IsPlan, MostReads.most_reads_strictly}

@@ -1,4 +1,4 @@
-use Rattle.std.proofs.Common.{◌≡◌, ◌∷◌, ◌+◌, ◌<◌, sym, subst, drop, get_or, length, arith, None, Some}
+use Rattle.std.proofs.Common.{◌≡◌, ◌+◌, sym, subst, drop, get_or, arith, None, Some}
 use Rattle.std.proofs.lemmas.Bool.{false≢true}
 use Rattle.fb_access.specs.Fitting.{next_kind}
 use Rattle.fbcheck_calls.specs.Steps.{FitFrom, no_step, step_of}

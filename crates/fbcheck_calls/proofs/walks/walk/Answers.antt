@@ -1,4 +1,4 @@
-use Rattle.std.proofs.Common.{◌≡◌, ◌∙◌, ◌+◌, ◌<◌, [], ◌∷◌, ◌++◌, refl, sym, subst, drop, get_or, length, arith, None, Some}
+use Rattle.std.proofs.Common.{◌≡◌, ◌∙◌, ◌+◌, [], ◌++◌, refl, sym, subst, drop, get_or, arith, None, Some}
 use Rattle.std.proofs.lemmas.List.{drop_all}
 use Rattle.fb_access.specs.Denotes.{next_spot}
 use Rattle.fb_access.proofs.{StepKinds.kinds_go_on, Staying.step_stays, Tested.changed}
