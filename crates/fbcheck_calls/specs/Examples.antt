@@ -5,21 +5,26 @@ use Rattle.fb_bfbs.specs.declared.load_fault.LoadFault.TheVariants as load
 use Rattle.fb_bfbs.specs.declared.loading.Loaded.{Loaded}
 use Rattle.fb_bytes.specs.declared.stream_fault.StreamFault.TheVariants as stream
 use Rattle.fb_schema.specs.declared.fault.Code.TheVariants.{NoSuchObject, NoSuchEnum, Unsupported, BadSlot, NoTypeField, BadStruct, BadMember, NameTwice}
-use Rattle.fb_rules.specs.{Samples.table, Reasons.reason_number, declared.fault.Fault.Fault, declared.start.Ident.TheVariants.Any, declared.start.Ident.TheVariants.Want}
+use Rattle.fb_rules.specs.{Samples.table, Reasons.reason_number}
+use Rattle.fb_rules.specs.declared.{fault.Fault.Fault, start.Ident.TheVariants.Any, start.Ident.TheVariants.Want}
 use Rattle.fb_rules.specs.declared.start.Start.TheVariants.{Bare, Prefixed}
-use Rattle.fb_rules.specs.declared.fault.Reason.TheVariants.{WrongPrefix, OutOfBuffer, Misaligned, ZeroOffset, WrongIdentifier, TooDeep, TooManyTables, BadVtable, MissingRequired}
-use Rattle.fb_rules.specs.declared.fault.Reason.TheVariants.{NoTerminator, LengthsDiffer, PastTable, TooManyReads, FlexContent, NotUtf8, UnknownField}
+use Rattle.fb_rules.specs.declared.fault.Reason.TheVariants.{WrongPrefix, OutOfBuffer, Misaligned, ZeroOffset, WrongIdentifier, TooDeep, TooManyTables, BadVtable}
+use Rattle.fb_rules.specs.declared.fault.Reason.TheVariants.{MissingRequired, NoTerminator, LengthsDiffer, PastTable, TooManyReads, FlexContent, NotUtf8, UnknownField}
 use Rattle.fb_access.specs.Denotes as denotes
 use Rattle.fb_access.specs.declared.path_fault.PathFault.TheVariants as path
 use Rattle.fb_access.specs.declared.step.Step.TheVariants.{Field, Element, Member}
-use Rattle.fbcheck_calls.specs.Asked.{asks_marks, checks_asked, demands_of, ident_asked, known_demands, limits_of, plan_asked, published, root_asked, start_asked}
-use Rattle.fbcheck_calls.specs.{Bases.Based, Framers.IsRoom, Framers.fed_status, Framers.used_or, Names.filled, Names.number_or_none, Placed.cut_to, Spans.all_good, Spans.cut}
-use Rattle.fbcheck_calls.specs.{Steps.no_step, Steps.step_of, Steps.steps_in, Told.blank, Told.code_number, Told.told, Values.placed, Values.plain, Values.value_told}
-use Rattle.fbcheck_calls.specs.declared.{outcome.Outcome.Outcome, outcome.Verdict.Verdict, options.Options.Options, steps.PlainPath.PlainPath, steps.PlainStep.PlainStep}
-use Rattle.fbcheck_calls.specs.declared.outcome.Outcome.TheVariants.{Done, Good, Bad, UnknownOptions, OutOfRange, NoIdent, NoRoot, TooLong, NoSchema, NoSpan, BadStream, BadPath, NoRoom}
-use Rattle.fbcheck_calls.specs.declared.outcome.Outcome.TheVariants.{Misfit, NotPlanned, UnmarkedBytes, NoSuchTable}
+use Rattle.fbcheck_calls.specs.declared.{outcome.Outcome.Outcome, outcome.Verdict.Verdict, options.Options.Options, steps.PlainPath.PlainPath}
+use Rattle.fbcheck_calls.specs.declared.steps.PlainStep.{PlainStep}
 use Rattle.fbcheck_calls.specs.declared.status.Status.TheVariants as statuses
-use Rattle.fb_strict.specs.{Demanded.demanded, Planned.Planned, declared.demands.Demands.Demands}
+use Rattle.fbcheck_calls.specs.declared.outcome.Outcome.TheVariants.{Done, Good, Bad, UnknownOptions, OutOfRange, NoIdent, NoRoot, TooLong, NoSchema}
+use Rattle.fbcheck_calls.specs.declared.outcome.Outcome.TheVariants.{NoSpan, BadStream, BadPath, NoRoom, Misfit, NotPlanned, UnmarkedBytes, NoSuchTable}
+use Rattle.fb_strict.specs.{Demanded.demanded, Planned.Planned}
+use Rattle.fb_strict.specs.declared.demands.Demands.{Demands}
+use Rattle.fbcheck_calls.specs.Asked.{asks_marks, checks_asked, demands_of, ident_asked, known_demands, limits_of, plan_asked, published, root_asked, start_asked}
+use Rattle.fbcheck_calls.specs.Bases.{Based}
+use Rattle.fbcheck_calls.specs.{Framers.IsRoom, Framers.fed_status, Framers.used_or, Names.filled, Names.number_or_none, Placed.cut_to}
+use Rattle.fbcheck_calls.specs.{Spans.all_good, Spans.cut, Steps.no_step, Steps.step_of, Steps.steps_in, Told.blank, Told.code_number, Told.told}
+use Rattle.fbcheck_calls.specs.Values.{placed, plain, value_told}
 
 -- ---- answers in numbers
 
