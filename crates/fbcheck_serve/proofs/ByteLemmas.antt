@@ -7,9 +7,8 @@ use Rattle.fb_bfbs.specs.{ByteFields.HasUnmarked, Marks.Marked}
 use Rattle.fb_bfbs.specs.declared.marks.Builtins.{Builtins}
 use Rattle.fb_strict.specs.Holding.{IsPlanFault, is_lost}
 use Rattle.fb_strict.specs.declared.holding.PlanFault.TheVariants.{NoSuchTable as Lost}
-use Rattle.fbcheck_serve.specs.ByteFields.{LacksPlan, Misses, has_lost}
-use Rattle.fbcheck_texts.specs.Hints.{fault_with}
-use Rattle.fbcheck_texts.specs.declared.{fault.AskFault.AskFault, fault.AskFault.TheVariants.NoSuchTable, fault.AskFault.TheVariants.OutOfMemory, fault.AskFault.TheVariants.UnmarkedBytes}
+use Rattle.fbcheck_serve.specs.{ByteFields.LacksPlan, ByteFields.Misses, ByteFields.has_lost, Hints.fault_with}
+use Rattle.fbcheck_serve.specs.declared.fault.AskFault.{AskFault, TheVariants.NoSuchTable, TheVariants.OutOfMemory, TheVariants.UnmarkedBytes}
 
 -- a fault, or want of memory
 pub told_or_not : {A : Type 0} (fault told : AskFault) (hint : Result A AllocError) → told ≡ fault_with fault hint → (told ≡ fault) ⊎ (told ≡ OutOfMemory)

@@ -3,8 +3,7 @@ use Rattle.std.proofs.Common.{◌≡◌, ℕ, ◌+◌, ◌-◌, Err, List, Ok, a
 use Rattle.fb_run.specs.{Ends.Ends, Ends.Writer, Ends.with_writer, Faults.End, Faults.EndsBeside, Faults.EndsWith, Faults.Failures, Faults.failures_of, Job.Job}
 use Rattle.fb_run.specs.declared.fault.RunFault.{RunFault}
 use Rattle.fb_run.specs.declared.fault.RunFault.TheVariants as run
-use Rattle.fbcheck_serve.specs.Names.{Named}
-use Rattle.fbcheck_serve.specs.Heads.{IsCut, IsHeadPut, IsHeaded, head_of, with_head}
+use Rattle.fbcheck_serve.specs.{Names.Named, Heads.IsCut, Heads.IsHeadPut, Heads.IsHeaded, Heads.head_of, Heads.with_head}
 
 -- the calls that failed, with so many of the writer
 abbrev with_writes : Ends → ℕ → Failures

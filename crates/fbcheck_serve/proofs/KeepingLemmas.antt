@@ -3,7 +3,7 @@ use Rattle.std.proofs.Common.{◌≡◌, ℕ, List, Option, Some, None, refl, su
 use Rattle.std.specs.Prelude.{option_map, string_bytes}
 use Rattle.fb_run.specs.Ends.{Writer, nowhere}
 use Rattle.fbcheck_serve.specs.Keeping.{AreKeptBy, Keeping, Maker}
-use Rattle.fbcheck_words.specs.declared.choices.Settings.{Settings}
+use Rattle.fbcheck_serve.specs.declared.choices.Settings.{Settings}
 
 module _ (maker : Maker) (settings : Settings) (Holds : Writer → Writer → Type 0) where
   -- where no file is named, and where one is

@@ -3,9 +3,8 @@ use Rattle.std.proofs.Common.{◌≡◌, ◌∙◌, ◌≢◌, ℕ, suc, ◌+◌
 use Rattle.std.proofs.lemmas.{Bool.false_from_ne_true, Bool.ne_eqb, Str.IsUtf8-from_is_utf8, Str.is_utf8-from_IsUtf8}
 use Rattle.std.specs.Prelude.{◌==◌, None, Some}
 use Rattle.std.specs.Str.{IsUtf8, is_utf8}
+use Rattle.fbcheck_serve.specs.{CheckLaws.AreNamesAsWritten, CheckLaws.IsUnbroken, CheckLaws.spelled, Names.Named, Names.last_name, Names.listed_from, Names.listed_name, Names.wrong_text}
 use Rattle.fbcheck_serve.specs.declared.names.Misnomer.TheVariants.{NotText}
-use Rattle.fbcheck_serve.specs.CheckLaws.{AreNamesAsWritten, IsUnbroken, spelled}
-use Rattle.fbcheck_serve.specs.Names.{Named, last_name, listed_from, listed_name, wrong_text}
 
 -- bytes that are a text, and bytes that are none
 pub text_right : (text bytes : List ℕ) → text ≡ bytes → IsUtf8 text → wrong_text bytes ≡ None

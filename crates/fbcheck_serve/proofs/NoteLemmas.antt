@@ -5,17 +5,13 @@ use Rattle.std.specs.{Io.KnownBytes.Appends, Global.Global, Prelude.String}
 use Rattle.std.proofs.{KnownBytes.Appends-trans, KnownBytes.Keeps-refl, Math.Nat.eq-or-lt_of_le, Math.Seq.take-append-add, Math.Seq.take-length}
 use Rattle.std.proofs.Common.{Err, None, refl, codes}
 use Rattle.std.proofs.lemmas.List.{length-append}
-use Rattle.fbcheck_texts.specs.declared.causes.Causes.{Causes}
+use Rattle.fbcheck_serve.specs.{FaultJson.fault_object, Texts.stopped_text, Inputs.IsHintLine, Inputs.IsNoted, Inputs.IsStopOf}
+use Rattle.fbcheck_serve.specs.Serving.{Complains, IsBehindStop, IsEndLine, IsStopLine, IsStopTold, TellsStop, is_quiet, stop_status, stop_text}
+use Rattle.fbcheck_serve.specs.declared.{causes.Causes.Causes, framing.Manner.Manner, stop.Ending.Ending, stop.Ending.TheVariants.Checked, stop.EarlyEnd.EarlyEnd}
 use Rattle.fb_bytes.specs.Ends.{one_more}
 use Rattle.fb_run.specs.Ends.{Writer}
 use Rattle.fb_run.specs.declared.{options.LineForm.LineForm, options.LineForm.TheVariants.Json, tally.Tally.Tally}
-use Rattle.fbcheck_texts.proofs.FaultJsonLemmas.{object_in, plain_in}
-use Rattle.fbcheck_texts.specs.FaultJson.{fault_object}
-use Rattle.fbcheck_texts.specs.Texts.{stopped_text}
-use Rattle.fbcheck_texts.specs.declared.framing.Manner.{Manner}
-use Rattle.fbcheck_serve.specs.Inputs.{IsHintLine, IsNoted, IsStopOf}
-use Rattle.fbcheck_serve.specs.Serving.{Complains, IsBehindStop, IsEndLine, IsStopLine, IsStopTold, TellsStop, is_quiet, stop_status, stop_text}
-use Rattle.fbcheck_serve.specs.declared.{stop.Ending.Ending, stop.Ending.TheVariants.Checked, stop.EarlyEnd.EarlyEnd}
+use Rattle.fbcheck_serve.proofs.FaultJsonLemmas.{object_in, plain_in}
 use Rattle.fbcheck_serve.specs.declared.stop.EarlyEnd.TheVariants as stop
 
 -- the first text stands written, and the second whole or in part

@@ -18,14 +18,13 @@ use Rattle.fb_bfbs.specs.LoadLaws.{Applies, IsSameLoad, ident_bytes}
 use Rattle.fb_bfbs.specs.declared.loading.Loaded.{Loaded}
 use Rattle.fb_strict.specs.{Planned.IsPlan, Planned.Planned}
 use Rattle.fb_strict.proofs.Marks.{one_plan}
-use Rattle.fbcheck_serve.specs.Asked.{ArePaths, AsksBy, IsAsked, IsAskedPlan, demanded, demanded_by, IsFound, IsPath, LacksIdent, IsPathFault, HasPathFault, Own, asked_root, options_of, own_label, path_texts}
-use Rattle.fbcheck_serve.specs.Inputs.{with_label}
-use Rattle.fbcheck_serve.specs.CheckLaws.{AsksOnce}
-use Rattle.fbcheck_serve.specs.{ByteFields.has_lost, FileMarks.ArePlanMarks, FileMarks.IsMarkedFile, FileMarks.schema_limits}
+use Rattle.fbcheck_serve.specs.Asked.{ArePaths, AsksBy, IsAsked, IsAskedPlan, demanded, demanded_by, IsFound, IsPath, LacksIdent, IsPathFault, HasPathFault, Own, asked_root, options_of}
+use Rattle.fbcheck_serve.specs.{Asked.own_label, Asked.path_texts, Inputs.with_label, CheckLaws.AsksOnce, ByteFields.has_lost}
+use Rattle.fbcheck_serve.specs.FileMarks.{ArePlanMarks, IsMarkedFile, schema_limits}
 use Rattle.fbcheck_serve.specs.Checking.{AsksMarks, HasLostMark, HasUnmarkedBytes, MayAsk, IsSchema, IsNoSchema, own_of}
-use Rattle.fbcheck_words.specs.declared.choices.Settings.{Settings}
-use Rattle.fbcheck_texts.specs.declared.fault.AskFault.{AskFault}
-use Rattle.fbcheck_texts.specs.declared.fault.AskFault.TheVariants.{Load, Path, NoRoot, NoIdent, UnmarkedBytes, NoSuchTable, OutOfMemory}
+use Rattle.fbcheck_serve.specs.declared.choices.Settings.{Settings}
+use Rattle.fbcheck_serve.specs.declared.fault.AskFault.{AskFault, TheVariants.Load, TheVariants.Path, TheVariants.NoRoot, TheVariants.NoIdent, TheVariants.UnmarkedBytes}
+use Rattle.fbcheck_serve.specs.declared.fault.AskFault.TheVariants.{NoSuchTable, OutOfMemory}
 
 module _ (rows : Rows) (root : ℕ) where
   one_path : (text : List ℕ) (x y : Wanted) → IsPath rows root text x → IsPath rows root text y → x ≡ y

@@ -10,10 +10,8 @@ use Rattle.fb_access.specs.declared.path_fault.PathFault.{PathFault}
 use Rattle.fb_schema.specs.Rows.{Rows}
 use Rattle.fb_run.specs.Wanted.{Wanted}
 use Rattle.fb_run.proofs.FoundLemmas.{both_more}
-use Rattle.fbcheck_serve.specs.Asked.{ArePaths, IsPath, IsPathFault, PathFails}
-use Rattle.fbcheck_serve.specs.Checking.{IsPathless}
-use Rattle.fbcheck_texts.specs.Hints.{fault_with}
-use Rattle.fbcheck_texts.specs.declared.{fault.AskFault.AskFault, fault.AskFault.TheVariants.OutOfMemory, fault.AskFault.TheVariants.Path}
+use Rattle.fbcheck_serve.specs.{Asked.ArePaths, Asked.IsPath, Asked.IsPathFault, Asked.PathFails, Checking.IsPathless, Hints.fault_with}
+use Rattle.fbcheck_serve.specs.declared.fault.AskFault.{AskFault, TheVariants.OutOfMemory, TheVariants.Path}
 
 module _ (rows : Rows) (root : ℕ) where
   -- the next text fails, behind those that name paths

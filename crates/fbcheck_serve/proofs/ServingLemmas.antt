@@ -7,32 +7,28 @@ use Rattle.std.specs.Prelude.{if◌then◌else◌, IfOk, IfSome, String, Vec, ma
 use Rattle.std.proofs.{KnownBytes.Keeps-refl, Math.Seq.take-length}
 use Rattle.std.proofs.lemmas.{Bool.eq-eqb, Bool.eqb-true, List.length-map, List.nil_from_length}
 use Rattle.clap.specs.{Faults.fault_of, Walk.Text}
-use Rattle.fbcheck_words.specs.{CommandLine.program, Given.AreGiven, Refusal.Refuses, Values.text_of, Values.values_of}
+use Rattle.fbcheck_serve.specs.{CommandLine.program, Given.AreGiven, Refusal.Refuses, Values.text_of, Values.values_of}
 use Rattle.fbcheck_serve.specs.Checking.{IsPromptAmongAsked, IsPromptAsAsked, IsPromptOverAsked, MayReadAsked}
-use Rattle.fbcheck_serve.specs.Keeping.{IsCheckedKeeping, IsServedKeeping, Maker}
-use Rattle.fbcheck_serve.specs.declared.check.Kept as check
-use Rattle.fbcheck_serve.specs.declared.check.Unbegun.{Unbegun}
-use Rattle.fbcheck_serve.specs.declared.check.Unbegun.TheVariants as unbegun
-use Rattle.fbcheck_texts.specs.Faults.{IsFile, HasFileFault}
-use Rattle.fbcheck_texts.specs.declared.{fault.FileFault.FileFault, fault.WordsFault.WordsFault, framing.By.By, framing.Manner.Manner}
-use Rattle.fbcheck_serve.specs.Lists.{AreNamed, HasListFault, IsList, named_by}
-use Rattle.fbcheck_serve.specs.Names.{Named, listed_names, word_names}
+use Rattle.fbcheck_serve.specs.{Keeping.IsCheckedKeeping, Keeping.IsServedKeeping, Keeping.Maker, Faults.IsFile, Faults.HasFileFault}
+use Rattle.fbcheck_serve.specs.{Lists.AreNamed, Lists.HasListFault, Lists.IsList, Lists.named_by, Names.Named, Names.listed_names, Names.word_names}
 use Rattle.fbcheck_serve.specs.Inputs.{Folder, Seen, with_cause}
+use Rattle.fbcheck_serve.specs.Serving.{ChecksAsAsked, ComesAsAsked, ComesBy, ComesTo, IsAlone, IsNameless, EndsFiles, EndsRun, EndsSo, HoldsAsGiven, IsPromptAsGiven, MayReadAsGiven}
+use Rattle.fbcheck_serve.specs.Serving.{PassesAsAsked, Rests, SumsUp, TellsAsGiven, TellsIn, IsFormOf, Unserved, files_ending, is_set, lent_bytes, run_ending, summed, unbegun_stop, words_of}
+use Rattle.fbcheck_serve.specs.declared.{check.Unbegun.Unbegun, fault.FileFault.FileFault, fault.WordsFault.WordsFault, framing.By.By, framing.Manner.Manner}
+use Rattle.fbcheck_serve.specs.declared.choices.{Settings.Settings, SettingsFault.SettingsFault}
+use Rattle.fbcheck_serve.specs.declared.{stop.Ending.Ending, stop.Ending.TheVariants.Helped, stop.EarlyEnd.EarlyEnd, stop.Sums.Sums, inputs.Course.Course}
 use Rattle.fb_run.specs.{Ends.Ends, Ends.Reader, Ends.Writer, Ends.beside, Ends.nowhere, Ends.with_rejects, Faults.End, Faults.EndsBeside, JsonSums.summary_in, Leave.ends_of}
 use Rattle.fb_run.specs.declared.run.Ran.{Ran}
 use Rattle.fb_bytes.specs.declared.stream_fault.StreamFault.TheVariants as stream
 use Rattle.fb_run.specs.declared.fault.RunFault.TheVariants as run
-use Rattle.fbcheck_serve.specs.Serving.{ChecksAsAsked, ComesAsAsked, ComesBy, ComesTo, IsAlone, IsNameless, EndsFiles, EndsRun, EndsSo, HoldsAsGiven, IsPromptAsGiven, MayReadAsGiven, PassesAsAsked, Rests, SumsUp, TellsAsGiven, TellsIn, IsFormOf, Unserved}
-use Rattle.fbcheck_serve.specs.Serving.{files_ending, is_set, lent_bytes, run_ending, summed, unbegun_stop, words_of}
 use Rattle.fbcheck_serve.proofs.AskedLemmas.{idle}
-use Rattle.fbcheck_serve.specs.declared.inputs.Passed as inputs
 use Rattle.fb_run.specs.declared.input.Input as input
 use Rattle.fb_bytes.specs.declared.ends.Sink as sink
-use Rattle.fbcheck_words.specs.declared.choices.SettingsFault.TheVariants as refusal
-use Rattle.fbcheck_words.specs.declared.{choices.Settings.Settings, choices.SettingsFault.SettingsFault}
 use Rattle.fb_run.specs.declared.{options.LineForm.LineForm, options.LineForm.TheVariants.Plain, tally.Tally.Tally}
-use Rattle.fbcheck_serve.specs.declared.{stop.Ending.Ending, inputs.Course.Course, stop.Ending.TheVariants.Helped}
-use Rattle.fbcheck_serve.specs.declared.{stop.EarlyEnd.EarlyEnd, stop.Sums.Sums}
+use Rattle.fbcheck_serve.specs.declared.check.Kept as check
+use Rattle.fbcheck_serve.specs.declared.check.Unbegun.TheVariants as unbegun
+use Rattle.fbcheck_serve.specs.declared.inputs.Passed as inputs
+use Rattle.fbcheck_serve.specs.declared.choices.SettingsFault.TheVariants as refusal
 use Rattle.fbcheck_serve.specs.declared.stop.EarlyEnd.TheVariants as stop
 
 module _ (folder : Folder) where

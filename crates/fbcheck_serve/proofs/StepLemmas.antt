@@ -11,8 +11,7 @@ use Rattle.fb_access.specs.Resolving.{Follows}
 use Rattle.fb_access.specs.declared.step.Step.{Step}
 use Rattle.fb_schema.specs.Rows.{Rows}
 use Rattle.fb_schema.specs.declared.{kinds.Kind.Kind, kinds.Kind.TheVariants.Table}
-use Rattle.fbcheck_serve.specs.CheckLaws.{AreStepsAsWritten}
-use Rattle.fbcheck_words.specs.Given.{is_sign}
+use Rattle.fbcheck_serve.specs.{CheckLaws.AreStepsAsWritten, Given.is_sign}
 
 -- how many bytes of a text begin a further step
 abbrev begun : List ℕ → ℕ

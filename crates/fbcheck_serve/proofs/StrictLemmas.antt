@@ -7,12 +7,10 @@ use Rattle.fb_bfbs.specs.{ByteFields.HasUnmarked, Marks.AreMarks, Marks.marked}
 use Rattle.fb_bfbs.specs.declared.{marks.Marks.Marks}
 use Rattle.fb_strict.specs.{Demanded.demanded as holding, Holding.holdings_if, Planned.IsPlan, Planned.Planned}
 use Rattle.fb_strict.specs.declared.demands.Demands.{Demands}
-use Rattle.fbcheck_serve.specs.Asked.{IsAskedPlan, demanded, demanded_by, is_demanding}
-use Rattle.fbcheck_serve.specs.ByteFields.{LacksPlan, Misses, has_lost}
-use Rattle.fbcheck_serve.specs.Checking.{IsPlanBy, IsPlanless, LacksPlanBy, MayAsk, NeedsMarks}
-use Rattle.fbcheck_serve.specs.FileMarks.{ArePlanMarks, schema_limits}
-use Rattle.fbcheck_texts.specs.declared.{fault.AskFault.AskFault, fault.AskFault.TheVariants.NoSuchTable, fault.AskFault.TheVariants.OutOfMemory, fault.AskFault.TheVariants.UnmarkedBytes, hint.Unasked.Unasked}
-use Rattle.fbcheck_words.specs.declared.choices.Settings.{Settings}
+use Rattle.fbcheck_serve.specs.{Asked.IsAskedPlan, Asked.demanded, Asked.demanded_by, Asked.is_demanding, ByteFields.LacksPlan, ByteFields.Misses, ByteFields.has_lost}
+use Rattle.fbcheck_serve.specs.{Checking.IsPlanBy, Checking.IsPlanless, Checking.LacksPlanBy, Checking.MayAsk, Checking.NeedsMarks, FileMarks.ArePlanMarks, FileMarks.schema_limits}
+use Rattle.fbcheck_serve.specs.declared.fault.AskFault.{AskFault, TheVariants.NoSuchTable, TheVariants.OutOfMemory, TheVariants.UnmarkedBytes}
+use Rattle.fbcheck_serve.specs.declared.{hint.Unasked.Unasked, choices.Settings.Settings}
 
 -- Whose marks are asked.
 

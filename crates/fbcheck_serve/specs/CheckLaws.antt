@@ -6,11 +6,8 @@ use Rattle.fb_access.specs.Resolving.{Resolves}
 use Rattle.fb_access.specs.declared.step.Step.{Step}
 use Rattle.fb_run.specs.Job.{Job}
 use Rattle.fb_schema.specs.Rows.{Rows}
-use Rattle.fbcheck_serve.specs.Checking.{Asks}
-use Rattle.fbcheck_serve.specs.Names.{last_name, listed_name, listed_names}
-use Rattle.fbcheck_words.specs.Given.{steps_in}
-use Rattle.fbcheck_words.specs.declared.choices.Settings.{Settings}
-use Rattle.fbcheck_texts.specs.declared.fault.AskFault.{AskFault}
+use Rattle.fbcheck_serve.specs.{Checking.Asks, Names.last_name, Names.listed_name, Names.listed_names, Given.steps_in}
+use Rattle.fbcheck_serve.specs.declared.{choices.Settings.Settings, fault.AskFault.AskFault}
 
 -- a schema file and the settings ask at most one thing
 abbrev pub AsksOnce : Type 0

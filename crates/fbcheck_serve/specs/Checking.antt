@@ -10,17 +10,14 @@ use Rattle.fb_bfbs.specs.{ByteFields.HasUnmarked, Marks.AreMarks, Marks.Marked, 
 use Rattle.fb_bfbs.specs.declared.{marks.Builtins.Builtins, marks.Marks.Marks}
 use Rattle.fb_strict.specs.Planned.{IsPlan, Planned}
 use Rattle.fbcheck_serve.specs.{ByteFields.AreTold, ByteFields.LacksTable, ByteFields.Misses, FileMarks.IsMarkedFile, FileMarks.schema_limits}
-use Rattle.fbcheck_serve.specs.Asked.{AsksBy, IsPathFault, Own, demanded_by}
-use Rattle.fbcheck_serve.specs.Heads.{IsHeaded, RunsBehindHead, ServesBehindHead}
-use Rattle.fbcheck_serve.specs.{Lists.AreNamed, Names.Named, Names.all_named}
-use Rattle.fbcheck_serve.specs.Inputs.{Folder, IsPromptAmong, IsPromptOver, MayReadEach, Seen}
+use Rattle.fbcheck_serve.specs.{Asked.AsksBy, Asked.IsPathFault, Asked.Own, Asked.demanded_by, Heads.IsHeaded, Heads.RunsBehindHead, Heads.ServesBehindHead, Lists.AreNamed}
+use Rattle.fbcheck_serve.specs.{Names.Named, Names.all_named, Inputs.Folder, Inputs.IsPromptAmong, Inputs.IsPromptOver, Inputs.MayReadEach, Inputs.Seen}
+use Rattle.fbcheck_serve.specs.declared.choices.Settings.{Settings}
+use Rattle.fbcheck_serve.specs.declared.fault.{AskFault.AskFault, CheckFault.CheckFault, AskFault.TheVariants.Load, AskFault.TheVariants.Path, AskFault.TheVariants.UnmarkedBytes}
+use Rattle.fbcheck_serve.specs.declared.{fault.AskFault.TheVariants.NoSuchTable, fault.AskFault.TheVariants.OutOfMemory, hint.Unasked.Unasked, inputs.Course.Course, inputs.Passed.Passed}
 use Rattle.fb_run.specs.{Ends.Ends, Ends.Unwritten, Ends.Writer, Ends.with_rejects, Faults.End, Faults.EndsBeside, Faults.IsUnfailed, Faults.failures_of, Job.Job, Prompt.IsPrompt}
 use Rattle.fb_run.specs.declared.{run.Ran.Ran, tally.Tally.Tally}
-use Rattle.fbcheck_words.specs.declared.choices.Settings.{Settings}
-use Rattle.fbcheck_texts.specs.declared.{fault.AskFault.AskFault, hint.Unasked.Unasked, fault.CheckFault.CheckFault}
-use Rattle.fbcheck_texts.specs.declared.fault.AskFault.TheVariants.{Load, Path, UnmarkedBytes, NoSuchTable, OutOfMemory}
-use Rattle.fbcheck_serve.specs.declared.{inputs.Course.Course, inputs.Passed.Passed}
-use Rattle.fbcheck_texts.specs.declared.fault.CheckFault.TheVariants as check
+use Rattle.fbcheck_serve.specs.declared.fault.CheckFault.TheVariants as check
 
 -- the root table and the identifier of a schema that was loaded
 abbrev pub own_of : Loaded → Own

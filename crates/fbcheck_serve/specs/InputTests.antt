@@ -7,8 +7,7 @@ use Rattle.fb_run.specs.declared.run.Ran.{Ran}
 use Rattle.fbcheck_serve.specs.Inputs.{are_named, course_with, fault_line, is_final, label_of}
 use Rattle.fbcheck_serve.specs.Names.{listed_name, listed_names, misnomer_text, word_name, wrong_name}
 use Rattle.fbcheck_serve.specs.declared.names.Misnomer.TheVariants.{Empty, NotText}
-use Rattle.fbcheck_serve.specs.declared.{inputs.Course.Course, inputs.Standard.TheVariants.Unread, inputs.Standard.TheVariants.Spent}
-use Rattle.fbcheck_serve.specs.declared.inputs.Missed.TheVariants.{Again}
+use Rattle.fbcheck_serve.specs.declared.inputs.{Course.Course, Standard.TheVariants.Unread, Standard.TheVariants.Spent, Missed.TheVariants.Again}
 
 -- no file yet
 abbrev pub none : Course

@@ -9,14 +9,13 @@ use Rattle.fb_bytes.specs.declared.ends.Sink as sink
 use Rattle.fb_run.specs.declared.input.Input as input
 use Rattle.fb_run.specs.declared.fault.RunFault.TheVariants.{WriteFault, NoteFault, RejectFault, OutOfMemory}
 use Rattle.std.specs.declared.io.ErrorKind.{ErrorKind}
-use Rattle.fbcheck_texts.specs.{Causes.reason_text, FaultJson.IsLineIn, FaultJson.fault_object, FaultJson.hint_object, Hints.IsHint, Hints.IsRunHint, Texts.of_read, Texts.run_text, Texts.stopped_text}
-use Rattle.fbcheck_serve.specs.Names.{Named, is_standard, misnomer_text, wrong_name}
+use Rattle.fbcheck_serve.specs.{Causes.reason_text, FaultJson.IsLineIn, FaultJson.fault_object, FaultJson.hint_object, Hints.IsHint, Hints.IsRunHint}
+use Rattle.fbcheck_serve.specs.{Texts.of_read, Texts.run_text, Texts.stopped_text, Names.Named, Names.is_standard, Names.misnomer_text, Names.wrong_name}
+use Rattle.fbcheck_serve.specs.declared.fault.FileFault.{FileFault}
+use Rattle.fbcheck_serve.specs.declared.inputs.{Course.Course, Standard.Standard, Standard.TheVariants.Unread, Standard.TheVariants.Spent, Missed.Missed}
 use Rattle.fbcheck_serve.specs.declared.files.Files as files
-use Rattle.fbcheck_texts.specs.declared.causes.Explains as explains
-use Rattle.fbcheck_texts.specs.declared.fault.FileFault.{FileFault}
-use Rattle.fbcheck_texts.specs.declared.fault.FileFault.TheVariants as file
-use Rattle.fbcheck_serve.specs.declared.{inputs.Course.Course, inputs.Standard.Standard}
-use Rattle.fbcheck_serve.specs.declared.{inputs.Standard.TheVariants.Unread, inputs.Standard.TheVariants.Spent, inputs.Missed.Missed}
+use Rattle.fbcheck_serve.specs.declared.causes.Explains as explains
+use Rattle.fbcheck_serve.specs.declared.fault.FileFault.TheVariants as file
 use Rattle.fbcheck_serve.specs.declared.inputs.Missed.TheVariants as missed
 
 -- the sum of two counts of messages, or the most that is told

@@ -4,12 +4,11 @@ use Rattle.std.specs.Prelude.{◌≡◌, ℕ, true, false, Some, None, Vec, code
 use Rattle.std.specs.declared.io.ErrorKind.TheVariants as kind
 use Rattle.fb_run.specs.Sums.{no_tally}
 use Rattle.fb_run.specs.declared.fault.RunFault.TheVariants as run
-use Rattle.fbcheck_words.specs.declared.choices.SettingsFault.TheVariants as refusal
-use Rattle.fbcheck_texts.specs.{Texts.file_text, Texts.of_read, Texts.words_text}
-use Rattle.fbcheck_texts.specs.declared.fault.FileFault.TheVariants as file
-use Rattle.fbcheck_texts.specs.declared.fault.WordsFault.TheVariants as words
-use Rattle.fbcheck_texts.specs.declared.{framing.By.TheVariants.Named, framing.Framing.TheVariants.Prefixed}
-use Rattle.fbcheck_serve.specs.Serving.{is_quiet, stop_text}
+use Rattle.fbcheck_serve.specs.{Texts.file_text, Texts.of_read, Texts.words_text, Serving.is_quiet, Serving.stop_text}
+use Rattle.fbcheck_serve.specs.declared.framing.{By.TheVariants.Named, Framing.TheVariants.Prefixed}
+use Rattle.fbcheck_serve.specs.declared.choices.SettingsFault.TheVariants as refusal
+use Rattle.fbcheck_serve.specs.declared.fault.FileFault.TheVariants as file
+use Rattle.fbcheck_serve.specs.declared.fault.WordsFault.TheVariants as words
 use Rattle.fbcheck_serve.specs.declared.stop.EarlyEnd.TheVariants as stop
 
 -- why it comes to rest

@@ -3,7 +3,7 @@
 
 ghost use Rattle.fbcheck_serve.specs.{CheckLaws.AreStepsAsWritten, CheckLaws.AreNamesAsWritten, CheckLaws.AsksOnce};
 ghost use Rattle.fbcheck_serve.specs.{InputTests.Courses, InputTests.Finals, InputTests.Labels, InputTests.Listed, StopTests.StopTexts};
-ghost use Rattle.fbcheck_texts.specs.TextTests.{AskTexts, LoadTexts, RunTexts};
+ghost use Rattle.fbcheck_serve.specs.TextTests.{AskTexts, LoadTexts, RunTexts};
 
 /// A schema file, or none, and the settings ask at most one thing: that the buffers are checked by one job, or that
 /// nothing is checked, for one cause: the file gives no schema, there is no root table, the

@@ -7,9 +7,9 @@ use fb_bfbs::LoadFault;
 use fb_bytes::StreamFault;
 use fb_run::{Line, RunFault};
 use fb_verify::{Fault, Reason};
-use fbcheck_texts::fault::{AskFault, CheckFault, FileFault, WordsFault, WrongWord};
-use fbcheck_texts::hint::Unasked;
-use fbcheck_words::{SettingsFault, settings};
+use fbcheck_serve::{
+    AskFault, CheckFault, FileFault, SettingsFault, Unasked, WordsFault, WrongWord, settings,
+};
 use std::alloc::Global;
 use std::error::Error;
 use std::fmt::Display;

@@ -1,7 +1,6 @@
 use Rattle.std.proofs.Common.{IfErr, List, Option, Result, ap, ℕ, rules, subst, sym, ◌∙◌}
-use Rattle.fbcheck_serve.specs.declared.asked.Asked.{Asked}
-use Rattle.fbcheck_texts.specs.declared.{fault.AskFault.AskFault, fault.AskFault.TheVariants.NoRoot, hint.Unasked.Unasked}
 use Rattle.fbcheck_serve.specs.{Asked.IsFound, Asked.LacksIdent, Asked.options_of, Inputs.label_of, Inputs.with_label, Checking.LacksJob, Checking.own_of}
+use Rattle.fbcheck_serve.specs.declared.{asked.Asked.Asked, fault.AskFault.AskFault, fault.AskFault.TheVariants.NoRoot, hint.Unasked.Unasked}
 use Rattle.fb_run.specs.Job.{Serves, job_of}
 use Rattle.fb_run.proofs.RunLemmas.{err_exit}
 use Rattle.fbcheck_serve.proofs.AskedLemmas.{hinted, path_untold, planless_untold, planned}

@@ -2,9 +2,8 @@ use Rattle.std.proofs.Common.{◌≡◌, ◌∙◌, None, Some, ap, refl, sym}
 use Rattle.std.specs.Prelude.{option_map, string_bytes}
 use Rattle.fb_run.specs.{Ends.nowhere, Ends.writer_of, Job.job_of}
 use Rattle.fb_run.proofs.RunLemmas.{err_exit}
-use Rattle.fbcheck_serve.specs.Keeping.{IsServedKeeping, maker_of}
+use Rattle.fbcheck_serve.specs.{Keeping.IsServedKeeping, Keeping.maker_of, Inputs.folder_of, Inputs.seen_of}
 use Rattle.fbcheck_serve.proofs.{AskedLemmas.idle, KeepingLemmas.keeps_none, KeepingLemmas.keeps_some}
-use Rattle.fbcheck_serve.specs.Inputs.{folder_of, seen_of}
 use Rattle.fbcheck_serve.proofs.check.check_files.Goals as goal
 
 pub returns-in_err-asked-clause-served : goal.returns-in_err-asked-clause-served

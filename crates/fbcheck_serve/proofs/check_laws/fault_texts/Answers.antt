@@ -1,5 +1,4 @@
-use Rattle.fbcheck_texts.proofs.ShownTexts.{ask_texts_shown, load_texts_shown, run_texts_shown}
-use Rattle.fbcheck_serve.proofs.ShownStops.{stop_texts_shown}
+use Rattle.fbcheck_serve.proofs.{ShownTexts.ask_texts_shown, ShownTexts.load_texts_shown, ShownTexts.run_texts_shown, ShownStops.stop_texts_shown}
 use Rattle.fbcheck_serve.proofs.check_laws.fault_texts.Goals as goal
 
 pub returns-clause-run : goal.returns-clause-run

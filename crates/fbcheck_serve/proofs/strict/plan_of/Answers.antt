@@ -1,7 +1,6 @@
 use Rattle.std.proofs.Common.{ap, sym, ◌∙◌}
 use Rattle.fb_strict.specs.declared.demands.Demands.{Demands}
-use Rattle.fbcheck_serve.specs.Asked.{demanded}
-use Rattle.fbcheck_serve.specs.Checking.{IsPlanless}
+use Rattle.fbcheck_serve.specs.{Asked.demanded, Checking.IsPlanless}
 use Rattle.fbcheck_serve.proofs.StrictLemmas.{by_file, err_told, may_undemanded, may_unless_nested, may_without, needed, no_file, not_nested, planless_by, without}
 use Rattle.fbcheck_serve.proofs.strict.plan_of.Goals.{in-Some+in_ok-plan-in-Some, in_default+in_ok-plan-in_default, in_default-via-in-Some+else-demands, in_default-via-in_default}
 use Rattle.fbcheck_serve.proofs.strict.plan_of.Goals as goal
