@@ -2,15 +2,12 @@
 use Rattle.std.proofs.Common.{◌≡◌, ◌∙◌, ◌<◌, ◌≤◌, ℕ, zero, suc, true, false, List, [], ◌∷◌, ◌++◌, ap, append-nil, append_assoc, arith, codes, get_or, length, refl, sym}
 use Rattle.std.proofs.lemmas.{Bool.Decides.eqb_tells, List.length-append, List.Folds.list_all-append}
 use mathlib.Core.Logic.{inl, inr}
-use Rattle.std.specs.Prelude.{Bool, ◌==◌, ◌&&◌, ◌||◌, ◌/◌, ◌%◌, nat_lt, if◌then◌else◌}
+use Rattle.std.specs.Prelude.{Bool, ◌==◌, ◌||◌, ◌/◌, ◌%◌, nat_lt, if◌then◌else◌}
 use Rattle.std.specs.List.{flat_map, list_all}
+use Rattle.clap.proofs.WalkLemmas.{both}
 use Rattle.hex.specs.Hex.{encode_lower, encode_with, lower_digits}
 use Rattle.fb_run.specs.AnswerText.{byte_text}
 use Rattle.fbcheck_serve.specs.Hints.{IsHint, IsUnended, is_inner, is_line}
-
-both : (a b : Bool) → (a && b) ≡ true → (a ≡ true) × (b ≡ true)
-both true b is = (refl, is)
-both false b is = cc
 
 -- a digit of this table, and the 0 that stands for none
 digit_inner : (digits : List ℕ) (n : ℕ) → list_all is_inner digits ≡ true → is_inner (get_or digits n 0) ≡ true

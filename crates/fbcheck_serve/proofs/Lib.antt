@@ -17,5 +17,4 @@ mod StrictLemmas
 mod TextLemmas
 mod WordsLemmas
 pub mod ShownInputs
-pub mod ShownStops
 pub mod ShownTexts

@@ -1,6 +1,6 @@
 -- The number options of the program's command hold a number after each parse.
 use Rattle.std.proofs.Common.{zero, suc, not, ◌&&◌, ◌≡◌, ◌∙◌, ap, ℕ, Bool, true, false, List, [], ◌∷◌, ◌<◌, ◌≤◌, length, map, Option, Some, None, codes, refl, sym, subst, inl, inr, arith}
-use Rattle.std.proofs.lemmas.{List.length-map, List.Folds.list_all_at, Slice.Eq.bytes_eq-Decides}
+use Rattle.std.proofs.lemmas.{Bool.not-true, List.length-map, List.Folds.list_all_at, Slice.Eq.bytes_eq-Decides}
 use Rattle.std.specs.{List.All, List.slice_index_or, List.list_all, Prelude.pos, Prelude.if◌then◌else◌, Str.bytes_eq}
 use Rattle.clap.specs.{Facts.args_of, Facts.least_values, Facts.unwrap_or_range, Texts.items_of, Walk.Rule, Walk.Text, Walk.rule_of}
 use Rattle.clap.specs.{Words.found_of, Words.one_text, Values.Accepts, Values.read_as, Values.reading_of}
@@ -17,10 +17,6 @@ rule_at : (xs : List Arg) (k : ℕ) (d : Arg) → rule_of (slice_index_or xs k d
 rule_at [] k d = refl
 rule_at (x ∷ xs) zero d = refl
 rule_at (x ∷ xs) (suc k) d = rule_at xs k d
-
-not_both : (b : Bool) → not b ≡ true → b ≡ true → ⊥
-not_both true denied holds = cc
-not_both false denied holds = cc
 
 free_at : (id : Text) (rs : List Rule) (j : ℕ) (e : Rule) → is_free_name id rs ≡ true → j < length rs → bytes_eq (slice_index_or rs j e).id id ≡ true → ⊥
 free_at id rs j e free lt same = let taken = list_all_at (λ (r : Rule). not (bytes_eq r.id id)) rs j e lt (ap not same) in cc
@@ -53,7 +49,7 @@ alone_at name (x ∷ xs) r is = go (alone_at name xs r) (bytes_eq x.id name) (is
         (suc rest.0, record { low = omega (arith, rest.1.low); at = λ d. rest.1.at d; alone = alone_next name x r xs rest.0 named rest.1 })
 
 differs : (a b : Text) → not (bytes_eq a b) ≡ true → a ≡ b → ⊥
-differs a b unequal e = not_both (bytes_eq a b) unequal ((bytes_eq-Decides a b).1 e)
+differs a b unequal e = let never : true ≡ false = sym ((bytes_eq-Decides a b).1 e) ∙ not-true (bytes_eq a b) unequal in cc
 
 -- the program's rule of this name, which stands at one place alone
 record IsOwn (name : Text) (r : Rule) : Type 0 where

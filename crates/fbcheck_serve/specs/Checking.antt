@@ -14,7 +14,7 @@ use Rattle.fbcheck_serve.specs.{Asked.AsksBy, Asked.IsPathFault, Asked.Own, Aske
 use Rattle.fbcheck_serve.specs.{Names.Named, Names.all_named, Inputs.Folder, Inputs.IsPromptAmong, Inputs.IsPromptOver, Inputs.MayReadEach, Inputs.Seen}
 use Rattle.fbcheck_serve.specs.declared.choices.Settings.{Settings}
 use Rattle.fbcheck_serve.specs.declared.fault.{AskFault.AskFault, CheckFault.CheckFault, AskFault.TheVariants.Load, AskFault.TheVariants.Path, AskFault.TheVariants.UnmarkedBytes}
-use Rattle.fbcheck_serve.specs.declared.{fault.AskFault.TheVariants.NoSuchTable, fault.AskFault.TheVariants.OutOfMemory, hint.Unasked.Unasked, inputs.Course.Course, inputs.Passed.Passed}
+use Rattle.fbcheck_serve.specs.declared.{fault.AskFault.TheVariants.NoSuchTable, fault.AskFault.TheVariants.OutOfMemory, hint.Unasked.Unasked, inputs.Course.Course}
 use Rattle.fb_run.specs.{Ends.Ends, Ends.Unwritten, Ends.Writer, Ends.with_rejects, Faults.End, Faults.EndsBeside, Faults.IsUnfailed, Faults.failures_of, Job.Job, Prompt.IsPrompt}
 use Rattle.fb_run.specs.declared.{run.Ran.Ran, tally.Tally.Tally}
 use Rattle.fbcheck_serve.specs.declared.fault.CheckFault.TheVariants as check
@@ -127,11 +127,6 @@ IsChecked file settings before after (Err (check.Ask fault)) = LacksJob file set
 abbrev pub ServesAsAsked : Folder → Option (Bor (List ℕ)) → Settings → List Named → Seen → Seen → Course → End → Type 0
 ServesAsAsked folder file settings names before after course end =
     (job : Job) × Asks file settings (Ok job) × ServesBehindHead folder job names before after course end
-
--- the same where it may be that none was begun
-abbrev pub IsServedEach : Folder → Option (Bor (List ℕ)) → Settings → List Named → Seen → Seen → Result Passed Unasked → Type 0
-IsServedEach folder file settings names before after (Ok passed) = ServesAsAsked folder file settings names before after passed.course passed.end
-IsServedEach folder file settings names before after (Err unasked) = LacksJob file settings unasked.fault × IsIdle before.ends after.ends
 
 -- there was nothing to check by
 abbrev pub IsUnasked : CheckFault → Type 0

@@ -24,7 +24,6 @@ pub mod Serving
 pub mod CheckLaws
 pub mod TextTests
 pub mod InputTests
-pub mod StopTests
 -- What contracts inside say.
 pub mod OptionTable
 pub mod Matched

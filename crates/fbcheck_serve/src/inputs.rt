@@ -201,9 +201,10 @@ fn pass_file<F: Files<K, N>, S: Input<K, N> + Explains, K: Sink, N: Sink, R: Sin
     ensures tries { Tries (folder_of F.Files F.Opened.Input F.Opened.Explains files.now) (job_of schema.now options.now) name.now
         (stand (all_seen S.Input S.Explains K.Sink N.Sink R.Sink reader.old writer.old notes.old rejects.old) course.old)
         (stand (all_seen S.Input S.Explains K.Sink N.Sink R.Sink reader.new writer.new notes.new rejects.new) course.new) result }
-    ensures calls { (S.calls reader.new ≤ S.calls reader.old + MOST_TURNS) × (length course.new.tally.reasons ≡ reason_count)
-        × (course.old.standard ≡ Spent → (course.new.standard ≡ Spent) × (reader.new ≡ reader.old))
-        × (course.new.standard ≡ Unread → (course.old.standard ≡ Unread) × (reader.new ≡ reader.old)) }
+    ensures turns { S.calls reader.new ≤ S.calls reader.old + MOST_TURNS }
+    ensures places { length course.new.tally.reasons ≡ reason_count }
+    ensures spent { course.old.standard ≡ Spent → (course.new.standard ≡ Spent) × (reader.new ≡ reader.old) }
+    ensures unread { course.new.standard ≡ Unread → (course.old.standard ≡ Unread) × (reader.new ≡ reader.old) }
 {
     let standard = course.standard;
     let came = run_file(
@@ -245,8 +246,10 @@ fn run_file<F: Files<K, N>, S: Input<K, N> + Explains, K: Sink, N: Sink, R: Sink
     ensures comes { ComesOf (folder_of F.Files F.Opened.Input F.Opened.Explains files.now) (job_of schema.now options.now) name.now standard
         (all_seen S.Input S.Explains K.Sink N.Sink R.Sink reader.old writer.old notes.old rejects.old)
         (all_seen S.Input S.Explains K.Sink N.Sink R.Sink reader.new writer.new notes.new rejects.new) result.what result.cause }
-    ensures calls { (S.calls reader.new ≤ S.calls reader.old + MOST_TURNS)
-        × IfOk result.what (λ ran. length ran.tally.reasons ≡ reason_count) × (is_standard name.now ≡ false → reader.new ≡ reader.old) × (standard ≡ Spent → reader.new ≡ reader.old) }
+    ensures turns { S.calls reader.new ≤ S.calls reader.old + MOST_TURNS }
+    ensures places { IfOk result.what (λ ran. length ran.tally.reasons ≡ reason_count) }
+    ensures apart { is_standard name.now ≡ false → reader.new ≡ reader.old }
+    ensures spent { standard ≡ Spent → reader.new ≡ reader.old }
 {
     if name.is_standard() {
         return match standard {

@@ -285,7 +285,7 @@ fn steps_in(path: &[u8]) -> usize
 }
 
 /// Whether a step of a path begins with this byte.
-pub fn is_sign(byte: u8) -> bool
+fn is_sign(byte: u8) -> bool
     ensures { result ≡ is_sign byte }
 {
     byte == b'.' || byte == b'@' || byte == b'['
